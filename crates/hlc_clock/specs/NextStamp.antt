@@ -1,0 +1,67 @@
+-- The rule of the clock: the stamp of an event, by the stamps of earlier events and a reading.
+use Rattle.std.specs.Prelude.{ℕ, ◌+◌, ◌*◌, ◌^◌, ◌<◌, ◌≤◌, List, [], ◌∷◌, All, max, Contains, Bool, true, ◌&&◌, nat_lt, nat_le, if◌then◌else◌, Result, Ok, Err}
+use Rattle.hlc_clock.specs.Stamp.{physical}
+use Rattle.hlc_clock.specs.declared.clock.ClockFault.{ClockFault}
+use Rattle.hlc_clock.specs.declared.clock.ClockFault.TheVariants.{ReadingTooLarge, CounterFull}
+
+-- the stamp lies above every earlier one, and not below the reading
+pub record IsAfter (earlier : List ℕ) (reading stamp : ℕ) : Type 0 where
+  pub above : All (λ other. other < stamp) earlier
+  pub not_below : 65536 * reading ≤ stamp
+
+-- it is the least such stamp
+pub record IsNext (earlier : List ℕ) (reading stamp : ℕ) : Type 0 where
+  pub after : IsAfter earlier reading stamp
+  pub least : (other : ℕ) → IsAfter earlier reading other → stamp ≤ other
+
+-- the counter went over into the physical part, which exceeds the reading and that of each earlier stamp
+pub record IsCarried (earlier : List ℕ) (reading stamp : ℕ) : Type 0 where
+  pub past_reading : reading < physical stamp
+  pub past_earlier : All (λ other. physical other < physical stamp) earlier
+
+-- the greatest of some stamps
+pub record IsGreatest (stamps : List ℕ) (stamp : ℕ) : Type 0 where
+  pub member : Contains stamps stamp
+  pub greatest : All (λ other. other ≤ stamp) stamps
+
+-- What a clock answers. The reading is refused where it is too large. Else the counter is full where the next stamp would be
+-- carried, and the greatest earlier stamp is named. Else it is the next stamp.
+abbrev pub IsClockAnswer : List ℕ → ℕ → Result ℕ ClockFault → Type 0
+IsClockAnswer earlier reading (Err ReadingTooLarge) = 2 ^ 48 ≤ reading
+IsClockAnswer earlier reading (Err (CounterFull at)) =
+    (reading < 2 ^ 48) × IsGreatest earlier at × ((stamp : ℕ) → IsNext earlier reading stamp → IsCarried earlier reading stamp)
+IsClockAnswer earlier reading (Ok stamp) =
+    (reading < 2 ^ 48) × IsNext earlier reading stamp × (IsCarried earlier reading stamp → ⊥)
+
+-- The same as a function, for definitions that compute with stamps.
+
+-- the least number above each of some stamps
+abbrev pub above : List ℕ → ℕ
+above [] = 0
+above (stamp ∷ stamps) = max (stamp + 1) (above stamps)
+
+-- the greatest of some stamps, 0 where there is none
+abbrev pub greatest : List ℕ → ℕ
+greatest [] = 0
+greatest (stamp ∷ stamps) = max stamp (greatest stamps)
+
+-- the least stamp above each earlier one and not below the reading
+abbrev pub next_stamp : List ℕ → ℕ → ℕ
+next_stamp earlier reading = max (above earlier) (65536 * reading)
+
+-- each stamp's physical part is below this one
+abbrev pub all_below : List ℕ → ℕ → Bool
+all_below [] l = true
+all_below (stamp ∷ stamps) l = nat_lt (physical stamp) l && all_below stamps l
+
+-- the next stamp's physical part exceeds the reading and that of each earlier stamp
+abbrev pub is_carried : List ℕ → ℕ → Bool
+is_carried earlier reading =
+    nat_lt reading (physical (next_stamp earlier reading)) && all_below earlier (physical (next_stamp earlier reading))
+
+-- the one answer of a clock
+abbrev pub stamp_due : List ℕ → ℕ → Result ℕ ClockFault
+stamp_due earlier reading =
+    if nat_le 281474976710656 reading then Err ReadingTooLarge
+    else if is_carried earlier reading then Err (CounterFull (greatest earlier))
+    else Ok (next_stamp earlier reading)

@@ -1,0 +1,14 @@
+-- A stamp, as its word: a number below 2^64.
+use Rattle.std.specs.Prelude.{ℕ, ◌/◌, ◌%◌, List, ◌∷◌, ◌++◌, decimal}
+
+-- the physical part of a stamp
+abbrev pub physical : ℕ → ℕ
+physical stamp = stamp / 65536
+
+-- the counter of a stamp
+abbrev pub counter : ℕ → ℕ
+counter stamp = stamp % 65536
+
+-- a stamp as text: its parts in decimal, with a full stop between
+abbrev pub stamp_text : ℕ → List ℕ
+stamp_text stamp = decimal (physical stamp) ++ 46 ∷ decimal (counter stamp)

@@ -1,0 +1,86 @@
+//! The clock of a node.
+ghost use Rattle.std.specs.Prelude.{◌≡◌, ℕ, [], ◌∷◌, IfOk, OnErr};
+ghost use Rattle.hlc_clock.specs.NextStamp.{stamp_due, IsClockAnswer};
+
+use crate::stamp::Stamp;
+use std::marker::Model;
+
+/// Why a clock gives no stamp.
+#[derive(Clone, Copy, PartialEq, Eq, Debug)]
+pub enum ClockFault {
+    /// The reading is 2^48 or more.
+    ReadingTooLarge,
+    /// The event needs a counter of 65,536; `at` is the greatest earlier stamp.
+    CounterFull { at: Stamp },
+}
+
+/// A node's clock, which remembers the stamp of the node's last event. Contracts see it as that
+/// stamp.
+///
+/// The rule is that of Kulkarni et al. 2014 for hybrid logical clocks, with one difference: where
+/// the counter has no room the event is refused, and nothing is carried into the physical part.
+#[derive(Clone, Copy)]
+pub struct Clock {
+    last: Stamp,
+}
+
+impl Model for Clock {
+    ghost use Rattle.std.specs.Prelude.{ℕ};
+
+    ghost Value = { ℕ };
+
+    ghost view = { λ clock. clock.last };
+
+    ghost inverse = { λ stamp. record { last = stamp } };
+}
+
+impl Clock {
+    /// A clock whose last event had this stamp.
+    pub fn starting_at(stamp: Stamp) -> Clock
+        ensures { result ≡ stamp }
+    {
+        Clock { last: stamp }
+    }
+
+    /// The stamp of the last event.
+    pub fn now(&self) -> Stamp
+        ensures { result ≡ self.now }
+    {
+        self.last
+    }
+
+    /// Stamps a local event or a send at this reading of the physical clock: with the least stamp
+    /// above the last one and not below the reading.
+    ///
+    /// A reading of 2^48 or more is refused first. After a refusal the clock is unchanged.
+    pub fn tick(&mut self, reading: u64) -> Result<Stamp, ClockFault>
+        ensures rule { IsClockAnswer (self.old ∷ []) reading result }
+        ensures value { result ≡ stamp_due (self.old ∷ []) reading }
+        ensures ok { IfOk result (λ stamp. self.new ≡ stamp) }
+        ensures err { OnErr result (self.new ≡ self.old) }
+    {
+        let answer = stamp_after(self.last, reading);
+        if let Ok(stamp) = answer {
+            self.last = stamp;
+        }
+        answer
+    }
+}
+
+/// The stamp of an event after the one that had this stamp.
+fn stamp_after(last: Stamp, reading: u64) -> Result<Stamp, ClockFault>
+    ensures { result ≡ stamp_due (last ∷ []) reading }
+{
+    if reading >= 281_474_976_710_656 {
+        return Err(ClockFault::ReadingTooLarge);
+    }
+    // The physical clock has gone on: the counter starts anew.
+    if reading > last.l() {
+        return Ok(Stamp::from_bits(reading * 65536));
+    }
+    // It has not, so the counter tells the events apart.
+    if last.c() == u16::MAX {
+        return Err(ClockFault::CounterFull { at: last });
+    }
+    Ok(Stamp::from_bits(last.bits() + 1))
+}

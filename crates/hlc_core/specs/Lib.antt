@@ -1,0 +1,4 @@
+pub mod Accepted
+pub mod Past
+pub mod Kept
+pub mod Calls

@@ -1,0 +1,105 @@
+-- What took place in a core, and what follows from it.
+use Rattle.std.specs.Prelude.{◌≡◌, ℕ, zero, suc, ◌+◌, List, [], ◌∷◌, ◌++◌, length, min, find, ◌==◌, not, nat_le, Option, Some, None, if◌then◌else◌, ⊤}
+use Rattle.std.specs.Option.{option_map}
+use Rattle.hlc_node.specs.declared.item.Item.{Item}
+use Rattle.hlc_node.specs.declared.row.Row.{Row}
+use Rattle.hlc_node.specs.declared.item.Body.{Body}
+use Rattle.hlc_node.specs.declared.item.Body.TheVariants.{Write, Report}
+use Rattle.hlc_node.specs.declared.item.BodyFault.{BodyFault}
+use Rattle.hlc_node.specs.Items.{body_refusal}
+use Rattle.hlc_core.specs.declared.fault.CoreFault.{CoreFault}
+use Rattle.hlc_core.specs.declared.fault.CoreFault.TheVariants.{NoNode, NotNext, StampNotRising, TooManySnapshots, BadBody, NumbersSpent}
+use Rattle.hlc_core.specs.declared.snapshot.Snapshot.{Snapshot}
+
+-- an event that took place: an item was accepted; a snapshot was opened at a stamp
+pub data Step : Type 0 where
+  Took : Item → Step
+  Opened : ℕ → Step
+
+-- Below, a past is the list of the steps that took place, the last one first. Refused calls and reads are no steps.
+
+-- how many items of a node were accepted
+abbrev pub count : ℕ → List Step → ℕ
+count n [] = 0
+count n (Took item ∷ past) = if item.node == n then count n past + 1 else count n past
+count n (_ ∷ past) = count n past
+
+-- the stamp of the last accepted item of a node, 0 where there is none
+abbrev pub head : ℕ → List Step → ℕ
+head n [] = 0
+head n (Took item ∷ past) = if item.node == n then item.stamp else head n past
+head n (_ ∷ past) = head n past
+
+-- the least of f 0, f 1 and so on, below n
+abbrev pub least : (ℕ → ℕ) → ℕ → ℕ
+least f zero = 0
+least f (suc zero) = f 0
+least f (suc (suc n)) = min (f (suc n)) (least f (suc n))
+
+-- the least head of all nodes
+abbrev pub floor : ℕ → List Step → ℕ
+floor nodes past = least (λ n. head n past) nodes
+
+abbrev pub body_rows : ℕ → ℕ → Body → List Row
+body_rows node stamp (Write key value) = record { key = key; stamp = stamp; node = node; value = value } ∷ []
+body_rows node stamp Report = []
+
+-- the row of an item, if it is a write
+abbrev pub item_rows : Item → List Row
+item_rows item = body_rows item.node item.stamp item.body
+
+-- all accepted writes and deletions, in the order in which they were accepted; they are kept for good
+abbrev pub writes : List Step → List Row
+writes [] = []
+writes (Took item ∷ past) = writes past ++ item_rows item
+writes (_ ∷ past) = writes past
+
+-- how many snapshots were opened
+abbrev pub opened : List Step → ℕ
+opened [] = 0
+opened (Opened stamp ∷ past) = opened past + 1
+opened (_ ∷ past) = opened past
+
+-- the open snapshots, the oldest first; each id is one above the number of those opened before
+abbrev pub open_snapshots : List Step → List Snapshot
+open_snapshots [] = []
+open_snapshots (Opened stamp ∷ past) = open_snapshots past ++ record { id = opened past + 1; stamp = stamp } ∷ []
+open_snapshots (_ ∷ past) = open_snapshots past
+
+-- the stamp of the open snapshot that has this id
+abbrev pub stamp_of : ℕ → List Step → Option ℕ
+stamp_of id past = option_map (λ snapshot. snapshot.stamp) (find (λ snapshot. snapshot.id == id) (open_snapshots past))
+
+abbrev pub of_body : Option BodyFault → Option CoreFault
+of_body None = None
+of_body (Some fault) = Some (BadBody fault)
+
+-- the first reason to refuse an item on its link, by the link's next number and its head
+abbrev pub link_refusal : ℕ → ℕ → Item → Option CoreFault
+link_refusal next last item =
+    if not (item.number == next) then Some (NotNext next)
+    else if item.number == 18446744073709551615 then Some NumbersSpent
+    else if nat_le item.stamp last then Some (StampNotRising last)
+    else of_body (body_refusal item.body)
+
+-- the first reason to refuse an item, memory aside
+abbrev pub item_refusal : ℕ → List Step → Item → Option CoreFault
+item_refusal nodes past item =
+    if nat_le nodes item.node then Some NoNode else link_refusal (count item.node past) (head item.node past) item
+
+-- the first reason that there is no room for a snapshot, by how many are open and how many were opened
+abbrev pub room_at : ℕ → ℕ → Option CoreFault
+room_at open_now opened_ever =
+    if nat_le 1024 open_now then Some TooManySnapshots
+    else if nat_le 18446744073709551614 opened_ever then Some NumbersSpent
+    else None
+
+-- the first reason to open no snapshot, memory aside
+abbrev pub room_refusal : List Step → Option CoreFault
+room_refusal past = room_at (length (open_snapshots past)) (opened past)
+
+-- no step was due a refusal, and each snapshot was opened at the floor
+abbrev pub IsLegal : ℕ → List Step → Type 0
+IsLegal nodes [] = ⊤
+IsLegal nodes (Took item ∷ past) = (item_refusal nodes past item ≡ None) × IsLegal nodes past
+IsLegal nodes (Opened stamp ∷ past) = (room_refusal past ≡ None) × (stamp ≡ floor nodes past) × IsLegal nodes past

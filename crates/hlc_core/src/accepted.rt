@@ -1,0 +1,45 @@
+//! The word of a core that it accepted an item.
+ghost use Rattle.std.specs.Prelude.{◌≡◌};
+
+use hlc_clock::Stamp;
+use std::marker::Model;
+
+/// An item of this node, with this stamp, was accepted. Only a core makes one.
+#[derive(Clone, Copy, PartialEq, Eq, Debug)]
+pub struct Accepted {
+    node: u16,
+    stamp: Stamp,
+}
+
+impl Model for Accepted {
+    ghost use Rattle.hlc_core.specs.Accepted.{Acceptance};
+
+    ghost Value = { Acceptance };
+
+    ghost view = { λ accepted. record { node = accepted.node; stamp = accepted.stamp } };
+
+    ghost inverse = { λ acceptance. record { node = acceptance.node; stamp = acceptance.stamp } };
+}
+
+impl Accepted {
+    /// The word that an item of this node and stamp was accepted.
+    pub(crate) fn new(node: u16, stamp: Stamp) -> Accepted
+        ensures { result ≡ record { node = node; stamp = stamp } }
+    {
+        Accepted { node, stamp }
+    }
+
+    /// The node that issued the item.
+    pub fn node(&self) -> u16
+        ensures { result ≡ self.now.node }
+    {
+        self.node
+    }
+
+    /// The item's stamp.
+    pub fn stamp(&self) -> Stamp
+        ensures { result ≡ self.now.stamp }
+    {
+        self.stamp
+    }
+}

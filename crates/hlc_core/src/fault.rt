@@ -1,0 +1,26 @@
+//! Why a core refuses a call.
+use hlc_clock::Stamp;
+use hlc_node::BodyFault;
+
+/// Why a core refuses a call.
+#[derive(Clone, Copy, PartialEq, Eq, Debug)]
+pub enum CoreFault {
+    /// The node is not below the count of nodes, or that count is not 1 to 64.
+    NoNode,
+    /// The link number is not the next one.
+    NotNext { next: u64 },
+    /// No further link number, or snapshot id, is left.
+    NumbersSpent,
+    /// The stamp is not above that of the link's last accepted item.
+    StampNotRising { head: Stamp },
+    /// No item may say this.
+    BadBody(BodyFault),
+    /// 1,024 snapshots are open.
+    TooManySnapshots,
+    /// A growth was refused.
+    NoMemory,
+}
+
+/// No open snapshot has that id.
+#[derive(Clone, Copy, PartialEq, Eq, Debug)]
+pub struct NoSnapshot;

@@ -1,0 +1,18 @@
+//! The sequential store: items are accepted in the order of each link, snapshots open at the
+//! floor, and a read gives the newest accepted value.
+#![tactic(auto)]
+
+mod accepted;
+mod fault;
+mod laws;
+mod link;
+mod rows;
+mod snapshot;
+mod store;
+
+pub use accepted::Accepted;
+pub use fault::{CoreFault, NoSnapshot};
+pub use hlc_clock::Stamp;
+pub use hlc_node::{Body, BodyFault, Bytes, Item, Row};
+pub use laws::{accepted_writes_are_a_row_set, floor_is_the_least_head};
+pub use store::Core;

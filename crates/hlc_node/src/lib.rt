@@ -1,0 +1,12 @@
+//! Items of a node's link, stored rows, and which row answers a read.
+#![tactic(auto)]
+
+mod bytes;
+mod item;
+mod laws;
+mod row;
+
+pub use bytes::Bytes;
+pub use item::{Body, BodyFault, Item, body_fault, write_fault};
+pub use laws::{newest_is_greatest, newest_is_unique, no_newest_no_row};
+pub use row::Row;
