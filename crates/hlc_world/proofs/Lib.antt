@@ -1,0 +1,4 @@
+pub mod Lists
+pub mod Nodes
+pub mod Orderly
+pub mod Delivery

@@ -1,0 +1,249 @@
+-- What is true of the items of every legal schedule: they bear their numbers, their stamps rise, none is above its node's clock,
+-- and those that were not yet accepted lie above the node's head. So the store refuses an issued item for its number alone.
+use Rattle.std.proofs.Common.{◌≡◌, ℕ, ◌+◌, ◌*◌, ◌<◌, ◌≤◌, ◌⊎◌, List, [], ◌∷◌, ◌++◌, length, max, Some, None, Ok, Err, Option, Result, refl, ap, sym, ◌∙◌, subst, inl, inr, arith, length-append}
+use Rattle.std.specs.Prelude.{◌==◌, nat_le, slice_get, if◌then◌else◌}
+use Rattle.std.proofs.lemmas.Option.{slice_get_within}
+use Rattle.std.proofs.lemmas.Bool.{cond-true, cond-false, le-leb, lt-leb, eq-eqb, ne_eqb, cases_lt, cases_eq, cases_Bool}
+use Rattle.hlc_clock.specs.NextStamp.{stamp_due, next_stamp, is_carried}
+use Rattle.hlc_clock.specs.declared.clock.ClockFault.{ClockFault}
+use Rattle.hlc_clock.specs.declared.clock.ClockFault.TheVariants as clock_fault
+use Rattle.hlc_node.specs.declared.item.Item.{Item}
+use Rattle.hlc_node.specs.declared.item.Body.{Body}
+use Rattle.hlc_node.specs.declared.item.Body.TheVariants.{Write as a_write}
+use Rattle.hlc_node.specs.declared.item.BodyFault.{BodyFault}
+use Rattle.hlc_node.specs.Items.{body_refusal}
+use Rattle.hlc_core.specs.Past.{Step, Took, count, head}
+use Rattle.hlc_world.specs.declared.event.Event.{Event}
+use Rattle.hlc_world.specs.declared.event.Event.TheVariants.{Write, Deliver, OpenFloor}
+use Rattle.hlc_world.specs.declared.reply.Reply.{Reply}
+use Rattle.hlc_world.specs.declared.reply.Reply.TheVariants.{Stamped, Accepted, Snapshot}
+use Rattle.hlc_world.specs.declared.refusal.Refusal.{Refusal}
+use Rattle.hlc_world.specs.declared.refusal.Refusal.TheVariants.{NoNode, NotNext, NumbersSpent}
+use Rattle.hlc_world.specs.Schedule.{an_item, with_item, mark_or, issued, last_stamp, taking, with_step, core_past}
+use Rattle.hlc_world.specs.Due.{clocked, unless_refused, stamp_or_refusal, on_node, deliver_refusal, IsGiven, IsLegal}
+use Rattle.hlc_world.proofs.Lists.{some-injective, get-append_left, get-push}
+use Rattle.hlc_world.proofs.Nodes.{with_item-same, with_item-other, mark_or-other}
+
+-- an item of a node is what it should be: by the node's last stamp, its count and its head
+pub record IsIssued (nodes last next top n k : ℕ) (item : Item) : Type 0 where
+  pub inside : n < nodes
+  pub node : item.node ≡ n
+  pub number : item.number ≡ k
+  pub left : k ≡ 18446744073709551615 → ⊥
+  pub body : body_refusal item.body ≡ None
+  pub low : item.stamp ≤ last
+  pub ahead : next ≤ k → top < item.stamp
+
+-- the issued items and what was accepted fit together
+pub record Orderly (nodes : ℕ) (items : ℕ → List Item) (lasts counts heads : ℕ → ℕ) : Type 0 where
+  pub each : (n k : ℕ) (item : Item) → slice_get (items n) k ≡ Some item → IsIssued nodes (lasts n) (counts n) (heads n) n k item
+  pub rising : (n j k : ℕ) (a b : Item) → j < k → slice_get (items n) j ≡ Some a → slice_get (items n) k ≡ Some b → a.stamp < b.stamp
+  pub head_low : (n : ℕ) → heads n ≤ lasts n
+
+-- an item after one more was issued is an old one or that one
+get-with_item : (n k : ℕ) (item x : Item) (xs : List Item) → slice_get (with_item n (Some item) xs) k ≡ Some x → (slice_get xs k ≡ Some x) ⊎ ((item.node ≡ n) × (k ≡ length xs) × (item ≡ x))
+get-with_item n k item x xs h =
+    elim (cases_eq item.node n) [
+      | inr other ↦ inl (ap (λ ys. slice_get ys k) (sym (with_item-other n item xs other)) ∙ h)
+      | inl same ↦
+          let h' : slice_get (xs ++ item ∷ []) k ≡ Some x = ap (λ ys. slice_get ys k) (sym (with_item-same n item xs same)) ∙ h in
+          let lt : k < length (xs ++ item ∷ []) = slice_get_within (xs ++ item ∷ []) k x h' in
+          let l : length (xs ++ item ∷ []) ≡ length xs + 1 = length-append xs (item ∷ []) in
+          elim (cases_lt k (length xs)) [
+            | inl old ↦ inl (sym (get-append_left xs (item ∷ []) k old) ∙ h')
+            | inr fresh ↦
+                let e : k ≡ length xs = omega arith in
+                inr (same, e, some-injective item x (sym (get-push xs item) ∙ ap (λ j. slice_get (xs ++ item ∷ []) j) (sym e) ∙ h'))
+          ]
+    ]
+
+mark_or-grows : (n p st last : ℕ) → (p ≡ n → last < st) → last ≤ mark_or n (Some (p, st)) last
+mark_or-grows n p st last up =
+    elim (cases_eq p n) [
+      | inl same ↦ (let e : mark_or n (Some (p, st)) last ≡ st = cond-true _ _ _ (eq-eqb p n same) in let u : last < st = up same in omega arith)
+      | inr other ↦ (let e : mark_or n (Some (p, st)) last ≡ last = mark_or-other n p st last other in omega arith)
+    ]
+
+-- an event with a higher stamp keeps the order
+orderly-mark : (nodes : ℕ) (items : ℕ → List Item) (lasts counts heads : ℕ → ℕ) (p st : ℕ) → Orderly nodes items lasts counts heads → lasts p < st → Orderly nodes items (λ n. mark_or n (Some (p, st)) (lasts n)) counts heads
+orderly-mark nodes items lasts counts heads p st h up =
+    let grows : (n : ℕ) → lasts n ≤ mark_or n (Some (p, st)) (lasts n) = λ n. mark_or-grows n p st (lasts n) (λ e. subst (λ j. lasts j < st) e up) in
+    record {
+      each = λ n k item m.
+          (let i = h.each n k item m in
+          record { inside = i.inside; node = i.node; number = i.number; left = i.left; body = i.body; low = (let g = grows n in let l : item.stamp ≤ lasts n = i.low in omega (arith, g)); ahead = i.ahead });
+      rising = h.rising;
+      head_low = λ n. (let g = grows n in let l : heads n ≤ lasts n = h.head_low n in omega (arith, g));
+    }
+
+-- so does an item that a node issues
+orderly-issue : (nodes : ℕ) (items : ℕ → List Item) (lasts counts heads : ℕ → ℕ) (p st num : ℕ) (body : Body) → Orderly nodes items lasts counts heads → p < nodes → num ≡ length (items p) → (length (items p) ≡ 18446744073709551615 → ⊥) → body_refusal body ≡ None → lasts p < st → Orderly nodes (λ n. with_item n (Some (an_item p num st body)) (items n)) (λ n. mark_or n (Some (p, st)) (lasts n)) counts heads
+orderly-issue nodes items lasts counts heads p st num body h inside is left ok up =
+    let item = an_item p num st body in
+    let m = orderly-mark nodes items lasts counts heads p st h up in
+    record {
+      each = λ n k x at.
+          elim (get-with_item n k item x (items n) at) [
+            | inl old ↦ m.each n k x old
+            | inr fresh ↦
+                subst (λ y. IsIssued nodes (mark_or n (Some (p, st)) (lasts n)) (counts n) (heads n) n k y) fresh.2
+                (let same : p ≡ n = fresh.0 in
+                let e : k ≡ length (items n) = fresh.1 in
+                let f : length (items p) ≡ length (items n) = ap (λ j. length (items j)) same in
+                record {
+                  inside = subst (λ j. j < nodes) same inside;
+                  node = same;
+                  number = is ∙ f ∙ sym e;
+                  left = λ q. left (f ∙ sym e ∙ q);
+                  body = ok;
+                  low = (let g : mark_or n (Some (p, st)) (lasts n) ≡ st = cond-true _ _ _ (eq-eqb p n same) in omega arith);
+                  ahead = λ c. (let a : heads n ≤ lasts n = h.head_low n in let b : lasts n < st = subst (λ j. lasts j < st) same up in omega arith);
+                })
+          ];
+      rising = λ n j k a b lt at_a at_b.
+          elim (get-with_item n j item a (items n) at_a) [
+            | inl old_a ↦
+                elim (get-with_item n k item b (items n) at_b) [
+                  | inl old_b ↦ h.rising n j k a b lt old_a old_b
+                  | inr new_b ↦
+                      (let l : a.stamp ≤ lasts n = (h.each n j a old_a).low in
+                      let u : lasts n < st = subst (λ i. lasts i < st) new_b.0 up in
+                      let e : st ≡ b.stamp = ap (λ x. x.stamp) new_b.2 in omega arith)
+                ]
+            | inr new_a ↦
+                absurd
+                (elim (get-with_item n k item b (items n) at_b) [
+                  | inl old_b ↦ (let w : k < length (items n) = slice_get_within (items n) k b old_b in let e : j ≡ length (items n) = new_a.1 in omega arith)
+                  | inr new_b ↦ (let e : j ≡ length (items n) = new_a.1 in let f : k ≡ length (items n) = new_b.1 in omega arith)
+                ])
+          ];
+      head_low = m.head_low;
+    }
+
+count-same : (n : ℕ) (item : Item) (past : List Step) → item.node ≡ n → count n (Took item ∷ past) ≡ count n past + 1
+count-same n item past e = cond-true _ _ _ (eq-eqb _ _ e)
+
+count-other : (n : ℕ) (item : Item) (past : List Step) → (item.node ≡ n → ⊥) → count n (Took item ∷ past) ≡ count n past
+count-other n item past e = cond-false _ _ _ (ne_eqb _ _ e)
+
+head-same : (n : ℕ) (item : Item) (past : List Step) → item.node ≡ n → head n (Took item ∷ past) ≡ item.stamp
+head-same n item past e = cond-true _ _ _ (eq-eqb _ _ e)
+
+head-other : (n : ℕ) (item : Item) (past : List Step) → (item.node ≡ n → ⊥) → head n (Took item ∷ past) ≡ head n past
+head-other n item past e = cond-false _ _ _ (ne_eqb _ _ e)
+
+-- and so does the next item when it is accepted
+orderly-took : (nodes : ℕ) (items : ℕ → List Item) (lasts : ℕ → ℕ) (past : List Step) (p k : ℕ) (item : Item) → Orderly nodes items lasts (λ n. count n past) (λ n. head n past) → slice_get (items p) k ≡ Some item → k ≡ count p past → Orderly nodes items lasts (λ n. count n (Took item ∷ past)) (λ n. head n (Took item ∷ past))
+orderly-took nodes items lasts past p k item h at next =
+    let own : item.node ≡ p = (h.each p k item at).node in
+    record {
+      each = λ n j x m.
+          (let i = h.each n j x m in
+          record {
+            inside = i.inside;
+            node = i.node;
+            number = i.number;
+            left = i.left;
+            body = i.body;
+            low = i.low;
+            ahead = λ c.
+                elim (cases_eq item.node n) [
+                  | inl same ↦
+                      (let c' : count n (Took item ∷ past) ≤ j = c in
+                      let a : count n (Took item ∷ past) ≡ count n past + 1 = count-same n item past same in
+                      let b : head n (Took item ∷ past) ≡ item.stamp = head-same n item past same in
+                      let pn : p ≡ n = sym own ∙ same in
+                      let d : count p past ≡ count n past = ap (λ q. count q past) pn in
+                      let r : item.stamp < x.stamp = h.rising n k j item x (omega arith) (subst (λ q. slice_get (items q) k ≡ Some item) pn at) m in omega arith)
+                  | inr other ↦
+                      (let c' : count n (Took item ∷ past) ≤ j = c in
+                      let a : count n (Took item ∷ past) ≡ count n past = count-other n item past other in
+                      let b : head n (Took item ∷ past) ≡ head n past = head-other n item past other in
+                      let r : head n past < x.stamp = i.ahead (omega arith) in omega arith)
+                ];
+          });
+      rising = h.rising;
+      head_low = λ n.
+          elim (cases_eq item.node n) [
+            | inl same ↦
+                (let b : head n (Took item ∷ past) ≡ item.stamp = head-same n item past same in
+                let l : item.stamp ≤ lasts p = (h.each p k item at).low in
+                let e : lasts p ≡ lasts n = ap lasts (sym own ∙ same) in omega arith)
+            | inr other ↦ (let b : head n (Took item ∷ past) ≡ head n past = head-other n item past other in let l : head n past ≤ lasts n = h.head_low n in omega arith)
+          ];
+    }
+
+-- a node that nothing refused is there
+on_node-none : (nodes p : ℕ) (rest : Option Refusal) → on_node nodes p rest ≡ None → (p < nodes) × (rest ≡ None)
+on_node-none nodes p rest h =
+    elim (cases_lt p nodes) [
+      | inl inside ↦ (inside, sym (cond-false _ _ _ (lt-leb nodes p inside)) ∙ h)
+      | inr outside ↦ absurd (let e : Some NoNode ≡ None = sym (cond-true _ _ _ (le-leb nodes p outside)) ∙ h in cc)
+    ]
+
+clocked-ok : (r : Result ℕ ClockFault) (st : ℕ) → clocked r ≡ Ok st → r ≡ Ok st
+clocked-ok (Ok x) st h = ap Ok (cc)
+clocked-ok (Err fault) st h = absurd (cc)
+
+-- the stamp that is due lies above the last one
+stamp-rises : (last reading st : ℕ) → stamp_due (last ∷ []) reading ≡ Ok st → last < st
+stamp-rises last reading st h =
+    elim (cases_Bool (nat_le 281474976710656 reading)) [
+      | inl large ↦ absurd (let e : ◌≡◌ {A = Result ℕ ClockFault} (Err clock_fault.ReadingTooLarge) (Ok st) = sym (cond-true _ _ _ large) ∙ h in cc)
+      | inr small ↦
+          let h1 = sym (cond-false _ _ _ small) ∙ h in
+          elim (cases_Bool (is_carried (last ∷ []) reading)) [
+            | inl carried ↦ absurd (let e : ◌≡◌ {A = Result ℕ ClockFault} (Err (clock_fault.CounterFull (max last 0))) (Ok st) = sym (cond-true _ _ _ carried) ∙ h1 in cc)
+            | inr not_carried ↦
+                let e : ◌≡◌ {A = Result ℕ ClockFault} (Ok (next_stamp (last ∷ []) reading)) (Ok st) = sym (cond-false _ _ _ not_carried) ∙ h1 in
+                let is : max (max (last + 1) 0) (65536 * reading) ≡ st = cc in omega arith
+          ]
+    ]
+
+-- what it says of an item that a stamp is due to it
+issue-due : (body : Option BodyFault) (last next reading st : ℕ) → unless_refused body (if next == 18446744073709551615 then Err NumbersSpent else clocked (stamp_due (last ∷ []) reading)) ≡ Ok st → (body ≡ None) × (next ≡ 18446744073709551615 → ⊥) × (last < st)
+issue-due (Some fault) last next reading st h = absurd (cc)
+issue-due None last next reading st h =
+    elim (cases_eq next 18446744073709551615) [
+      | inl spent ↦ absurd (let e : ◌≡◌ {A = Result ℕ Refusal} (Err NumbersSpent) (Ok st) = sym (cond-true _ _ _ (eq-eqb _ _ spent)) ∙ h in cc)
+      | inr left ↦ (refl, left, stamp-rises last reading st (clocked-ok _ st (sym (cond-false _ _ _ (ne_eqb _ _ left)) ∙ h)))
+    ]
+
+delivered : (o : Option Item) (number next : ℕ) → deliver_refusal o number next ≡ None → (item : Item) → o ≡ Some item → number ≡ next
+delivered None number next h item e = absurd (cc)
+delivered (Some x) number next h item e =
+    elim (cases_eq number next) [
+      | inl same ↦ same
+      | inr other ↦ absurd (let g : Some (NotNext next) ≡ None = sym (cond-false _ _ _ (ne_eqb _ _ other)) ∙ h in cc)
+    ]
+
+abbrev pub IsOrderly : ℕ → List (Event × Reply) → Type 0
+IsOrderly nodes s = Orderly nodes (λ n. issued n s) (λ n. last_stamp n s) (λ n. count n (core_past s)) (λ n. head n (core_past s))
+
+orderly-issued : (nodes : ℕ) (s : List (Event × Reply)) (p reading st num : ℕ) (body : Body) (rest : Option Refusal) → on_node nodes p rest ≡ None → stamp_or_refusal p s body reading ≡ Ok st → num ≡ length (issued p s) → IsOrderly nodes s → Orderly nodes (λ n. with_item n (Some (an_item p num st body)) (issued n s)) (λ n. mark_or n (Some (p, st)) (last_stamp n s)) (λ n. count n (core_past s)) (λ n. head n (core_past s))
+orderly-issued nodes s p reading st num body rest none due is h =
+    let f = issue-due (body_refusal body) (last_stamp p s) (length (issued p s)) reading st due in
+    orderly-issue nodes (λ n. issued n s) (λ n. last_stamp n s) (λ n. count n (core_past s)) (λ n. head n (core_past s)) p st num body h (on_node-none nodes p rest none).0 is f.1 f.0 f.2
+
+orderly-taken : (nodes : ℕ) (s : List (Event × Reply)) (p k : ℕ) (o : Option Item) → slice_get (issued p s) k ≡ o → deliver_refusal o k (count p (core_past s)) ≡ None → IsOrderly nodes s → Orderly nodes (λ n. issued n s) (λ n. last_stamp n s) (λ n. count n (with_step (taking o) (core_past s))) (λ n. head n (with_step (taking o) (core_past s)))
+orderly-taken nodes s p k None at none h = h
+orderly-taken nodes s p k (Some item) at none h =
+    orderly-took nodes (λ n. issued n s) (λ n. last_stamp n s) (core_past s) p k item h at (delivered (Some item) k (count p (core_past s)) none item refl)
+
+orderly-entry : (nodes : ℕ) (s : List (Event × Reply)) (event : Event) (reply : Reply) → IsGiven nodes s event reply → IsOrderly nodes s → IsOrderly nodes ((event, reply) ∷ s)
+orderly-entry nodes s (Write p reading key value) (Stamped st num) given h =
+    orderly-issued nodes s p reading st num (a_write key (Some value)) _ given.0 given.1.0 given.1.1 h
+orderly-entry nodes s (Deliver p k) (Accepted st) given h =
+    orderly-taken nodes s p k (slice_get (issued p s) k) refl (on_node-none nodes p _ given.0).1 h
+orderly-entry nodes s OpenFloor (Snapshot id st) given h = h
+orderly-entry nodes s _ _ given h = h
+
+-- every legal schedule is orderly
+pub orderly : (nodes : ℕ) (s : List (Event × Reply)) → IsLegal nodes s → IsOrderly nodes s
+orderly nodes [] legal =
+    record {
+      each = λ n k item m. absurd (let w : k < 0 = slice_get_within [] k item m in omega arith);
+      rising = λ n j k a b lt m. absurd (let w : j < 0 = slice_get_within [] j a m in omega arith);
+      head_low = λ n. omega arith;
+    }
+orderly nodes (entry ∷ s) legal = orderly-entry nodes s entry.0 entry.1 legal.0 (orderly nodes s legal.1)

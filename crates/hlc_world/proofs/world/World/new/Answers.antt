@@ -1,0 +1,13 @@
+use Rattle.std.proofs.Common.{◌∙◌, sym, ap, length}
+use Rattle.hlc_world.proofs.Nodes.{starts, fresh-length}
+use Rattle.hlc_world.proofs.world.World.new.Goals as goal
+
+pub invariant_of-result : goal.invariant_of-result
+invariant_of-result c = c.in-Ok.ensures.1 ∙ sym (ap length c.in-Ok-fresh_nodes.ensures ∙ fresh-length c.args.nodes)
+
+pub returns : goal.returns
+returns c = (
+  c.in-Ok.ensures.0,
+  ap length c.in-Ok-fresh_nodes.ensures ∙ fresh-length c.args.nodes,
+  rw c.in-Ok-fresh_nodes.ensures (starts c.args.nodes _ c.in-Ok.ensures.2),
+)

@@ -1,0 +1,6 @@
+use Rattle.std.proofs.Common.{◌≡◌}
+use Rattle.hlc_world.specs.State.{fresh}
+use Rattle.hlc_world.proofs.world.fresh_nodes.Given as goal
+
+abbrev pub invariant-loop-id : goal.invariant-loop-id
+invariant-loop-id l = l.made.items ≡ fresh l.id

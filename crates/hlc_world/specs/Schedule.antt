@@ -1,0 +1,69 @@
+-- A schedule, and what it says of nodes, items and the core.
+use Rattle.std.specs.Prelude.{ℕ, List, [], ◌∷◌, ◌++◌, Option, Some, None, ◌==◌, if◌then◌else◌, slice_get}
+use Rattle.hlc_node.specs.declared.item.Item.{Item}
+use Rattle.hlc_node.specs.declared.item.Body.{Body}
+use Rattle.hlc_node.specs.declared.item.Body.TheVariants.{Write as a_write}
+use Rattle.hlc_core.specs.Past.{Step, Took, Opened}
+use Rattle.hlc_world.specs.declared.event.Event.{Event}
+use Rattle.hlc_world.specs.declared.event.Event.TheVariants.{Write, Deliver, OpenFloor}
+use Rattle.hlc_world.specs.declared.reply.Reply.{Reply}
+use Rattle.hlc_world.specs.declared.reply.Reply.TheVariants.{Stamped, Accepted, Snapshot}
+
+-- Below, a schedule is the list of the events with their replies, the last one first. An event whose reply is a refusal did not
+-- take place.
+
+abbrev pub an_item : ℕ → ℕ → ℕ → Body → Item
+an_item node number stamp body = record { node = node; number = number; stamp = stamp; body = body }
+
+-- the item that an event issued
+abbrev pub item_made : Event → Reply → Option Item
+item_made (Write node reading key value) (Stamped stamp number) = Some (an_item node number stamp (a_write key (Some value)))
+item_made _ _ = None
+
+-- the node of an event that was stamped, and the stamp
+abbrev pub mark_of : Event → Reply → Option (ℕ × ℕ)
+mark_of (Write node reading key value) (Stamped stamp number) = Some (node, stamp)
+mark_of _ _ = None
+
+-- the items of a node, and this one behind them, if it is of that node
+abbrev pub with_item : ℕ → Option Item → List Item → List Item
+with_item n None items = items
+with_item n (Some item) items = if item.node == n then items ++ item ∷ [] else items
+
+-- the items that a node issued, in order: the first one has number 0
+abbrev pub issued : ℕ → List (Event × Reply) → List Item
+issued n [] = []
+issued n (entry ∷ schedule) = with_item n (item_made entry.0 entry.1) (issued n schedule)
+
+-- the issued item of a node that has this number
+abbrev pub item_at : ℕ → ℕ → List (Event × Reply) → Option Item
+item_at n number schedule = slice_get (issued n schedule) number
+
+-- the stamp of a mark of this node, or else this stamp
+abbrev pub mark_or : ℕ → Option (ℕ × ℕ) → ℕ → ℕ
+mark_or n None last = last
+mark_or n (Some mark) last = if mark.0 == n then mark.1 else last
+
+-- the stamp of a node's last event, 0 where there is none
+abbrev pub last_stamp : ℕ → List (Event × Reply) → ℕ
+last_stamp n [] = 0
+last_stamp n (entry ∷ schedule) = mark_or n (mark_of entry.0 entry.1) (last_stamp n schedule)
+
+abbrev pub taking : Option Item → Option Step
+taking None = None
+taking (Some item) = Some (Took item)
+
+-- what an event did to the core
+abbrev pub step_of : List (Event × Reply) → Event → Reply → Option Step
+step_of schedule (Deliver node number) (Accepted stamp) = taking (item_at node number schedule)
+step_of schedule OpenFloor (Snapshot id stamp) = Some (Opened stamp)
+step_of schedule _ _ = None
+
+abbrev pub with_step : Option Step → List Step → List Step
+with_step None past = past
+with_step (Some step) past = step ∷ past
+
+-- what took place in the core, the last step first
+abbrev pub core_past : List (Event × Reply) → List Step
+core_past [] = []
+core_past (entry ∷ schedule) = with_step (step_of schedule entry.0 entry.1) (core_past schedule)

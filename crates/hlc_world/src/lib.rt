@@ -1,0 +1,15 @@
+//! The world: nodes with their clocks and items, and the one store that they feed, event by event.
+#![tactic(auto)]
+
+mod event;
+mod node;
+mod refusal;
+mod reply;
+mod world;
+
+pub use event::Event;
+pub use hlc_clock::Stamp;
+pub use hlc_node::Bytes;
+pub use refusal::Refusal;
+pub use reply::Reply;
+pub use world::World;

@@ -1,0 +1,72 @@
+//! Why an event does not take place.
+ghost use Rattle.std.specs.Prelude.{◌≡◌};
+ghost use Rattle.hlc_world.specs.Due.{of_body, of_clock, of_core};
+
+use hlc_clock::{ClockFault, Stamp};
+use hlc_core::CoreFault;
+use hlc_node::BodyFault;
+
+/// Why an event does not take place.
+#[derive(Clone, Copy, PartialEq, Eq, Debug)]
+pub enum Refusal {
+    /// The node is not below the count of nodes, or that count is not 1 to 64.
+    NoNode,
+    /// The reading is 2^48 or more.
+    ReadingTooLarge,
+    /// The event needs a counter of 65,536; `at` is the node's last stamp.
+    CounterFull { at: Stamp },
+    /// The node has issued no item of that number.
+    NoItem,
+    /// The item's number is not the next one that the store accepts of its node.
+    NotNext { next: u64 },
+    /// The item's stamp is not above that of the last one accepted of its node. It never comes of
+    /// a world, whose nodes' stamps rise.
+    StampNotRising { head: Stamp },
+    /// No open snapshot has that id.
+    NoSnapshot,
+    /// 1,024 snapshots are open.
+    TooManySnapshots,
+    /// The key has no bytes, or more than 255.
+    BadKey,
+    /// The value has more than 65,535 bytes.
+    ValueTooLong,
+    /// No further link number, or snapshot id, is left.
+    NumbersSpent,
+    /// A growth was refused.
+    NoMemory,
+}
+
+/// What no item may say, as a refusal.
+pub fn of_body(fault: BodyFault) -> Refusal
+    ensures { result ≡ of_body fault }
+{
+    match fault {
+        BodyFault::BadKey => Refusal::BadKey,
+        BodyFault::ValueTooLong => Refusal::ValueTooLong,
+    }
+}
+
+/// The clock's fault, as a refusal.
+pub fn of_clock(fault: ClockFault) -> Refusal
+    ensures { result ≡ of_clock fault }
+{
+    match fault {
+        ClockFault::ReadingTooLarge => Refusal::ReadingTooLarge,
+        ClockFault::CounterFull { at } => Refusal::CounterFull { at },
+    }
+}
+
+/// The core's fault, as a refusal.
+pub fn of_core(fault: CoreFault) -> Refusal
+    ensures { result ≡ of_core fault }
+{
+    match fault {
+        CoreFault::NoNode => Refusal::NoNode,
+        CoreFault::NotNext { next } => Refusal::NotNext { next },
+        CoreFault::NumbersSpent => Refusal::NumbersSpent,
+        CoreFault::StampNotRising { head } => Refusal::StampNotRising { head },
+        CoreFault::BadBody(fault) => of_body(fault),
+        CoreFault::TooManySnapshots => Refusal::TooManySnapshots,
+        CoreFault::NoMemory => Refusal::NoMemory,
+    }
+}

@@ -1,0 +1,19 @@
+//! What a world answers to an event.
+use crate::refusal::Refusal;
+use hlc_clock::Stamp;
+use hlc_node::Bytes;
+
+/// What a world answers to an event.
+#[derive(Clone, PartialEq, Eq, Debug, Drop)]
+pub enum Reply {
+    /// The node issued the item of this number, with this stamp.
+    Stamped { stamp: Stamp, item: u64 },
+    /// The item was accepted; this is its stamp.
+    Accepted { stamp: Stamp },
+    /// The snapshot of this id was opened, at this stamp.
+    Snapshot { id: u64, stamp: Stamp },
+    /// The value of the key, or none.
+    Answer { value: Option<Bytes> },
+    /// The event did not take place.
+    Refused(Refusal),
+}

@@ -1,0 +1,176 @@
+//! The world and its events.
+ghost use Rattle.std.specs.Prelude.{◌≡◌, ◌∷◌, List, MatchResult, IfOk, OnErr};
+ghost use Rattle.hlc_core.specs.Past.{Step, Took, item_refusal};
+ghost use Rattle.hlc_core.specs.Kept.{nodes, StandsFor as CoreStandsFor};
+ghost use Rattle.hlc_core.specs.Calls.{IsRefusal, IsWrite};
+ghost use Rattle.hlc_world.specs.Due.{IsGiven, IsRefused};
+ghost use Rattle.hlc_world.specs.State.{StandsFor, Makes, world_nodes, fresh};
+ghost use Rattle.hlc_world.specs.declared.event.Event.{Event as AnEvent};
+ghost use Rattle.hlc_world.specs.declared.reply.Reply.{Reply as AReply};
+
+use crate::event::Event;
+use crate::node::Node;
+use crate::refusal::{self, Refusal};
+use crate::reply::Reply;
+use hlc_clock::Stamp;
+use hlc_core::{Core, CoreFault};
+use hlc_node::{Bytes, Item};
+use std::alloc::{AllocError, Global};
+use std::marker::Model;
+
+/// Nodes with their clocks and items, and the one store that they feed.
+///
+/// Contracts see what it keeps, and relate that to a schedule: a world stands for the events that
+/// it was handed, with its replies, in order. A refused event did not take place: it leaves the
+/// world unchanged, and it is spent, so its caller copies it first where it wants it again.
+#[derive(Drop)]
+pub struct World {
+    alloc: Global,
+    core: Core,
+    nodes: Vec<Node>,
+}
+
+impl Model for World {
+    ghost use Rattle.hlc_world.specs.State.{State, IsMatched};
+
+    ghost Value = { State };
+
+    ghost view = { λ world. record { core = world.core; nodes = world.nodes.items } };
+
+    ghost invariant = { λ world. IsMatched (record { core = world.core; nodes = world.nodes.items }) };
+}
+
+impl World {
+    /// A world of so many nodes, 1 to 64, in which nothing took place. Nodes are numbered from 0,
+    /// and each clock starts at 0.0.
+    pub fn new(alloc: Global, nodes: u16) -> Result<World, Refusal>
+        ensures { Makes nodes result }
+    {
+        let core = match Core::new(alloc, nodes) {
+            Ok(core) => core,
+            Err(fault) => return Err(refusal::of_core(fault)),
+        };
+        let Ok(nodes) = fresh_nodes(alloc, nodes) else {
+            return Err(Refusal::NoMemory);
+        };
+        Ok(World { alloc, core, nodes })
+    }
+
+    /// One event takes place, or is refused.
+    ///
+    /// Refusals come in this order. Write: no such node; bad key; value too long; numbers spent;
+    /// reading too large; counter full. Deliver: no such node; no such item; not the next number.
+    /// OpenFloor: too many snapshots; numbers spent. Read: no such snapshot. Last, of each, want of
+    /// memory.
+    pub fn step(&mut self, event: Event) -> Reply
+        ensures stands { (schedule : List (AnEvent × AReply)) → StandsFor self.old schedule → StandsFor self.new ((event, result) ∷ schedule) }
+        ensures given { (schedule : List (AnEvent × AReply)) → StandsFor self.old schedule → IsGiven (world_nodes self.old) schedule event result }
+        ensures unchanged { IsRefused result → self.new ≡ self.old }
+        ensures nodes { world_nodes self.new ≡ world_nodes self.old }
+    {
+        match event {
+            Event::Write {
+                node,
+                reading,
+                key,
+                value,
+            } => self.write(node, reading, key, value),
+            Event::Deliver { node, number } => self.deliver(node, number),
+            Event::OpenFloor => self.open_floor(),
+            Event::Read { id, key } => self.read(id, key),
+        }
+    }
+
+    fn write(&mut self, node: u16, reading: u64, key: Bytes, value: Bytes) -> Reply
+        ensures stands { (schedule : List (AnEvent × AReply)) → StandsFor self.old schedule → StandsFor self.new ((AnEvent.Write node reading key value, result) ∷ schedule) }
+        ensures unchanged { IsRefused result → self.new ≡ self.old }
+        ensures nodes { world_nodes self.new ≡ world_nodes self.old }
+    {
+        let place = node as usize;
+        if place >= self.nodes.len() {
+            return Reply::Refused(Refusal::NoNode);
+        }
+        match self.nodes[place].write(node, reading, key, value) {
+            Ok((stamp, item)) => Reply::Stamped { stamp, item },
+            Err(refusal) => Reply::Refused(refusal),
+        }
+    }
+
+    fn deliver(&mut self, node: u16, number: u64) -> Reply
+        ensures stands { (schedule : List (AnEvent × AReply)) → StandsFor self.old schedule → StandsFor self.new ((AnEvent.Deliver node number, result) ∷ schedule) }
+        ensures unchanged { IsRefused result → self.new ≡ self.old }
+        ensures nodes { world_nodes self.new ≡ world_nodes self.old }
+    {
+        let place = node as usize;
+        if place >= self.nodes.len() {
+            return Reply::Refused(Refusal::NoNode);
+        }
+        let Some(item) = self.nodes[place].item(number) else {
+            return Reply::Refused(Refusal::NoItem);
+        };
+        // The refusals are looked for first, so that a copy is made of an accepted item alone.
+        if let Err(fault) = self.core.check_item(item) {
+            return Reply::Refused(refusal::of_core(fault));
+        }
+        let Ok(copy) = item.clone() else {
+            return Reply::Refused(Refusal::NoMemory);
+        };
+        match accept(&mut self.core, copy) {
+            Ok(stamp) => Reply::Accepted { stamp },
+            Err(fault) => Reply::Refused(refusal::of_core(fault)),
+        }
+    }
+
+    fn open_floor(&mut self) -> Reply
+        ensures stands { (schedule : List (AnEvent × AReply)) → StandsFor self.old schedule → StandsFor self.new ((AnEvent.OpenFloor, result) ∷ schedule) }
+        ensures unchanged { IsRefused result → self.new ≡ self.old }
+        ensures nodes { world_nodes self.new ≡ world_nodes self.old }
+    {
+        match self.core.open_floor() {
+            Ok((id, stamp)) => Reply::Snapshot { id, stamp },
+            Err(fault) => Reply::Refused(refusal::of_core(fault)),
+        }
+    }
+
+    fn read(&mut self, id: u64, key: Bytes) -> Reply
+        ensures stands { (schedule : List (AnEvent × AReply)) → StandsFor self.old schedule → StandsFor self.new ((AnEvent.Read id key, result) ∷ schedule) }
+        ensures unchanged { self.new ≡ self.old }
+    {
+        match self.core.read(id, key.as_slice()) {
+            Err(_) => Reply::Refused(Refusal::NoSnapshot),
+            Ok(None) => Reply::Answer { value: None },
+            Ok(Some(bytes)) => match Vec::from_slice(self.alloc, bytes) {
+                Ok(copy) => Reply::Answer {
+                    value: Some(Bytes::from_vec(copy)),
+                },
+                Err(_) => Reply::Refused(Refusal::NoMemory),
+            },
+        }
+    }
+}
+
+/// So many nodes, on which nothing took place.
+fn fresh_nodes(alloc: Global, count: u16) -> Result<Vec<Node>, AllocError>
+    ensures { IfOk result (λ made. made.items ≡ fresh count) }
+{
+    let mut made = Vec::new(alloc);
+    for id in 0..count {
+        made.push(Node::new(alloc))?;
+    }
+    Ok(made)
+}
+
+/// Hands an item to the store, gives its stamp, and lets a refused one go.
+fn accept(core: &mut Core, item: Item) -> Result<Stamp, CoreFault>
+    ensures stands { (past : List Step) → CoreStandsFor core.old past → MatchResult result (λ stamp. (stamp ≡ item.stamp) × (item_refusal (nodes core.old) past item ≡ None) × CoreStandsFor core.new (Took item ∷ past)) (λ fault. IsRefusal (item_refusal (nodes core.old) past item) (IsWrite item.body) fault × (core.new ≡ core.old)) }
+    ensures err { OnErr result (core.new ≡ core.old) }
+    ensures nodes { nodes core.new ≡ nodes core.old }
+{
+    match core.accept(item) {
+        Ok(accepted) => Ok(accepted.stamp()),
+        Err(refused) => {
+            let (fault, _item) = refused;
+            Err(fault)
+        }
+    }
+}
