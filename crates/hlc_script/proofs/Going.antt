@@ -1,0 +1,86 @@
+-- In the midst of a script: the lines so far are answered by what was printed, and the world stands for a schedule of them.
+use Rattle.std.proofs.Common.{◌≡◌, ℕ, ◌+◌, ◌∙◌, sym, ap, refl, subst, Bool, List, [], ◌∷◌, ◌++◌, length, Option, Some, None, append_assoc, inl, inr, arith, eqb, ◌<◌, ◌≤◌, length-append}
+use Rattle.std.specs.List.{slice_split}
+use Rattle.std.proofs.lemmas.List.Splits.{length-slice_split}
+use Rattle.std.specs.Io.KnownBytes.{Consumes}
+use Rattle.std.specs.Prelude.{◌≢◌}
+use Rattle.hlc_text.specs.Printing.{Printed}
+use Rattle.hlc_text.specs.PrintingLaws.{printed_then, printed_none, append-nil}
+use Rattle.hlc_world.specs.declared.event.Event.{Event}
+use Rattle.hlc_world.specs.declared.reply.Reply.{Reply}
+use Rattle.hlc_world.specs.State.{State, world_nodes, StandsFor}
+use Rattle.hlc_script.specs.Line.{event_line, HasLine, lines_of_parts, lines_of, HasHeader, header_line}
+use Rattle.hlc_script.specs.Reply.{reply_line, bad_line, printed}
+use Rattle.hlc_script.specs.Run.{AnswersLine, Answers, AnswersScript, IsInput}
+
+-- whatever answers the lines that are left completes an answer to all of them
+pub record Going (nodes : ℕ) (world : State) (text rest : List ℕ) (number : ℕ) (failed_before failed : Bool) (before after : Option (List ℕ)) (waited waits : List ℕ) : Type 0 where
+  pub schedule : List (Event × Reply)
+  pub so_far : List ℕ
+  pub stands : StandsFor world schedule
+  pub wrote : Printed failed_before failed before after waited waits so_far
+  pub completes : (output : List ℕ) (bad : Option ℕ) → Answers nodes schedule number (lines_of rest) output bad → Answers nodes [] 2 (lines_of text) (so_far ++ output) bad
+
+pub going_first : (nodes : ℕ) (world : State) (text : List ℕ) (failed : Bool) (known : Option (List ℕ)) (waits : List ℕ) → StandsFor world [] → Going nodes world text text 2 failed failed known known waits waits
+going_first nodes world text failed known waits stands =
+    record { schedule = []; so_far = []; stands = stands; wrote = printed_none; completes = λ output bad answers. answers }
+
+-- one good line more
+pub going_more : (nodes : ℕ) (old new : State) (text rest after : List ℕ) (line : List ℕ) (number : ℕ) (f g h : Bool) (a b c : Option (List ℕ)) (u v w : List ℕ) (event : Event) (reply : Reply) → Going nodes old text rest number f g a b u v → lines_of rest ≡ line ∷ lines_of after → HasLine event → line ≡ event_line event → world_nodes old ≡ nodes → ((s : List (Event × Reply)) → StandsFor old s → (t : List (Event × Reply)) × AnswersLine (world_nodes old) s event reply t × StandsFor new t) → Printed g h b c v w (printed (reply_line reply)) → Going nodes new text after (number + 1) f h a c u w
+going_more nodes old new text rest after line number f g h a b c u v w event reply going first has spelled same answered wrote =
+    let next = answered going.schedule going.stands in
+    record {
+      schedule = next.0;
+      so_far = going.so_far ++ printed (reply_line reply);
+      stands = next.2;
+      wrote = printed_then going.wrote wrote;
+      completes = λ output bad answers.
+          subst (λ (zs : List ℕ). Answers nodes [] 2 (lines_of text) zs bad) (sym (append_assoc going.so_far (printed (reply_line reply)) output))
+          (going.completes (printed (reply_line reply) ++ output) bad
+          (subst (λ (ls : List (List ℕ)). Answers nodes going.schedule number ls (printed (reply_line reply) ++ output) bad) (sym first)
+          (inl (event, reply, next.0, output, has, spelled, subst (λ (n : ℕ). AnswersLine n going.schedule event reply next.0) same next.1, refl, answers))));
+    }
+
+-- the first bad line
+pub going_bad : (nodes : ℕ) (world : State) (text rest after : List ℕ) (line : List ℕ) (number : ℕ) (f g h : Bool) (a b c : Option (List ℕ)) (u v w : List ℕ) → Going nodes world text rest number f g a b u v → lines_of rest ≡ line ∷ lines_of after → ((event : Event) → HasLine event → line ≢ event_line event) → Printed g h b c v w (printed (bad_line number)) → (output : List ℕ) × Answers nodes [] 2 (lines_of text) output (Some number) × Printed f h a c u w output
+going_bad nodes world text rest after line number f g h a b c u v w going first bad wrote = (
+  going.so_far ++ printed (bad_line number),
+  going.completes (printed (bad_line number)) (Some number)
+      (subst (λ (ls : List (List ℕ)). Answers nodes going.schedule number ls (printed (bad_line number)) (Some number)) (sym first) (inr (bad, refl, refl))),
+  printed_then going.wrote wrote,
+)
+
+-- no line is left
+pub going_end : (nodes : ℕ) (world : State) (text rest : List ℕ) (number : ℕ) (f g : Bool) (a b : Option (List ℕ)) (u v : List ℕ) → Going nodes world text rest number f g a b u v → length rest ≡ 0 → (output : List ℕ) × Answers nodes [] 2 (lines_of text) output None × Printed f g a b u v output
+going_end nodes world text [] number f g a b u v going none =
+    (going.so_far ++ [], going.completes [] None (refl, refl), subst (λ (zs : List ℕ). Printed f g a b u v zs) (sym (append-nil going.so_far)) going.wrote)
+going_end nodes world text (x ∷ rest) number f g a b u v going none = absurd (omega (arith, none))
+
+-- a line that is cut off is the first line
+pub first_of_lines : (line text rest : List ℕ) → slice_split (λ b. eqb b 10) text ≡ line ∷ slice_split (λ b. eqb b 10) rest → lines_of text ≡ line ∷ lines_of rest
+first_of_lines line text rest e = ap lines_of_parts e ∙ not_last (slice_split (λ b. eqb b 10) rest) (omega (arith, length-slice_split (λ b. eqb b 10) rest))
+  where
+    not_last : (parts : List (List ℕ)) → 0 < length parts → lines_of_parts (line ∷ parts) ≡ line ∷ lines_of_parts parts
+    not_last [] some = absurd (omega arith)
+    not_last (part ∷ parts) some = refl
+
+-- more bytes came than may be held
+pub too_long : (before now after : Option (List ℕ)) (items more : List ℕ) → Consumes before now items → Consumes now after more → 16777216 < length items + length more → (input : List ℕ) × IsInput before input × (16777216 < length input)
+too_long None now after items more first second long = (items ++ more, tt, omega (arith, length-append items more))
+too_long (Some xs) None after items more first second long = absurd first
+too_long (Some xs) (Some ys) None items more first second long = absurd second
+too_long (Some xs) (Some ys) (Some zs) items more first second long =
+    (xs, refl, omega (arith, ap length first, length-append items ys, ap length second, length-append more zs))
+
+-- a header and the answers behind it
+pub script_answered : (input : List ℕ) (line rest : List ℕ) (nodes made : ℕ) (bad : Option ℕ) (f g h : Bool) (a b c : Option (List ℕ)) (u v w : List ℕ) → length input ≤ 16777216 → lines_of input ≡ line ∷ lines_of rest → HasHeader nodes → line ≡ header_line nodes → made ≡ nodes → Printed f g a b u v (printed (header_line nodes)) → (output : List ℕ) × Answers made [] 2 (lines_of rest) output bad × Printed g h b c v w output → (output : List ℕ) × ((length input ≤ 16777216) × AnswersScript input output bad) × Printed f h a c u w output
+script_answered input line rest nodes made bad f g h a b c u v w fits first has header same wrote (output, answers, more) = (
+  printed (header_line nodes) ++ output,
+  (fits, (nodes, lines_of rest, output, has, first ∙ ap (λ l. l ∷ lines_of rest) header, refl, subst (λ (n : ℕ). Answers n [] 2 (lines_of rest) output bad) same answers)),
+  printed_then wrote more,
+)
+
+-- a reader has some bytes left, known or not
+pub some_input : (known : Option (List ℕ)) → (input : List ℕ) × IsInput known input
+some_input None = ([], tt)
+some_input (Some bytes) = (bytes, refl)

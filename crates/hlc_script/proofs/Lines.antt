@@ -1,0 +1,102 @@
+-- A line is the line of one event: it is parted into the words that it was put together from, the first word tells the kind of
+-- event, and each other word spells one value.
+use Rattle.std.proofs.Common.{◌≡◌, ℕ, ◌+◌, ◌*◌, ◌<◌, ◌^◌, ◌∙◌, sym, ap, refl, List, [], ◌∷◌, get_or, length, Option, Some, None, arith, eqb}
+use Rattle.std.specs.Prelude.{decimal, codes, ◌≢◌}
+use Rattle.std.specs.List.{slice_split}
+use Rattle.std.proofs.lemmas.Fmt.{decimal_injective}
+use Rattle.std.proofs.lemmas.List.Splits.{join_with_byte-slice_split}
+use Rattle.hlc_text.specs.Text.{Reads, bytes_token, AreBytes}
+use Rattle.hlc_text.specs.TokenLaws.{number_is_word, bytes_are_word, split_words}
+use Rattle.hlc_text.specs.SpellingLaws.{one_token}
+use Rattle.hlc_world.specs.declared.event.Event.{Event}
+use Rattle.hlc_world.specs.declared.event.Event.TheVariants.{Write, Deliver, OpenFloor, Read}
+use Rattle.hlc_script.specs.Line.{spaced, event_words, event_line, HasLine, header_words, header_line, HasHeader}
+use Rattle.hlc_script.specs.Laws.{OneEvent}
+
+-- the words of an event's line are the event's words
+pub words_of_line : (event : Event) → HasLine event → slice_split (λ b. eqb b 32) (event_line event) ≡ event_words event
+words_of_line (Write node reading key value) has =
+    split_words (codes "write") (decimal node ∷ decimal reading ∷ bytes_token key ∷ bytes_token value ∷ [])
+    (refl, (number_is_word node (omega arith), (number_is_word reading (omega arith), (bytes_are_word key, (bytes_are_word value, tt)))))
+words_of_line (Deliver node number) has =
+    split_words (codes "deliver") (decimal node ∷ decimal number ∷ []) (refl, (number_is_word node (omega arith), (number_is_word number (omega arith), tt)))
+words_of_line OpenFloor has = split_words (codes "open") (codes "floor" ∷ []) (refl, (refl, tt))
+words_of_line (Read id key) has =
+    split_words (codes "read") (decimal id ∷ bytes_token key ∷ []) (refl, (number_is_word id (omega arith), (bytes_are_word key, tt)))
+
+-- the words of a header are the header's words
+pub words_of_header : (nodes : ℕ) → HasHeader nodes → slice_split (λ b. eqb b 32) (header_line nodes) ≡ header_words nodes
+words_of_header nodes has = split_words (codes "nodes") (decimal nodes ∷ []) (refl, (number_is_word nodes (omega arith), tt))
+
+-- what is read from the words is read from the line
+pub read_from_words : {X : Type 0} (words_of : X → List (List ℕ)) (Fits : X → Type 0) → ((x : X) → Fits x → slice_split (λ b. eqb b 32) (spaced (words_of x)) ≡ words_of x) → (line : List ℕ) (words : List (List ℕ)) (read : Option X) → words ≡ slice_split (λ b. eqb b 32) line → Reads words_of Fits words read → Reads (λ x. spaced (words_of x)) Fits line read
+read_from_words words_of Fits law line words (Some x) is found = (found.0, sym (join_with_byte-slice_split 32 line) ∙ ap spaced (sym is ∙ found.1))
+read_from_words words_of Fits law line words None is none = λ x fits spelled. none x fits (is ∙ ap (slice_split (λ b. eqb b 32)) spelled ∙ law x fits)
+
+-- a number that no two kinds of events share, of the first word
+abbrev mark : List (List ℕ) → ℕ
+mark [] = 0
+mark (verb ∷ words) = get_or verb 0 0 + 256 * length verb
+
+-- where the words behind a verb do not fit, no event has the words
+pub no_write : (args : List (List ℕ)) → ((x : ℕ × ℕ × List ℕ × List ℕ) → (x.0 < 2 ^ 16) × (x.1 < 2 ^ 64) × AreBytes x.2 × AreBytes x.3 → args ≢ decimal x.0 ∷ decimal x.1 ∷ bytes_token x.2 ∷ bytes_token x.3 ∷ []) → (event : Event) → HasLine event → codes "write" ∷ args ≢ event_words event
+no_write args none (Write node reading key value) has is = let rest : args ≡ decimal node ∷ decimal reading ∷ bytes_token key ∷ bytes_token value ∷ [] = cc in none (node, reading, key, value) has rest
+no_write args none event has is = absurd (omega (arith, ap mark is))
+
+pub no_deliver : (args : List (List ℕ)) → ((x : ℕ × ℕ) → (x.0 < 2 ^ 16) × (x.1 < 2 ^ 64) → args ≢ decimal x.0 ∷ decimal x.1 ∷ []) → (event : Event) → HasLine event → codes "deliver" ∷ args ≢ event_words event
+no_deliver args none (Deliver node number) has is = let rest : args ≡ decimal node ∷ decimal number ∷ [] = cc in none (node, number) has rest
+no_deliver args none event has is = absurd (omega (arith, ap mark is))
+
+pub no_open : (args : List (List ℕ)) → args ≢ codes "floor" ∷ [] → (event : Event) → HasLine event → codes "open" ∷ args ≢ event_words event
+no_open args none OpenFloor has is = let rest : args ≡ codes "floor" ∷ [] = cc in none rest
+no_open args none event has is = absurd (omega (arith, ap mark is))
+
+pub no_read : (args : List (List ℕ)) → ((x : ℕ × List ℕ) → (x.0 < 2 ^ 64) × AreBytes x.1 → args ≢ decimal x.0 ∷ bytes_token x.1 ∷ []) → (event : Event) → HasLine event → codes "read" ∷ args ≢ event_words event
+no_read args none (Read id key) has is = let rest : args ≡ decimal id ∷ bytes_token key ∷ [] = cc in none (id, key) has rest
+no_read args none event has is = absurd (omega (arith, ap mark is))
+
+one_write : (node node2 reading reading2 : ℕ) (key key2 value value2 : List ℕ) → HasLine (Write node reading key value) → HasLine (Write node2 reading2 key2 value2) → event_words (Write node reading key value) ≡ event_words (Write node2 reading2 key2 value2) → Write node reading key value ≡ Write node2 reading2 key2 value2
+one_write node node2 reading reading2 key key2 value value2 has also e =
+    let e0 : decimal node ≡ decimal node2 = cc in
+    let e1 : decimal reading ≡ decimal reading2 = cc in
+    let e2 : bytes_token key ≡ bytes_token key2 = cc in
+    let e3 : bytes_token value ≡ bytes_token value2 = cc in
+    let s0 : node ≡ node2 = decimal_injective node node2 (omega arith) (omega arith) e0 in
+    let s1 : reading ≡ reading2 = decimal_injective reading reading2 (omega arith) (omega arith) e1 in
+    let s2 : key ≡ key2 = one_token key key2 has.2 also.2 e2 in
+    let s3 : value ≡ value2 = one_token value value2 has.3 also.3 e3 in cc
+
+one_deliver : (node node2 number number2 : ℕ) → HasLine (Deliver node number) → HasLine (Deliver node2 number2) → event_words (Deliver node number) ≡ event_words (Deliver node2 number2) → Deliver node number ≡ Deliver node2 number2
+one_deliver node node2 number number2 has also e =
+    let e0 : decimal node ≡ decimal node2 = cc in
+    let e1 : decimal number ≡ decimal number2 = cc in
+    let s0 : node ≡ node2 = decimal_injective node node2 (omega arith) (omega arith) e0 in
+    let s1 : number ≡ number2 = decimal_injective number number2 (omega arith) (omega arith) e1 in cc
+
+one_read : (id id2 : ℕ) (key key2 : List ℕ) → HasLine (Read id key) → HasLine (Read id2 key2) → event_words (Read id key) ≡ event_words (Read id2 key2) → Read id key ≡ Read id2 key2
+one_read id id2 key key2 has also e =
+    let e0 : decimal id ≡ decimal id2 = cc in
+    let e1 : bytes_token key ≡ bytes_token key2 = cc in
+    let s0 : id ≡ id2 = decimal_injective id id2 (omega arith) (omega arith) e0 in
+    let s1 : key ≡ key2 = one_token key key2 has.1 also.1 e1 in cc
+
+same_words : (event other : Event) → HasLine event → HasLine other → event_words event ≡ event_words other → event ≡ other
+same_words (Write node reading key value) (Write node2 reading2 key2 value2) has also same = one_write node node2 reading reading2 key key2 value value2 has also same
+same_words (Write node reading key value) other has also same = absurd (omega (arith, ap mark same))
+same_words (Deliver node number) (Deliver node2 number2) has also same = one_deliver node node2 number number2 has also same
+same_words (Deliver node number) other has also same = absurd (omega (arith, ap mark same))
+same_words OpenFloor OpenFloor has also same = refl
+same_words OpenFloor other has also same = absurd (omega (arith, ap mark same))
+same_words (Read id key) (Read id2 key2) has also same = one_read id id2 key key2 has also same
+same_words (Read id key) other has also same = absurd (omega (arith, ap mark same))
+
+-- a line is one event's at most
+pub one_event : OneEvent
+one_event event other has also same = same_words event other has also (sym (words_of_line event has) ∙ ap (slice_split (λ b. eqb b 32)) same ∙ words_of_line other also)
+
+-- a header is that of one number of nodes
+pub one_header : (nodes other : ℕ) → HasHeader nodes → HasHeader other → header_line nodes ≡ header_line other → nodes ≡ other
+one_header nodes other has also same =
+    let words : header_words nodes ≡ header_words other = sym (words_of_header nodes has) ∙ ap (slice_split (λ b. eqb b 32)) same ∙ words_of_header other also in
+    let digits : decimal nodes ≡ decimal other = cc in
+    decimal_injective nodes other (omega arith) (omega arith) digits

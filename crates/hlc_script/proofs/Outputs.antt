@@ -1,0 +1,178 @@
+-- What may be written for an input is one text: each line has one event, and an event has one reply, unless memory was wanting.
+use Rattle.std.proofs.Common.{◌≡◌, ℕ, ◌+◌, ◌∙◌, sym, ap, refl, subst, List, [], ◌∷◌, ◌++◌, Option, Some, None, Ok, Result, append_assoc, arith, ◌⊎◌, inl, inr}
+use Rattle.std.specs.Prelude.{codes, ◌≢◌}
+use Rattle.std.specs.List.{flat_map}
+use Rattle.hlc_world.specs.declared.event.Event.{Event}
+use Rattle.hlc_world.specs.declared.event.Event.TheVariants.{Write, Deliver, OpenFloor, Read}
+use Rattle.hlc_world.specs.declared.reply.Reply.{Reply}
+use Rattle.hlc_world.specs.declared.reply.Reply.TheVariants.{Stamped, Accepted, Snapshot, Answer, Refused}
+use Rattle.hlc_world.specs.declared.refusal.Refusal.{Refusal}
+use Rattle.hlc_world.specs.declared.refusal.Refusal.TheVariants.{NoMemory as no_memory}
+use Rattle.hlc_world.specs.Due.{refusal_due, IsAnswer, IsDueReply, IsGiven}
+use Rattle.hlc_script.specs.declared.run.RunEnd.{RunEnd}
+use Rattle.hlc_script.specs.declared.run.RunEnd.TheVariants.{Answered, BadLine, BadHeader, NoMemory, ReadFault, TooLong, WriteFault}
+use Rattle.hlc_script.specs.Line.{lines_of, HasHeader, header_line}
+use Rattle.hlc_script.specs.Reply.{reply_line, printed}
+use Rattle.hlc_script.specs.Run.{AnswersLine, Answers, AnswersScript}
+use Rattle.hlc_script.specs.Laws.{TellsNoMemory, OneOutput}
+use Rattle.hlc_script.proofs.Lines.{one_event, one_header}
+
+-- the two are equal, or one of them is a want of memory
+abbrev OneReply : Reply → Reply → Type 0
+OneReply reply other = (reply ≡ other) ⊎ ((reply ≡ Refused no_memory) ⊎ (other ≡ Refused no_memory))
+
+same_answer : (stamp : Option ℕ) (answers : ℕ → Option (List ℕ)) (value other : Option (List ℕ)) → IsAnswer stamp answers value → IsAnswer stamp answers other → value ≡ other
+same_answer None answers value other is also = absurd is
+same_answer (Some stamp) answers value other is also = is ∙ sym also
+
+-- what is due where nothing is refused is one reply
+due_once : (nodes : ℕ) (schedule : List (Event × Reply)) (event : Event) (reply other : Reply) → IsDueReply nodes schedule event reply → IsDueReply nodes schedule event other → reply ≡ other
+due_once nodes schedule (Write node reading key value) (Stamped stamp number) (Stamped stamp2 number2) due also =
+    let stamps : ◌≡◌ {A = Result ℕ Refusal} (Ok stamp) (Ok stamp2) = sym due.0 ∙ also.0 in
+    let s : stamp ≡ stamp2 = cc in
+    let n : number ≡ number2 = due.1 ∙ sym also.1 in cc
+due_once nodes schedule (Write node reading key value) (Stamped stamp number) other due also = absurd also
+due_once nodes schedule (Deliver node number) (Accepted stamp) (Accepted stamp2) due also =
+    let stamps : Some stamp ≡ Some stamp2 = sym due ∙ also in
+    let s : stamp ≡ stamp2 = cc in cc
+due_once nodes schedule (Deliver node number) (Accepted stamp) other due also = absurd also
+due_once nodes schedule OpenFloor (Snapshot id stamp) (Snapshot id2 stamp2) due also =
+    let i : id ≡ id2 = due.0 ∙ sym also.0 in
+    let s : stamp ≡ stamp2 = due.1 ∙ sym also.1 in cc
+due_once nodes schedule OpenFloor (Snapshot id stamp) other due also = absurd also
+due_once nodes schedule (Read id key) (Answer value) (Answer value2) due also = ap Answer (same_answer _ _ value value2 due also)
+due_once nodes schedule (Read id key) (Answer value) other due also = absurd also
+due_once nodes schedule _ _ _ due also = absurd due
+
+-- a given reply is a refusal, which is due or a want of memory; or it is due where no refusal is
+abbrev GivenCases : ℕ → List (Event × Reply) → Event → Reply → Type 0
+GivenCases nodes schedule event reply =
+    ((refusal : Refusal) × (reply ≡ Refused refusal) × ((refusal_due nodes schedule event ≡ Some refusal) ⊎ (refusal ≡ no_memory)))
+    ⊎ ((refusal_due nodes schedule event ≡ None) × IsDueReply nodes schedule event reply)
+
+given_cases : (nodes : ℕ) (schedule : List (Event × Reply)) (event : Event) (reply : Reply) → IsGiven nodes schedule event reply → GivenCases nodes schedule event reply
+given_cases nodes schedule event (Refused refusal) (inl due) = inl (refusal, refl, inl due)
+given_cases nodes schedule event (Refused refusal) (inr lost) = inl (refusal, refl, inr lost.1)
+given_cases nodes schedule event (Stamped stamp item) given = inr given
+given_cases nodes schedule event (Accepted stamp) given = inr given
+given_cases nodes schedule event (Snapshot id stamp) given = inr given
+given_cases nodes schedule event (Answer value) given = inr given
+
+once : (nodes : ℕ) (schedule : List (Event × Reply)) (event : Event) (reply other : Reply) → GivenCases nodes schedule event reply → GivenCases nodes schedule event other → OneReply reply other
+once nodes schedule event reply other (inl (refusal, is, inr lost)) also = inr (inl (is ∙ ap Refused lost))
+once nodes schedule event reply other (inl (refusal, is, inl due)) (inl (refusal2, is2, inr lost)) = inr (inr (is2 ∙ ap Refused lost))
+once nodes schedule event reply other (inl (refusal, is, inl due)) (inl (refusal2, is2, inl due2)) =
+    let both : Some refusal ≡ Some refusal2 = sym due ∙ due2 in
+    let same : refusal ≡ refusal2 = cc in inl (is ∙ ap Refused same ∙ sym is2)
+once nodes schedule event reply other (inl (refusal, is, inl due)) (inr (none, reply_due)) =
+    absurd (let e : Some refusal ≡ None = sym due ∙ none in cc)
+once nodes schedule event reply other (inr (none, due)) (inl (refusal2, is2, inr lost)) = inr (inr (is2 ∙ ap Refused lost))
+once nodes schedule event reply other (inr (none, due)) (inl (refusal2, is2, inl due2)) =
+    absurd (let e : Some refusal2 ≡ None = sym due2 ∙ none in cc)
+once nodes schedule event reply other (inr (none, due)) (inr (none2, due2)) = inl (due_once nodes schedule event reply other due due2)
+
+-- a world gives one reply, unless memory was wanting
+given_once : (nodes : ℕ) (schedule : List (Event × Reply)) (event : Event) (reply other : Reply) → IsGiven nodes schedule event reply → IsGiven nodes schedule event other → OneReply reply other
+given_once nodes schedule event reply other given also = once nodes schedule event reply other (given_cases nodes schedule event reply given) (given_cases nodes schedule event other also)
+
+abbrev Same : List ℕ → List ℕ → Option ℕ → Option ℕ → Type 0
+Same output other bad worse = ((output ≡ other) × (bad ≡ worse)) ⊎ (TellsNoMemory output ⊎ TellsNoMemory other)
+
+-- a reply that tells of want of memory
+tells : (reply : Reply) (rest : List ℕ) → reply ≡ Refused no_memory → TellsNoMemory (printed (reply_line reply) ++ rest)
+tells reply rest is = rw is ([], rest, refl)
+
+-- a line in front
+behind : (line rest : List ℕ) → TellsNoMemory rest → TellsNoMemory (printed line ++ rest)
+behind line rest (before, back, is) =
+    (line ∷ before, back, ap (λ l. printed line ++ l) is ∙ sym (append_assoc (printed line) (flat_map printed before) (printed (codes "refused 15") ++ back)))
+
+same_behind : (line rest more : List ℕ) (bad worse : Option ℕ) → Same rest more bad worse → Same (printed line ++ rest) (printed line ++ more) bad worse
+same_behind line rest more bad worse (inl same) = inl (ap (λ l. printed line ++ l) same.0, same.1)
+same_behind line rest more bad worse (inr (inl short)) = inr (inl (behind line rest short))
+same_behind line rest more bad worse (inr (inr short)) = inr (inr (behind line more short))
+
+-- a good line, answered twice
+one_line : (nodes : ℕ) (schedule : List (Event × Reply)) (number : ℕ) (lines : List (List ℕ)) (bad worse : Option ℕ) (e : Event) (r q : Reply) (s t : List (Event × Reply)) (rest more : List ℕ) → ((u : List (Event × Reply)) (o p : List ℕ) → Answers nodes u (number + 1) lines o bad → Answers nodes u (number + 1) lines p worse → Same o p bad worse) → AnswersLine nodes schedule e r s → AnswersLine nodes schedule e q t → Answers nodes s (number + 1) lines rest bad → Answers nodes t (number + 1) lines more worse → Same (printed (reply_line r) ++ rest) (printed (reply_line q) ++ more) bad worse
+one_line nodes schedule number lines bad worse e r q s t rest more onward (inr lost) other first second = inr (inl (tells r rest lost.1))
+one_line nodes schedule number lines bad worse e r q s t rest more onward (inl given) (inr lost) first second = inr (inr (tells q more lost.1))
+one_line nodes schedule number lines bad worse e r q s t rest more onward (inl given) (inl also) first second =
+    elim (given_once nodes schedule e r q given.0 also.0) [
+      | inr (inl lost) ↦ inr (inl (tells r rest lost))
+      | inr (inr lost) ↦ inr (inr (tells q more lost))
+      | inl same ↦
+          let together : s ≡ t = given.1 ∙ ap (λ (x : Reply). (e, x) ∷ schedule) same ∙ sym also.1 in
+          let F : List (Event × Reply) → Type 0 = λ (x : List (Event × Reply)). Answers nodes x (number + 1) lines more worse in
+          let found = same_behind (reply_line r) rest more bad worse (onward s rest more first (subst F (sym together) second)) in
+          let G : Reply → Type 0 = λ (x : Reply). Same (printed (reply_line r) ++ rest) (printed (reply_line x) ++ more) bad worse in
+          subst G same found
+    ]
+
+-- some lines, answered twice
+answered_once : (nodes : ℕ) (schedule : List (Event × Reply)) (number : ℕ) (lines : List (List ℕ)) (output other : List ℕ) (bad worse : Option ℕ) → Answers nodes schedule number lines output bad → Answers nodes schedule number lines other worse → Same output other bad worse
+answered_once nodes schedule number [] output other bad worse (none, well) (none2, well2) = inl (none ∙ sym none2, well ∙ sym well2)
+answered_once nodes schedule number (line ∷ lines) output other bad worse (inl (e, r, s, rest, has, spelled, answers, is, first)) (inl (f, q, t, more, also, spelled2, answers2, is2, second)) =
+    let event : f ≡ e = one_event f e also has (sym spelled2 ∙ spelled) in
+    let found : Same (printed (reply_line r) ++ rest) (printed (reply_line q) ++ more) bad worse =
+    one_line nodes schedule number lines bad worse e r q s t rest more (λ u o p. answered_once nodes u (number + 1) lines o p bad worse)
+    answers (subst (λ (x : Event). AnswersLine nodes schedule x q t) event answers2) first second in
+    let G : List ℕ → Type 0 = λ (o : List ℕ). Same o other bad worse in
+    let H : List ℕ → Type 0 = λ (o : List ℕ). Same (printed (reply_line r) ++ rest) o bad worse in
+    subst G (sym is) (subst H (sym is2) found)
+answered_once nodes schedule number (line ∷ lines) output other bad worse (inl (e, r, s, rest, has, spelled, answers, is, first)) (inr (none, is2, well2)) = absurd (none e has spelled)
+answered_once nodes schedule number (line ∷ lines) output other bad worse (inr (none, is, well)) (inl (f, q, t, more, also, spelled2, answers2, is2, second)) = absurd (none f also spelled2)
+answered_once nodes schedule number (line ∷ lines) output other bad worse (inr (none, is, well)) (inr (none2, is2, well2)) = inl (is ∙ sym is2, well ∙ sym well2)
+
+-- a script, answered twice
+script_once : (input output other : List ℕ) (bad worse : Option ℕ) → AnswersScript input output bad → AnswersScript input other worse → Same output other bad worse
+script_once input output other bad worse (nodes, lines, replies, has, first, is, answers) (nodes2, lines2, replies2, has2, first2, is2, answers2) =
+    let both : header_line nodes2 ∷ lines2 ≡ header_line nodes ∷ lines = sym first2 ∙ first in
+    let header : header_line nodes2 ≡ header_line nodes = cc in
+    let same_lines : lines2 ≡ lines = cc in
+    let same : nodes2 ≡ nodes = one_header nodes2 nodes has2 has header in
+    let answers3 : Answers nodes [] 2 lines replies2 worse = subst (λ (n : ℕ). Answers n [] 2 lines replies2 worse) same (subst (λ (ls : List (List ℕ)). Answers nodes2 [] 2 ls replies2 worse) same_lines answers2) in
+    let found : Same (printed (header_line nodes) ++ replies) (printed (header_line nodes) ++ replies2) bad worse =
+    same_behind (header_line nodes) replies replies2 bad worse (answered_once nodes [] 2 lines replies replies2 bad worse answers answers3) in
+    let G : List ℕ → Type 0 = λ (o : List ℕ). Same o other bad worse in
+    let H : List ℕ → Type 0 = λ (o : List ℕ). Same (printed (header_line nodes) ++ replies) o bad worse in
+    subst G (sym is) (subst H (sym (is2 ∙ ap (λ (n : ℕ). printed (header_line n) ++ replies2) same)) found)
+
+-- the end of a script that was answered
+abbrev end_of : Option ℕ → RunEnd
+end_of None = Answered
+end_of (Some number) = BadLine number
+
+ended : (output other : List ℕ) (bad worse : Option ℕ) → Same output other bad worse → ((output ≡ other) × (end_of bad ≡ end_of worse)) ⊎ (TellsNoMemory output ⊎ TellsNoMemory other)
+ended output other bad worse (inl same) = inl (same.0, ap end_of same.1)
+ended output other bad worse (inr short) = inr short
+
+short_alone : (output : List ℕ) → output ≡ printed (codes "refused 15") → TellsNoMemory output
+short_alone output is = ([], [], is)
+
+-- an input has a header or it has none
+header_not : (input output : List ℕ) (bad : Option ℕ) → AnswersScript input output bad → ((nodes : ℕ) (lines : List (List ℕ)) → HasHeader nodes → lines_of input ≢ header_line nodes ∷ lines) → ⊥
+header_not input output bad (nodes, lines, replies, has, first, is, answers) none = none nodes lines has first
+
+pub one_output : OneOutput
+one_output input output other NoMemory finish is also e f = inr (inl (short_alone output is))
+one_output input output other end NoMemory is also e f = inr (inr (short_alone other also))
+one_output input output other Answered Answered is also e f = ended output other None None (script_once input output other None None is.1 also.1)
+one_output input output other Answered (BadLine n) is also e f = ended output other None (Some n) (script_once input output other None (Some n) is.1 also.1)
+one_output input output other (BadLine m) Answered is also e f = ended output other (Some m) None (script_once input output other (Some m) None is.1 also.1)
+one_output input output other (BadLine m) (BadLine n) is also e f = ended output other (Some m) (Some n) (script_once input output other (Some m) (Some n) is.1 also.1)
+one_output input output other Answered BadHeader is also e f = absurd (header_not input output None is.1 also.1)
+one_output input output other (BadLine m) BadHeader is also e f = absurd (header_not input output (Some m) is.1 also.1)
+one_output input output other BadHeader Answered is also e f = absurd (header_not input other None also.1 is.1)
+one_output input output other BadHeader (BadLine n) is also e f = absurd (header_not input other (Some n) also.1 is.1)
+one_output input output other BadHeader BadHeader is also e f = inl (is.2 ∙ sym also.2, refl)
+one_output input output other TooLong TooLong is also e f = inl (is.1 ∙ sym also.1, refl)
+one_output input output other TooLong Answered is also e f = absurd (omega (arith, is.0, also.0))
+one_output input output other TooLong (BadLine n) is also e f = absurd (omega (arith, is.0, also.0))
+one_output input output other TooLong BadHeader is also e f = absurd (omega (arith, is.0, also.0))
+one_output input output other Answered TooLong is also e f = absurd (omega (arith, is.0, also.0))
+one_output input output other (BadLine m) TooLong is also e f = absurd (omega (arith, is.0, also.0))
+one_output input output other BadHeader TooLong is also e f = absurd (omega (arith, is.0, also.0))
+one_output input output other ReadFault finish is also e f = absurd (e refl)
+one_output input output other end ReadFault is also e f = absurd (f refl)
+one_output input output other WriteFault finish is also e f = absurd is
+one_output input output other end WriteFault is also e f = absurd also

@@ -1,0 +1,5 @@
+use Rattle.hlc_script.proofs.Lines.{one_event}
+use Rattle.hlc_script.proofs.laws.one_event_for_a_line.Goals as goal
+
+pub returns : goal.returns
+returns c = one_event

@@ -1,0 +1,5 @@
+use Rattle.hlc_script.proofs.Outputs.{one_output}
+use Rattle.hlc_script.proofs.laws.one_output_for_an_input.Goals as goal
+
+pub returns : goal.returns
+returns c = one_output

@@ -1,0 +1,15 @@
+use Rattle.std.proofs.Common.{◌≡◌, ◌+◌, ◌≤◌, length}
+use Rattle.hlc_text.specs.Watched.{inner_of, has_failed}
+use Rattle.hlc_world.specs.State.{world_nodes}
+use Rattle.hlc_script.proofs.Going.{Going}
+use Rattle.hlc_script.proofs.run.answer_lines.Given as goal
+
+abbrev pub invariant-loop-rest : goal.invariant-loop-rest
+invariant-loop-rest g l = record {
+  nodes : world_nodes l.world ≡ world_nodes l.fn.world;
+  bound : l.number + length l.rest ≤ 2 + length l.text;
+  going : Going (world_nodes l.fn.world) l.world l.text l.rest l.number (has_failed l.fn.writer) (has_failed l.writer) (g.W.Write.contents (inner_of l.fn.writer)) (g.W.Write.contents (inner_of l.writer)) l.fn.waiting l.waiting;
+}
+
+abbrev pub decreases-loop-rest : goal.decreases-loop-rest
+decreases-loop-rest g l = length l.rest

@@ -1,0 +1,6 @@
+use Rattle.hlc_script.specs.Line.{header_words, HasHeader}
+use Rattle.hlc_script.proofs.Lines.{read_from_words, words_of_header}
+use Rattle.hlc_script.proofs.run.read_header.Goals as goal
+
+pub returns : goal.returns
+returns c = read_from_words header_words HasHeader words_of_header c.args.line.now _ _ c.of-words.ensures c.header_of_words.ensures

@@ -1,0 +1,6 @@
+pub mod Line
+pub mod Spelled
+pub mod Reply
+pub mod Run
+pub mod Words
+pub mod Laws

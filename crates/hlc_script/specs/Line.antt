@@ -1,0 +1,57 @@
+-- The lines of a script, and the events that they spell.
+use Rattle.std.specs.Prelude.{ℕ, ◌<◌, ◌≤◌, ◌^◌, ◌==◌, List, [], ◌∷◌, length, codes, decimal, if◌then◌else◌, ⊤}
+use Rattle.std.specs.List.{slice_split, join_with_byte}
+use Rattle.hlc_text.specs.Text.{bytes_token, AreBytes}
+use Rattle.hlc_world.specs.declared.event.Event.{Event}
+use Rattle.hlc_world.specs.declared.event.Event.TheVariants.{Write, Deliver, OpenFloor, Read}
+
+-- words with one space between each two
+abbrev pub spaced : List (List ℕ) → List ℕ
+spaced words = join_with_byte 32 words
+
+-- the words of an event
+abbrev pub event_words : Event → List (List ℕ)
+event_words (Write node reading key value) = codes "write" ∷ decimal node ∷ decimal reading ∷ bytes_token key ∷ bytes_token value ∷ []
+event_words (Deliver node number) = codes "deliver" ∷ decimal node ∷ decimal number ∷ []
+event_words OpenFloor = codes "open" ∷ codes "floor" ∷ []
+event_words (Read id key) = codes "read" ∷ decimal id ∷ bytes_token key ∷ []
+
+-- the one line of an event
+abbrev pub event_line : Event → List ℕ
+event_line event = spaced (event_words event)
+
+-- what has a line: a node below 2^16, numbers below 2^64, and bytes
+abbrev pub HasLine : Event → Type 0
+HasLine (Write node reading key value) = (node < 2 ^ 16) × (reading < 2 ^ 64) × AreBytes key × AreBytes value
+HasLine (Deliver node number) = (node < 2 ^ 16) × (number < 2 ^ 64)
+HasLine OpenFloor = ⊤
+HasLine (Read id key) = (id < 2 ^ 64) × AreBytes key
+
+-- the event has a key, which wants memory
+abbrev pub BearsBytes : Event → Type 0
+BearsBytes (Write node reading key value) = ⊤
+BearsBytes (Deliver node number) = ⊥
+BearsBytes OpenFloor = ⊥
+BearsBytes (Read id key) = ⊤
+
+-- the words of the first line
+abbrev pub header_words : ℕ → List (List ℕ)
+header_words nodes = codes "nodes" ∷ decimal nodes ∷ []
+
+-- the first line
+abbrev pub header_line : ℕ → List ℕ
+header_line nodes = spaced (header_words nodes)
+
+-- a script is of 1 to 64 nodes
+abbrev pub HasHeader : ℕ → Type 0
+HasHeader nodes = (0 < nodes) × (nodes ≤ 64)
+
+-- the parts between line feeds, without an empty last one
+abbrev pub lines_of_parts : List (List ℕ) → List (List ℕ)
+lines_of_parts [] = []
+lines_of_parts (line ∷ []) = if length line == 0 then [] else line ∷ []
+lines_of_parts (line ∷ next ∷ lines) = line ∷ lines_of_parts (next ∷ lines)
+
+-- the lines of a text: a line feed ends each, and the last one may lack it
+abbrev pub lines_of : List ℕ → List (List ℕ)
+lines_of text = lines_of_parts (slice_split (λ byte. byte == 10) text)

@@ -1,0 +1,44 @@
+-- The lines of replies and refusals.
+use Rattle.std.specs.Prelude.{ℕ, List, [], ◌∷◌, ◌++◌, codes, decimal, Option, Some, None}
+use Rattle.hlc_clock.specs.Stamp.{stamp_text}
+use Rattle.hlc_text.specs.Text.{bytes_token}
+use Rattle.hlc_world.specs.declared.reply.Reply.{Reply}
+use Rattle.hlc_world.specs.declared.reply.Reply.TheVariants.{Stamped, Accepted, Snapshot, Answer, Refused}
+use Rattle.hlc_world.specs.declared.refusal.Refusal.{Refusal}
+use Rattle.hlc_world.specs.declared.refusal.Refusal.TheVariants.{NoNode, ReadingTooLarge, CounterFull, NoItem, NotNext, StampNotRising, NoSnapshot, TooManySnapshots, BadKey, ValueTooLong, NumbersSpent, NoMemory}
+
+-- a refusal's number, and what it tells behind it
+abbrev pub refusal_line : Refusal → List ℕ
+refusal_line NoNode = codes "refused 1"
+refusal_line ReadingTooLarge = codes "refused 2"
+refusal_line (CounterFull at) = codes "refused 3 at " ++ stamp_text at
+refusal_line NoItem = codes "refused 5"
+refusal_line (NotNext next) = codes "refused 6 next " ++ decimal next
+refusal_line (StampNotRising head) = codes "refused 7 head " ++ stamp_text head
+refusal_line NoSnapshot = codes "refused 10"
+refusal_line TooManySnapshots = codes "refused 11"
+refusal_line BadKey = codes "refused 12"
+refusal_line ValueTooLong = codes "refused 13"
+refusal_line NumbersSpent = codes "refused 14"
+refusal_line NoMemory = codes "refused 15"
+
+-- the value of a key, or none
+abbrev pub answer_line : Option (List ℕ) → List ℕ
+answer_line None = codes "none"
+answer_line (Some value) = codes "value " ++ bytes_token value
+
+-- the line of a reply
+abbrev pub reply_line : Reply → List ℕ
+reply_line (Stamped stamp item) = (codes "stamp " ++ stamp_text stamp) ++ (codes " item " ++ decimal item)
+reply_line (Accepted stamp) = codes "accepted " ++ stamp_text stamp
+reply_line (Snapshot id stamp) = (codes "snapshot " ++ decimal id) ++ (codes " at " ++ stamp_text stamp)
+reply_line (Answer value) = answer_line value
+reply_line (Refused refusal) = refusal_line refusal
+
+-- the line that refuses the line of this number
+abbrev pub bad_line : ℕ → List ℕ
+bad_line number = codes "refused 16 line " ++ decimal number
+
+-- a line as it is printed: with a line feed at its end
+abbrev pub printed : List ℕ → List ℕ
+printed line = line ++ 10 ∷ []

@@ -1,0 +1,11 @@
+-- The event that a line spells, as a reader of lines holds it.
+use Rattle.hlc_world.specs.declared.event.Event.{Event}
+use Rattle.hlc_world.specs.declared.event.Event.TheVariants as event
+use Rattle.hlc_script.specs.declared.line.Line.{Line}
+use Rattle.hlc_script.specs.declared.line.Line.TheVariants.{Write, Deliver, OpenFloor, Read}
+
+abbrev pub event_of : Line → Event
+event_of (Write node reading key value) = event.Write node reading key value
+event_of (Deliver node number) = event.Deliver node number
+event_of OpenFloor = event.OpenFloor
+event_of (Read id key) = event.Read id key

@@ -1,0 +1,185 @@
+//! The lines of events, read without memory.
+ghost use Rattle.std.specs.Prelude.{◌≡◌, ◌≢◌, ◌<◌, ◌^◌, ◌∷◌, [], List, ℕ, MatchOption, codes, decimal, IfOk, OnErr};
+ghost use Rattle.std.specs.Option.{option_map};
+ghost use Rattle.hlc_text.specs.Text.{Reads, bytes_token, AreBytes};
+ghost use Rattle.hlc_script.specs.Line.{event_words, event_line, HasLine, BearsBytes};
+ghost use Rattle.hlc_script.specs.Spelled.{event_of};
+
+use hlc_text::bytes::{Spelled, bytes};
+use hlc_text::number;
+use hlc_text::words::Words;
+use hlc_world::{Bytes, Event};
+use std::alloc::{AllocError, Global};
+
+/// The event that a line spells, with its bytes still as they are spelled.
+#[derive(Debug, Drop)]
+pub enum Line<'a> {
+    Write {
+        node: u16,
+        reading: u64,
+        key: Spelled<'a>,
+        value: Spelled<'a>,
+    },
+    Deliver {
+        node: u16,
+        number: u64,
+    },
+    OpenFloor,
+    Read {
+        id: u64,
+        key: Spelled<'a>,
+    },
+}
+
+impl<'a> Line<'a> {
+    /// The event, whose key and value are in memory of their own. Other events take no memory.
+    pub fn to_event(&self, alloc: Global) -> Result<Event, AllocError>
+        ensures ok { IfOk result (λ event. event ≡ event_of self.now) }
+        ensures err { OnErr result (BearsBytes (event_of self.now)) }
+    {
+        match self {
+            Line::Write {
+                node,
+                reading,
+                key,
+                value,
+            } => Ok(Event::Write {
+                node: *node,
+                reading: *reading,
+                key: Bytes::from_vec(key.to_vec(alloc)?),
+                value: Bytes::from_vec(value.to_vec(alloc)?),
+            }),
+            Line::Deliver { node, number } => Ok(Event::Deliver {
+                node: *node,
+                number: *number,
+            }),
+            Line::OpenFloor => Ok(Event::OpenFloor),
+            Line::Read { id, key } => Ok(Event::Read {
+                id: *id,
+                key: Bytes::from_vec(key.to_vec(alloc)?),
+            }),
+        }
+    }
+}
+
+/// The event of a line, or none where no event has this line.
+pub fn read_line(line: &[u8]) -> Option<Line<'_>>
+    ensures { Reads event_line HasLine line.now (option_map event_of result) }
+{
+    let mut words = Words::of(line);
+    line_of_words(&mut words)
+}
+
+/// The event of the words.
+fn line_of_words<'a>(words: &mut Words<'a>) -> Option<Line<'a>>
+    ensures { Reads event_words HasLine words.old (option_map event_of result) }
+{
+    let verb = words.next()?;
+    if verb == b"write".as_slice() {
+        return write_line(words);
+    }
+    if verb == b"deliver".as_slice() {
+        return deliver_line(words);
+    }
+    if verb == b"open".as_slice() {
+        return open_line(words);
+    }
+    if verb == b"read".as_slice() {
+        return read_verb_line(words);
+    }
+    None
+}
+
+/// The event of the words behind `write`.
+fn write_line<'a>(words: &mut Words<'a>) -> Option<Line<'a>>
+    ensures { Reads event_words HasLine (codes "write" ∷ words.old) (option_map event_of result) }
+{
+    let (node, reading, key, value) = node_number_pair(words)?;
+    Some(Line::Write {
+        node,
+        reading,
+        key,
+        value,
+    })
+}
+
+/// The event of the words behind `deliver`.
+fn deliver_line<'a>(words: &mut Words<'a>) -> Option<Line<'a>>
+    ensures { Reads event_words HasLine (codes "deliver" ∷ words.old) (option_map event_of result) }
+{
+    let (node, number) = node_number(words)?;
+    Some(Line::Deliver { node, number })
+}
+
+/// The event of the words behind `open`.
+fn open_line<'a>(words: &mut Words<'a>) -> Option<Line<'a>>
+    ensures { Reads event_words HasLine (codes "open" ∷ words.old) (option_map event_of result) }
+{
+    let word = last_word(words)?;
+    if word == b"floor".as_slice() {
+        return Some(Line::OpenFloor);
+    }
+    None
+}
+
+/// The event of the words behind `read`.
+fn read_verb_line<'a>(words: &mut Words<'a>) -> Option<Line<'a>>
+    ensures { Reads event_words HasLine (codes "read" ∷ words.old) (option_map event_of result) }
+{
+    let (id, key) = number_key(words)?;
+    Some(Line::Read { id, key })
+}
+
+// The shapes of what stands behind a verb.
+
+type Word<'a> = &'a [u8];
+
+/// The only word that is left.
+fn last_word<'a>(words: &mut Words<'a>) -> Option<Word<'a>>
+    ensures { MatchOption result ((a : List ℕ) → words.old ≢ a ∷ []) (λ word. words.old ≡ word.now ∷ []) }
+{
+    let Some(word) = words.next() else {
+        return None;
+    };
+    if words.next().is_some() {
+        return None;
+    }
+    Some(word)
+}
+
+/// A node and a number.
+fn node_number(words: &mut Words<'_>) -> Option<(u16, u64)>
+    ensures { Reads (λ x. decimal x.0 ∷ decimal x.1 ∷ []) (λ x. (x.0 < 2 ^ 16) × (x.1 < 2 ^ 64)) words.old result }
+{
+    let first = words.next()?;
+    let second = last_word(words)?;
+    let first = number::node(first)?;
+    let second = number::number(second)?;
+    Some((first, second))
+}
+
+/// A node, a number, a key and a value.
+fn node_number_pair<'a>(words: &mut Words<'a>) -> Option<(u16, u64, Spelled<'a>, Spelled<'a>)>
+    ensures { Reads (λ x. decimal x.0 ∷ decimal x.1 ∷ bytes_token x.2 ∷ bytes_token x.3 ∷ []) (λ x. (x.0 < 2 ^ 16) × (x.1 < 2 ^ 64) × AreBytes x.2 × AreBytes x.3) words.old result }
+{
+    let first = words.next()?;
+    let second = words.next()?;
+    let third = words.next()?;
+    let fourth = last_word(words)?;
+    let first = number::node(first)?;
+    let second = number::number(second)?;
+    let third = bytes(third)?;
+    let fourth = bytes(fourth)?;
+    Some((first, second, third, fourth))
+}
+
+/// A number and a key.
+fn number_key<'a>(words: &mut Words<'a>) -> Option<(u64, Spelled<'a>)>
+    ensures { Reads (λ x. decimal x.0 ∷ bytes_token x.1 ∷ []) (λ x. (x.0 < 2 ^ 64) × AreBytes x.1) words.old result }
+{
+    let first = words.next()?;
+    let second = last_word(words)?;
+    let first = number::number(first)?;
+    let second = bytes(second)?;
+    Some((first, second))
+}

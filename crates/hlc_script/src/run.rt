@@ -1,0 +1,231 @@
+//! A whole run: the bytes of a script in, the bytes of its replies out.
+ghost use Rattle.std.specs.Prelude.{◌≡◌, ◌≢◌, ◌≤◌, ◌↔◌, ◌∷◌, [], ℕ, List, Option, false, true, length};
+ghost use Rattle.hlc_text.specs.Text.{Reads};
+ghost use Rattle.hlc_text.specs.Watched.{inner_of, has_failed};
+ghost use Rattle.hlc_text.specs.Printing.{Prints, Wrote};
+ghost use Rattle.hlc_world.specs.declared.event.Event.{Event as AnEvent};
+ghost use Rattle.hlc_world.specs.declared.reply.Reply.{Reply as AReply};
+ghost use Rattle.hlc_world.specs.State.{StandsFor, world_nodes};
+ghost use Rattle.hlc_script.specs.Line.{lines_of, header_line, header_words, HasHeader};
+ghost use Rattle.hlc_script.specs.Spelled.{event_of};
+ghost use Rattle.hlc_script.specs.Reply.{printed, bad_line};
+ghost use Rattle.hlc_script.specs.Run.{Answers, AnswersLine, MayWrite, IsInput, status_of};
+
+use crate::input::{InputFault, first_line, read_input};
+use crate::line::{Line, read_line};
+use crate::reply::put_reply;
+use hlc_text::number;
+use hlc_text::print::{finish, put, put_named_number};
+use hlc_text::waiting::Waiting;
+use hlc_text::watched::Watched;
+use hlc_text::words::Words;
+use hlc_world::{Refusal, Reply, World};
+use std::alloc::Global;
+use std::io::{Read, Write};
+
+/// How a run ended.
+#[derive(Clone, Copy, Debug, PartialEq, Eq)]
+pub enum RunEnd {
+    /// Every line was answered, refused events among them.
+    Answered,
+    /// The line of this number is no event's. The first line has number 1.
+    BadLine(u64),
+    /// There is no first line, or it is not `nodes N` with N from 1 to 64.
+    BadHeader,
+    /// The input could not be held, or the world not made.
+    NoMemory,
+    /// A read failed.
+    ReadFault,
+    /// The input has more than 16,777,216 bytes.
+    TooLong,
+    /// A write failed.
+    WriteFault,
+}
+
+impl RunEnd {
+    /// The exit status of the program: 0 where every line was answered, 3 where a write failed,
+    /// else 2.
+    pub fn status(self) -> u8
+        ensures { result ≡ status_of self }
+    {
+        match self {
+            RunEnd::Answered => 0,
+            RunEnd::WriteFault => 3,
+            _ => 2,
+        }
+    }
+}
+
+/// Reads a whole script, and then writes the reply to each of its lines.
+///
+/// All is written before it returns, in blocks of 4 KiB or more but for the last. Where a write
+/// failed, a beginning of the replies was written.
+pub fn run_script<R: Read, W: Write>(
+    alloc: Global,
+    reader: &mut Watched<R>,
+    writer: &mut Watched<W>,
+) -> RunEnd
+    requires reader_well { has_failed reader.old ≡ false }
+    requires writer_well { has_failed writer.old ≡ false }
+    // There are an input, an output that it may have, and the end of such a run. The input is what the reader had left, where that
+    // is known. The output is what was written, or it begins so where the writer failed.
+    ensures written { (input : List ℕ) × (output : List ℕ) × (end : RunEnd)
+        × IsInput (R.remaining (inner_of reader.old)) input × MayWrite input output end
+        × Wrote false (has_failed writer.new) (W.contents (inner_of writer.old)) (W.contents (inner_of writer.new)) output
+        × ((end ≡ RunEnd.ReadFault) ↔ (has_failed reader.new ≡ true))
+        × (has_failed writer.new ≡ false → result ≡ end) }
+    ensures write_fault { (result ≡ RunEnd.WriteFault) ↔ (has_failed writer.new ≡ true) }
+{
+    let mut waiting = Waiting::new();
+    let end = read_and_answer(alloc, reader, writer, &mut waiting);
+    finish(writer, &mut waiting);
+    if writer.failed() {
+        RunEnd::WriteFault
+    } else {
+        end
+    }
+}
+
+fn read_and_answer<R: Read, W: Write>(
+    alloc: Global,
+    reader: &mut Watched<R>,
+    writer: &mut Watched<W>,
+    waiting: &mut Waiting,
+) -> RunEnd
+    requires { has_failed reader.old ≡ false }
+    ensures written { (input : List ℕ) × (output : List ℕ)
+        × IsInput (R.remaining (inner_of reader.old)) input × MayWrite input output result
+        × Prints W.contents writer.old writer.new waiting.old waiting.new output }
+    ensures read_fault { (result ≡ RunEnd.ReadFault) ↔ (has_failed reader.new ≡ true) }
+{
+    match read_input(alloc, reader) {
+        Ok(input) => answer_input(alloc, input.as_slice(), writer, waiting),
+        Err(InputFault::NoMemory) => {
+            put(writer, waiting, b"refused 15\n");
+            RunEnd::NoMemory
+        }
+        Err(InputFault::ReadFault) => {
+            put(writer, waiting, b"refused 18\n");
+            RunEnd::ReadFault
+        }
+        Err(InputFault::TooLong) => {
+            put(writer, waiting, b"refused 20\n");
+            RunEnd::TooLong
+        }
+    }
+}
+
+/// Answers a whole input.
+fn answer_input<W: Write>(
+    alloc: Global,
+    input: &[u8],
+    writer: &mut Watched<W>,
+    waiting: &mut Waiting,
+) -> RunEnd
+    requires { length input.now ≤ 16777216 }
+    ensures read { result ≢ RunEnd.ReadFault }
+    ensures written { (output : List ℕ) × MayWrite input.now output result
+        × Prints W.contents writer.old writer.new waiting.old waiting.new output }
+{
+    if input.is_empty() {
+        put(writer, waiting, b"refused 17\n");
+        return RunEnd::BadHeader;
+    }
+    let (line, rest) = first_line(input);
+    let Some(nodes) = read_header(line) else {
+        put(writer, waiting, b"refused 17\n");
+        return RunEnd::BadHeader;
+    };
+    let Ok(mut world) = World::new(alloc, nodes) else {
+        put(writer, waiting, b"refused 15\n");
+        return RunEnd::NoMemory;
+    };
+    put_header(writer, waiting, nodes);
+    match answer_lines(alloc, &mut world, rest, writer, waiting) {
+        None => RunEnd::Answered,
+        Some(number) => RunEnd::BadLine(number),
+    }
+}
+
+/// The nodes of a header, or none where the line is no header.
+fn read_header(line: &[u8]) -> Option<u16>
+    ensures { Reads header_line HasHeader line.now result }
+{
+    let mut words = Words::of(line);
+    header_of_words(&mut words)
+}
+
+fn header_of_words(words: &mut Words<'_>) -> Option<u16>
+    ensures { Reads header_words HasHeader words.old result }
+{
+    let verb = words.next()?;
+    if verb != b"nodes".as_slice() {
+        return None;
+    }
+    let word = words.next()?;
+    if words.next().is_some() {
+        return None;
+    }
+    let nodes = number::node(word)?;
+    if 1 <= nodes && nodes <= 64 {
+        Some(nodes)
+    } else {
+        None
+    }
+}
+
+fn put_header<W: Write>(writer: &mut Watched<W>, waiting: &mut Waiting, nodes: u16)
+    ensures { Prints W.contents writer.old writer.new waiting.old waiting.new (printed (header_line nodes)) }
+{
+    put_named_number(writer, waiting, b"nodes ", nodes as u64);
+    put(writer, waiting, b"\n");
+}
+
+/// Answers the lines behind the header, and gives the number of the first bad line, if there is
+/// one. The lines behind that are not looked at.
+fn answer_lines<W: Write>(
+    alloc: Global,
+    world: &mut World,
+    text: &[u8],
+    writer: &mut Watched<W>,
+    waiting: &mut Waiting,
+) -> Option<u64>
+    requires fits { length text.now ≤ 16777216 }
+    requires fresh { StandsFor world.old [] }
+    ensures { (output : List ℕ) × Answers (world_nodes world.old) [] 2 (lines_of text.now) output result
+        × Prints W.contents writer.old writer.new waiting.old waiting.new output }
+{
+    let mut rest = text;
+    let mut number = 2u64;
+    while !rest.is_empty() {
+        let (line, after) = first_line(rest);
+        let Some(line) = read_line(line) else {
+            put_bad_line(writer, waiting, number);
+            return Some(number);
+        };
+        let reply = answer_line(alloc, world, &line);
+        put_reply(writer, waiting, reply);
+        rest = after;
+        number += 1;
+    }
+    None
+}
+
+/// The answer to a good line: what the world replies to its event, or want of memory where there
+/// was none for the event's bytes.
+fn answer_line(alloc: Global, world: &mut World, line: &Line<'_>) -> Reply
+    ensures nodes { world_nodes world.new ≡ world_nodes world.old }
+    ensures answers { (schedule : List (AnEvent × AReply)) → StandsFor world.old schedule → (after : List (AnEvent × AReply)) × AnswersLine (world_nodes world.old) schedule (event_of line.now) result after × StandsFor world.new after }
+{
+    match line.to_event(alloc) {
+        Ok(event) => world.step(event),
+        Err(_) => Reply::Refused(Refusal::NoMemory),
+    }
+}
+
+fn put_bad_line<W: Write>(writer: &mut Watched<W>, waiting: &mut Waiting, number: u64)
+    ensures { Prints W.contents writer.old writer.new waiting.old waiting.new (printed (bad_line number)) }
+{
+    put_named_number(writer, waiting, b"refused 16 line ", number);
+    put(writer, waiting, b"\n");
+}
