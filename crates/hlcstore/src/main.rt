@@ -6,6 +6,9 @@ use hlc_text::watched::Watched;
 use std::env;
 use std::process::ExitCode;
 
+#[cfg(test)]
+mod tests;
+
 /// Words that are refused, or can't be held.
 fn refuse_words(rt: &HostRuntime) -> ExitCode {
     let _ = rt.println("refused 25");

@@ -1,0 +1,8 @@
+//! Tests of the whole: printed bytes, outside vectors, failing readers and writers, and the calls
+//! that may refuse memory where they succeed.
+mod scripts;
+mod stamps;
+mod store;
+mod streams;
+mod tokens;
+mod words;

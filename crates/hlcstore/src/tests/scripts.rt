@@ -1,0 +1,138 @@
+//! Whole scripts, from their bytes to the bytes of their replies.
+use crate::tests::streams::answer;
+use std::alloc::{AllocError, Global};
+use std::test::*;
+
+/// A script, what is written for it, and the status.
+type Case = (&'static [u8], &'static [u8], u8);
+
+const CASES: [Case; 12] = [
+    (b"", b"refused 17\n", 2),
+    (
+        b"nodes 1\nwrite 0 5 a x\ndeliver 0 0\nopen floor\nread 1 a\n",
+        b"nodes 1\nstamp 5.0 item 0\naccepted 5.0\nsnapshot 1 at 5.0\nvalue x\n",
+        0,
+    ),
+    // At equal stamps the greater node's write is the newer, in whichever order they came.
+    (
+        b"nodes 2\nwrite 0 5 a x\nwrite 1 5 a y\ndeliver 1 0\ndeliver 0 0\nopen floor\nread 1 a\n",
+        b"nodes 2\nstamp 5.0 item 0\nstamp 5.0 item 0\naccepted 5.0\naccepted 5.0\nsnapshot 1 at 5.0\nvalue y\n",
+        0,
+    ),
+    // Deliveries early, repeated and unknown.
+    (
+        b"nodes 1\nwrite 0 1 a x\nwrite 0 2 a y\ndeliver 0 1\ndeliver 0 0\ndeliver 0 0\ndeliver 0 1\ndeliver 0 2\ndeliver 1 0\n",
+        b"nodes 1\nstamp 1.0 item 0\nstamp 2.0 item 1\nrefused 6 next 0\naccepted 1.0\nrefused 6 next 1\naccepted 2.0\nrefused 5\nrefused 1\n",
+        0,
+    ),
+    (
+        b"nodes 1\nwrite 0 1 a%20b %00\nwrite 0 2 c %\nwrite 0 3 % x\ndeliver 0 0\ndeliver 0 1\nopen floor\nread 1 a%20b\nread 1 c\nread 1 d\nread 1 %2F\n",
+        b"nodes 1\nstamp 1.0 item 0\nstamp 2.0 item 1\nrefused 12\naccepted 1.0\naccepted 2.0\nsnapshot 1 at 2.0\nvalue %00\nvalue %\nnone\nrefused 16 line 11\n",
+        2,
+    ),
+    // The last line may lack its line feed, but not a word.
+    (b"nodes 1\nwrite 0 5 a", b"nodes 1\nrefused 16 line 2\n", 2),
+    (b"nodes 1\nwrite 0 5 a x", b"nodes 1\nstamp 5.0 item 0\n", 0),
+    // The counter tells events of one reading apart, and a reading that falls back counts on.
+    (
+        b"nodes 1\nwrite 0 5 a x\nwrite 0 5 a x\nwrite 0 3 a x\nwrite 0 6 a x\n",
+        b"nodes 1\nstamp 5.0 item 0\nstamp 5.1 item 1\nstamp 5.2 item 2\nstamp 6.0 item 3\n",
+        0,
+    ),
+    (
+        b"nodes 1\nwrite 0 281474976710655 a x\nwrite 0 281474976710656 a x\n",
+        b"nodes 1\nstamp 281474976710655.0 item 0\nrefused 2\n",
+        0,
+    ),
+    // A snapshot stays where it was opened, and the floor waits for the last node.
+    (
+        b"nodes 2\nwrite 0 1 a x\nwrite 1 2 b y\ndeliver 0 0\nopen floor\nread 1 a\ndeliver 1 0\nopen floor\nread 2 a\nread 2 b\nread 1 a\nread 3 a\nread 0 a\n",
+        b"nodes 2\nstamp 1.0 item 0\nstamp 2.0 item 0\naccepted 1.0\nsnapshot 1 at 0.0\nnone\naccepted 2.0\nsnapshot 2 at 1.0\nvalue x\nnone\nnone\nrefused 10\nrefused 10\n",
+        0,
+    ),
+    // Of several refusals the first is given.
+    (
+        b"nodes 1\nwrite 1 281474976710656 % x\nwrite 0 281474976710656 % x\nwrite 0 281474976710656 a x\ndeliver 1 7\nread 7 %\n",
+        b"nodes 1\nrefused 1\nrefused 12\nrefused 2\nrefused 1\nrefused 10\n",
+        0,
+    ),
+    // A refused write takes neither a number nor a stamp.
+    (
+        b"nodes 64\nwrite 63 5 % x\nwrite 63 5 a x\nwrite 64 5 a x\n",
+        b"nodes 64\nrefused 12\nstamp 5.0 item 0\nrefused 1\n",
+        0,
+    ),
+];
+
+#[test]
+fn whole_scripts(rt: HostRuntime) {
+    for (input, output, status) in CASES {
+        let (ended, written) = answer(rt.alloc(), input);
+        assert_eq!(rt; written.as_slice(), output);
+        assert_eq!(rt; ended, status);
+    }
+}
+
+/// A script that writes a value of so many bytes to a key of so many, and reads it.
+fn write_of(alloc: Global, key: usize, value: usize) -> Result<Vec<u8>, AllocError> {
+    let mut text = Vec::from_slice(alloc, b"nodes 1\nwrite 0 1 ")?;
+    for _ in 0..key {
+        text.push(b'k')?;
+    }
+    text.push(b' ')?;
+    for _ in 0..value {
+        text.push(b'v')?;
+    }
+    text.extend_from_slice(b"\n")?;
+    Ok(text)
+}
+
+#[test]
+fn lengths_of_keys_and_values(rt: HostRuntime) -> Result<(), Fail> {
+    let cases: [(usize, usize, &[u8]); 5] = [
+        (255, 1, b"nodes 1\nstamp 1.0 item 0\n"),
+        (256, 1, b"nodes 1\nrefused 12\n"),
+        (1, 65_535, b"nodes 1\nstamp 1.0 item 0\n"),
+        (1, 65_536, b"nodes 1\nrefused 13\n"),
+        (256, 65_536, b"nodes 1\nrefused 12\n"),
+    ];
+    for (key, value, due) in cases {
+        let text = write_of(rt.alloc(), key, value)?;
+        let (status, written) = answer(rt.alloc(), text.as_slice());
+        assert_eq!(rt; (status, written.as_slice()), (0u8, due), "{key} {value}");
+    }
+    Ok(())
+}
+
+#[test]
+fn a_full_counter(rt: HostRuntime) -> Result<(), Fail> {
+    let mut text = Vec::from_slice(rt.alloc(), b"nodes 1\n")?;
+    for _ in 0..65_537 {
+        text.extend_from_slice(b"write 0 1 a x\n")?;
+    }
+    text.extend_from_slice(b"write 0 2 a x\n")?;
+    let (status, written) = answer(rt.alloc(), text.as_slice());
+    assert_eq!(rt; status, 0);
+    assert!(rt;
+        written.as_slice().ends_with(
+            b"\nstamp 1.65535 item 65535\nrefused 3 at 1.65535\nstamp 2.0 item 65536\n"
+        )
+    );
+    Ok(())
+}
+
+#[test]
+fn the_most_snapshots(rt: HostRuntime) -> Result<(), Fail> {
+    let mut text = Vec::from_slice(rt.alloc(), b"nodes 1\n")?;
+    for _ in 0..1_025 {
+        text.extend_from_slice(b"open floor\n")?;
+    }
+    let (status, written) = answer(rt.alloc(), text.as_slice());
+    assert_eq!(rt; status, 0);
+    assert!(rt;
+        written
+            .as_slice()
+            .ends_with(b"\nsnapshot 1024 at 0.0\nrefused 11\n")
+    );
+    Ok(())
+}
