@@ -1,5 +1,6 @@
 //! Tests of the whole: printed bytes, outside vectors, failing readers and writers, and the calls
 //! that may refuse memory where they succeed.
+mod callers;
 mod scripts;
 mod stamps;
 mod store;
