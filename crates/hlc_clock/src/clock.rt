@@ -65,6 +65,37 @@ impl Clock {
         }
         answer
     }
+
+    /// Stamps the receipt of a message, or the sight of a snapshot, that bears the stamp `seen`, at
+    /// this reading of the physical clock: with the least stamp above the last one and above the
+    /// one seen, and not below the reading.
+    ///
+    /// A reading of 2^48 or more is refused first. Where the counter is full, `at` is the greater
+    /// of the two. After a refusal the clock is unchanged.
+    pub fn receive(&mut self, seen: Stamp, reading: u64) -> Result<Stamp, ClockFault>
+        ensures rule { IsClockAnswer (self.old ∷ seen ∷ []) reading result }
+        ensures value { result ≡ stamp_due (self.old ∷ seen ∷ []) reading }
+        ensures ok { IfOk result (λ stamp. self.new ≡ stamp) }
+        ensures err { OnErr result (self.new ≡ self.old) }
+    {
+        let answer = stamp_after_both(self.last, seen, reading);
+        if let Ok(stamp) = answer {
+            self.last = stamp;
+        }
+        answer
+    }
+}
+
+/// The stamp of a receipt after the node's last stamp and the one that was seen.
+fn stamp_after_both(last: Stamp, seen: Stamp, reading: u64) -> Result<Stamp, ClockFault>
+    ensures { result ≡ stamp_due (last ∷ seen ∷ []) reading }
+{
+    // Only the greater of the two counts: what lies above it lies above both.
+    if last < seen {
+        stamp_after(seen, reading)
+    } else {
+        stamp_after(last, reading)
+    }
 }
 
 /// The stamp of an event after the one that had this stamp.

@@ -29,6 +29,15 @@ pub struct Item {
     pub body: Body,
 }
 
+/// A message from one node to others.
+#[derive(Clone, Copy, PartialEq, Eq, Debug)]
+pub struct Message {
+    /// The node that sent it.
+    pub from: u16,
+    /// The stamp of the sending.
+    pub stamp: Stamp,
+}
+
 /// Why no item may say this.
 #[derive(Clone, Copy, PartialEq, Eq, Debug)]
 pub enum BodyFault {

@@ -1,12 +1,16 @@
-//! Items of a node's link, stored rows, and which row answers a read.
+//! Items of a node's link and the core of a node that makes them; stored rows, and which row
+//! answers a read.
 #![tactic(auto)]
 
 mod bytes;
 mod item;
 mod laws;
+mod node;
 mod row;
 
 pub use bytes::Bytes;
-pub use item::{Body, BodyFault, Item, body_fault, write_fault};
+pub use hlc_clock::Stamp;
+pub use item::{Body, BodyFault, Item, Message, body_fault, write_fault};
 pub use laws::{newest_is_greatest, newest_is_unique, no_newest_no_row};
+pub use node::{NodeCore, NodeFault, RefusedWrite};
 pub use row::Row;

@@ -75,22 +75,23 @@ found state s p k node item h inside at in_items =
 -- the core refuses the item, memory aside
 pub refused : (state : State) (s : List (Event × Reply)) (p k : ℕ) (item : Item) (f : CoreFault) → IsMatched state → StandsFor state s → item_at p k s ≡ Some item → item_refusal (nodes state.core) (core_past s) item ≡ Some f → StandsFor state ((Deliver p k, Refused (of_core f)) ∷ s)
 refused state s p k item f matched h at refusal =
-    stays state s (Deliver p k) (of_core f) refl refl refl
+    stays state s (Deliver p k) (of_core f) refl refl refl refl
     (inl (due-refusal (world_nodes state) s p k item f (orderly (world_nodes state) s h.legal) at (subst (λ n. item_refusal n (core_past s) item ≡ Some f) matched refusal))) h
 
 -- there is no memory for it
 pub no_memory : (state : State) (s : List (Event × Reply)) (p k : ℕ) (item : Item) → IsMatched state → StandsFor state s → item_at p k s ≡ Some item → item_refusal (nodes state.core) (core_past s) item ≡ None → StandsFor state ((Deliver p k, Refused NoMemory) ∷ s)
 no_memory state s p k item matched h at none =
-    stays state s (Deliver p k) NoMemory refl refl refl
-    (inr (due-none (world_nodes state) s p k item (orderly (world_nodes state) s h.legal) at (subst (λ n. item_refusal n (core_past s) item ≡ None) matched none), refl)) h
+    stays state s (Deliver p k) NoMemory refl refl refl refl
+    (inr (due-none (world_nodes state) s p k item (orderly (world_nodes state) s h.legal) at (subst (λ n. item_refusal n (core_past s) item ≡ None) matched none), refl, tt)) h
 
 -- the core accepts it
-taken : (state : State) (s : List (Event × Reply)) (p k : ℕ) (item : Item) (core : Kept) → IsMatched state → StandsFor state s → item_at p k s ≡ Some item → item_refusal (nodes state.core) (core_past s) item ≡ None → CoreStandsFor core (Took item ∷ core_past s) → StandsFor (record { core = core; nodes = state.nodes }) ((Deliver p k, Accepted item.stamp) ∷ s)
+taken : (state : State) (s : List (Event × Reply)) (p k : ℕ) (item : Item) (core : Kept) → IsMatched state → StandsFor state s → item_at p k s ≡ Some item → item_refusal (nodes state.core) (core_past s) item ≡ None → CoreStandsFor core (Took item ∷ core_past s) → StandsFor (record { core = core; nodes = state.nodes; messages = state.messages }) ((Deliver p k, Accepted item.stamp) ∷ s)
 taken state s p k item core matched h at none took =
     record {
       legal = ((due-none (world_nodes state) s p k item (orderly (world_nodes state) s h.legal) at (subst (λ n. item_refusal n (core_past s) item ≡ None) matched none), ap stamp_in at), h.legal);
       core = subst (λ o. CoreStandsFor core (with_step (taking o) (core_past s))) (sym at) took;
       nodes = h.nodes;
+      messages = h.messages;
     }
 
 -- the reply to what the core answered
@@ -99,14 +100,14 @@ reply_of (Ok stamp) = Accepted stamp
 reply_of (Err fault) = Refused (of_core fault)
 
 -- what the core answers to a copy of the item
-pub answered : (state : State) (s : List (Event × Reply)) (p k : ℕ) (item copy : Item) (core : Kept) (result : Result ℕ CoreFault) → copy ≡ item → IsMatched state → StandsFor state s → item_at p k s ≡ Some item → item_refusal (nodes state.core) (core_past s) item ≡ None → MatchResult result (λ stamp. (stamp ≡ copy.stamp) × (item_refusal (nodes state.core) (core_past s) copy ≡ None) × CoreStandsFor core (Took copy ∷ core_past s)) (λ fault. IsRefusal (item_refusal (nodes state.core) (core_past s) copy) (IsWrite copy.body) fault × (core ≡ state.core)) → StandsFor (record { core = core; nodes = state.nodes }) ((Deliver p k, reply_of result) ∷ s)
+pub answered : (state : State) (s : List (Event × Reply)) (p k : ℕ) (item copy : Item) (core : Kept) (result : Result ℕ CoreFault) → copy ≡ item → IsMatched state → StandsFor state s → item_at p k s ≡ Some item → item_refusal (nodes state.core) (core_past s) item ≡ None → MatchResult result (λ stamp. (stamp ≡ copy.stamp) × (item_refusal (nodes state.core) (core_past s) copy ≡ None) × CoreStandsFor core (Took copy ∷ core_past s)) (λ fault. IsRefusal (item_refusal (nodes state.core) (core_past s) copy) (IsWrite copy.body) fault × (core ≡ state.core)) → StandsFor (record { core = core; nodes = state.nodes; messages = state.messages }) ((Deliver p k, reply_of result) ∷ s)
 answered state s p k item copy core (Ok stamp) same matched h at none a =
-    let t : StandsFor (record { core = core; nodes = state.nodes }) ((Deliver p k, Accepted item.stamp) ∷ s) =
+    let t : StandsFor (record { core = core; nodes = state.nodes; messages = state.messages }) ((Deliver p k, Accepted item.stamp) ∷ s) =
     taken state s p k item core matched h at none (subst (λ x. CoreStandsFor core (Took x ∷ core_past s)) same a.2) in
-    subst (λ x. StandsFor (record { core = core; nodes = state.nodes }) ((Deliver p k, Accepted x) ∷ s)) (sym (a.0 ∙ ap (λ x. x.stamp) same)) t
+    subst (λ x. StandsFor (record { core = core; nodes = state.nodes; messages = state.messages }) ((Deliver p k, Accepted x) ∷ s)) (sym (a.0 ∙ ap (λ x. x.stamp) same)) t
 answered state s p k item copy core (Err f) same matched h at none a =
     let n : item_refusal (nodes state.core) (core_past s) copy ≡ None = ap (λ x. item_refusal (nodes state.core) (core_past s) x) same ∙ none in
-    subst (λ x. StandsFor (record { core = x; nodes = state.nodes }) ((Deliver p k, Refused (of_core f)) ∷ s)) (sym a.1)
+    subst (λ x. StandsFor (record { core = x; nodes = state.nodes; messages = state.messages }) ((Deliver p k, Refused (of_core f)) ∷ s)) (sym a.1)
     (elim a.0 [
       | inl due ↦ absurd (let e : None ≡ Some f = sym n ∙ due in cc)
       | inr lost ↦ subst (λ x. StandsFor state ((Deliver p k, Refused (of_core x)) ∷ s)) (sym lost.1) (no_memory state s p k item matched h at none)

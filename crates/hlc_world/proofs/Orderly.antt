@@ -4,23 +4,27 @@ use Rattle.std.proofs.Common.{◌≡◌, ℕ, ◌+◌, ◌*◌, ◌<◌, ◌≤�
 use Rattle.std.specs.Prelude.{◌==◌, nat_le, slice_get, if◌then◌else◌}
 use Rattle.std.proofs.lemmas.Option.{slice_get_within}
 use Rattle.std.proofs.lemmas.Bool.{cond-true, cond-false, le-leb, lt-leb, eq-eqb, ne_eqb, cases_lt, cases_eq, cases_Bool}
-use Rattle.hlc_clock.specs.NextStamp.{stamp_due, next_stamp, is_carried}
+use Rattle.hlc_clock.specs.NextStamp.{stamp_due, next_stamp, greatest, is_carried}
 use Rattle.hlc_clock.specs.declared.clock.ClockFault.{ClockFault}
 use Rattle.hlc_clock.specs.declared.clock.ClockFault.TheVariants as clock_fault
 use Rattle.hlc_node.specs.declared.item.Item.{Item}
 use Rattle.hlc_node.specs.declared.item.Body.{Body}
-use Rattle.hlc_node.specs.declared.item.Body.TheVariants.{Write as a_write}
+use Rattle.hlc_node.specs.declared.item.Body.TheVariants.{Write as a_write, Report as a_report}
 use Rattle.hlc_node.specs.declared.item.BodyFault.{BodyFault}
+use Rattle.hlc_node.specs.declared.item.Message.{Message}
+use Rattle.hlc_node.specs.declared.node.NodeFault.{NodeFault}
+use Rattle.hlc_node.specs.declared.node.NodeFault.TheVariants.{NumbersSpent}
 use Rattle.hlc_node.specs.Items.{body_refusal}
+use Rattle.hlc_node.specs.Node.{Node, clocked, unless_bad, issue_due}
 use Rattle.hlc_core.specs.Past.{Step, Took, count, head}
 use Rattle.hlc_world.specs.declared.event.Event.{Event}
-use Rattle.hlc_world.specs.declared.event.Event.TheVariants.{Write, Deliver, OpenFloor}
+use Rattle.hlc_world.specs.declared.event.Event.TheVariants.{Write, Delete, Report, Send, Receive, Deliver, OpenFloor}
 use Rattle.hlc_world.specs.declared.reply.Reply.{Reply}
-use Rattle.hlc_world.specs.declared.reply.Reply.TheVariants.{Stamped, Accepted, Snapshot}
+use Rattle.hlc_world.specs.declared.reply.Reply.TheVariants.{Stamped, Sent, Received, Accepted, Snapshot}
 use Rattle.hlc_world.specs.declared.refusal.Refusal.{Refusal}
-use Rattle.hlc_world.specs.declared.refusal.Refusal.TheVariants.{NoNode, NotNext, NumbersSpent}
-use Rattle.hlc_world.specs.Schedule.{an_item, with_item, mark_or, issued, last_stamp, taking, with_step, core_past}
-use Rattle.hlc_world.specs.Due.{clocked, unless_refused, stamp_or_refusal, on_node, deliver_refusal, IsGiven, IsLegal}
+use Rattle.hlc_world.specs.declared.refusal.Refusal.TheVariants.{NoNode, NotNext}
+use Rattle.hlc_world.specs.Schedule.{an_item, item_made, mark_of, with_item, mark_or, issued, last_stamp, message_at, node_of, taking, step_of, with_step, core_past}
+use Rattle.hlc_world.specs.Due.{on_node, deliver_refusal, IsReceived, IsGiven, IsLegal}
 use Rattle.hlc_world.proofs.Lists.{some-injective, get-append_left, get-push}
 use Rattle.hlc_world.proofs.Nodes.{with_item-same, with_item-other, mark_or-other}
 
@@ -57,7 +61,7 @@ get-with_item n k item x xs h =
           ]
     ]
 
-mark_or-grows : (n p st last : ℕ) → (p ≡ n → last < st) → last ≤ mark_or n (Some (p, st)) last
+pub mark_or-grows : (n p st last : ℕ) → (p ≡ n → last < st) → last ≤ mark_or n (Some (p, st)) last
 mark_or-grows n p st last up =
     elim (cases_eq p n) [
       | inl same ↦ (let e : mark_or n (Some (p, st)) last ≡ st = cond-true _ _ _ (eq-eqb p n same) in let u : last < st = up same in omega arith)
@@ -185,29 +189,44 @@ clocked-ok : (r : Result ℕ ClockFault) (st : ℕ) → clocked r ≡ Ok st → 
 clocked-ok (Ok x) st h = ap Ok (cc)
 clocked-ok (Err fault) st h = absurd (cc)
 
--- the stamp that is due lies above the last one
-stamp-rises : (last reading st : ℕ) → stamp_due (last ∷ []) reading ≡ Ok st → last < st
-stamp-rises last reading st h =
+-- a stamp that is due is the next stamp
+due-next : (earlier : List ℕ) (reading st : ℕ) → stamp_due earlier reading ≡ Ok st → next_stamp earlier reading ≡ st
+due-next earlier reading st h =
     elim (cases_Bool (nat_le 281474976710656 reading)) [
       | inl large ↦ absurd (let e : ◌≡◌ {A = Result ℕ ClockFault} (Err clock_fault.ReadingTooLarge) (Ok st) = sym (cond-true _ _ _ large) ∙ h in cc)
       | inr small ↦
           let h1 = sym (cond-false _ _ _ small) ∙ h in
-          elim (cases_Bool (is_carried (last ∷ []) reading)) [
-            | inl carried ↦ absurd (let e : ◌≡◌ {A = Result ℕ ClockFault} (Err (clock_fault.CounterFull (max last 0))) (Ok st) = sym (cond-true _ _ _ carried) ∙ h1 in cc)
-            | inr not_carried ↦
-                let e : ◌≡◌ {A = Result ℕ ClockFault} (Ok (next_stamp (last ∷ []) reading)) (Ok st) = sym (cond-false _ _ _ not_carried) ∙ h1 in
-                let is : max (max (last + 1) 0) (65536 * reading) ≡ st = cc in omega arith
+          elim (cases_Bool (is_carried earlier reading)) [
+            | inl carried ↦ absurd (let e : ◌≡◌ {A = Result ℕ ClockFault} (Err (clock_fault.CounterFull (greatest earlier))) (Ok st) = sym (cond-true _ _ _ carried) ∙ h1 in cc)
+            | inr not_carried ↦ (let e : ◌≡◌ {A = Result ℕ ClockFault} (Ok (next_stamp earlier reading)) (Ok st) = sym (cond-false _ _ _ not_carried) ∙ h1 in cc)
           ]
     ]
 
+-- it lies above the last one
+pub stamp-rises : (last reading st : ℕ) → stamp_due (last ∷ []) reading ≡ Ok st → last < st
+stamp-rises last reading st h = (let is : max (max (last + 1) 0) (65536 * reading) ≡ st = due-next (last ∷ []) reading st h in omega arith)
+
+-- and above one that was seen
+pub sight-rises : (last seen reading st : ℕ) → stamp_due (last ∷ seen ∷ []) reading ≡ Ok st → (last < st) × (seen < st)
+sight-rises last seen reading st h =
+    let is : max (max (last + 1) (max (seen + 1) 0)) (65536 * reading) ≡ st = due-next (last ∷ seen ∷ []) reading st h in
+    (omega arith, omega arith)
+
+pub received-rises : (o : Option Message) (last reading st : ℕ) → IsReceived o last reading st → last < st
+received-rises None last reading st h = absurd h
+received-rises (Some message) last reading st h = (sight-rises last message.stamp reading st h).0
+
 -- what it says of an item that a stamp is due to it
-issue-due : (body : Option BodyFault) (last next reading st : ℕ) → unless_refused body (if next == 18446744073709551615 then Err NumbersSpent else clocked (stamp_due (last ∷ []) reading)) ≡ Ok st → (body ≡ None) × (next ≡ 18446744073709551615 → ⊥) × (last < st)
-issue-due (Some fault) last next reading st h = absurd (cc)
-issue-due None last next reading st h =
+issue-by : (body : Option BodyFault) (last next reading st : ℕ) → unless_bad body (if next == 18446744073709551615 then Err NumbersSpent else clocked (stamp_due (last ∷ []) reading)) ≡ Ok st → (body ≡ None) × (next ≡ 18446744073709551615 → ⊥) × (last < st)
+issue-by (Some fault) last next reading st h = absurd (cc)
+issue-by None last next reading st h =
     elim (cases_eq next 18446744073709551615) [
-      | inl spent ↦ absurd (let e : ◌≡◌ {A = Result ℕ Refusal} (Err NumbersSpent) (Ok st) = sym (cond-true _ _ _ (eq-eqb _ _ spent)) ∙ h in cc)
+      | inl spent ↦ absurd (let e : ◌≡◌ {A = Result ℕ NodeFault} (Err NumbersSpent) (Ok st) = sym (cond-true _ _ _ (eq-eqb _ _ spent)) ∙ h in cc)
       | inr left ↦ (refl, left, stamp-rises last reading st (clocked-ok _ st (sym (cond-false _ _ _ (ne_eqb _ _ left)) ∙ h)))
     ]
+
+pub issue-ok : (node : Node) (body : Body) (reading st : ℕ) → issue_due node body reading ≡ Ok st → (body_refusal body ≡ None) × (node.next ≡ 18446744073709551615 → ⊥) × (node.last < st)
+issue-ok node body reading st h = issue-by (body_refusal body) node.last node.next reading st h
 
 delivered : (o : Option Item) (number next : ℕ) → deliver_refusal o number next ≡ None → (item : Item) → o ≡ Some item → number ≡ next
 delivered None number next h item e = absurd (cc)
@@ -220,9 +239,9 @@ delivered (Some x) number next h item e =
 abbrev pub IsOrderly : ℕ → List (Event × Reply) → Type 0
 IsOrderly nodes s = Orderly nodes (λ n. issued n s) (λ n. last_stamp n s) (λ n. count n (core_past s)) (λ n. head n (core_past s))
 
-orderly-issued : (nodes : ℕ) (s : List (Event × Reply)) (p reading st num : ℕ) (body : Body) (rest : Option Refusal) → on_node nodes p rest ≡ None → stamp_or_refusal p s body reading ≡ Ok st → num ≡ length (issued p s) → IsOrderly nodes s → Orderly nodes (λ n. with_item n (Some (an_item p num st body)) (issued n s)) (λ n. mark_or n (Some (p, st)) (last_stamp n s)) (λ n. count n (core_past s)) (λ n. head n (core_past s))
+orderly-issued : (nodes : ℕ) (s : List (Event × Reply)) (p reading st num : ℕ) (body : Body) (rest : Option Refusal) → on_node nodes p rest ≡ None → issue_due (node_of p s) body reading ≡ Ok st → num ≡ length (issued p s) → IsOrderly nodes s → Orderly nodes (λ n. with_item n (Some (an_item p num st body)) (issued n s)) (λ n. mark_or n (Some (p, st)) (last_stamp n s)) (λ n. count n (core_past s)) (λ n. head n (core_past s))
 orderly-issued nodes s p reading st num body rest none due is h =
-    let f = issue-due (body_refusal body) (last_stamp p s) (length (issued p s)) reading st due in
+    let f = issue-ok (node_of p s) body reading st due in
     orderly-issue nodes (λ n. issued n s) (λ n. last_stamp n s) (λ n. count n (core_past s)) (λ n. head n (core_past s)) p st num body h (on_node-none nodes p rest none).0 is f.1 f.0 f.2
 
 orderly-taken : (nodes : ℕ) (s : List (Event × Reply)) (p k : ℕ) (o : Option Item) → slice_get (issued p s) k ≡ o → deliver_refusal o k (count p (core_past s)) ≡ None → IsOrderly nodes s → Orderly nodes (λ n. issued n s) (λ n. last_stamp n s) (λ n. count n (with_step (taking o) (core_past s))) (λ n. head n (with_step (taking o) (core_past s)))
@@ -233,6 +252,13 @@ orderly-taken nodes s p k (Some item) at none h =
 orderly-entry : (nodes : ℕ) (s : List (Event × Reply)) (event : Event) (reply : Reply) → IsGiven nodes s event reply → IsOrderly nodes s → IsOrderly nodes ((event, reply) ∷ s)
 orderly-entry nodes s (Write p reading key value) (Stamped st num) given h =
     orderly-issued nodes s p reading st num (a_write key (Some value)) _ given.0 given.1.0 given.1.1 h
+orderly-entry nodes s (Delete p reading key) (Stamped st num) given h =
+    orderly-issued nodes s p reading st num (a_write key None) _ given.0 given.1.0 given.1.1 h
+orderly-entry nodes s (Report p reading) (Stamped st num) given h = orderly-issued nodes s p reading st num a_report _ given.0 given.1.0 given.1.1 h
+orderly-entry nodes s (Send p reading) (Sent st num) given h =
+    orderly-mark nodes (λ n. issued n s) (λ n. last_stamp n s) (λ n. count n (core_past s)) (λ n. head n (core_past s)) p st h (stamp-rises _ reading st given.1.0)
+orderly-entry nodes s (Receive p reading number) (Received st) given h =
+    orderly-mark nodes (λ n. issued n s) (λ n. last_stamp n s) (λ n. count n (core_past s)) (λ n. head n (core_past s)) p st h (received-rises _ _ reading st given.1)
 orderly-entry nodes s (Deliver p k) (Accepted st) given h =
     orderly-taken nodes s p k (slice_get (issued p s) k) refl (on_node-none nodes p _ given.0).1 h
 orderly-entry nodes s OpenFloor (Snapshot id st) given h = h

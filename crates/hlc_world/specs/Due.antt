@@ -5,21 +5,24 @@ use Rattle.hlc_clock.specs.declared.clock.ClockFault.{ClockFault}
 use Rattle.hlc_clock.specs.declared.clock.ClockFault.TheVariants as clock_fault
 use Rattle.hlc_node.specs.declared.item.Item.{Item}
 use Rattle.hlc_node.specs.declared.item.Body.{Body}
-use Rattle.hlc_node.specs.declared.item.Body.TheVariants.{Write as a_write}
+use Rattle.hlc_node.specs.declared.item.Body.TheVariants.{Write as a_write, Report as a_report}
 use Rattle.hlc_node.specs.declared.item.BodyFault.{BodyFault}
 use Rattle.hlc_node.specs.declared.item.BodyFault.TheVariants as body_fault
-use Rattle.hlc_node.specs.Items.{body_refusal}
+use Rattle.hlc_node.specs.declared.item.Message.{Message}
+use Rattle.hlc_node.specs.declared.node.NodeFault.{NodeFault}
+use Rattle.hlc_node.specs.declared.node.NodeFault.TheVariants as node_fault
+use Rattle.hlc_node.specs.Node.{Node, issue_due}
 use Rattle.hlc_node.specs.Rows.{answer}
 use Rattle.hlc_core.specs.declared.fault.CoreFault.{CoreFault}
 use Rattle.hlc_core.specs.declared.fault.CoreFault.TheVariants as core_fault
 use Rattle.hlc_core.specs.Past.{count, floor, opened, stamp_of, writes, room_refusal}
 use Rattle.hlc_world.specs.declared.event.Event.{Event}
-use Rattle.hlc_world.specs.declared.event.Event.TheVariants.{Write, Deliver, OpenFloor, Read}
+use Rattle.hlc_world.specs.declared.event.Event.TheVariants.{Write, Delete, Report, Send, Receive, Deliver, OpenFloor, Read}
 use Rattle.hlc_world.specs.declared.reply.Reply.{Reply}
-use Rattle.hlc_world.specs.declared.reply.Reply.TheVariants.{Stamped, Accepted, Snapshot, Answer, Refused}
+use Rattle.hlc_world.specs.declared.reply.Reply.TheVariants.{Stamped, Sent, Received, Accepted, Snapshot, Answer, Refused}
 use Rattle.hlc_world.specs.declared.refusal.Refusal.{Refusal}
-use Rattle.hlc_world.specs.declared.refusal.Refusal.TheVariants.{NoNode, ReadingTooLarge, CounterFull, NoItem, NotNext, StampNotRising, NoSnapshot, TooManySnapshots, BadKey, ValueTooLong, NumbersSpent, NoMemory}
-use Rattle.hlc_world.specs.Schedule.{issued, item_at, last_stamp, core_past}
+use Rattle.hlc_world.specs.declared.refusal.Refusal.TheVariants.{NoNode, ReadingTooLarge, CounterFull, NoMessage, NoItem, NotNext, StampNotRising, NoSnapshot, TooManySnapshots, BadKey, ValueTooLong, NumbersSpent, NoMemory}
+use Rattle.hlc_world.specs.Schedule.{issued, item_at, last_stamp, sent, message_at, node_of, core_past}
 
 -- what no item may say, as a refusal
 abbrev pub of_body : BodyFault → Refusal
@@ -41,27 +44,26 @@ of_core (core_fault.BadBody fault) = of_body fault
 of_core core_fault.TooManySnapshots = TooManySnapshots
 of_core core_fault.NoMemory = NoMemory
 
--- the clock's answer, as a stamp or a refusal
-abbrev pub clocked : Result ℕ ClockFault → Result ℕ Refusal
-clocked (Ok stamp) = Ok stamp
-clocked (Err fault) = Err (of_clock fault)
+-- the node's fault, as a refusal
+abbrev pub of_node : NodeFault → Refusal
+of_node (node_fault.BadBody fault) = of_body fault
+of_node node_fault.NumbersSpent = NumbersSpent
+of_node (node_fault.NoStamp fault) = of_clock fault
 
-abbrev pub unless_refused : Option BodyFault → Result ℕ Refusal → Result ℕ Refusal
-unless_refused None rest = rest
-unless_refused (Some fault) rest = Err (of_body fault)
+-- why a node issues no item
+abbrev pub issue_refusal : Result ℕ NodeFault → Option Refusal
+issue_refusal (Ok stamp) = None
+issue_refusal (Err fault) = Some (of_node fault)
 
--- the stamp of an item that says this, or the first reason that there is none, by the node's last stamp and its next number
-abbrev pub issue_due : ℕ → ℕ → Body → ℕ → Result ℕ Refusal
-issue_due last next body reading =
-    unless_refused (body_refusal body) (if next == 18446744073709551615 then Err NumbersSpent else clocked (stamp_due (last ∷ []) reading))
+-- why a clock gives no stamp
+abbrev pub stamp_refusal : Result ℕ ClockFault → Option Refusal
+stamp_refusal (Ok stamp) = None
+stamp_refusal (Err fault) = Some (of_clock fault)
 
--- the same, after a schedule
-abbrev pub stamp_or_refusal : ℕ → List (Event × Reply) → Body → ℕ → Result ℕ Refusal
-stamp_or_refusal node schedule body reading = issue_due (last_stamp node schedule) (length (issued node schedule)) body reading
-
-abbrev pub refusal_in : Result ℕ Refusal → Option Refusal
-refusal_in (Ok stamp) = None
-refusal_in (Err refusal) = Some refusal
+-- why a message is not received: there is none, or the clock gives no stamp above the node's last one and the message's
+abbrev pub receive_refusal : Option Message → ℕ → ℕ → Option Refusal
+receive_refusal None last reading = Some NoMessage
+receive_refusal (Some message) last reading = stamp_refusal (stamp_due (last ∷ message.stamp ∷ []) reading)
 
 abbrev pub core_refusal : Option CoreFault → Option Refusal
 core_refusal None = None
@@ -83,7 +85,13 @@ snapshot_refusal (Some stamp) = None
 -- the first refusal that is due, memory aside
 abbrev pub refusal_due : ℕ → List (Event × Reply) → Event → Option Refusal
 refusal_due nodes schedule (Write node reading key value) =
-    on_node nodes node (refusal_in (stamp_or_refusal node schedule (a_write key (Some value)) reading))
+    on_node nodes node (issue_refusal (issue_due (node_of node schedule) (a_write key (Some value)) reading))
+refusal_due nodes schedule (Delete node reading key) =
+    on_node nodes node (issue_refusal (issue_due (node_of node schedule) (a_write key None) reading))
+refusal_due nodes schedule (Report node reading) = on_node nodes node (issue_refusal (issue_due (node_of node schedule) a_report reading))
+refusal_due nodes schedule (Send node reading) = on_node nodes node (stamp_refusal (stamp_due (last_stamp node schedule ∷ []) reading))
+refusal_due nodes schedule (Receive node reading message) =
+    on_node nodes node (receive_refusal (message_at message schedule) (last_stamp node schedule) reading)
 refusal_due nodes schedule (Deliver node number) =
     on_node nodes node (deliver_refusal (item_at node number schedule) number (count node (core_past schedule)))
 refusal_due nodes schedule OpenFloor = core_refusal (room_refusal (core_past schedule))
@@ -98,10 +106,23 @@ abbrev pub IsAnswer : Option ℕ → (ℕ → Option (List ℕ)) → Option (Lis
 IsAnswer None answers value = ⊥
 IsAnswer (Some stamp) answers value = value ≡ answers stamp
 
+-- the stamp of the receipt of a message
+abbrev pub IsReceived : Option Message → ℕ → ℕ → ℕ → Type 0
+IsReceived None last reading stamp = ⊥
+IsReceived (Some message) last reading stamp = stamp_due (last ∷ message.stamp ∷ []) reading ≡ Ok stamp
+
 -- the reply that is due where no refusal is
 abbrev pub IsDueReply : ℕ → List (Event × Reply) → Event → Reply → Type 0
 IsDueReply nodes schedule (Write node reading key value) (Stamped stamp number) =
-    (stamp_or_refusal node schedule (a_write key (Some value)) reading ≡ Ok stamp) × (number ≡ length (issued node schedule))
+    (issue_due (node_of node schedule) (a_write key (Some value)) reading ≡ Ok stamp) × (number ≡ length (issued node schedule))
+IsDueReply nodes schedule (Delete node reading key) (Stamped stamp number) =
+    (issue_due (node_of node schedule) (a_write key None) reading ≡ Ok stamp) × (number ≡ length (issued node schedule))
+IsDueReply nodes schedule (Report node reading) (Stamped stamp number) =
+    (issue_due (node_of node schedule) a_report reading ≡ Ok stamp) × (number ≡ length (issued node schedule))
+IsDueReply nodes schedule (Send node reading) (Sent stamp number) =
+    (stamp_due (last_stamp node schedule ∷ []) reading ≡ Ok stamp) × (number ≡ length (sent schedule))
+IsDueReply nodes schedule (Receive node reading message) (Received stamp) =
+    IsReceived (message_at message schedule) (last_stamp node schedule) reading stamp
 IsDueReply nodes schedule (Deliver node number) (Accepted stamp) = stamp_in (item_at node number schedule) ≡ Some stamp
 IsDueReply nodes schedule OpenFloor (Snapshot id stamp) =
     (id ≡ opened (core_past schedule) + 1) × (stamp ≡ floor nodes (core_past schedule))
@@ -109,10 +130,16 @@ IsDueReply nodes schedule (Read id key) (Answer value) =
     IsAnswer (stamp_of id (core_past schedule)) (answer (writes (core_past schedule)) key) value
 IsDueReply nodes schedule _ _ = ⊥
 
--- the reply is the refusal that is due; or, where none is, a due reply, or want of memory: each of these events may need some
+-- the event may want memory
+abbrev pub MayLackMemory : Event → Type 0
+MayLackMemory (Receive node reading message) = ⊥
+MayLackMemory _ = ⊤
+
+-- the reply is the refusal that is due; or, where none is, a due reply, or want of memory
 abbrev pub IsGiven : ℕ → List (Event × Reply) → Event → Reply → Type 0
 IsGiven nodes schedule event (Refused refusal) =
-    (refusal_due nodes schedule event ≡ Some refusal) ⊎ ((refusal_due nodes schedule event ≡ None) × (refusal ≡ NoMemory))
+    (refusal_due nodes schedule event ≡ Some refusal)
+    ⊎ ((refusal_due nodes schedule event ≡ None) × (refusal ≡ NoMemory) × MayLackMemory event)
 IsGiven nodes schedule event reply = (refusal_due nodes schedule event ≡ None) × IsDueReply nodes schedule event reply
 
 abbrev pub IsRefused : Reply → Type 0

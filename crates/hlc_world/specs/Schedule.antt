@@ -1,13 +1,15 @@
 -- A schedule, and what it says of nodes, items and the core.
-use Rattle.std.specs.Prelude.{ℕ, List, [], ◌∷◌, ◌++◌, Option, Some, None, ◌==◌, if◌then◌else◌, slice_get}
+use Rattle.std.specs.Prelude.{ℕ, List, [], ◌∷◌, ◌++◌, length, Option, Some, None, ◌==◌, if◌then◌else◌, slice_get}
 use Rattle.hlc_node.specs.declared.item.Item.{Item}
 use Rattle.hlc_node.specs.declared.item.Body.{Body}
-use Rattle.hlc_node.specs.declared.item.Body.TheVariants.{Write as a_write}
+use Rattle.hlc_node.specs.declared.item.Body.TheVariants.{Write as a_write, Report as a_report}
+use Rattle.hlc_node.specs.declared.item.Message.{Message}
+use Rattle.hlc_node.specs.Node.{Node}
 use Rattle.hlc_core.specs.Past.{Step, Took, Opened}
 use Rattle.hlc_world.specs.declared.event.Event.{Event}
-use Rattle.hlc_world.specs.declared.event.Event.TheVariants.{Write, Deliver, OpenFloor}
+use Rattle.hlc_world.specs.declared.event.Event.TheVariants.{Write, Delete, Report, Send, Receive, Deliver, OpenFloor}
 use Rattle.hlc_world.specs.declared.reply.Reply.{Reply}
-use Rattle.hlc_world.specs.declared.reply.Reply.TheVariants.{Stamped, Accepted, Snapshot}
+use Rattle.hlc_world.specs.declared.reply.Reply.TheVariants.{Stamped, Sent, Received, Accepted, Snapshot}
 
 -- Below, a schedule is the list of the events with their replies, the last one first. An event whose reply is a refusal did not
 -- take place.
@@ -18,11 +20,22 @@ an_item node number stamp body = record { node = node; number = number; stamp = 
 -- the item that an event issued
 abbrev pub item_made : Event → Reply → Option Item
 item_made (Write node reading key value) (Stamped stamp number) = Some (an_item node number stamp (a_write key (Some value)))
+item_made (Delete node reading key) (Stamped stamp number) = Some (an_item node number stamp (a_write key None))
+item_made (Report node reading) (Stamped stamp number) = Some (an_item node number stamp a_report)
 item_made _ _ = None
+
+-- the message that an event sent
+abbrev pub message_made : Event → Reply → Option Message
+message_made (Send node reading) (Sent stamp number) = Some (record { from = node; stamp = stamp })
+message_made _ _ = None
 
 -- the node of an event that was stamped, and the stamp
 abbrev pub mark_of : Event → Reply → Option (ℕ × ℕ)
 mark_of (Write node reading key value) (Stamped stamp number) = Some (node, stamp)
+mark_of (Delete node reading key) (Stamped stamp number) = Some (node, stamp)
+mark_of (Report node reading) (Stamped stamp number) = Some (node, stamp)
+mark_of (Send node reading) (Sent stamp number) = Some (node, stamp)
+mark_of (Receive node reading message) (Received stamp) = Some (node, stamp)
 mark_of _ _ = None
 
 -- the items of a node, and this one behind them, if it is of that node
@@ -49,6 +62,24 @@ abbrev pub last_stamp : ℕ → List (Event × Reply) → ℕ
 last_stamp n [] = 0
 last_stamp n (entry ∷ schedule) = mark_or n (mark_of entry.0 entry.1) (last_stamp n schedule)
 
+-- the messages, and this one behind them
+abbrev pub with_message : Option Message → List Message → List Message
+with_message None messages = messages
+with_message (Some message) messages = messages ++ message ∷ []
+
+-- the messages that were sent, in order: the first one has number 0
+abbrev pub sent : List (Event × Reply) → List Message
+sent [] = []
+sent (entry ∷ schedule) = with_message (message_made entry.0 entry.1) (sent schedule)
+
+-- the message of this number
+abbrev pub message_at : ℕ → List (Event × Reply) → Option Message
+message_at number schedule = slice_get (sent schedule) number
+
+-- what a node has come to
+abbrev pub node_of : ℕ → List (Event × Reply) → Node
+node_of n schedule = record { id = n; last = last_stamp n schedule; next = length (issued n schedule) }
+
 abbrev pub taking : Option Item → Option Step
 taking None = None
 taking (Some item) = Some (Took item)
@@ -67,3 +98,9 @@ with_step (Some step) past = step ∷ past
 abbrev pub core_past : List (Event × Reply) → List Step
 core_past [] = []
 core_past (entry ∷ schedule) = with_step (step_of schedule entry.0 entry.1) (core_past schedule)
+
+-- a schedule, and then these events with their replies, the first of them first
+abbrev pub after : List Event → List Reply → List (Event × Reply) → List (Event × Reply)
+after [] replies schedule = schedule
+after (event ∷ events) [] schedule = schedule
+after (event ∷ events) (reply ∷ replies) schedule = after events replies ((event, reply) ∷ schedule)

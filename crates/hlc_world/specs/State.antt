@@ -2,24 +2,27 @@
 use Rattle.std.specs.Prelude.{◌≡◌, ℕ, zero, suc, ◌<◌, ◌⊎◌, List, [], ◌∷◌, ◌++◌, length, Some, None, slice_get, MatchOption, Result, Ok, Err}
 use Rattle.hlc_node.specs.declared.item.Item.{Item}
 use Rattle.hlc_node.specs.declared.item.Body.{Body}
+use Rattle.hlc_node.specs.declared.item.Message.{Message}
+use Rattle.hlc_node.specs.Node.{Node, issue_due, next_item, issued as issued_by}
 use Rattle.hlc_core.specs.Kept.{Kept, StandsFor as CoreStandsFor}
 use Rattle.hlc_core.specs.Calls.{new_refusal}
 use Rattle.hlc_world.specs.declared.event.Event.{Event}
 use Rattle.hlc_world.specs.declared.reply.Reply.{Reply}
 use Rattle.hlc_world.specs.declared.refusal.Refusal.{Refusal}
 use Rattle.hlc_world.specs.declared.refusal.Refusal.TheVariants.{NoMemory}
-use Rattle.hlc_world.specs.Schedule.{an_item, issued, last_stamp, core_past}
-use Rattle.hlc_world.specs.Due.{issue_due, refusal_in, of_core, IsLegal}
+use Rattle.hlc_world.specs.Schedule.{issued, sent, node_of, core_past}
+use Rattle.hlc_world.specs.Due.{issue_refusal, of_core, IsLegal}
 
--- what is kept of a node: the stamp of its last event, and the items that it issued
+-- what is kept of a node: its core, and the items that it issued
 pub record KeptNode : Type 0 where
-  pub last : ℕ
+  pub core : Node
   pub issued : List Item
 
--- what a world keeps: the core, and each node
+-- what a world keeps: the core of the store, each node, and the messages that were sent
 pub record State : Type 0 where
   pub core : Kept
   pub nodes : List KeptNode
+  pub messages : List Message
 
 -- how many nodes there are
 abbrev pub world_nodes : State → ℕ
@@ -33,12 +36,13 @@ IsMatched state = length state.core.links ≡ length state.nodes
 pub record StandsFor (state : State) (schedule : List (Event × Reply)) : Type 0 where
   pub legal : IsLegal (world_nodes state) schedule
   pub core : CoreStandsFor state.core (core_past schedule)
-  pub nodes : (n : ℕ) → n < world_nodes state → slice_get state.nodes n ≡ Some (record { last = last_stamp n schedule; issued = issued n schedule })
+  pub nodes : (n : ℕ) → n < world_nodes state → slice_get state.nodes n ≡ Some (record { core = node_of n schedule; issued = issued n schedule })
+  pub messages : state.messages ≡ sent schedule
 
 -- so many nodes, on which nothing took place
 abbrev pub fresh : ℕ → List KeptNode
 fresh zero = []
-fresh (suc n) = fresh n ++ record { last = 0; issued = [] } ∷ []
+fresh (suc n) = fresh n ++ record { core = record { id = n; last = 0; next = 0 }; issued = [] } ∷ []
 
 -- a new world has these nodes and stands for the empty schedule; or the number of nodes is refused, or there is no memory
 abbrev pub Makes : ℕ → Result State Refusal → Type 0
@@ -47,12 +51,17 @@ Makes count (Err refusal) = MatchOption (new_refusal count) (refusal ≡ NoMemor
 
 -- a node issued an item that says this, which bears the node's next number; or the node is unchanged, and the refusal is the due
 -- one, or want of memory where none is due
-abbrev pub Issues : KeptNode → KeptNode → ℕ → Body → ℕ → Result (ℕ × ℕ) Refusal → Type 0
-Issues old new id body reading (Ok made) =
-    (issue_due old.last (length old.issued) body reading ≡ Ok made.0)
-    × (made.1 ≡ length old.issued)
-    × (new ≡ record { last = made.0; issued = old.issued ++ an_item id (length old.issued) made.0 body ∷ [] })
-Issues old new id body reading (Err refusal) =
-    ((issue_due old.last (length old.issued) body reading ≡ Err refusal)
-    ⊎ ((refusal_in (issue_due old.last (length old.issued) body reading) ≡ None) × (refusal ≡ NoMemory)))
+abbrev pub Issues : KeptNode → KeptNode → Body → ℕ → Result (ℕ × ℕ) Refusal → Type 0
+Issues old new body reading (Ok made) =
+    (issue_due old.core body reading ≡ Ok made.0)
+    × (made.1 ≡ old.core.next)
+    × (new ≡ record { core = issued_by old.core made.0; issued = old.issued ++ next_item old.core body made.0 ∷ [] })
+Issues old new body reading (Err refusal) =
+    ((issue_refusal (issue_due old.core body reading) ≡ Some refusal)
+    ⊎ ((issue_refusal (issue_due old.core body reading) ≡ None) × (refusal ≡ NoMemory)))
     × (new ≡ old)
+
+-- an item is kept, and its node is this one then; or there is no memory, and all is as it was
+abbrev pub Keeps : KeptNode → KeptNode → Node → Item → Result (ℕ × ℕ) Refusal → Type 0
+Keeps old new core item (Ok made) = (made ≡ (item.stamp, item.number)) × (new ≡ record { core = core; issued = old.issued ++ item ∷ [] })
+Keeps old new core item (Err refusal) = (refusal ≡ NoMemory) × (new ≡ old)

@@ -11,6 +11,18 @@ pub enum Event {
         key: Bytes,
         value: Bytes,
     },
+    /// A node deletes a key: its write is a deletion mark.
+    Delete { node: u16, reading: u64, key: Bytes },
+    /// A node reports how far its stamps have come.
+    Report { node: u16, reading: u64 },
+    /// A node sends a message. Messages are numbered from 0 over the whole world.
+    Send { node: u16, reading: u64 },
+    /// A node receives the message of this number. It may be received any number of times.
+    Receive {
+        node: u16,
+        reading: u64,
+        message: u64,
+    },
     /// The item of this number on a node's link comes to the store. It may come early, late, or
     /// many times.
     Deliver {

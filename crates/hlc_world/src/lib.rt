@@ -2,6 +2,7 @@
 #![tactic(auto)]
 
 mod event;
+mod laws;
 mod node;
 mod refusal;
 mod reply;
@@ -10,6 +11,7 @@ mod world;
 pub use event::Event;
 pub use hlc_clock::Stamp;
 pub use hlc_node::Bytes;
-pub use refusal::Refusal;
+pub use laws::stamps_follow_events;
+pub use refusal::{NoMemory, Refusal};
 pub use reply::Reply;
 pub use world::World;

@@ -1,10 +1,10 @@
 //! Why an event does not take place.
 ghost use Rattle.std.specs.Prelude.{◌≡◌};
-ghost use Rattle.hlc_world.specs.Due.{of_body, of_clock, of_core};
+ghost use Rattle.hlc_world.specs.Due.{of_body, of_clock, of_node, of_core};
 
 use hlc_clock::{ClockFault, Stamp};
 use hlc_core::CoreFault;
-use hlc_node::BodyFault;
+use hlc_node::{BodyFault, NodeFault};
 
 /// Why an event does not take place.
 #[derive(Clone, Copy, PartialEq, Eq, Debug)]
@@ -13,8 +13,11 @@ pub enum Refusal {
     NoNode,
     /// The reading is 2^48 or more.
     ReadingTooLarge,
-    /// The event needs a counter of 65,536; `at` is the node's last stamp.
+    /// The event needs a counter of 65,536; `at` is the greatest earlier stamp: the node's last, or
+    /// the one of the message.
     CounterFull { at: Stamp },
+    /// No message of that number was sent.
+    NoMessage,
     /// The node has issued no item of that number.
     NoItem,
     /// The item's number is not the next one that the store accepts of its node.
@@ -36,6 +39,10 @@ pub enum Refusal {
     NoMemory,
 }
 
+/// A growth was refused.
+#[derive(Clone, Copy, PartialEq, Eq, Debug)]
+pub struct NoMemory;
+
 /// What no item may say, as a refusal.
 pub fn of_body(fault: BodyFault) -> Refusal
     ensures { result ≡ of_body fault }
@@ -53,6 +60,17 @@ pub fn of_clock(fault: ClockFault) -> Refusal
     match fault {
         ClockFault::ReadingTooLarge => Refusal::ReadingTooLarge,
         ClockFault::CounterFull { at } => Refusal::CounterFull { at },
+    }
+}
+
+/// The node's fault, as a refusal.
+pub fn of_node(fault: NodeFault) -> Refusal
+    ensures { result ≡ of_node fault }
+{
+    match fault {
+        NodeFault::BadBody(fault) => of_body(fault),
+        NodeFault::NumbersSpent => Refusal::NumbersSpent,
+        NodeFault::NoStamp(fault) => of_clock(fault),
     }
 }
 

@@ -8,6 +8,10 @@ use hlc_node::Bytes;
 pub enum Reply {
     /// The node issued the item of this number, with this stamp.
     Stamped { stamp: Stamp, item: u64 },
+    /// The message of this number was sent, with this stamp.
+    Sent { stamp: Stamp, message: u64 },
+    /// The message was received, with this stamp.
+    Received { stamp: Stamp },
     /// The item was accepted; this is its stamp.
     Accepted { stamp: Stamp },
     /// The snapshot of this id was opened, at this stamp.

@@ -1,8 +1,9 @@
 //! The world and its events.
-ghost use Rattle.std.specs.Prelude.{◌≡◌, ◌∷◌, List, MatchResult, IfOk, OnErr};
+ghost use Rattle.std.specs.Prelude.{◌≡◌, [], ◌∷◌, ◌++◌, List, MatchBool, MatchResult, IfOk, IfErr, OnErr, length};
 ghost use Rattle.hlc_core.specs.Past.{Step, Took, item_refusal};
 ghost use Rattle.hlc_core.specs.Kept.{nodes, StandsFor as CoreStandsFor};
 ghost use Rattle.hlc_core.specs.Calls.{IsRefusal, IsWrite};
+ghost use Rattle.hlc_world.specs.Schedule.{after};
 ghost use Rattle.hlc_world.specs.Due.{IsGiven, IsRefused};
 ghost use Rattle.hlc_world.specs.State.{StandsFor, Makes, world_nodes, fresh};
 ghost use Rattle.hlc_world.specs.declared.event.Event.{Event as AnEvent};
@@ -10,11 +11,11 @@ ghost use Rattle.hlc_world.specs.declared.reply.Reply.{Reply as AReply};
 
 use crate::event::Event;
 use crate::node::Node;
-use crate::refusal::{self, Refusal};
+use crate::refusal::{self, NoMemory, Refusal};
 use crate::reply::Reply;
 use hlc_clock::Stamp;
 use hlc_core::{Core, CoreFault};
-use hlc_node::{Bytes, Item};
+use hlc_node::{Bytes, Item, Message};
 use std::alloc::{AllocError, Global};
 use std::marker::Model;
 
@@ -28,6 +29,7 @@ pub struct World {
     alloc: Global,
     core: Core,
     nodes: Vec<Node>,
+    messages: Vec<Message>,
 }
 
 impl Model for World {
@@ -35,9 +37,9 @@ impl Model for World {
 
     ghost Value = { State };
 
-    ghost view = { λ world. record { core = world.core; nodes = world.nodes.items } };
+    ghost view = { λ world. record { core = world.core; nodes = world.nodes.items; messages = world.messages.items } };
 
-    ghost invariant = { λ world. IsMatched (record { core = world.core; nodes = world.nodes.items }) };
+    ghost invariant = { λ world. IsMatched (record { core = world.core; nodes = world.nodes.items; messages = world.messages.items }) };
 }
 
 impl World {
@@ -53,15 +55,22 @@ impl World {
         let Ok(nodes) = fresh_nodes(alloc, nodes) else {
             return Err(Refusal::NoMemory);
         };
-        Ok(World { alloc, core, nodes })
+        Ok(World {
+            alloc,
+            core,
+            nodes,
+            messages: Vec::new(alloc),
+        })
     }
 
     /// One event takes place, or is refused.
     ///
-    /// Refusals come in this order. Write: no such node; bad key; value too long; numbers spent;
-    /// reading too large; counter full. Deliver: no such node; no such item; not the next number.
-    /// OpenFloor: too many snapshots; numbers spent. Read: no such snapshot. Last, of each, want of
-    /// memory.
+    /// Refusals come in this order. Write, Delete: no such node; bad key; value too long; numbers
+    /// spent; reading too large; counter full. Report: no such node; numbers spent; reading too
+    /// large; counter full. Send: no such node; reading too large; counter full. Receive: no such
+    /// node; no such message; reading too large; counter full. Deliver: no such node; no such item;
+    /// not the next number. OpenFloor: too many snapshots; numbers spent. Read: no such snapshot.
+    /// Last, of each but Receive, want of memory.
     pub fn step(&mut self, event: Event) -> Reply
         ensures stands { (schedule : List (AnEvent × AReply)) → StandsFor self.old schedule → StandsFor self.new ((event, result) ∷ schedule) }
         ensures given { (schedule : List (AnEvent × AReply)) → StandsFor self.old schedule → IsGiven (world_nodes self.old) schedule event result }
@@ -75,10 +84,36 @@ impl World {
                 key,
                 value,
             } => self.write(node, reading, key, value),
+            Event::Delete { node, reading, key } => self.delete(node, reading, key),
+            Event::Report { node, reading } => self.report(node, reading),
+            Event::Send { node, reading } => self.send(node, reading),
+            Event::Receive {
+                node,
+                reading,
+                message,
+            } => self.receive(node, reading, message),
             Event::Deliver { node, number } => self.deliver(node, number),
             Event::OpenFloor => self.open_floor(),
             Event::Read { id, key } => self.read(id, key),
         }
+    }
+
+    /// The events in turn. Room for all replies is made first: where that is refused, no event took
+    /// place and the events come back.
+    pub fn run(&mut self, events: Vec<Event>) -> Result<Vec<Reply>, (NoMemory, Vec<Event>)>
+        ensures ok { IfOk result (λ replies. (length replies.items ≡ length events.items) × ((schedule : List (AnEvent × AReply)) → StandsFor self.old schedule → StandsFor self.new (after events.items replies.items schedule))) }
+        ensures err { IfErr result (λ refused. (refused.1.items ≡ events.items) × (self.new ≡ self.old)) }
+        ensures nodes { world_nodes self.new ≡ world_nodes self.old }
+    {
+        let mut replies = match Vec::with_capacity(self.alloc, events.len()) {
+            Ok(replies) => replies,
+            Err(_) => return Err((NoMemory, events)),
+        };
+        for event in events {
+            let reply = self.step(event);
+            replies.push_reserved(reply);
+        }
+        Ok(replies)
     }
 
     fn write(&mut self, node: u16, reading: u64, key: Bytes, value: Bytes) -> Reply
@@ -90,9 +125,86 @@ impl World {
         if place >= self.nodes.len() {
             return Reply::Refused(Refusal::NoNode);
         }
-        match self.nodes[place].write(node, reading, key, value) {
+        match self.nodes[place].write(reading, key, Some(value)) {
             Ok((stamp, item)) => Reply::Stamped { stamp, item },
             Err(refusal) => Reply::Refused(refusal),
+        }
+    }
+
+    fn delete(&mut self, node: u16, reading: u64, key: Bytes) -> Reply
+        ensures stands { (schedule : List (AnEvent × AReply)) → StandsFor self.old schedule → StandsFor self.new ((AnEvent.Delete node reading key, result) ∷ schedule) }
+        ensures unchanged { IsRefused result → self.new ≡ self.old }
+        ensures nodes { world_nodes self.new ≡ world_nodes self.old }
+    {
+        let place = node as usize;
+        if place >= self.nodes.len() {
+            return Reply::Refused(Refusal::NoNode);
+        }
+        match self.nodes[place].write(reading, key, None) {
+            Ok((stamp, item)) => Reply::Stamped { stamp, item },
+            Err(refusal) => Reply::Refused(refusal),
+        }
+    }
+
+    fn report(&mut self, node: u16, reading: u64) -> Reply
+        ensures stands { (schedule : List (AnEvent × AReply)) → StandsFor self.old schedule → StandsFor self.new ((AnEvent.Report node reading, result) ∷ schedule) }
+        ensures unchanged { IsRefused result → self.new ≡ self.old }
+        ensures nodes { world_nodes self.new ≡ world_nodes self.old }
+    {
+        let place = node as usize;
+        if place >= self.nodes.len() {
+            return Reply::Refused(Refusal::NoNode);
+        }
+        match self.nodes[place].report(reading) {
+            Ok((stamp, item)) => Reply::Stamped { stamp, item },
+            Err(refusal) => Reply::Refused(refusal),
+        }
+    }
+
+    fn send(&mut self, node: u16, reading: u64) -> Reply
+        ensures stands { (schedule : List (AnEvent × AReply)) → StandsFor self.old schedule → StandsFor self.new ((AnEvent.Send node reading, result) ∷ schedule) }
+        ensures unchanged { IsRefused result → self.new ≡ self.old }
+        ensures nodes { world_nodes self.new ≡ world_nodes self.old }
+    {
+        let place = node as usize;
+        if place >= self.nodes.len() {
+            return Reply::Refused(Refusal::NoNode);
+        }
+        let mut core = self.nodes[place].core();
+        let message = match core.send(reading) {
+            Ok(message) => message,
+            Err(fault) => return Reply::Refused(refusal::of_clock(fault)),
+        };
+        let number = self.messages.len() as u64;
+        if !post(&mut self.messages, message) {
+            return Reply::Refused(Refusal::NoMemory);
+        }
+        self.nodes[place].go_on(core);
+        Reply::Sent {
+            stamp: message.stamp,
+            message: number,
+        }
+    }
+
+    fn receive(&mut self, node: u16, reading: u64, message: u64) -> Reply
+        ensures stands { (schedule : List (AnEvent × AReply)) → StandsFor self.old schedule → StandsFor self.new ((AnEvent.Receive node reading message, result) ∷ schedule) }
+        ensures unchanged { IsRefused result → self.new ≡ self.old }
+        ensures nodes { world_nodes self.new ≡ world_nodes self.old }
+    {
+        let place = node as usize;
+        if place >= self.nodes.len() {
+            return Reply::Refused(Refusal::NoNode);
+        }
+        let Some(sent) = self.messages.as_slice().get(message as usize) else {
+            return Reply::Refused(Refusal::NoMessage);
+        };
+        let mut core = self.nodes[place].core();
+        match core.receive(sent, reading) {
+            Ok(stamp) => {
+                self.nodes[place].go_on(core);
+                Reply::Received { stamp }
+            }
+            Err(fault) => Reply::Refused(refusal::of_clock(fault)),
         }
     }
 
@@ -155,9 +267,16 @@ fn fresh_nodes(alloc: Global, count: u16) -> Result<Vec<Node>, AllocError>
 {
     let mut made = Vec::new(alloc);
     for id in 0..count {
-        made.push(Node::new(alloc))?;
+        made.push(Node::new(alloc, id))?;
     }
     Ok(made)
+}
+
+/// Adds a message to those that were sent, if there is memory.
+fn post(messages: &mut Vec<Message>, message: Message) -> bool
+    ensures { MatchBool result (messages.new.items ≡ messages.old.items ++ message ∷ []) (messages.new.items ≡ messages.old.items) }
+{
+    messages.push(message).is_ok()
 }
 
 /// Hands an item to the store, gives its stamp, and lets a refused one go.

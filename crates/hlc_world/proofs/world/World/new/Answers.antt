@@ -9,5 +9,5 @@ pub returns : goal.returns
 returns c = (
   c.in-Ok.ensures.0,
   ap length c.in-Ok-fresh_nodes.ensures ∙ fresh-length c.args.nodes,
-  rw c.in-Ok-fresh_nodes.ensures (starts c.args.nodes _ c.in-Ok.ensures.2),
+  rw (c.in-Ok-fresh_nodes.ensures, c.new-2.ensures.items) (starts c.args.nodes _ c.in-Ok.ensures.2),
 )

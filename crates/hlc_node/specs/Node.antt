@@ -1,0 +1,46 @@
+-- What a node keeps, and what it answers to each event.
+use Rattle.std.specs.Prelude.{ℕ, ◌+◌, List, [], ◌∷◌, ◌==◌, Option, Some, None, Result, Ok, Err, if◌then◌else◌}
+use Rattle.hlc_clock.specs.NextStamp.{stamp_due}
+use Rattle.hlc_clock.specs.declared.clock.ClockFault.{ClockFault}
+use Rattle.hlc_node.specs.declared.item.Item.{Item}
+use Rattle.hlc_node.specs.declared.item.Body.{Body}
+use Rattle.hlc_node.specs.declared.item.BodyFault.{BodyFault}
+use Rattle.hlc_node.specs.declared.node.NodeFault.{NodeFault}
+use Rattle.hlc_node.specs.declared.node.NodeFault.TheVariants.{BadBody, NumbersSpent, NoStamp}
+use Rattle.hlc_node.specs.Items.{body_refusal}
+
+-- a node: its own number, the stamp of its last event, and the link number of its next item
+pub record Node : Type 0 where
+  pub id : ℕ
+  pub last : ℕ
+  pub next : ℕ
+
+-- the node after an event without an item that was stamped so
+abbrev pub stamped : Node → ℕ → Node
+stamped node stamp = record { id = node.id; last = stamp; next = node.next }
+
+-- the node after it issued an item that was stamped so
+abbrev pub issued : Node → ℕ → Node
+issued node stamp = record { id = node.id; last = stamp; next = node.next + 1 }
+
+-- the node's next item, if it says this and is stamped so
+abbrev pub next_item : Node → Body → ℕ → Item
+next_item node body stamp = record { node = node.id; number = node.next; stamp = stamp; body = body }
+
+-- the clock's answer, as a node's
+abbrev pub clocked : Result ℕ ClockFault → Result ℕ NodeFault
+clocked (Ok stamp) = Ok stamp
+clocked (Err fault) = Err (NoStamp fault)
+
+abbrev pub unless_bad : Option BodyFault → Result ℕ NodeFault → Result ℕ NodeFault
+unless_bad None rest = rest
+unless_bad (Some fault) rest = Err (BadBody fault)
+
+-- the stamp of the node's next item, if what it says is refused so; or the first reason that there is none
+abbrev pub issue_after : Option BodyFault → Node → ℕ → Result ℕ NodeFault
+issue_after refusal node reading =
+    unless_bad refusal (if node.next == 18446744073709551615 then Err NumbersSpent else clocked (stamp_due (node.last ∷ []) reading))
+
+-- the stamp of the node's next item, if it says this; or the first reason that there is none
+abbrev pub issue_due : Node → Body → ℕ → Result ℕ NodeFault
+issue_due node body reading = issue_after (body_refusal body) node reading

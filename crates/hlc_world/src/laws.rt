@@ -1,0 +1,12 @@
+//! What holds of every schedule that a world can stand for.
+ghost use Rattle.std.specs.Prelude.{◌<◌, ℕ, List};
+ghost use Rattle.hlc_world.specs.declared.event.Event.{Event as AnEvent};
+ghost use Rattle.hlc_world.specs.declared.reply.Reply.{Reply as AReply};
+ghost use Rattle.hlc_world.specs.Due.{IsLegal};
+ghost use Rattle.hlc_world.specs.Before.{HappenedBefore, IsStamped};
+
+/// If an event happened before another (Lamport 1978), its stamp is the lesser.
+pub fn stamps_follow_events()
+    ensures { (nodes : ℕ) (schedule : List (AnEvent × AReply)) (first later : ℕ) (n a m b : ℕ) → IsLegal nodes schedule → HappenedBefore schedule first later → IsStamped schedule first n a → IsStamped schedule later m b → a < b }
+{
+}
