@@ -7,6 +7,7 @@ mod laws;
 mod row;
 
 pub use bytes::Bytes;
+pub use hlc_clock::Stamp;
 pub use item::{Body, BodyFault, Item, body_fault, write_fault};
 pub use laws::{newest_is_greatest, newest_is_unique, no_newest_no_row};
 pub use row::Row;

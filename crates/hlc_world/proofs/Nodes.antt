@@ -11,7 +11,7 @@ use Rattle.hlc_world.specs.declared.event.Event.TheVariants.{Write}
 use Rattle.hlc_world.specs.declared.reply.Reply.{Reply}
 use Rattle.hlc_world.specs.declared.reply.Reply.TheVariants.{Stamped, Refused}
 use Rattle.hlc_world.specs.declared.refusal.Refusal.{Refusal}
-use Rattle.hlc_world.specs.Schedule.{an_item, item_made, mark_of, with_item, mark_or, issued, last_stamp, step_of, with_step, core_past}
+use Rattle.hlc_world.specs.Schedule.{an_item, item_made, stamping_of, with_item, stamp_or, issued, last_stamp, step_of, with_step, core_past}
 use Rattle.hlc_world.specs.Due.{issue_due, stamp_or_refusal, refusal_in, on_node, refusal_due, IsGiven, IsLegal}
 use Rattle.hlc_world.specs.State.{KeptNode, State, world_nodes, StandsFor, fresh, Issues}
 use Rattle.hlc_world.proofs.Lists.{some-injective, get-set_at, get-set_other, set-same, get-append_left, get-push}
@@ -19,11 +19,11 @@ use Rattle.hlc_world.proofs.Lists.{some-injective, get-set_at, get-set_other, se
 abbrev a_node : ℕ → List Item → KeptNode
 a_node last items = record { last = last; issued = items }
 
-pub mark_or-same : (p st last : ℕ) → mark_or p (Some (p, st)) last ≡ st
-mark_or-same p st last = cond-true _ _ _ (eq-eqb p p refl)
+pub stamp_or-same : (p st last : ℕ) → stamp_or p (Some (p, st)) last ≡ st
+stamp_or-same p st last = cond-true _ _ _ (eq-eqb p p refl)
 
-pub mark_or-other : (n p st last : ℕ) → (p ≡ n → ⊥) → mark_or n (Some (p, st)) last ≡ last
-mark_or-other n p st last other = cond-false _ _ _ (ne_eqb p n other)
+pub stamp_or-other : (n p st last : ℕ) → (p ≡ n → ⊥) → stamp_or n (Some (p, st)) last ≡ last
+stamp_or-other n p st last other = cond-false _ _ _ (ne_eqb p n other)
 
 pub with_item-same : (p : ℕ) (item : Item) (items : List Item) → item.node ≡ p → with_item p (Some item) items ≡ items ++ item ∷ []
 with_item-same p item items e = cond-true _ _ _ (eq-eqb _ _ e)
@@ -35,29 +35,29 @@ pub on_node-inside : (nodes p : ℕ) (rest : Option Refusal) → p < nodes → o
 on_node-inside nodes p rest h = cond-false _ _ _ (lt-leb nodes p h)
 
 -- one node issued an item, and the others are as they were
-nodes-issued : (nodes : List KeptNode) (lasts : ℕ → ℕ) (items : ℕ → List Item) (p st : ℕ) (item : Item) → item.node ≡ p → p < length nodes → ((n : ℕ) → n < length nodes → slice_get nodes n ≡ Some (a_node (lasts n) (items n))) → (n : ℕ) → n < length nodes → slice_get (slice_set nodes p (a_node st (items p ++ item ∷ []))) n ≡ Some (a_node (mark_or n (Some (p, st)) (lasts n)) (with_item n (Some item) (items n)))
+nodes-issued : (nodes : List KeptNode) (lasts : ℕ → ℕ) (items : ℕ → List Item) (p st : ℕ) (item : Item) → item.node ≡ p → p < length nodes → ((n : ℕ) → n < length nodes → slice_get nodes n ≡ Some (a_node (lasts n) (items n))) → (n : ℕ) → n < length nodes → slice_get (slice_set nodes p (a_node st (items p ++ item ∷ []))) n ≡ Some (a_node (stamp_or n (Some (p, st)) (lasts n)) (with_item n (Some item) (items n)))
 nodes-issued nodes lasts items p st item own inside h n lt =
     elim (cases_eq p n) [
       | inl same ↦
-          subst (λ k. slice_get (slice_set nodes p (a_node st (items p ++ item ∷ []))) k ≡ Some (a_node (mark_or k (Some (p, st)) (lasts k)) (with_item k (Some item) (items k)))) same
+          subst (λ k. slice_get (slice_set nodes p (a_node st (items p ++ item ∷ []))) k ≡ Some (a_node (stamp_or k (Some (p, st)) (lasts k)) (with_item k (Some item) (items k)))) same
           (get-set_at nodes p (a_node st (items p ++ item ∷ [])) inside
-          ∙ sym (ap (λ a. Some (a_node a (with_item p (Some item) (items p)))) (mark_or-same p st (lasts p))
+          ∙ sym (ap (λ a. Some (a_node a (with_item p (Some item) (items p)))) (stamp_or-same p st (lasts p))
           ∙ ap (λ xs. Some (a_node st xs)) (with_item-same p item (items p) own)))
       | inr other ↦
           get-set_other nodes p n (a_node st (items p ++ item ∷ [])) (λ e. other (sym e))
           ∙ h n lt
-          ∙ sym (ap (λ a. Some (a_node a (with_item n (Some item) (items n)))) (mark_or-other n p st (lasts n) other)
+          ∙ sym (ap (λ a. Some (a_node a (with_item n (Some item) (items n)))) (stamp_or-other n p st (lasts n) other)
           ∙ ap (λ xs. Some (a_node (lasts n) xs)) (with_item-other n item (items n) (λ e. other (sym own ∙ e))))
     ]
 
 -- a refused event leaves all as it was
-pub stays : (state : State) (s : List (Event × Reply)) (e : Event) (refusal : Refusal) → item_made e (Refused refusal) ≡ None → mark_of e (Refused refusal) ≡ None → step_of s e (Refused refusal) ≡ None → IsGiven (world_nodes state) s e (Refused refusal) → StandsFor state s → StandsFor state ((e, Refused refusal) ∷ s)
+pub stays : (state : State) (s : List (Event × Reply)) (e : Event) (refusal : Refusal) → item_made e (Refused refusal) ≡ None → stamping_of e (Refused refusal) ≡ None → step_of s e (Refused refusal) ≡ None → IsGiven (world_nodes state) s e (Refused refusal) → StandsFor state s → StandsFor state ((e, Refused refusal) ∷ s)
 stays state s e refusal not_made not_marked no_step given h =
     record {
       legal = (given, h.legal);
       core = subst (λ o. CoreStandsFor state.core (with_step o (core_past s))) (sym no_step) h.core;
       nodes = λ n lt.
-          subst (λ o. slice_get state.nodes n ≡ Some (a_node (mark_or n o (last_stamp n s)) (with_item n (item_made e (Refused refusal)) (issued n s)))) (sym not_marked)
+          subst (λ o. slice_get state.nodes n ≡ Some (a_node (stamp_or n o (last_stamp n s)) (with_item n (item_made e (Refused refusal)) (issued n s)))) (sym not_marked)
           (subst (λ o. slice_get state.nodes n ≡ Some (a_node (last_stamp n s) (with_item n o (issued n s)))) (sym not_made) (h.nodes n lt));
     }
 
@@ -82,7 +82,7 @@ wrote state s p reading key value before after made h inside at issues =
       legal = subst (λ n. IsLegal n ((Write p reading key value, Stamped st number) ∷ s)) (sym same) ((none, (due, refl)), h.legal);
       core = h.core;
       nodes = λ n lt.
-          subst (λ x. slice_get (slice_set state.nodes p x) n ≡ Some (a_node (mark_or n (Some (p, st)) (last_stamp n s)) (with_item n (Some (an_item p number st body)) (issued n s)))) (sym is)
+          subst (λ x. slice_get (slice_set state.nodes p x) n ≡ Some (a_node (stamp_or n (Some (p, st)) (last_stamp n s)) (with_item n (Some (an_item p number st body)) (issued n s)))) (sym is)
           (nodes-issued state.nodes (λ k. last_stamp k s) (λ k. issued k s) p st (an_item p number st body) refl inside h.nodes n (rw same at lt));
     })
 

@@ -46,6 +46,7 @@ abbrev pub clocked : Result ℕ ClockFault → Result ℕ Refusal
 clocked (Ok stamp) = Ok stamp
 clocked (Err fault) = Err (of_clock fault)
 
+-- nothing is issued that no item may say
 abbrev pub unless_refused : Option BodyFault → Result ℕ Refusal → Result ℕ Refusal
 unless_refused None rest = rest
 unless_refused (Some fault) rest = Err (of_body fault)
@@ -59,10 +60,12 @@ issue_due last next body reading =
 abbrev pub stamp_or_refusal : ℕ → List (Event × Reply) → Body → ℕ → Result ℕ Refusal
 stamp_or_refusal node schedule body reading = issue_due (last_stamp node schedule) (length (issued node schedule)) body reading
 
+-- the refusal, if there is one
 abbrev pub refusal_in : Result ℕ Refusal → Option Refusal
 refusal_in (Ok stamp) = None
 refusal_in (Err refusal) = Some refusal
 
+-- the core's fault, if there is one, as a refusal
 abbrev pub core_refusal : Option CoreFault → Option Refusal
 core_refusal None = None
 core_refusal (Some fault) = Some (of_core fault)
@@ -76,6 +79,7 @@ abbrev pub deliver_refusal : Option Item → ℕ → ℕ → Option Refusal
 deliver_refusal None number next = Some NoItem
 deliver_refusal (Some item) number next = if number == next then None else Some (NotNext next)
 
+-- only an open snapshot is read
 abbrev pub snapshot_refusal : Option ℕ → Option Refusal
 snapshot_refusal None = Some NoSnapshot
 snapshot_refusal (Some stamp) = None
@@ -89,6 +93,7 @@ refusal_due nodes schedule (Deliver node number) =
 refusal_due nodes schedule OpenFloor = core_refusal (room_refusal (core_past schedule))
 refusal_due nodes schedule (Read id key) = snapshot_refusal (stamp_of id (core_past schedule))
 
+-- the stamp of the item, if there is one
 abbrev pub stamp_in : Option Item → Option ℕ
 stamp_in None = None
 stamp_in (Some item) = Some item.stamp
@@ -115,6 +120,7 @@ IsGiven nodes schedule event (Refused refusal) =
     (refusal_due nodes schedule event ≡ Some refusal) ⊎ ((refusal_due nodes schedule event ≡ None) × (refusal ≡ NoMemory))
 IsGiven nodes schedule event reply = (refusal_due nodes schedule event ≡ None) × IsDueReply nodes schedule event reply
 
+-- the reply is a refusal: the event did not take place
 abbrev pub IsRefused : Reply → Type 0
 IsRefused (Refused refusal) = ⊤
 IsRefused _ = ⊥

@@ -1,7 +1,6 @@
 //! What a world keeps of a node, and how the node issues items.
-ghost use Rattle.std.specs.Prelude.{◌≡◌, [], Some, MatchResult, length, slice_get, option_copied};
+ghost use Rattle.std.specs.Prelude.{◌≡◌, [], Some, slice_get, option_copied};
 ghost use Rattle.hlc_node.specs.declared.item.Body.TheVariants.{Write as a_write};
-ghost use Rattle.hlc_world.specs.Due.{issue_due};
 ghost use Rattle.hlc_world.specs.State.{Issues};
 
 use crate::refusal::{self, Refusal};
