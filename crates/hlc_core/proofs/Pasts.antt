@@ -9,7 +9,7 @@ use Rattle.hlc_node.specs.declared.item.Body.{Body}
 use Rattle.hlc_node.specs.declared.item.Body.TheVariants.{Write, Report}
 use Rattle.hlc_core.specs.declared.fault.CoreFault.TheVariants.{NoNode, NotNext, StampNotRising, NumbersSpent}
 use Rattle.hlc_node.specs.Rows.{IsSameVersion, IsRowSet}
-use Rattle.hlc_core.specs.Past.{Step, Took, Opened, count, head, least, body_rows, item_rows, writes, link_refusal, item_refusal, IsLegal}
+use Rattle.hlc_core.specs.Past.{Step, Took, Opened, count, head, floor, least, body_rows, item_rows, writes, link_refusal, item_refusal, IsLegal}
 
 -- what it says of an item that nothing refuses it
 pub record IsAdmissible (next last : ℕ) (item : Item) : Type 0 where
@@ -113,6 +113,12 @@ head-up n item past up =
 -- an item that nothing refuses lies above its node's head
 pub rises : (nodes : ℕ) (past : List Step) (item : Item) → item_refusal nodes past item ≡ None → head item.node past < item.stamp
 rises nodes past item h = (admissible _ _ item (sym (on_link nodes past item (inside nodes past item h)) ∙ h)).stamp
+
+-- and so above the floor
+pub above_floor : (nodes : ℕ) (past : List Step) (item : Item) → item_refusal nodes past item ≡ None → floor nodes past < item.stamp
+above_floor nodes past item h =
+    let low : floor nodes past ≤ head item.node past = least-le (λ n. head n past) nodes item.node (inside nodes past item h) in
+    let up : head item.node past < item.stamp = rises nodes past item h in omega arith
 
 -- each accepted write lies at or below its node's head
 below_head : (nodes : ℕ) (past : List Step) → IsLegal nodes past → (row : Row) → Contains (writes past) row → row.stamp ≤ head row.node past

@@ -30,7 +30,7 @@ head n [] = 0
 head n (Took item ∷ past) = if item.node == n then item.stamp else head n past
 head n (_ ∷ past) = head n past
 
--- the least of f 0, f 1 and so on, below n
+-- the least of f 0, f 1 and so on, below n; 0 where n is 0
 abbrev pub least : (ℕ → ℕ) → ℕ → ℕ
 least f zero = 0
 least f (suc zero) = f 0
@@ -40,6 +40,7 @@ least f (suc (suc n)) = min (f (suc n)) (least f (suc n))
 abbrev pub floor : ℕ → List Step → ℕ
 floor nodes past = least (λ n. head n past) nodes
 
+-- the row of what an item of this node and stamp says
 abbrev pub body_rows : ℕ → ℕ → Body → List Row
 body_rows node stamp (Write key value) = record { key = key; stamp = stamp; node = node; value = value } ∷ []
 body_rows node stamp Report = []
@@ -70,6 +71,7 @@ open_snapshots (_ ∷ past) = open_snapshots past
 abbrev pub stamp_of : ℕ → List Step → Option ℕ
 stamp_of id past = option_map (λ snapshot. snapshot.stamp) (find (λ snapshot. snapshot.id == id) (open_snapshots past))
 
+-- what no item may say, as a fault of the core
 abbrev pub of_body : Option BodyFault → Option CoreFault
 of_body None = None
 of_body (Some fault) = Some (BadBody fault)

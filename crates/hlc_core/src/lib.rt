@@ -14,5 +14,7 @@ pub use accepted::Accepted;
 pub use fault::{CoreFault, NoSnapshot};
 pub use hlc_clock::Stamp;
 pub use hlc_node::{Body, BodyFault, Bytes, Item, Row};
-pub use laws::{accepted_writes_are_a_row_set, floor_is_the_least_head};
+pub use laws::{
+    accepted_writes_are_a_row_set, floor_is_the_least_head, later_items_are_above_the_floor,
+};
 pub use store::Core;

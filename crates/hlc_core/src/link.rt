@@ -1,5 +1,5 @@
 //! What a core keeps of a node's link, and how an item is admitted.
-ghost use Rattle.std.specs.Prelude.{◌≡◌, ◌<◌, ◌+◌, Some, MatchOption, length, slice_get, slice_index_or, slice_set, vec_len};
+ghost use Rattle.std.specs.Prelude.{◌≡◌, ◌<◌, Some, MatchOption, length, slice_get, slice_index_or};
 ghost use Rattle.hlc_core.specs.Past.{link_refusal, least};
 ghost use Rattle.hlc_core.specs.Kept.{unused};
 

@@ -1,5 +1,5 @@
 //! The stored rows, as one plain list.
-ghost use Rattle.std.specs.Prelude.{◌≡◌, ◌++◌, Some, None, OnOk, IfErr, IsTrue, option_copied};
+ghost use Rattle.std.specs.Prelude.{◌≡◌, ◌++◌, Some, None, OnOk, IfErr, option_copied};
 ghost use Rattle.hlc_node.specs.Rows.{newest, answer, later, is_before, is_candidate};
 ghost use Rattle.hlc_core.specs.Past.{item_rows};
 ghost use Rattle.hlc_core.specs.Calls.{IsWrite};

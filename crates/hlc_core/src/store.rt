@@ -95,8 +95,7 @@ impl Core {
         }
     }
 
-    /// The floor: the least head of all links. Every write at or below it that its node issued is
-    /// accepted, where the node's stamps rise with its numbers.
+    /// The floor: the least head of all links. What is accepted later lies above it.
     pub fn floor(&self) -> Stamp
         ensures { (past : List Step) → StandsFor self.now past → result ≡ floor (nodes self.now) past }
     {

@@ -1,5 +1,5 @@
 //! What a node hands on over its link.
-ghost use Rattle.std.specs.Prelude.{◌≡◌, IfOk};
+ghost use Rattle.std.specs.Prelude.{◌≡◌, ◌≢◌, IfOk, OnErr};
 ghost use Rattle.hlc_node.specs.Items.{body_refusal};
 ghost use Rattle.hlc_node.specs.declared.item.Body.TheVariants.{Write as a_write};
 
@@ -48,8 +48,10 @@ pub enum BodyFault {
 }
 
 impl Clone for Body {
+    /// A report takes no memory.
     fn clone(&self) -> Result<Body, AllocError>
-        ensures { IfOk result (λ copy. copy ≡ self.now) }
+        ensures ok { IfOk result (λ copy. copy ≡ self.now) }
+        ensures err { OnErr result (self.now ≢ Body.Report) }
     {
         match self {
             Body::Report => Ok(Body::Report),
@@ -66,8 +68,10 @@ impl Clone for Body {
 }
 
 impl Clone for Item {
+    /// A report takes no memory.
     fn clone(&self) -> Result<Item, AllocError>
-        ensures { IfOk result (λ copy. copy ≡ self.now) }
+        ensures ok { IfOk result (λ copy. copy ≡ self.now) }
+        ensures err { OnErr result (self.now.body ≢ Body.Report) }
     {
         let body = self.body.clone()?;
         Ok(Item {

@@ -27,7 +27,7 @@ HasLine (Deliver node number) = (node < 2 ^ 16) × (number < 2 ^ 64)
 HasLine OpenFloor = ⊤
 HasLine (Read id key) = (id < 2 ^ 64) × AreBytes key
 
--- the event has a key, which wants memory
+-- the event has a key, which may want memory
 abbrev pub BearsBytes : Event → Type 0
 BearsBytes (Write node reading key value) = ⊤
 BearsBytes (Deliver node number) = ⊥

@@ -4,6 +4,7 @@ use Rattle.hlc_world.specs.declared.event.Event.TheVariants as event
 use Rattle.hlc_script.specs.declared.line.Line.{Line}
 use Rattle.hlc_script.specs.declared.line.Line.TheVariants.{Write, Deliver, OpenFloor, Read}
 
+-- its fields are the event's, with the bytes as they are spelled
 abbrev pub event_of : Line → Event
 event_of (Write node reading key value) = event.Write node reading key value
 event_of (Deliver node number) = event.Deliver node number

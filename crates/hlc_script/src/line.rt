@@ -1,5 +1,5 @@
 //! The lines of events, read without memory.
-ghost use Rattle.std.specs.Prelude.{◌≡◌, ◌≢◌, ◌<◌, ◌^◌, ◌∷◌, [], List, ℕ, MatchOption, codes, decimal, IfOk, OnErr};
+ghost use Rattle.std.specs.Prelude.{◌≡◌, ◌<◌, ◌^◌, ◌∷◌, [], codes, decimal, IfOk, OnErr};
 ghost use Rattle.std.specs.Option.{option_map};
 ghost use Rattle.hlc_text.specs.Text.{Reads, bytes_token, AreBytes};
 ghost use Rattle.hlc_script.specs.Line.{event_words, event_line, HasLine, BearsBytes};
@@ -115,7 +115,7 @@ fn deliver_line<'a>(words: &mut Words<'a>) -> Option<Line<'a>>
 fn open_line<'a>(words: &mut Words<'a>) -> Option<Line<'a>>
     ensures { Reads event_words HasLine (codes "open" ∷ words.old) (option_map event_of result) }
 {
-    let word = last_word(words)?;
+    let word = words.last()?;
     if word == b"floor".as_slice() {
         return Some(Line::OpenFloor);
     }
@@ -132,27 +132,12 @@ fn read_verb_line<'a>(words: &mut Words<'a>) -> Option<Line<'a>>
 
 // The shapes of what stands behind a verb.
 
-type Word<'a> = &'a [u8];
-
-/// The only word that is left.
-fn last_word<'a>(words: &mut Words<'a>) -> Option<Word<'a>>
-    ensures { MatchOption result ((a : List ℕ) → words.old ≢ a ∷ []) (λ word. words.old ≡ word.now ∷ []) }
-{
-    let Some(word) = words.next() else {
-        return None;
-    };
-    if words.next().is_some() {
-        return None;
-    }
-    Some(word)
-}
-
 /// A node and a number.
 fn node_number(words: &mut Words<'_>) -> Option<(u16, u64)>
     ensures { Reads (λ x. decimal x.0 ∷ decimal x.1 ∷ []) (λ x. (x.0 < 2 ^ 16) × (x.1 < 2 ^ 64)) words.old result }
 {
     let first = words.next()?;
-    let second = last_word(words)?;
+    let second = words.last()?;
     let first = number::node(first)?;
     let second = number::number(second)?;
     Some((first, second))
@@ -165,7 +150,7 @@ fn node_number_pair<'a>(words: &mut Words<'a>) -> Option<(u16, u64, Spelled<'a>,
     let first = words.next()?;
     let second = words.next()?;
     let third = words.next()?;
-    let fourth = last_word(words)?;
+    let fourth = words.last()?;
     let first = number::node(first)?;
     let second = number::number(second)?;
     let third = bytes(third)?;
@@ -178,7 +163,7 @@ fn number_key<'a>(words: &mut Words<'a>) -> Option<(u64, Spelled<'a>)>
     ensures { Reads (λ x. decimal x.0 ∷ bytes_token x.1 ∷ []) (λ x. (x.0 < 2 ^ 64) × AreBytes x.1) words.old result }
 {
     let first = words.next()?;
-    let second = last_word(words)?;
+    let second = words.last()?;
     let first = number::number(first)?;
     let second = bytes(second)?;
     Some((first, second))

@@ -2,9 +2,7 @@
 ghost use Rattle.hlc_text.specs.Printing.{Prints};
 ghost use Rattle.hlc_script.specs.Reply.{reply_line, refusal_line, answer_line, printed};
 
-use hlc_text::print::{
-    put, put_named_bytes, put_named_number, put_named_stamp, put_number, put_stamp,
-};
+use hlc_text::print::{put, put_named_bytes, put_named_number, put_named_stamp};
 use hlc_text::waiting::Waiting;
 use hlc_text::watched::Watched;
 use hlc_world::{Bytes, Refusal, Reply};

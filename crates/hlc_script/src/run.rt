@@ -1,5 +1,5 @@
 //! A whole run: the bytes of a script in, the bytes of its replies out.
-ghost use Rattle.std.specs.Prelude.{◌≡◌, ◌≢◌, ◌≤◌, ◌↔◌, ◌∷◌, [], ℕ, List, Option, false, true, length};
+ghost use Rattle.std.specs.Prelude.{◌≡◌, ◌≢◌, ◌≤◌, ◌↔◌, [], ℕ, List, Option, false, true, length};
 ghost use Rattle.hlc_text.specs.Text.{Reads};
 ghost use Rattle.hlc_text.specs.Watched.{inner_of, has_failed};
 ghost use Rattle.hlc_text.specs.Printing.{Prints, Wrote};
@@ -162,16 +162,8 @@ fn header_of_words(words: &mut Words<'_>) -> Option<u16>
     if verb != b"nodes".as_slice() {
         return None;
     }
-    let word = words.next()?;
-    if words.next().is_some() {
-        return None;
-    }
-    let nodes = number::node(word)?;
-    if 1 <= nodes && nodes <= 64 {
-        Some(nodes)
-    } else {
-        None
-    }
+    let nodes = number::between(words.last()?, 1, 64)?;
+    Some(nodes as u16)
 }
 
 fn put_header<W: Write>(writer: &mut Watched<W>, waiting: &mut Waiting, nodes: u16)

@@ -4,7 +4,7 @@
 //! nothing more. So a caller prints all that it has to, then calls `finish`, and then asks once
 //! whether the writer failed. Before `finish` no fewer than 8,192 bytes are sent at once; only
 //! where the writer takes a part of them is it handed the rest alone.
-ghost use Rattle.std.specs.Prelude.{◌≡◌, true, ◌<◌, decimal, length, ◌++◌, [], codes};
+ghost use Rattle.std.specs.Prelude.{◌≡◌, true, ◌<◌, decimal, ◌++◌, []};
 ghost use Rattle.std.specs.Fmt.{digit_glyph};
 ghost use Rattle.std.specs.List.{flat_map};
 ghost use Rattle.hlc_clock.specs.Stamp.{stamp_text};
@@ -64,14 +64,6 @@ fn put_first<W: Write>(writer: &mut Watched<W>, waiting: &mut Waiting, text: &[u
     } else {
         send(writer, text);
     }
-}
-
-/// Prints the text and a line feed.
-pub fn put_line<W: Write>(writer: &mut Watched<W>, waiting: &mut Waiting, text: &[u8])
-    ensures { Prints W.contents writer.old writer.new waiting.old waiting.new (text.now ++ codes "\n") }
-{
-    put(writer, waiting, text);
-    put(writer, waiting, b"\n");
 }
 
 /// Prints the digits of the number.

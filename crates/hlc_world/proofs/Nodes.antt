@@ -16,7 +16,7 @@ use Rattle.hlc_world.specs.declared.reply.Reply.{Reply}
 use Rattle.hlc_world.specs.declared.reply.Reply.TheVariants.{Stamped, Sent, Received, Refused}
 use Rattle.hlc_world.specs.declared.refusal.Refusal.{Refusal}
 use Rattle.hlc_world.specs.declared.refusal.Refusal.TheVariants.{NoMemory}
-use Rattle.hlc_world.specs.Schedule.{an_item, item_made, message_made, mark_of, with_item, mark_or, with_message, issued, last_stamp, sent, message_at, node_of, step_of, with_step, core_past}
+use Rattle.hlc_world.specs.Schedule.{an_item, item_made, message_made, stamping_of, with_item, stamp_or, with_message, issued, last_stamp, sent, message_at, node_of, step_of, with_step, core_past}
 use Rattle.hlc_world.specs.Due.{of_clock, issue_refusal, stamp_refusal, receive_refusal, on_node, refusal_due, IsReceived, MayLackMemory, IsGiven, IsLegal}
 use Rattle.hlc_world.specs.State.{KeptNode, State, world_nodes, StandsFor, fresh, Issues}
 use Rattle.hlc_world.proofs.Lists.{some-injective, get-set_at, get-set_other, set-same, get-append_left, get-push}
@@ -25,11 +25,11 @@ use Rattle.hlc_world.proofs.Lists.{some-injective, get-set_at, get-set_other, se
 abbrev a_node : ℕ → ℕ → List Item → KeptNode
 a_node n last items = record { core = record { id = n; last = last; next = length items }; issued = items }
 
-pub mark_or-same : (p st last : ℕ) → mark_or p (Some (p, st)) last ≡ st
-mark_or-same p st last = cond-true _ _ _ (eq-eqb p p refl)
+pub stamp_or-same : (p st last : ℕ) → stamp_or p (Some (p, st)) last ≡ st
+stamp_or-same p st last = cond-true _ _ _ (eq-eqb p p refl)
 
-pub mark_or-other : (n p st last : ℕ) → (p ≡ n → ⊥) → mark_or n (Some (p, st)) last ≡ last
-mark_or-other n p st last other = cond-false _ _ _ (ne_eqb p n other)
+pub stamp_or-other : (n p st last : ℕ) → (p ≡ n → ⊥) → stamp_or n (Some (p, st)) last ≡ last
+stamp_or-other n p st last other = cond-false _ _ _ (ne_eqb p n other)
 
 pub with_item-same : (p : ℕ) (item : Item) (items : List Item) → item.node ≡ p → with_item p (Some item) items ≡ items ++ item ∷ []
 with_item-same p item items e = cond-true _ _ _ (eq-eqb _ _ e)
@@ -41,42 +41,42 @@ pub on_node-inside : (nodes p : ℕ) (rest : Option Refusal) → p < nodes → o
 on_node-inside nodes p rest h = cond-false _ _ _ (lt-leb nodes p h)
 
 -- one node issued an item, and the others are as they were
-nodes-issued : (nodes : List KeptNode) (lasts : ℕ → ℕ) (items : ℕ → List Item) (p st : ℕ) (item : Item) → item.node ≡ p → p < length nodes → ((n : ℕ) → n < length nodes → slice_get nodes n ≡ Some (a_node n (lasts n) (items n))) → (n : ℕ) → n < length nodes → slice_get (slice_set nodes p (a_node p st (items p ++ item ∷ []))) n ≡ Some (a_node n (mark_or n (Some (p, st)) (lasts n)) (with_item n (Some item) (items n)))
+nodes-issued : (nodes : List KeptNode) (lasts : ℕ → ℕ) (items : ℕ → List Item) (p st : ℕ) (item : Item) → item.node ≡ p → p < length nodes → ((n : ℕ) → n < length nodes → slice_get nodes n ≡ Some (a_node n (lasts n) (items n))) → (n : ℕ) → n < length nodes → slice_get (slice_set nodes p (a_node p st (items p ++ item ∷ []))) n ≡ Some (a_node n (stamp_or n (Some (p, st)) (lasts n)) (with_item n (Some item) (items n)))
 nodes-issued nodes lasts items p st item own inside h n lt =
     elim (cases_eq p n) [
       | inl same ↦
-          subst (λ k. slice_get (slice_set nodes p (a_node p st (items p ++ item ∷ []))) k ≡ Some (a_node k (mark_or k (Some (p, st)) (lasts k)) (with_item k (Some item) (items k)))) same
+          subst (λ k. slice_get (slice_set nodes p (a_node p st (items p ++ item ∷ []))) k ≡ Some (a_node k (stamp_or k (Some (p, st)) (lasts k)) (with_item k (Some item) (items k)))) same
           (get-set_at nodes p (a_node p st (items p ++ item ∷ [])) inside
-          ∙ sym (ap (λ a. Some (a_node p a (with_item p (Some item) (items p)))) (mark_or-same p st (lasts p))
+          ∙ sym (ap (λ a. Some (a_node p a (with_item p (Some item) (items p)))) (stamp_or-same p st (lasts p))
             ∙ ap (λ xs. Some (a_node p st xs)) (with_item-same p item (items p) own)))
       | inr other ↦
           get-set_other nodes p n (a_node p st (items p ++ item ∷ [])) (λ e. other (sym e))
           ∙ h n lt
-          ∙ sym (ap (λ a. Some (a_node n a (with_item n (Some item) (items n)))) (mark_or-other n p st (lasts n) other)
+          ∙ sym (ap (λ a. Some (a_node n a (with_item n (Some item) (items n)))) (stamp_or-other n p st (lasts n) other)
             ∙ ap (λ xs. Some (a_node n (lasts n) xs)) (with_item-other n item (items n) (λ e. other (sym own ∙ e))))
     ]
 
 -- one node was stamped without an item, and the others are as they were
-nodes-stamped : (nodes : List KeptNode) (lasts : ℕ → ℕ) (items : ℕ → List Item) (p st : ℕ) → p < length nodes → ((n : ℕ) → n < length nodes → slice_get nodes n ≡ Some (a_node n (lasts n) (items n))) → (n : ℕ) → n < length nodes → slice_get (slice_set nodes p (a_node p st (items p))) n ≡ Some (a_node n (mark_or n (Some (p, st)) (lasts n)) (items n))
+nodes-stamped : (nodes : List KeptNode) (lasts : ℕ → ℕ) (items : ℕ → List Item) (p st : ℕ) → p < length nodes → ((n : ℕ) → n < length nodes → slice_get nodes n ≡ Some (a_node n (lasts n) (items n))) → (n : ℕ) → n < length nodes → slice_get (slice_set nodes p (a_node p st (items p))) n ≡ Some (a_node n (stamp_or n (Some (p, st)) (lasts n)) (items n))
 nodes-stamped nodes lasts items p st inside h n lt =
     elim (cases_eq p n) [
       | inl same ↦
-          subst (λ k. slice_get (slice_set nodes p (a_node p st (items p))) k ≡ Some (a_node k (mark_or k (Some (p, st)) (lasts k)) (items k))) same
-          (get-set_at nodes p (a_node p st (items p)) inside ∙ sym (ap (λ a. Some (a_node p a (items p))) (mark_or-same p st (lasts p))))
+          subst (λ k. slice_get (slice_set nodes p (a_node p st (items p))) k ≡ Some (a_node k (stamp_or k (Some (p, st)) (lasts k)) (items k))) same
+          (get-set_at nodes p (a_node p st (items p)) inside ∙ sym (ap (λ a. Some (a_node p a (items p))) (stamp_or-same p st (lasts p))))
       | inr other ↦
           get-set_other nodes p n (a_node p st (items p)) (λ e. other (sym e))
           ∙ h n lt
-          ∙ sym (ap (λ a. Some (a_node n a (items n))) (mark_or-other n p st (lasts n) other))
+          ∙ sym (ap (λ a. Some (a_node n a (items n))) (stamp_or-other n p st (lasts n) other))
     ]
 
 -- a refused event leaves all as it was
-pub stays : (state : State) (s : List (Event × Reply)) (e : Event) (refusal : Refusal) → item_made e (Refused refusal) ≡ None → mark_of e (Refused refusal) ≡ None → message_made e (Refused refusal) ≡ None → step_of s e (Refused refusal) ≡ None → IsGiven (world_nodes state) s e (Refused refusal) → StandsFor state s → StandsFor state ((e, Refused refusal) ∷ s)
+pub stays : (state : State) (s : List (Event × Reply)) (e : Event) (refusal : Refusal) → item_made e (Refused refusal) ≡ None → stamping_of e (Refused refusal) ≡ None → message_made e (Refused refusal) ≡ None → step_of s e (Refused refusal) ≡ None → IsGiven (world_nodes state) s e (Refused refusal) → StandsFor state s → StandsFor state ((e, Refused refusal) ∷ s)
 stays state s e refusal not_made not_marked not_sent no_step given h =
     record {
       legal = (given, h.legal);
       core = subst (λ o. CoreStandsFor state.core (with_step o (core_past s))) (sym no_step) h.core;
       nodes = λ n lt.
-          subst (λ o. slice_get state.nodes n ≡ Some (a_node n (mark_or n o (last_stamp n s)) (with_item n (item_made e (Refused refusal)) (issued n s)))) (sym not_marked)
+          subst (λ o. slice_get state.nodes n ≡ Some (a_node n (stamp_or n o (last_stamp n s)) (with_item n (item_made e (Refused refusal)) (issued n s)))) (sym not_marked)
           (subst (λ o. slice_get state.nodes n ≡ Some (a_node n (last_stamp n s) (with_item n o (issued n s)))) (sym not_made) (h.nodes n lt));
       messages = subst (λ o. state.messages ≡ with_message o (sent s)) (sym not_sent) h.messages;
     }
@@ -88,11 +88,11 @@ with_node state p node = record { core = state.core; nodes = slice_set state.nod
 pub record IsIssue (nodes : ℕ) (s : List (Event × Reply)) (e : Event) (p : ℕ) (body : Body) (reading : ℕ) : Type 0 where
   pub refusal : refusal_due nodes s e ≡ on_node nodes p (issue_refusal (issue_due (node_of p s) body reading))
   pub makes : (st num : ℕ) → item_made e (Stamped st num) ≡ Some (an_item p num st body)
-  pub marks : (st num : ℕ) → mark_of e (Stamped st num) ≡ Some (p, st)
+  pub marks : (st num : ℕ) → stamping_of e (Stamped st num) ≡ Some (p, st)
   pub sends : (r : Reply) → message_made e r ≡ None
   pub steps : (r : Reply) → step_of s e r ≡ None
   pub not_made : (f : Refusal) → item_made e (Refused f) ≡ None
-  pub not_marked : (f : Refusal) → mark_of e (Refused f) ≡ None
+  pub not_marked : (f : Refusal) → stamping_of e (Refused f) ≡ None
   pub given : (st num : ℕ) → refusal_due nodes s e ≡ None → issue_due (node_of p s) body reading ≡ Ok st → num ≡ length (issued p s) → IsGiven nodes s e (Stamped st num)
   pub may : MayLackMemory e
 
@@ -128,9 +128,9 @@ issues state s e p body reading before after made is h inside at taken =
       legal = subst (λ n. IsLegal n ((e, Stamped st number) ∷ s)) (sym same) (is.given st number none due refl, h.legal);
       core = subst (λ o. CoreStandsFor state.core (with_step o (core_past s))) (sym (is.steps _)) h.core;
       nodes = λ n lt.
-          subst (λ o. slice_get (slice_set state.nodes p after) n ≡ Some (a_node n (mark_or n o (last_stamp n s)) (with_item n (item_made e (Stamped st number)) (issued n s)))) (sym (is.marks st number))
-          (subst (λ o. slice_get (slice_set state.nodes p after) n ≡ Some (a_node n (mark_or n (Some (p, st)) (last_stamp n s)) (with_item n o (issued n s)))) (sym (is.makes st number))
-          (subst (λ x. slice_get (slice_set state.nodes p x) n ≡ Some (a_node n (mark_or n (Some (p, st)) (last_stamp n s)) (with_item n (Some (an_item p number st body)) (issued n s)))) (sym came)
+          subst (λ o. slice_get (slice_set state.nodes p after) n ≡ Some (a_node n (stamp_or n o (last_stamp n s)) (with_item n (item_made e (Stamped st number)) (issued n s)))) (sym (is.marks st number))
+          (subst (λ o. slice_get (slice_set state.nodes p after) n ≡ Some (a_node n (stamp_or n (Some (p, st)) (last_stamp n s)) (with_item n o (issued n s)))) (sym (is.makes st number))
+          (subst (λ x. slice_get (slice_set state.nodes p x) n ≡ Some (a_node n (stamp_or n (Some (p, st)) (last_stamp n s)) (with_item n (Some (an_item p number st body)) (issued n s)))) (sym came)
           (nodes-issued state.nodes (λ k. last_stamp k s) (λ k. issued k s) p st (an_item p number st body) refl inside h.nodes n (rw same at lt))));
       messages = subst (λ o. state.messages ≡ with_message o (sent s)) (sym (is.sends _)) h.messages;
     })
@@ -163,7 +163,7 @@ sends state s p reading before core message messages h inside at due from core-i
           ((on_node-inside (world_nodes state) p _ inside ∙ ap stamp_refusal due', (due', ap length h.messages)), h.legal);
       core = h.core;
       nodes = λ n lt.
-          subst (λ x. slice_get (slice_set state.nodes p x) n ≡ Some (a_node n (mark_or n (Some (p, st)) (last_stamp n s)) (issued n s))) (sym came)
+          subst (λ x. slice_get (slice_set state.nodes p x) n ≡ Some (a_node n (stamp_or n (Some (p, st)) (last_stamp n s)) (issued n s))) (sym came)
           (nodes-stamped state.nodes (λ k. last_stamp k s) (λ k. issued k s) p st inside h.nodes n (rw same at lt));
       messages = posted ∙ ap (λ xs. xs ++ message ∷ []) h.messages ∙ ap (λ x. sent s ++ x ∷ []) is;
     }
@@ -196,7 +196,7 @@ receives state s p reading number st before core message h inside at there due c
       legal = subst (λ n. IsLegal n ((Receive p reading number, Received st) ∷ s)) (sym same) ((none, subst (λ o. IsReceived o (last_stamp p s) reading st) (sym there) due'), h.legal);
       core = h.core;
       nodes = λ n lt.
-          subst (λ x. slice_get (slice_set state.nodes p x) n ≡ Some (a_node n (mark_or n (Some (p, st)) (last_stamp n s)) (issued n s))) (sym came)
+          subst (λ x. slice_get (slice_set state.nodes p x) n ≡ Some (a_node n (stamp_or n (Some (p, st)) (last_stamp n s)) (issued n s))) (sym came)
           (nodes-stamped state.nodes (λ k. last_stamp k s) (λ k. issued k s) p st inside h.nodes n (rw same at lt));
       messages = h.messages;
     }

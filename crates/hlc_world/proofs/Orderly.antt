@@ -23,10 +23,10 @@ use Rattle.hlc_world.specs.declared.reply.Reply.{Reply}
 use Rattle.hlc_world.specs.declared.reply.Reply.TheVariants.{Stamped, Sent, Received, Accepted, Snapshot}
 use Rattle.hlc_world.specs.declared.refusal.Refusal.{Refusal}
 use Rattle.hlc_world.specs.declared.refusal.Refusal.TheVariants.{NoNode, NotNext}
-use Rattle.hlc_world.specs.Schedule.{an_item, item_made, mark_of, with_item, mark_or, issued, last_stamp, message_at, node_of, taking, step_of, with_step, core_past}
+use Rattle.hlc_world.specs.Schedule.{an_item, item_made, stamping_of, with_item, stamp_or, issued, last_stamp, message_at, node_of, taking, step_of, with_step, core_past}
 use Rattle.hlc_world.specs.Due.{on_node, deliver_refusal, IsReceived, IsGiven, IsLegal}
 use Rattle.hlc_world.proofs.Lists.{some-injective, get-append_left, get-push}
-use Rattle.hlc_world.proofs.Nodes.{with_item-same, with_item-other, mark_or-other}
+use Rattle.hlc_world.proofs.Nodes.{with_item-same, with_item-other, stamp_or-other}
 
 -- an item of a node is what it should be: by the node's last stamp, its count and its head
 pub record IsIssued (nodes last next top n k : ℕ) (item : Item) : Type 0 where
@@ -61,17 +61,17 @@ get-with_item n k item x xs h =
           ]
     ]
 
-pub mark_or-grows : (n p st last : ℕ) → (p ≡ n → last < st) → last ≤ mark_or n (Some (p, st)) last
-mark_or-grows n p st last up =
+pub stamp_or-grows : (n p st last : ℕ) → (p ≡ n → last < st) → last ≤ stamp_or n (Some (p, st)) last
+stamp_or-grows n p st last up =
     elim (cases_eq p n) [
-      | inl same ↦ (let e : mark_or n (Some (p, st)) last ≡ st = cond-true _ _ _ (eq-eqb p n same) in let u : last < st = up same in omega arith)
-      | inr other ↦ (let e : mark_or n (Some (p, st)) last ≡ last = mark_or-other n p st last other in omega arith)
+      | inl same ↦ (let e : stamp_or n (Some (p, st)) last ≡ st = cond-true _ _ _ (eq-eqb p n same) in let u : last < st = up same in omega arith)
+      | inr other ↦ (let e : stamp_or n (Some (p, st)) last ≡ last = stamp_or-other n p st last other in omega arith)
     ]
 
 -- an event with a higher stamp keeps the order
-orderly-mark : (nodes : ℕ) (items : ℕ → List Item) (lasts counts heads : ℕ → ℕ) (p st : ℕ) → Orderly nodes items lasts counts heads → lasts p < st → Orderly nodes items (λ n. mark_or n (Some (p, st)) (lasts n)) counts heads
+orderly-mark : (nodes : ℕ) (items : ℕ → List Item) (lasts counts heads : ℕ → ℕ) (p st : ℕ) → Orderly nodes items lasts counts heads → lasts p < st → Orderly nodes items (λ n. stamp_or n (Some (p, st)) (lasts n)) counts heads
 orderly-mark nodes items lasts counts heads p st h up =
-    let grows : (n : ℕ) → lasts n ≤ mark_or n (Some (p, st)) (lasts n) = λ n. mark_or-grows n p st (lasts n) (λ e. subst (λ j. lasts j < st) e up) in
+    let grows : (n : ℕ) → lasts n ≤ stamp_or n (Some (p, st)) (lasts n) = λ n. stamp_or-grows n p st (lasts n) (λ e. subst (λ j. lasts j < st) e up) in
     record {
       each = λ n k item m.
           (let i = h.each n k item m in
@@ -81,7 +81,7 @@ orderly-mark nodes items lasts counts heads p st h up =
     }
 
 -- so does an item that a node issues
-orderly-issue : (nodes : ℕ) (items : ℕ → List Item) (lasts counts heads : ℕ → ℕ) (p st num : ℕ) (body : Body) → Orderly nodes items lasts counts heads → p < nodes → num ≡ length (items p) → (length (items p) ≡ 18446744073709551615 → ⊥) → body_refusal body ≡ None → lasts p < st → Orderly nodes (λ n. with_item n (Some (an_item p num st body)) (items n)) (λ n. mark_or n (Some (p, st)) (lasts n)) counts heads
+orderly-issue : (nodes : ℕ) (items : ℕ → List Item) (lasts counts heads : ℕ → ℕ) (p st num : ℕ) (body : Body) → Orderly nodes items lasts counts heads → p < nodes → num ≡ length (items p) → (length (items p) ≡ 18446744073709551615 → ⊥) → body_refusal body ≡ None → lasts p < st → Orderly nodes (λ n. with_item n (Some (an_item p num st body)) (items n)) (λ n. stamp_or n (Some (p, st)) (lasts n)) counts heads
 orderly-issue nodes items lasts counts heads p st num body h inside is left ok up =
     let item = an_item p num st body in
     let m = orderly-mark nodes items lasts counts heads p st h up in
@@ -90,7 +90,7 @@ orderly-issue nodes items lasts counts heads p st num body h inside is left ok u
           elim (get-with_item n k item x (items n) at) [
             | inl old ↦ m.each n k x old
             | inr fresh ↦
-                subst (λ y. IsIssued nodes (mark_or n (Some (p, st)) (lasts n)) (counts n) (heads n) n k y) fresh.2
+                subst (λ y. IsIssued nodes (stamp_or n (Some (p, st)) (lasts n)) (counts n) (heads n) n k y) fresh.2
                 (let same : p ≡ n = fresh.0 in
                 let e : k ≡ length (items n) = fresh.1 in
                 let f : length (items p) ≡ length (items n) = ap (λ j. length (items j)) same in
@@ -100,7 +100,7 @@ orderly-issue nodes items lasts counts heads p st num body h inside is left ok u
                   number = is ∙ f ∙ sym e;
                   left = λ q. left (f ∙ sym e ∙ q);
                   body = ok;
-                  low = (let g : mark_or n (Some (p, st)) (lasts n) ≡ st = cond-true _ _ _ (eq-eqb p n same) in omega arith);
+                  low = (let g : stamp_or n (Some (p, st)) (lasts n) ≡ st = cond-true _ _ _ (eq-eqb p n same) in omega arith);
                   ahead = λ c. (let a : heads n ≤ lasts n = h.head_low n in let b : lasts n < st = subst (λ j. lasts j < st) same up in omega arith);
                 })
           ];
@@ -239,7 +239,7 @@ delivered (Some x) number next h item e =
 abbrev pub IsOrderly : ℕ → List (Event × Reply) → Type 0
 IsOrderly nodes s = Orderly nodes (λ n. issued n s) (λ n. last_stamp n s) (λ n. count n (core_past s)) (λ n. head n (core_past s))
 
-orderly-issued : (nodes : ℕ) (s : List (Event × Reply)) (p reading st num : ℕ) (body : Body) (rest : Option Refusal) → on_node nodes p rest ≡ None → issue_due (node_of p s) body reading ≡ Ok st → num ≡ length (issued p s) → IsOrderly nodes s → Orderly nodes (λ n. with_item n (Some (an_item p num st body)) (issued n s)) (λ n. mark_or n (Some (p, st)) (last_stamp n s)) (λ n. count n (core_past s)) (λ n. head n (core_past s))
+orderly-issued : (nodes : ℕ) (s : List (Event × Reply)) (p reading st num : ℕ) (body : Body) (rest : Option Refusal) → on_node nodes p rest ≡ None → issue_due (node_of p s) body reading ≡ Ok st → num ≡ length (issued p s) → IsOrderly nodes s → Orderly nodes (λ n. with_item n (Some (an_item p num st body)) (issued n s)) (λ n. stamp_or n (Some (p, st)) (last_stamp n s)) (λ n. count n (core_past s)) (λ n. head n (core_past s))
 orderly-issued nodes s p reading st num body rest none due is h =
     let f = issue-ok (node_of p s) body reading st due in
     orderly-issue nodes (λ n. issued n s) (λ n. last_stamp n s) (λ n. count n (core_past s)) (λ n. head n (core_past s)) p st num body h (on_node-none nodes p rest none).0 is f.1 f.0 f.2

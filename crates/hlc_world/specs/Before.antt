@@ -4,7 +4,7 @@ use Rattle.hlc_world.specs.declared.event.Event.{Event}
 use Rattle.hlc_world.specs.declared.event.Event.TheVariants.{Send, Receive}
 use Rattle.hlc_world.specs.declared.reply.Reply.{Reply}
 use Rattle.hlc_world.specs.declared.reply.Reply.TheVariants.{Sent, Received}
-use Rattle.hlc_world.specs.Schedule.{mark_of}
+use Rattle.hlc_world.specs.Schedule.{stamping_of}
 
 -- the event that took its turn so many events after the first, with its reply
 abbrev pub entry_at : List (Event × Reply) → ℕ → Option (Event × Reply)
@@ -15,7 +15,7 @@ entry_at (entry ∷ schedule) turn = if turn == length schedule then Some entry 
 pub record IsStamped (schedule : List (Event × Reply)) (turn node stamp : ℕ) : Type 0 where
   pub entry : Event × Reply
   pub at : entry_at schedule turn ≡ Some entry
-  pub mark : mark_of entry.0 entry.1 ≡ Some (node, stamp)
+  pub mark : stamping_of entry.0 entry.1 ≡ Some (node, stamp)
 
 -- the least transitive relation that holds from an event of a node to each later one of that node, and from a send to each receipt of
 -- its message

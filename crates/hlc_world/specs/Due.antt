@@ -65,6 +65,7 @@ abbrev pub receive_refusal : Option Message → ℕ → ℕ → Option Refusal
 receive_refusal None last reading = Some NoMessage
 receive_refusal (Some message) last reading = stamp_refusal (stamp_due (last ∷ message.stamp ∷ []) reading)
 
+-- the core's fault, if there is one, as a refusal
 abbrev pub core_refusal : Option CoreFault → Option Refusal
 core_refusal None = None
 core_refusal (Some fault) = Some (of_core fault)
@@ -78,6 +79,7 @@ abbrev pub deliver_refusal : Option Item → ℕ → ℕ → Option Refusal
 deliver_refusal None number next = Some NoItem
 deliver_refusal (Some item) number next = if number == next then None else Some (NotNext next)
 
+-- only an open snapshot is read
 abbrev pub snapshot_refusal : Option ℕ → Option Refusal
 snapshot_refusal None = Some NoSnapshot
 snapshot_refusal (Some stamp) = None
@@ -97,6 +99,7 @@ refusal_due nodes schedule (Deliver node number) =
 refusal_due nodes schedule OpenFloor = core_refusal (room_refusal (core_past schedule))
 refusal_due nodes schedule (Read id key) = snapshot_refusal (stamp_of id (core_past schedule))
 
+-- the stamp of the item, if there is one
 abbrev pub stamp_in : Option Item → Option ℕ
 stamp_in None = None
 stamp_in (Some item) = Some item.stamp
@@ -142,6 +145,7 @@ IsGiven nodes schedule event (Refused refusal) =
     ⊎ ((refusal_due nodes schedule event ≡ None) × (refusal ≡ NoMemory) × MayLackMemory event)
 IsGiven nodes schedule event reply = (refusal_due nodes schedule event ≡ None) × IsDueReply nodes schedule event reply
 
+-- the reply is a refusal: the event did not take place
 abbrev pub IsRefused : Reply → Type 0
 IsRefused (Refused refusal) = ⊤
 IsRefused _ = ⊥

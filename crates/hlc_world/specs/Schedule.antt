@@ -14,6 +14,7 @@ use Rattle.hlc_world.specs.declared.reply.Reply.TheVariants.{Stamped, Sent, Rece
 -- Below, a schedule is the list of the events with their replies, the last one first. An event whose reply is a refusal did not
 -- take place.
 
+-- an item with these parts
 abbrev pub an_item : ℕ → ℕ → ℕ → Body → Item
 an_item node number stamp body = record { node = node; number = number; stamp = stamp; body = body }
 
@@ -30,13 +31,13 @@ message_made (Send node reading) (Sent stamp number) = Some (record { from = nod
 message_made _ _ = None
 
 -- the node of an event that was stamped, and the stamp
-abbrev pub mark_of : Event → Reply → Option (ℕ × ℕ)
-mark_of (Write node reading key value) (Stamped stamp number) = Some (node, stamp)
-mark_of (Delete node reading key) (Stamped stamp number) = Some (node, stamp)
-mark_of (Report node reading) (Stamped stamp number) = Some (node, stamp)
-mark_of (Send node reading) (Sent stamp number) = Some (node, stamp)
-mark_of (Receive node reading message) (Received stamp) = Some (node, stamp)
-mark_of _ _ = None
+abbrev pub stamping_of : Event → Reply → Option (ℕ × ℕ)
+stamping_of (Write node reading key value) (Stamped stamp number) = Some (node, stamp)
+stamping_of (Delete node reading key) (Stamped stamp number) = Some (node, stamp)
+stamping_of (Report node reading) (Stamped stamp number) = Some (node, stamp)
+stamping_of (Send node reading) (Sent stamp number) = Some (node, stamp)
+stamping_of (Receive node reading message) (Received stamp) = Some (node, stamp)
+stamping_of _ _ = None
 
 -- the items of a node, and this one behind them, if it is of that node
 abbrev pub with_item : ℕ → Option Item → List Item → List Item
@@ -53,14 +54,14 @@ abbrev pub item_at : ℕ → ℕ → List (Event × Reply) → Option Item
 item_at n number schedule = slice_get (issued n schedule) number
 
 -- the stamp of a mark of this node, or else this stamp
-abbrev pub mark_or : ℕ → Option (ℕ × ℕ) → ℕ → ℕ
-mark_or n None last = last
-mark_or n (Some mark) last = if mark.0 == n then mark.1 else last
+abbrev pub stamp_or : ℕ → Option (ℕ × ℕ) → ℕ → ℕ
+stamp_or n None last = last
+stamp_or n (Some mark) last = if mark.0 == n then mark.1 else last
 
 -- the stamp of a node's last event, 0 where there is none
 abbrev pub last_stamp : ℕ → List (Event × Reply) → ℕ
 last_stamp n [] = 0
-last_stamp n (entry ∷ schedule) = mark_or n (mark_of entry.0 entry.1) (last_stamp n schedule)
+last_stamp n (entry ∷ schedule) = stamp_or n (stamping_of entry.0 entry.1) (last_stamp n schedule)
 
 -- the messages, and this one behind them
 abbrev pub with_message : Option Message → List Message → List Message
@@ -80,6 +81,7 @@ message_at number schedule = slice_get (sent schedule) number
 abbrev pub node_of : ℕ → List (Event × Reply) → Node
 node_of n schedule = record { id = n; last = last_stamp n schedule; next = length (issued n schedule) }
 
+-- an item that is found is taken
 abbrev pub taking : Option Item → Option Step
 taking None = None
 taking (Some item) = Some (Took item)
@@ -90,6 +92,7 @@ step_of schedule (Deliver node number) (Accepted stamp) = taking (item_at node n
 step_of schedule OpenFloor (Snapshot id stamp) = Some (Opened stamp)
 step_of schedule _ _ = None
 
+-- the past, and this step after it
 abbrev pub with_step : Option Step → List Step → List Step
 with_step None past = past
 with_step (Some step) past = step ∷ past

@@ -1,5 +1,5 @@
 //! The small callers of the libraries' own pages, each with what it may rely on.
-ghost use Rattle.std.specs.Prelude.{◌≡◌, ◌≤◌, ◌<◌, ◌∷◌, ℕ, List, None, is_some, true, IfOk, IfSome, IsErr, IsOkAnd, MatchOption};
+ghost use Rattle.std.specs.Prelude.{◌≡◌, ◌<◌, ◌∷◌, List, None, is_some, true, IfOk, IfSome, IsErr, IsOkAnd, MatchOption};
 ghost use Rattle.hlc_node.specs.Items.{body_refusal};
 ghost use Rattle.hlc_node.specs.Rows.{answer};
 ghost use Rattle.hlc_core.specs.Past.{Step, stamp_of, writes};

@@ -1,6 +1,7 @@
 //! The store by itself, fed items that no world makes.
 use hlc_clock::Stamp;
 use hlc_core::{Body, BodyFault, Bytes, Core, CoreFault, Item, NoSnapshot};
+use hlc_world::{Event, Reply};
 use std::alloc::{AllocError, Global};
 use std::test::*;
 
@@ -8,15 +9,15 @@ fn bytes(alloc: Global, text: &[u8]) -> Result<Bytes, AllocError> {
     Ok(Bytes::from_vec(Vec::from_slice(alloc, text)?))
 }
 
-/// The item of a write to the key a, or of a deletion.
-fn write(
+/// The item of a write to this key, or of a deletion where there is no value.
+fn item(
     alloc: Global,
-    node: u16,
-    number: u64,
-    bits: u64,
+    at: (u16, u64, u64),
+    key: &[u8],
     value: Option<&[u8]>,
 ) -> Result<Item, AllocError> {
-    let key = bytes(alloc, b"a")?;
+    let (node, number, bits) = at;
+    let key = bytes(alloc, key)?;
     let value = match value {
         None => None,
         Some(text) => Some(bytes(alloc, text)?),
@@ -51,60 +52,68 @@ fn counts_of_nodes(rt: HostRuntime) {
     }
 }
 
+/// A core of one node whose link has come to number 1 and stamp 5.0.
+fn core_at_five(alloc: Global) -> Result<Core, Fail> {
+    let mut core = Core::new(alloc, 1).ok().ok_or("a core")?;
+    match core.accept(item(alloc, (0, 0, 327_680), b"a", Some(b"x"))?) {
+        Ok(_) => Ok(core),
+        Err(_) => Err(Fail::from("an item")),
+    }
+}
+
 #[test]
 fn a_refused_item_comes_back(rt: HostRuntime) -> Result<(), Fail> {
     let alloc = rt.alloc();
-    let mut core = Core::new(alloc, 1).ok().ok_or("a core")?;
-    assert!(rt;
-        core.accept(write(alloc, 0, 0, 327_680, Some(b"x"))?)
-            .is_ok()
-    );
-    // In the order of the refusals, each item with all that come behind.
-    let cases = [
-        (1, 7, 0, CoreFault::NoNode),
-        (0, 7, 0, CoreFault::NotNext { next: 1 }),
-        (0, 0, 0, CoreFault::NotNext { next: 1 }),
+    let mut core = core_at_five(alloc)?;
+    let head = Stamp::from_bits(327_680);
+    let mut long = Vec::new(alloc);
+    for _ in 0..65_536 {
+        long.push(b'v')?;
+    }
+    // In the order of the refusals: each item is refused for all that come behind as well.
+    let cases: [((u16, u64, u64), &[u8], CoreFault); 8] = [
+        ((1, 7, 0), b"", CoreFault::NoNode),
+        ((0, 7, 0), b"", CoreFault::NotNext { next: 1 }),
+        ((0, 0, 0), b"", CoreFault::NotNext { next: 1 }),
+        ((0, u64::MAX, 0), b"", CoreFault::NotNext { next: 1 }),
+        ((0, 1, 327_679), b"", CoreFault::StampNotRising { head }),
+        ((0, 1, 327_680), b"", CoreFault::StampNotRising { head }),
+        ((0, 1, 327_681), b"", CoreFault::BadBody(BodyFault::BadKey)),
         (
-            0,
-            1,
-            327_679,
-            CoreFault::StampNotRising {
-                head: Stamp::from_bits(327_680),
-            },
-        ),
-        (
-            0,
-            1,
-            327_680,
-            CoreFault::StampNotRising {
-                head: Stamp::from_bits(327_680),
-            },
+            (0, 1, 327_681),
+            b"a",
+            CoreFault::BadBody(BodyFault::ValueTooLong),
         ),
     ];
-    for (node, number, bits, due) in cases {
-        let item = write(alloc, node, number, bits, Some(b"y"))?;
-        assert_eq!(rt; core.check_item(&item), Err(due));
-        let copy = item.clone()?;
-        assert_eq!(rt; core.accept(item).err(), Some((due, copy)));
+    for (at, key, due) in cases {
+        let refused = item(alloc, at, key, Some(long.as_slice()))?;
+        assert_eq!(rt; core.check_item(&refused), Err(due));
+        let copy = refused.clone()?;
+        assert_eq!(rt; core.accept(refused).err(), Some((due, copy)));
     }
-    let empty = Item {
-        node: 0,
-        number: 1,
-        stamp: Stamp::from_bits(327_681),
-        body: Body::Write {
-            key: bytes(alloc, b"")?,
-            value: None,
-        },
-    };
-    assert_eq!(rt;
-        core.check_item(&empty),
-        Err(CoreFault::BadBody(BodyFault::BadKey))
-    );
-    assert!(rt;
-        core.accept(write(alloc, 0, 1, 327_681, Some(b"z"))?)
-            .is_ok()
-    );
+    assert_eq!(rt; core.floor(), head);
+    let next = item(alloc, (0, 1, 327_681), b"a", Some(b"z"))?;
+    assert_eq!(rt; core.check_item(&next), Ok(()));
+    assert!(rt; core.accept(next).is_ok());
     assert_eq!(rt; core.floor(), Stamp::from_bits(327_681));
+    Ok(())
+}
+
+#[test]
+fn copies(rt: HostRuntime) -> Result<(), Fail> {
+    let alloc = rt.alloc();
+    let deletion = item(alloc, (0, 0, 1), b"a", None)?;
+    assert_eq!(rt; deletion.clone()?, deletion);
+    assert_eq!(rt; report(1, 2, 3).clone()?, report(1, 2, 3));
+    let read = Event::Read {
+        id: 1,
+        key: bytes(alloc, b"a")?,
+    };
+    assert_eq!(rt; read.clone()?, read);
+    let answer = Reply::Answer {
+        value: Some(bytes(alloc, b"x")?),
+    };
+    assert_eq!(rt; answer.clone()?, answer);
     Ok(())
 }
 
@@ -113,13 +122,19 @@ fn a_deletion_hides_and_a_report_only_counts(rt: HostRuntime) -> Result<(), Fail
     let alloc = rt.alloc();
     let mut core = Core::new(alloc, 2).ok().ok_or("a core")?;
     assert_eq!(rt; core.floor(), Stamp::from_bits(0));
-    assert!(rt; core.accept(write(alloc, 0, 0, 1, Some(b"x"))?).is_ok());
+    assert!(rt;
+        core.accept(item(alloc, (0, 0, 1), b"a", Some(b"x"))?)
+            .is_ok()
+    );
     assert!(rt; core.accept(report(1, 0, 1)).is_ok());
     assert_eq!(rt; core.open_floor(), Ok((1, Stamp::from_bits(1))));
-    assert!(rt; core.accept(write(alloc, 0, 1, 2, None)?).is_ok());
+    assert!(rt; core.accept(item(alloc, (0, 1, 2), b"a", None)?).is_ok());
     assert!(rt; core.accept(report(1, 1, 2)).is_ok());
     assert_eq!(rt; core.open_floor(), Ok((2, Stamp::from_bits(2))));
-    assert!(rt; core.accept(write(alloc, 1, 2, 3, Some(b""))?).is_ok());
+    assert!(rt;
+        core.accept(item(alloc, (1, 2, 3), b"a", Some(b""))?)
+            .is_ok()
+    );
     assert!(rt; core.accept(report(0, 2, 3)).is_ok());
     assert_eq!(rt; core.open_floor(), Ok((3, Stamp::from_bits(3))));
     assert_eq!(rt; core.read(1, b"a"), Ok(Some(b"x".as_slice())));

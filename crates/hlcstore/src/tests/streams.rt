@@ -6,7 +6,7 @@ use std::io;
 use std::io::{ErrorKind, Read, Write};
 use std::test::*;
 
-/// Gives a text, so many bytes a call, and fails once a number of calls were made.
+/// Gives a text, so many bytes a call, and once a number of calls were made it is interrupted.
 #[derive(Drop)]
 pub struct Giving<'a> {
     pub text: &'a [u8],
@@ -17,7 +17,7 @@ pub struct Giving<'a> {
 impl<'a> Read for Giving<'a> {
     fn read(&mut self, buf: &mut [u8]) -> io::Result<usize> {
         if self.calls == 0 {
-            return Err(io::Error::from(ErrorKind::Other));
+            return Err(io::Error::from(ErrorKind::Interrupted));
         }
         self.calls -= 1;
         let count = self.most.min(buf.len()).min(self.text.len());

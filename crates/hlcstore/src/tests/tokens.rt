@@ -1,5 +1,8 @@
 //! The edges of lines and words: each has one spelling.
 use crate::tests::streams::answer;
+use hlc_text::Stamp;
+use hlc_text::stamp::stamp;
+use std::alloc::Global;
 use std::test::*;
 
 /// First lines that are no header.
@@ -75,6 +78,37 @@ const GOOD_LINES: [(&[u8], &[u8]); 10] = [
     (b"open floor\n", b"snapshot 1 at 0.0\n"),
 ];
 
+/// Words, and the stamps that they spell.
+const STAMPS: [(&[u8], Option<u64>); 16] = [
+    (b"0.0", Some(0)),
+    (b"5.1", Some(327_681)),
+    (b"281474976710655.65535", Some(u64::MAX)),
+    (b"", None),
+    (b"5", None),
+    (b"5.", None),
+    (b".5", None),
+    (b".", None),
+    (b"05.0", None),
+    (b"5.00", None),
+    (b"5.0.0", None),
+    (b"5,0", None),
+    (b"+5.0", None),
+    (b"281474976710656.0", None),
+    (b"0.65536", None),
+    (b"floor", None),
+];
+
+#[test]
+fn stamps_are_spelled_in_one_way(rt: HostRuntime) {
+    for (word, bits) in STAMPS {
+        assert_eq!(rt;
+            stamp(word),
+            bits.map(|bits| Stamp::from_bits(bits)),
+            "{word:?}"
+        );
+    }
+}
+
 #[test]
 fn no_headers(rt: HostRuntime) {
     for line in NO_HEADERS {
@@ -109,7 +143,11 @@ fn good_lines(rt: HostRuntime) -> Result<(), Fail> {
         let mut due = Vec::from_slice(rt.alloc(), b"nodes 1\n")?;
         due.extend_from_slice(reply)?;
         let (status, written) = answer(rt.alloc(), text.as_slice());
-        assert_eq!(rt; (status, written.as_slice()), (0u8, due.as_slice()));
+        assert_eq!(rt;
+            (status, written.as_slice()),
+            (0u8, due.as_slice()),
+            "{line:?}"
+        );
     }
     Ok(())
 }
@@ -132,7 +170,7 @@ fn bytes_are_spelled_in_one_way(rt: HostRuntime) {
 }
 
 /// Writes the bytes of a token, and reads them.
-fn written_and_read(alloc: std::alloc::Global, token: &[u8]) -> (u8, Vec<u8>) {
+fn written_and_read(alloc: Global, token: &[u8]) -> (u8, Vec<u8>) {
     let mut text = Vec::new(alloc);
     let parts: [&[u8]; 3] = [
         b"nodes 1\nwrite 0 5 a ",

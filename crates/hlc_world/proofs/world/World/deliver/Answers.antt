@@ -27,7 +27,7 @@ returns-clause-stands c = λ s h.
     let h' = rw (← c.self.view_is) at h in
     let inside : c.args.node < length c.self.inside.nodes.items = omega (arith, c.self.inside.nodes.ok.0) in
     let at = found _ s c.args.node c.args.number c.index.result.now c.in-Some.item.now h' inside (slice_get_read c.self.inside.nodes.items (length c.self.inside.nodes.items) c.args.node c.index.result.now refl inside c.index.ensures) c.in-Some.ensures in
-    let all' = answered _ s c.args.node c.args.number c.in-Some.item.now c.in-Ok.copy c.accept.new.core c.accept.result c.in-Ok.ensures c.self.invariant h' at (c.in_default-check_item.ensures (core_past s) h'.core) (c.accept.ensures.stands (core_past s) h'.core) in
+    let all' = answered _ s c.args.node c.args.number c.in-Some.item.now c.in-Ok.copy c.accept.new.core c.accept.result c.in-Ok.ensures.ok c.self.invariant h' at (c.in_default-check_item.ensures (core_past s) h'.core) (c.accept.ensures.stands (core_past s) h'.core) in
     elim c.match-accept.branch [
       | in-Ok-accept w ↦ rw (w.result-is ∙ sym (ap reply_of w.in-Ok-accept.is)) all'
       | in-Err-accept w ↦ rw (w.result-is ∙ ap Refused w.of_core-in-Err-accept.ensures ∙ sym (ap reply_of w.in-Err-accept.is)) all'

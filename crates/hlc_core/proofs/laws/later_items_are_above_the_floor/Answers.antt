@@ -1,0 +1,5 @@
+use Rattle.hlc_core.proofs.Pasts.{above_floor}
+use Rattle.hlc_core.proofs.laws.later_items_are_above_the_floor.Goals as goal
+
+pub returns : goal.returns
+returns c = above_floor
