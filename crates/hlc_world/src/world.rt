@@ -171,18 +171,17 @@ impl World {
             return Reply::Refused(Refusal::NoNode);
         }
         let mut core = self.nodes[place].core();
-        let message = match core.send(reading) {
-            Ok(message) => message,
-            Err(fault) => return Reply::Refused(refusal::of_clock(fault)),
-        };
-        let number = self.messages.len() as u64;
-        if !post(&mut self.messages, message) {
-            return Reply::Refused(Refusal::NoMemory);
-        }
-        self.nodes[place].go_on(core);
-        Reply::Sent {
-            stamp: message.stamp,
-            message: number,
+        match core.send(reading) {
+            Err(fault) => Reply::Refused(refusal::of_clock(fault)),
+            Ok(sent) => {
+                let stamp = sent.stamp;
+                let message = self.messages.len() as u64;
+                if !post(&mut self.messages, sent) {
+                    return Reply::Refused(Refusal::NoMemory);
+                }
+                self.nodes[place].go_on(core);
+                Reply::Sent { stamp, message }
+            }
         }
     }
 

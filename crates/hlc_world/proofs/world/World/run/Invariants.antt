@@ -1,0 +1,16 @@
+use Rattle.std.proofs.Common.{◌≡◌, ℕ, List, ◌++◌, length, vec_len, vec_capacity}
+use Rattle.hlc_world.specs.declared.event.Event.{Event}
+use Rattle.hlc_world.specs.declared.reply.Reply.{Reply}
+use Rattle.hlc_world.specs.Schedule.{after}
+use Rattle.hlc_world.specs.State.{StandsFor, world_nodes}
+use Rattle.std.specs.Vec.Iter.{into_iter_items}
+use Rattle.hlc_world.proofs.world.World.run.Given as goal
+
+abbrev pub invariant-loop-event : goal.invariant-loop-event
+invariant-loop-event l = record {
+  counted : length l.replies.items ≡ length l.yielded;
+  all' : l.yielded ++ into_iter_items l.event-iterator ≡ l.fn.events.items;
+  same : world_nodes l.self ≡ world_nodes l.initial.self;
+  room : vec_capacity l.replies ≡ length l.fn.events.items;
+  stands : (s : List (Event × Reply)) → StandsFor l.initial.self s → StandsFor l.self (after l.yielded l.replies.items s);
+}
