@@ -9,7 +9,7 @@ use Rattle.hlc_text.specs.Text.{Reads, bytes_token, AreBytes}
 use Rattle.hlc_text.specs.TokenLaws.{number_is_word, bytes_are_word, split_words}
 use Rattle.hlc_text.specs.SpellingLaws.{one_token}
 use Rattle.hlc_world.specs.declared.event.Event.{Event}
-use Rattle.hlc_world.specs.declared.event.Event.TheVariants.{Write, Deliver, OpenFloor, Read}
+use Rattle.hlc_world.specs.declared.event.Event.TheVariants.{Write, Delete, Report, Send, Receive, Deliver, OpenFloor, Read}
 use Rattle.hlc_script.specs.Line.{spaced, event_words, event_line, HasLine, header_words, header_line, HasHeader}
 use Rattle.hlc_script.specs.Laws.{OneEvent}
 
@@ -18,6 +18,16 @@ pub words_of_line : (event : Event) → HasLine event → slice_split (λ b. eqb
 words_of_line (Write node reading key value) has =
     split_words (codes "write") (decimal node ∷ decimal reading ∷ bytes_token key ∷ bytes_token value ∷ [])
     (refl, (number_is_word node (omega arith), (number_is_word reading (omega arith), (bytes_are_word key, (bytes_are_word value, tt)))))
+words_of_line (Delete node reading key) has =
+    split_words (codes "delete") (decimal node ∷ decimal reading ∷ bytes_token key ∷ [])
+    (refl, (number_is_word node (omega arith), (number_is_word reading (omega arith), (bytes_are_word key, tt))))
+words_of_line (Report node reading) has =
+    split_words (codes "report") (decimal node ∷ decimal reading ∷ []) (refl, (number_is_word node (omega arith), (number_is_word reading (omega arith), tt)))
+words_of_line (Send node reading) has =
+    split_words (codes "send") (decimal node ∷ decimal reading ∷ []) (refl, (number_is_word node (omega arith), (number_is_word reading (omega arith), tt)))
+words_of_line (Receive node reading message) has =
+    split_words (codes "receive") (decimal node ∷ decimal reading ∷ decimal message ∷ [])
+    (refl, (number_is_word node (omega arith), (number_is_word reading (omega arith), (number_is_word message (omega arith), tt))))
 words_of_line (Deliver node number) has =
     split_words (codes "deliver") (decimal node ∷ decimal number ∷ []) (refl, (number_is_word node (omega arith), (number_is_word number (omega arith), tt)))
 words_of_line OpenFloor has = split_words (codes "open") (codes "floor" ∷ []) (refl, (refl, tt))
@@ -36,12 +46,28 @@ read_from_words words_of Fits law line words None is none = λ x fits spelled. n
 -- a number that no two kinds of events share, of the first word
 abbrev mark : List (List ℕ) → ℕ
 mark [] = 0
-mark (verb ∷ words) = get_or verb 0 0 + 256 * length verb
+mark (verb ∷ words) = get_or verb 0 0 + 256 * get_or verb 2 0 + 65536 * length verb
 
 -- where the words behind a verb do not fit, no event has the words
 pub no_write : (args : List (List ℕ)) → ((x : ℕ × ℕ × List ℕ × List ℕ) → (x.0 < 2 ^ 16) × (x.1 < 2 ^ 64) × AreBytes x.2 × AreBytes x.3 → args ≢ decimal x.0 ∷ decimal x.1 ∷ bytes_token x.2 ∷ bytes_token x.3 ∷ []) → (event : Event) → HasLine event → codes "write" ∷ args ≢ event_words event
 no_write args none (Write node reading key value) has is = let rest : args ≡ decimal node ∷ decimal reading ∷ bytes_token key ∷ bytes_token value ∷ [] = cc in none (node, reading, key, value) has rest
 no_write args none event has is = absurd (omega (arith, ap mark is))
+
+pub no_delete : (args : List (List ℕ)) → ((x : ℕ × ℕ × List ℕ) → (x.0 < 2 ^ 16) × (x.1 < 2 ^ 64) × AreBytes x.2 → args ≢ decimal x.0 ∷ decimal x.1 ∷ bytes_token x.2 ∷ []) → (event : Event) → HasLine event → codes "delete" ∷ args ≢ event_words event
+no_delete args none (Delete node reading key) has is = let rest : args ≡ decimal node ∷ decimal reading ∷ bytes_token key ∷ [] = cc in none (node, reading, key) has rest
+no_delete args none event has is = absurd (omega (arith, ap mark is))
+
+pub no_report : (args : List (List ℕ)) → ((x : ℕ × ℕ) → (x.0 < 2 ^ 16) × (x.1 < 2 ^ 64) → args ≢ decimal x.0 ∷ decimal x.1 ∷ []) → (event : Event) → HasLine event → codes "report" ∷ args ≢ event_words event
+no_report args none (Report node reading) has is = let rest : args ≡ decimal node ∷ decimal reading ∷ [] = cc in none (node, reading) has rest
+no_report args none event has is = absurd (omega (arith, ap mark is))
+
+pub no_send : (args : List (List ℕ)) → ((x : ℕ × ℕ) → (x.0 < 2 ^ 16) × (x.1 < 2 ^ 64) → args ≢ decimal x.0 ∷ decimal x.1 ∷ []) → (event : Event) → HasLine event → codes "send" ∷ args ≢ event_words event
+no_send args none (Send node reading) has is = let rest : args ≡ decimal node ∷ decimal reading ∷ [] = cc in none (node, reading) has rest
+no_send args none event has is = absurd (omega (arith, ap mark is))
+
+pub no_receive : (args : List (List ℕ)) → ((x : ℕ × ℕ × ℕ) → (x.0 < 2 ^ 16) × (x.1 < 2 ^ 64) × (x.2 < 2 ^ 64) → args ≢ decimal x.0 ∷ decimal x.1 ∷ decimal x.2 ∷ []) → (event : Event) → HasLine event → codes "receive" ∷ args ≢ event_words event
+no_receive args none (Receive node reading message) has is = let rest : args ≡ decimal node ∷ decimal reading ∷ decimal message ∷ [] = cc in none (node, reading, message) has rest
+no_receive args none event has is = absurd (omega (arith, ap mark is))
 
 pub no_deliver : (args : List (List ℕ)) → ((x : ℕ × ℕ) → (x.0 < 2 ^ 16) × (x.1 < 2 ^ 64) → args ≢ decimal x.0 ∷ decimal x.1 ∷ []) → (event : Event) → HasLine event → codes "deliver" ∷ args ≢ event_words event
 no_deliver args none (Deliver node number) has is = let rest : args ≡ decimal node ∷ decimal number ∷ [] = cc in none (node, number) has rest
@@ -66,6 +92,38 @@ one_write node node2 reading reading2 key key2 value value2 has also e =
     let s2 : key ≡ key2 = one_token key key2 has.2 also.2 e2 in
     let s3 : value ≡ value2 = one_token value value2 has.3 also.3 e3 in cc
 
+one_delete : (node node2 reading reading2 : ℕ) (key key2 : List ℕ) → HasLine (Delete node reading key) → HasLine (Delete node2 reading2 key2) → event_words (Delete node reading key) ≡ event_words (Delete node2 reading2 key2) → Delete node reading key ≡ Delete node2 reading2 key2
+one_delete node node2 reading reading2 key key2 has also e =
+    let e0 : decimal node ≡ decimal node2 = cc in
+    let e1 : decimal reading ≡ decimal reading2 = cc in
+    let e2 : bytes_token key ≡ bytes_token key2 = cc in
+    let s0 : node ≡ node2 = decimal_injective node node2 (omega arith) (omega arith) e0 in
+    let s1 : reading ≡ reading2 = decimal_injective reading reading2 (omega arith) (omega arith) e1 in
+    let s2 : key ≡ key2 = one_token key key2 has.2 also.2 e2 in cc
+
+one_report : (node node2 reading reading2 : ℕ) → HasLine (Report node reading) → HasLine (Report node2 reading2) → event_words (Report node reading) ≡ event_words (Report node2 reading2) → Report node reading ≡ Report node2 reading2
+one_report node node2 reading reading2 has also e =
+    let e0 : decimal node ≡ decimal node2 = cc in
+    let e1 : decimal reading ≡ decimal reading2 = cc in
+    let s0 : node ≡ node2 = decimal_injective node node2 (omega arith) (omega arith) e0 in
+    let s1 : reading ≡ reading2 = decimal_injective reading reading2 (omega arith) (omega arith) e1 in cc
+
+one_send : (node node2 reading reading2 : ℕ) → HasLine (Send node reading) → HasLine (Send node2 reading2) → event_words (Send node reading) ≡ event_words (Send node2 reading2) → Send node reading ≡ Send node2 reading2
+one_send node node2 reading reading2 has also e =
+    let e0 : decimal node ≡ decimal node2 = cc in
+    let e1 : decimal reading ≡ decimal reading2 = cc in
+    let s0 : node ≡ node2 = decimal_injective node node2 (omega arith) (omega arith) e0 in
+    let s1 : reading ≡ reading2 = decimal_injective reading reading2 (omega arith) (omega arith) e1 in cc
+
+one_receive : (node node2 reading reading2 message message2 : ℕ) → HasLine (Receive node reading message) → HasLine (Receive node2 reading2 message2) → event_words (Receive node reading message) ≡ event_words (Receive node2 reading2 message2) → Receive node reading message ≡ Receive node2 reading2 message2
+one_receive node node2 reading reading2 message message2 has also e =
+    let e0 : decimal node ≡ decimal node2 = cc in
+    let e1 : decimal reading ≡ decimal reading2 = cc in
+    let e2 : decimal message ≡ decimal message2 = cc in
+    let s0 : node ≡ node2 = decimal_injective node node2 (omega arith) (omega arith) e0 in
+    let s1 : reading ≡ reading2 = decimal_injective reading reading2 (omega arith) (omega arith) e1 in
+    let s2 : message ≡ message2 = decimal_injective message message2 (omega arith) (omega arith) e2 in cc
+
 one_deliver : (node node2 number number2 : ℕ) → HasLine (Deliver node number) → HasLine (Deliver node2 number2) → event_words (Deliver node number) ≡ event_words (Deliver node2 number2) → Deliver node number ≡ Deliver node2 number2
 one_deliver node node2 number number2 has also e =
     let e0 : decimal node ≡ decimal node2 = cc in
@@ -83,6 +141,14 @@ one_read id id2 key key2 has also e =
 same_words : (event other : Event) → HasLine event → HasLine other → event_words event ≡ event_words other → event ≡ other
 same_words (Write node reading key value) (Write node2 reading2 key2 value2) has also same = one_write node node2 reading reading2 key key2 value value2 has also same
 same_words (Write node reading key value) other has also same = absurd (omega (arith, ap mark same))
+same_words (Delete node reading key) (Delete node2 reading2 key2) has also same = one_delete node node2 reading reading2 key key2 has also same
+same_words (Delete node reading key) other has also same = absurd (omega (arith, ap mark same))
+same_words (Report node reading) (Report node2 reading2) has also same = one_report node node2 reading reading2 has also same
+same_words (Report node reading) other has also same = absurd (omega (arith, ap mark same))
+same_words (Send node reading) (Send node2 reading2) has also same = one_send node node2 reading reading2 has also same
+same_words (Send node reading) other has also same = absurd (omega (arith, ap mark same))
+same_words (Receive node reading message) (Receive node2 reading2 message2) has also same = one_receive node node2 reading reading2 message message2 has also same
+same_words (Receive node reading message) other has also same = absurd (omega (arith, ap mark same))
 same_words (Deliver node number) (Deliver node2 number2) has also same = one_deliver node node2 number number2 has also same
 same_words (Deliver node number) other has also same = absurd (omega (arith, ap mark same))
 same_words OpenFloor OpenFloor has also same = refl

@@ -2,13 +2,17 @@
 use Rattle.std.proofs.Common.{◌≡◌, ℕ, ◌+◌, ◌∙◌, sym, ap, refl, subst, List, [], ◌∷◌, ◌++◌, Option, Some, None, Ok, Result, append_assoc, arith, ◌⊎◌, inl, inr}
 use Rattle.std.specs.Prelude.{codes, ◌≢◌}
 use Rattle.std.specs.List.{flat_map}
+use Rattle.hlc_clock.specs.NextStamp.{stamp_due}
+use Rattle.hlc_clock.specs.declared.clock.ClockFault.{ClockFault}
+use Rattle.hlc_node.specs.declared.item.Message.{Message}
+use Rattle.hlc_node.specs.declared.node.NodeFault.{NodeFault}
 use Rattle.hlc_world.specs.declared.event.Event.{Event}
-use Rattle.hlc_world.specs.declared.event.Event.TheVariants.{Write, Deliver, OpenFloor, Read}
+use Rattle.hlc_world.specs.declared.event.Event.TheVariants.{Write, Delete, Report, Send, Receive, Deliver, OpenFloor, Read}
 use Rattle.hlc_world.specs.declared.reply.Reply.{Reply}
-use Rattle.hlc_world.specs.declared.reply.Reply.TheVariants.{Stamped, Accepted, Snapshot, Answer, Refused}
+use Rattle.hlc_world.specs.declared.reply.Reply.TheVariants.{Stamped, Sent, Received, Accepted, Snapshot, Answer, Refused}
 use Rattle.hlc_world.specs.declared.refusal.Refusal.{Refusal}
 use Rattle.hlc_world.specs.declared.refusal.Refusal.TheVariants.{NoMemory as no_memory}
-use Rattle.hlc_world.specs.Due.{refusal_due, IsAnswer, IsDueReply, IsGiven}
+use Rattle.hlc_world.specs.Due.{refusal_due, IsReceived, IsAnswer, IsDueReply, IsGiven}
 use Rattle.hlc_script.specs.declared.run.RunEnd.{RunEnd}
 use Rattle.hlc_script.specs.declared.run.RunEnd.TheVariants.{Answered, BadLine, BadHeader, NoMemory, ReadFault, TooLong, WriteFault}
 use Rattle.hlc_script.specs.Line.{lines_of, HasHeader, header_line}
@@ -25,13 +29,33 @@ same_answer : (stamp : Option ℕ) (answers : ℕ → Option (List ℕ)) (value 
 same_answer None answers value other is also = absurd is
 same_answer (Some stamp) answers value other is also = is ∙ sym also
 
+same_receipt : (o : Option Message) (last reading stamp other : ℕ) → IsReceived o last reading stamp → IsReceived o last reading other → stamp ≡ other
+same_receipt None last reading stamp other is also = absurd is
+same_receipt (Some message) last reading stamp other is also =
+    let stamps : ◌≡◌ {A = Result ℕ ClockFault} (Ok stamp) (Ok other) = sym is ∙ also in cc
+
+-- an issued item has one stamp and one number
+issued_once : (due : Result ℕ NodeFault) (next stamp stamp2 number number2 : ℕ) → (due ≡ Ok stamp) × (number ≡ next) → (due ≡ Ok stamp2) × (number2 ≡ next) → Stamped stamp number ≡ Stamped stamp2 number2
+issued_once due next stamp stamp2 number number2 is also =
+    let stamps : ◌≡◌ {A = Result ℕ NodeFault} (Ok stamp) (Ok stamp2) = sym is.0 ∙ also.0 in
+    let s : stamp ≡ stamp2 = cc in
+    let n : number ≡ number2 = is.1 ∙ sym also.1 in cc
+
 -- what is due where nothing is refused is one reply
 due_once : (nodes : ℕ) (schedule : List (Event × Reply)) (event : Event) (reply other : Reply) → IsDueReply nodes schedule event reply → IsDueReply nodes schedule event other → reply ≡ other
-due_once nodes schedule (Write node reading key value) (Stamped stamp number) (Stamped stamp2 number2) due also =
-    let stamps : ◌≡◌ {A = Result ℕ Refusal} (Ok stamp) (Ok stamp2) = sym due.0 ∙ also.0 in
+due_once nodes schedule (Write node reading key value) (Stamped stamp number) (Stamped stamp2 number2) due also = issued_once _ _ stamp stamp2 number number2 due also
+due_once nodes schedule (Write node reading key value) (Stamped stamp number) other due also = absurd also
+due_once nodes schedule (Delete node reading key) (Stamped stamp number) (Stamped stamp2 number2) due also = issued_once _ _ stamp stamp2 number number2 due also
+due_once nodes schedule (Delete node reading key) (Stamped stamp number) other due also = absurd also
+due_once nodes schedule (Report node reading) (Stamped stamp number) (Stamped stamp2 number2) due also = issued_once _ _ stamp stamp2 number number2 due also
+due_once nodes schedule (Report node reading) (Stamped stamp number) other due also = absurd also
+due_once nodes schedule (Send node reading) (Sent stamp number) (Sent stamp2 number2) due also =
+    let stamps : ◌≡◌ {A = Result ℕ ClockFault} (Ok stamp) (Ok stamp2) = sym due.0 ∙ also.0 in
     let s : stamp ≡ stamp2 = cc in
     let n : number ≡ number2 = due.1 ∙ sym also.1 in cc
-due_once nodes schedule (Write node reading key value) (Stamped stamp number) other due also = absurd also
+due_once nodes schedule (Send node reading) (Sent stamp number) other due also = absurd also
+due_once nodes schedule (Receive node reading message) (Received stamp) (Received stamp2) due also = ap Received (same_receipt _ _ reading stamp stamp2 due also)
+due_once nodes schedule (Receive node reading message) (Received stamp) other due also = absurd also
 due_once nodes schedule (Deliver node number) (Accepted stamp) (Accepted stamp2) due also =
     let stamps : Some stamp ≡ Some stamp2 = sym due ∙ also in
     let s : stamp ≡ stamp2 = cc in cc
@@ -54,6 +78,8 @@ given_cases : (nodes : ℕ) (schedule : List (Event × Reply)) (event : Event) (
 given_cases nodes schedule event (Refused refusal) (inl due) = inl (refusal, refl, inl due)
 given_cases nodes schedule event (Refused refusal) (inr lost) = inl (refusal, refl, inr lost.1)
 given_cases nodes schedule event (Stamped stamp item) given = inr given
+given_cases nodes schedule event (Sent stamp message) given = inr given
+given_cases nodes schedule event (Received stamp) given = inr given
 given_cases nodes schedule event (Accepted stamp) given = inr given
 given_cases nodes schedule event (Snapshot id stamp) given = inr given
 given_cases nodes schedule event (Answer value) given = inr given

@@ -3,7 +3,7 @@ use Rattle.std.specs.Prelude.{ℕ, ◌<◌, ◌≤◌, ◌^◌, ◌==◌, List, 
 use Rattle.std.specs.List.{slice_split, join_with_byte}
 use Rattle.hlc_text.specs.Text.{bytes_token, AreBytes}
 use Rattle.hlc_world.specs.declared.event.Event.{Event}
-use Rattle.hlc_world.specs.declared.event.Event.TheVariants.{Write, Deliver, OpenFloor, Read}
+use Rattle.hlc_world.specs.declared.event.Event.TheVariants.{Write, Delete, Report, Send, Receive, Deliver, OpenFloor, Read}
 
 -- words with one space between each two
 abbrev pub spaced : List (List ℕ) → List ℕ
@@ -12,6 +12,10 @@ spaced words = join_with_byte 32 words
 -- the words of an event
 abbrev pub event_words : Event → List (List ℕ)
 event_words (Write node reading key value) = codes "write" ∷ decimal node ∷ decimal reading ∷ bytes_token key ∷ bytes_token value ∷ []
+event_words (Delete node reading key) = codes "delete" ∷ decimal node ∷ decimal reading ∷ bytes_token key ∷ []
+event_words (Report node reading) = codes "report" ∷ decimal node ∷ decimal reading ∷ []
+event_words (Send node reading) = codes "send" ∷ decimal node ∷ decimal reading ∷ []
+event_words (Receive node reading message) = codes "receive" ∷ decimal node ∷ decimal reading ∷ decimal message ∷ []
 event_words (Deliver node number) = codes "deliver" ∷ decimal node ∷ decimal number ∷ []
 event_words OpenFloor = codes "open" ∷ codes "floor" ∷ []
 event_words (Read id key) = codes "read" ∷ decimal id ∷ bytes_token key ∷ []
@@ -23,6 +27,10 @@ event_line event = spaced (event_words event)
 -- what has a line: a node below 2^16, numbers below 2^64, and bytes
 abbrev pub HasLine : Event → Type 0
 HasLine (Write node reading key value) = (node < 2 ^ 16) × (reading < 2 ^ 64) × AreBytes key × AreBytes value
+HasLine (Delete node reading key) = (node < 2 ^ 16) × (reading < 2 ^ 64) × AreBytes key
+HasLine (Report node reading) = (node < 2 ^ 16) × (reading < 2 ^ 64)
+HasLine (Send node reading) = (node < 2 ^ 16) × (reading < 2 ^ 64)
+HasLine (Receive node reading message) = (node < 2 ^ 16) × (reading < 2 ^ 64) × (message < 2 ^ 64)
 HasLine (Deliver node number) = (node < 2 ^ 16) × (number < 2 ^ 64)
 HasLine OpenFloor = ⊤
 HasLine (Read id key) = (id < 2 ^ 64) × AreBytes key
@@ -30,9 +38,9 @@ HasLine (Read id key) = (id < 2 ^ 64) × AreBytes key
 -- the event has a key, which may want memory
 abbrev pub BearsBytes : Event → Type 0
 BearsBytes (Write node reading key value) = ⊤
-BearsBytes (Deliver node number) = ⊥
-BearsBytes OpenFloor = ⊥
+BearsBytes (Delete node reading key) = ⊤
 BearsBytes (Read id key) = ⊤
+BearsBytes _ = ⊥
 
 -- the words of the first line
 abbrev pub header_words : ℕ → List (List ℕ)

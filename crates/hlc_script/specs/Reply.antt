@@ -3,15 +3,16 @@ use Rattle.std.specs.Prelude.{ℕ, List, [], ◌∷◌, ◌++◌, codes, decimal
 use Rattle.hlc_clock.specs.Stamp.{stamp_text}
 use Rattle.hlc_text.specs.Text.{bytes_token}
 use Rattle.hlc_world.specs.declared.reply.Reply.{Reply}
-use Rattle.hlc_world.specs.declared.reply.Reply.TheVariants.{Stamped, Accepted, Snapshot, Answer, Refused}
+use Rattle.hlc_world.specs.declared.reply.Reply.TheVariants.{Stamped, Sent, Received, Accepted, Snapshot, Answer, Refused}
 use Rattle.hlc_world.specs.declared.refusal.Refusal.{Refusal}
-use Rattle.hlc_world.specs.declared.refusal.Refusal.TheVariants.{NoNode, ReadingTooLarge, CounterFull, NoItem, NotNext, StampNotRising, NoSnapshot, TooManySnapshots, BadKey, ValueTooLong, NumbersSpent, NoMemory}
+use Rattle.hlc_world.specs.declared.refusal.Refusal.TheVariants.{NoNode, ReadingTooLarge, CounterFull, NoMessage, NoItem, NotNext, StampNotRising, NoSnapshot, TooManySnapshots, BadKey, ValueTooLong, NumbersSpent, NoMemory}
 
 -- a refusal's number, and what it tells behind it
 abbrev pub refusal_line : Refusal → List ℕ
 refusal_line NoNode = codes "refused 1"
 refusal_line ReadingTooLarge = codes "refused 2"
 refusal_line (CounterFull at) = codes "refused 3 at " ++ stamp_text at
+refusal_line NoMessage = codes "refused 4"
 refusal_line NoItem = codes "refused 5"
 refusal_line (NotNext next) = codes "refused 6 next " ++ decimal next
 refusal_line (StampNotRising head) = codes "refused 7 head " ++ stamp_text head
@@ -30,6 +31,8 @@ answer_line (Some value) = codes "value " ++ bytes_token value
 -- the line of a reply
 abbrev pub reply_line : Reply → List ℕ
 reply_line (Stamped stamp item) = (codes "stamp " ++ stamp_text stamp) ++ (codes " item " ++ decimal item)
+reply_line (Sent stamp message) = (codes "stamp " ++ stamp_text stamp) ++ (codes " message " ++ decimal message)
+reply_line (Received stamp) = codes "stamp " ++ stamp_text stamp
 reply_line (Accepted stamp) = codes "accepted " ++ stamp_text stamp
 reply_line (Snapshot id stamp) = (codes "snapshot " ++ decimal id) ++ (codes " at " ++ stamp_text stamp)
 reply_line (Answer value) = answer_line value

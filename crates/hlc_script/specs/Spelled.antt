@@ -2,11 +2,15 @@
 use Rattle.hlc_world.specs.declared.event.Event.{Event}
 use Rattle.hlc_world.specs.declared.event.Event.TheVariants as event
 use Rattle.hlc_script.specs.declared.line.Line.{Line}
-use Rattle.hlc_script.specs.declared.line.Line.TheVariants.{Write, Deliver, OpenFloor, Read}
+use Rattle.hlc_script.specs.declared.line.Line.TheVariants.{Write, Delete, Report, Send, Receive, Deliver, OpenFloor, Read}
 
 -- its fields are the event's, with the bytes as they are spelled
 abbrev pub event_of : Line → Event
 event_of (Write node reading key value) = event.Write node reading key value
+event_of (Delete node reading key) = event.Delete node reading key
+event_of (Report node reading) = event.Report node reading
+event_of (Send node reading) = event.Send node reading
+event_of (Receive node reading message) = event.Receive node reading message
 event_of (Deliver node number) = event.Deliver node number
 event_of OpenFloor = event.OpenFloor
 event_of (Read id key) = event.Read id key

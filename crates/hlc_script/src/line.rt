@@ -20,6 +20,24 @@ pub enum Line<'a> {
         key: Spelled<'a>,
         value: Spelled<'a>,
     },
+    Delete {
+        node: u16,
+        reading: u64,
+        key: Spelled<'a>,
+    },
+    Report {
+        node: u16,
+        reading: u64,
+    },
+    Send {
+        node: u16,
+        reading: u64,
+    },
+    Receive {
+        node: u16,
+        reading: u64,
+        message: u64,
+    },
     Deliver {
         node: u16,
         number: u64,
@@ -48,6 +66,28 @@ impl<'a> Line<'a> {
                 reading: *reading,
                 key: Bytes::from_vec(key.to_vec(alloc)?),
                 value: Bytes::from_vec(value.to_vec(alloc)?),
+            }),
+            Line::Delete { node, reading, key } => Ok(Event::Delete {
+                node: *node,
+                reading: *reading,
+                key: Bytes::from_vec(key.to_vec(alloc)?),
+            }),
+            Line::Report { node, reading } => Ok(Event::Report {
+                node: *node,
+                reading: *reading,
+            }),
+            Line::Send { node, reading } => Ok(Event::Send {
+                node: *node,
+                reading: *reading,
+            }),
+            Line::Receive {
+                node,
+                reading,
+                message,
+            } => Ok(Event::Receive {
+                node: *node,
+                reading: *reading,
+                message: *message,
             }),
             Line::Deliver { node, number } => Ok(Event::Deliver {
                 node: *node,
@@ -78,6 +118,18 @@ fn line_of_words<'a>(words: &mut Words<'a>) -> Option<Line<'a>>
     if verb == b"write".as_slice() {
         return write_line(words);
     }
+    if verb == b"delete".as_slice() {
+        return delete_line(words);
+    }
+    if verb == b"report".as_slice() {
+        return report_line(words);
+    }
+    if verb == b"send".as_slice() {
+        return send_line(words);
+    }
+    if verb == b"receive".as_slice() {
+        return receive_line(words);
+    }
     if verb == b"deliver".as_slice() {
         return deliver_line(words);
     }
@@ -100,6 +152,42 @@ fn write_line<'a>(words: &mut Words<'a>) -> Option<Line<'a>>
         reading,
         key,
         value,
+    })
+}
+
+/// The event of the words behind `delete`.
+fn delete_line<'a>(words: &mut Words<'a>) -> Option<Line<'a>>
+    ensures { Reads event_words HasLine (codes "delete" ∷ words.old) (option_map event_of result) }
+{
+    let (node, reading, key) = node_number_key(words)?;
+    Some(Line::Delete { node, reading, key })
+}
+
+/// The event of the words behind `report`.
+fn report_line<'a>(words: &mut Words<'a>) -> Option<Line<'a>>
+    ensures { Reads event_words HasLine (codes "report" ∷ words.old) (option_map event_of result) }
+{
+    let (node, reading) = node_number(words)?;
+    Some(Line::Report { node, reading })
+}
+
+/// The event of the words behind `send`.
+fn send_line<'a>(words: &mut Words<'a>) -> Option<Line<'a>>
+    ensures { Reads event_words HasLine (codes "send" ∷ words.old) (option_map event_of result) }
+{
+    let (node, reading) = node_number(words)?;
+    Some(Line::Send { node, reading })
+}
+
+/// The event of the words behind `receive`.
+fn receive_line<'a>(words: &mut Words<'a>) -> Option<Line<'a>>
+    ensures { Reads event_words HasLine (codes "receive" ∷ words.old) (option_map event_of result) }
+{
+    let (node, reading, message) = node_two_numbers(words)?;
+    Some(Line::Receive {
+        node,
+        reading,
+        message,
     })
 }
 
@@ -141,6 +229,32 @@ fn node_number(words: &mut Words<'_>) -> Option<(u16, u64)>
     let first = number::node(first)?;
     let second = number::number(second)?;
     Some((first, second))
+}
+
+/// A node and two numbers.
+fn node_two_numbers(words: &mut Words<'_>) -> Option<(u16, u64, u64)>
+    ensures { Reads (λ x. decimal x.0 ∷ decimal x.1 ∷ decimal x.2 ∷ []) (λ x. (x.0 < 2 ^ 16) × (x.1 < 2 ^ 64) × (x.2 < 2 ^ 64)) words.old result }
+{
+    let first = words.next()?;
+    let second = words.next()?;
+    let third = words.last()?;
+    let first = number::node(first)?;
+    let second = number::number(second)?;
+    let third = number::number(third)?;
+    Some((first, second, third))
+}
+
+/// A node, a number and a key.
+fn node_number_key<'a>(words: &mut Words<'a>) -> Option<(u16, u64, Spelled<'a>)>
+    ensures { Reads (λ x. decimal x.0 ∷ decimal x.1 ∷ bytes_token x.2 ∷ []) (λ x. (x.0 < 2 ^ 16) × (x.1 < 2 ^ 64) × AreBytes x.2) words.old result }
+{
+    let first = words.next()?;
+    let second = words.next()?;
+    let third = words.last()?;
+    let first = number::node(first)?;
+    let second = number::number(second)?;
+    let third = bytes(third)?;
+    Some((first, second, third))
 }
 
 /// A node, a number, a key and a value.

@@ -24,6 +24,11 @@ fn put_reply_text<W: Write>(writer: &mut Watched<W>, waiting: &mut Waiting, repl
             put_named_stamp(writer, waiting, b"stamp ", *stamp);
             put_named_number(writer, waiting, b" item ", *item);
         }
+        Reply::Sent { stamp, message } => {
+            put_named_stamp(writer, waiting, b"stamp ", *stamp);
+            put_named_number(writer, waiting, b" message ", *message);
+        }
+        Reply::Received { stamp } => put_named_stamp(writer, waiting, b"stamp ", *stamp),
         Reply::Accepted { stamp } => put_named_stamp(writer, waiting, b"accepted ", *stamp),
         Reply::Snapshot { id, stamp } => {
             put_named_number(writer, waiting, b"snapshot ", *id);
@@ -51,6 +56,7 @@ pub fn put_refusal<W: Write>(writer: &mut Watched<W>, waiting: &mut Waiting, ref
         Refusal::NoNode => put(writer, waiting, b"refused 1"),
         Refusal::ReadingTooLarge => put(writer, waiting, b"refused 2"),
         Refusal::CounterFull { at } => put_named_stamp(writer, waiting, b"refused 3 at ", at),
+        Refusal::NoMessage => put(writer, waiting, b"refused 4"),
         Refusal::NoItem => put(writer, waiting, b"refused 5"),
         Refusal::NotNext { next } => put_named_number(writer, waiting, b"refused 6 next ", next),
         Refusal::StampNotRising { head } => {
