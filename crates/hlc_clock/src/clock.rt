@@ -90,12 +90,25 @@ impl Clock {
 fn stamp_after_both(last: Stamp, seen: Stamp, reading: u64) -> Result<Stamp, ClockFault>
     ensures { result ≡ stamp_due (last ∷ seen ∷ []) reading }
 {
-    // Only the greater of the two counts: what lies above it lies above both.
-    if last < seen {
-        stamp_after(seen, reading)
-    } else {
-        stamp_after(last, reading)
+    if reading >= 281_474_976_710_656 {
+        return Err(ClockFault::ReadingTooLarge);
     }
+    let l = last.l().max(seen.l()).max(reading);
+    // The counter goes on from the earlier stamps that have this physical part.
+    let counter = if l == last.l() && l == seen.l() {
+        last.c().max(seen.c())
+    } else if l == last.l() {
+        last.c()
+    } else if l == seen.l() {
+        seen.c()
+    } else {
+        // The physical clock has gone on past both: the counter starts anew.
+        return Ok(Stamp::from_bits(l * 65536));
+    };
+    if counter == u16::MAX {
+        return Err(ClockFault::CounterFull { at: last.max(seen) });
+    }
+    Ok(Stamp::from_bits(l * 65536 + counter as u64 + 1))
 }
 
 /// The stamp of an event after the one that had this stamp.

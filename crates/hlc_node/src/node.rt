@@ -1,5 +1,5 @@
 //! The core of a node: its clock, and the items and messages that it makes.
-ghost use Rattle.std.specs.Prelude.{◌≡◌, [], ◌∷◌, Ok, Err, IfOk, OnErr, MatchResult};
+ghost use Rattle.std.specs.Prelude.{◌≡◌, ◌<◌, [], ◌∷◌, Ok, Err, IfOk, OnErr, MatchResult};
 ghost use Rattle.hlc_clock.specs.NextStamp.{stamp_due};
 ghost use Rattle.hlc_node.specs.Node.{stamped, issued, next_item, issue_after, issue_due};
 ghost use Rattle.hlc_node.specs.declared.item.Body.TheVariants.{Write as a_write, Report as a_report};
@@ -85,7 +85,8 @@ impl NodeCore {
         key: Bytes,
         value: Option<Bytes>,
     ) -> Result<Item, RefusedWrite>
-        ensures { MatchResult result
+        ensures rises { IfOk result (λ item. self.old.last < item.stamp) }
+        ensures due { MatchResult result
             (λ item. (issue_due self.old (a_write key value) reading ≡ Ok item.stamp) × (item ≡ next_item self.old (a_write key value) item.stamp) × (self.new ≡ issued self.old item.stamp))
             (λ refused. (issue_due self.old (a_write key value) reading ≡ Err refused.why) × (refused.key ≡ key) × (refused.value ≡ value) × (self.new ≡ self.old)) }
     {
@@ -104,7 +105,8 @@ impl NodeCore {
     ///
     /// Refused, in this order: numbers spent; reading too large; counter full.
     pub fn report(&mut self, reading: u64) -> Result<Item, NodeFault>
-        ensures { MatchResult result
+        ensures rises { IfOk result (λ item. self.old.last < item.stamp) }
+        ensures due { MatchResult result
             (λ item. (issue_due self.old a_report reading ≡ Ok item.stamp) × (item ≡ next_item self.old a_report item.stamp) × (self.new ≡ issued self.old item.stamp))
             (λ fault. (issue_due self.old a_report reading ≡ Err fault) × (self.new ≡ self.old)) }
     {
@@ -121,7 +123,8 @@ impl NodeCore {
 
     /// The number and the stamp of the next item, unless what it says is refused.
     fn issue(&mut self, reading: u64, refusal: Option<BodyFault>) -> Result<(u64, Stamp), NodeFault>
-        ensures { MatchResult result
+        ensures rises { IfOk result (λ made. self.old.last < made.1) }
+        ensures due { MatchResult result
             (λ made. (issue_after refusal self.old reading ≡ Ok made.1) × (made.0 ≡ self.old.next) × (self.new ≡ issued self.old made.1))
             (λ fault. (issue_after refusal self.old reading ≡ Err fault) × (self.new ≡ self.old)) }
     {
@@ -145,7 +148,8 @@ impl NodeCore {
     ///
     /// Refused, in this order: reading too large; counter full.
     pub fn send(&mut self, reading: u64) -> Result<Message, ClockFault>
-        ensures { MatchResult result
+        ensures rises { IfOk result (λ message. self.old.last < message.stamp) }
+        ensures due { MatchResult result
             (λ message. (stamp_due (self.old.last ∷ []) reading ≡ Ok message.stamp) × (message.from ≡ self.old.id) × (self.new ≡ stamped self.old message.stamp))
             (λ fault. (stamp_due (self.old.last ∷ []) reading ≡ Err fault) × (self.new ≡ self.old)) }
     {
@@ -162,6 +166,7 @@ impl NodeCore {
     ///
     /// Refused, in this order: reading too large; counter full.
     pub fn receive(&mut self, message: &Message, reading: u64) -> Result<Stamp, ClockFault>
+        ensures rises { IfOk result (λ stamp. (self.old.last < stamp) × (message.now.stamp < stamp)) }
         ensures due { result ≡ stamp_due (self.old.last ∷ message.now.stamp ∷ []) reading }
         ensures ok { IfOk result (λ stamp. self.new ≡ stamped self.old stamp) }
         ensures err { OnErr result (self.new ≡ self.old) }
@@ -173,6 +178,7 @@ impl NodeCore {
     ///
     /// Refused, in this order: reading too large; counter full.
     pub fn observe(&mut self, seen: Stamp, reading: u64) -> Result<Stamp, ClockFault>
+        ensures rises { IfOk result (λ stamp. (self.old.last < stamp) × (seen < stamp)) }
         ensures due { result ≡ stamp_due (self.old.last ∷ seen ∷ []) reading }
         ensures ok { IfOk result (λ stamp. self.new ≡ stamped self.old stamp) }
         ensures err { OnErr result (self.new ≡ self.old) }

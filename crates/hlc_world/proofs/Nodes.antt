@@ -48,12 +48,12 @@ nodes-issued nodes lasts items p st item own inside h n lt =
           subst (λ k. slice_get (slice_set nodes p (a_node p st (items p ++ item ∷ []))) k ≡ Some (a_node k (stamp_or k (Some (p, st)) (lasts k)) (with_item k (Some item) (items k)))) same
           (get-set_at nodes p (a_node p st (items p ++ item ∷ [])) inside
           ∙ sym (ap (λ a. Some (a_node p a (with_item p (Some item) (items p)))) (stamp_or-same p st (lasts p))
-            ∙ ap (λ xs. Some (a_node p st xs)) (with_item-same p item (items p) own)))
+          ∙ ap (λ xs. Some (a_node p st xs)) (with_item-same p item (items p) own)))
       | inr other ↦
           get-set_other nodes p n (a_node p st (items p ++ item ∷ [])) (λ e. other (sym e))
           ∙ h n lt
           ∙ sym (ap (λ a. Some (a_node n a (with_item n (Some item) (items n)))) (stamp_or-other n p st (lasts n) other)
-            ∙ ap (λ xs. Some (a_node n (lasts n) xs)) (with_item-other n item (items n) (λ e. other (sym own ∙ e))))
+          ∙ ap (λ xs. Some (a_node n (lasts n) xs)) (with_item-other n item (items n) (λ e. other (sym own ∙ e))))
     ]
 
 -- one node was stamped without an item, and the others are as they were
@@ -118,9 +118,9 @@ issues state s e p body reading before after made is h inside at taken =
     let numbered : made.1 ≡ number = taken.1 ∙ ap (λ node. node.core.next) was in
     let longer : length (issued p s ++ an_item p number st body ∷ []) ≡ number + 1 = length-append (issued p s) (an_item p number st body ∷ []) in
     let came : after ≡ a_node p st (issued p s ++ an_item p number st body ∷ []) =
-        taken.2
-        ∙ ap (λ node. record { core = issued_by node.core st; issued = node.issued ++ next_item node.core body st ∷ [] }) was
-        ∙ ap (λ k. record { core = record { id = p; last = st; next = k }; issued = issued p s ++ an_item p number st body ∷ [] }) (sym longer) in
+    taken.2
+    ∙ ap (λ node. record { core = issued_by node.core st; issued = node.issued ++ next_item node.core body st ∷ [] }) was
+    ∙ ap (λ k. record { core = record { id = p; last = st; next = k }; issued = issued p s ++ an_item p number st body ∷ [] }) (sym longer) in
     let none : refusal_due (world_nodes state) s e ≡ None = is.refusal ∙ on_node-inside (world_nodes state) p _ inside ∙ ap issue_refusal due in
     let same : length (slice_set state.nodes p after) ≡ length state.nodes = length-set state.nodes p after in
     subst (λ k. StandsFor (with_node state p after) ((e, Stamped st k) ∷ s)) (sym numbered)
@@ -140,9 +140,9 @@ pub issues_not : (state : State) (s : List (Event × Reply)) (e : Event) (p : �
 issues_not state s e p body reading before after refusal is h inside at left =
     let was : before ≡ a_node p (last_stamp p s) (issued p s) = some-injective _ _ (sym at ∙ h.nodes p inside) in
     let first : refusal_due (world_nodes state) s e ≡ issue_refusal (issue_due before.core body reading) =
-        is.refusal ∙ on_node-inside (world_nodes state) p _ inside ∙ ap (λ node. issue_refusal (issue_due node.core body reading)) (sym was) in
+    is.refusal ∙ on_node-inside (world_nodes state) p _ inside ∙ ap (λ node. issue_refusal (issue_due node.core body reading)) (sym was) in
     let given : IsGiven (world_nodes state) s e (Refused refusal) =
-        elim left.0 [ inl due ↦ inl (first ∙ due) | inr lost ↦ inr (first ∙ lost.0, lost.1, is.may) ] in
+    elim left.0 [ inl due ↦ inl (first ∙ due) | inr lost ↦ inr (first ∙ lost.0, lost.1, is.may) ] in
     let unchanged : slice_set state.nodes p after ≡ state.nodes = ap (λ x. slice_set state.nodes p x) left.1 ∙ set-same state.nodes p before at in
     subst (λ xs. StandsFor (record { core = state.core; nodes = xs; messages = state.messages }) ((e, Refused refusal) ∷ s)) (sym unchanged)
     (stays state s e refusal (is.not_made _) (is.not_marked _) (is.sends _) (is.steps _) given h)
@@ -155,7 +155,7 @@ sends state s p reading before core message messages h inside at due from core-i
     let was : before ≡ a_node p (last_stamp p s) (issued p s) = some-injective _ _ (sym at ∙ h.nodes p inside) in
     let due' : stamp_due (last_stamp p s ∷ []) reading ≡ Ok st = ap (λ node. stamp_due (node.core.last ∷ []) reading) (sym was) ∙ due in
     let came : after ≡ a_node p st (issued p s) =
-        ap (λ c. record { core = c; issued = before.issued }) core-is ∙ ap (λ node. record { core = stamped node.core st; issued = node.issued }) was in
+    ap (λ c. record { core = c; issued = before.issued }) core-is ∙ ap (λ node. record { core = stamped node.core st; issued = node.issued }) was in
     let is : message ≡ record { from = p; stamp = st } = ap (λ n. record { from = n; stamp = st }) (from ∙ ap (λ node. node.core.id) was) in
     let same : length (slice_set state.nodes p after) ≡ length state.nodes = length-set state.nodes p after in
     record {
@@ -188,9 +188,9 @@ receives state s p reading number st before core message h inside at there due c
     let was : before ≡ a_node p (last_stamp p s) (issued p s) = some-injective _ _ (sym at ∙ h.nodes p inside) in
     let due' : stamp_due (last_stamp p s ∷ message.stamp ∷ []) reading ≡ Ok st = ap (λ node. stamp_due (node.core.last ∷ message.stamp ∷ []) reading) (sym was) ∙ due in
     let came : after ≡ a_node p st (issued p s) =
-        ap (λ c. record { core = c; issued = before.issued }) core-is ∙ ap (λ node. record { core = stamped node.core st; issued = node.issued }) was in
+    ap (λ c. record { core = c; issued = before.issued }) core-is ∙ ap (λ node. record { core = stamped node.core st; issued = node.issued }) was in
     let none : refusal_due (world_nodes state) s (Receive p reading number) ≡ None =
-        on_node-inside (world_nodes state) p _ inside ∙ ap (λ o. receive_refusal o (last_stamp p s) reading) there ∙ ap stamp_refusal due' in
+    on_node-inside (world_nodes state) p _ inside ∙ ap (λ o. receive_refusal o (last_stamp p s) reading) there ∙ ap stamp_refusal due' in
     let same : length (slice_set state.nodes p after) ≡ length state.nodes = length-set state.nodes p after in
     record {
       legal = subst (λ n. IsLegal n ((Receive p reading number, Received st) ∷ s)) (sym same) ((none, subst (λ o. IsReceived o (last_stamp p s) reading st) (sym there) due'), h.legal);

@@ -12,11 +12,21 @@ pub enum Event {
         value: Bytes,
     },
     /// A node deletes a key: its write is a deletion mark.
-    Delete { node: u16, reading: u64, key: Bytes },
+    Delete {
+        node: u16,
+        reading: u64,
+        key: Bytes,
+    },
     /// A node reports how far its stamps have come.
-    Report { node: u16, reading: u64 },
+    Report {
+        node: u16,
+        reading: u64,
+    },
     /// A node sends a message. Messages are numbered from 0 over the whole world.
-    Send { node: u16, reading: u64 },
+    Send {
+        node: u16,
+        reading: u64,
+    },
     /// A node receives the message of this number. It may be received any number of times.
     Receive {
         node: u16,

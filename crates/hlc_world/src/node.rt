@@ -58,7 +58,12 @@ impl Node {
 
     /// Issues the item of a write, or of a deletion where there is no value, and gives its stamp
     /// and its number.
-    pub fn write(&mut self, reading: u64, key: Bytes, value: Option<Bytes>) -> Result<(Stamp, u64), Refusal>
+    pub fn write(
+        &mut self,
+        reading: u64,
+        key: Bytes,
+        value: Option<Bytes>,
+    ) -> Result<(Stamp, u64), Refusal>
         ensures { Issues self.old self.new (a_write key value) reading result }
     {
         let mut core = self.core;

@@ -1,6 +1,7 @@
 //! Tests of the whole: printed bytes, outside vectors, failing readers and writers, and the calls
 //! that may refuse memory where they succeed.
 mod callers;
+mod nodes;
 mod scripts;
 mod stamps;
 mod store;

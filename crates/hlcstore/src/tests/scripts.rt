@@ -6,7 +6,7 @@ use std::test::*;
 /// A script, what is written for it, and the status.
 type Case = (&'static [u8], &'static [u8], u8);
 
-const CASES: [Case; 12] = [
+const CASES: [Case; 18] = [
     (b"", b"refused 17\n", 2),
     (
         b"nodes 1\nwrite 0 5 a x\ndeliver 0 0\nopen floor\nread 1 a\n",
@@ -42,6 +42,41 @@ const CASES: [Case; 12] = [
     (
         b"nodes 1\nwrite 0 281474976710655 a x\nwrite 0 281474976710656 a x\n",
         b"nodes 1\nstamp 281474976710655.0 item 0\nrefused 2\n",
+        0,
+    ),
+    // Reports are stamped as writes are.
+    (
+        b"nodes 1\nreport 0 5\nreport 0 5\nreport 0 3\n",
+        b"nodes 1\nstamp 5.0 item 0\nstamp 5.1 item 1\nstamp 5.2 item 2\n",
+        0,
+    ),
+    (
+        b"nodes 1\nreport 0 281474976710655\nreport 0 281474976710656\n",
+        b"nodes 1\nstamp 281474976710655.0 item 0\nrefused 2\n",
+        0,
+    ),
+    // A message is received after it was sent, any number of times.
+    (
+        b"nodes 2\nsend 0 10\nreceive 1 4 0\nreceive 1 4 0\nreceive 1 12 0\nreceive 1 12 1\n",
+        b"nodes 2\nstamp 10.0 message 0\nstamp 10.1\nstamp 10.2\nstamp 12.0\nrefused 4\n",
+        0,
+    ),
+    // A send and a receipt issue no item; messages are numbered over the whole world.
+    (
+        b"nodes 2\nsend 0 1\nsend 1 1\nreceive 0 1 1\nwrite 0 1 a x\nreceive 2 1 0\nsend 2 1\nreport 2 1\ndelete 2 1 a\n",
+        b"nodes 2\nstamp 1.0 message 0\nstamp 1.0 message 1\nstamp 1.1\nstamp 1.2 item 0\nrefused 1\nrefused 1\nrefused 1\nrefused 1\n",
+        0,
+    ),
+    // A deletion hides the value, an empty value does not.
+    (
+        b"nodes 1\nwrite 0 1 a x\ndelete 0 2 a\nwrite 0 3 b %\ndeliver 0 0\nopen floor\ndeliver 0 1\nopen floor\ndeliver 0 2\nopen floor\nread 1 a\nread 2 a\nread 3 b\n",
+        b"nodes 1\nstamp 1.0 item 0\nstamp 2.0 item 1\nstamp 3.0 item 2\naccepted 1.0\nsnapshot 1 at 1.0\naccepted 2.0\nsnapshot 2 at 2.0\naccepted 3.0\nsnapshot 3 at 3.0\nvalue x\nnone\nvalue %\n",
+        0,
+    ),
+    // A report lets the floor go on.
+    (
+        b"nodes 2\nwrite 0 5 a x\ndeliver 0 0\nopen floor\nreport 1 6\ndeliver 1 0\nopen floor\nread 1 a\nread 2 a\n",
+        b"nodes 2\nstamp 5.0 item 0\naccepted 5.0\nsnapshot 1 at 0.0\nstamp 6.0 item 0\naccepted 6.0\nsnapshot 2 at 5.0\nnone\nvalue x\n",
         0,
     ),
     // A snapshot stays where it was opened, and the floor waits for the last node.

@@ -57,12 +57,29 @@ fn a_clock_at_its_edges(rt: HostRuntime) {
 }
 
 #[test]
+fn a_receipt_at_its_edges(rt: HostRuntime) {
+    let seen = Stamp::from_bits(524_287);
+    let mut clock = Clock::starting_at(Stamp::from_bits(0));
+    let full = ClockFault::CounterFull { at: seen };
+    assert_eq!(rt; clock.receive(seen, 7), Err(full));
+    assert_eq!(rt; clock.now(), Stamp::from_bits(0));
+    assert_eq!(rt; clock.receive(seen, 8), Ok(Stamp::from_bits(524_288)));
+    let too_large = ClockFault::ReadingTooLarge;
+    assert_eq!(rt; clock.receive(seen, 281_474_976_710_656), Err(too_large));
+}
+
+#[test]
 fn a_clock_at_the_greatest_stamp(rt: HostRuntime) {
     let last = Stamp::from_bits(u64::MAX);
     let mut clock = Clock::starting_at(last);
     for reading in [0, 1, 281_474_976_710_655] {
         assert_eq!(rt;
             clock.tick(reading),
+            Err(ClockFault::CounterFull { at: last }),
+            "{reading}"
+        );
+        assert_eq!(rt;
+            clock.receive(Stamp::from_bits(1), reading),
             Err(ClockFault::CounterFull { at: last }),
             "{reading}"
         );

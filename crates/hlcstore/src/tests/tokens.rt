@@ -23,7 +23,7 @@ const NO_HEADERS: [&[u8]; 13] = [
 ];
 
 /// Lines behind a header that are no event's.
-const BAD_LINES: [&[u8]; 38] = [
+const BAD_LINES: [&[u8]; 43] = [
     b"\n",
     b" \n",
     b"nodes 1\n",
@@ -59,19 +59,29 @@ const BAD_LINES: [&[u8]; 38] = [
     b"open floor floor\n",
     b"read 1\n",
     b"read 01 a\n",
-    b"report 0 5\n",
+    b"delete 0 5\n",
+    b"delete 0 5 a x\n",
+    b"report 0\n",
+    b"send 0 5 0\n",
+    b"receive 0 5\n",
+    b"receive 0 5 -1\n",
     b"floor\n",
     b"# none\n",
 ];
 
 /// Lines that are an event's, and the replies to them.
-const GOOD_LINES: [(&[u8], &[u8]); 10] = [
+const GOOD_LINES: [(&[u8], &[u8]); 15] = [
     (b"write 0 0 a x\n", b"stamp 0.1 item 0\n"),
     (b"write 0 18446744073709551615 a x\n", b"refused 2\n"),
     (b"write 65535 5 a x\n", b"refused 1\n"),
     (b"write 0 5 %C3%A9 %25%0A\n", b"stamp 5.0 item 0\n"),
     (b"write 0 5 ~!\" x\n", b"stamp 5.0 item 0\n"),
     (b"write 0 5 % %\n", b"refused 12\n"),
+    (b"delete 0 5 a\n", b"stamp 5.0 item 0\n"),
+    (b"delete 0 5 %\n", b"refused 12\n"),
+    (b"report 65535 5\n", b"refused 1\n"),
+    (b"send 0 5\n", b"stamp 5.0 message 0\n"),
+    (b"receive 0 5 18446744073709551615\n", b"refused 4\n"),
     (b"deliver 0 18446744073709551615\n", b"refused 5\n"),
     (b"deliver 65535 0\n", b"refused 1\n"),
     (b"read 18446744073709551615 a\n", b"refused 10\n"),

@@ -41,10 +41,11 @@ fn words_of_the_program(rt: HostRuntime) -> Result<(), Fail> {
 #[test]
 fn texts_of_refusals(rt: HostRuntime) {
     let at = Stamp::from_bits(327_681);
-    let cases: [(Refusal, &[u8]); 12] = [
+    let cases: [(Refusal, &[u8]); 13] = [
         (Refusal::NoNode, b"refused 1"),
         (Refusal::ReadingTooLarge, b"refused 2"),
         (Refusal::CounterFull { at }, b"refused 3 at 5.1"),
+        (Refusal::NoMessage, b"refused 4"),
         (Refusal::NoItem, b"refused 5"),
         (Refusal::NotNext { next: 7 }, b"refused 6 next 7"),
         (Refusal::StampNotRising { head: at }, b"refused 7 head 5.1"),
