@@ -32,11 +32,12 @@ abbrev pub clocked : Result ℕ ClockFault → Result ℕ NodeFault
 clocked (Ok stamp) = Ok stamp
 clocked (Err fault) = Err (NoStamp fault)
 
+-- what no item may say is refused before all else
 abbrev pub unless_bad : Option BodyFault → Result ℕ NodeFault → Result ℕ NodeFault
 unless_bad None rest = rest
 unless_bad (Some fault) rest = Err (BadBody fault)
 
--- the stamp of the node's next item, if what it says is refused so; or the first reason that there is none
+-- the stamp of the node's next item, by why what it says is refused, if it is; or the first reason that there is none
 abbrev pub issue_after : Option BodyFault → Node → ℕ → Result ℕ NodeFault
 issue_after refusal node reading =
     unless_bad refusal (if node.next == 18446744073709551615 then Err NumbersSpent else clocked (stamp_due (node.last ∷ []) reading))

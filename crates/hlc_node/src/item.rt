@@ -1,4 +1,4 @@
-//! What a node hands on over its link.
+//! Items, which a node hands on over its link, and messages to other nodes.
 ghost use Rattle.std.specs.Prelude.{◌≡◌, ◌≢◌, IfOk, OnErr};
 ghost use Rattle.hlc_node.specs.Items.{body_refusal};
 ghost use Rattle.hlc_node.specs.declared.item.Body.TheVariants.{Write as a_write};

@@ -1,5 +1,5 @@
-//! Items of a node's link and the core of a node that makes them; stored rows, and which row
-//! answers a read.
+//! Items of a node's link, messages, and the core of a node that makes them; stored rows, and
+//! which row answers a read.
 #![tactic(auto)]
 
 mod bytes;

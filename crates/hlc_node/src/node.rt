@@ -162,7 +162,7 @@ impl NodeCore {
         }
     }
 
-    /// Receives a message: the event comes after the sending.
+    /// Receives a message: the event's stamp is above that of the sending.
     ///
     /// Refused, in this order: reading too large; counter full.
     pub fn receive(&mut self, message: &Message, reading: u64) -> Result<Stamp, ClockFault>
@@ -174,7 +174,8 @@ impl NodeCore {
         self.clock.receive(message.stamp, reading)
     }
 
-    /// Observes a snapshot at a stamp: the event comes after each write at or below it.
+    /// Observes a snapshot at a stamp: the event's stamp is above it, and so above that of each write
+    /// at or below it.
     ///
     /// Refused, in this order: reading too large; counter full.
     pub fn observe(&mut self, seen: Stamp, reading: u64) -> Result<Stamp, ClockFault>

@@ -1,6 +1,6 @@
 -- The world goes on standing for its schedule: new nodes, the events of nodes, and events that change nothing.
-use Rattle.std.proofs.Common.{◌≡◌, ℕ, zero, suc, ◌+◌, ◌<◌, ◌≤◌, ◌⊎◌, List, [], ◌∷◌, ◌++◌, length, cond, Some, None, Ok, Err, Option, Result, refl, ap, sym, ◌∙◌, subst, inl, inr, arith, length-set, length-append}
-use Rattle.std.specs.Prelude.{◌==◌, slice_get, slice_set, nat_le}
+use Rattle.std.proofs.Common.{◌≡◌, ℕ, zero, suc, ◌+◌, ◌<◌, List, [], ◌∷◌, ◌++◌, length, Some, None, Ok, Err, Option, refl, ap, sym, ◌∙◌, subst, inl, inr, arith, length-set, length-append}
+use Rattle.std.specs.Prelude.{slice_get, slice_set}
 use Rattle.std.proofs.lemmas.Bool.{cond-true, cond-false, eq-eqb, ne_eqb, lt-leb, cases_eq}
 use Rattle.hlc_clock.specs.NextStamp.{stamp_due}
 use Rattle.hlc_clock.specs.declared.clock.ClockFault.{ClockFault}

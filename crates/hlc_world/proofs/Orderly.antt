@@ -23,7 +23,7 @@ use Rattle.hlc_world.specs.declared.reply.Reply.{Reply}
 use Rattle.hlc_world.specs.declared.reply.Reply.TheVariants.{Stamped, Sent, Received, Accepted, Snapshot}
 use Rattle.hlc_world.specs.declared.refusal.Refusal.{Refusal}
 use Rattle.hlc_world.specs.declared.refusal.Refusal.TheVariants.{NoNode, NotNext}
-use Rattle.hlc_world.specs.Schedule.{an_item, item_made, stamping_of, with_item, stamp_or, issued, last_stamp, message_at, node_of, taking, step_of, with_step, core_past}
+use Rattle.hlc_world.specs.Schedule.{an_item, with_item, stamp_or, issued, last_stamp, node_of, taking, with_step, core_past}
 use Rattle.hlc_world.specs.Due.{on_node, deliver_refusal, IsReceived, IsGiven, IsLegal}
 use Rattle.hlc_world.proofs.Lists.{some-injective, get-append_left, get-push}
 use Rattle.hlc_world.proofs.Nodes.{with_item-same, with_item-other, stamp_or-other}

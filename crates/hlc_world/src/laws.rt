@@ -5,7 +5,8 @@ ghost use Rattle.hlc_world.specs.declared.reply.Reply.{Reply as AReply};
 ghost use Rattle.hlc_world.specs.Due.{IsLegal};
 ghost use Rattle.hlc_world.specs.Before.{HappenedBefore, IsStamped};
 
-/// If an event happened before another (Lamport 1978), its stamp is the lesser.
+/// In a schedule whose events were each given their due, as in each that a world stands for, if an
+/// event happened before another (Lamport 1978), its stamp is the lesser.
 pub fn stamps_follow_events()
     ensures { (nodes : ℕ) (schedule : List (AnEvent × AReply)) (first later : ℕ) (n a m b : ℕ) → IsLegal nodes schedule → HappenedBefore schedule first later → IsStamped schedule first n a → IsStamped schedule later m b → a < b }
 {}

@@ -1,4 +1,5 @@
-//! The world: nodes with their clocks and items, and the one store that they feed, event by event.
+//! The world: nodes with their clocks, items and messages, and the one store that they feed, event
+//! by event.
 #![tactic(auto)]
 
 mod event;

@@ -1,9 +1,10 @@
 //! The world and its events.
-ghost use Rattle.std.specs.Prelude.{◌≡◌, [], ◌∷◌, ◌++◌, List, MatchBool, MatchResult, IfOk, IfErr, OnErr, length};
+ghost use Rattle.std.specs.Prelude.{◌≡◌, ◌<◌, ℕ, [], ◌∷◌, ◌++◌, List, MatchBool, MatchResult, IfOk, IfErr, OnErr, length};
 ghost use Rattle.hlc_core.specs.Past.{Step, Took, item_refusal};
 ghost use Rattle.hlc_core.specs.Kept.{nodes, StandsFor as CoreStandsFor};
 ghost use Rattle.hlc_core.specs.Calls.{IsRefusal, IsWrite};
 ghost use Rattle.hlc_world.specs.Schedule.{after};
+ghost use Rattle.hlc_world.specs.Before.{HappenedBefore, IsStamped};
 ghost use Rattle.hlc_world.specs.Due.{IsGiven, IsRefused};
 ghost use Rattle.hlc_world.specs.State.{StandsFor, Makes, world_nodes, fresh};
 ghost use Rattle.hlc_world.specs.declared.event.Event.{Event as AnEvent};
@@ -19,7 +20,7 @@ use hlc_node::{Bytes, Item, Message};
 use std::alloc::{AllocError, Global};
 use std::marker::Model;
 
-/// Nodes with their clocks and items, and the one store that they feed.
+/// Nodes with their clocks, items and messages, and the one store that they feed.
 ///
 /// Contracts see what it keeps, and relate that to a schedule: a world stands for the events that
 /// it was handed, with its replies, in order. A refused event did not take place: it leaves the
@@ -74,6 +75,33 @@ impl World {
     pub fn step(&mut self, event: Event) -> Reply
         ensures stands { (schedule : List (AnEvent × AReply)) → StandsFor self.old schedule → StandsFor self.new ((event, result) ∷ schedule) }
         ensures given { (schedule : List (AnEvent × AReply)) → StandsFor self.old schedule → IsGiven (world_nodes self.old) schedule event result }
+        ensures ordered { (schedule : List (AnEvent × AReply)) (first later : ℕ) (n a m b : ℕ) → StandsFor self.old schedule → HappenedBefore ((event, result) ∷ schedule) first later → IsStamped ((event, result) ∷ schedule) first n a → IsStamped ((event, result) ∷ schedule) later m b → a < b }
+        ensures unchanged { IsRefused result → self.new ≡ self.old }
+        ensures nodes { world_nodes self.new ≡ world_nodes self.old }
+    {
+        self.take_place(event)
+    }
+
+    /// The events in turn. Room for all replies is made first: where that is refused, no event took
+    /// place and the events come back.
+    pub fn run(&mut self, events: Vec<Event>) -> Result<Vec<Reply>, (NoMemory, Vec<Event>)>
+        ensures ok { IfOk result (λ replies. (length replies.items ≡ length events.items) × ((schedule : List (AnEvent × AReply)) → StandsFor self.old schedule → StandsFor self.new (after events.items replies.items schedule))) }
+        ensures err { IfErr result (λ refused. (refused.1.items ≡ events.items) × (self.new ≡ self.old)) }
+        ensures nodes { world_nodes self.new ≡ world_nodes self.old }
+    {
+        let mut replies = match Vec::with_capacity(self.alloc, events.len()) {
+            Ok(replies) => replies,
+            Err(_) => return Err((NoMemory, events)),
+        };
+        for event in events {
+            let reply = self.step(event);
+            replies.push_reserved(reply);
+        }
+        Ok(replies)
+    }
+
+    fn take_place(&mut self, event: Event) -> Reply
+        ensures stands { (schedule : List (AnEvent × AReply)) → StandsFor self.old schedule → StandsFor self.new ((event, result) ∷ schedule) }
         ensures unchanged { IsRefused result → self.new ≡ self.old }
         ensures nodes { world_nodes self.new ≡ world_nodes self.old }
     {
@@ -96,24 +124,6 @@ impl World {
             Event::OpenFloor => self.open_floor(),
             Event::Read { id, key } => self.read(id, key),
         }
-    }
-
-    /// The events in turn. Room for all replies is made first: where that is refused, no event took
-    /// place and the events come back.
-    pub fn run(&mut self, events: Vec<Event>) -> Result<Vec<Reply>, (NoMemory, Vec<Event>)>
-        ensures ok { IfOk result (λ replies. (length replies.items ≡ length events.items) × ((schedule : List (AnEvent × AReply)) → StandsFor self.old schedule → StandsFor self.new (after events.items replies.items schedule))) }
-        ensures err { IfErr result (λ refused. (refused.1.items ≡ events.items) × (self.new ≡ self.old)) }
-        ensures nodes { world_nodes self.new ≡ world_nodes self.old }
-    {
-        let mut replies = match Vec::with_capacity(self.alloc, events.len()) {
-            Ok(replies) => replies,
-            Err(_) => return Err((NoMemory, events)),
-        };
-        for event in events {
-            let reply = self.step(event);
-            replies.push_reserved(reply);
-        }
-        Ok(replies)
     }
 
     fn write(&mut self, node: u16, reading: u64, key: Bytes, value: Bytes) -> Reply

@@ -1,5 +1,5 @@
 //! A node's core by itself, and events that are run in one list.
-use hlc_clock::Stamp;
+use hlc_clock::{ClockFault, Stamp};
 use hlc_node::{Body, BodyFault, Bytes, Item, Message, NodeCore, NodeFault};
 use hlc_world::{Event, Refusal, Reply, World};
 use std::alloc::{AllocError, Global};
@@ -23,10 +23,12 @@ fn a_write_after_a_snapshot_was_seen(rt: HostRuntime) -> Result<(), Fail> {
         stamp: Stamp::from_bits(524_290),
         body: Body::Write {
             key: bytes(alloc, b"a")?,
-            value: None,
+            value: Some(bytes(alloc, b"x")?),
         },
     };
-    let written = node.write(3, bytes(alloc, b"a")?, None).ok();
+    let written = node
+        .write(3, bytes(alloc, b"a")?, Some(bytes(alloc, b"x")?))
+        .ok();
     assert_eq!(rt; written, Some(due));
     assert_eq!(rt; (node.now(), node.next()), (Stamp::from_bits(524_290), 1));
     let message = Message {
@@ -67,12 +69,34 @@ fn a_refused_write_gives_key_and_value_back(rt: HostRuntime) -> Result<(), Fail>
     Ok(())
 }
 
+#[test]
+fn a_node_at_the_greatest_stamp(rt: HostRuntime) -> Result<(), Fail> {
+    let alloc = rt.alloc();
+    let last = Stamp::from_bits(u64::MAX);
+    let full = ClockFault::CounterFull { at: last };
+    let mut node = NodeCore::new(0, last);
+    let message = Message {
+        from: 1,
+        stamp: Stamp::from_bits(1),
+    };
+    assert_eq!(rt; node.report(5), Err(NodeFault::NoStamp(full)));
+    assert_eq!(rt; node.send(5), Err(full));
+    assert_eq!(rt; node.receive(&message, 5), Err(full));
+    assert_eq!(rt; node.observe(Stamp::from_bits(1), 5), Err(full));
+    let Err(refused) = node.write(5, bytes(alloc, b"a")?, None) else {
+        return Err(Fail::from("a full node wrote"));
+    };
+    assert_eq!(rt; refused.why, NodeFault::NoStamp(full));
+    assert_eq!(rt; (node.now(), node.next()), (last, 0));
+    Ok(())
+}
+
 /// Deliveries early, repeated and unknown.
 fn deliveries(alloc: Global) -> Result<Vec<Event>, AllocError> {
     let mut events = Vec::new(alloc);
-    for reading in [1, 2] {
+    for (reading, text) in [(1, b"x"), (2, b"y")] {
         let key = bytes(alloc, b"a")?;
-        let value = bytes(alloc, b"x")?;
+        let value = bytes(alloc, text)?;
         events.push(Event::Write {
             node: 0,
             reading,

@@ -90,6 +90,11 @@ fn a_clock_at_the_greatest_stamp(rt: HostRuntime) {
             Err(ClockFault::ReadingTooLarge),
             "{reading}"
         );
+        assert_eq!(rt;
+            clock.receive(Stamp::from_bits(1), reading),
+            Err(ClockFault::ReadingTooLarge),
+            "{reading}"
+        );
     }
     assert_eq!(rt; clock.now(), last);
 }

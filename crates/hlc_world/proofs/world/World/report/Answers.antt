@@ -1,6 +1,6 @@
-use Rattle.std.proofs.Common.{◌<◌, length, refl, arith, Some, None}
+use Rattle.std.proofs.Common.{◌<◌, length, refl, arith}
 use Rattle.std.proofs.lemmas.Option.{slice_get_read}
-use Rattle.hlc_node.specs.declared.item.Body.TheVariants.{Write as a_write, Report as a_report}
+use Rattle.hlc_node.specs.declared.item.Body.TheVariants.{Report as a_report}
 use Rattle.hlc_world.proofs.Nodes.{issues, issues_not, report-is}
 use Rattle.hlc_world.proofs.world.World.report.Goals as goal
 use Rattle.hlc_world.proofs.world.World.report.Goals.{in-Ok, in-Err}

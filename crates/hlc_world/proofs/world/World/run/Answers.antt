@@ -1,5 +1,4 @@
-use Rattle.std.proofs.Common.{◌≡◌, ◌∙◌, [], ◌∷◌, ◌++◌, sym, ap, length, length-append, ◌+◌, arith, append_assoc, rules}
-use Rattle.std.proofs.lemmas.Grind.{common_steps}
+use Rattle.std.proofs.Common.{◌∙◌, ◌++◌, sym, ap, length-append, ◌+◌, append_assoc}
 use Rattle.hlc_world.proofs.Runs.{after-push}
 use Rattle.hlc_world.proofs.world.World.run.Goals as goal
 
