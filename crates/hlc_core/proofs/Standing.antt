@@ -1,26 +1,30 @@
 -- A core goes on standing for what took place: each part that is kept follows the step as its definition does.
-use Rattle.std.proofs.Common.{◌≡◌, ℕ, zero, suc, ◌+◌, ◌<◌, List, [], ◌∷◌, ◌++◌, length, get_or, Some, None, Option, refl, ap, sym, ◌∙◌, subst, inl, inr, arith, length-set, get_or-set_other, replicate}
-use Rattle.std.proofs.lemmas.Grind.{get_or-set_at}
-use Rattle.std.specs.Prelude.{◌==◌, slice_get, slice_set, MatchOption}
+use Rattle.std.proofs.Common.{◌≡◌, ℕ, zero, suc, ◌+◌, ◌<◌, ◌≤◌, List, [], ◌∷◌, ◌++◌, length, map, get_or, Some, None, Option, Ok, Err, Result, refl, ap, sym, ◌∙◌, subst, inl, inr, arith, length-set, get_or-set_other, replicate}
+use Rattle.std.proofs.lemmas.Grind.{get_or-set_at, get_or_default_zero}
+use Rattle.std.specs.Prelude.{◌==◌, slice_get, slice_set, MatchOption, MatchResult}
 use Rattle.std.proofs.lemmas.Option.{slice_get-get_or, slice_get_past}
-use Rattle.std.proofs.lemmas.Bool.{cond-true, cond-false, eq-eqb, ne_eqb, le-leb, cases_lt, cases_eq}
+use Rattle.std.proofs.lemmas.Bool.{cond-true, cond-false, eq-eqb, ne_eqb, le-leb, le-ltb, or_from, cases_lt, cases_eq}
+use Rattle.std.proofs.lemmas.List.{get_or-map, length-map, map-set}
+use Rattle.std.proofs.lemmas.List.Elements.{Contains-get_or}
 use Rattle.hlc_node.specs.declared.item.Item.{Item}
-use Rattle.hlc_core.specs.declared.link.Link.{Link}
+use Rattle.hlc_link.specs.Progress.{Progress}
+use Rattle.hlc_floor.specs.Heads.{IsFloor}
 use Rattle.hlc_core.specs.declared.fault.CoreFault.{CoreFault}
 use Rattle.hlc_core.specs.declared.fault.CoreFault.TheVariants.{NoNode}
-use Rattle.hlc_core.specs.Past.{Step, Took, Opened, count, head, floor, least, item_rows, open_snapshots, link_refusal, item_refusal, room_at, room_refusal, IsLegal}
-use Rattle.hlc_core.specs.Kept.{Kept, nodes, unused, StandsFor}
-use Rattle.hlc_core.proofs.Pasts.{admissible, on_link, inside, least-same}
+use Rattle.hlc_core.specs.Past.{Step, Took, Opened, count, head, floor, item_rows, open_snapshots, link_refusal, item_refusal, room_at, room_refusal, IsLegal}
+use Rattle.hlc_core.specs.Kept.{Kept, nodes, IsMatched, StandsFor}
+use Rattle.hlc_core.specs.Calls.{new_refusal}
+use Rattle.hlc_core.proofs.Pasts.{admissible, on_link, inside, least-some, least-le}
 
-abbrev a_link : ℕ → ℕ → Link
+abbrev a_link : ℕ → ℕ → Progress
 a_link next head = record { next = next; head = head }
 
-get-set_at : (links : List Link) (i : ℕ) (link : Link) → i < length links → slice_get (slice_set links i link) i ≡ Some link
+get-set_at : (links : List Progress) (i : ℕ) (link : Progress) → i < length links → slice_get (slice_set links i link) i ≡ Some link
 get-set_at links i link h =
     slice_get-get_or (slice_set links i link) i link (let l : length (slice_set links i link) ≡ length links = length-set links i link in omega arith)
     ∙ ap Some (get_or-set_at links i i link link refl h)
 
-get-set_other : (links : List Link) (i k : ℕ) (link : Link) → (k ≡ i → ⊥) → slice_get (slice_set links i link) k ≡ slice_get links k
+get-set_other : (links : List Progress) (i k : ℕ) (link : Progress) → (k ≡ i → ⊥) → slice_get (slice_set links i link) k ≡ slice_get links k
 get-set_other links i k link other =
     let l : length (slice_set links i link) ≡ length links = length-set links i link in
     elim (cases_lt k (length links)) [
@@ -29,31 +33,73 @@ get-set_other links i k link other =
       | inr outside ↦ slice_get_past (slice_set links i link) k (omega arith) ∙ sym (slice_get_past links k outside)
     ]
 
--- the answer of a look at the links is the refusal by the past
-pub fault-due : (kept : Kept) (past : List Step) (item : Item) (fault : Option CoreFault) → StandsFor kept past → MatchOption (slice_get kept.links item.node) (fault ≡ Some NoNode) (λ link. fault ≡ link_refusal link.next link.head item) → fault ≡ item_refusal (nodes kept) past item
+-- what a look at an item's link answers
+abbrev pub LooksUp : Option Progress → Item → Result Progress CoreFault → Type 0
+LooksUp found item result =
+    MatchOption found (result ≡ Err NoNode)
+    (λ link. MatchResult result (λ new. (link_refusal link.next link.head item ≡ None) × (new ≡ a_link (item.number + 1) item.stamp)) (λ fault. link_refusal link.next link.head item ≡ Some fault))
+
+-- what it says of an item that its link admits it, whatever took place
+pub record IsAdmitted (links : List Progress) (item : Item) (new : Progress) : Type 0 where
+  pub within : item.node < length links
+  pub refused : link_refusal (get_or links item.node (a_link 0 0)).next (get_or links item.node (a_link 0 0)).head item ≡ None
+  pub rising : (get_or links item.node (a_link 0 0)).head < item.stamp
+  pub is : new ≡ a_link (item.number + 1) item.stamp
+
+pub admitted : (links : List Progress) (item : Item) (new : Progress) → LooksUp (slice_get links item.node) item (Ok new) → IsAdmitted links item new
+admitted links item new looked =
+    elim (cases_lt item.node (length links)) [
+      | inl below ↦
+          let found : LooksUp (Some (get_or links item.node (a_link 0 0))) item (Ok new) =
+          subst (λ o. LooksUp o item (Ok new)) (slice_get-get_or links item.node (a_link 0 0) below) looked in
+          record { within = below; refused = found.0; rising = (admissible _ _ item found.0).stamp; is = found.1 }
+      | inr outside ↦
+          absurd (let missed : ◌≡◌ {A = Result Progress CoreFault} (Ok new) (Err NoNode) =
+          subst (λ o. LooksUp o item (Ok new)) (slice_get_past links item.node outside) looked in cc)
+    ]
+
+-- where the core stands for a past, such an item is not refused there
+pub admitted-due : (kept : Kept) (past : List Step) (item : Item) (new : Progress) → StandsFor kept past → LooksUp (slice_get kept.links item.node) item (Ok new) → item_refusal (nodes kept) past item ≡ None
+admitted-due kept past item new h looked =
+    let within : item.node < nodes kept = (admitted kept.links item new looked).within in
+    let found : LooksUp (Some (a_link (count item.node past) (head item.node past))) item (Ok new) =
+    subst (λ o. LooksUp o item (Ok new)) (h.links item.node within) looked in
+    on_link (nodes kept) past item within ∙ found.0
+
+-- and the fault is the refusal that is due there
+pub fault-due : (kept : Kept) (past : List Step) (item : Item) (fault : CoreFault) → StandsFor kept past → LooksUp (slice_get kept.links item.node) item (Err fault) → item_refusal (nodes kept) past item ≡ Some fault
 fault-due kept past item fault h looked =
     elim (cases_lt item.node (nodes kept)) [
       | inl below ↦
-          let found : fault ≡ link_refusal (count item.node past) (head item.node past) item =
-          subst (λ o. MatchOption o (fault ≡ Some NoNode) (λ link. fault ≡ link_refusal link.next link.head item)) (h.links item.node below) looked in
-          found ∙ sym (on_link (nodes kept) past item below)
+          let found : LooksUp (Some (a_link (count item.node past) (head item.node past))) item (Err fault) =
+          subst (λ o. LooksUp o item (Err fault)) (h.links item.node below) looked in
+          on_link (nodes kept) past item below ∙ found
       | inr outside ↦
-          let missed : fault ≡ Some NoNode =
-          subst (λ o. MatchOption o (fault ≡ Some NoNode) (λ link. fault ≡ link_refusal link.next link.head item)) (slice_get_past kept.links item.node outside) looked in
-          missed ∙ sym (cond-true _ _ _ (le-leb (nodes kept) item.node outside))
+          let missed : ◌≡◌ {A = Result Progress CoreFault} (Err fault) (Err NoNode) =
+          subst (λ o. LooksUp o item (Err fault)) (slice_get_past kept.links item.node outside) looked in
+          cond-true _ _ _ (le-leb (nodes kept) item.node outside) ∙ (let same : NoNode ≡ fault = cc in ap Some same)
     ]
 
--- an item that a look at the links does not refuse has its link among them
-pub looked-inside : (links : List Link) (item : Item) → MatchOption (slice_get links item.node) (◌≡◌ {A = Option CoreFault} None (Some NoNode)) (λ link. ◌≡◌ {A = Option CoreFault} None (link_refusal link.next link.head item)) → item.node < length links
-looked-inside links item looked =
-    elim (cases_lt item.node (length links)) [
-      | inl below ↦ below
-      | inr outside ↦
-          absurd (let missed : ◌≡◌ {A = Option CoreFault} None (Some NoNode) =
-          subst (λ o. MatchOption o (◌≡◌ {A = Option CoreFault} None (Some NoNode)) (λ link. ◌≡◌ {A = Option CoreFault} None (link_refusal link.next link.head item))) (slice_get_past links item.node outside) looked in cc)
-    ]
+-- the heads rise with the link
+pub matched : (links : List Progress) (heads : List ℕ) (n : ℕ) (link : Progress) → IsMatched links heads → IsMatched (slice_set links n link) (slice_set heads n link.head)
+matched links heads n link h =
+    let l : length (slice_set links n link) ≡ length links = length-set links n link in
+    let some : 0 < length links = h.some in
+    let few : length links ≤ 64 = h.few in
+    record {
+      some = omega arith;
+      few = omega arith;
+      same = ap (λ xs. slice_set xs n link.head) h.same ∙ sym (map-set (λ link. link.head) links n link);
+    }
 
-links-took : (links : List Link) (past : List Step) (item : Item) (number : ℕ) → number ≡ count item.node past → item.node < length links → ((n : ℕ) → n < length links → slice_get links n ≡ Some (a_link (count n past) (head n past))) → (n : ℕ) → n < length links → slice_get (slice_set links item.node (a_link (number + 1) item.stamp)) n ≡ Some (a_link (count n (Took item ∷ past)) (head n (Took item ∷ past)))
+pub heads-length : (links : List Progress) (heads : List ℕ) → IsMatched links heads → length heads ≡ length links
+heads-length links heads h = ap length h.same ∙ length-map links (λ link. link.head)
+
+-- a head is its link's
+pub head-of : (links : List Progress) (heads : List ℕ) (n : ℕ) → IsMatched links heads → n < length links → get_or heads n 0 ≡ (get_or links n (a_link 0 0)).head
+head-of links heads n h within = ap (λ xs. get_or xs n 0) h.same ∙ get_or-map (λ link. link.head) links n (a_link 0 0) 0 within
+
+links-took : (links : List Progress) (past : List Step) (item : Item) (number : ℕ) → number ≡ count item.node past → item.node < length links → ((n : ℕ) → n < length links → slice_get links n ≡ Some (a_link (count n past) (head n past))) → (n : ℕ) → n < length links → slice_get (slice_set links item.node (a_link (number + 1) item.stamp)) n ≡ Some (a_link (count n (Took item ∷ past)) (head n (Took item ∷ past)))
 links-took links past item number next within h n lt =
     elim (cases_eq item.node n) [
       | inl same ↦
@@ -93,12 +139,26 @@ took kept past item h none =
       rows = ap (λ rows. rows ++ item_rows item) h.rows;
     }
 
--- the least kept head is the floor
-pub floor-from : (kept : Kept) (past : List Step) → StandsFor kept past → least (λ n. (get_or kept.links n unused).head) (nodes kept) ≡ floor (nodes kept) past
-floor-from kept past h =
-    least-same (λ n. (get_or kept.links n unused).head) (λ n. head n past) (nodes kept)
-    (λ n lt. let e : Some (get_or kept.links n unused) ≡ Some (a_link (count n past) (head n past)) = sym (slice_get-get_or kept.links n unused lt) ∙ h.links n lt in
-    let f : get_or kept.links n unused ≡ a_link (count n past) (head n past) = cc in ap (λ link. link.head) f)
+-- the least of the kept heads is the floor of the past
+pub floor-from : (kept : Kept) (past : List Step) (heads : List ℕ) (low : ℕ) → IsMatched kept.links heads → StandsFor kept past → IsFloor heads low → low ≡ floor (nodes kept) past
+floor-from kept past heads low matched h is =
+    let len : length heads ≡ nodes kept = heads-length kept.links heads matched in
+    let each : (n : ℕ) → n < nodes kept → get_or heads n 0 ≡ head n past =
+    λ n within.
+    let e : Some (get_or kept.links n (a_link 0 0)) ≡ Some (a_link (count n past) (head n past)) = sym (slice_get-get_or kept.links n (a_link 0 0) within) ∙ h.links n within in
+    let f : get_or kept.links n (a_link 0 0) ≡ a_link (count n past) (head n past) = cc in
+    head-of kept.links heads n matched within ∙ ap (λ link. link.head) f in
+    let least : (n : ℕ) × (n < nodes kept) × (head n past ≡ floor (nodes kept) past) = least-some (λ n. head n past) (nodes kept) matched.some in
+    let at : ℕ = is.is_head.0 in
+    let at-within : at < length heads = is.is_head.1 in
+    let at-is : get_or heads at low ≡ low = is.is_head.2 in
+    let lower : floor (nodes kept) past ≤ head at past = least-le (λ n. head n past) (nodes kept) at (omega arith) in
+    let at-each : get_or heads at 0 ≡ head at past = each at (omega arith) in
+    let at-same : get_or heads at low ≡ get_or heads at 0 = get_or_default_zero heads at low at-within in
+    let upper : low ≤ get_or heads least.0 0 = is.least (get_or heads least.0 0) (Contains-get_or heads least.0 0 (let l : least.0 < nodes kept = least.1 in omega arith)) in
+    let least-each : get_or heads least.0 0 ≡ head least.0 past = each least.0 least.1 in
+    let least-is : head least.0 past ≡ floor (nodes kept) past = least.2 in
+    omega arith
 
 -- the room that is left is that of the past
 pub room-due : (kept : Kept) (past : List Step) (many : ℕ) → StandsFor kept past → many ≡ length kept.snapshots → room_at many kept.opened ≡ room_refusal past
@@ -123,7 +183,42 @@ opens kept past stamp h none at =
       rows = h.rows;
     }
 
-get-replicate : (count k : ℕ) (link : Link) → k < count → slice_get (replicate count link) k ≡ Some link
+abbrev pub new_core : ℕ → Kept
+new_core many = record { links = replicate many (a_link 0 0); snapshots = []; opened = 0; rows = [] }
+
+get-replicate : (count k : ℕ) (link : Progress) → k < count → slice_get (replicate count link) k ≡ Some link
 get-replicate zero k link lt = absurd (omega arith)
 get-replicate (suc n) zero link lt = refl
 get-replicate (suc n) (suc k) link lt = get-replicate n k link (omega arith)
+
+map-replicate : (count : ℕ) (link : Progress) → map (λ link. link.head) (replicate count link) ≡ replicate count link.head
+map-replicate zero link = refl
+map-replicate (suc n) link = ap (λ xs. link.head ∷ xs) (map-replicate n link)
+
+replicate-length : (count : ℕ) (link : Progress) → length (replicate count link) ≡ count
+replicate-length zero link = refl
+replicate-length (suc n) link = ap suc (replicate-length n link)
+
+-- the links and the heads of a new core
+pub starts-matched : (many : ℕ) → 0 < many → many ≤ 64 → IsMatched (replicate many (a_link 0 0)) (replicate many 0)
+starts-matched many some few =
+    let l : length (replicate many (a_link 0 0)) ≡ many = replicate-length many (a_link 0 0) in
+    record { some = omega arith; few = omega arith; same = sym (map-replicate many (a_link 0 0)) }
+
+-- a new core stands for the empty past
+pub starts : (many : ℕ) → (nodes (new_core many) ≡ many) × StandsFor (new_core many) []
+starts many =
+    let l : length (replicate many (a_link 0 0)) ≡ many = replicate-length many (a_link 0 0) in (
+      l,
+      record {
+        legal = tt;
+        links = λ n lt. get-replicate many n (a_link 0 0) (omega arith);
+        snapshots = refl;
+        opened = refl;
+        rows = refl;
+      },
+    )
+
+-- no core of 1 to 64 nodes is refused
+pub new_refusal-none : (many : ℕ) → 0 < many → many ≤ 64 → new_refusal many ≡ None
+new_refusal-none many some few = cond-false _ _ _ (or_from _ _ (ne_eqb many 0 (λ e. omega arith)) (le-ltb 64 many few))

@@ -1,16 +1,10 @@
 -- How the plain work goes on from one row or one link to the next.
-use Rattle.std.proofs.Common.{◌≡◌, ℕ, zero, suc, ◌+◌, ◌-◌, ◌<◌, ◌≤◌, List, ◌∷◌, length, drop, get_or, Some, None, min, true, false, refl, ap, sym, ◌∙◌, arith, add-one}
+use Rattle.std.proofs.Common.{◌≡◌, ℕ, suc, ◌+◌, ◌-◌, ◌<◌, ◌≤◌, List, ◌∷◌, length, drop, get_or, Some, None, true, false, ap, sym, ◌∙◌, arith, add-one}
 use Rattle.std.proofs.Math.Seq.{drop-cons}
 use Rattle.std.proofs.lemmas.Bool.{cond-true, cond-false}
 use Rattle.std.proofs.lemmas.List.{drop_all}
 use Rattle.hlc_node.specs.declared.row.Row.{Row}
 use Rattle.hlc_node.specs.Rows.{is_candidate, later, newest}
-use Rattle.hlc_core.specs.Past.{least}
-
--- the least of one more
-pub least_more : (f : ℕ → ℕ) (i : ℕ) → 1 ≤ i → least f (i + 1) ≡ min (f i) (least f i)
-least_more f zero h = absurd (omega arith)
-least_more f (suc i) h = rw add-one refl
 
 -- no row is the newest of none
 pub newest-end : (rows : List Row) (key : List ℕ) (bound : ℕ) → None ≡ newest (drop (length rows) rows) key bound

@@ -1,12 +1,13 @@
 -- What each call of a core does, for one past that the core stood for.
-use Rattle.std.specs.Prelude.{◌≡◌, ℕ, ◌+◌, ◌⊎◌, List, [], ◌∷◌, ◌==◌, ◌||◌, nat_lt, Option, Some, None, if◌then◌else◌, Result, Ok, Err, MatchResult, ⊤}
+use Rattle.std.specs.Prelude.{◌≡◌, ℕ, ◌<◌, ◌≤◌, ◌+◌, ◌⊎◌, List, [], ◌∷◌, ◌==◌, ◌||◌, nat_lt, Option, Some, None, if◌then◌else◌, Result, Ok, Err, MatchResult, ⊤}
 use Rattle.hlc_node.specs.declared.item.Item.{Item}
 use Rattle.hlc_node.specs.declared.item.Body.{Body}
 use Rattle.hlc_node.specs.declared.item.Body.TheVariants.{Write, Report}
 use Rattle.hlc_core.specs.declared.fault.CoreFault.{CoreFault}
 use Rattle.hlc_core.specs.declared.fault.CoreFault.TheVariants.{NoMemory, NoNode}
-use Rattle.hlc_core.specs.Accepted.{Acceptance}
-use Rattle.hlc_core.specs.Past.{Step, Took, Opened, floor, opened, item_refusal, room_refusal}
+use Rattle.hlc_core.specs.declared.fault.NoNode.{NoNode as NoSuchNode}
+use Rattle.hlc_floor.specs.Heads.{Acceptance}
+use Rattle.hlc_core.specs.Past.{Step, Took, Opened, count, floor, opened, item_refusal, room_refusal}
 use Rattle.hlc_core.specs.Kept.{Kept, nodes, StandsFor}
 
 -- the call refused with the first reason that holds; or with want of memory, where there is none and the call may want it
@@ -36,6 +37,11 @@ Accepts old new item past (Err refused) = IsRefusal (item_refusal (nodes old) pa
 abbrev pub Checks : Kept → Item → List Step → Result Unit CoreFault → Type 0
 Checks kept item past result =
     MatchResult result (λ _. item_refusal (nodes kept) past item ≡ None) (λ fault. item_refusal (nodes kept) past item ≡ Some fault)
+
+-- the number of a node's accepted items, or that there is no such node
+abbrev pub Counts : ℕ → ℕ → List Step → Result ℕ NoSuchNode → Type 0
+Counts nodes node past (Ok number) = (node < nodes) × (number ≡ count node past)
+Counts nodes node past (Err fault) = nodes ≤ node
 
 -- a snapshot was opened at the floor, with an id one above the number of those opened before, or refused
 abbrev pub OpensAtFloor : Kept → Kept → List Step → Result (ℕ × ℕ) CoreFault → Type 0

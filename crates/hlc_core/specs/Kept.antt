@@ -1,13 +1,13 @@
 -- What a core keeps, and which past it stands for.
-use Rattle.std.specs.Prelude.{◌≡◌, ℕ, ◌<◌, ◌≤◌, List, length, Some, slice_get}
+use Rattle.std.specs.Prelude.{◌≡◌, ℕ, ◌<◌, ◌≤◌, List, length, map, Some, slice_get}
 use Rattle.hlc_node.specs.declared.row.Row.{Row}
-use Rattle.hlc_core.specs.declared.link.Link.{Link}
+use Rattle.hlc_link.specs.Progress.{Progress}
 use Rattle.hlc_core.specs.declared.snapshot.Snapshot.{Snapshot}
 use Rattle.hlc_core.specs.Past.{Step, count, head, opened, open_snapshots, writes, IsLegal}
 
--- what a core keeps: by node the state of its link; the open snapshots; how many were opened; the stored rows
+-- what a core keeps: by node how far its link has come; the open snapshots; how many were opened; the stored rows
 pub record Kept : Type 0 where
-  pub links : List Link
+  pub links : List Progress
   pub snapshots : List Snapshot
   pub opened : ℕ
   pub rows : List Row
@@ -16,14 +16,11 @@ pub record Kept : Type 0 where
 abbrev pub nodes : Kept → ℕ
 nodes kept = length kept.links
 
--- there are 1 to 64 links
-pub record IsSized (links : List Link) : Type 0 where
+-- there are 1 to 64 links, and the heads are theirs
+pub record IsMatched (links : List Progress) (heads : List ℕ) : Type 0 where
   pub some : 0 < length links
   pub few : length links ≤ 64
-
--- a link on which nothing was accepted
-abbrev pub unused : Link
-unused = record { next = 0; head = 0 }
+  pub same : heads ≡ map (λ link. link.head) links
 
 -- the core stands for the past
 pub record StandsFor (kept : Kept) (past : List Step) : Type 0 where

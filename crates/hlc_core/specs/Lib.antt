@@ -1,4 +1,3 @@
-pub mod Accepted
 pub mod Past
 pub mod Kept
 pub mod Calls

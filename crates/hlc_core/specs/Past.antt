@@ -7,6 +7,8 @@ use Rattle.hlc_node.specs.declared.item.Body.{Body}
 use Rattle.hlc_node.specs.declared.item.Body.TheVariants.{Write, Report}
 use Rattle.hlc_node.specs.declared.item.BodyFault.{BodyFault}
 use Rattle.hlc_node.specs.Items.{body_refusal}
+use Rattle.hlc_link.specs.declared.intake.LinkFault.{LinkFault}
+use Rattle.hlc_link.specs.declared.intake.LinkFault.TheVariants as link_fault
 use Rattle.hlc_core.specs.declared.fault.CoreFault.{CoreFault}
 use Rattle.hlc_core.specs.declared.fault.CoreFault.TheVariants.{NoNode, NotNext, StampNotRising, TooManySnapshots, BadBody, NumbersSpent}
 use Rattle.hlc_core.specs.declared.snapshot.Snapshot.{Snapshot}
@@ -70,6 +72,12 @@ open_snapshots (_ ∷ past) = open_snapshots past
 -- the stamp of the open snapshot that has this id
 abbrev pub stamp_of : ℕ → List Step → Option ℕ
 stamp_of id past = option_map (λ snapshot. snapshot.stamp) (find (λ snapshot. snapshot.id == id) (open_snapshots past))
+
+-- the link's fault, as a fault of the core
+abbrev pub of_link : LinkFault → CoreFault
+of_link (link_fault.NotNext next) = NotNext next
+of_link link_fault.NumbersSpent = NumbersSpent
+of_link (link_fault.StampNotRising head) = StampNotRising head
 
 -- what no item may say, as a fault of the core
 abbrev pub of_body : Option BodyFault → Option CoreFault

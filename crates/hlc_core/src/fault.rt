@@ -24,3 +24,7 @@ pub enum CoreFault {
 /// No open snapshot has that id.
 #[derive(Clone, Copy, PartialEq, Eq, Debug)]
 pub struct NoSnapshot;
+
+/// The node is not below the count of nodes.
+#[derive(Clone, Copy, PartialEq, Eq, Debug)]
+pub struct NoNode;

@@ -2,7 +2,6 @@
 //! floor, and a read gives the newest accepted value.
 #![tactic(auto)]
 
-mod accepted;
 mod fault;
 mod laws;
 mod link;
@@ -10,9 +9,9 @@ mod rows;
 mod snapshot;
 mod store;
 
-pub use accepted::Accepted;
-pub use fault::{CoreFault, NoSnapshot};
+pub use fault::{CoreFault, NoNode, NoSnapshot};
 pub use hlc_clock::Stamp;
+pub use hlc_floor::Accepted;
 pub use hlc_node::{Body, BodyFault, Bytes, Item, Row};
 pub use laws::{
     accepted_writes_are_a_row_set, floor_is_the_least_head, later_items_are_above_the_floor,

@@ -1,59 +1,36 @@
-//! What a core keeps of a node's link, and how an item is admitted.
-ghost use Rattle.std.specs.Prelude.{◌≡◌, ◌<◌, Some, MatchOption, length, slice_get, slice_index_or};
-ghost use Rattle.hlc_core.specs.Past.{link_refusal, least};
-ghost use Rattle.hlc_core.specs.Kept.{unused};
+//! How an item is admitted by the intake of its node's link.
+ghost use Rattle.std.specs.Prelude.{◌≡◌, ◌+◌, Some, None, Err, MatchOption, MatchResult, slice_get};
+ghost use Rattle.hlc_core.specs.Past.{link_refusal, of_link};
 
 use crate::fault::CoreFault;
-use hlc_clock::Stamp;
+use hlc_link::{Intake, LinkFault};
 use hlc_node::{Item, body_fault};
 
-/// The link of a node: the number of the next item, and the stamp of the last accepted one.
-#[derive(Clone, Copy)]
-pub struct Link {
-    pub next: u64,
-    pub head: Stamp,
-}
-
-/// The first reason to refuse an item, memory aside.
-pub fn item_fault(links: &[Link], item: &Item) -> Option<CoreFault>
-    ensures { MatchOption (slice_get links.now item.now.node) (result ≡ Some CoreFault.NoNode) (λ link. result ≡ link_refusal link.next link.head item.now) }
+/// The intake of the item's link once it has admitted the item; or the first reason to refuse the
+/// item, memory aside.
+pub fn admitted(intakes: &[Intake], item: &Item) -> Result<Intake, CoreFault>
+    ensures { MatchOption (slice_get intakes.now item.now.node) (result ≡ Err CoreFault.NoNode) (λ link. MatchResult result (λ new. (link_refusal link.next link.head item.now ≡ None) × (new ≡ record { next = item.now.number + 1; head = item.now.stamp })) (λ fault. link_refusal link.next link.head item.now ≡ Some fault)) }
 {
-    let Some(link) = links.get(item.node as usize) else {
-        return Some(CoreFault::NoNode);
+    let Some(intake) = intakes.get(item.node as usize) else {
+        return Err(CoreFault::NoNode);
     };
-    link_fault(link, item)
-}
-
-/// The first reason to refuse an item on this link.
-fn link_fault(link: &Link, item: &Item) -> Option<CoreFault>
-    ensures { result ≡ link_refusal link.now.next link.now.head item.now }
-{
-    if item.number != link.next {
-        return Some(CoreFault::NotNext { next: link.next });
-    }
-    if item.number == u64::MAX {
-        return Some(CoreFault::NumbersSpent);
-    }
-    if item.stamp <= link.head {
-        return Some(CoreFault::StampNotRising { head: link.head });
+    let mut intake = *intake;
+    if let Err(fault) = intake.admit(item.number, item.stamp) {
+        return Err(of_link(fault));
     }
     match body_fault(&item.body) {
-        Some(fault) => Some(CoreFault::BadBody(fault)),
-        None => None,
+        Some(fault) => Err(CoreFault::BadBody(fault)),
+        None => Ok(intake),
     }
 }
 
-/// The least head of some links.
-#[tactic(auto, using(crate::proofs::Steps::least_more))]
-pub fn least_head(links: &[Link]) -> Stamp
-    requires { 0 < length links.now }
-    ensures { result ≡ least (λ n. (slice_index_or links.now n unused).head) (length links.now) }
+/// The link's fault, as a fault of the core.
+fn of_link(fault: LinkFault) -> CoreFault
+    ensures { result ≡ of_link fault }
 {
-    let mut floor = links[0].head;
-    for i in 1..links.len() {
-        if links[i].head < floor {
-            floor = links[i].head;
-        }
+    match fault {
+        LinkFault::NotNext { next } => CoreFault::NotNext { next },
+        LinkFault::NumbersSpent => CoreFault::NumbersSpent,
+        LinkFault::StampNotRising { head } => CoreFault::StampNotRising { head },
     }
-    floor
 }

@@ -3,14 +3,14 @@ ghost use Rattle.std.specs.Prelude.{◌≡◌, IfOk, IfErr, OnErr, IsErr, IsOkAn
 ghost use Rattle.hlc_node.specs.Rows.{answer};
 ghost use Rattle.hlc_core.specs.Past.{Step, floor, stamp_of, writes};
 ghost use Rattle.hlc_core.specs.Kept.{nodes, StandsFor};
-ghost use Rattle.hlc_core.specs.Calls.{Makes, Accepts, Checks, OpensAtFloor};
+ghost use Rattle.hlc_core.specs.Calls.{Makes, Accepts, Checks, Counts, OpensAtFloor};
 
-use crate::accepted::Accepted;
-use crate::fault::{CoreFault, NoSnapshot};
-use crate::link::{self, Link};
-use crate::rows;
+use crate::fault::{CoreFault, NoNode, NoSnapshot};
 use crate::snapshot::{self, Snapshot};
+use crate::{link, rows};
 use hlc_clock::Stamp;
+use hlc_floor::{Accepted, Heads, HeadsFault};
+use hlc_link::Intake;
 use hlc_node::{Item, Row};
 use std::alloc::Global;
 use std::marker::Model;
@@ -22,20 +22,21 @@ use std::marker::Model;
 /// unchanged.
 #[derive(Drop)]
 pub struct Core {
-    links: Vec<Link>,
+    intakes: Vec<Intake>,
+    heads: Heads,
     snapshots: Vec<Snapshot>,
     opened: u64,
     rows: Vec<Row>,
 }
 
 impl Model for Core {
-    ghost use Rattle.hlc_core.specs.Kept.{Kept, IsSized};
+    ghost use Rattle.hlc_core.specs.Kept.{Kept, IsMatched};
 
     ghost Value = { Kept };
 
-    ghost view = { λ core. record { links = core.links.items; snapshots = core.snapshots.items; opened = core.opened; rows = core.rows.items } };
+    ghost view = { λ core. record { links = core.intakes.items; snapshots = core.snapshots.items; opened = core.opened; rows = core.rows.items } };
 
-    ghost invariant = { λ core. IsSized core.links.items };
+    ghost invariant = { λ core. IsMatched core.intakes.items core.heads };
 }
 
 impl Core {
@@ -43,18 +44,17 @@ impl Core {
     pub fn new(alloc: Global, nodes: u16) -> Result<Core, CoreFault>
         ensures { Makes nodes result }
     {
-        if nodes == 0 || nodes > 64 {
-            return Err(CoreFault::NoNode);
-        }
-        let unused = Link {
-            next: 0,
-            head: Stamp::from_bits(0),
+        let heads = match Heads::new(alloc, nodes) {
+            Ok(heads) => heads,
+            Err(HeadsFault::NoNode) => return Err(CoreFault::NoNode),
+            Err(HeadsFault::NoMemory) => return Err(CoreFault::NoMemory),
         };
-        let Ok(links) = vec![in alloc; unused; nodes as usize] else {
+        let Ok(intakes) = vec![in alloc; Intake::new(); nodes as usize] else {
             return Err(CoreFault::NoMemory);
         };
         Ok(Core {
-            links,
+            intakes,
+            heads,
             snapshots: Vec::new(alloc),
             opened: 0,
             rows: Vec::new(alloc),
@@ -72,26 +72,36 @@ impl Core {
         ensures err { IfErr result (λ refused. (refused.1 ≡ item) × (self.new ≡ self.old)) }
         ensures nodes { nodes self.new ≡ nodes self.old }
     {
-        if let Some(fault) = link::item_fault(self.links.as_slice(), &item) {
-            return Err((fault, item));
-        }
+        let intake = match link::admitted(self.intakes.as_slice(), &item) {
+            Ok(intake) => intake,
+            Err(fault) => return Err((fault, item)),
+        };
         let node = item.node;
-        let next = item.number + 1;
         let stamp = item.stamp;
         if let Err(item) = rows::store(&mut self.rows, item) {
             return Err((CoreFault::NoMemory, item));
         }
-        self.links[node as usize] = Link { next, head: stamp };
-        Ok(Accepted::new(node, stamp))
+        self.intakes[node as usize] = intake;
+        Ok(self.heads.raise(node, stamp))
     }
 
     /// Why `accept` would refuse an item, want of memory aside.
     pub fn check_item(&self, item: &Item) -> Result<(), CoreFault>
         ensures { (past : List Step) → StandsFor self.now past → Checks self.now item.now past result }
     {
-        match link::item_fault(self.links.as_slice(), item) {
-            Some(fault) => Err(fault),
-            None => Ok(()),
+        match link::admitted(self.intakes.as_slice(), item) {
+            Ok(_) => Ok(()),
+            Err(fault) => Err(fault),
+        }
+    }
+
+    /// How many items of a node were accepted, which is also the number of its next one.
+    pub fn count(&self, node: u16) -> Result<u64, NoNode>
+        ensures { (past : List Step) → StandsFor self.now past → Counts (nodes self.now) node past result }
+    {
+        match self.intakes.as_slice().get(node as usize) {
+            Some(intake) => Ok(intake.next()),
+            None => Err(NoNode),
         }
     }
 
@@ -99,7 +109,7 @@ impl Core {
     pub fn floor(&self) -> Stamp
         ensures { (past : List Step) → StandsFor self.now past → result ≡ floor (nodes self.now) past }
     {
-        link::least_head(self.links.as_slice())
+        self.heads.floor()
     }
 
     /// Opens a snapshot at the floor, and gives its id and its stamp. Ids are 1, 2, 3 and so on.
@@ -114,7 +124,7 @@ impl Core {
             return Err(fault);
         }
         let id = self.opened + 1;
-        let stamp = link::least_head(self.links.as_slice());
+        let stamp = self.heads.floor();
         if self.snapshots.push(Snapshot { id, stamp }).is_err() {
             return Err(CoreFault::NoMemory);
         }

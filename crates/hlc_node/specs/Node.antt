@@ -20,8 +20,8 @@ abbrev pub stamped : Node → ℕ → Node
 stamped node stamp = record { id = node.id; last = stamp; next = node.next }
 
 -- the node after it issued an item that was stamped so
-abbrev pub issued : Node → ℕ → Node
-issued node stamp = record { id = node.id; last = stamp; next = node.next + 1 }
+abbrev pub after_issue : Node → ℕ → Node
+after_issue node stamp = record { id = node.id; last = stamp; next = node.next + 1 }
 
 -- the node's next item, if it says this and is stamped so
 abbrev pub next_item : Node → Body → ℕ → Item

@@ -9,7 +9,7 @@ use Rattle.hlc_text.specs.Text.{Reads, bytes_token, AreBytes}
 use Rattle.hlc_text.specs.TokenLaws.{number_is_word, bytes_are_word, split_words}
 use Rattle.hlc_text.specs.SpellingLaws.{one_token}
 use Rattle.hlc_world.specs.declared.event.Event.{Event}
-use Rattle.hlc_world.specs.declared.event.Event.TheVariants.{Write, Delete, Report, Send, Receive, Deliver, OpenFloor, Read}
+use Rattle.hlc_world.specs.declared.event.Event.TheVariants.{Write, Delete, Report, Send, Receive, Deliver, OpenFloor, Read, Floor}
 use Rattle.hlc_script.specs.Line.{spaced, event_words, event_line, HasLine, header_words, header_line, HasHeader}
 use Rattle.hlc_script.specs.Laws.{OneEvent}
 
@@ -33,6 +33,7 @@ words_of_line (Deliver node number) has =
 words_of_line OpenFloor has = split_words (codes "open") (codes "floor" ∷ []) (refl, (refl, tt))
 words_of_line (Read id key) has =
     split_words (codes "read") (decimal id ∷ bytes_token key ∷ []) (refl, (number_is_word id (omega arith), (bytes_are_word key, tt)))
+words_of_line Floor has = split_words (codes "floor") [] (refl, tt)
 
 -- the words of a header are the header's words
 pub words_of_header : (nodes : ℕ) → HasHeader nodes → slice_split (λ b. eqb b 32) (header_line nodes) ≡ header_words nodes
@@ -80,6 +81,10 @@ no_open args none event has is = absurd (omega (arith, ap mark is))
 pub no_read : (args : List (List ℕ)) → ((x : ℕ × List ℕ) → (x.0 < 2 ^ 64) × AreBytes x.1 → args ≢ decimal x.0 ∷ bytes_token x.1 ∷ []) → (event : Event) → HasLine event → codes "read" ∷ args ≢ event_words event
 no_read args none (Read id key) has is = let rest : args ≡ decimal id ∷ bytes_token key ∷ [] = cc in none (id, key) has rest
 no_read args none event has is = absurd (omega (arith, ap mark is))
+
+pub no_floor : (args : List (List ℕ)) → args ≢ [] → (event : Event) → HasLine event → codes "floor" ∷ args ≢ event_words event
+no_floor args none Floor has is = let rest : args ≡ [] = cc in none rest
+no_floor args none event has is = absurd (omega (arith, ap mark is))
 
 one_write : (node node2 reading reading2 : ℕ) (key key2 value value2 : List ℕ) → HasLine (Write node reading key value) → HasLine (Write node2 reading2 key2 value2) → event_words (Write node reading key value) ≡ event_words (Write node2 reading2 key2 value2) → Write node reading key value ≡ Write node2 reading2 key2 value2
 one_write node node2 reading reading2 key key2 value value2 has also e =
@@ -155,6 +160,8 @@ same_words OpenFloor OpenFloor has also same = refl
 same_words OpenFloor other has also same = absurd (omega (arith, ap mark same))
 same_words (Read id key) (Read id2 key2) has also same = one_read id id2 key key2 has also same
 same_words (Read id key) other has also same = absurd (omega (arith, ap mark same))
+same_words Floor Floor has also same = refl
+same_words Floor other has also same = absurd (omega (arith, ap mark same))
 
 -- a line is one event's at most
 pub one_event : OneEvent

@@ -2,14 +2,13 @@
 use Rattle.std.proofs.Common.{◌≡◌, ℕ, ◌+◌, ◌∙◌, sym, ap, refl, subst, List, [], ◌∷◌, ◌++◌, Option, Some, None, Ok, Result, append_assoc, arith, ◌⊎◌, inl, inr}
 use Rattle.std.specs.Prelude.{codes, ◌≢◌}
 use Rattle.std.specs.List.{flat_map}
-use Rattle.hlc_clock.specs.NextStamp.{stamp_due}
 use Rattle.hlc_clock.specs.declared.clock.ClockFault.{ClockFault}
 use Rattle.hlc_node.specs.declared.item.Message.{Message}
 use Rattle.hlc_node.specs.declared.node.NodeFault.{NodeFault}
 use Rattle.hlc_world.specs.declared.event.Event.{Event}
-use Rattle.hlc_world.specs.declared.event.Event.TheVariants.{Write, Delete, Report, Send, Receive, Deliver, OpenFloor, Read}
+use Rattle.hlc_world.specs.declared.event.Event.TheVariants.{Write, Delete, Report, Send, Receive, Deliver, OpenFloor, Read, Floor}
 use Rattle.hlc_world.specs.declared.reply.Reply.{Reply}
-use Rattle.hlc_world.specs.declared.reply.Reply.TheVariants.{Stamped, Sent, Received, Accepted, Snapshot, Answer, Refused}
+use Rattle.hlc_world.specs.declared.reply.Reply.TheVariants.{Stamped, Sent, Received, Accepted, Snapshot, Answer, Floor as FloorIs, Refused}
 use Rattle.hlc_world.specs.declared.refusal.Refusal.{Refusal}
 use Rattle.hlc_world.specs.declared.refusal.Refusal.TheVariants.{NoMemory as no_memory}
 use Rattle.hlc_world.specs.Due.{refusal_due, IsReceived, IsAnswer, IsDueReply, IsGiven}
@@ -66,6 +65,8 @@ due_once nodes schedule OpenFloor (Snapshot id stamp) (Snapshot id2 stamp2) due 
 due_once nodes schedule OpenFloor (Snapshot id stamp) other due also = absurd also
 due_once nodes schedule (Read id key) (Answer value) (Answer value2) due also = ap Answer (same_answer _ _ value value2 due also)
 due_once nodes schedule (Read id key) (Answer value) other due also = absurd also
+due_once nodes schedule Floor (FloorIs stamp) (FloorIs stamp2) due also = ap FloorIs (due ∙ sym also)
+due_once nodes schedule Floor (FloorIs stamp) other due also = absurd also
 due_once nodes schedule _ _ _ due also = absurd due
 
 -- a given reply is a refusal, which is due or a want of memory; or it is due where no refusal is
@@ -83,6 +84,7 @@ given_cases nodes schedule event (Received stamp) given = inr given
 given_cases nodes schedule event (Accepted stamp) given = inr given
 given_cases nodes schedule event (Snapshot id stamp) given = inr given
 given_cases nodes schedule event (Answer value) given = inr given
+given_cases nodes schedule event (FloorIs stamp) given = inr given
 
 once : (nodes : ℕ) (schedule : List (Event × Reply)) (event : Event) (reply other : Reply) → GivenCases nodes schedule event reply → GivenCases nodes schedule event other → OneReply reply other
 once nodes schedule event reply other (inl (refusal, is, inr lost)) also = inr (inl (is ∙ ap Refused lost))

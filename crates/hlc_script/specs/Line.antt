@@ -3,7 +3,7 @@ use Rattle.std.specs.Prelude.{ℕ, ◌<◌, ◌≤◌, ◌^◌, ◌==◌, List, 
 use Rattle.std.specs.List.{slice_split, join_with_byte}
 use Rattle.hlc_text.specs.Text.{bytes_token, AreBytes}
 use Rattle.hlc_world.specs.declared.event.Event.{Event}
-use Rattle.hlc_world.specs.declared.event.Event.TheVariants.{Write, Delete, Report, Send, Receive, Deliver, OpenFloor, Read}
+use Rattle.hlc_world.specs.declared.event.Event.TheVariants.{Write, Delete, Report, Send, Receive, Deliver, OpenFloor, Read, Floor}
 
 -- words with one space between each two
 abbrev pub spaced : List (List ℕ) → List ℕ
@@ -19,6 +19,7 @@ event_words (Receive node reading message) = codes "receive" ∷ decimal node �
 event_words (Deliver node number) = codes "deliver" ∷ decimal node ∷ decimal number ∷ []
 event_words OpenFloor = codes "open" ∷ codes "floor" ∷ []
 event_words (Read id key) = codes "read" ∷ decimal id ∷ bytes_token key ∷ []
+event_words Floor = codes "floor" ∷ []
 
 -- the one line of an event
 abbrev pub event_line : Event → List ℕ
@@ -34,6 +35,7 @@ HasLine (Receive node reading message) = (node < 2 ^ 16) × (reading < 2 ^ 64) �
 HasLine (Deliver node number) = (node < 2 ^ 16) × (number < 2 ^ 64)
 HasLine OpenFloor = ⊤
 HasLine (Read id key) = (id < 2 ^ 64) × AreBytes key
+HasLine Floor = ⊤
 
 -- the event has a key, which may want memory
 abbrev pub BearsBytes : Event → Type 0

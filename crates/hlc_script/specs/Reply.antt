@@ -3,7 +3,7 @@ use Rattle.std.specs.Prelude.{ℕ, List, [], ◌∷◌, ◌++◌, codes, decimal
 use Rattle.hlc_clock.specs.Stamp.{stamp_text}
 use Rattle.hlc_text.specs.Text.{bytes_token}
 use Rattle.hlc_world.specs.declared.reply.Reply.{Reply}
-use Rattle.hlc_world.specs.declared.reply.Reply.TheVariants.{Stamped, Sent, Received, Accepted, Snapshot, Answer, Refused}
+use Rattle.hlc_world.specs.declared.reply.Reply.TheVariants.{Stamped, Sent, Received, Accepted, Snapshot, Answer, Floor, Refused}
 use Rattle.hlc_world.specs.declared.refusal.Refusal.{Refusal}
 use Rattle.hlc_world.specs.declared.refusal.Refusal.TheVariants.{NoNode, ReadingTooLarge, CounterFull, NoMessage, NoItem, NotNext, StampNotRising, NoSnapshot, TooManySnapshots, BadKey, ValueTooLong, NumbersSpent, NoMemory}
 
@@ -36,6 +36,7 @@ reply_line (Received stamp) = codes "stamp " ++ stamp_text stamp
 reply_line (Accepted stamp) = codes "accepted " ++ stamp_text stamp
 reply_line (Snapshot id stamp) = (codes "snapshot " ++ decimal id) ++ (codes " at " ++ stamp_text stamp)
 reply_line (Answer value) = answer_line value
+reply_line (Floor stamp) = codes "floor " ++ stamp_text stamp
 reply_line (Refused refusal) = refusal_line refusal
 
 -- the line that refuses the line of this number

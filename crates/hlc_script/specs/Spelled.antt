@@ -2,7 +2,7 @@
 use Rattle.hlc_world.specs.declared.event.Event.{Event}
 use Rattle.hlc_world.specs.declared.event.Event.TheVariants as event
 use Rattle.hlc_script.specs.declared.line.Line.{Line}
-use Rattle.hlc_script.specs.declared.line.Line.TheVariants.{Write, Delete, Report, Send, Receive, Deliver, OpenFloor, Read}
+use Rattle.hlc_script.specs.declared.line.Line.TheVariants.{Write, Delete, Report, Send, Receive, Deliver, OpenFloor, Read, Floor}
 
 -- its fields are the event's, with the bytes as they are spelled
 abbrev pub event_of : Line → Event
@@ -14,3 +14,4 @@ event_of (Receive node reading message) = event.Receive node reading message
 event_of (Deliver node number) = event.Deliver node number
 event_of OpenFloor = event.OpenFloor
 event_of (Read id key) = event.Read id key
+event_of Floor = event.Floor

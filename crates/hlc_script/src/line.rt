@@ -47,6 +47,7 @@ pub enum Line<'a> {
         id: u64,
         key: Spelled<'a>,
     },
+    Floor,
 }
 
 impl<'a> Line<'a> {
@@ -98,6 +99,7 @@ impl<'a> Line<'a> {
                 id: *id,
                 key: Bytes::from_vec(key.to_vec(alloc)?),
             }),
+            Line::Floor => Ok(Event::Floor),
         }
     }
 }
@@ -138,6 +140,9 @@ fn line_of_words<'a>(words: &mut Words<'a>) -> Option<Line<'a>>
     }
     if verb == b"read".as_slice() {
         return read_verb_line(words);
+    }
+    if verb == b"floor".as_slice() {
+        return floor_line(words);
     }
     None
 }
@@ -216,6 +221,16 @@ fn read_verb_line<'a>(words: &mut Words<'a>) -> Option<Line<'a>>
 {
     let (id, key) = number_key(words)?;
     Some(Line::Read { id, key })
+}
+
+/// The event of the words behind `floor`, where none stands.
+fn floor_line<'a>(words: &mut Words<'a>) -> Option<Line<'a>>
+    ensures { Reads event_words HasLine (codes "floor" ∷ words.old) (option_map event_of result) }
+{
+    if words.next().is_some() {
+        return None;
+    }
+    Some(Line::Floor)
 }
 
 // The shapes of what stands behind a verb.

@@ -35,6 +35,7 @@ fn put_reply_text<W: Write>(writer: &mut Watched<W>, waiting: &mut Waiting, repl
             put_named_stamp(writer, waiting, b" at ", *stamp);
         }
         Reply::Answer { value } => put_answer(writer, waiting, value),
+        Reply::Floor { stamp } => put_named_stamp(writer, waiting, b"floor ", *stamp),
         Reply::Refused(refusal) => put_refusal(writer, waiting, *refusal),
     }
 }

@@ -3,6 +3,8 @@ use Rattle.std.proofs.Common.{◌≡◌, ℕ, ◌<◌, ◌⊎◌, List, ◌∷�
 use Rattle.std.specs.Prelude.{not, MatchResult, slice_get}
 use Rattle.std.proofs.lemmas.Bool.{cond-true, cond-false, lt-leb, eq-eqb, ne_eqb, cases_eq}
 use Rattle.hlc_node.specs.declared.item.Item.{Item}
+use Rattle.hlc_node.specs.declared.item.Body.{Body}
+use Rattle.hlc_node.specs.declared.item.Body.TheVariants.{Write, Report}
 use Rattle.hlc_core.specs.declared.fault.CoreFault.{CoreFault}
 use Rattle.hlc_core.specs.declared.fault.CoreFault.TheVariants as core_fault
 use Rattle.hlc_core.specs.Past.{Took, count, head, of_body as body_fault, item_refusal}
@@ -14,7 +16,7 @@ use Rattle.hlc_world.specs.declared.reply.Reply.{Reply}
 use Rattle.hlc_world.specs.declared.reply.Reply.TheVariants.{Accepted, Refused}
 use Rattle.hlc_world.specs.declared.refusal.Refusal.TheVariants.{NotNext, NoMemory}
 use Rattle.hlc_world.specs.Schedule.{item_at, taking, with_step, core_past}
-use Rattle.hlc_world.specs.Due.{of_core, deliver_refusal, refusal_due, stamp_in}
+use Rattle.hlc_world.specs.Due.{of_core, deliver_refusal, refusal_due, stamp_in, TakesRow}
 use Rattle.hlc_world.specs.State.{KeptNode, State, world_nodes, IsMatched, StandsFor}
 use Rattle.hlc_world.proofs.Lists.{some-injective}
 use Rattle.hlc_world.proofs.Nodes.{stays, on_node-inside}
@@ -78,11 +80,16 @@ refused state s p k item f matched h at refusal =
     stays state s (Deliver p k) (of_core f) refl refl refl refl
     (inl (due-refusal (world_nodes state) s p k item f (orderly (world_nodes state) s h.legal) at (subst (λ n. item_refusal n (core_past s) item ≡ Some f) matched refusal))) h
 
--- there is no memory for it
-pub no_memory : (state : State) (s : List (Event × Reply)) (p k : ℕ) (item : Item) → IsMatched state → StandsFor state s → item_at p k s ≡ Some item → item_refusal (nodes state.core) (core_past s) item ≡ None → StandsFor state ((Deliver p k, Refused NoMemory) ∷ s)
-no_memory state s p k item matched h at none =
+-- what is no report is a write
+pub is_write : (body : Body) → (body ≡ Report → ⊥) → IsWrite body
+is_write (Write key value) other = tt
+is_write Report other = absurd (other refl)
+
+-- there is no memory for it, which a write alone may want
+pub no_memory : (state : State) (s : List (Event × Reply)) (p k : ℕ) (item : Item) → IsMatched state → StandsFor state s → item_at p k s ≡ Some item → item_refusal (nodes state.core) (core_past s) item ≡ None → IsWrite item.body → StandsFor state ((Deliver p k, Refused NoMemory) ∷ s)
+no_memory state s p k item matched h at none takes =
     stays state s (Deliver p k) NoMemory refl refl refl refl
-    (inr (due-none (world_nodes state) s p k item (orderly (world_nodes state) s h.legal) at (subst (λ n. item_refusal n (core_past s) item ≡ None) matched none), refl, tt)) h
+    (inr (due-none (world_nodes state) s p k item (orderly (world_nodes state) s h.legal) at (subst (λ n. item_refusal n (core_past s) item ≡ None) matched none), refl, subst TakesRow (sym at) takes)) h
 
 -- the core accepts it
 taken : (state : State) (s : List (Event × Reply)) (p k : ℕ) (item : Item) (core : Kept) → IsMatched state → StandsFor state s → item_at p k s ≡ Some item → item_refusal (nodes state.core) (core_past s) item ≡ None → CoreStandsFor core (Took item ∷ core_past s) → StandsFor (record { core = core; nodes = state.nodes; messages = state.messages }) ((Deliver p k, Accepted item.stamp) ∷ s)
@@ -110,5 +117,5 @@ answered state s p k item copy core (Err f) same matched h at none a =
     subst (λ x. StandsFor (record { core = x; nodes = state.nodes; messages = state.messages }) ((Deliver p k, Refused (of_core f)) ∷ s)) (sym a.1)
     (elim a.0 [
       | inl due ↦ absurd (let e : None ≡ Some f = sym n ∙ due in cc)
-      | inr lost ↦ subst (λ x. StandsFor state ((Deliver p k, Refused (of_core x)) ∷ s)) (sym lost.1) (no_memory state s p k item matched h at none)
+      | inr lost ↦ subst (λ x. StandsFor state ((Deliver p k, Refused (of_core x)) ∷ s)) (sym lost.1) (no_memory state s p k item matched h at none (subst (λ x. IsWrite x.body) same lost.2))
     ])

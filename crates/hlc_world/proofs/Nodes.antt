@@ -8,7 +8,7 @@ use Rattle.hlc_node.specs.declared.item.Item.{Item}
 use Rattle.hlc_node.specs.declared.item.Message.{Message}
 use Rattle.hlc_node.specs.declared.item.Body.{Body}
 use Rattle.hlc_node.specs.declared.item.Body.TheVariants.{Write as a_write, Report as a_report}
-use Rattle.hlc_node.specs.Node.{Node, issue_due, next_item, stamped, issued as issued_by}
+use Rattle.hlc_node.specs.Node.{Node, issue_due, next_item, stamped, after_issue}
 use Rattle.hlc_core.specs.Kept.{Kept, StandsFor as CoreStandsFor}
 use Rattle.hlc_world.specs.declared.event.Event.{Event}
 use Rattle.hlc_world.specs.declared.event.Event.TheVariants.{Write, Delete, Report, Send, Receive}
@@ -94,7 +94,7 @@ pub record IsIssue (nodes : ℕ) (s : List (Event × Reply)) (e : Event) (p : �
   pub not_made : (f : Refusal) → item_made e (Refused f) ≡ None
   pub not_marked : (f : Refusal) → stamping_of e (Refused f) ≡ None
   pub given : (st num : ℕ) → refusal_due nodes s e ≡ None → issue_due (node_of p s) body reading ≡ Ok st → num ≡ length (issued p s) → IsGiven nodes s e (Stamped st num)
-  pub may : MayLackMemory e
+  pub may : MayLackMemory s e
 
 pub write-is : (nodes : ℕ) (s : List (Event × Reply)) (p reading : ℕ) (key value : List ℕ) → IsIssue nodes s (Write p reading key value) p (a_write key (Some value)) reading
 write-is nodes s p reading key value =
@@ -119,7 +119,7 @@ issues state s e p body reading before after made is h inside at taken =
     let longer : length (issued p s ++ an_item p number st body ∷ []) ≡ number + 1 = length-append (issued p s) (an_item p number st body ∷ []) in
     let came : after ≡ a_node p st (issued p s ++ an_item p number st body ∷ []) =
     taken.2
-    ∙ ap (λ node. record { core = issued_by node.core st; issued = node.issued ++ next_item node.core body st ∷ [] }) was
+    ∙ ap (λ node. record { core = after_issue node.core st; issued = node.issued ++ next_item node.core body st ∷ [] }) was
     ∙ ap (λ k. record { core = record { id = p; last = st; next = k }; issued = issued p s ++ an_item p number st body ∷ [] }) (sym longer) in
     let none : refusal_due (world_nodes state) s e ≡ None = is.refusal ∙ on_node-inside (world_nodes state) p _ inside ∙ ap issue_refusal due in
     let same : length (slice_set state.nodes p after) ≡ length state.nodes = length-set state.nodes p after in

@@ -45,7 +45,7 @@ pub record Orderly (nodes : ℕ) (items : ℕ → List Item) (lasts counts heads
   pub head_low : (n : ℕ) → heads n ≤ lasts n
 
 -- an item after one more was issued is an old one or that one
-get-with_item : (n k : ℕ) (item x : Item) (xs : List Item) → slice_get (with_item n (Some item) xs) k ≡ Some x → (slice_get xs k ≡ Some x) ⊎ ((item.node ≡ n) × (k ≡ length xs) × (item ≡ x))
+pub get-with_item : (n k : ℕ) (item x : Item) (xs : List Item) → slice_get (with_item n (Some item) xs) k ≡ Some x → (slice_get xs k ≡ Some x) ⊎ ((item.node ≡ n) × (k ≡ length xs) × (item ≡ x))
 get-with_item n k item x xs h =
     elim (cases_eq item.node n) [
       | inr other ↦ inl (ap (λ ys. slice_get ys k) (sym (with_item-other n item xs other)) ∙ h)
@@ -124,10 +124,10 @@ orderly-issue nodes items lasts counts heads p st num body h inside is left ok u
       head_low = m.head_low;
     }
 
-count-same : (n : ℕ) (item : Item) (past : List Step) → item.node ≡ n → count n (Took item ∷ past) ≡ count n past + 1
+pub count-same : (n : ℕ) (item : Item) (past : List Step) → item.node ≡ n → count n (Took item ∷ past) ≡ count n past + 1
 count-same n item past e = cond-true _ _ _ (eq-eqb _ _ e)
 
-count-other : (n : ℕ) (item : Item) (past : List Step) → (item.node ≡ n → ⊥) → count n (Took item ∷ past) ≡ count n past
+pub count-other : (n : ℕ) (item : Item) (past : List Step) → (item.node ≡ n → ⊥) → count n (Took item ∷ past) ≡ count n past
 count-other n item past e = cond-false _ _ _ (ne_eqb _ _ e)
 
 head-same : (n : ℕ) (item : Item) (past : List Step) → item.node ≡ n → head n (Took item ∷ past) ≡ item.stamp
@@ -178,7 +178,7 @@ orderly-took nodes items lasts past p k item h at next =
     }
 
 -- a node that nothing refused is there
-on_node-none : (nodes p : ℕ) (rest : Option Refusal) → on_node nodes p rest ≡ None → (p < nodes) × (rest ≡ None)
+pub on_node-none : (nodes p : ℕ) (rest : Option Refusal) → on_node nodes p rest ≡ None → (p < nodes) × (rest ≡ None)
 on_node-none nodes p rest h =
     elim (cases_lt p nodes) [
       | inl inside ↦ (inside, sym (cond-false _ _ _ (lt-leb nodes p inside)) ∙ h)
@@ -228,7 +228,7 @@ issue-by None last next reading st h =
 pub issue-ok : (node : Node) (body : Body) (reading st : ℕ) → issue_due node body reading ≡ Ok st → (body_refusal body ≡ None) × (node.next ≡ 18446744073709551615 → ⊥) × (node.last < st)
 issue-ok node body reading st h = issue-by (body_refusal body) node.last node.next reading st h
 
-delivered : (o : Option Item) (number next : ℕ) → deliver_refusal o number next ≡ None → (item : Item) → o ≡ Some item → number ≡ next
+pub delivered : (o : Option Item) (number next : ℕ) → deliver_refusal o number next ≡ None → (item : Item) → o ≡ Some item → number ≡ next
 delivered None number next h item e = absurd (cc)
 delivered (Some x) number next h item e =
     elim (cases_eq number next) [

@@ -1,5 +1,5 @@
 -- The reply that is due to an event after a schedule.
-use Rattle.std.specs.Prelude.{◌≡◌, ℕ, ◌+◌, List, [], ◌∷◌, length, Option, Some, None, Result, Ok, Err, ◌==◌, ◌⊎◌, nat_le, if◌then◌else◌, ⊤}
+use Rattle.std.specs.Prelude.{◌≡◌, ◌≢◌, ℕ, ◌+◌, List, [], ◌∷◌, length, Option, Some, None, Result, Ok, Err, ◌==◌, ◌⊎◌, nat_le, if◌then◌else◌, ⊤}
 use Rattle.hlc_clock.specs.NextStamp.{stamp_due}
 use Rattle.hlc_clock.specs.declared.clock.ClockFault.{ClockFault}
 use Rattle.hlc_clock.specs.declared.clock.ClockFault.TheVariants as clock_fault
@@ -15,10 +15,11 @@ use Rattle.hlc_node.specs.Rows.{answer}
 use Rattle.hlc_core.specs.declared.fault.CoreFault.{CoreFault}
 use Rattle.hlc_core.specs.declared.fault.CoreFault.TheVariants as core_fault
 use Rattle.hlc_core.specs.Past.{count, floor, opened, stamp_of, writes, room_refusal}
+use Rattle.hlc_core.specs.Calls.{IsWrite}
 use Rattle.hlc_world.specs.declared.event.Event.{Event}
-use Rattle.hlc_world.specs.declared.event.Event.TheVariants.{Write, Delete, Report, Send, Receive, Deliver, OpenFloor, Read}
+use Rattle.hlc_world.specs.declared.event.Event.TheVariants.{Write, Delete, Report, Send, Receive, Deliver, OpenFloor, Read, Floor}
 use Rattle.hlc_world.specs.declared.reply.Reply.{Reply}
-use Rattle.hlc_world.specs.declared.reply.Reply.TheVariants.{Stamped, Sent, Received, Accepted, Snapshot, Answer, Refused}
+use Rattle.hlc_world.specs.declared.reply.Reply.TheVariants.{Stamped, Sent, Received, Accepted, Snapshot, Answer, Floor as FloorIs, Refused}
 use Rattle.hlc_world.specs.declared.refusal.Refusal.{Refusal}
 use Rattle.hlc_world.specs.declared.refusal.Refusal.TheVariants.{NoNode, ReadingTooLarge, CounterFull, NoMessage, NoItem, NotNext, StampNotRising, NoSnapshot, TooManySnapshots, BadKey, ValueTooLong, NumbersSpent, NoMemory}
 use Rattle.hlc_world.specs.Schedule.{issued, item_at, last_stamp, sent, message_at, node_of, core_past}
@@ -97,6 +98,7 @@ refusal_due nodes schedule (Deliver node number) =
     on_node nodes node (deliver_refusal (item_at node number schedule) number (count node (core_past schedule)))
 refusal_due nodes schedule OpenFloor = core_refusal (room_refusal (core_past schedule))
 refusal_due nodes schedule (Read id key) = snapshot_refusal (stamp_of id (core_past schedule))
+refusal_due nodes schedule Floor = None
 
 -- the stamp of the item, if there is one
 abbrev pub stamp_in : Option Item → Option ℕ
@@ -130,18 +132,32 @@ IsDueReply nodes schedule OpenFloor (Snapshot id stamp) =
     (id ≡ opened (core_past schedule) + 1) × (stamp ≡ floor nodes (core_past schedule))
 IsDueReply nodes schedule (Read id key) (Answer value) =
     IsAnswer (stamp_of id (core_past schedule)) (answer (writes (core_past schedule)) key) value
+IsDueReply nodes schedule Floor (FloorIs stamp) = stamp ≡ floor nodes (core_past schedule)
 IsDueReply nodes schedule _ _ = ⊥
 
--- the event may want memory
-abbrev pub MayLackMemory : Event → Type 0
-MayLackMemory (Receive node reading message) = ⊥
-MayLackMemory _ = ⊤
+-- the item is a write or a deletion, whose row is stored
+abbrev pub TakesRow : Option Item → Type 0
+TakesRow None = ⊥
+TakesRow (Some item) = IsWrite item.body
 
--- the reply is the refusal that is due; or, where none is, a due reply, or want of memory
+-- the answer is a value, which is copied out of the store
+abbrev pub TakesValue : Option ℕ → (ℕ → Option (List ℕ)) → Type 0
+TakesValue None answers = ⊥
+TakesValue (Some stamp) answers = answers stamp ≢ None
+
+-- the event may want memory: it makes an item, a message or a snapshot, or it stores a row, or gives a value
+abbrev pub MayLackMemory : List (Event × Reply) → Event → Type 0
+MayLackMemory schedule (Receive node reading message) = ⊥
+MayLackMemory schedule (Deliver node number) = TakesRow (item_at node number schedule)
+MayLackMemory schedule (Read id key) = TakesValue (stamp_of id (core_past schedule)) (answer (writes (core_past schedule)) key)
+MayLackMemory schedule Floor = ⊥
+MayLackMemory schedule _ = ⊤
+
+-- the reply is the refusal that is due; or, where none is, a due reply, or want of memory where the event may want it
 abbrev pub IsGiven : ℕ → List (Event × Reply) → Event → Reply → Type 0
 IsGiven nodes schedule event (Refused refusal) =
     (refusal_due nodes schedule event ≡ Some refusal)
-    ⊎ ((refusal_due nodes schedule event ≡ None) × (refusal ≡ NoMemory) × MayLackMemory event)
+    ⊎ ((refusal_due nodes schedule event ≡ None) × (refusal ≡ NoMemory) × MayLackMemory schedule event)
 IsGiven nodes schedule event reply = (refusal_due nodes schedule event ≡ None) × IsDueReply nodes schedule event reply
 
 -- the reply is a refusal: the event did not take place

@@ -3,7 +3,7 @@ use Rattle.std.specs.Prelude.{◌≡◌, ℕ, zero, suc, ◌<◌, ◌⊎◌, Lis
 use Rattle.hlc_node.specs.declared.item.Item.{Item}
 use Rattle.hlc_node.specs.declared.item.Body.{Body}
 use Rattle.hlc_node.specs.declared.item.Message.{Message}
-use Rattle.hlc_node.specs.Node.{Node, issue_due, next_item, issued as issued_by}
+use Rattle.hlc_node.specs.Node.{Node, issue_due, next_item, after_issue}
 use Rattle.hlc_core.specs.Kept.{Kept, StandsFor as CoreStandsFor}
 use Rattle.hlc_core.specs.Calls.{new_refusal}
 use Rattle.hlc_world.specs.declared.event.Event.{Event}
@@ -55,7 +55,7 @@ abbrev pub Issues : KeptNode → KeptNode → Body → ℕ → Result (ℕ × �
 Issues old new body reading (Ok made) =
     (issue_due old.core body reading ≡ Ok made.0)
     × (made.1 ≡ old.core.next)
-    × (new ≡ record { core = issued_by old.core made.0; issued = old.issued ++ next_item old.core body made.0 ∷ [] })
+    × (new ≡ record { core = after_issue old.core made.0; issued = old.issued ++ next_item old.core body made.0 ∷ [] })
 Issues old new body reading (Err refusal) =
     ((issue_refusal (issue_due old.core body reading) ≡ Some refusal)
     ⊎ ((issue_refusal (issue_due old.core body reading) ≡ None) × (refusal ≡ NoMemory)))

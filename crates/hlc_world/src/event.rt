@@ -46,4 +46,6 @@ pub enum Event {
         id: u64,
         key: Bytes,
     },
+    /// The floor is asked for: the stamp that no later item falls below.
+    Floor,
 }

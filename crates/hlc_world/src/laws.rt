@@ -4,9 +4,21 @@ ghost use Rattle.hlc_world.specs.declared.event.Event.{Event as AnEvent};
 ghost use Rattle.hlc_world.specs.declared.reply.Reply.{Reply as AReply};
 ghost use Rattle.hlc_world.specs.Due.{IsLegal};
 ghost use Rattle.hlc_world.specs.Before.{HappenedBefore, IsStamped};
+ghost use Rattle.hlc_world.specs.Floor.{IsComplete, IsBelowClocks};
 
 /// In a schedule whose events were each given their due, as in each that a world stands for, if an
 /// event happened before another (Lamport 1978), its stamp is the lesser.
 pub fn stamps_follow_events()
     ensures { (nodes : ℕ) (schedule : List (AnEvent × AReply)) (first later : ℕ) (n a m b : ℕ) → IsLegal nodes schedule → HappenedBefore schedule first later → IsStamped schedule first n a → IsStamped schedule later m b → a < b }
+{}
+
+/// In such a schedule every issued item at or below the floor was accepted, so what is read there
+/// is final.
+pub fn the_floor_is_complete()
+    ensures { (nodes : ℕ) (schedule : List (AnEvent × AReply)) → IsLegal nodes schedule → IsComplete nodes schedule }
+{}
+
+/// In such a schedule no clock is below the floor.
+pub fn no_clock_is_below_the_floor()
+    ensures { (nodes : ℕ) (schedule : List (AnEvent × AReply)) → IsLegal nodes schedule → IsBelowClocks nodes schedule }
 {}

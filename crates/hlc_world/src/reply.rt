@@ -18,6 +18,8 @@ pub enum Reply {
     Snapshot { id: u64, stamp: Stamp },
     /// The value of the key, or none.
     Answer { value: Option<Bytes> },
+    /// The floor is at this stamp.
+    Floor { stamp: Stamp },
     /// The event did not take place.
     Refused(Refusal),
 }

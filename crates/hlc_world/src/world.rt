@@ -1,11 +1,12 @@
 //! The world and its events.
-ghost use Rattle.std.specs.Prelude.{◌≡◌, ◌<◌, ℕ, [], ◌∷◌, ◌++◌, List, MatchBool, MatchResult, IfOk, IfErr, OnErr, length};
+ghost use Rattle.std.specs.Prelude.{◌≡◌, ◌≢◌, ◌<◌, ℕ, [], ◌∷◌, ◌++◌, List, MatchBool, MatchResult, IfOk, IfErr, OnErr, length};
 ghost use Rattle.hlc_core.specs.Past.{Step, Took, item_refusal};
 ghost use Rattle.hlc_core.specs.Kept.{nodes, StandsFor as CoreStandsFor};
 ghost use Rattle.hlc_core.specs.Calls.{IsRefusal, IsWrite};
 ghost use Rattle.hlc_world.specs.Schedule.{after};
 ghost use Rattle.hlc_world.specs.Before.{HappenedBefore, IsStamped};
 ghost use Rattle.hlc_world.specs.Due.{IsGiven, IsRefused};
+ghost use Rattle.hlc_world.specs.Floor.{IsComplete, IsBelowClocks};
 ghost use Rattle.hlc_world.specs.State.{StandsFor, Makes, world_nodes, fresh};
 ghost use Rattle.hlc_world.specs.declared.event.Event.{Event as AnEvent};
 ghost use Rattle.hlc_world.specs.declared.reply.Reply.{Reply as AReply};
@@ -71,11 +72,15 @@ impl World {
     /// large; counter full. Send: no such node; reading too large; counter full. Receive: no such
     /// node; no such message; reading too large; counter full. Deliver: no such node; no such item;
     /// not the next number. OpenFloor: too many snapshots; numbers spent. Read: no such snapshot.
-    /// Last, of each but Receive, want of memory.
+    /// Last, where the event makes an item, a message or a snapshot, stores a row or gives a value,
+    /// want of memory.
     pub fn step(&mut self, event: Event) -> Reply
         ensures stands { (schedule : List (AnEvent × AReply)) → StandsFor self.old schedule → StandsFor self.new ((event, result) ∷ schedule) }
         ensures given { (schedule : List (AnEvent × AReply)) → StandsFor self.old schedule → IsGiven (world_nodes self.old) schedule event result }
         ensures ordered { (schedule : List (AnEvent × AReply)) (first later : ℕ) (n a m b : ℕ) → StandsFor self.old schedule → HappenedBefore ((event, result) ∷ schedule) first later → IsStamped ((event, result) ∷ schedule) first n a → IsStamped ((event, result) ∷ schedule) later m b → a < b }
+        ensures complete { (schedule : List (AnEvent × AReply)) → StandsFor self.old schedule → IsComplete (world_nodes self.old) ((event, result) ∷ schedule) }
+        ensures clocks { (schedule : List (AnEvent × AReply)) → StandsFor self.old schedule → IsBelowClocks (world_nodes self.old) ((event, result) ∷ schedule) }
+        ensures rising { (schedule : List (AnEvent × AReply)) (head : ℕ) → StandsFor self.old schedule → result ≢ Reply.Refused (Refusal.StampNotRising head) }
         ensures unchanged { IsRefused result → self.new ≡ self.old }
         ensures nodes { world_nodes self.new ≡ world_nodes self.old }
     {
@@ -123,6 +128,7 @@ impl World {
             Event::Deliver { node, number } => self.deliver(node, number),
             Event::OpenFloor => self.open_floor(),
             Event::Read { id, key } => self.read(id, key),
+            Event::Floor => self.floor(),
         }
     }
 
@@ -266,6 +272,15 @@ impl World {
                 },
                 Err(_) => Reply::Refused(Refusal::NoMemory),
             },
+        }
+    }
+
+    fn floor(&mut self) -> Reply
+        ensures stands { (schedule : List (AnEvent × AReply)) → StandsFor self.old schedule → StandsFor self.new ((AnEvent.Floor, result) ∷ schedule) }
+        ensures unchanged { self.new ≡ self.old }
+    {
+        Reply::Floor {
+            stamp: self.core.floor(),
         }
     }
 }

@@ -1,5 +1,5 @@
 //! The small callers of the libraries' own pages, each with what it may rely on.
-ghost use Rattle.std.specs.Prelude.{◌≡◌, ◌<◌, ◌∷◌, List, None, is_some, true, IfOk, IfSome, IsErr, IsOkAnd, MatchOption};
+ghost use Rattle.std.specs.Prelude.{◌≡◌, ◌<◌, ◌∷◌, List, None, ◌≤◌, ℕ, Contains, is_some, true, IfOk, IfSome, IsErr, IsOkAnd, MatchOption};
 ghost use Rattle.hlc_node.specs.Items.{body_refusal};
 ghost use Rattle.hlc_node.specs.Rows.{answer};
 ghost use Rattle.hlc_core.specs.Past.{Step, stamp_of, writes};
@@ -13,6 +13,8 @@ ghost use Rattle.hlc_script.specs.Line.{HasLine, event_line};
 use crate::tests::streams::{Spent, Taking};
 use hlc_clock::{Clock, ClockFault, Stamp};
 use hlc_core::{Body, Bytes, Core, NoSnapshot};
+use hlc_floor::Heads;
+use hlc_link::{Intake, LinkFault};
 use hlc_node::body_fault;
 use hlc_script::read_line;
 use hlc_text::number::number;
@@ -44,6 +46,21 @@ pub fn write_of(key: Bytes, value: Bytes) -> Option<Body>
         return None;
     }
     Some(body)
+}
+
+/// Hands an intake one item twice, as a link that repeats would: the second time it is refused.
+pub fn admit_twice(intake: &mut Intake, number: u64, stamp: Stamp) -> Result<(), LinkFault>
+    ensures { IsErr result }
+{
+    let _first = intake.admit(number, stamp);
+    intake.admit(number, stamp)
+}
+
+/// Whether every node has come so far that no item at or below this stamp is still to come.
+pub fn is_complete(heads: &Heads, stamp: Stamp) -> bool
+    ensures { result ≡ true → (head : ℕ) → Contains heads.now head → stamp ≤ head }
+{
+    stamp <= heads.floor()
 }
 
 /// Whether a key has a value in an open snapshot.
@@ -95,6 +112,14 @@ fn callers(rt: HostRuntime) -> Result<(), Fail> {
     let none = Bytes::from_vec(Vec::new(alloc));
     assert!(rt; write_of(none, key.clone()?).is_none());
     assert!(rt; write_of(key.clone()?, key).is_some());
+    let mut intake = Intake::new();
+    let first = Stamp::from_bits(1);
+    assert_eq!(rt;
+        admit_twice(&mut intake, 0, first),
+        Err(LinkFault::NotNext { next: 1 })
+    );
+    let heads = Heads::new(alloc, 2).ok().ok_or("heads")?;
+    assert!(rt; is_complete(&heads, Stamp::from_bits(0)) && !is_complete(&heads, first));
     let mut core = Core::new(alloc, 1).ok().ok_or("a core")?;
     assert_eq!(rt; has_value(&core, 1, b"a"), Err(NoSnapshot));
     assert!(rt; core.open_floor().is_ok());

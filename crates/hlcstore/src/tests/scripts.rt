@@ -6,7 +6,7 @@ use std::test::*;
 /// A script, what is written for it, and the status.
 type Case = (&'static [u8], &'static [u8], u8);
 
-const CASES: [Case; 18] = [
+const CASES: [Case; 20] = [
     (b"", b"refused 17\n", 2),
     (
         b"nodes 1\nwrite 0 5 a x\ndeliver 0 0\nopen floor\nread 1 a\n",
@@ -72,6 +72,17 @@ const CASES: [Case; 18] = [
         b"nodes 1\nwrite 0 1 a x\ndelete 0 2 a\nwrite 0 3 b %\ndeliver 0 0\nopen floor\ndeliver 0 1\nopen floor\ndeliver 0 2\nopen floor\nread 1 a\nread 2 a\nread 3 b\n",
         b"nodes 1\nstamp 1.0 item 0\nstamp 2.0 item 1\nstamp 3.0 item 2\naccepted 1.0\nsnapshot 1 at 1.0\naccepted 2.0\nsnapshot 2 at 2.0\naccepted 3.0\nsnapshot 3 at 3.0\nvalue x\nnone\nvalue %\n",
         0,
+    ),
+    // The floor is the least head: it waits for the node of which nothing came.
+    (
+        b"nodes 2\nwrite 0 5 a x\ndeliver 0 0\nfloor\nreport 1 6\ndeliver 1 0\nfloor\n",
+        b"nodes 2\nstamp 5.0 item 0\naccepted 5.0\nfloor 0.0\nstamp 6.0 item 0\naccepted 6.0\nfloor 5.0\n",
+        0,
+    ),
+    (
+        b"nodes 1\nfloor\nfloor 0\n",
+        b"nodes 1\nfloor 0.0\nrefused 16 line 3\n",
+        2,
     ),
     // A report lets the floor go on.
     (

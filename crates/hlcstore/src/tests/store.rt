@@ -1,6 +1,8 @@
 //! The store by itself, fed items that no world makes.
 use hlc_clock::Stamp;
-use hlc_core::{Body, BodyFault, Bytes, Core, CoreFault, Item, NoSnapshot};
+use hlc_core::{Body, BodyFault, Bytes, Core, CoreFault, Item, NoNode, NoSnapshot};
+use hlc_floor::{Heads, HeadsFault};
+use hlc_link::{Intake, LinkFault};
 use hlc_world::{Event, Reply};
 use std::alloc::{AllocError, Global};
 use std::test::*;
@@ -50,6 +52,33 @@ fn counts_of_nodes(rt: HostRuntime) {
     for (nodes, due) in cases {
         assert_eq!(rt; Core::new(rt.alloc(), nodes).err(), due, "{nodes}");
     }
+    assert_eq!(rt; Heads::new(rt.alloc(), 65).err(), Some(HeadsFault::NoNode));
+}
+
+#[test]
+fn an_intake_takes_the_next_item(rt: HostRuntime) {
+    let mut intake = Intake::new();
+    let head = Stamp::from_bits(327_680);
+    let later = Stamp::from_bits(327_681);
+    let cases = [
+        (1, head, Err(LinkFault::NotNext { next: 0 })),
+        (
+            0,
+            Stamp::from_bits(0),
+            Err(LinkFault::StampNotRising {
+                head: Stamp::from_bits(0),
+            }),
+        ),
+        (0, head, Ok(())),
+        (0, later, Err(LinkFault::NotNext { next: 1 })),
+        (2, later, Err(LinkFault::NotNext { next: 1 })),
+        (1, head, Err(LinkFault::StampNotRising { head })),
+        (1, later, Ok(())),
+    ];
+    for (number, stamp, due) in cases {
+        assert_eq!(rt; intake.admit(number, stamp), due, "{number} {stamp}");
+    }
+    assert_eq!(rt; (intake.next(), intake.head()), (2, later));
 }
 
 /// A core of one node whose link has come to number 1 and stamp 5.0.
@@ -100,7 +129,10 @@ fn a_refused_item_comes_back(rt: HostRuntime) -> Result<(), Fail> {
     assert_eq!(rt; core.floor(), head);
     let next = item(alloc, (0, 1, 327_681), b"a", Some(b"z"))?;
     assert_eq!(rt; core.check_item(&next), Ok(()));
+    assert_eq!(rt; core.count(0), Ok(1));
     assert!(rt; core.accept(next).is_ok());
+    assert_eq!(rt; core.count(0), Ok(2));
+    assert_eq!(rt; core.count(1), Err(NoNode));
     assert_eq!(rt; core.floor(), Stamp::from_bits(327_681));
     Ok(())
 }

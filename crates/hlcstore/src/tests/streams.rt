@@ -121,7 +121,7 @@ fn run<R: Read + Drop>(
 }
 
 /// Runs a script that is read and written without a failure.
-pub fn answer(alloc: Global, text: &[u8]) -> (u8, Vec<u8>) {
+pub(crate) fn answer(alloc: Global, text: &[u8]) -> (u8, Vec<u8>) {
     let reader = Giving {
         text,
         most: 4096,

@@ -23,7 +23,7 @@ const NO_HEADERS: [&[u8]; 13] = [
 ];
 
 /// Lines behind a header that are no event's.
-const BAD_LINES: [&[u8]; 43] = [
+const BAD_LINES: [&[u8]; 44] = [
     b"\n",
     b" \n",
     b"nodes 1\n",
@@ -65,12 +65,13 @@ const BAD_LINES: [&[u8]; 43] = [
     b"send 0 5 0\n",
     b"receive 0 5\n",
     b"receive 0 5 -1\n",
-    b"floor\n",
+    b"floor 0\n",
+    b"floors\n",
     b"# none\n",
 ];
 
 /// Lines that are an event's, and the replies to them.
-const GOOD_LINES: [(&[u8], &[u8]); 15] = [
+const GOOD_LINES: [(&[u8], &[u8]); 16] = [
     (b"write 0 0 a x\n", b"stamp 0.1 item 0\n"),
     (b"write 0 18446744073709551615 a x\n", b"refused 2\n"),
     (b"write 65535 5 a x\n", b"refused 1\n"),
@@ -86,6 +87,7 @@ const GOOD_LINES: [(&[u8], &[u8]); 15] = [
     (b"deliver 65535 0\n", b"refused 1\n"),
     (b"read 18446744073709551615 a\n", b"refused 10\n"),
     (b"open floor\n", b"snapshot 1 at 0.0\n"),
+    (b"floor\n", b"floor 0.0\n"),
 ];
 
 /// Words, and the stamps that they spell.

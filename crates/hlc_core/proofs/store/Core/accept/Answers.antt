@@ -1,28 +1,48 @@
-use Rattle.std.proofs.Common.{◌<◌, sym, inl, inr, refl, arith, length, Some, None}
-use Rattle.hlc_core.proofs.Standing.{fault-due, looked-inside, took}
+use Rattle.std.proofs.Common.{◌≡◌, ◌<◌, inl, inr, refl, arith, length}
+use Rattle.hlc_core.proofs.Standing.{admitted, admitted-due, fault-due, matched, head-of, heads-length, took}
 use Rattle.hlc_core.proofs.store.Core.accept.Goals as goal
-
-pub returns-in-Some-clause-stands : goal.returns-in-Some-clause-stands
-returns-in-Some-clause-stands c = λ past h.
-    let h' = rw (← c.self.view_is) at h in
-    let looked = rw c.as_slice.ensures.value at c.in-Some.ensures in
-    rw (← c.self.view_is) (inl (sym (fault-due _ past c.args.item (Some c.in-Some.fault) h' looked)))
 
 pub returns-in-Err-clause-stands : goal.returns-in-Err-clause-stands
 returns-in-Err-clause-stands c = λ past h.
     let h' = rw (← c.self.view_is) at h in
-    let looked = rw c.as_slice.ensures.value at c.in_default.ensures in
-    rw (← c.self.view_is) (inr (sym (fault-due _ past c.args.item None h' looked), refl, c.in-Err.ensures.err.1))
+    let looked = rw c.as_slice.ensures.value at c.in-Err.ensures in
+    rw (← c.self.view_is) (inl (fault-due _ past c.args.item c.in-Err.fault h' looked))
+
+pub returns-in-Err-store-clause-stands : goal.returns-in-Err-store-clause-stands
+returns-in-Err-store-clause-stands c = λ past h.
+    let h' = rw (← c.self.view_is) at h in
+    let looked = rw c.as_slice.ensures.value at c.in-Ok.ensures in
+    rw (← c.self.view_is) (inr (admitted-due _ past c.args.item c.in-Ok.intake h' looked, refl, c.in-Err-store.ensures.err.1))
 
 pub index_mut-requires : goal.index_mut-requires
 index_mut-requires c =
-    let looked = rw c.as_slice.ensures.value at c.in_default.ensures in
-    let within : c.args.item.node < length c.self.inside.links.items = looked-inside c.self.inside.links.items c.args.item looked in
-    omega (arith, c.self.inside.links.ok.0)
+    let looked = rw c.as_slice.ensures.value at c.in-Ok.ensures in
+    let within : c.args.item.node < length c.self.inside.intakes.items = (admitted _ c.args.item c.in-Ok.intake looked).within in
+    omega (arith, c.self.inside.intakes.ok.0)
+
+pub raise-requires-clause-node : goal.raise-requires-clause-node
+raise-requires-clause-node c =
+    let looked = rw c.as_slice.ensures.value at c.in-Ok.ensures in
+    let within : c.args.item.node < length c.self.inside.intakes.items = (admitted _ c.args.item c.in-Ok.intake looked).within in
+    let len : length c.self.inside.heads ≡ length c.self.inside.intakes.items = heads-length _ _ c.self.invariant in
+    omega arith
+
+pub raise-requires-clause-rising : goal.raise-requires-clause-rising
+raise-requires-clause-rising c =
+    let looked = rw c.as_slice.ensures.value at c.in-Ok.ensures in
+    let is = admitted _ c.args.item c.in-Ok.intake looked in
+    rw (head-of _ _ c.args.item.node c.self.invariant is.within) is.rising
+
+pub invariant_of-self-2 : goal.invariant_of-self-2
+invariant_of-self-2 c =
+    let looked = rw c.as_slice.ensures.value at c.in-Ok.ensures in
+    let is = admitted _ c.args.item c.in-Ok.intake looked in
+    rw (c.raise.ensures.raised, is.is) (matched _ _ c.args.item.node _ c.self.invariant)
 
 pub returns-clause-stands : goal.returns-clause-stands
 returns-clause-stands c = λ past h.
     let h' = rw (← c.self.view_is) at h in
-    let looked = rw c.as_slice.ensures.value at c.in_default.ensures in
-    let none = sym (fault-due _ past c.args.item None h' looked) in
-    rw (← c.self.view_is, c.in_default-store.ensures.ok) (none, took _ past c.args.item h' none)
+    let looked = rw c.as_slice.ensures.value at c.in-Ok.ensures in
+    let is = admitted _ c.args.item c.in-Ok.intake looked in
+    let none = admitted-due _ past c.args.item c.in-Ok.intake h' looked in
+    rw (← c.self.view_is, c.in_default.ensures.ok, is.is) (none, took _ past c.args.item h' none)

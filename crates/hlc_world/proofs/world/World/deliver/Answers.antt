@@ -2,7 +2,7 @@ use Rattle.std.proofs.Common.{◌∙◌, ◌<◌, sym, ap, length, arith, refl}
 use Rattle.std.proofs.lemmas.Option.{slice_get_read}
 use Rattle.hlc_world.specs.Schedule.{core_past}
 use Rattle.hlc_world.specs.declared.reply.Reply.TheVariants.{Refused}
-use Rattle.hlc_world.proofs.Delivery.{found, refused, no_memory, answered, reply_of}
+use Rattle.hlc_world.proofs.Delivery.{found, refused, is_write, no_memory, answered, reply_of}
 use Rattle.hlc_world.proofs.world.World.deliver.Goals as goal
 use Rattle.hlc_world.proofs.world.World.deliver.Goals.{in-Ok-accept, in-Err-accept}
 
@@ -20,7 +20,7 @@ returns-in_default-clone-clause-stands c = λ s h.
     let inside : c.args.node < length c.self.inside.nodes.items = omega (arith, c.self.inside.nodes.ok.0) in
     let at = found _ s c.args.node c.args.number c.index.result.now c.in-Some.item.now h' inside (slice_get_read c.self.inside.nodes.items (length c.self.inside.nodes.items) c.args.node c.index.result.now refl inside c.index.ensures) c.in-Some.ensures in
     rw (← c.self.view_is)
-    (no_memory _ s _ _ c.in-Some.item.now c.self.invariant h' at (c.in_default-check_item.ensures (core_past s) h'.core))
+    (no_memory _ s _ _ c.in-Some.item.now c.self.invariant h' at (c.in_default-check_item.ensures (core_past s) h'.core) (is_write _ c.in_default-clone.ensures.err))
 
 pub returns-clause-stands : goal.returns-clause-stands
 returns-clause-stands c = λ s h.

@@ -1,10 +1,11 @@
-//! The word of a core that it accepted an item.
+//! The word that an item was accepted.
 ghost use Rattle.std.specs.Prelude.{◌≡◌};
 
 use hlc_clock::Stamp;
 use std::marker::Model;
 
-/// An item of this node, with this stamp, was accepted. Only a core makes one.
+/// An item of this node, with this stamp, was accepted: it is the node's head, or was. Only
+/// `Heads::raise` makes one.
 #[derive(Clone, Copy, PartialEq, Eq, Debug)]
 pub struct Accepted {
     node: u16,
@@ -12,7 +13,7 @@ pub struct Accepted {
 }
 
 impl Model for Accepted {
-    ghost use Rattle.hlc_core.specs.Accepted.{Acceptance};
+    ghost use Rattle.hlc_floor.specs.Heads.{Acceptance};
 
     ghost Value = { Acceptance };
 

@@ -1,0 +1,9 @@
+//! The heads of all links, the floor that they make, and the word that an item was accepted.
+#![tactic(auto)]
+
+mod accepted;
+mod heads;
+
+pub use accepted::Accepted;
+pub use heads::{Heads, HeadsFault};
+pub use hlc_clock::Stamp;

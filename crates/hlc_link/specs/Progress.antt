@@ -1,0 +1,27 @@
+-- How far a link has come, and which item comes next.
+use Rattle.std.specs.Prelude.{◌≡◌, ◌≢◌, ℕ, ◌<◌, ◌≤◌, ◌+◌, Result, Ok, Err}
+use Rattle.hlc_link.specs.declared.intake.LinkFault.{LinkFault}
+use Rattle.hlc_link.specs.declared.intake.LinkFault.TheVariants.{NotNext, NumbersSpent, StampNotRising}
+
+-- how far a link has come: the number of its next item, and the stamp of the last admitted one, 0 where there is none
+pub record Progress : Type 0 where
+  pub next : ℕ
+  pub head : ℕ
+
+-- an item of this number and stamp is the link's next one: it bears the next number, one is left after it, and its stamp is above the last one
+pub record IsNextItem (link : Progress) (number stamp : ℕ) : Type 0 where
+  pub in_turn : number ≡ link.next
+  pub left : number < 18446744073709551615
+  pub rising : link.head < stamp
+
+-- the first reason why an item of this number and stamp is not the next one
+abbrev pub IsFirstReason : Progress → ℕ → ℕ → LinkFault → Type 0
+IsFirstReason link number stamp (NotNext next) = (next ≡ link.next) × (number ≢ link.next)
+IsFirstReason link number stamp NumbersSpent = (number ≡ link.next) × (number ≡ 18446744073709551615)
+IsFirstReason link number stamp (StampNotRising head) =
+    (head ≡ link.head) × (number ≡ link.next) × (number ≢ 18446744073709551615) × (stamp ≤ link.head)
+
+-- the next item is admitted, and the link has come to it; any other is refused for the first reason, and the link stays
+abbrev pub Admits : Progress → Progress → ℕ → ℕ → Result Unit LinkFault → Type 0
+Admits old new number stamp (Ok done) = IsNextItem old number stamp × (new ≡ record { next = number + 1; head = stamp })
+Admits old new number stamp (Err fault) = IsFirstReason old number stamp fault × (new ≡ old)

@@ -1,0 +1,83 @@
+//! The receiving end of a link, as far as order goes.
+ghost use Rattle.std.specs.Prelude.{◌≡◌};
+ghost use Rattle.hlc_link.specs.Progress.{Admits};
+
+use hlc_node::Stamp;
+use std::marker::Model;
+
+/// Why an item is not admitted.
+#[derive(Clone, Copy, PartialEq, Eq, Debug)]
+pub enum LinkFault {
+    /// The link number is not the next one.
+    NotNext { next: u64 },
+    /// The number is u64::MAX, which no item bears: none would be left after it.
+    NumbersSpent,
+    /// The stamp is not above that of the link's last admitted item.
+    StampNotRising { head: Stamp },
+}
+
+/// How far a node's link has come: the number of its next item, and the stamp of the last admitted
+/// one, which is the head. It knows the order alone, not what the items say.
+#[derive(Clone, Copy, PartialEq, Eq, Debug)]
+pub struct Intake {
+    next: u64,
+    head: Stamp,
+}
+
+impl Model for Intake {
+    ghost use Rattle.hlc_link.specs.Progress.{Progress};
+
+    ghost Value = { Progress };
+
+    ghost view = { λ intake. record { next = intake.next; head = intake.head } };
+
+    ghost inverse = { λ progress. record { next = progress.next; head = progress.head } };
+}
+
+impl Intake {
+    /// The intake of a link on which nothing came: its first item has number 0, and its head is
+    /// 0.0, the stamp of no item.
+    pub fn new() -> Intake
+        ensures { result ≡ record { next = 0; head = 0 } }
+    {
+        Intake {
+            next: 0,
+            head: Stamp::from_bits(0),
+        }
+    }
+
+    /// The number of the next item, which is also how many were admitted.
+    pub fn next(&self) -> u64
+        ensures { result ≡ self.now.next }
+    {
+        self.next
+    }
+
+    /// The stamp of the last admitted item, 0.0 where there is none.
+    pub fn head(&self) -> Stamp
+        ensures { result ≡ self.now.head }
+    {
+        self.head
+    }
+
+    /// Admits the item of this number and stamp, if it is the link's next one.
+    ///
+    /// Refused, in this order: not the next number; no number left after it; a stamp not above the
+    /// head. A refusal leaves the intake unchanged, and takes no memory, as no call here does.
+    pub fn admit(&mut self, number: u64, stamp: Stamp) -> Result<(), LinkFault>
+        ensures { Admits self.old self.new number stamp result }
+    {
+        if number != self.next {
+            return Err(LinkFault::NotNext { next: self.next });
+        }
+        if number == u64::MAX {
+            return Err(LinkFault::NumbersSpent);
+        }
+        if stamp <= self.head {
+            return Err(LinkFault::StampNotRising { head: self.head });
+        }
+        self.next = number + 1;
+        self.head = stamp;
+        Ok(())
+    }
+}

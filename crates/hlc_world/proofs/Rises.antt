@@ -1,0 +1,95 @@
+-- No world answers that a stamp does not rise: no due refusal says it, since a delivery is of an issued item, and is refused for its
+-- number alone.
+use Rattle.std.proofs.Common.{◌≡◌, ℕ, List, [], ◌∷◌, length, Some, None, Option, Ok, Err, Result, ap, sym, ◌∙◌, subst, inl, inr}
+use Rattle.std.specs.Prelude.{nat_le}
+use Rattle.std.proofs.lemmas.Bool.{cond-true, cond-false, eq-eqb, ne_eqb, cases_eq, cases_Bool}
+use Rattle.hlc_clock.specs.NextStamp.{stamp_due}
+use Rattle.hlc_clock.specs.declared.clock.ClockFault.{ClockFault}
+use Rattle.hlc_clock.specs.declared.clock.ClockFault.TheVariants as clock_fault
+use Rattle.hlc_node.specs.declared.item.Item.{Item}
+use Rattle.hlc_node.specs.declared.item.Body.TheVariants.{Write as a_write, Report as a_report}
+use Rattle.hlc_node.specs.declared.item.BodyFault.TheVariants as body_fault
+use Rattle.hlc_node.specs.declared.item.Message.{Message}
+use Rattle.hlc_node.specs.declared.node.NodeFault.{NodeFault}
+use Rattle.hlc_node.specs.declared.node.NodeFault.TheVariants as node_fault
+use Rattle.hlc_node.specs.Node.{issue_due}
+use Rattle.hlc_core.specs.Past.{Step, count, opened, stamp_of, open_snapshots, room_refusal}
+use Rattle.hlc_world.specs.declared.event.Event.{Event}
+use Rattle.hlc_world.specs.declared.event.Event.TheVariants.{Write, Delete, Report, Send, Receive, Deliver, OpenFloor, Read, Floor}
+use Rattle.hlc_world.specs.declared.reply.Reply.{Reply}
+use Rattle.hlc_world.specs.declared.reply.Reply.TheVariants.{Refused}
+use Rattle.hlc_world.specs.declared.refusal.Refusal.{Refusal}
+use Rattle.hlc_world.specs.declared.refusal.Refusal.TheVariants.{NoNode, NotNext, StampNotRising, TooManySnapshots, NumbersSpent, NoMemory}
+use Rattle.hlc_world.specs.Schedule.{item_at, last_stamp, message_at, node_of, core_past}
+use Rattle.hlc_world.specs.Due.{issue_refusal, stamp_refusal, receive_refusal, core_refusal, on_node, deliver_refusal, snapshot_refusal, refusal_due, IsGiven, IsLegal}
+
+-- the refusal is not that a stamp does not rise
+abbrev IsRise : Option Refusal → Type 0
+IsRise refusal = (head : ℕ) → refusal ≡ Some (StampNotRising head) → ⊥
+
+stamp-rise : (r : Result ℕ ClockFault) → IsRise (stamp_refusal r)
+stamp-rise (Ok st) head e = absurd (cc)
+stamp-rise (Err clock_fault.ReadingTooLarge) head e = absurd (cc)
+stamp-rise (Err (clock_fault.CounterFull at)) head e = absurd (cc)
+
+issue-rise : (r : Result ℕ NodeFault) → IsRise (issue_refusal r)
+issue-rise (Ok st) head e = absurd (cc)
+issue-rise (Err (node_fault.BadBody body_fault.BadKey)) head e = absurd (cc)
+issue-rise (Err (node_fault.BadBody body_fault.ValueTooLong)) head e = absurd (cc)
+issue-rise (Err node_fault.NumbersSpent) head e = absurd (cc)
+issue-rise (Err (node_fault.NoStamp fault)) head e = stamp-rise (Err fault) head e
+
+receive-rise : (o : Option Message) (last reading : ℕ) → IsRise (receive_refusal o last reading)
+receive-rise None last reading head e = absurd (cc)
+receive-rise (Some message) last reading head e = stamp-rise (stamp_due (last ∷ message.stamp ∷ []) reading) head e
+
+deliver-rise : (o : Option Item) (number next : ℕ) → IsRise (deliver_refusal o number next)
+deliver-rise None number next head e = absurd (cc)
+deliver-rise (Some item) number next head e =
+    elim (cases_eq number next) [
+      | inl same ↦ absurd (let g : None ≡ Some (StampNotRising head) = sym (cond-true _ _ _ (eq-eqb _ _ same)) ∙ e in cc)
+      | inr other ↦ absurd (let g : Some (NotNext next) ≡ Some (StampNotRising head) = sym (cond-false _ _ _ (ne_eqb _ _ other)) ∙ e in cc)
+    ]
+
+room-rise : (past : List Step) → IsRise (core_refusal (room_refusal past))
+room-rise past head e =
+    elim (cases_Bool (nat_le 1024 (length (open_snapshots past)))) [
+      | inl full ↦ absurd (let g : Some TooManySnapshots ≡ Some (StampNotRising head) = ap core_refusal (sym (cond-true _ _ _ full)) ∙ e in cc)
+      | inr room ↦
+          let e1 = ap core_refusal (sym (cond-false _ _ _ room)) ∙ e in
+          elim (cases_Bool (nat_le 18446744073709551614 (opened past))) [
+            | inl spent ↦ absurd (let g : Some NumbersSpent ≡ Some (StampNotRising head) = ap core_refusal (sym (cond-true _ _ _ spent)) ∙ e1 in cc)
+            | inr left ↦ absurd (let g : None ≡ Some (StampNotRising head) = ap core_refusal (sym (cond-false _ _ _ left)) ∙ e1 in cc)
+          ]
+    ]
+
+snapshot-rise : (o : Option ℕ) → IsRise (snapshot_refusal o)
+snapshot-rise None head e = absurd (cc)
+snapshot-rise (Some stamp) head e = absurd (cc)
+
+inside-rise : (nodes p : ℕ) (rest : Option Refusal) → IsRise rest → IsRise (on_node nodes p rest)
+inside-rise nodes p rest h head e =
+    elim (cases_Bool (nat_le nodes p)) [
+      | inl outside ↦ absurd (let g : Some NoNode ≡ Some (StampNotRising head) = sym (cond-true _ _ _ outside) ∙ e in cc)
+      | inr inside ↦ h head (sym (cond-false _ _ _ inside) ∙ e)
+    ]
+
+due-rise : (nodes : ℕ) (s : List (Event × Reply)) (event : Event) → IsRise (refusal_due nodes s event)
+due-rise nodes s (Write p reading key value) = inside-rise nodes p _ (issue-rise (issue_due (node_of p s) (a_write key (Some value)) reading))
+due-rise nodes s (Delete p reading key) = inside-rise nodes p _ (issue-rise (issue_due (node_of p s) (a_write key None) reading))
+due-rise nodes s (Report p reading) = inside-rise nodes p _ (issue-rise (issue_due (node_of p s) a_report reading))
+due-rise nodes s (Send p reading) = inside-rise nodes p _ (stamp-rise (stamp_due (last_stamp p s ∷ []) reading))
+due-rise nodes s (Receive p reading k) = inside-rise nodes p _ (receive-rise (message_at k s) (last_stamp p s) reading)
+due-rise nodes s (Deliver p k) = inside-rise nodes p _ (deliver-rise (item_at p k s) k (count p (core_past s)))
+due-rise nodes s OpenFloor = room-rise (core_past s)
+due-rise nodes s (Read id key) = snapshot-rise (stamp_of id (core_past s))
+due-rise nodes s Floor = λ head e. absurd (cc)
+
+-- so no world answers that a stamp does not rise
+pub rising : (nodes : ℕ) (s : List (Event × Reply)) (event : Event) (head : ℕ) (reply : Reply) → IsLegal nodes ((event, reply) ∷ s) → reply ≡ Refused (StampNotRising head) → ⊥
+rising nodes s event head reply legal is =
+    let given' : IsGiven nodes s event (Refused (StampNotRising head)) = subst (λ r. IsGiven nodes s event r) is legal.0 in
+    elim given' [
+      | inl due ↦ due-rise nodes s event head due
+      | inr lost ↦ (let g : StampNotRising head ≡ NoMemory = lost.1 in absurd (cc))
+    ]

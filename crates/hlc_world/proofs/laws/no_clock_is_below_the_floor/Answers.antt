@@ -1,0 +1,5 @@
+use Rattle.hlc_world.proofs.Floors.{below_clocks}
+use Rattle.hlc_world.proofs.laws.no_clock_is_below_the_floor.Goals as goal
+
+pub returns : goal.returns
+returns c = below_clocks

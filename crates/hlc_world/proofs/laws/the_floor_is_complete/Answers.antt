@@ -1,0 +1,5 @@
+use Rattle.hlc_world.proofs.Floors.{complete}
+use Rattle.hlc_world.proofs.laws.the_floor_is_complete.Goals as goal
+
+pub returns : goal.returns
+returns c = complete
