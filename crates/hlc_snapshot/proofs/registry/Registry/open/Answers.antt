@@ -1,0 +1,8 @@
+use Rattle.std.proofs.Common.{◌∙◌}
+use Rattle.std.proofs.lemmas.Bool.{cond-true}
+use Rattle.hlc_snapshot.proofs.Registers.{opened-map}
+use Rattle.hlc_snapshot.proofs.registry.Registry.open.Goals as goal
+
+pub returns-clause-map : goal.returns-clause-map
+returns-clause-map c = λ other.
+    rw (← c.self.view_is, c.push.ensures.items ∙ cond-true _ _ _ c.if-is_err.ensures.negation) (opened-map _ c.args.stamp other c.self.invariant)
