@@ -114,7 +114,7 @@ closed-is_register register id h = record {
       All-filter (λ snapshot. not (snapshot.id == id)) (λ snapshot. (0 < snapshot.id) × (snapshot.id ≤ register.opened)) register.snapshots h.given;
   few =
       (let both = length-filter_both (λ snapshot. not (snapshot.id == id)) (λ snapshot. not (not (snapshot.id == id))) (λ _. refl) register.snapshots in omega (arith, both, h.few));
-  left = h.left;
+  in_range = h.in_range;
 }
 
 opened-rises : {older newer : Register} → Follows older newer → older.opened ≤ newer.opened

@@ -45,12 +45,13 @@ opened_at register stamp = record {
 abbrev pub closed : ℕ → Register → Register
 closed id register = record { snapshots = without id register.snapshots; opened = register.opened }
 
--- each open snapshot has an id of its own among those given so far, the older the lower; there is room for all
+-- the ids of the open snapshots rise, from the oldest to the newest, and lie from 1 to the number of those ever opened; no more than
+-- 1,024 are open, and no more were ever opened than there are ids
 pub record IsRegister (register : Register) : Type 0 where
   pub rising : AllPairs (λ older newer. older.id < newer.id) register.snapshots
   pub given : All (λ snapshot. (0 < snapshot.id) × (snapshot.id ≤ register.opened)) register.snapshots
   pub few : length register.snapshots ≤ 1024
-  pub left : register.opened ≤ 18446744073709551614
+  pub in_range : register.opened ≤ 18446744073709551614
 
 -- the newer register was reached from the older one by opening and closing snapshots
 pub data Follows : Register → Register → Type 0 where

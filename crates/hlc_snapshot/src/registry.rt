@@ -1,5 +1,5 @@
 //! The registry of open snapshots.
-ghost use Rattle.std.specs.Prelude.{◌≡◌, ◌≢◌, ℕ, ◌+◌, ◌<◌, ◌≤◌, ◌==◌, [], ◌∷◌, ◌++◌, length, All, IfOk, IfErr, OnErr, if◌then◌else◌};
+ghost use Rattle.std.specs.Prelude.{◌≡◌, ℕ, ◌+◌, ◌<◌, ◌≤◌, ◌==◌, [], ◌∷◌, ◌++◌, length, All, IfOk, IfErr, OnErr, if◌then◌else◌};
 ghost use Rattle.hlc_snapshot.specs.Register.{IsRegister, IsRefusal, closed, opened_at, room_refusal, stamp_in, stamps};
 ghost use Rattle.hlc_snapshot.specs.Points.{ArePoints};
 
@@ -49,8 +49,10 @@ impl Registry {
         ensures ok { IfOk result (λ id. (room_refusal (length self.old.snapshots) self.old.opened ≡ None) × (id ≡ self.old.opened + 1) × (self.new ≡ opened_at self.old stamp)) }
         ensures err { IfErr result (λ fault. IsRefusal (room_refusal (length self.old.snapshots) self.old.opened) fault × (self.new ≡ self.old)) }
 
-        // As a map: the id is new, above all others, and now has the stamp; nothing else changes.
-        ensures fresh { IfOk result (λ id. All (λ snapshot. snapshot.id < id) self.old.snapshots) }
+        // As a map: the id had no stamp and is above all others; now it has this one, and nothing
+        // else changes.
+        ensures fresh { IfOk result (λ id. stamp_in id self.old.snapshots ≡ None) }
+        ensures above { IfOk result (λ id. All (λ snapshot. snapshot.id < id) self.old.snapshots) }
         ensures map { IfOk result (λ id. (other : ℕ) → stamp_in other self.new.snapshots ≡ (if other == id then Some stamp else stamp_in other self.old.snapshots)) }
         ensures register { IsRegister self.new }
     {
@@ -67,7 +69,8 @@ impl Registry {
 
     /// The stamp of the open snapshot that has this id.
     pub fn stamp_of(&self, id: u64) -> Option<Stamp>
-        ensures { result ≡ stamp_in id self.now.snapshots }
+        ensures value { result ≡ stamp_in id self.now.snapshots }
+        ensures register { IsRegister self.now }
     {
         self.snapshots
             .iter()

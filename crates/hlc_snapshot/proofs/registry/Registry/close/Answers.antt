@@ -13,7 +13,7 @@ pub invariant_of-self : goal.invariant_of-self
 invariant_of-self c = rw (kept c) (closed-is_register _ c.args.id c.self.invariant)
 
 pub returns-clause-ok : goal.returns-clause-ok
-returns-clause-ok c = (sym c.stamp_of.ensures ∙ c.in-Some.is, rw (← c.self.view_is, kept c) refl)
+returns-clause-ok c = (sym c.stamp_of.ensures.value ∙ c.in-Some.is, rw (← c.self.view_is, kept c) refl)
 
 pub returns-clause-map : goal.returns-clause-map
 returns-clause-map c = λ other. rw (← c.self.view_is, kept c) (closed-map (record { snapshots = c.self.inside.snapshots.items; opened = c.self.inside.opened }) c.args.id other)
