@@ -24,8 +24,8 @@ pub fn registers_stay_registers()
     ensures closing { (register : Register) (id : ℕ) → IsRegister register → IsRegister (closed id register) }
 {}
 
-/// An id that was given before, and is open later, was open all the while with the same stamp: a
-/// closed one never comes again.
+/// An id that was given by an earlier time, and is open at a later one, was open at the earlier one
+/// with the same stamp: a closed one never comes again.
 pub fn ids_are_never_used_again()
     ensures { (older newer : Register) (id stamp : ℕ) → Follows older newer → id ≤ older.opened → stamp_in id newer.snapshots ≡ Some stamp → stamp_in id older.snapshots ≡ Some stamp }
 {}
