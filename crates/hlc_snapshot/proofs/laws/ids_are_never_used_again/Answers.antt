@@ -1,0 +1,5 @@
+use Rattle.hlc_snapshot.proofs.Registers.{open_before}
+use Rattle.hlc_snapshot.proofs.laws.ids_are_never_used_again.Goals as goal
+
+pub returns : goal.returns
+returns c = λ older newer. open_before {older = older} {newer = newer}

@@ -1,0 +1,16 @@
+//! The open snapshots of a table, and the points of a vacuum.
+#![tactic(auto)]
+
+mod fault;
+mod laws;
+mod registry;
+mod snapshot;
+
+pub use fault::{NoMemory, NoSnapshot, SnapshotFault};
+pub use hlc_clock::Stamp;
+pub use laws::{
+    closing_takes_out_one_snapshot, ids_are_never_used_again, opening_adds_one_snapshot,
+    points_are_unique, registers_stay_registers,
+};
+pub use registry::Registry;
+pub use snapshot::Snapshot;

@@ -1,0 +1,138 @@
+//! The registry of open snapshots.
+ghost use Rattle.std.specs.Prelude.{◌≡◌, ℕ, ◌+◌, ◌<◌, ◌≤◌, ◌==◌, [], ◌∷◌, ◌++◌, length, All, IfOk, IfErr, OnErr, if◌then◌else◌};
+ghost use Rattle.hlc_snapshot.specs.Register.{IsRegister, IsRefusal, closed, opened_at, room_refusal, stamp_in, stamps};
+ghost use Rattle.hlc_snapshot.specs.Points.{ArePoints};
+
+use crate::fault::{NoMemory, NoSnapshot, SnapshotFault};
+use crate::snapshot::Snapshot;
+use hlc_clock::Stamp;
+use std::alloc::{AllocError, Global};
+use std::marker::Model;
+
+/// The most snapshots that may be open at once.
+const LIMIT: usize = 1024;
+
+/// The open snapshots of a table. Contracts see them in the order in which they were opened, and
+/// how many were ever opened.
+#[derive(Drop)]
+pub struct Registry {
+    snapshots: Vec<Snapshot>,
+    opened: u64,
+}
+
+impl Model for Registry {
+    ghost use Rattle.hlc_snapshot.specs.Register.{Register, IsRegister};
+
+    ghost Value = { Register };
+
+    ghost view = { λ registry. record { snapshots = registry.snapshots.items; opened = registry.opened } };
+
+    ghost invariant = { λ registry. IsRegister (record { snapshots = registry.snapshots.items; opened = registry.opened }) };
+}
+
+impl Registry {
+    /// A registry in which no snapshot was ever opened.
+    pub fn new(alloc: Global) -> Registry
+        ensures { result ≡ record { snapshots = []; opened = 0 } }
+    {
+        Registry {
+            snapshots: Vec::new(alloc),
+            opened: 0,
+        }
+    }
+
+    /// Opens a snapshot at a stamp, and gives its id. Ids are 1, 2, 3 and so on, and are never used
+    /// again.
+    ///
+    /// Refused, in this order: 1,024 snapshots are open; no id is left; want of memory.
+    pub fn open(&mut self, stamp: Stamp) -> Result<u64, SnapshotFault>
+        ensures ok { IfOk result (λ id. (room_refusal (length self.old.snapshots) self.old.opened ≡ None) × (id ≡ self.old.opened + 1) × (self.new ≡ opened_at self.old stamp)) }
+        ensures err { IfErr result (λ fault. IsRefusal (room_refusal (length self.old.snapshots) self.old.opened) fault × (self.new ≡ self.old)) }
+
+        // As a map: the id had no stamp and is above all others; now it has this one, and nothing
+        // else changes.
+        ensures fresh { IfOk result (λ id. stamp_in id self.old.snapshots ≡ None) }
+        ensures above { IfOk result (λ id. All (λ snapshot. snapshot.id < id) self.old.snapshots) }
+        ensures map { IfOk result (λ id. (other : ℕ) → stamp_in other self.new.snapshots ≡ (if other == id then Some stamp else stamp_in other self.old.snapshots)) }
+        ensures register { IsRegister self.new }
+    {
+        if let Some(fault) = room_fault(self.snapshots.len(), self.opened) {
+            return Err(fault);
+        }
+        let id = self.opened + 1;
+        if self.snapshots.push(Snapshot { id, stamp }).is_err() {
+            return Err(SnapshotFault::NoMemory);
+        }
+        self.opened = id;
+        Ok(id)
+    }
+
+    /// The stamp of the open snapshot that has this id.
+    pub fn stamp_of(&self, id: u64) -> Option<Stamp>
+        ensures value { result ≡ stamp_in id self.now.snapshots }
+        ensures register { IsRegister self.now }
+    {
+        self.snapshots
+            .iter()
+            .find(|snapshot| snapshot.id == id)
+            .map(|snapshot| snapshot.stamp)
+    }
+
+    /// Closes the snapshot that has this id, and gives its stamp. Takes no memory.
+    pub fn close(&mut self, id: u64) -> Result<Stamp, NoSnapshot>
+        ensures ok { IfOk result (λ stamp. (stamp_in id self.old.snapshots ≡ Some stamp) × (self.new ≡ closed id self.old)) }
+        ensures err { OnErr result ((stamp_in id self.old.snapshots ≡ None) × (self.new ≡ self.old)) }
+
+        // As a map: the id has no stamp any more; nothing else changes.
+        ensures map { (other : ℕ) → stamp_in other self.new.snapshots ≡ (if other == id then None else stamp_in other self.old.snapshots) }
+        ensures register { IsRegister self.new }
+    {
+        let Some(stamp) = self.stamp_of(id) else {
+            return Err(NoSnapshot);
+        };
+        self.snapshots.retain(|snapshot| snapshot.id != id);
+        Ok(stamp)
+    }
+
+    /// The points of a vacuum at this floor: the distinct stamps of the open snapshots and the
+    /// floor, ascending, the floor last.
+    pub fn points(&self, floor: Stamp) -> Result<Vec<Stamp>, NoMemory>
+        requires { All (λ snapshot. snapshot.stamp ≤ floor) self.now.snapshots }
+        ensures { IfOk result (λ points. ArePoints (stamps self.now.snapshots) floor points.items) }
+    {
+        let Ok(mut points) = self.stamps_and(floor) else {
+            return Err(NoMemory);
+        };
+        points.sort_unstable();
+        points.dedup();
+        Ok(points)
+    }
+
+    /// The stamps of the open snapshots, and one more.
+    fn stamps_and(&self, floor: Stamp) -> Result<Vec<Stamp>, AllocError>
+        ensures { IfOk result (λ points. points.items ≡ stamps self.now.snapshots ++ floor ∷ []) }
+    {
+        let alloc = *self.snapshots.allocator();
+        let mut stamps: Vec<Stamp> = self
+            .snapshots
+            .iter()
+            .map(|snapshot| snapshot.stamp)
+            .collect(alloc)?;
+        stamps.push(floor)?;
+        Ok(stamps)
+    }
+}
+
+/// The first reason that there is no room for one more, where so many are open and so many were
+/// ever opened.
+fn room_fault(open_now: usize, opened: u64) -> Option<SnapshotFault>
+    ensures { result ≡ room_refusal open_now opened }
+{
+    if open_now >= LIMIT {
+        return Some(SnapshotFault::TooManySnapshots);
+    }
+    if opened >= u64::MAX - 1 {
+        return Some(SnapshotFault::NumbersSpent);
+    }
+    None
+}
