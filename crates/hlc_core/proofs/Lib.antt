@@ -1,3 +1,4 @@
 pub mod Steps
-pub mod Pasts
+pub mod Keys
+pub mod Listed
 pub mod Standing

@@ -1,7 +1,7 @@
 -- A core goes on standing for what took place: each part that is kept follows the step as its definition does.
 use Rattle.std.proofs.Common.{◌≡◌, ℕ, zero, suc, ◌+◌, ◌<◌, ◌≤◌, List, [], ◌∷◌, ◌++◌, length, map, get_or, Some, None, Option, Ok, Err, Result, refl, ap, sym, ◌∙◌, subst, inl, inr, arith, length-set, get_or-set_other, replicate}
 use Rattle.std.proofs.lemmas.Grind.{get_or-set_at, get_or_default_zero}
-use Rattle.std.specs.Prelude.{◌==◌, slice_get, slice_set, MatchOption, MatchResult}
+use Rattle.std.specs.Prelude.{⊤, ◌==◌, slice_get, slice_set, MatchOption, MatchResult}
 use Rattle.std.proofs.lemmas.Option.{slice_get-get_or, slice_get_past}
 use Rattle.std.proofs.lemmas.Bool.{cond-true, cond-false, eq-eqb, ne_eqb, le-leb, le-ltb, or_from, cases_lt, cases_eq}
 use Rattle.std.proofs.lemmas.List.{get_or-map, length-map, map-set}
@@ -11,10 +11,12 @@ use Rattle.hlc_link.specs.Progress.{Progress}
 use Rattle.hlc_floor.specs.Heads.{IsFloor}
 use Rattle.hlc_core.specs.declared.fault.CoreFault.{CoreFault}
 use Rattle.hlc_core.specs.declared.fault.CoreFault.TheVariants.{NoNode}
-use Rattle.hlc_core.specs.Past.{Step, Took, Opened, count, head, floor, item_rows, open_snapshots, link_refusal, item_refusal, room_at, room_refusal, IsLegal}
+use Rattle.hlc_core.specs.Past.{Step, Took, Opened, Closed, count, head, floor, item_rows, open_snapshots, link_refusal, item_refusal, of_registry, of_room, room_refusal, open_refusal, stamp_of, IsLegal}
 use Rattle.hlc_core.specs.Kept.{Kept, nodes, IsMatched, StandsFor}
-use Rattle.hlc_core.specs.Calls.{new_refusal}
-use Rattle.hlc_core.proofs.Pasts.{admissible, on_link, inside, least-some, least-le}
+use Rattle.hlc_snapshot.specs.declared.fault.SnapshotFault.{SnapshotFault}
+use Rattle.hlc_snapshot.specs.Register.{stamp_in, without, room_refusal as room_in, IsRefusal as IsRoomRefusal}
+use Rattle.hlc_core.specs.Calls.{new_refusal, IsRefusal}
+use Rattle.hlc_core.specs.PastLaws.{admissible, on_link, inside, least-some, least-le}
 
 abbrev a_link : ℕ → ℕ → Progress
 a_link next head = record { next = next; head = head }
@@ -161,8 +163,13 @@ floor-from kept past heads low matched h is =
     omega arith
 
 -- the room that is left is that of the past
-pub room-due : (kept : Kept) (past : List Step) (many : ℕ) → StandsFor kept past → many ≡ length kept.snapshots → room_at many kept.opened ≡ room_refusal past
-room-due kept past many h len = rw (len, h.snapshots, h.opened) refl
+pub room-due : (kept : Kept) (past : List Step) → StandsFor kept past → of_room (room_in (length kept.snapshots) kept.opened) ≡ room_refusal past
+room-due kept past h = rw (h.snapshots, h.opened) refl
+
+-- a registry's refusal is that of the past, which comes last
+pub room-fault : (kept : Kept) (past : List Step) (fault : SnapshotFault) → StandsFor kept past → IsRoomRefusal (room_in (length kept.snapshots) kept.opened) fault → IsRefusal (room_refusal past) ⊤ (of_registry fault)
+room-fault kept past fault h (inl due) = inl (sym (room-due kept past h) ∙ ap of_room due)
+room-fault kept past fault h (inr lost) = inr (sym (room-due kept past h) ∙ ap of_room lost.0, ap of_registry lost.1, tt)
 
 abbrev pub with_snapshot : Kept → ℕ → Kept
 with_snapshot kept stamp = record {
@@ -173,15 +180,32 @@ with_snapshot kept stamp = record {
 }
 
 -- a snapshot that nothing refuses is opened
-pub opens : (kept : Kept) (past : List Step) (stamp : ℕ) → StandsFor kept past → room_refusal past ≡ None → stamp ≡ floor (nodes kept) past → StandsFor (with_snapshot kept stamp) (Opened stamp ∷ past)
-opens kept past stamp h none at =
+pub opens : (kept : Kept) (past : List Step) (stamp : ℕ) → StandsFor kept past → open_refusal (nodes kept) past stamp ≡ None → StandsFor (with_snapshot kept stamp) (Opened stamp ∷ past)
+opens kept past stamp h none =
     record {
-      legal = (none, at, h.legal);
+      legal = (none, h.legal);
       links = h.links;
       snapshots = ap (λ xs. xs ++ record { id = kept.opened + 1; stamp = stamp } ∷ []) h.snapshots ∙ ap (λ n. open_snapshots past ++ record { id = n + 1; stamp = stamp } ∷ []) h.opened;
       opened = ap (λ n. n + 1) h.opened;
       rows = h.rows;
     }
+
+abbrev pub less_snapshot : Kept → ℕ → Kept
+less_snapshot kept id = record { links = kept.links; snapshots = without id kept.snapshots; opened = kept.opened; rows = kept.rows }
+
+-- an open one is closed
+pub closes : (kept : Kept) (past : List Step) (id stamp : ℕ) → StandsFor kept past → stamp_in id kept.snapshots ≡ Some stamp → (stamp_of id past ≡ Some stamp) × StandsFor (less_snapshot kept id) (Closed id ∷ past)
+closes kept past id stamp h there =
+    let is : stamp_of id past ≡ Some stamp = ap (stamp_in id) (sym h.snapshots) ∙ there in (
+      is,
+      record {
+        legal = ((λ none. (let e : Some stamp ≡ None = sym is ∙ none in absurd (cc))), h.legal);
+        links = h.links;
+        snapshots = ap (without id) h.snapshots;
+        opened = h.opened;
+        rows = h.rows;
+      },
+    )
 
 abbrev pub new_core : ℕ → Kept
 new_core many = record { links = replicate many (a_link 0 0); snapshots = []; opened = 0; rows = [] }

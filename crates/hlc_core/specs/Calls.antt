@@ -1,13 +1,20 @@
 -- What each call of a core does, for one past that the core stood for.
-use Rattle.std.specs.Prelude.{◌≡◌, ℕ, ◌<◌, ◌≤◌, ◌+◌, ◌⊎◌, List, [], ◌∷◌, ◌==◌, ◌||◌, nat_lt, Option, Some, None, if◌then◌else◌, Result, Ok, Err, MatchResult, ⊤}
+use Rattle.std.specs.Prelude.{map, Contains, ◌↔◌, ◌≡◌, ℕ, ◌<◌, ◌≤◌, ◌+◌, ◌⊎◌, List, [], ◌∷◌, ◌==◌, ◌||◌, nat_lt, Option, Some, None, if◌then◌else◌, Result, Ok, Err, MatchResult, ⊤}
+use Rattle.std.specs.List.Sorted.{IsStrictlySortedBy}
+use Rattle.std.specs.Cmp.Lexicographic.{slice_cmp}
+use Rattle.std.specs.Ordering.{nat_cmp}
+use Rattle.hlc_node.specs.Rows.{answer}
+use Rattle.hlc_node.specs.declared.row.Row.{Row}
 use Rattle.hlc_node.specs.declared.item.Item.{Item}
 use Rattle.hlc_node.specs.declared.item.Body.{Body}
 use Rattle.hlc_node.specs.declared.item.Body.TheVariants.{Write, Report}
 use Rattle.hlc_core.specs.declared.fault.CoreFault.{CoreFault}
-use Rattle.hlc_core.specs.declared.fault.CoreFault.TheVariants.{NoMemory, NoNode}
+use Rattle.hlc_core.specs.declared.fault.CoreFault.TheVariants.{NoMemory, NoNode, NoSnapshot}
 use Rattle.hlc_core.specs.declared.fault.NoNode.{NoNode as NoSuchNode}
+use Rattle.hlc_snapshot.specs.declared.fault.NoSnapshot.{NoSnapshot as NoSuchSnapshot}
+use Rattle.hlc_core.specs.declared.listing.Pair.{Pair}
 use Rattle.hlc_floor.specs.Heads.{Acceptance}
-use Rattle.hlc_core.specs.Past.{Step, Took, Opened, count, floor, opened, item_refusal, room_refusal}
+use Rattle.hlc_core.specs.Past.{Step, Took, Opened, Closed, count, floor, opened, stamp_of, writes, item_refusal, room_refusal, open_refusal}
 use Rattle.hlc_core.specs.Kept.{Kept, nodes, StandsFor}
 
 -- the call refused with the first reason that holds; or with want of memory, where there is none and the call may want it
@@ -43,8 +50,38 @@ abbrev pub Counts : ℕ → ℕ → List Step → Result ℕ NoSuchNode → Type
 Counts nodes node past (Ok number) = (node < nodes) × (number ≡ count node past)
 Counts nodes node past (Err fault) = nodes ≤ node
 
+-- a snapshot was opened at the stamp, with an id one above the number of those opened before, or refused
+abbrev pub Opens : Kept → Kept → ℕ → List Step → Result ℕ CoreFault → Type 0
+Opens old new stamp past (Ok id) = (open_refusal (nodes old) past stamp ≡ None) × (id ≡ opened past + 1) × StandsFor new (Opened stamp ∷ past)
+Opens old new stamp past (Err fault) = IsRefusal (open_refusal (nodes old) past stamp) ⊤ fault
+
 -- a snapshot was opened at the floor, with an id one above the number of those opened before, or refused
 abbrev pub OpensAtFloor : Kept → Kept → List Step → Result (ℕ × ℕ) CoreFault → Type 0
 OpensAtFloor old new past (Ok opening) =
     (room_refusal past ≡ None) × (opening ≡ (opened past + 1, floor (nodes old) past)) × StandsFor new (Opened (floor (nodes old) past) ∷ past)
 OpensAtFloor old new past (Err fault) = IsRefusal (room_refusal past) ⊤ fault
+
+-- the snapshot was closed, and this was its stamp; or there was none of this id
+abbrev pub Closes : Kept → ℕ → List Step → Result ℕ NoSuchSnapshot → Type 0
+Closes new id past (Ok stamp) = (stamp_of id past ≡ Some stamp) × StandsFor new (Closed id ∷ past)
+Closes new id past (Err fault) = stamp_of id past ≡ None
+
+-- the listing at a stamp: the keys that have a value there, each once, in byte order, with that value
+pub record IsListing (rows : List Row) (stamp : ℕ) (listing : List Pair) : Type 0 where
+  pub ascending : IsStrictlySortedBy (slice_cmp nat_cmp) (map (λ pair. pair.key) listing)
+  pub exact : (key value : List ℕ) → Contains listing (record { key = key; value = value }) ↔ (answer rows key stamp ≡ Some value)
+
+-- the listing of the snapshot at this stamp, if there is one
+abbrev pub IsListed : Option ℕ → List Row → List Pair → Type 0
+IsListed None rows listing = ⊥
+IsListed (Some stamp) rows listing = IsListing rows stamp listing
+
+-- the first reason to list nothing, memory aside
+abbrev pub list_refusal : Option ℕ → Option CoreFault
+list_refusal None = Some NoSnapshot
+list_refusal (Some stamp) = None
+
+-- what has a value in the snapshot, or a refusal
+abbrev pub Lists : ℕ → List Step → Result (List Pair) CoreFault → Type 0
+Lists id past (Ok listing) = IsListed (stamp_of id past) (writes past) listing
+Lists id past (Err fault) = IsRefusal (list_refusal (stamp_of id past)) ⊤ fault

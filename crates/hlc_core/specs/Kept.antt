@@ -2,7 +2,7 @@
 use Rattle.std.specs.Prelude.{◌≡◌, ℕ, ◌<◌, ◌≤◌, List, length, map, Some, slice_get}
 use Rattle.hlc_node.specs.declared.row.Row.{Row}
 use Rattle.hlc_link.specs.Progress.{Progress}
-use Rattle.hlc_core.specs.declared.snapshot.Snapshot.{Snapshot}
+use Rattle.hlc_snapshot.specs.declared.snapshot.Snapshot.{Snapshot}
 use Rattle.hlc_core.specs.Past.{Step, count, head, opened, open_snapshots, writes, IsLegal}
 
 -- what a core keeps: by node how far its link has come; the open snapshots; how many were opened; the stored rows

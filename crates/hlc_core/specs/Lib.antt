@@ -1,3 +1,6 @@
+pub mod Listing
 pub mod Past
+pub mod PastLaws
 pub mod Kept
 pub mod Calls
+pub mod ListingLaws

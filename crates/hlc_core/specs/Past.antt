@@ -1,6 +1,5 @@
 -- What took place in a core, and what follows from it.
-use Rattle.std.specs.Prelude.{◌≡◌, ℕ, zero, suc, ◌+◌, List, [], ◌∷◌, ◌++◌, length, min, find, ◌==◌, not, nat_le, Option, Some, None, if◌then◌else◌, ⊤}
-use Rattle.std.specs.Option.{option_map}
+use Rattle.std.specs.Prelude.{◌≡◌, ◌≢◌, ℕ, zero, suc, ◌+◌, List, [], ◌∷◌, ◌++◌, length, min, ◌==◌, not, nat_le, nat_lt, Option, Some, None, if◌then◌else◌, ⊤}
 use Rattle.hlc_node.specs.declared.item.Item.{Item}
 use Rattle.hlc_node.specs.declared.row.Row.{Row}
 use Rattle.hlc_node.specs.declared.item.Body.{Body}
@@ -10,13 +9,17 @@ use Rattle.hlc_node.specs.Items.{body_refusal}
 use Rattle.hlc_link.specs.declared.intake.LinkFault.{LinkFault}
 use Rattle.hlc_link.specs.declared.intake.LinkFault.TheVariants as link_fault
 use Rattle.hlc_core.specs.declared.fault.CoreFault.{CoreFault}
-use Rattle.hlc_core.specs.declared.fault.CoreFault.TheVariants.{NoNode, NotNext, StampNotRising, TooManySnapshots, BadBody, NumbersSpent}
-use Rattle.hlc_core.specs.declared.snapshot.Snapshot.{Snapshot}
+use Rattle.hlc_snapshot.specs.declared.snapshot.Snapshot.{Snapshot}
+use Rattle.hlc_snapshot.specs.declared.fault.SnapshotFault.{SnapshotFault}
+use Rattle.hlc_snapshot.specs.declared.fault.SnapshotFault.TheVariants as snapshot_fault
+use Rattle.hlc_snapshot.specs.Register.{stamp_in, without, room_refusal as room_in}
+use Rattle.hlc_core.specs.declared.fault.CoreFault.TheVariants.{NoNode, NotNext, StampNotRising, AboveFloor, BelowHorizon, TooManySnapshots, BadBody, NumbersSpent, NoMemory}
 
--- an event that took place: an item was accepted; a snapshot was opened at a stamp
+-- an event that took place: an item was accepted; a snapshot was opened at a stamp; the snapshot of an id was closed
 pub data Step : Type 0 where
   Took : Item → Step
   Opened : ℕ → Step
+  Closed : ℕ → Step
 
 -- Below, a past is the list of the steps that took place, the last one first. Refused calls and reads are no steps.
 
@@ -41,6 +44,10 @@ least f (suc (suc n)) = min (f (suc n)) (least f (suc n))
 -- the least head of all nodes
 abbrev pub floor : ℕ → List Step → ℕ
 floor nodes past = least (λ n. head n past) nodes
+
+-- the floor of the last vacuum, 0 before the first; there is none yet
+abbrev pub horizon : List Step → ℕ
+horizon past = 0
 
 -- the row of what an item of this node and stamp says
 abbrev pub body_rows : ℕ → ℕ → Body → List Row
@@ -67,11 +74,12 @@ opened (_ ∷ past) = opened past
 abbrev pub open_snapshots : List Step → List Snapshot
 open_snapshots [] = []
 open_snapshots (Opened stamp ∷ past) = open_snapshots past ++ record { id = opened past + 1; stamp = stamp } ∷ []
+open_snapshots (Closed id ∷ past) = without id (open_snapshots past)
 open_snapshots (_ ∷ past) = open_snapshots past
 
 -- the stamp of the open snapshot that has this id
 abbrev pub stamp_of : ℕ → List Step → Option ℕ
-stamp_of id past = option_map (λ snapshot. snapshot.stamp) (find (λ snapshot. snapshot.id == id) (open_snapshots past))
+stamp_of id past = stamp_in id (open_snapshots past)
 
 -- the link's fault, as a fault of the core
 abbrev pub of_link : LinkFault → CoreFault
@@ -97,19 +105,35 @@ abbrev pub item_refusal : ℕ → List Step → Item → Option CoreFault
 item_refusal nodes past item =
     if nat_le nodes item.node then Some NoNode else link_refusal (count item.node past) (head item.node past) item
 
--- the first reason that there is no room for a snapshot, by how many are open and how many were opened
-abbrev pub room_at : ℕ → ℕ → Option CoreFault
-room_at open_now opened_ever =
-    if nat_le 1024 open_now then Some TooManySnapshots
-    else if nat_le 18446744073709551614 opened_ever then Some NumbersSpent
-    else None
+-- a registry's fault, as a fault of the core
+abbrev pub of_registry : SnapshotFault → CoreFault
+of_registry snapshot_fault.TooManySnapshots = TooManySnapshots
+of_registry snapshot_fault.NumbersSpent = NumbersSpent
+of_registry snapshot_fault.NoMemory = NoMemory
 
--- the first reason to open no snapshot, memory aside
+-- a registry's refusal, if there is one, as a refusal of the core
+abbrev pub of_room : Option SnapshotFault → Option CoreFault
+of_room None = None
+of_room (Some fault) = Some (of_registry fault)
+
+-- the first reason that there is no room for one more snapshot, memory aside
 abbrev pub room_refusal : List Step → Option CoreFault
-room_refusal past = room_at (length (open_snapshots past)) (opened past)
+room_refusal past = of_room (room_in (length (open_snapshots past)) (opened past))
 
--- no step was due a refusal, and each snapshot was opened at the floor
+-- no snapshot is opened above the floor, below the horizon, or where there is no room
+abbrev pub open_after : ℕ → ℕ → Option CoreFault → ℕ → Option CoreFault
+open_after top bottom room stamp =
+    if nat_lt top stamp then Some (AboveFloor top)
+    else if nat_lt stamp bottom then Some (BelowHorizon bottom)
+    else room
+
+-- the first reason to open no snapshot at a stamp, memory aside
+abbrev pub open_refusal : ℕ → List Step → ℕ → Option CoreFault
+open_refusal nodes past stamp = open_after (floor nodes past) (horizon past) (room_refusal past) stamp
+
+-- no step was due a refusal
 abbrev pub IsLegal : ℕ → List Step → Type 0
 IsLegal nodes [] = ⊤
 IsLegal nodes (Took item ∷ past) = (item_refusal nodes past item ≡ None) × IsLegal nodes past
-IsLegal nodes (Opened stamp ∷ past) = (room_refusal past ≡ None) × (stamp ≡ floor nodes past) × IsLegal nodes past
+IsLegal nodes (Opened stamp ∷ past) = (open_refusal nodes past stamp ≡ None) × IsLegal nodes past
+IsLegal nodes (Closed id ∷ past) = (stamp_of id past ≢ None) × IsLegal nodes past

@@ -15,15 +15,17 @@ pub enum CoreFault {
     StampNotRising { head: Stamp },
     /// No item may say this.
     BadBody(BodyFault),
+    /// The stamp is above the floor.
+    AboveFloor { floor: Stamp },
+    /// The stamp is below the floor of the last vacuum.
+    BelowHorizon { horizon: Stamp },
+    /// No open snapshot has that id.
+    NoSnapshot,
     /// 1,024 snapshots are open.
     TooManySnapshots,
     /// A growth was refused.
     NoMemory,
 }
-
-/// No open snapshot has that id.
-#[derive(Clone, Copy, PartialEq, Eq, Debug)]
-pub struct NoSnapshot;
 
 /// The node is not below the count of nodes.
 #[derive(Clone, Copy, PartialEq, Eq, Debug)]

@@ -1,17 +1,20 @@
 //! The store and its calls.
 ghost use Rattle.std.specs.Prelude.{◌≡◌, IfOk, IfErr, OnErr, IsErr, IsOkAnd, MatchOption, option_copied, List};
 ghost use Rattle.hlc_node.specs.Rows.{answer};
-ghost use Rattle.hlc_core.specs.Past.{Step, floor, stamp_of, writes};
+ghost use Rattle.hlc_core.specs.Past.{Step, floor, horizon, stamp_of, writes};
 ghost use Rattle.hlc_core.specs.Kept.{nodes, StandsFor};
-ghost use Rattle.hlc_core.specs.Calls.{Makes, Accepts, Checks, Counts, OpensAtFloor};
+ghost use Rattle.hlc_core.specs.Calls.{Makes, Accepts, Checks, Counts, Opens, OpensAtFloor, Closes, Lists};
 
-use crate::fault::{CoreFault, NoNode, NoSnapshot};
-use crate::snapshot::{self, Snapshot};
+use crate::fault::{CoreFault, NoNode};
+use crate::list::listing_at;
+use crate::listing::Listing;
+use crate::opening::of_registry;
 use crate::{link, rows};
 use hlc_clock::Stamp;
 use hlc_floor::{Accepted, Heads, HeadsFault};
 use hlc_link::Intake;
 use hlc_node::{Item, Row};
+use hlc_snapshot::{NoSnapshot, Registry};
 use std::alloc::Global;
 use std::marker::Model;
 
@@ -24,8 +27,8 @@ use std::marker::Model;
 pub struct Core {
     intakes: Vec<Intake>,
     heads: Heads,
-    snapshots: Vec<Snapshot>,
-    opened: u64,
+    alloc: Global,
+    registry: Registry,
     rows: Vec<Row>,
 }
 
@@ -34,7 +37,7 @@ impl Model for Core {
 
     ghost Value = { Kept };
 
-    ghost view = { λ core. record { links = core.intakes.items; snapshots = core.snapshots.items; opened = core.opened; rows = core.rows.items } };
+    ghost view = { λ core. record { links = core.intakes.items; snapshots = core.registry.snapshots; opened = core.registry.opened; rows = core.rows.items } };
 
     ghost invariant = { λ core. IsMatched core.intakes.items core.heads };
 }
@@ -55,8 +58,8 @@ impl Core {
         Ok(Core {
             intakes,
             heads,
-            snapshots: Vec::new(alloc),
-            opened: 0,
+            alloc,
+            registry: Registry::new(alloc),
             rows: Vec::new(alloc),
         })
     }
@@ -112,7 +115,38 @@ impl Core {
         self.heads.floor()
     }
 
-    /// Opens a snapshot at the floor, and gives its id and its stamp. Ids are 1, 2, 3 and so on.
+    /// The floor of the last vacuum, 0.0 before the first. There is none yet.
+    pub fn horizon(&self) -> Stamp
+        ensures { (past : List Step) → StandsFor self.now past → result ≡ horizon past }
+    {
+        Stamp::from_bits(0)
+    }
+
+    /// Opens a snapshot at a stamp from the horizon to the floor, and gives its id. Ids are 1, 2, 3
+    /// and so on, and are never used again.
+    ///
+    /// Refused, in this order: the stamp is above the floor; it is below the horizon; 1,024
+    /// snapshots are open; no id is left; want of memory.
+    pub fn open(&mut self, stamp: Stamp) -> Result<u64, CoreFault>
+        ensures stands { (past : List Step) → StandsFor self.old past → Opens self.old self.new stamp past result }
+        ensures err { OnErr result (self.new ≡ self.old) }
+        ensures nodes { nodes self.new ≡ nodes self.old }
+    {
+        let floor = self.floor();
+        if stamp > floor {
+            return Err(CoreFault::AboveFloor { floor });
+        }
+        let horizon = self.horizon();
+        if stamp < horizon {
+            return Err(CoreFault::BelowHorizon { horizon });
+        }
+        match self.registry.open(stamp) {
+            Ok(id) => Ok(id),
+            Err(fault) => Err(of_registry(fault)),
+        }
+    }
+
+    /// Opens a snapshot at the floor, and gives its id and its stamp.
     ///
     /// Refused, in this order: 1,024 snapshots are open; no id is left; want of memory.
     pub fn open_floor(&mut self) -> Result<(u64, Stamp), CoreFault>
@@ -120,25 +154,51 @@ impl Core {
         ensures err { OnErr result (self.new ≡ self.old) }
         ensures nodes { nodes self.new ≡ nodes self.old }
     {
-        if let Some(fault) = snapshot::room_fault(self.snapshots.len(), self.opened) {
-            return Err(fault);
+        let stamp = self.floor();
+        match self.registry.open(stamp) {
+            Ok(id) => Ok((id, stamp)),
+            Err(fault) => Err(of_registry(fault)),
         }
-        let id = self.opened + 1;
-        let stamp = self.heads.floor();
-        if self.snapshots.push(Snapshot { id, stamp }).is_err() {
-            return Err(CoreFault::NoMemory);
-        }
-        self.opened = id;
-        Ok((id, stamp))
+    }
+
+    /// Closes an open snapshot, and gives its stamp. It takes no memory.
+    pub fn close(&mut self, id: u64) -> Result<Stamp, NoSnapshot>
+        ensures stands { (past : List Step) → StandsFor self.old past → Closes self.new id past result }
+        ensures err { OnErr result (self.new ≡ self.old) }
+        ensures nodes { nodes self.new ≡ nodes self.old }
+    {
+        self.registry.close(id)
+    }
+
+    /// The stamp of an open snapshot.
+    pub fn stamp_of(&self, id: u64) -> Option<Stamp>
+        ensures { (past : List Step) → StandsFor self.now past → result ≡ stamp_of id past }
+    {
+        self.registry.stamp_of(id)
     }
 
     /// The value that a key has in an open snapshot, or none. Any bytes may be asked for.
     pub fn read(&self, id: u64, key: &[u8]) -> Result<Option<&[u8]>, NoSnapshot>
         ensures { (past : List Step) → StandsFor self.now past → MatchOption (stamp_of id past) (IsErr result) (λ stamp. IsOkAnd result (λ value. option_copied value ≡ answer (writes past) key.now stamp)) }
     {
-        match snapshot::stamp_of(self.snapshots.as_slice(), id) {
+        match self.registry.stamp_of(id) {
             None => Err(NoSnapshot),
             Some(stamp) => Ok(rows::value_at(self.rows.as_slice(), key, stamp)),
+        }
+    }
+
+    /// The keys that have a value in an open snapshot, in byte order, with that value.
+    ///
+    /// Refused, in this order: no such snapshot; want of memory.
+    pub fn list(&self, id: u64) -> Result<Listing, CoreFault>
+        ensures { (past : List Step) → StandsFor self.now past → Lists id past result }
+    {
+        let Some(stamp) = self.registry.stamp_of(id) else {
+            return Err(CoreFault::NoSnapshot);
+        };
+        match listing_at(self.alloc, self.rows.as_slice(), stamp) {
+            Ok(listing) => Ok(listing),
+            Err(_) => Err(CoreFault::NoMemory),
         }
     }
 }

@@ -10,7 +10,7 @@ use Rattle.hlc_world.specs.declared.event.Event.{Event}
 use Rattle.hlc_world.specs.declared.reply.Reply.{Reply}
 use Rattle.hlc_world.specs.State.{State, world_nodes, StandsFor}
 use Rattle.hlc_script.specs.Line.{event_line, HasLine, lines_of_parts, lines_of, HasHeader, header_line}
-use Rattle.hlc_script.specs.Reply.{reply_line, bad_line, printed}
+use Rattle.hlc_script.specs.Reply.{reply_text, bad_line, printed}
 use Rattle.hlc_script.specs.Run.{AnswersLine, Answers, AnswersScript, IsInput}
 
 -- whatever answers the lines that are left completes an answer to all of them
@@ -26,18 +26,18 @@ going_first nodes world text failed known waits stands =
     record { schedule = []; so_far = []; stands = stands; wrote = printed_none; completes = λ output bad answers. answers }
 
 -- one good line more
-pub going_more : (nodes : ℕ) (old new : State) (text rest after : List ℕ) (line : List ℕ) (number : ℕ) (f g h : Bool) (a b c : Option (List ℕ)) (u v w : List ℕ) (event : Event) (reply : Reply) → Going nodes old text rest number f g a b u v → lines_of rest ≡ line ∷ lines_of after → HasLine event → line ≡ event_line event → world_nodes old ≡ nodes → ((s : List (Event × Reply)) → StandsFor old s → (t : List (Event × Reply)) × AnswersLine (world_nodes old) s event reply t × StandsFor new t) → Printed g h b c v w (printed (reply_line reply)) → Going nodes new text after (number + 1) f h a c u w
+pub going_more : (nodes : ℕ) (old new : State) (text rest after : List ℕ) (line : List ℕ) (number : ℕ) (f g h : Bool) (a b c : Option (List ℕ)) (u v w : List ℕ) (event : Event) (reply : Reply) → Going nodes old text rest number f g a b u v → lines_of rest ≡ line ∷ lines_of after → HasLine event → line ≡ event_line event → world_nodes old ≡ nodes → ((s : List (Event × Reply)) → StandsFor old s → (t : List (Event × Reply)) × AnswersLine (world_nodes old) s event reply t × StandsFor new t) → Printed g h b c v w (reply_text reply) → Going nodes new text after (number + 1) f h a c u w
 going_more nodes old new text rest after line number f g h a b c u v w event reply going first has spelled same answered wrote =
     let next = answered going.schedule going.stands in
     record {
       schedule = next.0;
-      so_far = going.so_far ++ printed (reply_line reply);
+      so_far = going.so_far ++ reply_text reply;
       stands = next.2;
       wrote = printed_then going.wrote wrote;
       completes = λ output bad answers.
-          subst (λ (zs : List ℕ). Answers nodes [] 2 (lines_of text) zs bad) (sym (append_assoc going.so_far (printed (reply_line reply)) output))
-          (going.completes (printed (reply_line reply) ++ output) bad
-          (subst (λ (ls : List (List ℕ)). Answers nodes going.schedule number ls (printed (reply_line reply) ++ output) bad) (sym first)
+          subst (λ (zs : List ℕ). Answers nodes [] 2 (lines_of text) zs bad) (sym (append_assoc going.so_far (reply_text reply) output))
+          (going.completes (reply_text reply ++ output) bad
+          (subst (λ (ls : List (List ℕ)). Answers nodes going.schedule number ls (reply_text reply ++ output) bad) (sym first)
           (inl (event, reply, next.0, output, has, spelled, subst (λ (n : ℕ). AnswersLine n going.schedule event reply next.0) same next.1, refl, answers))));
     }
 

@@ -5,11 +5,12 @@ use Rattle.std.specs.Prelude.{decimal, codes, ◌≢◌}
 use Rattle.std.specs.List.{slice_split}
 use Rattle.std.proofs.lemmas.Fmt.{decimal_injective}
 use Rattle.std.proofs.lemmas.List.Splits.{join_with_byte-slice_split}
+use Rattle.hlc_clock.specs.Stamp.{stamp_text}
 use Rattle.hlc_text.specs.Text.{Reads, bytes_token, AreBytes}
-use Rattle.hlc_text.specs.TokenLaws.{number_is_word, bytes_are_word, split_words}
+use Rattle.hlc_text.specs.TokenLaws.{number_is_word, stamp_is_word, bytes_are_word, split_words, no_stamp, one_stamp}
 use Rattle.hlc_text.specs.SpellingLaws.{one_token}
 use Rattle.hlc_world.specs.declared.event.Event.{Event}
-use Rattle.hlc_world.specs.declared.event.Event.TheVariants.{Write, Delete, Report, Send, Receive, Deliver, OpenFloor, Read, Floor}
+use Rattle.hlc_world.specs.declared.event.Event.TheVariants.{Write, Delete, Report, Send, Receive, Observe, Deliver, OpenAt, OpenFloor, Read, List as ListAll, Close, Floor}
 use Rattle.hlc_script.specs.Line.{spaced, event_words, event_line, HasLine, header_words, header_line, HasHeader}
 use Rattle.hlc_script.specs.Laws.{OneEvent}
 
@@ -30,9 +31,15 @@ words_of_line (Receive node reading message) has =
     (refl, (number_is_word node (omega arith), (number_is_word reading (omega arith), (number_is_word message (omega arith), tt))))
 words_of_line (Deliver node number) has =
     split_words (codes "deliver") (decimal node ∷ decimal number ∷ []) (refl, (number_is_word node (omega arith), (number_is_word number (omega arith), tt)))
+words_of_line (Observe node reading id) has =
+    split_words (codes "observe") (decimal node ∷ decimal reading ∷ decimal id ∷ [])
+    (refl, (number_is_word node (omega arith), (number_is_word reading (omega arith), (number_is_word id (omega arith), tt))))
+words_of_line (OpenAt stamp) has = split_words (codes "open") (stamp_text stamp ∷ []) (refl, (stamp_is_word stamp has, tt))
 words_of_line OpenFloor has = split_words (codes "open") (codes "floor" ∷ []) (refl, (refl, tt))
 words_of_line (Read id key) has =
     split_words (codes "read") (decimal id ∷ bytes_token key ∷ []) (refl, (number_is_word id (omega arith), (bytes_are_word key, tt)))
+words_of_line (ListAll id) has = split_words (codes "list") (decimal id ∷ []) (refl, (number_is_word id (omega arith), tt))
+words_of_line (Close id) has = split_words (codes "close") (decimal id ∷ []) (refl, (number_is_word id (omega arith), tt))
 words_of_line Floor has = split_words (codes "floor") [] (refl, tt)
 
 -- the words of a header are the header's words
@@ -74,9 +81,22 @@ pub no_deliver : (args : List (List ℕ)) → ((x : ℕ × ℕ) → (x.0 < 2 ^ 1
 no_deliver args none (Deliver node number) has is = let rest : args ≡ decimal node ∷ decimal number ∷ [] = cc in none (node, number) has rest
 no_deliver args none event has is = absurd (omega (arith, ap mark is))
 
-pub no_open : (args : List (List ℕ)) → args ≢ codes "floor" ∷ [] → (event : Event) → HasLine event → codes "open" ∷ args ≢ event_words event
-no_open args none OpenFloor has is = let rest : args ≡ codes "floor" ∷ [] = cc in none rest
-no_open args none event has is = absurd (omega (arith, ap mark is))
+pub no_observe : (args : List (List ℕ)) → ((x : ℕ × ℕ × ℕ) → (x.0 < 2 ^ 16) × (x.1 < 2 ^ 64) × (x.2 < 2 ^ 64) → args ≢ decimal x.0 ∷ decimal x.1 ∷ decimal x.2 ∷ []) → (event : Event) → HasLine event → codes "observe" ∷ args ≢ event_words event
+no_observe args none (Observe node reading id) has is = let rest : args ≡ decimal node ∷ decimal reading ∷ decimal id ∷ [] = cc in none (node, reading, id) has rest
+no_observe args none event has is = absurd (omega (arith, ap mark is))
+
+pub no_list : (args : List (List ℕ)) → ((x : ℕ) → x < 2 ^ 64 → args ≢ decimal x ∷ []) → (event : Event) → HasLine event → codes "list" ∷ args ≢ event_words event
+no_list args none (ListAll id) has is = let rest : args ≡ decimal id ∷ [] = cc in none id has rest
+no_list args none event has is = absurd (omega (arith, ap mark is))
+
+pub no_close : (args : List (List ℕ)) → ((x : ℕ) → x < 2 ^ 64 → args ≢ decimal x ∷ []) → (event : Event) → HasLine event → codes "close" ∷ args ≢ event_words event
+no_close args none (Close id) has is = let rest : args ≡ decimal id ∷ [] = cc in none id has rest
+no_close args none event has is = absurd (omega (arith, ap mark is))
+
+pub no_open : (args : List (List ℕ)) → args ≢ codes "floor" ∷ [] → ((x : ℕ) → x < 2 ^ 64 → args ≢ stamp_text x ∷ []) → (event : Event) → HasLine event → codes "open" ∷ args ≢ event_words event
+no_open args none not_at (OpenAt stamp) has is = let rest : args ≡ stamp_text stamp ∷ [] = cc in not_at stamp has rest
+no_open args none not_at OpenFloor has is = let rest : args ≡ codes "floor" ∷ [] = cc in none rest
+no_open args none not_at event has is = absurd (omega (arith, ap mark is))
 
 pub no_read : (args : List (List ℕ)) → ((x : ℕ × List ℕ) → (x.0 < 2 ^ 64) × AreBytes x.1 → args ≢ decimal x.0 ∷ bytes_token x.1 ∷ []) → (event : Event) → HasLine event → codes "read" ∷ args ≢ event_words event
 no_read args none (Read id key) has is = let rest : args ≡ decimal id ∷ bytes_token key ∷ [] = cc in none (id, key) has rest
@@ -143,6 +163,19 @@ one_read id id2 key key2 has also e =
     let s0 : id ≡ id2 = decimal_injective id id2 (omega arith) (omega arith) e0 in
     let s1 : key ≡ key2 = one_token key key2 has.1 also.1 e1 in cc
 
+one_observe : (node node2 reading reading2 id id2 : ℕ) → HasLine (Observe node reading id) → HasLine (Observe node2 reading2 id2) → event_words (Observe node reading id) ≡ event_words (Observe node2 reading2 id2) → Observe node reading id ≡ Observe node2 reading2 id2
+one_observe node node2 reading reading2 id id2 has also e =
+    let e0 : decimal node ≡ decimal node2 = cc in
+    let e1 : decimal reading ≡ decimal reading2 = cc in
+    let e2 : decimal id ≡ decimal id2 = cc in
+    let s0 : node ≡ node2 = decimal_injective node node2 (omega arith) (omega arith) e0 in
+    let s1 : reading ≡ reading2 = decimal_injective reading reading2 (omega arith) (omega arith) e1 in
+    let s2 : id ≡ id2 = decimal_injective id id2 (omega arith) (omega arith) e2 in cc
+
+-- a stamp has a full stop, and the word `floor` has none
+not_floor : (stamp : ℕ) → stamp < 2 ^ 64 → stamp_text stamp ≡ codes "floor" → ⊥
+not_floor stamp has is = no_stamp (codes "floor") stamp refl has (sym is)
+
 same_words : (event other : Event) → HasLine event → HasLine other → event_words event ≡ event_words other → event ≡ other
 same_words (Write node reading key value) (Write node2 reading2 key2 value2) has also same = one_write node node2 reading reading2 key key2 value value2 has also same
 same_words (Write node reading key value) other has also same = absurd (omega (arith, ap mark same))
@@ -156,10 +189,20 @@ same_words (Receive node reading message) (Receive node2 reading2 message2) has 
 same_words (Receive node reading message) other has also same = absurd (omega (arith, ap mark same))
 same_words (Deliver node number) (Deliver node2 number2) has also same = one_deliver node node2 number number2 has also same
 same_words (Deliver node number) other has also same = absurd (omega (arith, ap mark same))
+same_words (Observe node reading id) (Observe node2 reading2 id2) has also same = one_observe node node2 reading reading2 id id2 has also same
+same_words (Observe node reading id) other has also same = absurd (omega (arith, ap mark same))
+same_words (OpenAt stamp) (OpenAt stamp2) has also same = (let e : stamp_text stamp ≡ stamp_text stamp2 = cc in ap OpenAt (one_stamp stamp stamp2 has also e))
+same_words (OpenAt stamp) OpenFloor has also same = (let e : stamp_text stamp ≡ codes "floor" = cc in absurd (not_floor stamp has e))
+same_words (OpenAt stamp) other has also same = absurd (omega (arith, ap mark same))
+same_words OpenFloor (OpenAt stamp) has also same = (let e : codes "floor" ≡ stamp_text stamp = cc in absurd (not_floor stamp also (sym e)))
 same_words OpenFloor OpenFloor has also same = refl
 same_words OpenFloor other has also same = absurd (omega (arith, ap mark same))
 same_words (Read id key) (Read id2 key2) has also same = one_read id id2 key key2 has also same
 same_words (Read id key) other has also same = absurd (omega (arith, ap mark same))
+same_words (ListAll id) (ListAll id2) has also same = (let e : decimal id ≡ decimal id2 = cc in ap ListAll (decimal_injective id id2 (omega arith) (omega arith) e))
+same_words (ListAll id) other has also same = absurd (omega (arith, ap mark same))
+same_words (Close id) (Close id2) has also same = (let e : decimal id ≡ decimal id2 = cc in ap Close (decimal_injective id id2 (omega arith) (omega arith) e))
+same_words (Close id) other has also same = absurd (omega (arith, ap mark same))
 same_words Floor Floor has also same = refl
 same_words Floor other has also same = absurd (omega (arith, ap mark same))
 

@@ -4,18 +4,22 @@ use Rattle.std.specs.Prelude.{codes, ◌≢◌}
 use Rattle.std.specs.List.{flat_map}
 use Rattle.hlc_clock.specs.declared.clock.ClockFault.{ClockFault}
 use Rattle.hlc_node.specs.declared.item.Message.{Message}
+use Rattle.hlc_node.specs.declared.row.Row.{Row}
+use Rattle.hlc_core.specs.declared.listing.Pair.{Pair}
+use Rattle.hlc_core.specs.Calls.{IsListed}
+use Rattle.hlc_core.specs.ListingLaws.{one-listing}
 use Rattle.hlc_node.specs.declared.node.NodeFault.{NodeFault}
 use Rattle.hlc_world.specs.declared.event.Event.{Event}
-use Rattle.hlc_world.specs.declared.event.Event.TheVariants.{Write, Delete, Report, Send, Receive, Deliver, OpenFloor, Read, Floor}
+use Rattle.hlc_world.specs.declared.event.Event.TheVariants.{Write, Delete, Report, Send, Receive, Observe, Deliver, OpenAt, OpenFloor, Read, List as ListAll, Close, Floor}
 use Rattle.hlc_world.specs.declared.reply.Reply.{Reply}
-use Rattle.hlc_world.specs.declared.reply.Reply.TheVariants.{Stamped, Sent, Received, Accepted, Snapshot, Answer, Floor as FloorIs, Refused}
+use Rattle.hlc_world.specs.declared.reply.Reply.TheVariants.{Stamped, Sent, Received, Observed, Accepted, Snapshot, Answer, Listing, Closed, Floor as FloorIs, Refused}
 use Rattle.hlc_world.specs.declared.refusal.Refusal.{Refusal}
 use Rattle.hlc_world.specs.declared.refusal.Refusal.TheVariants.{NoMemory as no_memory}
-use Rattle.hlc_world.specs.Due.{refusal_due, IsReceived, IsAnswer, IsDueReply, IsGiven}
+use Rattle.hlc_world.specs.Due.{refusal_due, IsReceived, IsObserved, IsAnswer, IsDueReply, IsGiven}
 use Rattle.hlc_script.specs.declared.run.RunEnd.{RunEnd}
 use Rattle.hlc_script.specs.declared.run.RunEnd.TheVariants.{Answered, BadLine, BadHeader, NoMemory, ReadFault, TooLong, WriteFault}
 use Rattle.hlc_script.specs.Line.{lines_of, HasHeader, header_line}
-use Rattle.hlc_script.specs.Reply.{reply_line, printed}
+use Rattle.hlc_script.specs.Reply.{reply_lines, reply_text, printed}
 use Rattle.hlc_script.specs.Run.{AnswersLine, Answers, AnswersScript}
 use Rattle.hlc_script.specs.Laws.{TellsNoMemory, OneOutput}
 use Rattle.hlc_script.proofs.Lines.{one_event, one_header}
@@ -40,6 +44,15 @@ issued_once due next stamp stamp2 number number2 is also =
     let s : stamp ≡ stamp2 = cc in
     let n : number ≡ number2 = is.1 ∙ sym also.1 in cc
 
+same_observation : (o : Option ℕ) (last reading stamp stamp2 : ℕ) → IsObserved o last reading stamp → IsObserved o last reading stamp2 → stamp ≡ stamp2
+same_observation None last reading stamp stamp2 due also = absurd due
+same_observation (Some seen) last reading stamp stamp2 due also =
+    let stamps : ◌≡◌ {A = Result ℕ ClockFault} (Ok stamp) (Ok stamp2) = sym due ∙ also in cc
+
+same_listing : (o : Option ℕ) (rows : List Row) (pairs pairs2 : List Pair) → IsListed o rows pairs → IsListed o rows pairs2 → pairs ≡ pairs2
+same_listing None rows pairs pairs2 due also = absurd due
+same_listing (Some stamp) rows pairs pairs2 due also = one-listing rows stamp pairs pairs2 due also
+
 -- what is due where nothing is refused is one reply
 due_once : (nodes : ℕ) (schedule : List (Event × Reply)) (event : Event) (reply other : Reply) → IsDueReply nodes schedule event reply → IsDueReply nodes schedule event other → reply ≡ other
 due_once nodes schedule (Write node reading key value) (Stamped stamp number) (Stamped stamp2 number2) due also = issued_once _ _ stamp stamp2 number number2 due also
@@ -59,12 +72,24 @@ due_once nodes schedule (Deliver node number) (Accepted stamp) (Accepted stamp2)
     let stamps : Some stamp ≡ Some stamp2 = sym due ∙ also in
     let s : stamp ≡ stamp2 = cc in cc
 due_once nodes schedule (Deliver node number) (Accepted stamp) other due also = absurd also
+due_once nodes schedule (Observe node reading id) (Observed stamp) (Observed stamp2) due also = ap Observed (same_observation _ _ reading stamp stamp2 due also)
+due_once nodes schedule (Observe node reading id) (Observed stamp) other due also = absurd also
+due_once nodes schedule (OpenAt at) (Snapshot id stamp) (Snapshot id2 stamp2) due also =
+    let i : id ≡ id2 = due.0 ∙ sym also.0 in
+    let s : stamp ≡ stamp2 = due.1 ∙ sym also.1 in cc
+due_once nodes schedule (OpenAt at) (Snapshot id stamp) other due also = absurd also
 due_once nodes schedule OpenFloor (Snapshot id stamp) (Snapshot id2 stamp2) due also =
     let i : id ≡ id2 = due.0 ∙ sym also.0 in
     let s : stamp ≡ stamp2 = due.1 ∙ sym also.1 in cc
 due_once nodes schedule OpenFloor (Snapshot id stamp) other due also = absurd also
 due_once nodes schedule (Read id key) (Answer value) (Answer value2) due also = ap Answer (same_answer _ _ value value2 due also)
 due_once nodes schedule (Read id key) (Answer value) other due also = absurd also
+due_once nodes schedule (ListAll id) (Listing pairs) (Listing pairs2) due also = ap Listing (same_listing _ _ pairs pairs2 due also)
+due_once nodes schedule (ListAll id) (Listing pairs) other due also = absurd also
+due_once nodes schedule (Close id) (Closed stamp) (Closed stamp2) due also =
+    let stamps : Some stamp ≡ Some stamp2 = sym due ∙ also in
+    let s : stamp ≡ stamp2 = cc in cc
+due_once nodes schedule (Close id) (Closed stamp) other due also = absurd also
 due_once nodes schedule Floor (FloorIs stamp) (FloorIs stamp2) due also = ap FloorIs (due ∙ sym also)
 due_once nodes schedule Floor (FloorIs stamp) other due also = absurd also
 due_once nodes schedule _ _ _ due also = absurd due
@@ -81,7 +106,10 @@ given_cases nodes schedule event (Refused refusal) (inr lost) = inl (refusal, re
 given_cases nodes schedule event (Stamped stamp item) given = inr given
 given_cases nodes schedule event (Sent stamp message) given = inr given
 given_cases nodes schedule event (Received stamp) given = inr given
+given_cases nodes schedule event (Observed stamp) given = inr given
 given_cases nodes schedule event (Accepted stamp) given = inr given
+given_cases nodes schedule event (Listing pairs) given = inr given
+given_cases nodes schedule event (Closed stamp) given = inr given
 given_cases nodes schedule event (Snapshot id stamp) given = inr given
 given_cases nodes schedule event (Answer value) given = inr given
 given_cases nodes schedule event (FloorIs stamp) given = inr given
@@ -107,7 +135,7 @@ abbrev Same : List ℕ → List ℕ → Option ℕ → Option ℕ → Type 0
 Same output other bad worse = ((output ≡ other) × (bad ≡ worse)) ⊎ (TellsNoMemory output ⊎ TellsNoMemory other)
 
 -- a reply that tells of want of memory
-tells : (reply : Reply) (rest : List ℕ) → reply ≡ Refused no_memory → TellsNoMemory (printed (reply_line reply) ++ rest)
+tells : (reply : Reply) (rest : List ℕ) → reply ≡ Refused no_memory → TellsNoMemory (reply_text reply ++ rest)
 tells reply rest is = rw is ([], rest, refl)
 
 -- a line in front
@@ -120,8 +148,17 @@ same_behind line rest more bad worse (inl same) = inl (ap (λ l. printed line ++
 same_behind line rest more bad worse (inr (inl short)) = inr (inl (behind line rest short))
 same_behind line rest more bad worse (inr (inr short)) = inr (inr (behind line more short))
 
+-- some lines in front
+same_behind_lines : (lines : List (List ℕ)) (rest more : List ℕ) (bad worse : Option ℕ) → Same rest more bad worse → Same (flat_map printed lines ++ rest) (flat_map printed lines ++ more) bad worse
+same_behind_lines [] rest more bad worse same = same
+same_behind_lines (line ∷ lines) rest more bad worse same =
+    let F : List ℕ → Type 0 = λ (o : List ℕ). Same o (flat_map printed (line ∷ lines) ++ more) bad worse in
+    let G : List ℕ → Type 0 = λ (o : List ℕ). Same (printed line ++ (flat_map printed lines ++ rest)) o bad worse in
+    subst F (sym (append_assoc (printed line) (flat_map printed lines) rest))
+    (subst G (sym (append_assoc (printed line) (flat_map printed lines) more)) (same_behind line _ _ bad worse (same_behind_lines lines rest more bad worse same)))
+
 -- a good line, answered twice
-one_line : (nodes : ℕ) (schedule : List (Event × Reply)) (number : ℕ) (lines : List (List ℕ)) (bad worse : Option ℕ) (e : Event) (r q : Reply) (s t : List (Event × Reply)) (rest more : List ℕ) → ((u : List (Event × Reply)) (o p : List ℕ) → Answers nodes u (number + 1) lines o bad → Answers nodes u (number + 1) lines p worse → Same o p bad worse) → AnswersLine nodes schedule e r s → AnswersLine nodes schedule e q t → Answers nodes s (number + 1) lines rest bad → Answers nodes t (number + 1) lines more worse → Same (printed (reply_line r) ++ rest) (printed (reply_line q) ++ more) bad worse
+one_line : (nodes : ℕ) (schedule : List (Event × Reply)) (number : ℕ) (lines : List (List ℕ)) (bad worse : Option ℕ) (e : Event) (r q : Reply) (s t : List (Event × Reply)) (rest more : List ℕ) → ((u : List (Event × Reply)) (o p : List ℕ) → Answers nodes u (number + 1) lines o bad → Answers nodes u (number + 1) lines p worse → Same o p bad worse) → AnswersLine nodes schedule e r s → AnswersLine nodes schedule e q t → Answers nodes s (number + 1) lines rest bad → Answers nodes t (number + 1) lines more worse → Same (reply_text r ++ rest) (reply_text q ++ more) bad worse
 one_line nodes schedule number lines bad worse e r q s t rest more onward (inr lost) other first second = inr (inl (tells r rest lost.1))
 one_line nodes schedule number lines bad worse e r q s t rest more onward (inl given) (inr lost) first second = inr (inr (tells q more lost.1))
 one_line nodes schedule number lines bad worse e r q s t rest more onward (inl given) (inl also) first second =
@@ -131,8 +168,8 @@ one_line nodes schedule number lines bad worse e r q s t rest more onward (inl g
       | inl same ↦
           let together : s ≡ t = given.1 ∙ ap (λ (x : Reply). (e, x) ∷ schedule) same ∙ sym also.1 in
           let F : List (Event × Reply) → Type 0 = λ (x : List (Event × Reply)). Answers nodes x (number + 1) lines more worse in
-          let found = same_behind (reply_line r) rest more bad worse (onward s rest more first (subst F (sym together) second)) in
-          let G : Reply → Type 0 = λ (x : Reply). Same (printed (reply_line r) ++ rest) (printed (reply_line x) ++ more) bad worse in
+          let found = same_behind_lines (reply_lines r) rest more bad worse (onward s rest more first (subst F (sym together) second)) in
+          let G : Reply → Type 0 = λ (x : Reply). Same (reply_text r ++ rest) (reply_text x ++ more) bad worse in
           subst G same found
     ]
 
@@ -141,11 +178,11 @@ answered_once : (nodes : ℕ) (schedule : List (Event × Reply)) (number : ℕ) 
 answered_once nodes schedule number [] output other bad worse (none, well) (none2, well2) = inl (none ∙ sym none2, well ∙ sym well2)
 answered_once nodes schedule number (line ∷ lines) output other bad worse (inl (e, r, s, rest, has, spelled, answers, is, first)) (inl (f, q, t, more, also, spelled2, answers2, is2, second)) =
     let event : f ≡ e = one_event f e also has (sym spelled2 ∙ spelled) in
-    let found : Same (printed (reply_line r) ++ rest) (printed (reply_line q) ++ more) bad worse =
+    let found : Same (reply_text r ++ rest) (reply_text q ++ more) bad worse =
     one_line nodes schedule number lines bad worse e r q s t rest more (λ u o p. answered_once nodes u (number + 1) lines o p bad worse)
     answers (subst (λ (x : Event). AnswersLine nodes schedule x q t) event answers2) first second in
     let G : List ℕ → Type 0 = λ (o : List ℕ). Same o other bad worse in
-    let H : List ℕ → Type 0 = λ (o : List ℕ). Same (printed (reply_line r) ++ rest) o bad worse in
+    let H : List ℕ → Type 0 = λ (o : List ℕ). Same (reply_text r ++ rest) o bad worse in
     subst G (sym is) (subst H (sym is2) found)
 answered_once nodes schedule number (line ∷ lines) output other bad worse (inl (e, r, s, rest, has, spelled, answers, is, first)) (inr (none, is2, well2)) = absurd (none e has spelled)
 answered_once nodes schedule number (line ∷ lines) output other bad worse (inr (none, is, well)) (inl (f, q, t, more, also, spelled2, answers2, is2, second)) = absurd (none f also spelled2)

@@ -1,9 +1,10 @@
 -- The lines of a script, and the events that they spell.
 use Rattle.std.specs.Prelude.{ℕ, ◌<◌, ◌≤◌, ◌^◌, ◌==◌, List, [], ◌∷◌, length, codes, decimal, if◌then◌else◌, ⊤}
 use Rattle.std.specs.List.{slice_split, join_with_byte}
+use Rattle.hlc_clock.specs.Stamp.{stamp_text}
 use Rattle.hlc_text.specs.Text.{bytes_token, AreBytes}
 use Rattle.hlc_world.specs.declared.event.Event.{Event}
-use Rattle.hlc_world.specs.declared.event.Event.TheVariants.{Write, Delete, Report, Send, Receive, Deliver, OpenFloor, Read, Floor}
+use Rattle.hlc_world.specs.declared.event.Event.TheVariants.{Write, Delete, Report, Send, Receive, Observe, Deliver, OpenAt, OpenFloor, Read, List as ListAll, Close, Floor}
 
 -- words with one space between each two
 abbrev pub spaced : List (List ℕ) → List ℕ
@@ -16,25 +17,33 @@ event_words (Delete node reading key) = codes "delete" ∷ decimal node ∷ deci
 event_words (Report node reading) = codes "report" ∷ decimal node ∷ decimal reading ∷ []
 event_words (Send node reading) = codes "send" ∷ decimal node ∷ decimal reading ∷ []
 event_words (Receive node reading message) = codes "receive" ∷ decimal node ∷ decimal reading ∷ decimal message ∷ []
+event_words (Observe node reading id) = codes "observe" ∷ decimal node ∷ decimal reading ∷ decimal id ∷ []
 event_words (Deliver node number) = codes "deliver" ∷ decimal node ∷ decimal number ∷ []
+event_words (OpenAt stamp) = codes "open" ∷ stamp_text stamp ∷ []
 event_words OpenFloor = codes "open" ∷ codes "floor" ∷ []
 event_words (Read id key) = codes "read" ∷ decimal id ∷ bytes_token key ∷ []
+event_words (ListAll id) = codes "list" ∷ decimal id ∷ []
+event_words (Close id) = codes "close" ∷ decimal id ∷ []
 event_words Floor = codes "floor" ∷ []
 
 -- the one line of an event
 abbrev pub event_line : Event → List ℕ
 event_line event = spaced (event_words event)
 
--- what has a line: a node below 2^16, numbers below 2^64, and bytes
+-- what has a line: a node below 2^16, numbers and stamps below 2^64, and bytes
 abbrev pub HasLine : Event → Type 0
 HasLine (Write node reading key value) = (node < 2 ^ 16) × (reading < 2 ^ 64) × AreBytes key × AreBytes value
 HasLine (Delete node reading key) = (node < 2 ^ 16) × (reading < 2 ^ 64) × AreBytes key
 HasLine (Report node reading) = (node < 2 ^ 16) × (reading < 2 ^ 64)
 HasLine (Send node reading) = (node < 2 ^ 16) × (reading < 2 ^ 64)
 HasLine (Receive node reading message) = (node < 2 ^ 16) × (reading < 2 ^ 64) × (message < 2 ^ 64)
+HasLine (Observe node reading id) = (node < 2 ^ 16) × (reading < 2 ^ 64) × (id < 2 ^ 64)
 HasLine (Deliver node number) = (node < 2 ^ 16) × (number < 2 ^ 64)
+HasLine (OpenAt stamp) = stamp < 2 ^ 64
 HasLine OpenFloor = ⊤
 HasLine (Read id key) = (id < 2 ^ 64) × AreBytes key
+HasLine (ListAll id) = id < 2 ^ 64
+HasLine (Close id) = id < 2 ^ 64
 HasLine Floor = ⊤
 
 -- the event has a key, which may want memory

@@ -1,11 +1,13 @@
 -- The lines of replies and refusals.
-use Rattle.std.specs.Prelude.{ℕ, List, [], ◌∷◌, ◌++◌, codes, decimal, Option, Some, None}
+use Rattle.std.specs.Prelude.{ℕ, List, [], ◌∷◌, ◌++◌, length, map, codes, decimal, Option, Some, None}
+use Rattle.std.specs.List.{flat_map}
 use Rattle.hlc_clock.specs.Stamp.{stamp_text}
 use Rattle.hlc_text.specs.Text.{bytes_token}
+use Rattle.hlc_core.specs.declared.listing.Pair.{Pair}
 use Rattle.hlc_world.specs.declared.reply.Reply.{Reply}
-use Rattle.hlc_world.specs.declared.reply.Reply.TheVariants.{Stamped, Sent, Received, Accepted, Snapshot, Answer, Floor, Refused}
+use Rattle.hlc_world.specs.declared.reply.Reply.TheVariants.{Stamped, Sent, Received, Observed, Accepted, Snapshot, Answer, Listing, Closed, Floor, Refused}
 use Rattle.hlc_world.specs.declared.refusal.Refusal.{Refusal}
-use Rattle.hlc_world.specs.declared.refusal.Refusal.TheVariants.{NoNode, ReadingTooLarge, CounterFull, NoMessage, NoItem, NotNext, StampNotRising, NoSnapshot, TooManySnapshots, BadKey, ValueTooLong, NumbersSpent, NoMemory}
+use Rattle.hlc_world.specs.declared.refusal.Refusal.TheVariants.{NoNode, ReadingTooLarge, CounterFull, NoMessage, NoItem, NotNext, StampNotRising, AboveFloor, BelowHorizon, NoSnapshot, TooManySnapshots, BadKey, ValueTooLong, NumbersSpent, NoMemory}
 
 -- a refusal's number, and what it tells behind it
 abbrev pub refusal_line : Refusal → List ℕ
@@ -16,6 +18,8 @@ refusal_line NoMessage = codes "refused 4"
 refusal_line NoItem = codes "refused 5"
 refusal_line (NotNext next) = codes "refused 6 next " ++ decimal next
 refusal_line (StampNotRising head) = codes "refused 7 head " ++ stamp_text head
+refusal_line (AboveFloor floor) = codes "refused 8 floor " ++ stamp_text floor
+refusal_line (BelowHorizon horizon) = codes "refused 9 horizon " ++ stamp_text horizon
 refusal_line NoSnapshot = codes "refused 10"
 refusal_line TooManySnapshots = codes "refused 11"
 refusal_line BadKey = codes "refused 12"
@@ -28,14 +32,21 @@ abbrev pub answer_line : Option (List ℕ) → List ℕ
 answer_line None = codes "none"
 answer_line (Some value) = codes "value " ++ bytes_token value
 
--- the line of a reply
+-- the line of a key with its value
+abbrev pub pair_line : Pair → List ℕ
+pair_line pair = (codes "row " ++ bytes_token pair.key) ++ (codes " " ++ bytes_token pair.value)
+
+-- the first line of a reply
 abbrev pub reply_line : Reply → List ℕ
 reply_line (Stamped stamp item) = (codes "stamp " ++ stamp_text stamp) ++ (codes " item " ++ decimal item)
 reply_line (Sent stamp message) = (codes "stamp " ++ stamp_text stamp) ++ (codes " message " ++ decimal message)
 reply_line (Received stamp) = codes "stamp " ++ stamp_text stamp
+reply_line (Observed stamp) = codes "stamp " ++ stamp_text stamp
 reply_line (Accepted stamp) = codes "accepted " ++ stamp_text stamp
 reply_line (Snapshot id stamp) = (codes "snapshot " ++ decimal id) ++ (codes " at " ++ stamp_text stamp)
 reply_line (Answer value) = answer_line value
+reply_line (Listing pairs) = codes "listing " ++ decimal (length pairs)
+reply_line (Closed stamp) = codes "closed " ++ stamp_text stamp
 reply_line (Floor stamp) = codes "floor " ++ stamp_text stamp
 reply_line (Refused refusal) = refusal_line refusal
 
@@ -46,3 +57,16 @@ bad_line number = codes "refused 16 line " ++ decimal number
 -- a line as it is printed: with a line feed at its end
 abbrev pub printed : List ℕ → List ℕ
 printed line = line ++ 10 ∷ []
+
+-- the lines behind it: those of a listing's pairs
+abbrev pub more_lines : Reply → List (List ℕ)
+more_lines (Listing pairs) = map pair_line pairs
+more_lines _ = []
+
+-- all lines of a reply
+abbrev pub reply_lines : Reply → List (List ℕ)
+reply_lines reply = reply_line reply ∷ more_lines reply
+
+-- a reply as it is printed
+abbrev pub reply_text : Reply → List ℕ
+reply_text reply = flat_map printed (reply_lines reply)

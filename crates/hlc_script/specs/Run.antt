@@ -8,7 +8,7 @@ use Rattle.hlc_world.specs.Due.{IsGiven}
 use Rattle.hlc_script.specs.declared.run.RunEnd.{RunEnd}
 use Rattle.hlc_script.specs.declared.run.RunEnd.TheVariants.{Answered, BadLine, BadHeader, NoMemory, ReadFault, TooLong, WriteFault}
 use Rattle.hlc_script.specs.Line.{event_line, HasLine, BearsBytes, header_line, HasHeader, lines_of}
-use Rattle.hlc_script.specs.Reply.{reply_line, bad_line, printed}
+use Rattle.hlc_script.specs.Reply.{reply_text, bad_line, printed}
 
 -- A good line was answered, and the schedule came to be `after`. Its event got the reply that a world gives; or there was no
 -- memory for the event's bytes, and it did not take place.
@@ -25,7 +25,7 @@ Answers nodes schedule number (line ∷ lines) output bad =
     ((event : Event) × (reply : Reply) × (after : List (Event × Reply)) × (rest : List ℕ)
     × HasLine event × (line ≡ event_line event)
     × AnswersLine nodes schedule event reply after
-    × (output ≡ printed (reply_line reply) ++ rest)
+    × (output ≡ reply_text reply ++ rest)
     × Answers nodes after (number + 1) lines rest bad)
     ⊎ (((event : Event) → HasLine event → line ≢ event_line event)
     × (output ≡ printed (bad_line number)) × (bad ≡ Some number))

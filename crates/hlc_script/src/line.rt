@@ -7,8 +7,9 @@ ghost use Rattle.hlc_script.specs.Spelled.{event_of};
 
 use hlc_text::bytes::{Spelled, bytes};
 use hlc_text::number;
+use hlc_text::stamp::stamp;
 use hlc_text::words::Words;
-use hlc_world::{Bytes, Event};
+use hlc_world::{Bytes, Event, Stamp};
 use std::alloc::{AllocError, Global};
 
 /// The event that a line spells, with its bytes still as they are spelled.
@@ -38,14 +39,28 @@ pub enum Line<'a> {
         reading: u64,
         message: u64,
     },
+    Observe {
+        node: u16,
+        reading: u64,
+        id: u64,
+    },
     Deliver {
         node: u16,
         number: u64,
+    },
+    OpenAt {
+        stamp: Stamp,
     },
     OpenFloor,
     Read {
         id: u64,
         key: Spelled<'a>,
+    },
+    List {
+        id: u64,
+    },
+    Close {
+        id: u64,
     },
     Floor,
 }
@@ -94,7 +109,15 @@ impl<'a> Line<'a> {
                 node: *node,
                 number: *number,
             }),
+            Line::Observe { node, reading, id } => Ok(Event::Observe {
+                node: *node,
+                reading: *reading,
+                id: *id,
+            }),
+            Line::OpenAt { stamp } => Ok(Event::OpenAt { stamp: *stamp }),
             Line::OpenFloor => Ok(Event::OpenFloor),
+            Line::List { id } => Ok(Event::List { id: *id }),
+            Line::Close { id } => Ok(Event::Close { id: *id }),
             Line::Read { id, key } => Ok(Event::Read {
                 id: *id,
                 key: Bytes::from_vec(key.to_vec(alloc)?),
@@ -132,6 +155,9 @@ fn line_of_words<'a>(words: &mut Words<'a>) -> Option<Line<'a>>
     if verb == b"receive".as_slice() {
         return receive_line(words);
     }
+    if verb == b"observe".as_slice() {
+        return observe_line(words);
+    }
     if verb == b"deliver".as_slice() {
         return deliver_line(words);
     }
@@ -140,6 +166,12 @@ fn line_of_words<'a>(words: &mut Words<'a>) -> Option<Line<'a>>
     }
     if verb == b"read".as_slice() {
         return read_verb_line(words);
+    }
+    if verb == b"list".as_slice() {
+        return list_line(words);
+    }
+    if verb == b"close".as_slice() {
+        return close_line(words);
     }
     if verb == b"floor".as_slice() {
         return floor_line(words);
@@ -196,6 +228,14 @@ fn receive_line<'a>(words: &mut Words<'a>) -> Option<Line<'a>>
     })
 }
 
+/// The event of the words behind `observe`.
+fn observe_line<'a>(words: &mut Words<'a>) -> Option<Line<'a>>
+    ensures { Reads event_words HasLine (codes "observe" ∷ words.old) (option_map event_of result) }
+{
+    let (node, reading, id) = node_two_numbers(words)?;
+    Some(Line::Observe { node, reading, id })
+}
+
 /// The event of the words behind `deliver`.
 fn deliver_line<'a>(words: &mut Words<'a>) -> Option<Line<'a>>
     ensures { Reads event_words HasLine (codes "deliver" ∷ words.old) (option_map event_of result) }
@@ -212,7 +252,8 @@ fn open_line<'a>(words: &mut Words<'a>) -> Option<Line<'a>>
     if word == b"floor".as_slice() {
         return Some(Line::OpenFloor);
     }
-    None
+    let stamp = stamp(word)?;
+    Some(Line::OpenAt { stamp })
 }
 
 /// The event of the words behind `read`.
@@ -221,6 +262,22 @@ fn read_verb_line<'a>(words: &mut Words<'a>) -> Option<Line<'a>>
 {
     let (id, key) = number_key(words)?;
     Some(Line::Read { id, key })
+}
+
+/// The event of the words behind `list`.
+fn list_line<'a>(words: &mut Words<'a>) -> Option<Line<'a>>
+    ensures { Reads event_words HasLine (codes "list" ∷ words.old) (option_map event_of result) }
+{
+    let id = one_number(words)?;
+    Some(Line::List { id })
+}
+
+/// The event of the words behind `close`.
+fn close_line<'a>(words: &mut Words<'a>) -> Option<Line<'a>>
+    ensures { Reads event_words HasLine (codes "close" ∷ words.old) (option_map event_of result) }
+{
+    let id = one_number(words)?;
+    Some(Line::Close { id })
 }
 
 /// The event of the words behind `floor`, where none stands.
@@ -234,6 +291,13 @@ fn floor_line<'a>(words: &mut Words<'a>) -> Option<Line<'a>>
 }
 
 // The shapes of what stands behind a verb.
+
+/// A number.
+fn one_number(words: &mut Words<'_>) -> Option<u64>
+    ensures { Reads (λ x. decimal x ∷ []) (λ x. x < 2 ^ 64) words.old result }
+{
+    number::number(words.last()?)
+}
 
 /// A node and a number.
 fn node_number(words: &mut Words<'_>) -> Option<(u16, u64)>

@@ -1,18 +1,46 @@
 //! The lines of replies and refusals. Here alone a refusal has its number.
+ghost use Rattle.std.specs.Prelude.{map};
+ghost use Rattle.std.specs.List.{flat_map};
 ghost use Rattle.hlc_text.specs.Printing.{Prints};
-ghost use Rattle.hlc_script.specs.Reply.{reply_line, refusal_line, answer_line, printed};
+ghost use Rattle.hlc_script.specs.Reply.{reply_line, more_lines, pair_line, reply_text, refusal_line, answer_line, printed};
 
 use hlc_text::print::{put, put_named_bytes, put_named_number, put_named_stamp};
 use hlc_text::waiting::Waiting;
 use hlc_text::watched::Watched;
-use hlc_world::{Bytes, Refusal, Reply};
+use hlc_world::{Bytes, Pair, Refusal, Reply};
 use std::io::Write;
 
-/// Prints the line of a reply.
+/// Prints the lines of a reply: one, and behind that of a listing one for each pair.
 pub fn put_reply<W: Write>(writer: &mut Watched<W>, waiting: &mut Waiting, reply: Reply)
-    ensures { Prints W.contents writer.old writer.new waiting.old waiting.new (printed (reply_line reply)) }
+    ensures { Prints W.contents writer.old writer.new waiting.old waiting.new (reply_text reply) }
 {
     put_reply_text(writer, waiting, &reply);
+    put(writer, waiting, b"\n");
+    put_more(writer, waiting, &reply);
+}
+
+/// Prints the lines behind the first one of a reply.
+fn put_more<W: Write>(writer: &mut Watched<W>, waiting: &mut Waiting, reply: &Reply)
+    ensures { Prints W.contents writer.old writer.new waiting.old waiting.new (flat_map printed (more_lines reply.now)) }
+{
+    if let Reply::Listing { pairs } = reply {
+        put_pairs(writer, waiting, pairs.as_slice());
+    }
+}
+
+fn put_pairs<W: Write>(writer: &mut Watched<W>, waiting: &mut Waiting, pairs: &[Pair])
+    ensures { Prints W.contents writer.old writer.new waiting.old waiting.new (flat_map printed (map pair_line pairs.now)) }
+{
+    for pair in pairs {
+        put_pair(writer, waiting, pair);
+    }
+}
+
+fn put_pair<W: Write>(writer: &mut Watched<W>, waiting: &mut Waiting, pair: &Pair)
+    ensures { Prints W.contents writer.old writer.new waiting.old waiting.new (printed (pair_line pair.now)) }
+{
+    put_named_bytes(writer, waiting, b"row ", pair.key.as_slice());
+    put_named_bytes(writer, waiting, b" ", pair.value.as_slice());
     put(writer, waiting, b"\n");
 }
 
@@ -29,12 +57,17 @@ fn put_reply_text<W: Write>(writer: &mut Watched<W>, waiting: &mut Waiting, repl
             put_named_number(writer, waiting, b" message ", *message);
         }
         Reply::Received { stamp } => put_named_stamp(writer, waiting, b"stamp ", *stamp),
+        Reply::Observed { stamp } => put_named_stamp(writer, waiting, b"stamp ", *stamp),
         Reply::Accepted { stamp } => put_named_stamp(writer, waiting, b"accepted ", *stamp),
         Reply::Snapshot { id, stamp } => {
             put_named_number(writer, waiting, b"snapshot ", *id);
             put_named_stamp(writer, waiting, b" at ", *stamp);
         }
         Reply::Answer { value } => put_answer(writer, waiting, value),
+        Reply::Listing { pairs } => {
+            put_named_number(writer, waiting, b"listing ", pairs.len() as u64)
+        }
+        Reply::Closed { stamp } => put_named_stamp(writer, waiting, b"closed ", *stamp),
         Reply::Floor { stamp } => put_named_stamp(writer, waiting, b"floor ", *stamp),
         Reply::Refused(refusal) => put_refusal(writer, waiting, *refusal),
     }
@@ -62,6 +95,12 @@ pub fn put_refusal<W: Write>(writer: &mut Watched<W>, waiting: &mut Waiting, ref
         Refusal::NotNext { next } => put_named_number(writer, waiting, b"refused 6 next ", next),
         Refusal::StampNotRising { head } => {
             put_named_stamp(writer, waiting, b"refused 7 head ", head)
+        }
+        Refusal::AboveFloor { floor } => {
+            put_named_stamp(writer, waiting, b"refused 8 floor ", floor)
+        }
+        Refusal::BelowHorizon { horizon } => {
+            put_named_stamp(writer, waiting, b"refused 9 horizon ", horizon)
         }
         Refusal::NoSnapshot => put(writer, waiting, b"refused 10"),
         Refusal::TooManySnapshots => put(writer, waiting, b"refused 11"),

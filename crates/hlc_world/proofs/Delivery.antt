@@ -69,6 +69,14 @@ due-none n s p k item o at none =
       | inr both ↦ absurd (let e : Some (core_fault.NotNext (count p (core_past s))) ≡ None = sym both.0 ∙ none in cc)
     ]
 
+-- and an item that nothing refuses to deliver the core does not refuse
+pub due-accepts : (n : ℕ) (s : List (Event × Reply)) (p k : ℕ) (item : Item) → IsOrderly n s → item_at p k s ≡ Some item → refusal_due n s (Deliver p k) ≡ None → item_refusal n (core_past s) item ≡ None
+due-accepts n s p k item o at none =
+    elim (agrees n s p k item o at) [
+      | inl both ↦ both.0
+      | inr both ↦ absurd (let e : None ≡ Some (NotNext (count p (core_past s))) = sym none ∙ both.1 in cc)
+    ]
+
 -- the item that the world finds is the issued one
 pub found : (state : State) (s : List (Event × Reply)) (p k : ℕ) (node : KeptNode) (item : Item) → StandsFor state s → p < world_nodes state → slice_get state.nodes p ≡ Some node → Some item ≡ slice_get node.issued k → item_at p k s ≡ Some item
 found state s p k node item h inside at in_items =

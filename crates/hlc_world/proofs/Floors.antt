@@ -1,32 +1,23 @@
 -- The floor is complete: an issued item at or below the floor is not above its node's head, so it was accepted, since a node's items
 -- are accepted in order and what was not yet accepted lies above the head. No head is above its node's clock, so the floor is not.
-use Rattle.std.proofs.Common.{◌≡◌, ℕ, zero, suc, ◌+◌, ◌<◌, ◌≤◌, List, [], ◌∷◌, ◌++◌, length, Some, None, Option, refl, ap, sym, ◌∙◌, subst, inl, inr, arith, length-append}
+use Rattle.std.proofs.Common.{◌≡◌, ℕ, ◌+◌, ◌<◌, ◌≤◌, List, [], ◌∷◌, ◌++◌, length, Some, None, Option, refl, ap, sym, ◌∙◌, subst, inl, inr, arith, length-append}
 use Rattle.std.specs.Prelude.{Contains, slice_get}
 use Rattle.std.proofs.lemmas.Option.{slice_get-get_or, slice_get_within}
 use Rattle.std.proofs.lemmas.Bool.{cases_lt, cases_eq}
 use Rattle.std.proofs.lemmas.List.Elements.{Contains-append_left, Contains-append_right}
 use Rattle.hlc_node.specs.declared.item.Item.{Item}
-use Rattle.hlc_core.specs.Past.{Step, Took, Opened, count, head, least, floor}
+use Rattle.hlc_core.specs.Past.{Step, Took, Opened, Closed as ClosedOf, count, head, floor}
+use Rattle.hlc_core.specs.PastLaws.{least-le}
 use Rattle.hlc_world.specs.declared.event.Event.{Event}
-use Rattle.hlc_world.specs.declared.event.Event.TheVariants.{Write, Delete, Report, Deliver, OpenFloor}
+use Rattle.hlc_world.specs.declared.event.Event.TheVariants.{Write, Delete, Report, Deliver, OpenAt, OpenFloor, Close}
 use Rattle.hlc_world.specs.declared.reply.Reply.{Reply}
-use Rattle.hlc_world.specs.declared.reply.Reply.TheVariants.{Stamped, Accepted, Snapshot}
+use Rattle.hlc_world.specs.declared.reply.Reply.TheVariants.{Stamped, Accepted, Snapshot, Closed}
 use Rattle.hlc_world.specs.Schedule.{with_item, issued, taking, with_step, core_past}
 use Rattle.hlc_world.specs.Due.{IsGiven, IsLegal, deliver_refusal}
 use Rattle.hlc_world.specs.Floor.{IsComplete, IsBelowClocks}
 use Rattle.hlc_world.proofs.Lists.{some-injective}
 use Rattle.hlc_world.proofs.Nodes.{with_item-same, with_item-other}
 use Rattle.hlc_world.proofs.Orderly.{IsOrderly, orderly, get-with_item, count-same, count-other, delivered, on_node-none}
-
--- no value is below the least
-least-le : (f : ℕ → ℕ) (n k : ℕ) → k < n → least f n ≤ f k
-least-le f zero k h = absurd (omega arith)
-least-le f (suc zero) k h = (let e : k ≡ 0 = omega arith in let g : f k ≡ f 0 = ap f e in omega arith)
-least-le f (suc (suc n)) k h =
-    elim (cases_eq k (suc n)) [
-      | inl same ↦ (let g : f k ≡ f (suc n) = ap f same in omega arith)
-      | inr other ↦ (let g : least f (suc n) ≤ f k = least-le f (suc n) k (omega arith) in omega arith)
-    ]
 
 -- the first items of a node, as many as were accepted, are those that were
 record AreTaken (items : List Item) (number : ℕ) (past : List Step) : Type 0 where
@@ -91,7 +82,9 @@ taken-entry nodes s (Write p reading key value) (Stamped st num) given ordered h
 taken-entry nodes s (Delete p reading key) (Stamped st num) given ordered h = λ n. taken-issue n _ (issued n s) (count n (core_past s)) (core_past s) (h n)
 taken-entry nodes s (Report p reading) (Stamped st num) given ordered h = λ n. taken-issue n _ (issued n s) (count n (core_past s)) (core_past s) (h n)
 taken-entry nodes s (Deliver p k) (Accepted st) given ordered h = taken-delivered nodes s p k (slice_get (issued p s) k) refl (on_node-none nodes p _ given.0).1 ordered h
+taken-entry nodes s (OpenAt at) (Snapshot id st) given ordered h = λ n. taken-more (issued n s) (count n (core_past s)) (core_past s) (Opened st) (h n)
 taken-entry nodes s OpenFloor (Snapshot id st) given ordered h = λ n. taken-more (issued n s) (count n (core_past s)) (core_past s) (Opened st) (h n)
+taken-entry nodes s (Close id) (Closed st) given ordered h = λ n. taken-more (issued n s) (count n (core_past s)) (core_past s) (ClosedOf id) (h n)
 taken-entry nodes s _ _ given ordered h = h
 
 taken : (nodes : ℕ) (s : List (Event × Reply)) → IsLegal nodes s → AllTaken s

@@ -4,5 +4,8 @@ pub mod Orderly
 pub mod Floors
 pub mod Rises
 pub mod Delivery
+pub mod Entries
+pub mod Openings
 pub mod Times
+pub mod Closure
 pub mod Runs

@@ -9,15 +9,16 @@ use Rattle.hlc_node.specs.declared.item.Message.{Message}
 use Rattle.hlc_node.specs.declared.item.Body.{Body}
 use Rattle.hlc_node.specs.declared.item.Body.TheVariants.{Write as a_write, Report as a_report}
 use Rattle.hlc_node.specs.Node.{Node, issue_due, next_item, stamped, after_issue}
+use Rattle.hlc_core.specs.Past.{stamp_of}
 use Rattle.hlc_core.specs.Kept.{Kept, StandsFor as CoreStandsFor}
 use Rattle.hlc_world.specs.declared.event.Event.{Event}
-use Rattle.hlc_world.specs.declared.event.Event.TheVariants.{Write, Delete, Report, Send, Receive}
+use Rattle.hlc_world.specs.declared.event.Event.TheVariants.{Write, Delete, Report, Send, Receive, Observe}
 use Rattle.hlc_world.specs.declared.reply.Reply.{Reply}
-use Rattle.hlc_world.specs.declared.reply.Reply.TheVariants.{Stamped, Sent, Received, Refused}
+use Rattle.hlc_world.specs.declared.reply.Reply.TheVariants.{Stamped, Sent, Received, Observed, Refused}
 use Rattle.hlc_world.specs.declared.refusal.Refusal.{Refusal}
 use Rattle.hlc_world.specs.declared.refusal.Refusal.TheVariants.{NoMemory}
 use Rattle.hlc_world.specs.Schedule.{an_item, item_made, message_made, stamping_of, with_item, stamp_or, with_message, issued, last_stamp, sent, message_at, node_of, step_of, with_step, core_past}
-use Rattle.hlc_world.specs.Due.{of_clock, issue_refusal, stamp_refusal, receive_refusal, on_node, refusal_due, IsReceived, MayLackMemory, IsGiven, IsLegal}
+use Rattle.hlc_world.specs.Due.{of_clock, issue_refusal, stamp_refusal, receive_refusal, observe_refusal, on_node, refusal_due, IsReceived, IsObserved, MayLackMemory, IsGiven, IsLegal}
 use Rattle.hlc_world.specs.State.{KeptNode, State, world_nodes, StandsFor, fresh, Issues}
 use Rattle.hlc_world.proofs.Lists.{some-injective, get-set_at, get-set_other, set-same, get-append_left, get-push}
 
@@ -181,33 +182,67 @@ sends_lost state s p reading st before h inside at due =
     let due' : stamp_due (last_stamp p s ∷ []) reading ≡ Ok st = ap (λ node. stamp_due (node.core.last ∷ []) reading) (sym was) ∙ due in
     stays state s (Send p reading) NoMemory refl refl refl refl (inr (on_node-inside (world_nodes state) p _ inside ∙ ap stamp_refusal due', refl, tt)) h
 
--- a message that a node received
-pub receives : (state : State) (s : List (Event × Reply)) (p reading number st : ℕ) (before : KeptNode) (core : Node) (message : Message) → StandsFor state s → p < world_nodes state → slice_get state.nodes p ≡ Some before → message_at number s ≡ Some message → stamp_due (before.core.last ∷ message.stamp ∷ []) reading ≡ Ok st → core ≡ stamped before.core st → StandsFor (with_node state p (record { core = core; issued = before.issued })) ((Receive p reading number, Received st) ∷ s)
-receives state s p reading number st before core message h inside at there due core-is =
-    let after : KeptNode = record { core = core; issued = before.issued } in
-    let was : before ≡ a_node p (last_stamp p s) (issued p s) = some-injective _ _ (sym at ∙ h.nodes p inside) in
-    let due' : stamp_due (last_stamp p s ∷ message.stamp ∷ []) reading ≡ Ok st = ap (λ node. stamp_due (node.core.last ∷ message.stamp ∷ []) reading) (sym was) ∙ due in
-    let came : after ≡ a_node p st (issued p s) =
-    ap (λ c. record { core = c; issued = before.issued }) core-is ∙ ap (λ node. record { core = stamped node.core st; issued = node.issued }) was in
-    let none : refusal_due (world_nodes state) s (Receive p reading number) ≡ None =
-    on_node-inside (world_nodes state) p _ inside ∙ ap (λ o. receive_refusal o (last_stamp p s) reading) there ∙ ap stamp_refusal due' in
-    let same : length (slice_set state.nodes p after) ≡ length state.nodes = length-set state.nodes p after in
+-- an event by which a node sees a stamp
+pub record IsSight (nodes : ℕ) (s : List (Event × Reply)) (e : Event) (reply : ℕ → Reply) (p seen reading : ℕ) : Type 0 where
+  pub refusal : refusal_due nodes s e ≡ on_node nodes p (stamp_refusal (stamp_due (last_stamp p s ∷ seen ∷ []) reading))
+  pub marks : (st : ℕ) → stamping_of e (reply st) ≡ Some (p, st)
+  pub makes : (r : Reply) → item_made e r ≡ None
+  pub sends : (r : Reply) → message_made e r ≡ None
+  pub steps : (r : Reply) → step_of s e r ≡ None
+  pub not_marked : (f : Refusal) → stamping_of e (Refused f) ≡ None
+  pub given : (st : ℕ) → refusal_due nodes s e ≡ None → stamp_due (last_stamp p s ∷ seen ∷ []) reading ≡ Ok st → IsGiven nodes s e (reply st)
+
+pub receive-is : (nodes : ℕ) (s : List (Event × Reply)) (p reading number : ℕ) (message : Message) → message_at number s ≡ Some message → IsSight nodes s (Receive p reading number) Received p message.stamp reading
+receive-is nodes s p reading number message there =
     record {
-      legal = subst (λ n. IsLegal n ((Receive p reading number, Received st) ∷ s)) (sym same) ((none, subst (λ o. IsReceived o (last_stamp p s) reading st) (sym there) due'), h.legal);
-      core = h.core;
-      nodes = λ n lt.
-          subst (λ x. slice_get (slice_set state.nodes p x) n ≡ Some (a_node n (stamp_or n (Some (p, st)) (last_stamp n s)) (issued n s))) (sym came)
-          (nodes-stamped state.nodes (λ k. last_stamp k s) (λ k. issued k s) p st inside h.nodes n (rw same at lt));
-      messages = h.messages;
+      refusal = ap (λ o. on_node nodes p (receive_refusal o (last_stamp p s) reading)) there;
+      marks = λ st. refl;
+      makes = λ r. refl;
+      sends = λ r. refl;
+      steps = λ r. refl;
+      not_marked = λ f. refl;
+      given = λ st none due. (none, subst (λ o. IsReceived o (last_stamp p s) reading st) (sym there) due);
     }
 
--- one that it did not receive
-pub receives_not : (state : State) (s : List (Event × Reply)) (p reading number : ℕ) (before : KeptNode) (message : Message) (fault : ClockFault) → StandsFor state s → p < world_nodes state → slice_get state.nodes p ≡ Some before → message_at number s ≡ Some message → stamp_due (before.core.last ∷ message.stamp ∷ []) reading ≡ Err fault → StandsFor state ((Receive p reading number, Refused (of_clock fault)) ∷ s)
-receives_not state s p reading number before message fault h inside at there due =
+pub observe-is : (nodes : ℕ) (s : List (Event × Reply)) (p reading id seen : ℕ) → stamp_of id (core_past s) ≡ Some seen → IsSight nodes s (Observe p reading id) Observed p seen reading
+observe-is nodes s p reading id seen there =
+    record {
+      refusal = ap (λ o. on_node nodes p (observe_refusal o (last_stamp p s) reading)) there;
+      marks = λ st. refl;
+      makes = λ r. refl;
+      sends = λ r. refl;
+      steps = λ r. refl;
+      not_marked = λ f. refl;
+      given = λ st none due. (none, subst (λ o. IsObserved o (last_stamp p s) reading st) (sym there) due);
+    }
+
+-- a stamp that a node saw
+pub sees : (state : State) (s : List (Event × Reply)) (e : Event) (reply : ℕ → Reply) (p seen reading st : ℕ) (before : KeptNode) (core : Node) → IsSight (world_nodes state) s e reply p seen reading → StandsFor state s → p < world_nodes state → slice_get state.nodes p ≡ Some before → stamp_due (before.core.last ∷ seen ∷ []) reading ≡ Ok st → core ≡ stamped before.core st → StandsFor (with_node state p (record { core = core; issued = before.issued })) ((e, reply st) ∷ s)
+sees state s e reply p seen reading st before core is h inside at due core-is =
+    let after : KeptNode = record { core = core; issued = before.issued } in
     let was : before ≡ a_node p (last_stamp p s) (issued p s) = some-injective _ _ (sym at ∙ h.nodes p inside) in
-    let due' : stamp_due (last_stamp p s ∷ message.stamp ∷ []) reading ≡ Err fault = ap (λ node. stamp_due (node.core.last ∷ message.stamp ∷ []) reading) (sym was) ∙ due in
-    stays state s (Receive p reading number) (of_clock fault) refl refl refl refl
-    (inl (on_node-inside (world_nodes state) p _ inside ∙ ap (λ o. receive_refusal o (last_stamp p s) reading) there ∙ ap stamp_refusal due')) h
+    let due' : stamp_due (last_stamp p s ∷ seen ∷ []) reading ≡ Ok st = ap (λ node. stamp_due (node.core.last ∷ seen ∷ []) reading) (sym was) ∙ due in
+    let came : after ≡ a_node p st (issued p s) =
+    ap (λ c. record { core = c; issued = before.issued }) core-is ∙ ap (λ node. record { core = stamped node.core st; issued = node.issued }) was in
+    let none : refusal_due (world_nodes state) s e ≡ None = is.refusal ∙ on_node-inside (world_nodes state) p _ inside ∙ ap stamp_refusal due' in
+    let same : length (slice_set state.nodes p after) ≡ length state.nodes = length-set state.nodes p after in
+    record {
+      legal = subst (λ n. IsLegal n ((e, reply st) ∷ s)) (sym same) (is.given st none due', h.legal);
+      core = subst (λ o. CoreStandsFor state.core (with_step o (core_past s))) (sym (is.steps (reply st))) h.core;
+      nodes = λ n lt.
+          subst (λ o. slice_get (slice_set state.nodes p after) n ≡ Some (a_node n (stamp_or n o (last_stamp n s)) (with_item n (item_made e (reply st)) (issued n s)))) (sym (is.marks st))
+          (subst (λ o. slice_get (slice_set state.nodes p after) n ≡ Some (a_node n (stamp_or n (Some (p, st)) (last_stamp n s)) (with_item n o (issued n s)))) (sym (is.makes (reply st)))
+          (subst (λ x. slice_get (slice_set state.nodes p x) n ≡ Some (a_node n (stamp_or n (Some (p, st)) (last_stamp n s)) (issued n s))) (sym came)
+          (nodes-stamped state.nodes (λ k. last_stamp k s) (λ k. issued k s) p st inside h.nodes n (rw same at lt))));
+      messages = subst (λ o. state.messages ≡ with_message o (sent s)) (sym (is.sends (reply st))) h.messages;
+    }
+
+-- one that it did not see
+pub sees_not : (state : State) (s : List (Event × Reply)) (e : Event) (reply : ℕ → Reply) (p seen reading : ℕ) (before : KeptNode) (fault : ClockFault) → IsSight (world_nodes state) s e reply p seen reading → StandsFor state s → p < world_nodes state → slice_get state.nodes p ≡ Some before → stamp_due (before.core.last ∷ seen ∷ []) reading ≡ Err fault → StandsFor state ((e, Refused (of_clock fault)) ∷ s)
+sees_not state s e reply p seen reading before fault is h inside at due =
+    let was : before ≡ a_node p (last_stamp p s) (issued p s) = some-injective _ _ (sym at ∙ h.nodes p inside) in
+    let due' : stamp_due (last_stamp p s ∷ seen ∷ []) reading ≡ Err fault = ap (λ node. stamp_due (node.core.last ∷ seen ∷ []) reading) (sym was) ∙ due in
+    stays state s e (of_clock fault) (is.makes _) (is.not_marked _) (is.sends _) (is.steps _) (inl (is.refusal ∙ on_node-inside (world_nodes state) p _ inside ∙ ap stamp_refusal due')) h
 
 pub fresh-length : (n : ℕ) → length (fresh n) ≡ n
 fresh-length zero = refl

@@ -18,13 +18,13 @@ use Rattle.hlc_node.specs.Items.{body_refusal}
 use Rattle.hlc_node.specs.Node.{Node, clocked, unless_bad, issue_due}
 use Rattle.hlc_core.specs.Past.{Step, Took, count, head}
 use Rattle.hlc_world.specs.declared.event.Event.{Event}
-use Rattle.hlc_world.specs.declared.event.Event.TheVariants.{Write, Delete, Report, Send, Receive, Deliver, OpenFloor}
+use Rattle.hlc_world.specs.declared.event.Event.TheVariants.{Write, Delete, Report, Send, Receive, Observe, Deliver, OpenAt, OpenFloor, Close}
 use Rattle.hlc_world.specs.declared.reply.Reply.{Reply}
-use Rattle.hlc_world.specs.declared.reply.Reply.TheVariants.{Stamped, Sent, Received, Accepted, Snapshot}
+use Rattle.hlc_world.specs.declared.reply.Reply.TheVariants.{Stamped, Sent, Received, Observed, Accepted, Snapshot, Closed}
 use Rattle.hlc_world.specs.declared.refusal.Refusal.{Refusal}
 use Rattle.hlc_world.specs.declared.refusal.Refusal.TheVariants.{NoNode, NotNext}
 use Rattle.hlc_world.specs.Schedule.{an_item, with_item, stamp_or, issued, last_stamp, node_of, taking, with_step, core_past}
-use Rattle.hlc_world.specs.Due.{on_node, deliver_refusal, IsReceived, IsGiven, IsLegal}
+use Rattle.hlc_world.specs.Due.{on_node, deliver_refusal, IsReceived, IsObserved, IsGiven, IsLegal}
 use Rattle.hlc_world.proofs.Lists.{some-injective, get-append_left, get-push}
 use Rattle.hlc_world.proofs.Nodes.{with_item-same, with_item-other, stamp_or-other}
 
@@ -216,6 +216,10 @@ pub received-rises : (o : Option Message) (last reading st : ℕ) → IsReceived
 received-rises None last reading st h = absurd h
 received-rises (Some message) last reading st h = (sight-rises last message.stamp reading st h).0
 
+pub observed-rises : (o : Option ℕ) (last reading st : ℕ) → IsObserved o last reading st → last < st
+observed-rises None last reading st h = absurd h
+observed-rises (Some seen) last reading st h = (sight-rises last seen reading st h).0
+
 -- what it says of an item that a stamp is due to it
 issue-by : (body : Option BodyFault) (last next reading st : ℕ) → unless_bad body (if next == 18446744073709551615 then Err NumbersSpent else clocked (stamp_due (last ∷ []) reading)) ≡ Ok st → (body ≡ None) × (next ≡ 18446744073709551615 → ⊥) × (last < st)
 issue-by (Some fault) last next reading st h = absurd (cc)
@@ -259,9 +263,13 @@ orderly-entry nodes s (Send p reading) (Sent st num) given h =
     orderly-mark nodes (λ n. issued n s) (λ n. last_stamp n s) (λ n. count n (core_past s)) (λ n. head n (core_past s)) p st h (stamp-rises _ reading st given.1.0)
 orderly-entry nodes s (Receive p reading number) (Received st) given h =
     orderly-mark nodes (λ n. issued n s) (λ n. last_stamp n s) (λ n. count n (core_past s)) (λ n. head n (core_past s)) p st h (received-rises _ _ reading st given.1)
+orderly-entry nodes s (Observe p reading id) (Observed st) given h =
+    orderly-mark nodes (λ n. issued n s) (λ n. last_stamp n s) (λ n. count n (core_past s)) (λ n. head n (core_past s)) p st h (observed-rises _ _ reading st given.1)
 orderly-entry nodes s (Deliver p k) (Accepted st) given h =
     orderly-taken nodes s p k (slice_get (issued p s) k) refl (on_node-none nodes p _ given.0).1 h
+orderly-entry nodes s (OpenAt at) (Snapshot id st) given h = h
 orderly-entry nodes s OpenFloor (Snapshot id st) given h = h
+orderly-entry nodes s (Close id) (Closed st) given h = h
 orderly-entry nodes s _ _ given h = h
 
 -- every legal schedule is orderly

@@ -1,7 +1,7 @@
 -- No world answers that a stamp does not rise: no due refusal says it, since a delivery is of an issued item, and is refused for its
 -- number alone.
 use Rattle.std.proofs.Common.{◌≡◌, ℕ, List, [], ◌∷◌, length, Some, None, Option, Ok, Err, Result, ap, sym, ◌∙◌, subst, inl, inr}
-use Rattle.std.specs.Prelude.{nat_le}
+use Rattle.std.specs.Prelude.{nat_le, nat_lt}
 use Rattle.std.proofs.lemmas.Bool.{cond-true, cond-false, eq-eqb, ne_eqb, cases_eq, cases_Bool}
 use Rattle.hlc_clock.specs.NextStamp.{stamp_due}
 use Rattle.hlc_clock.specs.declared.clock.ClockFault.{ClockFault}
@@ -13,15 +13,18 @@ use Rattle.hlc_node.specs.declared.item.Message.{Message}
 use Rattle.hlc_node.specs.declared.node.NodeFault.{NodeFault}
 use Rattle.hlc_node.specs.declared.node.NodeFault.TheVariants as node_fault
 use Rattle.hlc_node.specs.Node.{issue_due}
-use Rattle.hlc_core.specs.Past.{Step, count, opened, stamp_of, open_snapshots, room_refusal}
+use Rattle.hlc_core.specs.Past.{Step, count, floor, horizon, opened, stamp_of, open_snapshots, of_room, open_refusal}
+use Rattle.hlc_snapshot.specs.declared.fault.SnapshotFault.{SnapshotFault}
+use Rattle.hlc_snapshot.specs.declared.fault.SnapshotFault.TheVariants as snapshot_fault
+use Rattle.hlc_snapshot.specs.Register.{room_refusal as room_in}
 use Rattle.hlc_world.specs.declared.event.Event.{Event}
-use Rattle.hlc_world.specs.declared.event.Event.TheVariants.{Write, Delete, Report, Send, Receive, Deliver, OpenFloor, Read, Floor}
+use Rattle.hlc_world.specs.declared.event.Event.TheVariants.{Write, Delete, Report, Send, Receive, Observe, Deliver, OpenAt, OpenFloor, Read, List as ListAll, Close, Floor}
 use Rattle.hlc_world.specs.declared.reply.Reply.{Reply}
 use Rattle.hlc_world.specs.declared.reply.Reply.TheVariants.{Refused}
 use Rattle.hlc_world.specs.declared.refusal.Refusal.{Refusal}
-use Rattle.hlc_world.specs.declared.refusal.Refusal.TheVariants.{NoNode, NotNext, StampNotRising, TooManySnapshots, NumbersSpent, NoMemory}
+use Rattle.hlc_world.specs.declared.refusal.Refusal.TheVariants.{NoNode, NotNext, StampNotRising, AboveFloor, BelowHorizon, NoMemory}
 use Rattle.hlc_world.specs.Schedule.{item_at, last_stamp, message_at, node_of, core_past}
-use Rattle.hlc_world.specs.Due.{issue_refusal, stamp_refusal, receive_refusal, core_refusal, on_node, deliver_refusal, snapshot_refusal, refusal_due, IsGiven, IsLegal}
+use Rattle.hlc_world.specs.Due.{issue_refusal, stamp_refusal, receive_refusal, observe_refusal, core_refusal, on_node, deliver_refusal, snapshot_refusal, refusal_due, IsGiven, IsLegal}
 
 -- the refusal is not that a stamp does not rise
 abbrev IsRise : Option Refusal → Type 0
@@ -43,6 +46,10 @@ receive-rise : (o : Option Message) (last reading : ℕ) → IsRise (receive_ref
 receive-rise None last reading head e = absurd (cc)
 receive-rise (Some message) last reading head e = stamp-rise (stamp_due (last ∷ message.stamp ∷ []) reading) head e
 
+observe-rise : (o : Option ℕ) (last reading : ℕ) → IsRise (observe_refusal o last reading)
+observe-rise None last reading head e = absurd (cc)
+observe-rise (Some seen) last reading head e = stamp-rise (stamp_due (last ∷ seen ∷ []) reading) head e
+
 deliver-rise : (o : Option Item) (number next : ℕ) → IsRise (deliver_refusal o number next)
 deliver-rise None number next head e = absurd (cc)
 deliver-rise (Some item) number next head e =
@@ -51,15 +58,21 @@ deliver-rise (Some item) number next head e =
       | inr other ↦ absurd (let g : Some (NotNext next) ≡ Some (StampNotRising head) = sym (cond-false _ _ _ (ne_eqb _ _ other)) ∙ e in cc)
     ]
 
-room-rise : (past : List Step) → IsRise (core_refusal (room_refusal past))
-room-rise past head e =
-    elim (cases_Bool (nat_le 1024 (length (open_snapshots past)))) [
-      | inl full ↦ absurd (let g : Some TooManySnapshots ≡ Some (StampNotRising head) = ap core_refusal (sym (cond-true _ _ _ full)) ∙ e in cc)
-      | inr room ↦
-          let e1 = ap core_refusal (sym (cond-false _ _ _ room)) ∙ e in
-          elim (cases_Bool (nat_le 18446744073709551614 (opened past))) [
-            | inl spent ↦ absurd (let g : Some NumbersSpent ≡ Some (StampNotRising head) = ap core_refusal (sym (cond-true _ _ _ spent)) ∙ e1 in cc)
-            | inr left ↦ absurd (let g : None ≡ Some (StampNotRising head) = ap core_refusal (sym (cond-false _ _ _ left)) ∙ e1 in cc)
+room-rise : (o : Option SnapshotFault) → IsRise (core_refusal (of_room o))
+room-rise None head e = absurd (cc)
+room-rise (Some snapshot_fault.TooManySnapshots) head e = absurd (cc)
+room-rise (Some snapshot_fault.NumbersSpent) head e = absurd (cc)
+room-rise (Some snapshot_fault.NoMemory) head e = absurd (cc)
+
+open-rise : (nodes : ℕ) (past : List Step) (stamp : ℕ) → IsRise (core_refusal (open_refusal nodes past stamp))
+open-rise nodes past stamp head e =
+    elim (cases_Bool (nat_lt (floor nodes past) stamp)) [
+      | inl above ↦ absurd (let g : Some (AboveFloor (floor nodes past)) ≡ Some (StampNotRising head) = ap core_refusal (sym (cond-true _ _ _ above)) ∙ e in cc)
+      | inr low ↦
+          let e1 = ap core_refusal (sym (cond-false _ _ _ low)) ∙ e in
+          elim (cases_Bool (nat_lt stamp (horizon past))) [
+            | inl below ↦ absurd (let g : Some (BelowHorizon (horizon past)) ≡ Some (StampNotRising head) = ap core_refusal (sym (cond-true _ _ _ below)) ∙ e1 in cc)
+            | inr high ↦ room-rise (room_in (length (open_snapshots past)) (opened past)) head (ap core_refusal (sym (cond-false _ _ _ high)) ∙ e1)
           ]
     ]
 
@@ -81,8 +94,12 @@ due-rise nodes s (Report p reading) = inside-rise nodes p _ (issue-rise (issue_d
 due-rise nodes s (Send p reading) = inside-rise nodes p _ (stamp-rise (stamp_due (last_stamp p s ∷ []) reading))
 due-rise nodes s (Receive p reading k) = inside-rise nodes p _ (receive-rise (message_at k s) (last_stamp p s) reading)
 due-rise nodes s (Deliver p k) = inside-rise nodes p _ (deliver-rise (item_at p k s) k (count p (core_past s)))
-due-rise nodes s OpenFloor = room-rise (core_past s)
+due-rise nodes s (Observe p reading id) = inside-rise nodes p _ (observe-rise (stamp_of id (core_past s)) (last_stamp p s) reading)
+due-rise nodes s (OpenAt stamp) = open-rise nodes (core_past s) stamp
+due-rise nodes s OpenFloor = room-rise (room_in (length (open_snapshots (core_past s))) (opened (core_past s)))
 due-rise nodes s (Read id key) = snapshot-rise (stamp_of id (core_past s))
+due-rise nodes s (ListAll id) = snapshot-rise (stamp_of id (core_past s))
+due-rise nodes s (Close id) = snapshot-rise (stamp_of id (core_past s))
 due-rise nodes s Floor = λ head e. absurd (cc)
 
 -- so no world answers that a stamp does not rise

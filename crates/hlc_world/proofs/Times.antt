@@ -1,36 +1,22 @@
--- Stamps follow events: each stamp of a node lies above its last one, and each receipt above its message's, which is its sending's.
-use Rattle.std.proofs.Common.{◌≡◌, ℕ, ◌<◌, ◌≤◌, ◌⊎◌, List, [], ◌∷◌, ◌++◌, length, Some, None, Option, refl, ap, sym, ◌∙◌, subst, inl, inr, arith}
+-- Stamps follow events: each stamp of a node lies above its last one, each receipt above its message's, which is its sending's, and each
+-- observation above its snapshot's, which is that of its opening.
+use Rattle.std.proofs.Common.{◌≡◌, ℕ, ◌<◌, ◌≤◌, List, [], ◌∷◌, ◌++◌, length, Some, None, Option, refl, ap, sym, ◌∙◌, subst, inl, inr, arith}
 use Rattle.std.specs.Prelude.{slice_get}
 use Rattle.std.proofs.lemmas.Option.{slice_get_within}
-use Rattle.std.proofs.lemmas.Bool.{cond-true, cond-false, eq-eqb, ne_eqb, cases_eq}
 use Rattle.hlc_node.specs.declared.item.Message.{Message}
 use Rattle.hlc_node.specs.declared.item.Body.TheVariants.{Write as a_write, Report as a_report}
 use Rattle.hlc_world.specs.declared.event.Event.{Event}
-use Rattle.hlc_world.specs.declared.event.Event.TheVariants.{Write, Delete, Report, Send, Receive}
+use Rattle.hlc_world.specs.declared.event.Event.TheVariants.{Write, Delete, Report, Send, Receive, Observe}
 use Rattle.hlc_world.specs.declared.reply.Reply.{Reply}
-use Rattle.hlc_world.specs.declared.reply.Reply.TheVariants.{Stamped, Sent, Received}
+use Rattle.hlc_world.specs.declared.reply.Reply.TheVariants.{Stamped, Sent, Received, Observed}
 use Rattle.hlc_world.specs.Schedule.{stamping_of, stamp_or, message_made, with_message, last_stamp, sent, message_at, node_of}
 use Rattle.hlc_world.specs.Due.{IsReceived, IsGiven, IsLegal}
-use Rattle.hlc_world.specs.Before.{entry_at, IsStamped, HappenedBefore, on_node, on_message, through}
+use Rattle.hlc_world.specs.Before.{entry_at, write_stamp, IsStamped, HappenedBefore, on_node, on_message, on_observation, through}
 use Rattle.hlc_world.proofs.Lists.{some-injective, get-append_left, get-push}
 use Rattle.hlc_world.proofs.Nodes.{stamp_or-same}
-use Rattle.hlc_world.proofs.Orderly.{issue-ok, stamp-rises, sight-rises, received-rises, stamp_or-grows}
-
--- an entry is the last one or an earlier one
-entry-cases : (entry : Event × Reply) (s : List (Event × Reply)) (i : ℕ) (x : Event × Reply) → entry_at (entry ∷ s) i ≡ Some x → ((i ≡ length s) × (entry ≡ x)) ⊎ ((i ≡ length s → ⊥) × (entry_at s i ≡ Some x))
-entry-cases entry s i x h =
-    elim (cases_eq i (length s)) [
-      | inl same ↦ inl (same, some-injective entry x (sym (cond-true _ _ _ (eq-eqb _ _ same)) ∙ h))
-      | inr other ↦ inr (other, sym (cond-false _ _ _ (ne_eqb _ _ other)) ∙ h)
-    ]
-
-entry-inside : (s : List (Event × Reply)) (i : ℕ) (x : Event × Reply) → entry_at s i ≡ Some x → i < length s
-entry-inside [] i x h = absurd (cc)
-entry-inside (entry ∷ s) i x h =
-    elim (entry-cases entry s i x h) [
-      | inl here ↦ (let e : i ≡ length s = here.0 in omega arith)
-      | inr there ↦ (let l : i < length s = entry-inside s i x there.1 in omega arith)
-    ]
+use Rattle.hlc_world.proofs.Orderly.{issue-ok, stamp-rises, sight-rises, received-rises, observed-rises, stamp_or-grows}
+use Rattle.hlc_world.proofs.Entries.{entry-cases, entry-inside}
+use Rattle.hlc_world.proofs.Openings.{opened-found, observed-above}
 
 -- a new stamp of a node lies above its last one
 stamp-new : (nodes : ℕ) (s : List (Event × Reply)) (event : Event) (reply : Reply) (p : ℕ × ℕ) → IsGiven nodes s event reply → stamping_of event reply ≡ Some p → last_stamp p.0 s < p.1
@@ -39,6 +25,7 @@ stamp-new nodes s (Delete n reading key) (Stamped st num) p given h = subst (λ 
 stamp-new nodes s (Report n reading) (Stamped st num) p given h = subst (λ q. last_stamp q.0 s < q.1) (some-injective (n, st) p h) (issue-ok (node_of n s) a_report reading st given.1.0).2
 stamp-new nodes s (Send n reading) (Sent st num) p given h = subst (λ q. last_stamp q.0 s < q.1) (some-injective (n, st) p h) (stamp-rises _ reading st given.1.0)
 stamp-new nodes s (Receive n reading k) (Received st) p given h = subst (λ q. last_stamp q.0 s < q.1) (some-injective (n, st) p h) (received-rises _ _ reading st given.1)
+stamp-new nodes s (Observe n reading id) (Observed st) p given h = subst (λ q. last_stamp q.0 s < q.1) (some-injective (n, st) p h) (observed-rises _ _ reading st given.1)
 stamp-new nodes s _ _ p given h = absurd (cc)
 
 last-grows : (n last : ℕ) (o : Option (ℕ × ℕ)) → ((p : ℕ × ℕ) → o ≡ Some p → p.0 ≡ n → last < p.1) → last ≤ stamp_or n o last
@@ -112,6 +99,12 @@ received-above nodes (entry ∷ s) j m q k t legal at =
           (r.0, with_message-keeps (message_made entry.0 entry.1) (sent s) k r.0 r.1, r.2)
     ]
 
+-- a write or a deletion is stamped
+written-stamped : (event : Event) (reply : Reply) (a : ℕ) → write_stamp event reply ≡ Some a → (n : ℕ) × (stamping_of event reply ≡ Some (n, a))
+written-stamped (Write n r key value) (Stamped st k) a is = (n, (let e : st ≡ a = cc in ap (λ x. Some (n, x)) e))
+written-stamped (Delete n r key) (Stamped st k) a is = (n, (let e : st ≡ a = cc in ap (λ x. Some (n, x)) e))
+written-stamped _ _ a is = absurd (cc)
+
 -- both events have stamps, which rise
 ends : (nodes : ℕ) (s : List (Event × Reply)) → IsLegal nodes s → {i j : ℕ} → HappenedBefore s i j → (n : ℕ) × (a : ℕ) × (m : ℕ) × (b : ℕ) × IsStamped s i n a × IsStamped s j m b × (a < b)
 ends nodes s legal (on_node {first} {later} n a b lt h k) = (n, a, n, b, h, k, on_node-less nodes s first later n a b h.entry k.entry legal lt h.at h.mark k.at k.mark)
@@ -120,6 +113,14 @@ ends nodes s legal (on_message {first} {later} n r a k m q b h g) =
     let same : record { from = n; stamp = a } ≡ x.0 = some-injective (record { from = n; stamp = a }) x.0 (sym (sent-found nodes s first n r a k legal h) ∙ x.1) in
     let e : a ≡ x.0.stamp = ap (λ y. y.stamp) same in
     (n, a, m, b, record { entry = (Send n r, Sent a k); at = h; mark = refl }, record { entry = (Receive m q k, Received b); at = g; mark = refl }, (let u : x.0.stamp < b = x.2 in omega arith))
+ends nodes s legal (on_observation {first} {later} a n r id at b written opened low h) =
+    let w = written-stamped written.entry.0 written.entry.1 a written.written in
+    let seen = observed-above nodes s later n r id b legal h in
+    let same : Some at ≡ Some seen.0 = sym (opened-found nodes s opened.turn opened.event id at legal opened.at) ∙ seen.1 in
+    let e : at ≡ seen.0 = some-injective at seen.0 same in
+    let up : seen.0 < b = seen.2 in
+    let low' : a ≤ at = low in
+    (w.0, a, n, b, record { entry = written.entry; at = written.at; mark = w.1 }, record { entry = (Observe n r id, Observed b); at = h; mark = refl }, omega arith)
 ends nodes s legal (through x y) =
     let first = ends nodes s legal x in
     let second = ends nodes s legal y in

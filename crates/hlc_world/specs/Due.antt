@@ -14,14 +14,14 @@ use Rattle.hlc_node.specs.Node.{issue_due}
 use Rattle.hlc_node.specs.Rows.{answer}
 use Rattle.hlc_core.specs.declared.fault.CoreFault.{CoreFault}
 use Rattle.hlc_core.specs.declared.fault.CoreFault.TheVariants as core_fault
-use Rattle.hlc_core.specs.Past.{count, floor, opened, stamp_of, writes, room_refusal}
-use Rattle.hlc_core.specs.Calls.{IsWrite}
+use Rattle.hlc_core.specs.Past.{count, floor, opened, stamp_of, writes, room_refusal, open_refusal}
+use Rattle.hlc_core.specs.Calls.{IsWrite, IsListed}
 use Rattle.hlc_world.specs.declared.event.Event.{Event}
-use Rattle.hlc_world.specs.declared.event.Event.TheVariants.{Write, Delete, Report, Send, Receive, Deliver, OpenFloor, Read, Floor}
+use Rattle.hlc_world.specs.declared.event.Event.TheVariants.{Write, Delete, Report, Send, Receive, Observe, Deliver, OpenAt, OpenFloor, Read, List as ListAll, Close, Floor}
 use Rattle.hlc_world.specs.declared.reply.Reply.{Reply}
-use Rattle.hlc_world.specs.declared.reply.Reply.TheVariants.{Stamped, Sent, Received, Accepted, Snapshot, Answer, Floor as FloorIs, Refused}
+use Rattle.hlc_world.specs.declared.reply.Reply.TheVariants.{Stamped, Sent, Received, Observed, Accepted, Snapshot, Answer, Listing, Closed, Floor as FloorIs, Refused}
 use Rattle.hlc_world.specs.declared.refusal.Refusal.{Refusal}
-use Rattle.hlc_world.specs.declared.refusal.Refusal.TheVariants.{NoNode, ReadingTooLarge, CounterFull, NoMessage, NoItem, NotNext, StampNotRising, NoSnapshot, TooManySnapshots, BadKey, ValueTooLong, NumbersSpent, NoMemory}
+use Rattle.hlc_world.specs.declared.refusal.Refusal.TheVariants.{NoNode, ReadingTooLarge, CounterFull, NoMessage, NoItem, NotNext, StampNotRising, AboveFloor, BelowHorizon, NoSnapshot, TooManySnapshots, BadKey, ValueTooLong, NumbersSpent, NoMemory}
 use Rattle.hlc_world.specs.Schedule.{issued, item_at, last_stamp, sent, message_at, node_of, core_past}
 
 -- what no item may say, as a refusal
@@ -41,6 +41,9 @@ of_core (core_fault.NotNext next) = NotNext next
 of_core core_fault.NumbersSpent = NumbersSpent
 of_core (core_fault.StampNotRising head) = StampNotRising head
 of_core (core_fault.BadBody fault) = of_body fault
+of_core (core_fault.AboveFloor floor) = AboveFloor floor
+of_core (core_fault.BelowHorizon horizon) = BelowHorizon horizon
+of_core core_fault.NoSnapshot = NoSnapshot
 of_core core_fault.TooManySnapshots = TooManySnapshots
 of_core core_fault.NoMemory = NoMemory
 
@@ -65,6 +68,11 @@ abbrev pub receive_refusal : Option Message → ℕ → ℕ → Option Refusal
 receive_refusal None last reading = Some NoMessage
 receive_refusal (Some message) last reading = stamp_refusal (stamp_due (last ∷ message.stamp ∷ []) reading)
 
+-- why a snapshot is not observed: there is none, or the clock gives no stamp above the node's last one and the snapshot's
+abbrev pub observe_refusal : Option ℕ → ℕ → ℕ → Option Refusal
+observe_refusal None last reading = Some NoSnapshot
+observe_refusal (Some seen) last reading = stamp_refusal (stamp_due (last ∷ seen ∷ []) reading)
+
 -- the core's fault, if there is one, as a refusal
 abbrev pub core_refusal : Option CoreFault → Option Refusal
 core_refusal None = None
@@ -79,7 +87,7 @@ abbrev pub deliver_refusal : Option Item → ℕ → ℕ → Option Refusal
 deliver_refusal None number next = Some NoItem
 deliver_refusal (Some item) number next = if number == next then None else Some (NotNext next)
 
--- only an open snapshot is read
+-- only an open snapshot is read, listed and closed
 abbrev pub snapshot_refusal : Option ℕ → Option Refusal
 snapshot_refusal None = Some NoSnapshot
 snapshot_refusal (Some stamp) = None
@@ -94,10 +102,15 @@ refusal_due nodes schedule (Report node reading) = on_node nodes node (issue_ref
 refusal_due nodes schedule (Send node reading) = on_node nodes node (stamp_refusal (stamp_due (last_stamp node schedule ∷ []) reading))
 refusal_due nodes schedule (Receive node reading message) =
     on_node nodes node (receive_refusal (message_at message schedule) (last_stamp node schedule) reading)
+refusal_due nodes schedule (Observe node reading id) =
+    on_node nodes node (observe_refusal (stamp_of id (core_past schedule)) (last_stamp node schedule) reading)
 refusal_due nodes schedule (Deliver node number) =
     on_node nodes node (deliver_refusal (item_at node number schedule) number (count node (core_past schedule)))
+refusal_due nodes schedule (OpenAt stamp) = core_refusal (open_refusal nodes (core_past schedule) stamp)
 refusal_due nodes schedule OpenFloor = core_refusal (room_refusal (core_past schedule))
 refusal_due nodes schedule (Read id key) = snapshot_refusal (stamp_of id (core_past schedule))
+refusal_due nodes schedule (ListAll id) = snapshot_refusal (stamp_of id (core_past schedule))
+refusal_due nodes schedule (Close id) = snapshot_refusal (stamp_of id (core_past schedule))
 refusal_due nodes schedule Floor = None
 
 -- the stamp of the item, if there is one
@@ -115,6 +128,11 @@ abbrev pub IsReceived : Option Message → ℕ → ℕ → ℕ → Type 0
 IsReceived None last reading stamp = ⊥
 IsReceived (Some message) last reading stamp = stamp_due (last ∷ message.stamp ∷ []) reading ≡ Ok stamp
 
+-- the stamp of the observation of a snapshot
+abbrev pub IsObserved : Option ℕ → ℕ → ℕ → ℕ → Type 0
+IsObserved None last reading stamp = ⊥
+IsObserved (Some seen) last reading stamp = stamp_due (last ∷ seen ∷ []) reading ≡ Ok stamp
+
 -- the reply that is due where no refusal is
 abbrev pub IsDueReply : ℕ → List (Event × Reply) → Event → Reply → Type 0
 IsDueReply nodes schedule (Write node reading key value) (Stamped stamp number) =
@@ -127,11 +145,16 @@ IsDueReply nodes schedule (Send node reading) (Sent stamp number) =
     (stamp_due (last_stamp node schedule ∷ []) reading ≡ Ok stamp) × (number ≡ length (sent schedule))
 IsDueReply nodes schedule (Receive node reading message) (Received stamp) =
     IsReceived (message_at message schedule) (last_stamp node schedule) reading stamp
+IsDueReply nodes schedule (Observe node reading id) (Observed stamp) =
+    IsObserved (stamp_of id (core_past schedule)) (last_stamp node schedule) reading stamp
 IsDueReply nodes schedule (Deliver node number) (Accepted stamp) = stamp_in (item_at node number schedule) ≡ Some stamp
+IsDueReply nodes schedule (OpenAt at) (Snapshot id stamp) = (id ≡ opened (core_past schedule) + 1) × (stamp ≡ at)
 IsDueReply nodes schedule OpenFloor (Snapshot id stamp) =
     (id ≡ opened (core_past schedule) + 1) × (stamp ≡ floor nodes (core_past schedule))
 IsDueReply nodes schedule (Read id key) (Answer value) =
     IsAnswer (stamp_of id (core_past schedule)) (answer (writes (core_past schedule)) key) value
+IsDueReply nodes schedule (ListAll id) (Listing pairs) = IsListed (stamp_of id (core_past schedule)) (writes (core_past schedule)) pairs
+IsDueReply nodes schedule (Close id) (Closed stamp) = stamp_of id (core_past schedule) ≡ Some stamp
 IsDueReply nodes schedule Floor (FloorIs stamp) = stamp ≡ floor nodes (core_past schedule)
 IsDueReply nodes schedule _ _ = ⊥
 
@@ -145,11 +168,13 @@ abbrev pub TakesValue : Option ℕ → (ℕ → Option (List ℕ)) → Type 0
 TakesValue None answers = ⊥
 TakesValue (Some stamp) answers = answers stamp ≢ None
 
--- the event may want memory: it makes an item, a message or a snapshot, or it stores a row, or gives a value
+-- the event may want memory: it makes an item, a message, a snapshot or a listing, or it stores a row, or gives a value
 abbrev pub MayLackMemory : List (Event × Reply) → Event → Type 0
 MayLackMemory schedule (Receive node reading message) = ⊥
+MayLackMemory schedule (Observe node reading id) = ⊥
 MayLackMemory schedule (Deliver node number) = TakesRow (item_at node number schedule)
 MayLackMemory schedule (Read id key) = TakesValue (stamp_of id (core_past schedule)) (answer (writes (core_past schedule)) key)
+MayLackMemory schedule (Close id) = ⊥
 MayLackMemory schedule Floor = ⊥
 MayLackMemory schedule _ = ⊤
 

@@ -1,10 +1,11 @@
--- What the floor promises of a schedule.
-use Rattle.std.specs.Prelude.{ℕ, ◌<◌, ◌≤◌, List, Contains}
+-- What the floor promises of a schedule, and what an open snapshot holds.
+use Rattle.std.specs.Prelude.{◌≡◌, ℕ, ◌<◌, ◌≤◌, List, Contains, Some}
 use Rattle.hlc_node.specs.declared.item.Item.{Item}
-use Rattle.hlc_core.specs.Past.{Took, floor}
+use Rattle.hlc_core.specs.Past.{Took, floor, stamp_of}
 use Rattle.hlc_world.specs.declared.event.Event.{Event}
 use Rattle.hlc_world.specs.declared.reply.Reply.{Reply}
-use Rattle.hlc_world.specs.Schedule.{issued, last_stamp, core_past}
+use Rattle.hlc_world.specs.Schedule.{item_made, issued, last_stamp, core_past}
+use Rattle.hlc_world.specs.Before.{entry_at, HappenedBefore}
 
 -- a node issued the item
 abbrev pub IsIssued : Item → List (Event × Reply) → Type 0
@@ -21,3 +22,19 @@ IsComplete nodes schedule = (item : Item) → IsIssued item schedule → item.st
 -- no clock is below the floor
 abbrev pub IsBelowClocks : ℕ → List (Event × Reply) → Type 0
 IsBelowClocks nodes schedule = (n : ℕ) → n < nodes → floor nodes (core_past schedule) ≤ last_stamp n schedule
+
+-- the event of this turn issued the item
+pub record IsIssuedAt (schedule : List (Event × Reply)) (turn : ℕ) (item : Item) : Type 0 where
+  pub entry : Event × Reply
+  pub at : entry_at schedule turn ≡ Some entry
+  pub made : item_made entry.0 entry.1 ≡ Some item
+
+-- The past of an open snapshot is whole: where an item is accepted and at or below the snapshot's stamp, every issued item that
+-- happened before it is accepted and at or below that stamp as well.
+abbrev pub IsClosed : List (Event × Reply) → Type 0
+IsClosed schedule =
+    (id stamp first later : ℕ) (item earlier : Item)
+    → stamp_of id (core_past schedule) ≡ Some stamp
+    → IsIssuedAt schedule later item → IsAccepted item schedule → item.stamp ≤ stamp
+    → HappenedBefore schedule first later → IsIssuedAt schedule first earlier
+    → IsAccepted earlier schedule × (earlier.stamp ≤ stamp)

@@ -5,11 +5,11 @@ use Rattle.hlc_node.specs.declared.item.Body.{Body}
 use Rattle.hlc_node.specs.declared.item.Body.TheVariants.{Write as a_write, Report as a_report}
 use Rattle.hlc_node.specs.declared.item.Message.{Message}
 use Rattle.hlc_node.specs.Node.{Node}
-use Rattle.hlc_core.specs.Past.{Step, Took, Opened}
+use Rattle.hlc_core.specs.Past.{Step, Took, Opened, Closed as ClosedOf}
 use Rattle.hlc_world.specs.declared.event.Event.{Event}
-use Rattle.hlc_world.specs.declared.event.Event.TheVariants.{Write, Delete, Report, Send, Receive, Deliver, OpenFloor}
+use Rattle.hlc_world.specs.declared.event.Event.TheVariants.{Write, Delete, Report, Send, Receive, Observe, Deliver, OpenAt, OpenFloor, Close}
 use Rattle.hlc_world.specs.declared.reply.Reply.{Reply}
-use Rattle.hlc_world.specs.declared.reply.Reply.TheVariants.{Stamped, Sent, Received, Accepted, Snapshot}
+use Rattle.hlc_world.specs.declared.reply.Reply.TheVariants.{Stamped, Sent, Received, Observed, Accepted, Snapshot, Closed}
 
 -- Below, a schedule is the list of the events with their replies, the last one first. An event whose reply is a refusal did not
 -- take place.
@@ -37,6 +37,7 @@ stamping_of (Delete node reading key) (Stamped stamp number) = Some (node, stamp
 stamping_of (Report node reading) (Stamped stamp number) = Some (node, stamp)
 stamping_of (Send node reading) (Sent stamp number) = Some (node, stamp)
 stamping_of (Receive node reading message) (Received stamp) = Some (node, stamp)
+stamping_of (Observe node reading id) (Observed stamp) = Some (node, stamp)
 stamping_of _ _ = None
 
 -- the items of a node, and this one behind them, if it is of that node
@@ -89,7 +90,9 @@ taking (Some item) = Some (Took item)
 -- what an event did to the core
 abbrev pub step_of : List (Event × Reply) → Event → Reply → Option Step
 step_of schedule (Deliver node number) (Accepted stamp) = taking (item_at node number schedule)
+step_of schedule (OpenAt at) (Snapshot id stamp) = Some (Opened stamp)
 step_of schedule OpenFloor (Snapshot id stamp) = Some (Opened stamp)
+step_of schedule (Close id) (Closed stamp) = Some (ClosedOf id)
 step_of schedule _ _ = None
 
 -- the past, and this step after it

@@ -1,4 +1,5 @@
 //! What may happen in a world.
+use hlc_clock::Stamp;
 use hlc_node::Bytes;
 
 /// What may happen in a world.
@@ -33,11 +34,21 @@ pub enum Event {
         reading: u64,
         message: u64,
     },
+    /// A node observes an open snapshot: its later writes come after all that is read there.
+    Observe {
+        node: u16,
+        reading: u64,
+        id: u64,
+    },
     /// The item of this number on a node's link comes to the store. It may come early, late, or
     /// many times.
     Deliver {
         node: u16,
         number: u64,
+    },
+    /// A snapshot is opened at this stamp.
+    OpenAt {
+        stamp: Stamp,
     },
     /// A snapshot is opened at the floor.
     OpenFloor,
@@ -45,6 +56,14 @@ pub enum Event {
     Read {
         id: u64,
         key: Bytes,
+    },
+    /// All keys with a value are read in an open snapshot.
+    List {
+        id: u64,
+    },
+    /// An open snapshot is closed.
+    Close {
+        id: u64,
     },
     /// The floor is asked for: the stamp that no later item falls below.
     Floor,

@@ -4,7 +4,7 @@ ghost use Rattle.hlc_world.specs.declared.event.Event.{Event as AnEvent};
 ghost use Rattle.hlc_world.specs.declared.reply.Reply.{Reply as AReply};
 ghost use Rattle.hlc_world.specs.Due.{IsLegal};
 ghost use Rattle.hlc_world.specs.Before.{HappenedBefore, IsStamped};
-ghost use Rattle.hlc_world.specs.Floor.{IsComplete, IsBelowClocks};
+ghost use Rattle.hlc_world.specs.Floor.{IsComplete, IsBelowClocks, IsClosed};
 
 /// In a schedule whose events were each given their due, as in each that a world stands for, if an
 /// event happened before another (Lamport 1978), its stamp is the lesser.
@@ -21,4 +21,10 @@ pub fn the_floor_is_complete()
 /// In such a schedule no clock is below the floor.
 pub fn no_clock_is_below_the_floor()
     ensures { (nodes : ℕ) (schedule : List (AnEvent × AReply)) → IsLegal nodes schedule → IsBelowClocks nodes schedule }
+{}
+
+/// In such a schedule the past of each open snapshot is whole: what happened before an item that is
+/// read there is read there too.
+pub fn open_snapshots_are_closed()
+    ensures { (nodes : ℕ) (schedule : List (AnEvent × AReply)) → IsLegal nodes schedule → IsClosed schedule }
 {}

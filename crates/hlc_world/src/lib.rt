@@ -11,8 +11,12 @@ mod world;
 
 pub use event::Event;
 pub use hlc_clock::Stamp;
+pub use hlc_core::{Listing, Pair};
 pub use hlc_node::Bytes;
-pub use laws::{no_clock_is_below_the_floor, stamps_follow_events, the_floor_is_complete};
+pub use laws::{
+    no_clock_is_below_the_floor, open_snapshots_are_closed, stamps_follow_events,
+    the_floor_is_complete,
+};
 pub use refusal::{NoMemory, Refusal};
 pub use reply::Reply;
 pub use world::World;

@@ -25,6 +25,10 @@ pub enum Refusal {
     /// The item's stamp is not above that of the last one accepted of its node. It never comes of
     /// a world, whose nodes' stamps rise.
     StampNotRising { head: Stamp },
+    /// The stamp to open at is above the floor.
+    AboveFloor { floor: Stamp },
+    /// The stamp to open at is below the floor of the last vacuum. It comes with vacuums.
+    BelowHorizon { horizon: Stamp },
     /// No open snapshot has that id.
     NoSnapshot,
     /// 1,024 snapshots are open.
@@ -84,6 +88,9 @@ pub fn of_core(fault: CoreFault) -> Refusal
         CoreFault::NumbersSpent => Refusal::NumbersSpent,
         CoreFault::StampNotRising { head } => Refusal::StampNotRising { head },
         CoreFault::BadBody(fault) => of_body(fault),
+        CoreFault::AboveFloor { floor } => Refusal::AboveFloor { floor },
+        CoreFault::BelowHorizon { horizon } => Refusal::BelowHorizon { horizon },
+        CoreFault::NoSnapshot => Refusal::NoSnapshot,
         CoreFault::TooManySnapshots => Refusal::TooManySnapshots,
         CoreFault::NoMemory => Refusal::NoMemory,
     }

@@ -1,6 +1,7 @@
 //! What a world answers to an event.
 use crate::refusal::Refusal;
 use hlc_clock::Stamp;
+use hlc_core::Listing;
 use hlc_node::Bytes;
 
 /// What a world answers to an event.
@@ -12,12 +13,18 @@ pub enum Reply {
     Sent { stamp: Stamp, message: u64 },
     /// The message was received, with this stamp.
     Received { stamp: Stamp },
+    /// The snapshot was observed, with this stamp.
+    Observed { stamp: Stamp },
     /// The item was accepted; this is its stamp.
     Accepted { stamp: Stamp },
     /// The snapshot of this id was opened, at this stamp.
     Snapshot { id: u64, stamp: Stamp },
     /// The value of the key, or none.
     Answer { value: Option<Bytes> },
+    /// All keys that have a value, in byte order, with their values.
+    Listing { pairs: Listing },
+    /// The snapshot was closed; this was its stamp.
+    Closed { stamp: Stamp },
     /// The floor is at this stamp.
     Floor { stamp: Stamp },
     /// The event did not take place.

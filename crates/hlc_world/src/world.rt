@@ -6,7 +6,7 @@ ghost use Rattle.hlc_core.specs.Calls.{IsRefusal, IsWrite};
 ghost use Rattle.hlc_world.specs.Schedule.{after};
 ghost use Rattle.hlc_world.specs.Before.{HappenedBefore, IsStamped};
 ghost use Rattle.hlc_world.specs.Due.{IsGiven, IsRefused};
-ghost use Rattle.hlc_world.specs.Floor.{IsComplete, IsBelowClocks};
+ghost use Rattle.hlc_world.specs.Floor.{IsComplete, IsBelowClocks, IsClosed};
 ghost use Rattle.hlc_world.specs.State.{StandsFor, Makes, world_nodes, fresh};
 ghost use Rattle.hlc_world.specs.declared.event.Event.{Event as AnEvent};
 ghost use Rattle.hlc_world.specs.declared.reply.Reply.{Reply as AReply};
@@ -70,16 +70,18 @@ impl World {
     /// Refusals come in this order. Write, Delete: no such node; bad key; value too long; numbers
     /// spent; reading too large; counter full. Report: no such node; numbers spent; reading too
     /// large; counter full. Send: no such node; reading too large; counter full. Receive: no such
-    /// node; no such message; reading too large; counter full. Deliver: no such node; no such item;
-    /// not the next number. OpenFloor: too many snapshots; numbers spent. Read: no such snapshot.
-    /// Last, where the event makes an item, a message or a snapshot, stores a row or gives a value,
-    /// want of memory.
+    /// node; no such message; reading too large; counter full. Observe: no such node; no such
+    /// snapshot; reading too large; counter full. Deliver: no such node; no such item; not the next
+    /// number. OpenAt: above the floor; below the horizon; too many snapshots; numbers spent.
+    /// OpenFloor: the last two. Read, List, Close: no such snapshot. Last, where the event makes an
+    /// item, a message, a snapshot or a listing, stores a row or gives a value, want of memory.
     pub fn step(&mut self, event: Event) -> Reply
         ensures stands { (schedule : List (AnEvent × AReply)) → StandsFor self.old schedule → StandsFor self.new ((event, result) ∷ schedule) }
         ensures given { (schedule : List (AnEvent × AReply)) → StandsFor self.old schedule → IsGiven (world_nodes self.old) schedule event result }
         ensures ordered { (schedule : List (AnEvent × AReply)) (first later : ℕ) (n a m b : ℕ) → StandsFor self.old schedule → HappenedBefore ((event, result) ∷ schedule) first later → IsStamped ((event, result) ∷ schedule) first n a → IsStamped ((event, result) ∷ schedule) later m b → a < b }
         ensures complete { (schedule : List (AnEvent × AReply)) → StandsFor self.old schedule → IsComplete (world_nodes self.old) ((event, result) ∷ schedule) }
         ensures clocks { (schedule : List (AnEvent × AReply)) → StandsFor self.old schedule → IsBelowClocks (world_nodes self.old) ((event, result) ∷ schedule) }
+        ensures closed { (schedule : List (AnEvent × AReply)) → StandsFor self.old schedule → IsClosed ((event, result) ∷ schedule) }
         ensures rising { (schedule : List (AnEvent × AReply)) (head : ℕ) → StandsFor self.old schedule → result ≢ Reply.Refused (Refusal.StampNotRising head) }
         ensures unchanged { IsRefused result → self.new ≡ self.old }
         ensures nodes { world_nodes self.new ≡ world_nodes self.old }
@@ -125,9 +127,13 @@ impl World {
                 reading,
                 message,
             } => self.receive(node, reading, message),
+            Event::Observe { node, reading, id } => self.observe(node, reading, id),
             Event::Deliver { node, number } => self.deliver(node, number),
+            Event::OpenAt { stamp } => self.open_at(stamp),
             Event::OpenFloor => self.open_floor(),
             Event::Read { id, key } => self.read(id, key),
+            Event::List { id } => self.list(id),
+            Event::Close { id } => self.close(id),
             Event::Floor => self.floor(),
         }
     }
@@ -223,6 +229,28 @@ impl World {
         }
     }
 
+    fn observe(&mut self, node: u16, reading: u64, id: u64) -> Reply
+        ensures stands { (schedule : List (AnEvent × AReply)) → StandsFor self.old schedule → StandsFor self.new ((AnEvent.Observe node reading id, result) ∷ schedule) }
+        ensures unchanged { IsRefused result → self.new ≡ self.old }
+        ensures nodes { world_nodes self.new ≡ world_nodes self.old }
+    {
+        let place = node as usize;
+        if place >= self.nodes.len() {
+            return Reply::Refused(Refusal::NoNode);
+        }
+        let Some(seen) = self.core.stamp_of(id) else {
+            return Reply::Refused(Refusal::NoSnapshot);
+        };
+        let mut core = self.nodes[place].core();
+        match core.observe(seen, reading) {
+            Ok(stamp) => {
+                self.nodes[place].go_on(core);
+                Reply::Observed { stamp }
+            }
+            Err(fault) => Reply::Refused(refusal::of_clock(fault)),
+        }
+    }
+
     fn deliver(&mut self, node: u16, number: u64) -> Reply
         ensures stands { (schedule : List (AnEvent × AReply)) → StandsFor self.old schedule → StandsFor self.new ((AnEvent.Deliver node number, result) ∷ schedule) }
         ensures unchanged { IsRefused result → self.new ≡ self.old }
@@ -244,6 +272,17 @@ impl World {
         };
         match accept(&mut self.core, copy) {
             Ok(stamp) => Reply::Accepted { stamp },
+            Err(fault) => Reply::Refused(refusal::of_core(fault)),
+        }
+    }
+
+    fn open_at(&mut self, stamp: Stamp) -> Reply
+        ensures stands { (schedule : List (AnEvent × AReply)) → StandsFor self.old schedule → StandsFor self.new ((AnEvent.OpenAt stamp, result) ∷ schedule) }
+        ensures unchanged { IsRefused result → self.new ≡ self.old }
+        ensures nodes { world_nodes self.new ≡ world_nodes self.old }
+    {
+        match self.core.open(stamp) {
+            Ok(id) => Reply::Snapshot { id, stamp },
             Err(fault) => Reply::Refused(refusal::of_core(fault)),
         }
     }
@@ -273,6 +312,27 @@ impl World {
                 Err(_) => Reply::Refused(Refusal::NoMemory),
             },
         }
+    }
+
+    fn list(&mut self, id: u64) -> Reply
+        ensures stands { (schedule : List (AnEvent × AReply)) → StandsFor self.old schedule → StandsFor self.new ((AnEvent.List id, result) ∷ schedule) }
+        ensures unchanged { self.new ≡ self.old }
+    {
+        match self.core.list(id) {
+            Ok(pairs) => Reply::Listing { pairs },
+            Err(fault) => Reply::Refused(refusal::of_core(fault)),
+        }
+    }
+
+    fn close(&mut self, id: u64) -> Reply
+        ensures stands { (schedule : List (AnEvent × AReply)) → StandsFor self.old schedule → StandsFor self.new ((AnEvent.Close id, result) ∷ schedule) }
+        ensures unchanged { IsRefused result → self.new ≡ self.old }
+        ensures nodes { world_nodes self.new ≡ world_nodes self.old }
+    {
+        let Ok(stamp) = self.core.close(id) else {
+            return Reply::Refused(Refusal::NoSnapshot);
+        };
+        Reply::Closed { stamp }
     }
 
     fn floor(&mut self) -> Reply

@@ -3,6 +3,7 @@
 mod callers;
 mod nodes;
 mod scripts;
+mod snapshots;
 mod stamps;
 mod store;
 mod streams;

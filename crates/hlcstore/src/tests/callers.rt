@@ -1,9 +1,10 @@
 //! The small callers of the libraries' own pages, each with what it may rely on.
-ghost use Rattle.std.specs.Prelude.{◌≡◌, ◌<◌, ◌∷◌, List, None, ◌≤◌, ℕ, Contains, is_some, true, IfOk, IfSome, IsErr, IsOkAnd, MatchOption};
+ghost use Rattle.std.specs.Prelude.{◌≡◌, ◌<◌, ◌∷◌, List, None, Some, ◌≤◌, ℕ, Contains, is_some, true, IfOk, IfSome, IsErr, IsOkAnd, MatchOption};
 ghost use Rattle.hlc_node.specs.Items.{body_refusal};
 ghost use Rattle.hlc_node.specs.Rows.{answer};
 ghost use Rattle.hlc_core.specs.Past.{Step, stamp_of, writes};
 ghost use Rattle.hlc_core.specs.Kept.{StandsFor as CoreStandsFor};
+ghost use Rattle.hlc_snapshot.specs.Register.{stamp_in};
 ghost use Rattle.hlc_text.specs.Printing.{Writes};
 ghost use Rattle.hlc_world.specs.declared.event.Event.{Event as AnEvent};
 ghost use Rattle.hlc_world.specs.declared.reply.Reply.{Reply as AReply};
@@ -17,6 +18,7 @@ use hlc_floor::Heads;
 use hlc_link::{Intake, LinkFault};
 use hlc_node::body_fault;
 use hlc_script::read_line;
+use hlc_snapshot::{Registry, SnapshotFault};
 use hlc_text::number::number;
 use hlc_text::print::{finish, put_number};
 use hlc_text::waiting::Waiting;
@@ -61,6 +63,15 @@ pub fn is_complete(heads: &Heads, stamp: Stamp) -> bool
     ensures { result ≡ true → (head : ℕ) → Contains heads.now head → stamp ≤ head }
 {
     stamp <= heads.floor()
+}
+
+/// Opens two snapshots at one stamp. Each has an id of its own.
+pub fn open_twice(registry: &mut Registry, stamp: Stamp) -> Result<(u64, u64), SnapshotFault>
+    ensures { IfOk result (λ ids. (ids.0 < ids.1) × (stamp_in ids.0 registry.new.snapshots ≡ Some stamp) × (stamp_in ids.1 registry.new.snapshots ≡ Some stamp)) }
+{
+    let first = registry.open(stamp)?;
+    let second = registry.open(stamp)?;
+    Ok((first, second))
 }
 
 /// Whether a key has a value in an open snapshot.
@@ -120,6 +131,8 @@ fn callers(rt: HostRuntime) -> Result<(), Fail> {
     );
     let heads = Heads::new(alloc, 2).ok().ok_or("heads")?;
     assert!(rt; is_complete(&heads, Stamp::from_bits(0)) && !is_complete(&heads, first));
+    let mut registry = Registry::new(alloc);
+    assert_eq!(rt; open_twice(&mut registry, first), Ok((1, 2)));
     let mut core = Core::new(alloc, 1).ok().ok_or("a core")?;
     assert_eq!(rt; has_value(&core, 1, b"a"), Err(NoSnapshot));
     assert!(rt; core.open_floor().is_ok());

@@ -6,7 +6,7 @@ use std::test::*;
 /// A script, what is written for it, and the status.
 type Case = (&'static [u8], &'static [u8], u8);
 
-const CASES: [Case; 20] = [
+const CASES: [Case; 23] = [
     (b"", b"refused 17\n", 2),
     (
         b"nodes 1\nwrite 0 5 a x\ndeliver 0 0\nopen floor\nread 1 a\n",
@@ -83,6 +83,24 @@ const CASES: [Case; 20] = [
         b"nodes 1\nfloor\nfloor 0\n",
         b"nodes 1\nfloor 0.0\nrefused 16 line 3\n",
         2,
+    ),
+    // A snapshot opens at any stamp up to the floor.
+    (
+        b"nodes 2\nwrite 0 5 a x\ndeliver 0 0\nfloor\nopen 5.0\nreport 1 6\ndeliver 1 0\nfloor\nopen 5.0\nread 1 a\n",
+        b"nodes 2\nstamp 5.0 item 0\naccepted 5.0\nfloor 0.0\nrefused 8 floor 0.0\nstamp 6.0 item 0\naccepted 6.0\nfloor 5.0\nsnapshot 1 at 5.0\nvalue x\n",
+        0,
+    ),
+    // A node that observed a snapshot writes after it; a closed one is gone.
+    (
+        b"nodes 2\nwrite 0 8 a x\ndeliver 0 0\nreport 1 2\ndeliver 1 0\nopen 2.0\nobserve 1 1 1\nobserve 1 1 2\nlist 1\nclose 1\nclose 1\n",
+        b"nodes 2\nstamp 8.0 item 0\naccepted 8.0\nstamp 2.0 item 0\naccepted 2.0\nsnapshot 1 at 2.0\nstamp 2.1\nrefused 10\nlisting 0\nclosed 2.0\nrefused 10\n",
+        0,
+    ),
+    // A listing has the keys in byte order, without deleted ones.
+    (
+        b"nodes 1\nwrite 0 1 b 1\nwrite 0 2 a%20 %\nwrite 0 3 a 2\ndelete 0 4 b\ndeliver 0 0\ndeliver 0 1\ndeliver 0 2\ndeliver 0 3\nopen 3.0\nopen floor\nlist 1\nlist 2\nlist 3\nobserve 1 1 1\n",
+        b"nodes 1\nstamp 1.0 item 0\nstamp 2.0 item 1\nstamp 3.0 item 2\nstamp 4.0 item 3\naccepted 1.0\naccepted 2.0\naccepted 3.0\naccepted 4.0\nsnapshot 1 at 3.0\nsnapshot 2 at 4.0\nlisting 3\nrow a 2\nrow a%20 %\nrow b 1\nlisting 2\nrow a 2\nrow a%20 %\nrefused 10\nrefused 1\n",
+        0,
     ),
     // A report lets the floor go on.
     (

@@ -181,5 +181,88 @@ fn a_deletion_hides_and_a_report_only_counts(rt: HostRuntime) -> Result<(), Fail
     assert_eq!(rt; core.read(3, b""), Ok(None));
     assert_eq!(rt; core.read(0, b"a"), Err(NoSnapshot));
     assert_eq!(rt; core.read(4, b"a"), Err(NoSnapshot));
+    assert_eq!(rt; core.horizon(), Stamp::from_bits(0));
+    assert_eq!(rt; core.stamp_of(2), Some(Stamp::from_bits(2)));
+    assert_eq!(rt; core.close(2), Ok(Stamp::from_bits(2)));
+    assert_eq!(rt; core.close(2), Err(NoSnapshot));
+    assert_eq!(rt; core.stamp_of(2), None);
+    assert_eq!(rt; core.open(Stamp::from_bits(1)), Ok(4));
+    assert_eq!(rt; core.read(4, b"a"), Ok(Some(b"x".as_slice())));
     Ok(())
+}
+
+#[test]
+fn the_most_snapshots_of_a_core(rt: HostRuntime) -> Result<(), Fail> {
+    let mut core = Core::new(rt.alloc(), 1).ok().ok_or("a core")?;
+    let zero = Stamp::from_bits(0);
+    let above = Stamp::from_bits(1);
+    assert_eq!(rt;
+        core.open(above),
+        Err(CoreFault::AboveFloor { floor: zero })
+    );
+    for id in 1..1_025 {
+        assert_eq!(rt; core.open(zero), Ok(id));
+    }
+    assert_eq!(rt; core.open(zero), Err(CoreFault::TooManySnapshots));
+    assert_eq!(rt;
+        core.open(above),
+        Err(CoreFault::AboveFloor { floor: zero })
+    );
+    assert_eq!(rt; core.close(500), Ok(zero));
+    assert_eq!(rt; core.open(zero), Ok(1_025));
+    Ok(())
+}
+
+/// Accepts a write of node 0, or a deletion where there is no value, at its number and stamp.
+fn take(
+    core: &mut Core,
+    alloc: Global,
+    at: u64,
+    key: &[u8],
+    value: Option<&[u8]>,
+) -> Result<bool, AllocError> {
+    Ok(
+        core.accept(item(alloc, (0, at, at + 1), key, value)?)
+            .is_ok(),
+    )
+}
+
+#[test]
+fn a_listing_has_each_key_with_a_value(rt: HostRuntime) -> Result<(), Fail> {
+    let alloc = rt.alloc();
+    let mut core = Core::new(alloc, 1).ok().ok_or("a core")?;
+    assert!(rt; core.list(1).err() == Some(CoreFault::NoSnapshot));
+    assert!(rt; take(&mut core, alloc, 0, b"b", Some(b"1"))?);
+    assert!(rt; take(&mut core, alloc, 1, b"ab", Some(b""))?);
+    assert!(rt; take(&mut core, alloc, 2, b"c", Some(b"2"))?);
+    assert!(rt; take(&mut core, alloc, 3, b"a", Some(b"3"))?);
+    assert!(rt; take(&mut core, alloc, 4, b"b", Some(b"4"))?);
+    assert!(rt; take(&mut core, alloc, 5, b"c", None)?);
+    assert_eq!(rt; core.open(Stamp::from_bits(4)), Ok(1));
+    assert_eq!(rt; core.open_floor(), Ok((2, Stamp::from_bits(6))));
+    assert!(rt; take(&mut core, alloc, 6, b"d", Some(b"5"))?);
+    let early: [(&[u8], &[u8]); 4] = [(b"a", b"3"), (b"ab", b""), (b"b", b"1"), (b"c", b"2")];
+    assert!(rt; holds(&core, 1, &early));
+    let late: [(&[u8], &[u8]); 3] = [(b"a", b"3"), (b"ab", b""), (b"b", b"4")];
+    assert!(rt; holds(&core, 2, &late));
+    Ok(())
+}
+
+/// Whether a snapshot lists just these keys and values, in this order, and a copy is equal.
+fn holds(core: &Core, id: u64, pairs: &[(&[u8], &[u8])]) -> bool {
+    let Ok(listing) = core.list(id) else {
+        return false;
+    };
+    let Ok(copy) = listing.clone() else {
+        return false;
+    };
+    if copy != listing || listing.len() != pairs.len() {
+        return false;
+    }
+    for (found, due) in listing.as_slice().iter().zip(pairs) {
+        if found.key.as_slice() != due.0 || found.value.as_slice() != due.1 {
+            return false;
+        }
+    }
+    true
 }

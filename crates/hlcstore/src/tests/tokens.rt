@@ -23,7 +23,7 @@ const NO_HEADERS: [&[u8]; 13] = [
 ];
 
 /// Lines behind a header that are no event's.
-const BAD_LINES: [&[u8]; 44] = [
+const BAD_LINES: [&[u8]; 51] = [
     b"\n",
     b" \n",
     b"nodes 1\n",
@@ -55,7 +55,7 @@ const BAD_LINES: [&[u8]; 44] = [
     b"deliver 0 0 0\n",
     b"deliver 0 00\n",
     b"open\n",
-    b"open 5.0\n",
+    b"open 5.0 5.0\n",
     b"open floor floor\n",
     b"read 1\n",
     b"read 01 a\n",
@@ -66,12 +66,19 @@ const BAD_LINES: [&[u8]; 44] = [
     b"receive 0 5\n",
     b"receive 0 5 -1\n",
     b"floor 0\n",
+    b"open 5\n",
+    b"open 5.00\n",
+    b"open 0.65536\n",
+    b"list\n",
+    b"list 1 1\n",
+    b"close 01\n",
+    b"observe 0 5\n",
     b"floors\n",
     b"# none\n",
 ];
 
 /// Lines that are an event's, and the replies to them.
-const GOOD_LINES: [(&[u8], &[u8]); 16] = [
+const GOOD_LINES: [(&[u8], &[u8]); 22] = [
     (b"write 0 0 a x\n", b"stamp 0.1 item 0\n"),
     (b"write 0 18446744073709551615 a x\n", b"refused 2\n"),
     (b"write 65535 5 a x\n", b"refused 1\n"),
@@ -88,6 +95,12 @@ const GOOD_LINES: [(&[u8], &[u8]); 16] = [
     (b"read 18446744073709551615 a\n", b"refused 10\n"),
     (b"open floor\n", b"snapshot 1 at 0.0\n"),
     (b"floor\n", b"floor 0.0\n"),
+    (b"open 0.0\n", b"snapshot 1 at 0.0\n"),
+    (b"open 281474976710655.65535\n", b"refused 8 floor 0.0\n"),
+    (b"list 18446744073709551615\n", b"refused 10\n"),
+    (b"close 0\n", b"refused 10\n"),
+    (b"observe 0 5 1\n", b"refused 10\n"),
+    (b"observe 65535 5 1\n", b"refused 1\n"),
 ];
 
 /// Words, and the stamps that they spell.

@@ -41,7 +41,7 @@ fn words_of_the_program(rt: HostRuntime) -> Result<(), Fail> {
 #[test]
 fn texts_of_refusals(rt: HostRuntime) {
     let at = Stamp::from_bits(327_681);
-    let cases: [(Refusal, &[u8]); 13] = [
+    let cases: [(Refusal, &[u8]); 15] = [
         (Refusal::NoNode, b"refused 1"),
         (Refusal::ReadingTooLarge, b"refused 2"),
         (Refusal::CounterFull { at }, b"refused 3 at 5.1"),
@@ -49,6 +49,11 @@ fn texts_of_refusals(rt: HostRuntime) {
         (Refusal::NoItem, b"refused 5"),
         (Refusal::NotNext { next: 7 }, b"refused 6 next 7"),
         (Refusal::StampNotRising { head: at }, b"refused 7 head 5.1"),
+        (Refusal::AboveFloor { floor: at }, b"refused 8 floor 5.1"),
+        (
+            Refusal::BelowHorizon { horizon: at },
+            b"refused 9 horizon 5.1",
+        ),
         (Refusal::NoSnapshot, b"refused 10"),
         (Refusal::TooManySnapshots, b"refused 11"),
         (Refusal::BadKey, b"refused 12"),

@@ -8,3 +8,6 @@ returns-in-NotNext g c = rw c.in-NotNext.is c.put_named_number.ensures
 
 pub returns-in-StampNotRising : goal.returns-in-StampNotRising
 returns-in-StampNotRising g c = rw c.in-StampNotRising.is c.put_named_stamp-in-StampNotRising.ensures
+
+pub returns-in-BelowHorizon : goal.returns-in-BelowHorizon
+returns-in-BelowHorizon g c = rw c.in-BelowHorizon.is c.put_named_stamp-in-BelowHorizon.ensures

@@ -1,4 +1,4 @@
-use Rattle.hlc_snapshot.proofs.Registers.{closed-here, closed-other}
+use Rattle.hlc_snapshot.specs.RegisterLaws.{closed-here, closed-other}
 use Rattle.hlc_snapshot.proofs.laws.closing_takes_out_one_snapshot.Goals as goal
 
 pub returns-clause-gone : goal.returns-clause-gone

@@ -1,4 +1,4 @@
-use Rattle.hlc_snapshot.proofs.Registers.{open_before}
+use Rattle.hlc_snapshot.specs.RegisterLaws.{open_before}
 use Rattle.hlc_snapshot.proofs.laws.ids_are_never_used_again.Goals as goal
 
 pub returns : goal.returns

@@ -1,4 +1,4 @@
-use Rattle.hlc_snapshot.proofs.Registers.{next_id-fresh, opened-here, opened-other}
+use Rattle.hlc_snapshot.specs.RegisterLaws.{next_id-fresh, opened-here, opened-other}
 use Rattle.hlc_snapshot.proofs.laws.opening_adds_one_snapshot.Goals as goal
 
 pub returns-clause-fresh : goal.returns-clause-fresh

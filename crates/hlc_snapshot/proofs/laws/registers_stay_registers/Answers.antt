@@ -1,4 +1,4 @@
-use Rattle.hlc_snapshot.proofs.Registers.{closed-is_register}
+use Rattle.hlc_snapshot.specs.RegisterLaws.{closed-is_register}
 use Rattle.hlc_snapshot.proofs.laws.registers_stay_registers.Goals as goal
 
 pub returns-clause-closing : goal.returns-clause-closing

@@ -9,5 +9,5 @@ invariant_of-result c =
 pub returns : goal.returns
 returns c =
     let links = c.in-Ok-vec.ensures.items_if_clones_equal (λ y h. h) in
-    rw (links, c.new-2.ensures, c.new-3.ensures.items, c.new-4.ensures.items)
+    rw (links, c.new-2.ensures, c.new-3.ensures, c.new-4.ensures.items)
     (new_refusal-none c.args.nodes c.in-Ok.ensures.0 c.in-Ok.ensures.1, (starts c.args.nodes).0, (starts c.args.nodes).1)

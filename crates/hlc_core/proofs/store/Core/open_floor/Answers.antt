@@ -1,13 +1,20 @@
-use Rattle.std.proofs.Common.{◌≡◌, ◌∙◌, sym, ap, length, arith, ◌+◌}
-use Rattle.std.proofs.lemmas.Bool.{cond-true}
-use Rattle.hlc_core.proofs.Standing.{floor-from, room-due, opens}
+use Rattle.std.proofs.Common.{◌≤◌, ◌∙◌, ◌+◌, sym, ap, arith}
+use Rattle.hlc_core.specs.Past.{floor, of_room}
+use Rattle.hlc_core.proofs.Standing.{room-due, room-fault, opens}
+use Rattle.hlc_core.specs.PastLaws.{open-room}
 use Rattle.hlc_core.proofs.store.Core.open_floor.Goals as goal
+use Rattle.hlc_core.proofs.store.Core.open_floor.Goals.{in-Ok, in-Err}
 
 pub returns-clause-stands : goal.returns-clause-stands
 returns-clause-stands c = λ past h.
     let h' = rw (← c.self.view_is) at h in
-    let at = floor-from _ past _ _ c.self.invariant h' c.floor-stamp.ensures in
-    let many : c.len.result ≡ length c.self.inside.snapshots.items = omega (arith, c.len.ensures, c.self.inside.snapshots.ok.0) in
-    let none = sym (c.in_default.ensures ∙ room-due _ past _ h' many) in
-    rw (← c.self.view_is, ← at, c.push.ensures.items ∙ cond-true _ _ _ c.if-is_err.ensures.negation)
-    (none, ap (λ n. (n + 1, c.floor-stamp.result)) h'.opened, opens _ past _ h' none at)
+    let at = rw (← c.self.view_is) at (c.floor-stamp.ensures past h) in
+    elim c.match-open.branch [
+      | in-Ok w ↦
+          let ok = w.in-Ok.ensures.ok in
+          let none = sym (room-due _ past h') ∙ ap of_room ok.0 in
+          let low : c.floor-stamp.result ≤ floor _ past = omega (arith, at) in
+          rw (w.result-is, ← c.self.view_is, ok.2, ← at)
+          (none, ap (λ n. (n, c.floor-stamp.result)) (ok.1 ∙ ap (λ n. n + 1) h'.opened), opens _ past c.floor-stamp.result h' (open-room _ past c.floor-stamp.result low ∙ none))
+      | in-Err w ↦ rw (w.result-is, w.of_registry.ensures) (room-fault _ past _ h' w.in-Err.ensures.err.0)
+    ]

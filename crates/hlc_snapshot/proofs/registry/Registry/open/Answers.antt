@@ -1,6 +1,6 @@
 use Rattle.std.proofs.Common.{◌∙◌}
 use Rattle.std.proofs.lemmas.Bool.{cond-true}
-use Rattle.hlc_snapshot.proofs.Registers.{next_id-fresh, opened-map}
+use Rattle.hlc_snapshot.specs.RegisterLaws.{next_id-fresh, opened-map}
 use Rattle.hlc_snapshot.proofs.registry.Registry.open.Goals as goal
 
 pub returns-clause-fresh : goal.returns-clause-fresh

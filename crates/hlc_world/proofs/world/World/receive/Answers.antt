@@ -5,7 +5,9 @@ use Rattle.hlc_clock.specs.NextStamp.{stamp_due}
 use Rattle.hlc_node.specs.Node.{stamped}
 use Rattle.hlc_world.specs.Schedule.{message_at}
 use Rattle.hlc_world.proofs.Lists.{some-injective}
-use Rattle.hlc_world.proofs.Nodes.{receives, receives_not}
+use Rattle.hlc_world.specs.declared.event.Event.TheVariants.{Receive}
+use Rattle.hlc_world.specs.declared.reply.Reply.TheVariants.{Received}
+use Rattle.hlc_world.proofs.Nodes.{receive-is, sees, sees_not}
 use Rattle.hlc_world.proofs.world.World.receive.Goals as goal
 
 pub returns-in-Ok-clause-stands : goal.returns-in-Ok-clause-stands
@@ -21,7 +23,8 @@ returns-in-Ok-clause-stands c = λ s h.
     let due : stamp_due (c.index_mut.result.now.core.last ∷ c.in-Some.sent.now.stamp ∷ []) c.args.reading ≡ Ok c.in-Ok.stamp =
     ap (λ node. stamp_due (node.last ∷ c.in-Some.sent.now.stamp ∷ []) c.args.reading) (sym core) ∙ sym c.in-Ok.ensures.due in
     rw c.go_on.ensures
-    (receives _ s c.args.node c.args.reading c.args.message c.in-Ok.stamp c.index_mut.result.now c.receive.new.self c.in-Some.sent.now h' inside at there due
+    (sees _ s (Receive c.args.node c.args.reading c.args.message) Received c.args.node c.in-Some.sent.now.stamp c.args.reading c.in-Ok.stamp c.index_mut.result.now c.receive.new.self
+    (receive-is _ s c.args.node c.args.reading c.args.message c.in-Some.sent.now there) h' inside at due
     (c.in-Ok.ensures.ok ∙ ap (λ node. stamped node c.in-Ok.stamp) core))
 
 pub returns-in-Err-clause-stands : goal.returns-in-Err-clause-stands
@@ -33,5 +36,6 @@ returns-in-Err-clause-stands c = λ s h.
     let there : message_at c.args.message s ≡ Some c.in-Some.sent.now =
     ap (λ xs. slice_get xs c.args.message) (sym h'.messages ∙ sym c.as_slice.ensures.value) ∙ slice_get_read c.as_slice.result.now _ c.args.message c.in-Some.sent.now refl l.3.0 l.1 in
     rw (← c.self.view_is, c.of_clock.ensures)
-    (receives_not _ s c.args.node c.args.reading c.args.message c.index.result.now c.in-Some.sent.now c.in-Err.fault h' inside at there
+    (sees_not _ s (Receive c.args.node c.args.reading c.args.message) Received c.args.node c.in-Some.sent.now.stamp c.args.reading c.index.result.now c.in-Err.fault
+    (receive-is _ s c.args.node c.args.reading c.args.message c.in-Some.sent.now there) h' inside at
     (ap (λ node. stamp_due (node.last ∷ c.in-Some.sent.now.stamp ∷ []) c.args.reading) (sym c.core-core.ensures) ∙ sym c.in-Err.ensures.due))

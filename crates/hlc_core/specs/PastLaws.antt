@@ -1,15 +1,16 @@
--- What holds of a legal past: an item that nothing refuses lies above its node's head, so no write is accepted twice.
+-- What holds of a legal past: an item that nothing refuses lies above its node's head, so no write is accepted twice, and the floor
+-- never falls, so no open snapshot is above it.
 use Rattle.std.proofs.Common.{◌≡◌, ℕ, zero, suc, ◌<◌, ◌≤◌, ◌⊎◌, List, [], ◌∷◌, ◌++◌, length, true, Some, None, refl, ap, sym, ◌∙◌, subst, inl, inr, arith, append-nil}
-use Rattle.std.specs.Prelude.{Contains, ◌==◌, ◌≢◌, not}
-use Rattle.std.proofs.lemmas.Bool.{cond-true, cond-false, le-leb, lt-leb, eq-eqb, ne_eqb, cases_lt, cases_eq}
-use Rattle.std.proofs.lemmas.List.Elements.{Contains-append_cases}
+use Rattle.std.specs.Prelude.{All, Contains, ◌==◌, ◌≢◌, not}
+use Rattle.std.proofs.lemmas.Bool.{cond-true, cond-false, le-leb, lt-leb, lt-ltb, le-ltb, eq-eqb, ne_eqb, cases_lt, cases_eq}
+use Rattle.std.proofs.lemmas.List.Elements.{Contains-append_cases, All-nil, All-weaker, All-push, All-filter}
 use Rattle.hlc_node.specs.declared.row.Row.{Row}
 use Rattle.hlc_node.specs.declared.item.Item.{Item}
 use Rattle.hlc_node.specs.declared.item.Body.{Body}
 use Rattle.hlc_node.specs.declared.item.Body.TheVariants.{Write, Report}
-use Rattle.hlc_core.specs.declared.fault.CoreFault.TheVariants.{NoNode, NotNext, StampNotRising, NumbersSpent}
+use Rattle.hlc_core.specs.declared.fault.CoreFault.TheVariants.{NoNode, NotNext, StampNotRising, AboveFloor, NumbersSpent}
 use Rattle.hlc_node.specs.Rows.{IsSameVersion, IsRowSet}
-use Rattle.hlc_core.specs.Past.{Step, Took, Opened, count, head, floor, least, body_rows, item_rows, writes, link_refusal, item_refusal, IsLegal}
+use Rattle.hlc_core.specs.Past.{Step, Took, Opened, Closed, count, head, floor, least, open_snapshots, room_refusal, open_refusal, body_rows, item_rows, writes, link_refusal, item_refusal, IsLegal}
 
 -- what it says of an item that nothing refuses it
 pub record IsAdmissible (next last : ℕ) (item : Item) : Type 0 where
@@ -81,17 +82,17 @@ least-same f g (suc (suc n)) h =
     let a : f (suc n) ≡ g (suc n) = h (suc n) (omega arith) in
     let b : least f (suc n) ≡ least g (suc n) = least-same f g (suc n) (λ k lt. h k (omega arith)) in cc
 
-none-contained : {X : Type 0} (y : X) → Contains [] y → ⊥
+pub none-contained : {X : Type 0} (y : X) → Contains [] y → ⊥
 none-contained y (k, lt, e) = omega (arith, lt)
 
-contained-cases : {X : Type 0} (x : X) (xs : List X) (y : X) → Contains (x ∷ xs) y → (x ≡ y) ⊎ Contains xs y
+pub contained-cases : {X : Type 0} (x : X) (xs : List X) (y : X) → Contains (x ∷ xs) y → (x ≡ y) ⊎ Contains xs y
 contained-cases x xs y (zero, lt, e) = inl e
 contained-cases x xs y (suc k, lt, e) = inr (k, (let l : suc k < length (x ∷ xs) = lt in omega arith), e)
 
-contained-first : {X : Type 0} (x : X) (xs : List X) → Contains (x ∷ xs) x
+pub contained-first : {X : Type 0} (x : X) (xs : List X) → Contains (x ∷ xs) x
 contained-first x xs = (0, omega arith, refl)
 
-contained-rest : {X : Type 0} (x : X) (xs : List X) (y : X) → Contains xs y → Contains (x ∷ xs) y
+pub contained-rest : {X : Type 0} (x : X) (xs : List X) (y : X) → Contains xs y → Contains (x ∷ xs) y
 contained-rest x xs y (k, lt, e) = (suc k, omega arith, e)
 
 -- the row of an item has its node and its stamp
@@ -123,7 +124,8 @@ above_floor nodes past item h =
 -- each accepted write lies at or below its node's head
 below_head : (nodes : ℕ) (past : List Step) → IsLegal nodes past → (row : Row) → Contains (writes past) row → row.stamp ≤ head row.node past
 below_head nodes [] legal row m = absurd (none-contained row m)
-below_head nodes (Opened stamp ∷ past) legal row m = below_head nodes past legal.2 row m
+below_head nodes (Opened stamp ∷ past) legal row m = below_head nodes past legal.1 row m
+below_head nodes (Closed id ∷ past) legal row m = below_head nodes past legal.1 row m
 below_head nodes (Took item ∷ past) legal row m =
     let up : head item.node past < item.stamp = rises nodes past item legal.0 in
     elim (Contains-append_cases (writes past) (item_rows item) row m) [
@@ -167,6 +169,42 @@ row_set-body node stamp (Write key value) rows fresh set' =
 -- no two accepted writes are alike in key, stamp and node
 pub writes-row_set : (nodes : ℕ) (past : List Step) → IsLegal nodes past → IsRowSet (writes past)
 writes-row_set nodes [] legal = tt
-writes-row_set nodes (Opened stamp ∷ past) legal = writes-row_set nodes past legal.2
+writes-row_set nodes (Opened stamp ∷ past) legal = writes-row_set nodes past legal.1
+writes-row_set nodes (Closed id ∷ past) legal = writes-row_set nodes past legal.1
 writes-row_set nodes (Took item ∷ past) legal =
     row_set-body item.node item.stamp item.body (writes past) (new_version nodes past item legal.1 legal.0) (writes-row_set nodes past legal.1)
+
+-- greater values have no lesser least
+pub least-grows : (f g : ℕ → ℕ) (n : ℕ) → ((k : ℕ) → k < n → f k ≤ g k) → least f n ≤ least g n
+least-grows f g zero h = omega arith
+least-grows f g (suc n) h =
+    let some : (k : ℕ) × (k < suc n) × (g k ≡ least g (suc n)) = least-some g (suc n) (omega arith) in
+    let up : f some.0 ≤ g some.0 = h some.0 some.1 in
+    let low : least f (suc n) ≤ f some.0 = least-le f (suc n) some.0 some.1 in
+    let is : g some.0 ≡ least g (suc n) = some.2 in omega arith
+
+-- the floor never falls
+pub floor-grows : (nodes : ℕ) (past : List Step) (item : Item) → item_refusal nodes past item ≡ None → floor nodes past ≤ floor nodes (Took item ∷ past)
+floor-grows nodes past item none =
+    least-grows (λ n. head n past) (λ n. head n (Took item ∷ past)) nodes (λ n within. head-up n item past (rises nodes past item none))
+
+-- what nothing refuses to open is not above the floor
+pub open-below : (nodes : ℕ) (past : List Step) (stamp : ℕ) → open_refusal nodes past stamp ≡ None → stamp ≤ floor nodes past
+open-below nodes past stamp none =
+    elim (cases_lt (floor nodes past) stamp) [
+      | inl above ↦ absurd (let e : Some (AboveFloor (floor nodes past)) ≡ None = sym (cond-true _ _ _ (lt-ltb (floor nodes past) stamp above)) ∙ none in cc)
+      | inr low ↦ low
+    ]
+
+-- no open snapshot is above the floor
+pub open-low : (nodes : ℕ) (past : List Step) → IsLegal nodes past → All (λ snapshot. snapshot.stamp ≤ floor nodes past) (open_snapshots past)
+open-low nodes [] legal = All-nil _
+open-low nodes (Took item ∷ past) legal =
+    let up : floor nodes past ≤ floor nodes (Took item ∷ past) = floor-grows nodes past item legal.0 in
+    All-weaker (λ snapshot. snapshot.stamp ≤ floor nodes past) (λ snapshot. snapshot.stamp ≤ floor nodes (Took item ∷ past)) (λ snapshot low. (let low' : snapshot.stamp ≤ floor nodes past = low in omega arith)) _ (open-low nodes past legal.1)
+open-low nodes (Opened stamp ∷ past) legal = All-push (λ snapshot. snapshot.stamp ≤ floor nodes past) _ _ (open-low nodes past legal.1) (open-below nodes past stamp legal.0)
+open-low nodes (Closed id ∷ past) legal = All-filter _ (λ snapshot. snapshot.stamp ≤ floor nodes past) _ (open-low nodes past legal.1)
+
+-- a stamp that is neither above the floor nor below the horizon is refused for want of room alone
+pub open-room : (nodes : ℕ) (past : List Step) (stamp : ℕ) → stamp ≤ floor nodes past → open_refusal nodes past stamp ≡ room_refusal past
+open-room nodes past stamp low = cond-false _ _ _ (le-ltb (floor nodes past) stamp low) ∙ cond-false _ _ _ (le-ltb stamp 0 (omega arith))

@@ -1,6 +1,6 @@
 -- A register is a map from ids to stamps. Its ids rise and none is above the number of those opened, so a new one is above all others;
 -- an opening or a closing touches the look-up of one id alone.
-use Rattle.std.proofs.Common.{◌≡◌, ◌≢◌, ℕ, ◌+◌, ◌<◌, ◌≤◌, List, [], ◌∷◌, ◌++◌, Some, None, refl, ap, sym, ◌∙◌, inl, inr, arith}
+use Rattle.std.proofs.Common.{◌⊎◌, subst, ◌≡◌, ◌≢◌, ℕ, ◌+◌, ◌<◌, ◌≤◌, List, [], ◌∷◌, ◌++◌, Some, None, refl, ap, sym, ◌∙◌, inl, inr, arith}
 use Rattle.std.specs.Prelude.{All, ◌==◌, not, find, if◌then◌else◌}
 use Rattle.std.specs.Option.{option_map}
 use Rattle.std.proofs.lemmas.Bool.{cond-true, cond-false, eq-eqb, ne_eqb, cases_eq}
@@ -10,11 +10,11 @@ use Rattle.std.proofs.lemmas.List.Kept.{AllPairs-filter}
 use Rattle.hlc_snapshot.specs.declared.snapshot.Snapshot.{Snapshot}
 use Rattle.hlc_snapshot.specs.Register.{Register, IsRegister, Follows, at_once, opening, closing, closed, opened_at, stamp_in, without}
 
-stamp_in-hit : (id : ℕ) (x : Snapshot) (xs : List Snapshot) → x.id ≡ id → stamp_in id (x ∷ xs) ≡ Some x.stamp
+pub stamp_in-hit : (id : ℕ) (x : Snapshot) (xs : List Snapshot) → x.id ≡ id → stamp_in id (x ∷ xs) ≡ Some x.stamp
 stamp_in-hit id x xs same =
     ap (option_map (λ snapshot. snapshot.stamp)) (cond-true (x.id == id) (Some x) (find (λ snapshot. snapshot.id == id) xs) (eq-eqb _ _ same))
 
-stamp_in-miss : (id : ℕ) (x : Snapshot) (xs : List Snapshot) → x.id ≢ id → stamp_in id (x ∷ xs) ≡ stamp_in id xs
+pub stamp_in-miss : (id : ℕ) (x : Snapshot) (xs : List Snapshot) → x.id ≢ id → stamp_in id (x ∷ xs) ≡ stamp_in id xs
 stamp_in-miss id x xs other =
     ap (option_map (λ snapshot. snapshot.stamp)) (cond-false (x.id == id) (Some x) (find (λ snapshot. snapshot.id == id) xs) (ne_eqb _ _ other))
 
@@ -39,7 +39,7 @@ stamp_in-push_here y (x ∷ xs) below =
     stamp_in-miss y.id x (xs ++ y ∷ []) (λ same. omega arith) ∙ stamp_in-push_here y xs (All-tail (λ snapshot. snapshot.id < y.id) x xs below)
 
 -- and hides no other
-stamp_in-push_other : (id : ℕ) (y : Snapshot) (xs : List Snapshot) → y.id ≢ id → stamp_in id (xs ++ y ∷ []) ≡ stamp_in id xs
+pub stamp_in-push_other : (id : ℕ) (y : Snapshot) (xs : List Snapshot) → y.id ≢ id → stamp_in id (xs ++ y ∷ []) ≡ stamp_in id xs
 stamp_in-push_other id y [] other = stamp_in-miss id y [] other
 stamp_in-push_other id y (x ∷ xs) other =
     elim (cases_eq x.id id) [
@@ -47,7 +47,7 @@ stamp_in-push_other id y (x ∷ xs) other =
       | inr differs ↦ stamp_in-miss id x (xs ++ y ∷ []) differs ∙ stamp_in-push_other id y xs other ∙ sym (stamp_in-miss id x xs differs)
     ]
 
-stamp_in-without_gone : (id : ℕ) (xs : List Snapshot) → stamp_in id (without id xs) ≡ None
+pub stamp_in-without_gone : (id : ℕ) (xs : List Snapshot) → stamp_in id (without id xs) ≡ None
 stamp_in-without_gone id [] = refl
 stamp_in-without_gone id (x ∷ xs) =
     elim (cases_eq x.id id) [
@@ -55,7 +55,7 @@ stamp_in-without_gone id (x ∷ xs) =
       | inr differs ↦ ap (stamp_in id) (without-miss id x xs differs) ∙ stamp_in-miss id x (without id xs) differs ∙ stamp_in-without_gone id xs
     ]
 
-stamp_in-without_other : (id other : ℕ) (xs : List Snapshot) → other ≢ id → stamp_in other (without id xs) ≡ stamp_in other xs
+pub stamp_in-without_other : (id other : ℕ) (xs : List Snapshot) → other ≢ id → stamp_in other (without id xs) ≡ stamp_in other xs
 stamp_in-without_other id other [] differs = refl
 stamp_in-without_other id other (x ∷ xs) differs =
     elim (cases_eq x.id id) [
@@ -132,4 +132,32 @@ open_before id stamp (closing {newer = between} gone follows) old found =
     elim (cases_eq id gone) [
       | inl same ↦ absurd (let none : stamp_in id (closed gone between).snapshots ≡ None = ap (λ k. stamp_in k (closed gone between).snapshots) same ∙ closed-here between gone in cc)
       | inr differs ↦ open_before id stamp follows old (sym (closed-other between gone id differs) ∙ found)
+    ]
+
+-- what is found with one more snapshot behind the others was found before, or is that one
+pub stamp_in-push_cases : (id stamp : ℕ) (y : Snapshot) (xs : List Snapshot) → stamp_in id (xs ++ y ∷ []) ≡ Some stamp → (stamp_in id xs ≡ Some stamp) ⊎ ((y.id ≡ id) × (y.stamp ≡ stamp))
+stamp_in-push_cases id stamp y [] is =
+    elim (cases_eq y.id id) [
+      | inl same ↦ inr (same, (let e : Some y.stamp ≡ Some stamp = sym (stamp_in-hit id y [] same) ∙ is in cc))
+      | inr other ↦ absurd (let e : None ≡ Some stamp = sym (stamp_in-miss id y [] other) ∙ is in cc)
+    ]
+stamp_in-push_cases id stamp y (x ∷ xs) is =
+    elim (cases_eq x.id id) [
+      | inl same ↦ inl (stamp_in-hit id x xs same ∙ sym (stamp_in-hit id x (xs ++ y ∷ []) same) ∙ is)
+      | inr other ↦
+          elim (stamp_in-push_cases id stamp y xs (sym (stamp_in-miss id x (xs ++ y ∷ []) other) ∙ is)) [
+            | inl before ↦ inl (stamp_in-miss id x xs other ∙ before)
+            | inr last ↦ inr last
+          ]
+    ]
+
+-- what is true of all snapshots' stamps is true of the one that is found
+pub stamp_in-all : (P : ℕ → Type 0) (id stamp : ℕ) (xs : List Snapshot) → All (λ snapshot. P snapshot.stamp) xs → stamp_in id xs ≡ Some stamp → P stamp
+stamp_in-all P id stamp [] all' is = absurd (cc)
+stamp_in-all P id stamp (x ∷ xs) all' is =
+    elim (cases_eq x.id id) [
+      | inl same ↦
+          let e : Some x.stamp ≡ Some stamp = sym (stamp_in-hit id x xs same) ∙ is in
+          let f : x.stamp ≡ stamp = cc in subst P f (All-head (λ snapshot. P snapshot.stamp) x xs all')
+      | inr other ↦ stamp_in-all P id stamp xs (All-tail (λ snapshot. P snapshot.stamp) x xs all') (sym (stamp_in-miss id x xs other) ∙ is)
     ]

@@ -1,0 +1,5 @@
+use Rattle.hlc_core.specs.PastLaws.{open-low}
+use Rattle.hlc_core.proofs.laws.open_snapshots_are_at_most_the_floor.Goals as goal
+
+pub returns : goal.returns
+returns c = open-low

@@ -1,0 +1,5 @@
+use Rattle.hlc_world.proofs.Closure.{closed}
+use Rattle.hlc_world.proofs.laws.open_snapshots_are_closed.Goals as goal
+
+pub returns : goal.returns
+returns c = closed
