@@ -1,0 +1,5 @@
+use Rattle.hlc_witness.proofs.Shown.{certified}
+use Rattle.hlc_witness.proofs.laws.vacuums_are_certified.Goals as goal
+
+pub returns : goal.returns
+returns c = certified

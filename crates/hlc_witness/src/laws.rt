@@ -1,0 +1,60 @@
+//! What holds of the fewest rows, whichever rows there are.
+ghost use Rattle.std.specs.Prelude.{◌≡◌, ◌≤◌, ℕ, List, length};
+ghost use Rattle.hlc_node.specs.declared.row.Row.{Row as ARow};
+ghost use Rattle.hlc_witness.specs.declared.witness.Witness.{Witness as AWitness};
+ghost use Rattle.hlc_witness.specs.Points.{PointsAscend, last_point};
+ghost use Rattle.hlc_witness.specs.Fewest.{Alike, Fewest};
+ghost use Rattle.hlc_witness.specs.Changes.{AreChanges};
+ghost use Rattle.hlc_witness.specs.AllChanges.{all_changes};
+ghost use Rattle.hlc_witness.specs.Vacuumed.{Vacuumed, rows_to};
+ghost use Rattle.hlc_witness.specs.Certificate.{IsCertificate, RowsAscend, NoneAbove};
+
+use hlc_node::{newest_is_greatest, newest_is_unique, newest_stays, no_newest_no_row};
+
+/// The least-row theorem: rows that are alike to others are at least as many as those have changes.
+/// Each change forces a row, of its key, above the point before and at or below its own, and no row
+/// serves two changes.
+pub fn changes_force_rows()
+    ensures listed { (all others : List ARow) (points : List ℕ) (changes : List AWitness) → AreChanges all points changes → Alike others all points → length changes ≤ length others }
+    ensures counted { (all others : List ARow) (points : List ℕ) → PointsAscend points → Alike others all points → length (all_changes all points) ≤ length others }
+{
+    newest_is_greatest();
+    no_newest_no_row();
+    newest_stays();
+    changes_are_computed();
+}
+
+/// A certificate shows that its rows are the fewest, whoever made it.
+pub fn certificates_show_fewest()
+    ensures { (rows : List ARow) (points : List ℕ) (witnesses : List AWitness) → IsCertificate rows points witnesses → Fewest rows rows points }
+{
+    newest_is_greatest();
+    no_newest_no_row();
+    newest_stays();
+}
+
+/// There is one list of the changes, and it can be computed.
+pub fn changes_are_computed()
+    ensures are { (rows : List ARow) (points : List ℕ) → PointsAscend points → AreChanges rows points (all_changes rows points) }
+    ensures only { (rows : List ARow) (points : List ℕ) (changes : List AWitness) → PointsAscend points → AreChanges rows points changes → changes ≡ all_changes rows points }
+{
+    newest_is_greatest();
+    no_newest_no_row();
+    newest_stays();
+}
+
+/// What a vacuum keeps at or below the last point is the fewest, against all rows that there were.
+pub fn vacuums_keep_fewest()
+    ensures { (rows kept : List ARow) (points : List ℕ) (changes : List AWitness) → PointsAscend points → Vacuumed rows points changes kept → Fewest (rows_to (last_point points) kept) rows points }
+{
+    newest_is_greatest();
+    no_newest_no_row();
+    newest_stays();
+    newest_is_unique();
+}
+
+/// Ascending rows that are alike to all, and as many as the changes of all, are certified by those
+/// changes.
+pub fn vacuums_are_certified()
+    ensures { (rows all : List ARow) (points : List ℕ) (changes : List AWitness) → PointsAscend points → RowsAscend rows → NoneAbove points rows → Alike rows all points → AreChanges all points changes → length rows ≡ length changes → IsCertificate rows points changes }
+{}
