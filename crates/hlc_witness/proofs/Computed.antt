@@ -1,6 +1,6 @@
 -- The changes as they are computed: the keys that have rows come each once and in byte order, so the list of each key's changes is
 -- the list of all.
-use Rattle.std.proofs.Common.{◌≡◌, ℕ, List, [], ◌∷◌, length, refl, sym, ap, ◌∙◌, subst, All, Contains, Ordering, Less, Equal, Greater, nat_cmp, inl, inr}
+use Rattle.std.proofs.Common.{◌≡◌, ℕ, List, [], ◌∷◌, refl, ap, ◌∙◌, subst, All, Contains, Less, Equal, Greater, nat_cmp, inl, inr}
 use Rattle.std.specs.Cmp.Lexicographic.{slice_cmp}
 use Rattle.std.specs.Ordering.{ordering_reverse}
 use Rattle.std.specs.List.Sorted.{IsStrictlySortedBy}
@@ -11,7 +11,7 @@ use Rattle.hlc_node.specs.declared.row.Row.{Row}
 use Rattle.hlc_witness.specs.declared.witness.Witness.{Witness}
 use Rattle.hlc_witness.specs.Points.{PointsAscend}
 use Rattle.hlc_witness.specs.Changes.{AreChanges}
-use Rattle.hlc_witness.specs.AllChanges.{placed, with_key, keys_of, all_changes, changes_of}
+use Rattle.hlc_witness.specs.AllChanges.{placed, with_key, keys_of, all_changes}
 use Rattle.hlc_witness.proofs.Members.{Contains-none, Contains-first, Contains-rest, Contains-cons_cases}
 use Rattle.hlc_witness.proofs.Newest.{NewestLaws}
 use Rattle.hlc_witness.proofs.Listed.{changes_listed, changes_once}

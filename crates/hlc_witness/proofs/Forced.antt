@@ -1,9 +1,8 @@
 -- Each change forces a row into whatever answers alike: the newest row there at the change's point is above the point before, else
 -- the answer would have stayed. So it serves no other change, and rows are as many as changes at least.
-use Rattle.std.proofs.Common.{◌≡◌, ◌≢◌, ℕ, ◌<◌, ◌≤◌, List, [], ◌∷◌, Option, Some, None, length, refl, sym, ap, ◌∙◌, inl, inr, arith, Contains, All, sum_by, nat_cmp, Less, Equal}
+use Rattle.std.proofs.Common.{◌≡◌, ◌≢◌, ℕ, ◌<◌, ◌≤◌, List, [], ◌∷◌, Some, None, length, refl, sym, ap, ◌∙◌, inl, inr, arith, Contains, All, sum_by, nat_cmp, Less, Equal}
 use Rattle.std.specs.Ordering.{ordering_then}
 use Rattle.std.specs.Cmp.Lexicographic.{slice_cmp}
-use Rattle.std.specs.List.Sorted.{IsStrictlySortedBy}
 use Rattle.std.proofs.lemmas.Bool.{cases_lt}
 use Rattle.std.proofs.lemmas.Cmp.{nat_list_cmp_total, tied_itself, ranked}
 use Rattle.std.proofs.lemmas.List.Elements.{All-contains, All-from_recursion}
@@ -13,7 +12,7 @@ use Rattle.hlc_node.specs.Rows.{newest, answer, IsNewest}
 use Rattle.hlc_witness.specs.declared.witness.Witness.{Witness}
 use Rattle.hlc_witness.specs.Points.{IsPointBefore}
 use Rattle.hlc_witness.specs.Fewest.{Alike}
-use Rattle.hlc_witness.specs.Changes.{IsChange, AreChanges, ChangesAscend, answer_at, change_cmp}
+use Rattle.hlc_witness.specs.Changes.{IsChange, ChangesAscend, answer_at, change_cmp}
 use Rattle.hlc_witness.proofs.Newest.{NewestLaws, stamp_below, answer_none, answer_some, answer_same}
 use Rattle.hlc_witness.proofs.Pigeons.{AreApart, Served, served, sum_by_one}
 

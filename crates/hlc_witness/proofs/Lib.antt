@@ -3,6 +3,9 @@ pub mod Newest
 pub mod Pigeons
 pub mod Forced
 pub mod Places
-pub mod Shown
+pub mod Certified
 pub mod Listed
 pub mod Computed
+pub mod Ascending
+pub mod LastReached
+pub mod Faults

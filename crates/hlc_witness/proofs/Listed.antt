@@ -1,16 +1,15 @@
 -- The changes found key by key and point by point are all of them, in order: those of one key ascend with the points, and each key is
 -- above the ones before it. Two ascending lists with the same members are one.
-use Rattle.std.proofs.Common.{◌≡◌, ◌≢◌, ℕ, zero, suc, ◌+◌, ◌-◌, ◌<◌, ◌≤◌, ◌↔◌, Bool, true, false, cond, List, [], ◌∷◌, ◌++◌, Option, Some, None, length, get_or, drop, refl, sym, ap, ◌∙◌, subst, ◌⊎◌, inl, inr, arith, Contains, All, true≢false, flat_map, nat_cmp, Less, Equal, Ordering, bytes_eq}
-use Rattle.std.specs.List.{AllByRecursion}
+use Rattle.std.proofs.Common.{◌≡◌, ◌≢◌, ℕ, zero, suc, ◌+◌, ◌-◌, ◌<◌, Bool, true, false, cond, List, [], ◌∷◌, ◌++◌, Option, Some, None, length, get_or, drop, refl, sym, ap, ◌∙◌, subst, ◌⊎◌, inl, inr, arith, Contains, All, true≢false, nat_cmp, Less, Equal, Ordering}
 use Rattle.std.specs.Ordering.{ordering_then}
 use Rattle.std.specs.Cmp.Lexicographic.{slice_cmp}
 use Rattle.std.specs.List.Sorted.{IsStrictlySortedBy}
-use Rattle.std.proofs.lemmas.Bool.{cases_Bool, cases_lt, cases_order}
-use Rattle.std.proofs.lemmas.Cmp.{nat_list_cmp_total, tied_itself, ranked}
+use Rattle.std.proofs.lemmas.Bool.{cases_Bool}
+use Rattle.std.proofs.lemmas.Cmp.{nat_list_cmp_total, tied_itself}
 use Rattle.std.proofs.lemmas.Slice.Eq.{bytes_eq-Decides}
 use Rattle.std.proofs.lemmas.Option.{none-some, same_Some}
-use Rattle.std.proofs.lemmas.List.{drop_more, drop_all, append-nil, append_assoc}
-use Rattle.std.proofs.lemmas.List.Elements.{All-nil, All-cons, All-contains, All-append, All-from_recursion, recursion_from_All, Contains-append_left, Contains-append_right, Contains-append_cases, Contains-get_or, All-contains_itself}
+use Rattle.std.proofs.lemmas.List.{drop_more, drop_all}
+use Rattle.std.proofs.lemmas.List.Elements.{All-nil, All-cons, All-contains, All-append, All-from_recursion, recursion_from_All, Contains-append_left, Contains-append_right, Contains-append_cases, Contains-get_or}
 use Rattle.std.proofs.lemmas.Map.Keys.{sorted_head, sorted_tail, sorted_from_strictly_increasing}
 use Rattle.hlc_node.specs.declared.row.Row.{Row}
 use Rattle.hlc_node.specs.Rows.{newest, answer}
@@ -20,8 +19,8 @@ use Rattle.hlc_witness.specs.Changes.{IsChange, AreChanges, answer_at, change_cm
 use Rattle.hlc_witness.specs.AllChanges.{is_same_answer, key_changes, changes_of}
 use Rattle.hlc_witness.proofs.Members.{Contains-none, Contains-first, Contains-rest, Contains-cons_cases}
 use Rattle.hlc_witness.proofs.Newest.{NewestLaws, answer_none, answer_same}
-use Rattle.hlc_witness.proofs.Places.{rising, first_point, next_point, before_one}
-use Rattle.hlc_witness.proofs.Shown.{change_cmp_total}
+use Rattle.hlc_witness.proofs.Places.{first_point, next_point, before_one}
+use Rattle.hlc_witness.proofs.Certified.{change_cmp_total}
 
 pub is_same_answer-true : (a b : Option (List ℕ)) → is_same_answer a b ≡ true → a ≡ b
 is_same_answer-true None None h = refl

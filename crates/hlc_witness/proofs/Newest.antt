@@ -1,13 +1,17 @@
 -- What the laws of rows say of the newest one, as one record, and what follows for answers. A law or a function of this crate calls
 -- those laws and hands the record on.
-use Rattle.std.proofs.Common.{◌≡◌, ℕ, ◌<◌, ◌≤◌, List, Option, Some, None, refl, sym, ap, ◌∙◌, inl, inr, arith, Contains}
+use Rattle.std.proofs.Common.{◌≡◌, ℕ, ◌≤◌, List, Some, None, ap, inl, inr, arith, Contains}
 use Rattle.std.specs.Prelude.{option_and_then}
 use Rattle.hlc_node.specs.declared.row.Row.{Row}
 use Rattle.hlc_node.specs.Rows.{newest, answer, IsNewest, IsNoLater, IsRowSet}
 
+-- the newest row is the greatest
+abbrev pub IsGreatestLaw : Type 0
+IsGreatestLaw = (rows : List Row) (key : List ℕ) (bound : ℕ) (row : Row) → newest rows key bound ≡ Some row → IsNewest rows key bound row
+
 -- for every list of rows: the newest row is the greatest; with none no row is a candidate; where no row lies between it stays
 pub record NewestLaws : Type 0 where
-  pub greatest : (rows : List Row) (key : List ℕ) (bound : ℕ) (row : Row) → newest rows key bound ≡ Some row → IsNewest rows key bound row
+  pub greatest : IsGreatestLaw
   pub none : (rows : List Row) (key : List ℕ) (bound : ℕ) (row : Row) → newest rows key bound ≡ None → Contains rows row → row.key ≡ key → row.stamp ≤ bound → ⊥
   pub stays : (rows : List Row) (key : List ℕ) (low high : ℕ) → low ≤ high → ((row : Row) → Contains rows row → row.key ≡ key → row.stamp ≤ high → row.stamp ≤ low) → newest rows key high ≡ newest rows key low
 

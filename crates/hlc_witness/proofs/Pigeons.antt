@@ -1,9 +1,8 @@
 -- Where each of some things is served by a member of a list, and no member serves two that are apart, what they weigh is no more
 -- than what the list weighs: take the member that serves the first thing out of the list, and go on with the rest. With a weight of 1
 -- for each it says that they are no more than the list's members.
-use Rattle.std.proofs.Common.{◌≡◌, ◌≢◌, ℕ, zero, suc, ◌+◌, ◌-◌, ◌<◌, ◌≤◌, List, [], ◌∷◌, length, get_or, refl, sym, ap, ◌∙◌, subst, arith, Contains, All, sum_by}
+use Rattle.std.proofs.Common.{◌≡◌, ℕ, ◌+◌, ◌<◌, ◌≤◌, List, [], ◌∷◌, length, get_or, refl, sym, ap, subst, arith, Contains, sum_by}
 use Rattle.std.specs.List.{remove}
-use Rattle.std.proofs.lemmas.List.Edits.{length-remove}
 use Rattle.std.proofs.lemmas.List.Sums.{sum_by-cons, sum_by-remove}
 use Rattle.hlc_witness.proofs.Members.{Contains-first, Contains-rest, Contains-remove}
 

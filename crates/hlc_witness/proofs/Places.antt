@@ -1,6 +1,6 @@
 -- Ascending points by their places: the point before one stands just before it, and the last one is the greatest.
-use Rattle.std.proofs.Common.{◌≡◌, ◌≢◌, ℕ, zero, suc, ◌+◌, ◌-◌, ◌<◌, ◌≤◌, ◌↔◌, ◌⊎◌, inl, inr, List, [], ◌∷◌, length, Option, Some, None, get_or, refl, sym, ap, ◌∙◌, subst, arith, All, Contains, eqb, ltb, IsTrue, true, false}
-use Rattle.std.proofs.lemmas.Bool.{cases_lt, cases_order, lt-ltb, ltb-true, eq-eqb, eqb-true}
+use Rattle.std.proofs.Common.{◌≡◌, ℕ, suc, ◌-◌, ◌<◌, ◌≤◌, inl, inr, List, [], ◌∷◌, length, Option, Some, None, get_or, refl, sym, ap, ◌∙◌, subst, arith, Contains}
+use Rattle.std.proofs.lemmas.Bool.{cases_lt, cases_order}
 use Rattle.std.proofs.lemmas.List.{get_or_default}
 use Rattle.std.proofs.lemmas.List.Elements.{All-from_get_or, All-get_or, All-contains, Contains-get_or}
 use Rattle.std.proofs.lemmas.Map.Keys.{sorted_from_strictly_increasing, below_from_sorted}
@@ -87,3 +87,29 @@ last_upper points rise p (i, l, e) =
       | inr (inl m) ↦ let h = rising points rise i (length points - 1) m (omega arith) in omega arith
       | inr (inr m) ↦ absurd (omega arith)
     ]
+
+-- what a search of ascending points finds
+pub never_falling : (points : List ℕ) → PointsAscend points → (i j : ℕ) → i ≤ j → j < length points → get_or points i 0 ≤ get_or points j 0
+never_falling points rise i j le lt =
+    elim (cases_order i j) [
+      | inl same ↦ let h = ap (λ n. get_or points n 0) same in omega arith
+      | inr (inl below) ↦ let h = rising points rise i j below lt in omega arith
+      | inr (inr above) ↦ absurd (omega arith)
+    ]
+
+pub place_of : (points : List ℕ) (i at : ℕ) → i < length points → get_or points i 0 ≡ at → Contains points at
+place_of points i at lt is = subst (Contains points) is (Contains-get_or points i 0 lt)
+
+pub no_place : (points : List ℕ) (at i : ℕ) → (i ≤ length points) × ((k : ℕ) → k < i → get_or points k 0 < at) × ((k : ℕ) → i ≤ k → k < length points → at < get_or points k 0) → Contains points at → ⊥
+no_place points at i (within, below, above) (k, lt, is) =
+    let own : get_or points k 0 ≡ at = get_or_default points k 0 at lt ∙ is in
+    elim (cases_lt k i) [
+      | inl before ↦ let h = below k before in omega arith
+      | inr after ↦ let h = above k after lt in omega arith
+    ]
+
+pub last_point-is : (points : List ℕ) (last : ℕ) → 0 < length points → last ≡ get_or points (length points - 1) last → last ≡ last_point points
+last_point-is points last some is = is ∙ get_or_default points (length points - 1) last 0 (omega arith) ∙ sym (last_point-get_or points)
+
+pub place_before : (points : List ℕ) (i before : ℕ) → i - 1 < length points → before ≡ get_or points (i - 1) before → get_or points (i - 1) 0 ≡ before
+place_before points i before lt is = get_or_default points (i - 1) 0 before lt ∙ sym is

@@ -1,5 +1,5 @@
 -- Changes: a key and a point at which its answer differs from that at the point before.
-use Rattle.std.specs.Prelude.{◌≡◌, ◌≢◌, ℕ, List, Option, Some, None, All, Contains}
+use Rattle.std.specs.Prelude.{◌≢◌, ℕ, List, Option, Some, None, All, Contains}
 use Rattle.std.specs.Ordering.{nat_cmp, ordering_then}
 use Rattle.std.specs.Cmp.Lexicographic.{slice_cmp}
 use Rattle.std.specs.List.Sorted.{IsStrictlySortedBy}

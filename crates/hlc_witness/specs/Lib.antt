@@ -5,3 +5,4 @@ pub mod AllChanges
 pub mod Vacuumed
 pub mod Certificate
 pub mod Reasons
+pub mod Reached

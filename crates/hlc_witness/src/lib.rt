@@ -2,14 +2,21 @@
 //! of certificates that believes nobody.
 #![tactic(auto)]
 
+mod checker;
 mod laws;
+mod order;
 mod reason;
+mod search;
+mod shown;
 mod witness;
 
+pub use checker::check;
 pub use hlc_node::{Bytes, Row, Stamp};
 pub use laws::{
     certificates_show_fewest, changes_are_computed, changes_force_rows, vacuums_are_certified,
     vacuums_keep_fewest,
 };
+pub use order::do_points_ascend;
 pub use reason::NotShown;
+pub use shown::Shown;
 pub use witness::Witness;

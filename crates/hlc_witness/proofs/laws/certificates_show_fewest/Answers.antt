@@ -1,4 +1,4 @@
-use Rattle.hlc_witness.proofs.Shown.{certificate_shows_fewest}
+use Rattle.hlc_witness.proofs.Certified.{certificate_shows_fewest}
 use Rattle.hlc_witness.proofs.laws.certificates_show_fewest.Goals as goal
 
 pub returns : goal.returns

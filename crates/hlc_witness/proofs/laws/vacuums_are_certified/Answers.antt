@@ -1,4 +1,4 @@
-use Rattle.hlc_witness.proofs.Shown.{certified}
+use Rattle.hlc_witness.proofs.Certified.{certified}
 use Rattle.hlc_witness.proofs.laws.vacuums_are_certified.Goals as goal
 
 pub returns : goal.returns

@@ -1,4 +1,4 @@
-use Rattle.hlc_witness.proofs.Shown.{vacuum_keeps_fewest}
+use Rattle.hlc_witness.proofs.Certified.{vacuum_keeps_fewest}
 use Rattle.hlc_witness.proofs.laws.vacuums_keep_fewest.Goals as goal
 
 pub returns : goal.returns

@@ -1,9 +1,9 @@
 -- A certificate shows that its rows are the fewest, since its witnesses are changes and as many. Rows that answer as all do have the
 -- same changes, since a change speaks of answers at points alone; so what a vacuum leaves is certified by the changes of all rows.
-use Rattle.std.proofs.Common.{◌≡◌, ◌≢◌, ℕ, ◌<◌, ◌≤◌, List, [], ◌∷◌, Option, Some, None, length, refl, sym, ap, ◌∙◌, arith, All, Contains, nat_cmp, filter, cond, leb, true, false, inl, inr}
+use Rattle.std.proofs.Common.{◌≡◌, ◌≢◌, ℕ, ◌≤◌, List, [], ◌∷◌, Some, None, length, refl, sym, ◌∙◌, arith, cond, leb, true, false}
 use Rattle.std.specs.Cmp.{IsTotalOrder}
 use Rattle.std.proofs.lemmas.Cmp.{nat_cmp_total, nat_list_cmp_total, on_total, then_total}
-use Rattle.std.proofs.lemmas.Bool.{le-leb, leb-true}
+use Rattle.std.proofs.lemmas.Bool.{le-leb}
 use Rattle.std.proofs.lemmas.List.Elements.{All-weaker}
 use Rattle.hlc_node.specs.declared.row.Row.{Row}
 use Rattle.hlc_node.specs.Rows.{newest, answer, IsNewest, IsRowSet}
@@ -13,7 +13,7 @@ use Rattle.hlc_witness.specs.Fewest.{Alike, Fewest}
 use Rattle.hlc_witness.specs.Changes.{IsChange, AreChanges, answer_at, change_cmp}
 use Rattle.hlc_witness.specs.Vacuumed.{Vacuumed, rows_to}
 use Rattle.hlc_witness.specs.Certificate.{IsCertificate, RowsAscend, NoneAbove, row_cmp}
-use Rattle.hlc_witness.proofs.Members.{Contains-first, Contains-rest, Contains-filter, Contains-from_filter}
+use Rattle.hlc_witness.proofs.Members.{Contains-filter, Contains-from_filter}
 use Rattle.hlc_witness.proofs.Newest.{NewestLaws, IsUniqueLaw, answer_none, answer_some}
 use Rattle.hlc_witness.proofs.Places.{last_upper}
 use Rattle.hlc_witness.proofs.Forced.{changes_force_rows}
