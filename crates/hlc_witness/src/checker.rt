@@ -25,6 +25,7 @@ pub fn check(rows: &[Row], points: &[Stamp], witnesses: &[Witness]) -> Result<Sh
     ensures reason { IfErr result (λ reason. IsFirstReason rows.now points.now witnesses.now reason) }
     ensures only { IsCertificate rows.now points.now witnesses.now → IsOk result }
 {
+    // What the proof cites.
     certificates_show_fewest();
     if !do_points_ascend(points) {
         return Err(NotShown::PointsNotAscending);

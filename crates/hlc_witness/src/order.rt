@@ -1,5 +1,6 @@
 //! Whether points, rows and witnesses ascend.
 ghost use Rattle.std.specs.Prelude.{◌≡◌, ◌↔◌, ◌<◌, IsTrue, length};
+ghost use Rattle.std.specs.Ordering.{is_lt};
 ghost use Rattle.hlc_witness.specs.Points.{PointsAscend};
 ghost use Rattle.hlc_witness.specs.Changes.{ChangesAscend, change_cmp};
 ghost use Rattle.hlc_witness.specs.Certificate.{RowsAscend, NoneAbove, row_cmp};
@@ -8,7 +9,6 @@ ghost use Rattle.hlc_witness.specs.Reasons.{IsAbove};
 use crate::witness::Witness;
 use hlc_clock::Stamp;
 use hlc_node::Row;
-use std::cmp::Ordering;
 
 /// Whether there is a point, and each is above the one before it.
 pub fn do_points_ascend(points: &[Stamp]) -> bool
@@ -27,7 +27,7 @@ pub(crate) fn do_rows_ascend(rows: &[Row]) -> bool
     ensures { IsTrue result ↔ RowsAscend rows.now }
 {
     for i in 1..rows.len() {
-        if compare_rows(&rows[i - 1], &rows[i]).is_ge() {
+        if !is_row_before(&rows[i - 1], &rows[i]) {
             return false;
         }
     }
@@ -55,19 +55,24 @@ pub(crate) fn is_above(front: &[Witness], witness: &Witness) -> bool
 {
     match front.last() {
         None => true,
-        Some(previous) => compare_witnesses(previous, witness).is_lt(),
+        Some(previous) => is_witness_before(previous, witness),
     }
 }
 
-fn compare_rows(a: &Row, b: &Row) -> Ordering
-    ensures { result ≡ row_cmp a.now b.now }
+/// Whether a row comes before another, by key, stamp and node.
+fn is_row_before(a: &Row, b: &Row) -> bool
+    ensures { result ≡ is_lt (row_cmp a.now b.now) }
 {
+    let by_key = a.key.as_slice().cmp(b.key.as_slice());
     let by_stamp = a.stamp.cmp(&b.stamp).then(a.node.cmp(&b.node));
-    a.key.as_slice().cmp(b.key.as_slice()).then(by_stamp)
+    by_key.then(by_stamp).is_lt()
 }
 
-fn compare_witnesses(a: &Witness, b: &Witness) -> Ordering
-    ensures { result ≡ change_cmp a.now b.now }
+/// Whether a witness comes before another, by key and `at`.
+fn is_witness_before(a: &Witness, b: &Witness) -> bool
+    ensures { result ≡ is_lt (change_cmp a.now b.now) }
 {
-    a.key.as_slice().cmp(b.key.as_slice()).then(a.at.cmp(&b.at))
+    let by_key = a.key.as_slice().cmp(b.key.as_slice());
+    let by_point = a.at.cmp(&b.at);
+    by_key.then(by_point).is_lt()
 }

@@ -39,13 +39,10 @@ fn newest_in<'a>(rows: &'a [Row], key: &Bytes, bound: Stamp) -> Option<&'a Row>
     requires { RowsAscend rows.now }
     ensures { option_copied result ≡ newest rows.now key.now bound }
 {
+    // What the proof cites: the newest row is the greatest of the key's rows there, and no other is.
     newest_is_greatest();
     newest_is_unique();
-    let end = rows.partition_point(
-        |row|
-            ensures { result ≡ is_reached key.entry.now bound row.now }
-        { is_reached(row, key, bound) },
-    );
+    let end = rows.partition_point(|row| is_reached(row, key, bound));
     if end == 0 {
         return None;
     }
@@ -57,9 +54,6 @@ fn newest_in<'a>(rows: &'a [Row], key: &Bytes, bound: Stamp) -> Option<&'a Row>
 fn is_reached(row: &Row, key: &Bytes, bound: Stamp) -> bool
     ensures { result ≡ is_reached key.now bound row.now }
 {
-    row.key
-        .as_slice()
-        .cmp(key.as_slice())
-        .then(row.stamp.cmp(&bound))
-        .is_le()
+    let by_key = row.key.as_slice().cmp(key.as_slice());
+    by_key.then(row.stamp.cmp(&bound)).is_le()
 }
