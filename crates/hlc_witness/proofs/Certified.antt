@@ -1,6 +1,6 @@
 -- A certificate shows that its rows are the fewest, since its witnesses are changes and as many. Rows that answer as all do have the
 -- same changes, since a change speaks of answers at points alone; so what a vacuum leaves is certified by the changes of all rows.
-use Rattle.std.proofs.Common.{◌≡◌, ◌≢◌, ℕ, ◌≤◌, List, [], ◌∷◌, Some, None, length, refl, sym, ◌∙◌, arith, cond, leb, true, false}
+use Rattle.std.proofs.Common.{◌≡◌, Bool, filter, ◌≢◌, ℕ, ◌≤◌, List, [], ◌∷◌, Some, None, length, refl, sym, ◌∙◌, arith, cond, leb, true, false}
 use Rattle.std.specs.Cmp.{IsTotalOrder}
 use Rattle.std.proofs.lemmas.Cmp.{nat_cmp_total, nat_list_cmp_total, on_total, then_total}
 use Rattle.std.proofs.lemmas.Bool.{le-leb}
@@ -53,12 +53,12 @@ certified rows all points changes rise up below alike are count = record {
 }
 
 -- some of the rows of a row set
-filter-IsRowSet : (bound : ℕ) (rows : List Row) → IsRowSet rows → IsRowSet (rows_to bound rows)
-filter-IsRowSet bound [] set' = tt
-filter-IsRowSet bound (row ∷ rows) set' =
-    elim (leb row.stamp bound) as (λ b. IsRowSet (cond b (row ∷ rows_to bound rows) (rows_to bound rows))) [
-      | true ↦ (λ other i. set'.0 other (Contains-from_filter (λ r. leb r.stamp bound) rows other i).0, filter-IsRowSet bound rows set'.1)
-      | false ↦ filter-IsRowSet bound rows set'.1
+pub filter-IsRowSet : (p : Row → Bool) (rows : List Row) → IsRowSet rows → IsRowSet (filter p rows)
+filter-IsRowSet p [] set' = tt
+filter-IsRowSet p (row ∷ rows) set' =
+    elim (p row) as (λ b. IsRowSet (cond b (row ∷ filter p rows) (filter p rows))) [
+      | true ↦ (λ other i. set'.0 other (Contains-from_filter p rows other i).0, filter-IsRowSet p rows set'.1)
+      | false ↦ filter-IsRowSet p rows set'.1
     ]
 
 -- of a row set, the rows above a stamp are not needed to answer at or below it
@@ -83,7 +83,7 @@ answer-rows_to laws unique rows bound key point set' le =
             in_bound = is.in_bound;
             greatest = λ other i k s. is.greatest other (Contains-from_filter (λ r. leb r.stamp bound) rows other i).0 k s;
           } in
-          answer_some (rows_to bound rows) key point v (unique (rows_to bound rows) key point v (filter-IsRowSet bound rows set') kept)
+          answer_some (rows_to bound rows) key point v (unique (rows_to bound rows) key point v (filter-IsRowSet (λ r. leb r.stamp bound) rows set') kept)
           ∙ sym (answer_some rows key point v e)
     ] refl
 

@@ -9,3 +9,4 @@ pub mod Computed
 pub mod Ascending
 pub mod LastReached
 pub mod Faults
+pub mod Standing

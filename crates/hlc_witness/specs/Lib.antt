@@ -6,3 +6,4 @@ pub mod Vacuumed
 pub mod Certificate
 pub mod Reasons
 pub mod Reached
+pub mod Standing

@@ -1,6 +1,7 @@
 //! What holds of the fewest rows, whichever rows there are.
-ghost use Rattle.std.specs.Prelude.{◌≡◌, ◌≤◌, ℕ, List, length};
+ghost use Rattle.std.specs.Prelude.{◌≡◌, ◌+◌, ◌<◌, ◌≤◌, ℕ, List, [], ◌∷◌, ◌++◌, length};
 ghost use Rattle.hlc_node.specs.declared.row.Row.{Row as ARow};
+ghost use Rattle.hlc_node.specs.Rows.{IsRowSet};
 ghost use Rattle.hlc_witness.specs.declared.witness.Witness.{Witness as AWitness};
 ghost use Rattle.hlc_witness.specs.Points.{PointsAscend, last_point};
 ghost use Rattle.hlc_witness.specs.Fewest.{Alike, Fewest};
@@ -8,6 +9,7 @@ ghost use Rattle.hlc_witness.specs.Changes.{AreChanges};
 ghost use Rattle.hlc_witness.specs.AllChanges.{all_changes};
 ghost use Rattle.hlc_witness.specs.Vacuumed.{Vacuumed, rows_to};
 ghost use Rattle.hlc_witness.specs.Certificate.{IsCertificate, RowsAscend, NoneAbove};
+ghost use Rattle.hlc_witness.specs.Standing.{RowsStandFor, ArePoints, StandsAfterVacuum, count_above};
 
 use hlc_node::{newest_is_greatest, newest_is_unique, newest_stays, no_newest_no_row};
 
@@ -57,4 +59,31 @@ pub fn vacuums_keep_fewest()
 /// changes.
 pub fn vacuums_are_certified()
     ensures { (rows all : List ARow) (points : List ℕ) (changes : List AWitness) → PointsAscend points → RowsAscend rows → NoneAbove points rows → Alike rows all points → AreChanges all points changes → length rows ≡ length changes → IsCertificate rows points changes }
+{}
+
+/// After a vacuum at the floor the rows stand for all accepted ones, and those at or below the floor
+/// are the fewest against all of them, whatever was dropped before.
+pub fn vacuums_compose()
+    ensures { (stored all kept : List ARow) (horizon floor : ℕ) (opened points : List ℕ) (changes : List AWitness) → RowsStandFor stored all horizon opened → horizon ≤ floor → ArePoints opened floor points → Vacuumed stored points changes kept → StandsAfterVacuum kept all floor opened points changes }
+{
+    newest_is_greatest();
+    no_newest_no_row();
+    newest_stays();
+    newest_is_unique();
+}
+
+/// A row that is written above the horizon is stored with the others, and counts as one more.
+pub fn writes_keep_standing()
+    ensures stands { (stored all : List ARow) (horizon : ℕ) (opened : List ℕ) (row : ARow) → RowsStandFor stored all horizon opened → horizon < row.stamp → IsRowSet (all ++ row ∷ []) → RowsStandFor (stored ++ row ∷ []) (all ++ row ∷ []) horizon opened }
+    ensures count { (stored all : List ARow) (horizon changes : ℕ) (row : ARow) → length stored ≡ changes + count_above horizon all → horizon < row.stamp → length (stored ++ row ∷ []) ≡ changes + count_above horizon (all ++ row ∷ []) }
+{
+    newest_is_greatest();
+    no_newest_no_row();
+    newest_stays();
+    newest_is_unique();
+}
+
+/// A snapshot that opens at or above the horizon is told the same.
+pub fn opens_keep_standing()
+    ensures { (stored all : List ARow) (horizon stamp : ℕ) (opened : List ℕ) → RowsStandFor stored all horizon opened → horizon ≤ stamp → RowsStandFor stored all horizon (opened ++ stamp ∷ []) }
 {}
