@@ -10,3 +10,4 @@ pub mod Ascending
 pub mod LastReached
 pub mod Faults
 pub mod Standing
+pub mod Kept

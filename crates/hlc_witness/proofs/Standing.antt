@@ -41,16 +41,16 @@ push-IsRowSet (first ∷ part) all last set' within pushed = (
 )
 
 -- each thing of a row set is no version of a later one
-apart_rows : (rows : List Row) → IsRowSet rows → AreApart (λ a b. IsSameVersion a b → ⊥) rows
+pub apart_rows : (rows : List Row) → IsRowSet rows → AreApart (λ a b. IsSameVersion a b → ⊥) rows
 apart_rows [] set' = tt
 apart_rows (row ∷ rows) set' = (set'.0, apart_rows rows set'.1)
 
 -- what is newest in all is newest in a part that has it
-newest_in_part : IsUniqueLaw → (part all : List Row) (key : List ℕ) (stamp : ℕ) (row : Row) → IsRowSet part → ((r : Row) → Contains part r → Contains all r) → IsNewest all key stamp row → Contains part row → newest part key stamp ≡ Some row
+pub newest_in_part : IsUniqueLaw → (part all : List Row) (key : List ℕ) (stamp : ℕ) (row : Row) → IsRowSet part → ((r : Row) → Contains part r → Contains all r) → IsNewest all key stamp row → Contains part row → newest part key stamp ≡ Some row
 newest_in_part unique part all key stamp row set' within is i =
     unique part key stamp row set' (record { member = i; of_key = is.of_key; in_bound = is.in_bound; greatest = λ other m k s. is.greatest other (within other m) k s })
 
-none_in_part : NewestLaws → (part all : List Row) (key : List ℕ) (stamp : ℕ) → ((r : Row) → Contains part r → Contains all r) → newest all key stamp ≡ None → newest part key stamp ≡ None
+pub none_in_part : NewestLaws → (part all : List Row) (key : List ℕ) (stamp : ℕ) → ((r : Row) → Contains part r → Contains all r) → newest all key stamp ≡ None → newest part key stamp ≡ None
 none_in_part laws part all key stamp within e =
     elim (newest part key stamp) as (λ o. newest part key stamp ≡ o → o ≡ None) [
       | None ↦ λ _. refl

@@ -1,7 +1,7 @@
 -- What a vacuum leaves of rows.
-use Rattle.std.specs.Prelude.{◌≡◌, ℕ, ◌<◌, List, length, Contains, filter, nat_le}
+use Rattle.std.specs.Prelude.{◌≡◌, ℕ, ◌<◌, ◌⊎◌, List, Some, length, Contains, filter, nat_le}
 use Rattle.hlc_node.specs.declared.row.Row.{Row}
-use Rattle.hlc_node.specs.Rows.{IsRowSet}
+use Rattle.hlc_node.specs.Rows.{newest, IsRowSet}
 use Rattle.hlc_witness.specs.declared.witness.Witness.{Witness}
 use Rattle.hlc_witness.specs.Points.{last_point}
 use Rattle.hlc_witness.specs.Fewest.{Alike}
@@ -20,3 +20,11 @@ pub record Vacuumed (rows : List Row) (points : List ℕ) (changes : List Witnes
   pub above : (row : Row) → Contains rows row → last_point points < row.stamp → Contains kept row
   pub alike : Alike kept rows points
   pub count : length (rows_to (last_point points) kept) ≡ length changes
+
+-- The rows kept are rows of these and a row set: each above the last point, the newest at each change, and no other.
+pub record KeepsNewest (rows : List Row) (points : List ℕ) (changes : List Witness) (kept : List Row) : Type 0 where
+  pub row_set : IsRowSet kept
+  pub within : (row : Row) → Contains kept row → Contains rows row
+  pub above : (row : Row) → Contains rows row → last_point points < row.stamp → Contains kept row
+  pub serves : (change : Witness) (row : Row) → Contains changes change → newest rows change.key change.at ≡ Some row → Contains kept row
+  pub needed : (row : Row) → Contains kept row → (last_point points < row.stamp) ⊎ ((change : Witness) × Contains changes change × (newest rows change.key change.at ≡ Some row))

@@ -1,4 +1,4 @@
-//! What holds of the fewest rows, whichever rows there are.
+//! What holds of the fewest rows, whichever rows there are. A law that calls others follows from them.
 ghost use Rattle.std.specs.Prelude.{◌≡◌, ◌+◌, ◌<◌, ◌≤◌, ℕ, List, [], ◌∷◌, ◌++◌, length};
 ghost use Rattle.hlc_node.specs.declared.row.Row.{Row as ARow};
 ghost use Rattle.hlc_node.specs.Rows.{IsRowSet};
@@ -7,7 +7,7 @@ ghost use Rattle.hlc_witness.specs.Points.{PointsAscend, last_point};
 ghost use Rattle.hlc_witness.specs.Fewest.{Alike, Fewest};
 ghost use Rattle.hlc_witness.specs.Changes.{AreChanges};
 ghost use Rattle.hlc_witness.specs.AllChanges.{all_changes};
-ghost use Rattle.hlc_witness.specs.Vacuumed.{Vacuumed, rows_to};
+ghost use Rattle.hlc_witness.specs.Vacuumed.{KeepsNewest, Vacuumed, rows_to};
 ghost use Rattle.hlc_witness.specs.Certificate.{IsCertificate, RowsAscend, NoneAbove};
 ghost use Rattle.hlc_witness.specs.Standing.{RowsStandFor, ArePoints, StandsAfterVacuum, count_above};
 
@@ -35,6 +35,11 @@ pub fn certificates_show_fewest()
     newest_stays();
 }
 
+/// Ascending rows are a row set.
+pub fn ascending_rows_are_a_row_set()
+    ensures { (rows : List ARow) → RowsAscend rows → IsRowSet rows }
+{}
+
 /// There is one list of the changes, and it can be computed.
 pub fn changes_are_computed()
     ensures are { (rows : List ARow) (points : List ℕ) → PointsAscend points → AreChanges rows points (all_changes rows points) }
@@ -48,6 +53,16 @@ pub fn changes_are_computed()
 /// What a vacuum keeps at or below the last point is the fewest, against all rows that there were.
 pub fn vacuums_keep_fewest()
     ensures { (rows kept : List ARow) (points : List ℕ) (changes : List AWitness) → PointsAscend points → Vacuumed rows points changes kept → Fewest (rows_to (last_point points) kept) rows points }
+{
+    newest_is_greatest();
+    no_newest_no_row();
+    newest_stays();
+    newest_is_unique();
+}
+
+/// Keeping the newest row at each change, all rows above the last point, and no other, is a vacuum.
+pub fn newest_rows_suffice()
+    ensures { (rows kept : List ARow) (points : List ℕ) (changes : List AWitness) → PointsAscend points → AreChanges rows points changes → KeepsNewest rows points changes kept → Vacuumed rows points changes kept }
 {
     newest_is_greatest();
     no_newest_no_row();

@@ -1,3 +1,4 @@
+-- What is known of the witnesses that were looked at.
 use Rattle.std.proofs.Common.{take, All}
 use Rattle.hlc_witness.specs.Changes.{ChangesAscend, IsChange}
 use Rattle.hlc_witness.proofs.checker.check.Given as goal

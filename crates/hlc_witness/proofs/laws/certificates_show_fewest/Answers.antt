@@ -1,3 +1,4 @@
+-- The witnesses are changes, and each change forces a row.
 use Rattle.hlc_witness.proofs.Certified.{certificate_shows_fewest}
 use Rattle.hlc_witness.proofs.laws.certificates_show_fewest.Goals as goal
 

@@ -1,3 +1,4 @@
+-- The changes key by key and point by point are all changes, in order, and an ordered list of all is that list.
 use Rattle.hlc_witness.proofs.Computed.{computed, only_computed}
 use Rattle.hlc_witness.proofs.laws.changes_are_computed.Goals as goal
 

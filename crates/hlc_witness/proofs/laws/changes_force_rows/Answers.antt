@@ -1,3 +1,4 @@
+-- The newest row at a change's point serves that change and no other.
 use Rattle.hlc_witness.specs.AllChanges.{all_changes}
 use Rattle.hlc_witness.proofs.Newest.{NewestLaws}
 use Rattle.hlc_witness.proofs.Forced.{changes_force_rows}

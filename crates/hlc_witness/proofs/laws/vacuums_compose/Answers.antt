@@ -1,3 +1,4 @@
+-- The stored rows stood for all, so alike to them at the points is alike to all, and their changes are those of all.
 use Rattle.hlc_witness.proofs.Standing.{after_vacuum}
 use Rattle.hlc_witness.proofs.laws.vacuums_compose.Goals as goal
 

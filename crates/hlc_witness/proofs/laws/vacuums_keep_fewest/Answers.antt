@@ -1,3 +1,4 @@
+-- What is kept at or below the last point is as many as the changes, and answers alike at the points.
 use Rattle.hlc_witness.proofs.Certified.{vacuum_keeps_fewest}
 use Rattle.hlc_witness.proofs.laws.vacuums_keep_fewest.Goals as goal
 

@@ -1,3 +1,4 @@
+-- A row above the horizon is stored, and is later than each row that was dropped.
 use Rattle.hlc_witness.proofs.Standing.{after_write, count_write}
 use Rattle.hlc_witness.proofs.laws.writes_keep_standing.Goals as goal
 

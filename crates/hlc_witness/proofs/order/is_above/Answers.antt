@@ -1,3 +1,4 @@
+-- What is above the last of ascending witnesses is above them all.
 use Rattle.std.proofs.Common.{sym, ap, ◌∙◌, is_lt}
 use Rattle.hlc_witness.proofs.Ascending.{above_all, above_last, is_lt-true}
 use Rattle.hlc_witness.proofs.order.is_above.Goals as goal
