@@ -1,11 +1,6 @@
-//! Tests of the whole: printed bytes, outside vectors, failing readers and writers, and the calls
-//! that may refuse memory where they succeed.
+//! Tests of the program: printed bytes, spellings, failing readers and writers, words and statuses.
 mod callers;
-mod nodes;
 mod scripts;
-mod snapshots;
-mod stamps;
-mod store;
 mod streams;
 mod tokens;
 mod words;

@@ -1,4 +1,4 @@
-use Rattle.hlcstore.proofs.tests.callers.deliver_twice.Goals as goal
+use Rattle.hlc_tests.proofs.callers.deliver_twice.Goals as goal
 
 pub returns : goal.returns
 returns c = λ schedule stands. c.step-second.ensures.stands _ (c.step-first.ensures.stands schedule stands)

@@ -1,7 +1,7 @@
 -- A head is not below the floor, and the floor not below the stamp.
 use Rattle.std.proofs.Common.{◌≡◌, ◌≤◌, ◌<◌, ℕ, true, false, is_le, nat_cmp, ap, sym, ◌∙◌, refl, arith}
 use Rattle.std.proofs.lemmas.Cmp.{by_ranked, ranked}
-use Rattle.hlcstore.proofs.tests.callers.is_complete.Goals as goal
+use Rattle.hlc_tests.proofs.callers.is_complete.Goals as goal
 
 at-most : (a b : ℕ) → is_le (nat_cmp a b) ≡ true → a ≤ b
 at-most a b h =

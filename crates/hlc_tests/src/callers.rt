@@ -1,0 +1,165 @@
+//! The small callers of the libraries' own pages, each with what it may rely on.
+ghost use Rattle.std.specs.Prelude.{◌≡◌, ◌<◌, ◌∷◌, List, None, Some, ◌≤◌, ℕ, length, Contains, is_some, true, IfOk, IfSome, IsErr, IsOkAnd, MatchOption};
+ghost use Rattle.hlc_node.specs.Items.{body_refusal};
+ghost use Rattle.hlc_node.specs.Rows.{answer};
+ghost use Rattle.hlc_node.specs.Rows.{IsRowSet};
+ghost use Rattle.hlc_node.specs.declared.row.Row.{Row as ARow};
+ghost use Rattle.hlc_witness.specs.Fewest.{Alike};
+ghost use Rattle.hlc_core.specs.Past.{Step, stamp_of, writes};
+ghost use Rattle.hlc_core.specs.Kept.{StandsFor as CoreStandsFor};
+ghost use Rattle.hlc_snapshot.specs.Register.{stamp_in};
+ghost use Rattle.hlc_world.specs.declared.event.Event.{Event as AnEvent};
+ghost use Rattle.hlc_world.specs.declared.reply.Reply.{Reply as AReply};
+ghost use Rattle.hlc_world.specs.State.{StandsFor};
+
+use hlc_clock::{Clock, ClockFault, Stamp};
+use hlc_core::{Body, Bytes, Core, NoSnapshot};
+use hlc_floor::Heads;
+use hlc_link::{Intake, LinkFault};
+use hlc_node::{Row, body_fault};
+use hlc_snapshot::{Registry, SnapshotFault};
+use hlc_witness::{Witness, check};
+use hlc_world::{Event, Reply, World};
+use std::test::*;
+
+/// Stamps two events at one reading, the second later than the first.
+pub fn two_events(clock: &mut Clock, reading: u64) -> Result<(Stamp, Stamp), ClockFault>
+    ensures { IfOk result (λ stamps. stamps.0 < stamps.1) }
+{
+    let first = clock.tick(reading)?;
+    let second = clock.tick(reading)?;
+    Ok((first, second))
+}
+
+/// A write that an item may say, or none.
+pub fn write_of(key: Bytes, value: Bytes) -> Option<Body>
+    ensures { IfSome result (λ body. body_refusal body ≡ None) }
+{
+    let body = Body::Write {
+        key,
+        value: Some(value),
+    };
+    if body_fault(&body).is_some() {
+        return None;
+    }
+    Some(body)
+}
+
+/// Hands an intake one item twice, as a link that repeats would: the second time it is refused.
+pub fn admit_twice(intake: &mut Intake, number: u64, stamp: Stamp) -> Result<(), LinkFault>
+    ensures { IsErr result }
+{
+    let _first = intake.admit(number, stamp);
+    intake.admit(number, stamp)
+}
+
+/// Whether every node has come so far that no item at or below this stamp is still to come.
+pub fn is_complete(heads: &Heads, stamp: Stamp) -> bool
+    ensures { result ≡ true → (head : ℕ) → Contains heads.now head → stamp ≤ head }
+{
+    stamp <= heads.floor()
+}
+
+/// Opens two snapshots at one stamp. Each has an id of its own.
+pub fn open_twice(registry: &mut Registry, stamp: Stamp) -> Result<(u64, u64), SnapshotFault>
+    ensures { IfOk result (λ ids. (ids.0 < ids.1) × (stamp_in ids.0 registry.new.snapshots ≡ Some stamp) × (stamp_in ids.1 registry.new.snapshots ≡ Some stamp)) }
+{
+    let first = registry.open(stamp)?;
+    let second = registry.open(stamp)?;
+    Ok((first, second))
+}
+
+/// Whether a key has a value in an open snapshot.
+pub fn has_value(core: &Core, id: u64, key: &[u8]) -> Result<bool, NoSnapshot>
+    ensures { (past : List Step) → CoreStandsFor core.now past → MatchOption (stamp_of id past) (IsErr result) (λ stamp. IsOkAnd result (λ found. found ≡ is_some (answer (writes past) key.now stamp))) }
+{
+    match core.read(id, key) {
+        Ok(value) => Ok(value.is_some()),
+        Err(fault) => Err(fault),
+    }
+}
+
+/// Delivers an item twice, and gives both replies.
+pub fn deliver_twice(world: &mut World, node: u16, number: u64) -> (Reply, Reply)
+    ensures { (schedule : List (AnEvent × AReply)) → StandsFor world.old schedule → StandsFor world.new ((AnEvent.Deliver node number, result.1) ∷ (AnEvent.Deliver node number, result.0) ∷ schedule) }
+{
+    let first = world.step(Event::Deliver { node, number });
+    let second = world.step(Event::Deliver { node, number });
+    (first, second)
+}
+
+/// How many rows answer so at least, if the witnesses show it.
+pub fn least_count(rows: &[Row], points: &[Stamp], witnesses: &[Witness]) -> Option<u64>
+    ensures { IfSome result (λ count. (others : List ARow) → IsRowSet others → Alike others rows.now points.now → count ≤ length others) }
+{
+    match check(rows, points, witnesses) {
+        Ok(shown) => Some(shown.count()),
+        Err(_) => None,
+    }
+}
+
+#[test]
+fn callers(rt: HostRuntime) -> Result<(), Fail> {
+    let alloc = rt.alloc();
+    let mut clock = Clock::starting_at(Stamp::from_bits(0));
+    assert_eq!(rt;
+        two_events(&mut clock, 1),
+        Ok((Stamp::from_bits(65_536), Stamp::from_bits(65_537)))
+    );
+    let key = Bytes::from_vec(Vec::from_slice(alloc, b"a")?);
+    let none = Bytes::from_vec(Vec::new(alloc));
+    assert!(rt; write_of(none, key.clone()?).is_none());
+    assert!(rt; write_of(key.clone()?, key).is_some());
+    let mut intake = Intake::new();
+    let first = Stamp::from_bits(1);
+    assert_eq!(rt;
+        admit_twice(&mut intake, 0, first),
+        Err(LinkFault::NotNext { next: 1 })
+    );
+    let heads = Heads::new(alloc, 2).ok().ok_or("heads")?;
+    assert!(rt; is_complete(&heads, Stamp::from_bits(0)) && !is_complete(&heads, first));
+    let mut registry = Registry::new(alloc);
+    assert_eq!(rt; open_twice(&mut registry, first), Ok((1, 2)));
+    let mut core = Core::new(alloc, 1).ok().ok_or("a core")?;
+    assert_eq!(rt; has_value(&core, 1, b"a"), Err(NoSnapshot));
+    assert!(rt; core.open_floor().is_ok());
+    assert_eq!(rt; has_value(&core, 1, b"a"), Ok(false));
+    let mut world = World::new(alloc, 1).ok().ok_or("a world")?;
+    let key = Bytes::from_vec(Vec::from_slice(alloc, b"a")?);
+    let value = key.clone()?;
+    let stamp = Stamp::from_bits(65_536);
+    let write = Event::Write {
+        node: 0,
+        reading: 1,
+        key,
+        value,
+    };
+    assert_eq!(rt; world.step(write), Reply::Stamped { stamp, item: 0 });
+    let twice = deliver_twice(&mut world, 0, 0);
+    assert_eq!(rt; twice.0, Reply::Accepted { stamp });
+    Ok(())
+}
+
+#[test]
+fn one_row_is_needed(rt: HostRuntime) -> Result<(), Fail> {
+    let alloc = rt.alloc();
+    let one = Stamp::from_bits(65_536);
+    let rows = vec![in alloc;
+        Row {
+            key: Bytes::from_vec(Vec::from_slice(alloc, b"a")?),
+            stamp: one,
+            node: 0,
+            value: Some(Bytes::from_vec(Vec::from_slice(alloc, b"x")?)),
+        },
+    ]?;
+    let witnesses = vec![in alloc;
+        Witness {
+            key: Bytes::from_vec(Vec::from_slice(alloc, b"a")?),
+            before: None,
+            at: one,
+        },
+    ]?;
+    assert_eq!(rt; least_count(&rows, &[one], &witnesses), Some(1));
+    assert_eq!(rt; least_count(&rows, &[one], &[]), None);
+    Ok(())
+}
