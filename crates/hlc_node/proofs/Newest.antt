@@ -183,3 +183,21 @@ newest-from_says rows key bound row (Some q) set' h says = ap Some (IsNewest-uni
 -- in a row set, the greatest row is the newest
 pub newest-from : (rows : List Row) (key : List ℕ) (bound : ℕ) (row : Row) → IsRowSet rows → IsNewest rows key bound row → newest rows key bound ≡ Some row
 newest-from rows key bound row set' h = newest-from_says rows key bound row (newest rows key bound) set' h (newest-says rows key bound)
+
+-- a row above the one stamp and at or below the other is a candidate at neither, so the test is the same
+candidate-same : (key : List ℕ) (low high : ℕ) (row : Row) → low ≤ high → (row.key ≡ key → row.stamp ≤ high → row.stamp ≤ low) → is_candidate key high row ≡ is_candidate key low row
+candidate-same key low high row le none =
+    elim (cases_Bool (is_candidate key high row)) [
+      | inl hit ↦ let parts = candidate-true key high row hit in hit ∙ sym (candidate-from key low row parts.0 (none parts.0 parts.1))
+      | inr miss ↦ elim (cases_Bool (is_candidate key low row)) [
+        | inl hit ↦ let parts = candidate-true key low row hit in absurd (both_ways (is_candidate key high row) miss (candidate-from key high row parts.0 (omega (arith, parts.1, le))))
+        | inr other ↦ miss ∙ sym other
+      ]
+    ]
+
+-- where no row of the key lies between, the newest row is the same
+pub newest-stays : (rows : List Row) (key : List ℕ) (low high : ℕ) → low ≤ high → ((row : Row) → Contains rows row → row.key ≡ key → row.stamp ≤ high → row.stamp ≤ low) → newest rows key high ≡ newest rows key low
+unfolding newest
+newest-stays [] key low high le none = refl
+newest-stays (first ∷ rows) key low high le none =
+    rw (candidate-same key low high first le (none first (Contains-first first rows)), newest-stays rows key low high le (λ row m. none row (Contains-rest first rows row m))) refl

@@ -1,0 +1,13 @@
+pub mod Members
+pub mod Newest
+pub mod Pigeons
+pub mod Forced
+pub mod Places
+pub mod Certified
+pub mod Listed
+pub mod Computed
+pub mod Ascending
+pub mod LastReached
+pub mod Faults
+pub mod Standing
+pub mod Kept

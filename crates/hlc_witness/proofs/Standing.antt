@@ -1,0 +1,239 @@
+-- Stored rows go on standing for all accepted ones. A vacuum at the floor keeps the answers at the floor and all rows above it, so it
+-- keeps the answers from the floor on; a row written above the horizon is stored, and is later than each row at or below it.
+use Rattle.std.proofs.Common.{◌≡◌, ℕ, ◌+◌, ◌-◌, ◌<◌, ◌≤◌, List, [], ◌∷◌, ◌++◌, Some, None, length, refl, sym, ap, ◌∙◌, subst, inl, inr, arith, Contains, filter, true, false, cond, ltb, sum_by}
+use Rattle.std.proofs.lemmas.Bool.{cases_lt, ltb-true, lt-leb, lt-ltb, le-leb, le-ltb}
+use Rattle.std.proofs.lemmas.List.{length_push}
+use Rattle.std.proofs.lemmas.List.Elements.{All-weaker, Contains-push_cases, Contains-append_left, Contains-push, Contains-get_or}
+use Rattle.hlc_node.specs.declared.row.Row.{Row}
+use Rattle.hlc_node.specs.Rows.{newest, answer, IsNewest, IsRowSet, IsSameVersion}
+use Rattle.hlc_witness.specs.declared.witness.Witness.{Witness}
+use Rattle.hlc_witness.specs.Points.{last_point}
+use Rattle.hlc_witness.specs.Fewest.{Alike}
+use Rattle.hlc_witness.specs.Changes.{IsChange, AreChanges}
+use Rattle.hlc_witness.specs.Vacuumed.{Vacuumed, rows_to}
+use Rattle.hlc_witness.specs.Standing.{RowsStandFor, ArePoints, StandsAfterVacuum, count_above}
+use Rattle.hlc_witness.proofs.Members.{Contains-none, Contains-first, Contains-rest, Contains-cons_cases, Contains-filter, Contains-from_filter}
+use Rattle.hlc_witness.proofs.Newest.{NewestLaws, IsUniqueLaw, stamp_below, answer_none, answer_some, answer_same}
+use Rattle.hlc_witness.proofs.Pigeons.{AreApart, served, sum_by_one}
+use Rattle.hlc_witness.proofs.Places.{last_upper, last_point-get_or}
+use Rattle.hlc_witness.proofs.Forced.{changes_force_rows}
+use Rattle.hlc_witness.proofs.Certified.{change_alike, answer-rows_to, filter-IsRowSet}
+
+-- no row of a row set is one version with the last
+last_apart : (all : List Row) (row last : Row) → IsRowSet (all ++ last ∷ []) → Contains all row → IsSameVersion row last → ⊥
+last_apart [] row last set' i same = Contains-none row i
+last_apart (first ∷ all) row last set' i same =
+    elim (Contains-cons_cases first row all i) [
+      | inl e ↦ set'.0 last (Contains-push all last) (subst (λ r. IsSameVersion r last) (sym e) same)
+      | inr rest ↦ last_apart all row last set'.1 rest same
+    ]
+
+-- a part of a row set is one with one more row, if all are
+push-IsRowSet : (part all : List Row) (last : Row) → IsRowSet part → ((row : Row) → Contains part row → Contains all row) → IsRowSet (all ++ last ∷ []) → IsRowSet (part ++ last ∷ [])
+push-IsRowSet [] all last set' within pushed = ((λ other i same. Contains-none other i), tt)
+push-IsRowSet (first ∷ part) all last set' within pushed = (
+  λ other i same.
+      elim (Contains-push_cases part last other i) [
+        | inl old ↦ set'.0 other old same
+        | inr new ↦ last_apart all first last pushed (within first (Contains-first first part)) (subst (λ r. IsSameVersion first r) (sym new) same)
+      ],
+  push-IsRowSet part all last set'.1 (λ row i. within row (Contains-rest first row part i)) pushed,
+)
+
+-- each thing of a row set is no version of a later one
+pub apart_rows : (rows : List Row) → IsRowSet rows → AreApart (λ a b. IsSameVersion a b → ⊥) rows
+apart_rows [] set' = tt
+apart_rows (row ∷ rows) set' = (set'.0, apart_rows rows set'.1)
+
+-- what is newest in all is newest in a part that has it
+pub newest_in_part : IsUniqueLaw → (part all : List Row) (key : List ℕ) (stamp : ℕ) (row : Row) → IsRowSet part → ((r : Row) → Contains part r → Contains all r) → IsNewest all key stamp row → Contains part row → newest part key stamp ≡ Some row
+newest_in_part unique part all key stamp row set' within is i =
+    unique part key stamp row set' (record { member = i; of_key = is.of_key; in_bound = is.in_bound; greatest = λ other m k s. is.greatest other (within other m) k s })
+
+pub none_in_part : NewestLaws → (part all : List Row) (key : List ℕ) (stamp : ℕ) → ((r : Row) → Contains part r → Contains all r) → newest all key stamp ≡ None → newest part key stamp ≡ None
+none_in_part laws part all key stamp within e =
+    elim (newest part key stamp) as (λ o. newest part key stamp ≡ o → o ≡ None) [
+      | None ↦ λ _. refl
+      | Some row ↦ λ f. let is = laws.greatest part key stamp row f in absurd (laws.none all key stamp row e (within row is.member) is.of_key is.in_bound)
+    ] refl
+
+-- alike at f, and all above f: alike from f on
+alike_from : NewestLaws → IsUniqueLaw → (part all : List Row) (f : ℕ) → IsRowSet part → ((r : Row) → Contains part r → Contains all r) → ((r : Row) → Contains all r → f < r.stamp → Contains part r) → (key : List ℕ) (stamp : ℕ) → f ≤ stamp → answer part key f ≡ answer all key f → answer part key stamp ≡ answer all key stamp
+alike_from laws unique part all f set' within above key stamp le same =
+    elim (newest all key stamp) as (λ o. newest all key stamp ≡ o → answer part key stamp ≡ answer all key stamp) [
+      | None ↦ λ e. answer_none part key stamp (none_in_part laws part all key stamp within e) ∙ sym (answer_none all key stamp e)
+      | Some row ↦ λ e.
+          let is = laws.greatest all key stamp row e in
+          elim (cases_lt f row.stamp) [
+            | inl lt ↦ answer_some part key stamp row (newest_in_part unique part all key stamp row set' within is (above row is.member lt)) ∙ sym (answer_some all key stamp row e)
+            | inr ge ↦
+                answer_same laws part key f stamp le (λ r i k s. let t = stamp_below r row (is.greatest r (within r i) k s) in omega arith)
+                ∙ same
+                ∙ sym (answer_same laws all key f stamp le (λ r i k s. let t = stamp_below r row (is.greatest r i k s) in omega arith))
+          ]
+    ] refl
+
+-- a row that is no candidate changes no answer
+answer-push_miss : NewestLaws → IsUniqueLaw → (rows : List Row) (last : Row) (key : List ℕ) (stamp : ℕ) → IsRowSet (rows ++ last ∷ []) → (last.key ≡ key → last.stamp ≤ stamp → ⊥) → answer (rows ++ last ∷ []) key stamp ≡ answer rows key stamp
+answer-push_miss laws unique rows last key stamp set' miss =
+    elim (newest rows key stamp) as (λ o. newest rows key stamp ≡ o → answer (rows ++ last ∷ []) key stamp ≡ answer rows key stamp) [
+      | None ↦ λ e.
+          let none : newest (rows ++ last ∷ []) key stamp ≡ None =
+          elim (newest (rows ++ last ∷ []) key stamp) as (λ o. newest (rows ++ last ∷ []) key stamp ≡ o → o ≡ None) [
+            | None ↦ λ _. refl
+            | Some row ↦ λ f.
+                let is = laws.greatest (rows ++ last ∷ []) key stamp row f in
+                absurd (elim (Contains-push_cases rows last row is.member) [
+                  | inl old ↦ laws.none rows key stamp row e old is.of_key is.in_bound
+                  | inr new ↦ miss (ap (λ (r : Row). r.key) new ∙ is.of_key) (let t = ap (λ (r : Row). r.stamp) new in let b = is.in_bound in omega arith)
+                ])
+          ] refl in
+          answer_none (rows ++ last ∷ []) key stamp none ∙ sym (answer_none rows key stamp e)
+      | Some row ↦ λ e.
+          let is = laws.greatest rows key stamp row e in
+          let best : IsNewest (rows ++ last ∷ []) key stamp row = record {
+            member = Contains-append_left rows (last ∷ []) row is.member;
+            of_key = is.of_key;
+            in_bound = is.in_bound;
+            greatest = λ other m k s. elim (Contains-push_cases rows last other m) [
+              | inl old ↦ is.greatest other old k s
+              | inr new ↦ absurd (miss (ap (λ (r : Row). r.key) new ∙ k) (let t = ap (λ (r : Row). r.stamp) new in omega arith))
+            ];
+          } in
+          answer_some (rows ++ last ∷ []) key stamp row (unique (rows ++ last ∷ []) key stamp row set' best) ∙ sym (answer_some rows key stamp row e)
+    ] refl
+
+-- a row is written above the horizon
+answer-push : NewestLaws → IsUniqueLaw → (part all : List Row) (horizon : ℕ) (last : Row) → IsRowSet (part ++ last ∷ []) → IsRowSet (all ++ last ∷ []) → ((r : Row) → Contains part r → Contains all r) → ((r : Row) → Contains all r → horizon < r.stamp → Contains part r) → horizon < last.stamp → (key : List ℕ) (stamp : ℕ) → answer part key stamp ≡ answer all key stamp → answer (part ++ last ∷ []) key stamp ≡ answer (all ++ last ∷ []) key stamp
+answer-push laws unique part all horizon last part_set all_set within above new key stamp same =
+    let inside : (r : Row) → Contains (part ++ last ∷ []) r → Contains (all ++ last ∷ []) r =
+    λ r i. elim (Contains-push_cases part last r i) [ inl old ↦ Contains-append_left all (last ∷ []) r (within r old) | inr e ↦ subst (Contains (all ++ last ∷ [])) e (Contains-push all last) ] in
+    elim (newest (all ++ last ∷ []) key stamp) as (λ o. newest (all ++ last ∷ []) key stamp ≡ o → answer (part ++ last ∷ []) key stamp ≡ answer (all ++ last ∷ []) key stamp) [
+      | None ↦ λ e. answer_none (part ++ last ∷ []) key stamp (none_in_part laws (part ++ last ∷ []) (all ++ last ∷ []) key stamp inside e) ∙ sym (answer_none (all ++ last ∷ []) key stamp e)
+      | Some row ↦ λ e.
+          let is = laws.greatest (all ++ last ∷ []) key stamp row e in
+          elim (cases_lt horizon row.stamp) [
+            | inl lt ↦
+                let kept : Contains (part ++ last ∷ []) row =
+                elim (Contains-push_cases all last row is.member) [
+                  | inl old ↦ Contains-append_left part (last ∷ []) row (above row old lt)
+                  | inr e ↦ subst (Contains (part ++ last ∷ [])) e (Contains-push part last)
+                ] in
+                answer_some (part ++ last ∷ []) key stamp row (newest_in_part unique (part ++ last ∷ []) (all ++ last ∷ []) key stamp row part_set inside is kept)
+                ∙ sym (answer_some (all ++ last ∷ []) key stamp row e)
+            | inr ge ↦
+                let miss : last.key ≡ key → last.stamp ≤ stamp → ⊥ =
+                λ k s. let t = stamp_below last row (is.greatest last (Contains-push all last) k s) in omega arith in
+                answer-push_miss laws unique part last key stamp part_set miss ∙ same ∙ sym (answer-push_miss laws unique all last key stamp all_set miss)
+          ]
+    ] refl
+
+changes_alike : (rows others : List Row) (points : List ℕ) (changes : List Witness) → Alike rows others points → AreChanges rows points changes → AreChanges others points changes
+changes_alike rows others points changes alike are = record {
+  ascend = are.ascend;
+  each = All-weaker (IsChange rows points) (IsChange others points) (λ c is. change_alike rows others points c alike is) changes are.each;
+  every = λ c is. are.every c (change_alike others rows points c (λ key point i. sym (alike key point i)) is);
+}
+
+last_is : (opened : List ℕ) (floor : ℕ) (points : List ℕ) → ArePoints opened floor points → last_point points ≡ floor
+last_is opened floor points are =
+    let in_points : Contains points floor = (are.members floor).1 (inr refl) in
+    let a : floor ≤ last_point points = last_upper points are.ascend floor in_points in
+    let last_in : Contains points (last_point points) =
+    subst (Contains points) (sym (last_point-get_or points)) (Contains-get_or points (length points - 1) 0 (let p = are.ascend.0 in omega arith)) in
+    elim ((are.members (last_point points)).0 last_in) [
+      | inl o ↦ let b = are.open_below (last_point points) o in omega arith
+      | inr e ↦ e
+    ]
+
+-- a list is what is at or below a bound and what is above it
+split_count : (bound : ℕ) (rows : List Row) → length rows ≡ length (rows_to bound rows) + count_above bound rows
+split_count bound [] = refl
+split_count bound (row ∷ rows) =
+    let h = split_count bound rows in
+    elim (cases_lt bound row.stamp) [
+      | inl lt ↦ let a = lt-leb row.stamp bound lt in let b = lt-ltb bound row.stamp lt in rw (a, b) (omega arith)
+      | inr ge ↦ let a = le-leb row.stamp bound ge in let b = le-ltb bound row.stamp ge in rw (a, b) (omega arith)
+    ]
+
+above_count : (bound : ℕ) (rows others : List Row) → IsRowSet rows → ((row : Row) → Contains rows row → bound < row.stamp → Contains others row) → count_above bound rows ≤ count_above bound others
+above_count bound rows others set' f =
+    let h : sum_by (λ _. 1) (filter (λ row. ltb bound row.stamp) rows) ≤ sum_by (λ _. 1) (filter (λ row. ltb bound row.stamp) others) = served (λ (a b : Row). IsSameVersion a b → ⊥) (λ (a b : Row). a ≡ b) (λ _. 1) (λ _. 1)
+    (λ a b e. omega arith)
+    (λ a b x d e g. let same = e ∙ sym g in d (record { key = ap (λ (r : Row). r.key) same; stamp = ap (λ (r : Row). r.stamp) same; node = ap (λ (r : Row). r.node) same }))
+    (filter (λ row. ltb bound row.stamp) rows) (filter (λ row. ltb bound row.stamp) others) (apart_rows (filter (λ row. ltb bound row.stamp) rows) (filter-IsRowSet (λ r. ltb bound r.stamp) rows set'))
+    (λ row i. let p = Contains-from_filter (λ r. ltb bound r.stamp) rows row i in (row, Contains-filter (λ r. ltb bound r.stamp) others row (f row p.0 (ltb-true bound row.stamp p.1)) p.1, refl)) in
+    let p = sum_by_one (filter (λ row. ltb bound row.stamp) rows) in
+    let q = sum_by_one (filter (λ row. ltb bound row.stamp) others) in
+    omega arith
+
+pub after_vacuum : NewestLaws → IsUniqueLaw → (stored all kept : List Row) (horizon floor : ℕ) (opened points : List ℕ) (changes : List Witness) → RowsStandFor stored all horizon opened → horizon ≤ floor → ArePoints opened floor points → Vacuumed stored points changes kept → StandsAfterVacuum kept all floor opened points changes
+after_vacuum laws unique stored all kept horizon floor opened points changes stands le are v =
+    let last : last_point points ≡ floor = last_is opened floor points are in
+    let stored_alike : Alike stored all points = λ key point i.
+    elim ((are.members point).0 i) [
+      | inl o ↦ stands.at_open key point o
+      | inr e ↦ stands.from_horizon key point (omega arith)
+    ] in
+    let within : (row : Row) → Contains kept row → Contains all row = λ row i. stands.within row (v.within row i) in
+    let above : (row : Row) → Contains all row → floor < row.stamp → Contains kept row = λ row i l. v.above row (stands.above row i (omega arith)) (omega arith) in
+    let kept_alike : Alike kept all points = λ key point i. v.alike key point i ∙ stored_alike key point i in
+    let own : AreChanges all points changes = changes_alike stored all points changes stored_alike v.listed in
+    let low_alike : Alike (rows_to floor kept) all points = λ key point i.
+    answer-rows_to laws unique kept floor key point v.row_set (elim ((are.members point).0 i) [ inl o ↦ are.open_below point o | inr e ↦ omega arith ]) ∙ kept_alike key point i in
+    let count : length (rows_to floor kept) ≡ length changes = subst (λ f. length (rows_to f kept) ≡ length changes) last v.count in
+    record {
+      stands = record {
+        row_set = v.row_set;
+        all_row_set = stands.all_row_set;
+        within = within;
+        above = above;
+        at_open = λ key stamp o. kept_alike key stamp ((are.members stamp).1 (inl o));
+        from_horizon = λ key stamp f. alike_from laws unique kept all floor v.row_set within above key stamp f (kept_alike key floor ((are.members floor).1 (inr refl)));
+      };
+      listed = own;
+      count = count;
+      fewest = record {
+        alike = low_alike;
+        least = λ others set' alike. let h = changes_force_rows laws all others points changes own.ascend own.each alike in omega arith;
+      };
+      stored_count =
+          (let a = split_count floor kept in
+          let b = above_count floor kept all v.row_set (λ row i l. within row i) in
+          let d = above_count floor all kept stands.all_row_set (λ row i l. above row i l) in
+          omega arith);
+    }
+
+-- a snapshot opens at or above the horizon
+pub after_open : (stored all : List Row) (horizon stamp : ℕ) (opened : List ℕ) → RowsStandFor stored all horizon opened → horizon ≤ stamp → RowsStandFor stored all horizon (opened ++ stamp ∷ [])
+after_open stored all horizon stamp opened stands le = record {
+  row_set = stands.row_set;
+  all_row_set = stands.all_row_set;
+  within = stands.within;
+  above = stands.above;
+  at_open = λ key s i. elim (Contains-push_cases opened stamp s i) [ inl o ↦ stands.at_open key s o | inr e ↦ stands.from_horizon key s (omega arith) ];
+  from_horizon = stands.from_horizon;
+}
+
+-- a row is written above the horizon
+pub after_write : NewestLaws → IsUniqueLaw → (stored all : List Row) (horizon : ℕ) (opened : List ℕ) (row : Row) → RowsStandFor stored all horizon opened → horizon < row.stamp → IsRowSet (all ++ row ∷ []) → RowsStandFor (stored ++ row ∷ []) (all ++ row ∷ []) horizon opened
+after_write laws unique stored all horizon opened row stands new pushed =
+    let own : IsRowSet (stored ++ row ∷ []) = push-IsRowSet stored all row stands.row_set stands.within pushed in
+    record {
+      row_set = own;
+      all_row_set = pushed;
+      within = λ r i. elim (Contains-push_cases stored row r i) [ inl o ↦ Contains-append_left all (row ∷ []) r (stands.within r o) | inr e ↦ subst (Contains (all ++ row ∷ [])) e (Contains-push all row) ];
+      above = λ r i l. elim (Contains-push_cases all row r i) [ inl o ↦ Contains-append_left stored (row ∷ []) r (stands.above r o l) | inr e ↦ subst (Contains (stored ++ row ∷ [])) e (Contains-push stored row) ];
+      at_open = λ key s o. answer-push laws unique stored all horizon row own pushed stands.within stands.above new key s (stands.at_open key s o);
+      from_horizon = λ key s l. answer-push laws unique stored all horizon row own pushed stands.within stands.above new key s (stands.from_horizon key s l);
+    }
+
+-- one more row above the bound
+count_push : (bound : ℕ) (rows : List Row) (row : Row) → bound < row.stamp → count_above bound (rows ++ row ∷ []) ≡ count_above bound rows + 1
+count_push bound [] row lt = let b = lt-ltb bound row.stamp lt in rw b refl
+count_push bound (first ∷ rows) row lt =
+    let h = count_push bound rows row lt in
+    elim (ltb bound first.stamp) as (λ b. length (cond b (first ∷ filter (λ x. ltb bound x.stamp) (rows ++ row ∷ [])) (filter (λ x. ltb bound x.stamp) (rows ++ row ∷ []))) ≡ length (cond b (first ∷ filter (λ x. ltb bound x.stamp) rows) (filter (λ x. ltb bound x.stamp) rows)) + 1) [ true ↦ omega arith | false ↦ h ]
+
+pub count_write : (stored all : List Row) (horizon changes : ℕ) (row : Row) → length stored ≡ changes + count_above horizon all → horizon < row.stamp → length (stored ++ row ∷ []) ≡ changes + count_above horizon (all ++ row ∷ [])
+count_write stored all horizon changes row e lt = let a = length_push stored row in let b = count_push horizon all row lt in omega arith

@@ -1,0 +1,98 @@
+//! The checker of certificates.
+ghost use Rattle.std.specs.Prelude.{◌≡◌, ◌↔◌, IsTrue, IsOk, IfOk, IfErr, MatchOption, length};
+ghost use Rattle.hlc_node.specs.Rows.{answer};
+ghost use Rattle.hlc_witness.specs.Points.{PointsAscend};
+ghost use Rattle.hlc_witness.specs.Fewest.{Fewest};
+ghost use Rattle.hlc_witness.specs.Changes.{ChangesAscend, IsAtPoint, IsChange, answer_at};
+ghost use Rattle.hlc_witness.specs.Certificate.{IsCertificate, RowsAscend};
+ghost use Rattle.hlc_witness.specs.Reasons.{IsAbove, IsFault, IsFirstReason};
+
+use crate::laws::certificates_show_fewest;
+use crate::order::{do_points_ascend, do_rows_ascend, is_above, is_none_above};
+use crate::reason::NotShown;
+use crate::search::{value_at, value_in};
+use crate::shown::Shown;
+use crate::witness::Witness;
+use hlc_clock::Stamp;
+use hlc_node::Row;
+
+/// Checks that as many changes as rows are shown, so that the rows are the fewest that answer as
+/// they do at the points. It takes no memory, and believes nothing of who made the witnesses.
+pub fn check(rows: &[Row], points: &[Stamp], witnesses: &[Witness]) -> Result<Shown, NotShown>
+    ensures certificate { IfOk result (λ _. IsCertificate rows.now points.now witnesses.now) }
+    ensures count { IfOk result (λ shown. shown ≡ length rows.now) }
+    ensures fewest { IfOk result (λ _. Fewest rows.now rows.now points.now) }
+    ensures reason { IfErr result (λ reason. IsFirstReason rows.now points.now witnesses.now reason) }
+    ensures only { IsCertificate rows.now points.now witnesses.now → IsOk result }
+{
+    // What the proof cites.
+    certificates_show_fewest();
+    if !do_points_ascend(points) {
+        return Err(NotShown::PointsNotAscending);
+    }
+    if !do_rows_ascend(rows) {
+        return Err(NotShown::RowsNotAscending);
+    }
+    if !is_none_above(rows, points) {
+        return Err(NotShown::RowAboveLastPoint);
+    }
+    for i in 0..witnesses.len() {
+        if let Some(reason) = fault_of(rows, points, &witnesses[..i], &witnesses[i]) {
+            return Err(reason);
+        }
+    }
+    if witnesses.len() != rows.len() {
+        return Err(NotShown::CountsDiffer);
+    }
+    Ok(Shown::of(rows.len() as u64))
+}
+
+/// The first reason against a witness, by those before it, which ascend.
+fn fault_of(
+    rows: &[Row],
+    points: &[Stamp],
+    front: &[Witness],
+    witness: &Witness,
+) -> Option<NotShown>
+    requires points { PointsAscend points.now }
+    requires rows { RowsAscend rows.now }
+    requires front { ChangesAscend front.now }
+    ensures { MatchOption result
+        (IsAbove front.now witness.now × IsChange rows.now points.now witness.now)
+        (IsFault rows.now points.now front.now witness.now) }
+{
+    if !is_above(front, witness) {
+        return Some(NotShown::WitnessNotAscending);
+    }
+    if !is_at_point(points, witness) {
+        return Some(NotShown::NotAtPoint);
+    }
+    if has_same_answers(rows, witness) {
+        return Some(NotShown::SameAnswers);
+    }
+    None
+}
+
+/// Whether `at` is a point, and `before` is the point before it.
+fn is_at_point(points: &[Stamp], witness: &Witness) -> bool
+    requires { PointsAscend points.now }
+    ensures { IsTrue result ↔ IsAtPoint points.now witness.now }
+{
+    match points.binary_search(&witness.at) {
+        Err(_) => false,
+        Ok(place) => match witness.before {
+            None => place == 0,
+            Some(before) => place > 0 && points[place - 1] == before,
+        },
+    }
+}
+
+/// Whether the answers at `at` and at `before` are equal.
+fn has_same_answers(rows: &[Row], witness: &Witness) -> bool
+    requires { RowsAscend rows.now }
+    ensures { IsTrue result ↔ (answer rows.now witness.now.key witness.now.at ≡ answer_at rows.now witness.now.key witness.now.before) }
+{
+    let at = value_in(rows, &witness.key, witness.at);
+    let before = value_at(rows, &witness.key, witness.before);
+    at == before
+}

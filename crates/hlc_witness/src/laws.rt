@@ -1,0 +1,104 @@
+//! What holds of the fewest rows, whichever rows there are. A law that calls others follows from them.
+ghost use Rattle.std.specs.Prelude.{◌≡◌, ◌+◌, ◌<◌, ◌≤◌, ℕ, List, [], ◌∷◌, ◌++◌, length};
+ghost use Rattle.hlc_node.specs.declared.row.Row.{Row as ARow};
+ghost use Rattle.hlc_node.specs.Rows.{IsRowSet};
+ghost use Rattle.hlc_witness.specs.declared.witness.Witness.{Witness as AWitness};
+ghost use Rattle.hlc_witness.specs.Points.{PointsAscend, last_point};
+ghost use Rattle.hlc_witness.specs.Fewest.{Alike, Fewest};
+ghost use Rattle.hlc_witness.specs.Changes.{AreChanges};
+ghost use Rattle.hlc_witness.specs.AllChanges.{all_changes};
+ghost use Rattle.hlc_witness.specs.Vacuumed.{KeepsNewest, Vacuumed, rows_to};
+ghost use Rattle.hlc_witness.specs.Certificate.{IsCertificate, RowsAscend, NoneAbove};
+ghost use Rattle.hlc_witness.specs.Standing.{RowsStandFor, ArePoints, StandsAfterVacuum, count_above};
+
+use hlc_node::{newest_is_greatest, newest_is_unique, newest_stays, no_newest_no_row};
+
+/// The least-row theorem: rows that are alike to others are at least as many as those have changes.
+/// Each change forces a row, of its key, above the point before and at or below its own, and no row
+/// serves two changes.
+pub fn changes_force_rows()
+    ensures listed { (all others : List ARow) (points : List ℕ) (changes : List AWitness) → AreChanges all points changes → Alike others all points → length changes ≤ length others }
+    ensures counted { (all others : List ARow) (points : List ℕ) → PointsAscend points → Alike others all points → length (all_changes all points) ≤ length others }
+{
+    newest_is_greatest();
+    no_newest_no_row();
+    newest_stays();
+    changes_are_computed();
+}
+
+/// A certificate shows that its rows are the fewest, whoever made it.
+pub fn certificates_show_fewest()
+    ensures { (rows : List ARow) (points : List ℕ) (witnesses : List AWitness) → IsCertificate rows points witnesses → Fewest rows rows points }
+{
+    newest_is_greatest();
+    no_newest_no_row();
+    newest_stays();
+}
+
+/// Ascending rows are a row set.
+pub fn ascending_rows_are_a_row_set()
+    ensures { (rows : List ARow) → RowsAscend rows → IsRowSet rows }
+{}
+
+/// There is one list of the changes, and it can be computed.
+pub fn changes_are_computed()
+    ensures are { (rows : List ARow) (points : List ℕ) → PointsAscend points → AreChanges rows points (all_changes rows points) }
+    ensures only { (rows : List ARow) (points : List ℕ) (changes : List AWitness) → PointsAscend points → AreChanges rows points changes → changes ≡ all_changes rows points }
+{
+    newest_is_greatest();
+    no_newest_no_row();
+    newest_stays();
+}
+
+/// What a vacuum keeps at or below the last point is the fewest, against all rows that there were.
+pub fn vacuums_keep_fewest()
+    ensures { (rows kept : List ARow) (points : List ℕ) (changes : List AWitness) → PointsAscend points → Vacuumed rows points changes kept → Fewest (rows_to (last_point points) kept) rows points }
+{
+    newest_is_greatest();
+    no_newest_no_row();
+    newest_stays();
+    newest_is_unique();
+}
+
+/// Keeping the newest row at each change, all rows above the last point, and no other, is a vacuum.
+pub fn newest_rows_suffice()
+    ensures { (rows kept : List ARow) (points : List ℕ) (changes : List AWitness) → PointsAscend points → AreChanges rows points changes → KeepsNewest rows points changes kept → Vacuumed rows points changes kept }
+{
+    newest_is_greatest();
+    no_newest_no_row();
+    newest_stays();
+    newest_is_unique();
+}
+
+/// Ascending rows that are alike to all, and as many as the changes of all, are certified by those
+/// changes.
+pub fn vacuums_are_certified()
+    ensures { (rows all : List ARow) (points : List ℕ) (changes : List AWitness) → PointsAscend points → RowsAscend rows → NoneAbove points rows → Alike rows all points → AreChanges all points changes → length rows ≡ length changes → IsCertificate rows points changes }
+{}
+
+/// After a vacuum at the floor the rows stand for all accepted ones, and those at or below the floor
+/// are the fewest against all of them, whatever was dropped before.
+pub fn vacuums_compose()
+    ensures { (stored all kept : List ARow) (horizon floor : ℕ) (opened points : List ℕ) (changes : List AWitness) → RowsStandFor stored all horizon opened → horizon ≤ floor → ArePoints opened floor points → Vacuumed stored points changes kept → StandsAfterVacuum kept all floor opened points changes }
+{
+    newest_is_greatest();
+    no_newest_no_row();
+    newest_stays();
+    newest_is_unique();
+}
+
+/// A row that is written above the horizon is stored with the others, and counts as one more.
+pub fn writes_keep_standing()
+    ensures stands { (stored all : List ARow) (horizon : ℕ) (opened : List ℕ) (row : ARow) → RowsStandFor stored all horizon opened → horizon < row.stamp → IsRowSet (all ++ row ∷ []) → RowsStandFor (stored ++ row ∷ []) (all ++ row ∷ []) horizon opened }
+    ensures count { (stored all : List ARow) (horizon changes : ℕ) (row : ARow) → length stored ≡ changes + count_above horizon all → horizon < row.stamp → length (stored ++ row ∷ []) ≡ changes + count_above horizon (all ++ row ∷ []) }
+{
+    newest_is_greatest();
+    no_newest_no_row();
+    newest_stays();
+    newest_is_unique();
+}
+
+/// A snapshot that opens at or above the horizon is told the same.
+pub fn opens_keep_standing()
+    ensures { (stored all : List ARow) (horizon stamp : ℕ) (opened : List ℕ) → RowsStandFor stored all horizon opened → horizon ≤ stamp → RowsStandFor stored all horizon (opened ++ stamp ∷ []) }
+{}

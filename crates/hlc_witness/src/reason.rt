@@ -1,0 +1,21 @@
+//! Why witnesses do not show that rows are the fewest.
+
+/// The reasons, in the order in which they are looked for. Each witness in turn is looked at for
+/// the fourth, the fifth and the sixth.
+#[derive(Clone, Copy, PartialEq, Eq, Debug)]
+pub enum NotShown {
+    /// There is no point, or a point is not above the one before it.
+    PointsNotAscending,
+    /// A row is not above the one before it, by key, stamp and node.
+    RowsNotAscending,
+    /// A row is above the last point.
+    RowAboveLastPoint,
+    /// A witness is not above the one before it, by key and `at`.
+    WitnessNotAscending,
+    /// `at` is no point, or `before` is not the point before it.
+    NotAtPoint,
+    /// The rows' answers at `at` and at `before` are equal.
+    SameAnswers,
+    /// There are not as many witnesses as rows.
+    CountsDiffer,
+}

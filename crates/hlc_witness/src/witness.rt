@@ -1,0 +1,12 @@
+//! What shows that a row is needed.
+use hlc_clock::Stamp;
+use hlc_node::Bytes;
+
+/// A change: a key, and a point at which its answer differs from that at the point before.
+#[derive(PartialEq, Eq, Debug, Drop)]
+pub struct Witness {
+    pub key: Bytes,
+    /// The point before, or none where `at` is the first.
+    pub before: Option<Stamp>,
+    pub at: Stamp,
+}
