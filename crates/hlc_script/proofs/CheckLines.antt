@@ -28,7 +28,7 @@ words_of_check_line (Witness key before at) has =
     (refl, (bytes_are_word key, (before_is_word before has.1, (stamp_is_word at has.2, tt))))
 
 -- the first byte of the first word
-abbrev initial : List (List ℕ) → ℕ
+abbrev pub initial : List (List ℕ) → ℕ
 initial [] = 0
 initial (word ∷ words) = get_or word 0 0
 

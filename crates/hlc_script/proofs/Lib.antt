@@ -3,3 +3,4 @@ pub mod Going
 pub mod Outputs
 pub mod CheckLines
 pub mod CheckGoing
+pub mod OneCertificate

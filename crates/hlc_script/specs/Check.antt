@@ -29,6 +29,7 @@ pub record ShowsReason (lines : List (List ℕ)) (reason : AReason) : Type 0 whe
   pub rows : List ARow
   pub witnesses : List AWitness
   pub lines_are : AreLinesOf points rows witnesses lines
+  pub refused : IsCertificate rows points witnesses → ⊥
   pub first : IsFirstReason rows points witnesses reason
 
 -- what may be the end for an input: a bad line comes before all that the lines say, and also where there is no memory for that

@@ -7,3 +7,4 @@ pub mod Laws
 pub mod CheckLine
 pub mod CheckLists
 pub mod Check
+pub mod CheckLaws
