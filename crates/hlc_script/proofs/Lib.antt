@@ -1,3 +1,6 @@
 pub mod Lines
 pub mod Going
 pub mod Outputs
+pub mod CheckLines
+pub mod CheckGoing
+pub mod OneCertificate

@@ -4,3 +4,7 @@ pub mod Reply
 pub mod Run
 pub mod Words
 pub mod Laws
+pub mod CheckLine
+pub mod CheckLists
+pub mod Check
+pub mod CheckLaws

@@ -5,12 +5,21 @@
 mod line;
 mod reply;
 
+// The lines of a certificate.
+mod certificate;
+mod check;
+mod check_laws;
+mod check_line;
+
 // The whole.
 mod input;
 mod laws;
 mod run;
 mod words;
 
+pub use check::{CheckEnd, run_check};
+pub use check_laws::one_certificate_for_lines;
+pub use check_line::{CheckLine, read_check_line};
 pub use laws::{one_event_for_a_line, one_output_for_an_input};
 pub use line::{Line, read_line};
 pub use reply::{put_refusal, put_reply};

@@ -9,6 +9,8 @@ ghost use Rattle.hlc_script.specs.Words.{words_of, AreWords};
 pub enum Words {
     /// Answer a script: `run`.
     Run,
+    /// Check a certificate: `check`.
+    Check,
 }
 
 /// The words ask for nothing that the program does.
@@ -30,9 +32,14 @@ pub fn read_words(words: &[String]) -> Result<Words, BadWords>
     let Some((verb, others)) = next_word(words) else {
         return Err(BadWords);
     };
-    if verb == b"run".as_slice() && next_word(others).is_none() {
-        Ok(Words::Run)
-    } else {
-        Err(BadWords)
+    if next_word(others).is_some() {
+        return Err(BadWords);
     }
+    if verb == b"run".as_slice() {
+        return Ok(Words::Run);
+    }
+    if verb == b"check".as_slice() {
+        return Ok(Words::Check);
+    }
+    Err(BadWords)
 }

@@ -1,7 +1,8 @@
-//! The program: `hlcstore run` answers a script from standard input on standard output.
+//! The program: `hlcstore run` answers a script from standard input on standard output, and
+//! `hlcstore check` a certificate.
 #![tactic(auto)]
 
-use hlc_script::{Words, read_words, run_script};
+use hlc_script::{Words, read_words, run_check, run_script};
 use hlc_text::watched::Watched;
 use std::env;
 use std::process::ExitCode;
@@ -22,6 +23,13 @@ fn run(rt: &HostRuntime) -> ExitCode {
     ExitCode::from(run_script(rt.alloc(), &mut reader, &mut writer).status())
 }
 
+/// Checks the certificate on standard input.
+fn check(rt: &HostRuntime) -> ExitCode {
+    let mut reader = Watched::new(rt.stdin());
+    let mut writer = Watched::new(rt.stdout());
+    ExitCode::from(run_check(rt.alloc(), &mut reader, &mut writer).status())
+}
+
 fn main(rt: HostRuntime) -> ExitCode {
     let Ok(words) = env::args(&rt) else {
         return refuse_words(&rt);
@@ -31,6 +39,7 @@ fn main(rt: HostRuntime) -> ExitCode {
     };
     match read_words(words.as_slice()) {
         Ok(Words::Run) => run(&rt),
+        Ok(Words::Check) => check(&rt),
         Err(_) => refuse_words(&rt),
     }
 }
