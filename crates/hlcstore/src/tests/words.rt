@@ -25,7 +25,9 @@ fn words_of_the_program(rt: HostRuntime) -> Result<(), Fail> {
         ("run run", Err(BadWords)),
         ("Run", Err(BadWords)),
         ("runs", Err(BadWords)),
-        ("check", Err(BadWords)),
+        ("check", Ok(Words::Check)),
+        ("check check", Err(BadWords)),
+        ("Check", Err(BadWords)),
         (
             "storm --nodes 65 --writes 0 --keys 1 --readers 0",
             Err(BadWords),
