@@ -10,8 +10,7 @@ use Rattle.std.proofs.lemmas.Slice.Eq.{bytes_eq-Decides}
 use Rattle.std.proofs.lemmas.List.{length-map, get_or-map}
 use Rattle.std.proofs.lemmas.List.Kept.{IsStrictlySortedBy-dedup, Contains-dedup}
 use Rattle.hlc_node.specs.declared.row.Row.{Row}
-use Rattle.hlc_vacuum.specs.PlacedRow.{PlacedRow}
-use Rattle.hlc_vacuum.specs.Placed.{ArePlaced, placed_cmp}
+use Rattle.hlc_vacuum.specs.Placed.{PlacedRow, ArePlaced, placed_cmp}
 use Rattle.hlc_vacuum.specs.Keys.{new_keys}
 
 new_keys-after : (key : List ℕ) (keys : List (List ℕ)) → dedup_from bytes_eq key keys ≡ key ∷ new_keys (Some key) keys

@@ -16,8 +16,7 @@ use Rattle.hlc_node.specs.declared.row.Row.{Row}
 use Rattle.hlc_node.specs.Rows.{newest, IsNoLater, IsNewest, IsRowSet}
 use Rattle.hlc_witness.specs.Certificate.{row_cmp}
 use Rattle.hlc_witness.specs.Reached.{is_reached}
-use Rattle.hlc_vacuum.specs.PlacedRow.{PlacedRow}
-use Rattle.hlc_vacuum.specs.Placed.{ArePlaced, placed_cmp}
+use Rattle.hlc_vacuum.specs.Placed.{PlacedRow, ArePlaced, placed_cmp}
 use Rattle.hlc_vacuum.proofs.Chosen.{in_place}
 
 -- what the law of the newest row says

@@ -7,8 +7,7 @@ use Rattle.std.proofs.lemmas.List.Elements.{Contains-push_cases, Contains-append
 use Rattle.std.proofs.lemmas.List.Sorted.{Contains-permutation, IsPermutation-sym}
 use Rattle.hlc_node.specs.declared.row.Row.{Row}
 use Rattle.hlc_witness.specs.Points.{last_point}
-use Rattle.hlc_vacuum.specs.PlacedRow.{PlacedRow}
-use Rattle.hlc_vacuum.specs.Placed.{HavePlaces}
+use Rattle.hlc_vacuum.specs.Placed.{PlacedRow, HavePlaces}
 use Rattle.hlc_vacuum.proofs.Members.{Contains-none}
 
 -- the first rows with their places

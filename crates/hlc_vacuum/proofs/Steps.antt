@@ -5,7 +5,7 @@ use Rattle.std.proofs.lemmas.List.{append-nil, drop_more, drop_all}
 use Rattle.hlc_node.specs.declared.row.Row.{Row}
 use Rattle.hlc_witness.specs.declared.witness.Witness.{Witness}
 use Rattle.hlc_witness.specs.AllChanges.{change_at, key_changes, changes_of}
-use Rattle.hlc_vacuum.specs.PlacedRow.{PlacedRow}
+use Rattle.hlc_vacuum.specs.Placed.{PlacedRow}
 use Rattle.hlc_vacuum.specs.Keys.{new_keys, is_same_key}
 use Rattle.hlc_vacuum.proofs.Keys.{keys_in}
 

@@ -1,7 +1,5 @@
-pub mod Witnesses
-pub mod Planned
 pub mod Plan
-pub mod PlacedRow
+pub mod Witnesses
 pub mod Placed
-pub mod Draft
 pub mod Keys
+pub mod Draft

@@ -5,7 +5,11 @@ use Rattle.std.specs.declared.cmp.Ordering.{Ordering}
 use Rattle.hlc_node.specs.declared.row.Row.{Row}
 use Rattle.hlc_node.specs.Rows.{newest, IsRowSet}
 use Rattle.hlc_witness.specs.Certificate.{row_cmp}
-use Rattle.hlc_vacuum.specs.PlacedRow.{PlacedRow}
+
+-- a row with its place in the list
+pub record PlacedRow : Type 0 where
+  pub row : Row
+  pub place : ℕ
 
 -- by key, stamp and node
 abbrev pub placed_cmp : PlacedRow → PlacedRow → Ordering

@@ -1,9 +1,15 @@
--- What a plan is made of, and what it keeps.
-use Rattle.std.specs.Prelude.{◌≡◌, List, [], ◌∷◌, Bool, length, if◌then◌else◌}
+-- What a plan says, and which rows it was made of.
+use Rattle.std.specs.Prelude.{◌≡◌, ℕ, List, [], ◌∷◌, Bool, length, if◌then◌else◌}
 use Rattle.hlc_node.specs.declared.row.Row.{Row}
 use Rattle.hlc_witness.specs.Points.{PointsAscend}
 use Rattle.hlc_witness.specs.Vacuumed.{Vacuumed}
-use Rattle.hlc_vacuum.specs.Planned.{Planned}
+use Rattle.hlc_witness.specs.declared.witness.Witness.{Witness}
+
+-- for each row in turn whether it is kept; the points; and the changes that ask for the rows kept at or below the last point
+pub record Planned : Type 0 where
+  pub keep : List Bool
+  pub points : List ℕ
+  pub witnesses : List Witness
 
 -- the members whose flags are set, in their order
 abbrev pub chosen : {X : Type 0} → List Bool → List X → List X

@@ -1,12 +1,12 @@
 //! Does what a plan says.
-ghost use Rattle.std.specs.Prelude.{◌≡◌, ◌+◌, ◌<◌, length};
+ghost use Rattle.std.specs.Prelude.{◌≡◌, ◌+◌, length};
 ghost use Rattle.hlc_witness.specs.Points.{last_point};
 ghost use Rattle.hlc_witness.specs.Vacuumed.{Vacuumed};
 ghost use Rattle.hlc_vacuum.specs.Plan.{IsPlanOf, chosen};
 
 use crate::plan::Plan;
+use crate::points::last_of;
 use crate::report::Report;
-use hlc_clock::Stamp;
 use hlc_node::Row;
 
 /// Does what the plan of these rows says. It takes no memory.
@@ -34,14 +34,6 @@ pub fn apply_rows(rows: &mut Vec<Row>, plan: Plan) -> Report
         dropped: (stored - rows.len()) as u128,
         witnesses,
     }
-}
-
-/// The last of some points.
-fn last_of(points: &[Stamp]) -> Stamp
-    requires { 0 < length points.now }
-    ensures { result ≡ last_point points.now }
-{
-    points[points.len() - 1]
 }
 
 /// Keeps just the flagged rows, in their order.

@@ -21,7 +21,7 @@ pub(crate) struct Placed<'a> {
 }
 
 impl<'a> Model for Placed<'a> {
-    ghost use Rattle.hlc_vacuum.specs.PlacedRow.{PlacedRow};
+    ghost use Rattle.hlc_vacuum.specs.Placed.{PlacedRow};
 
     ghost Value = { PlacedRow };
 

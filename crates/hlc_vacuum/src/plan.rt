@@ -13,7 +13,7 @@ pub struct Plan {
 }
 
 impl Model for Plan {
-    ghost use Rattle.hlc_vacuum.specs.Planned.{Planned};
+    ghost use Rattle.hlc_vacuum.specs.Plan.{Planned};
 
     ghost Value = { Planned };
 

@@ -14,7 +14,7 @@ ghost use Rattle.hlc_vacuum.specs.Plan.{IsPlanOf};
 use crate::draft::Draft;
 use crate::placed::{Placed, newest_in, placed_rows, value_of};
 use crate::plan::Plan;
-use crate::points::Points;
+use crate::points::{Points, last_of};
 use crate::witnesses::Witnesses;
 use hlc_clock::Stamp;
 use hlc_node::{Bytes, Row};
@@ -34,7 +34,7 @@ pub fn plan_rows(alloc: Global, rows: &[Row], points: &[Stamp]) -> Result<Plan, 
     changes_are_found_key_by_key();
     newest_rows_suffice();
     let placed = placed_rows(alloc, rows)?;
-    let mut draft = Draft::above(alloc, rows, points[points.len() - 1])?;
+    let mut draft = Draft::above(alloc, rows, last_of(points))?;
     plan_keys(placed.as_slice(), points, &mut draft)?;
     let points = Points::from_vec(points.to_vec(alloc)?);
     let Draft { keep, witnesses } = draft;

@@ -1,9 +1,10 @@
 //! The points of a vacuum.
-ghost use Rattle.std.specs.Prelude.{◌≡◌, length};
+ghost use Rattle.std.specs.Prelude.{◌≡◌, ◌<◌, length};
 ghost use Rattle.std.specs.Cmp.{partial_equiv_from_equiv};
 ghost use Rattle.std.specs.Cmp.Lexicographic.{pointwise};
 ghost use Rattle.std.specs.Prelude.{nat_eq};
 ghost use Rattle.std.proofs.lemmas.Cmp.{nat_list_eq_equiv};
+ghost use Rattle.hlc_witness.specs.Points.{last_point};
 
 use hlc_clock::Stamp;
 use std::alloc::AllocError;
@@ -75,4 +76,12 @@ impl PartialEq for Points {
 
 impl Eq for Points {
     ghost laws = { nat_list_eq_equiv };
+}
+
+/// The last of some points.
+pub(crate) fn last_of(points: &[Stamp]) -> Stamp
+    requires { 0 < length points.now }
+    ensures { result ≡ last_point points.now }
+{
+    points[points.len() - 1]
 }

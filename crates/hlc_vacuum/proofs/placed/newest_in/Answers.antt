@@ -3,7 +3,7 @@ use Rattle.std.proofs.Common.{rules, arith, sym, ◌∙◌, true≢false}
 use Rattle.std.proofs.lemmas.Slice.Eq.{bytes_eq-Decides}
 use Rattle.std.proofs.lemmas.List.Sorted.{IsPartitionPoint-from_clause}
 use Rattle.hlc_witness.specs.Reached.{is_reached}
-use Rattle.hlc_vacuum.specs.PlacedRow.{PlacedRow}
+use Rattle.hlc_vacuum.specs.Placed.{PlacedRow}
 use Rattle.hlc_vacuum.proofs.LastReached.{partitioned, none_at_start, last_newest, last_other}
 use Rattle.hlc_vacuum.proofs.placed.newest_in.Goals as goal
 

@@ -2,8 +2,7 @@
 use Rattle.std.proofs.Common.{is_lt, rules}
 use Rattle.std.proofs.lemmas.Fn.{always_returns_same}
 use Rattle.std.proofs.lemmas.List.Sorted.{ranks_by}
-use Rattle.hlc_vacuum.specs.PlacedRow.{PlacedRow}
-use Rattle.hlc_vacuum.specs.Placed.{placed_cmp}
+use Rattle.hlc_vacuum.specs.Placed.{PlacedRow, placed_cmp}
 use Rattle.hlc_vacuum.proofs.LastReached.{row_cmp_total}
 use Rattle.hlc_vacuum.proofs.placed.sort.Goals as goal
 
