@@ -1,25 +1,30 @@
 //! Does what a plan says.
 ghost use Rattle.std.specs.Prelude.{◌≡◌, ◌+◌, length};
 ghost use Rattle.hlc_witness.specs.Points.{last_point};
-ghost use Rattle.hlc_witness.specs.Vacuumed.{Vacuumed};
+ghost use Rattle.hlc_witness.specs.Fewest.{Fewest};
+ghost use Rattle.hlc_witness.specs.Vacuumed.{Vacuumed, rows_to};
 ghost use Rattle.hlc_vacuum.specs.Plan.{IsPlanOf, chosen};
 
 use crate::plan::Plan;
 use crate::points::last_of;
 use crate::report::Report;
 use hlc_node::Row;
+use hlc_witness::vacuums_keep_fewest;
 
 /// Does what the plan of these rows says. It takes no memory.
 pub fn apply_rows(rows: &mut Vec<Row>, plan: Plan) -> Report
     requires { IsPlanOf plan rows.old.items }
     ensures rows { rows.new.items ≡ chosen plan.keep rows.old.items }
     ensures vacuumed { Vacuumed rows.old.items result.points result.witnesses rows.new.items }
+    ensures fewest { Fewest (rows_to result.floor rows.new.items) rows.old.items result.points }
     ensures floor { result.floor ≡ last_point plan.points }
     ensures points { result.points ≡ plan.points }
     ensures witnesses { result.witnesses ≡ plan.witnesses }
     ensures kept { result.kept ≡ length result.witnesses }
     ensures dropped { result.dropped + length rows.new.items ≡ length rows.old.items }
 {
+    // What the proof cites.
+    vacuums_keep_fewest();
     let stored = rows.len();
     let Plan {
         keep,

@@ -1,5 +1,5 @@
 //! A plan in the making.
-ghost use Rattle.std.specs.Prelude.{◌≡◌, ℕ, List, ◌++◌, ◌∷◌, [], ◌<◌, length, All, IfSome, IfOk, OnOk, option_copied, map, nat_lt};
+ghost use Rattle.std.specs.Prelude.{◌≡◌, ℕ, List, ◌++◌, ◌∷◌, [], ◌<◌, length, IfSome, IfOk, OnOk, option_copied, map, nat_lt};
 ghost use Rattle.hlc_node.specs.declared.row.Row.{Row as ARow};
 ghost use Rattle.hlc_vacuum.specs.Placed.{IsNewestPlaced};
 ghost use Rattle.hlc_vacuum.specs.Draft.{IsDraft};

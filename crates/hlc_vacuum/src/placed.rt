@@ -1,9 +1,8 @@
 //! Rows with their places, by key, stamp and node, and the newest of a key among them.
-ghost use Rattle.std.specs.Prelude.{◌≡◌, ℕ, List, All, Contains, IfOk, IfSome, option_copied, option_and_then, length, ◌<◌};
+ghost use Rattle.std.specs.Prelude.{◌≡◌, ℕ, List, Contains, IfOk, IfSome, option_copied, option_and_then};
 ghost use Rattle.std.specs.List.Sorted.{IsPermutation, IsSorted};
 ghost use Rattle.hlc_node.specs.declared.row.Row.{Row as ARow};
 ghost use Rattle.hlc_node.specs.Rows.{IsRowSet};
-ghost use Rattle.hlc_witness.specs.Certificate.{row_cmp};
 ghost use Rattle.hlc_witness.specs.Reached.{is_reached};
 ghost use Rattle.hlc_vacuum.specs.Placed.{placed_cmp, HavePlaces, ArePlaced, IsNewestPlaced};
 

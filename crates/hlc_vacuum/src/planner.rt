@@ -1,6 +1,6 @@
 //! The pass that plans a vacuum: for each key in turn, and for each point in turn, whether the
 //! answer differs from that at the point before.
-ghost use Rattle.std.specs.Prelude.{◌≡◌, ◌<◌, ◌++◌, ℕ, List, Some, None, length, All, IfOk, OnOk, option_copied, map};
+ghost use Rattle.std.specs.Prelude.{◌≡◌, ◌<◌, ◌++◌, ℕ, List, None, length, All, IfOk, OnOk, option_copied, map};
 ghost use Rattle.hlc_node.specs.declared.row.Row.{Row as ARow};
 ghost use Rattle.hlc_node.specs.Rows.{IsRowSet, answer};
 ghost use Rattle.hlc_witness.specs.Points.{PointsAscend};
