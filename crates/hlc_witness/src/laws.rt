@@ -1,12 +1,15 @@
 //! What holds of the fewest rows, whichever rows there are. A law that calls others follows from them.
-ghost use Rattle.std.specs.Prelude.{◌≡◌, ◌+◌, ◌<◌, ◌≤◌, ℕ, List, [], ◌∷◌, ◌++◌, length};
+ghost use Rattle.std.specs.Prelude.{◌≡◌, ◌+◌, ◌<◌, ◌≤◌, ℕ, List, [], ◌∷◌, ◌++◌, length, Contains};
+ghost use Rattle.std.specs.Ordering.{nat_cmp};
+ghost use Rattle.std.specs.Cmp.Lexicographic.{slice_cmp};
+ghost use Rattle.std.specs.List.Sorted.{IsStrictlySortedBy};
 ghost use Rattle.hlc_node.specs.declared.row.Row.{Row as ARow};
 ghost use Rattle.hlc_node.specs.Rows.{IsRowSet};
 ghost use Rattle.hlc_witness.specs.declared.witness.Witness.{Witness as AWitness};
 ghost use Rattle.hlc_witness.specs.Points.{PointsAscend, last_point};
 ghost use Rattle.hlc_witness.specs.Fewest.{Alike, Fewest};
 ghost use Rattle.hlc_witness.specs.Changes.{AreChanges};
-ghost use Rattle.hlc_witness.specs.AllChanges.{all_changes};
+ghost use Rattle.hlc_witness.specs.AllChanges.{all_changes, changes_of};
 ghost use Rattle.hlc_witness.specs.Vacuumed.{KeepsNewest, Vacuumed, rows_to};
 ghost use Rattle.hlc_witness.specs.Certificate.{IsCertificate, RowsAscend, NoneAbove};
 ghost use Rattle.hlc_witness.specs.Standing.{RowsStandFor, ArePoints, StandsAfterVacuum, count_above};
@@ -44,6 +47,15 @@ pub fn ascending_rows_are_a_row_set()
 pub fn changes_are_computed()
     ensures are { (rows : List ARow) (points : List ℕ) → PointsAscend points → AreChanges rows points (all_changes rows points) }
     ensures only { (rows : List ARow) (points : List ℕ) (changes : List AWitness) → PointsAscend points → AreChanges rows points changes → changes ≡ all_changes rows points }
+{
+    newest_is_greatest();
+    no_newest_no_row();
+    newest_stays();
+}
+
+/// The changes of keys that come in byte order, with each row's key among them, are all changes.
+pub fn changes_are_found_key_by_key()
+    ensures { (rows : List ARow) (points : List ℕ) (keys : List (List ℕ)) → PointsAscend points → IsStrictlySortedBy (slice_cmp nat_cmp) keys → ((row : ARow) → Contains rows row → Contains keys row.key) → AreChanges rows points (changes_of rows points keys) }
 {
     newest_is_greatest();
     no_newest_no_row();

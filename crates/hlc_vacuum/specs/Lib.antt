@@ -1,0 +1,5 @@
+pub mod Plan
+pub mod Witnesses
+pub mod Placed
+pub mod Keys
+pub mod Draft
