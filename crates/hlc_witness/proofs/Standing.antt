@@ -1,23 +1,26 @@
 -- Stored rows go on standing for all accepted ones. A vacuum at the floor keeps the answers at the floor and all rows above it, so it
 -- keeps the answers from the floor on; a row written above the horizon is stored, and is later than each row at or below it.
-use Rattle.std.proofs.Common.{◌≡◌, ℕ, ◌+◌, ◌-◌, ◌<◌, ◌≤◌, List, [], ◌∷◌, ◌++◌, Some, None, length, refl, sym, ap, ◌∙◌, subst, inl, inr, arith, Contains, filter, true, false, cond, ltb, sum_by}
-use Rattle.std.proofs.lemmas.Bool.{cases_lt, ltb-true, lt-leb, lt-ltb, le-leb, le-ltb}
+use Rattle.std.proofs.Common.{◌≡◌, ◌↔◌, ◌⊎◌, IsPermutation, leb, ℕ, ◌+◌, ◌-◌, ◌<◌, ◌≤◌, List, [], ◌∷◌, ◌++◌, Some, None, length, refl, sym, ap, ◌∙◌, subst, inl, inr, arith, Contains, filter, true, false, cond, ltb, sum_by}
+use Rattle.std.proofs.lemmas.Bool.{cases_lt, leb-true, ltb-true, lt-leb, lt-ltb, le-leb, le-ltb}
 use Rattle.std.proofs.lemmas.List.{length_push}
-use Rattle.std.proofs.lemmas.List.Elements.{All-weaker, Contains-push_cases, Contains-append_left, Contains-push, Contains-get_or}
+use Rattle.std.proofs.lemmas.List.Elements.{All-weaker, filter_passes, Contains-push_cases, Contains-append_left, Contains-push, Contains-get_or}
+use Rattle.std.proofs.lemmas.List.Sorted.{All-permutation, Contains-permutation, IsPermutation-sym, length_permutation}
 use Rattle.hlc_node.specs.declared.row.Row.{Row}
 use Rattle.hlc_node.specs.Rows.{newest, answer, IsNewest, IsRowSet, IsSameVersion}
 use Rattle.hlc_witness.specs.declared.witness.Witness.{Witness}
-use Rattle.hlc_witness.specs.Points.{last_point}
+use Rattle.hlc_witness.specs.Points.{PointsAscend, last_point}
 use Rattle.hlc_witness.specs.Fewest.{Alike}
 use Rattle.hlc_witness.specs.Changes.{IsChange, AreChanges}
 use Rattle.hlc_witness.specs.Vacuumed.{Vacuumed, rows_to}
-use Rattle.hlc_witness.specs.Standing.{RowsStandFor, ArePoints, StandsAfterVacuum, count_above}
+use Rattle.hlc_witness.specs.Certificate.{IsCertificate, RowsAscend}
+use Rattle.hlc_witness.specs.Standing.{RowsStandFor, StandsAfterVacuum, count_above, count_between}
 use Rattle.hlc_witness.proofs.Members.{Contains-none, Contains-first, Contains-rest, Contains-cons_cases, Contains-filter, Contains-from_filter}
 use Rattle.hlc_witness.proofs.Newest.{NewestLaws, IsUniqueLaw, stamp_below, answer_none, answer_some, answer_same}
 use Rattle.hlc_witness.proofs.Pigeons.{AreApart, served, sum_by_one}
 use Rattle.hlc_witness.proofs.Places.{last_upper, last_point-get_or}
 use Rattle.hlc_witness.proofs.Forced.{changes_force_rows}
-use Rattle.hlc_witness.proofs.Certified.{change_alike, answer-rows_to, filter-IsRowSet}
+use Rattle.hlc_witness.proofs.Certified.{certified, change_alike, answer-rows_to, filter-IsRowSet}
+use Rattle.hlc_witness.proofs.Ascending.{ascend-IsRowSet}
 
 -- no row of a row set is one version with the last
 last_apart : (all : List Row) (row last : Row) → IsRowSet (all ++ last ∷ []) → Contains all row → IsSameVersion row last → ⊥
@@ -135,17 +138,6 @@ changes_alike rows others points changes alike are = record {
   every = λ c is. are.every c (change_alike others rows points c (λ key point i. sym (alike key point i)) is);
 }
 
-last_is : (opened : List ℕ) (floor : ℕ) (points : List ℕ) → ArePoints opened floor points → last_point points ≡ floor
-last_is opened floor points are =
-    let in_points : Contains points floor = (are.members floor).1 (inr refl) in
-    let a : floor ≤ last_point points = last_upper points are.ascend floor in_points in
-    let last_in : Contains points (last_point points) =
-    subst (Contains points) (sym (last_point-get_or points)) (Contains-get_or points (length points - 1) 0 (let p = are.ascend.0 in omega arith)) in
-    elim ((are.members (last_point points)).0 last_in) [
-      | inl o ↦ let b = are.open_below (last_point points) o in omega arith
-      | inr e ↦ e
-    ]
-
 -- a list is what is at or below a bound and what is above it
 split_count : (bound : ℕ) (rows : List Row) → length rows ≡ length (rows_to bound rows) + count_above bound rows
 split_count bound [] = refl
@@ -167,42 +159,103 @@ above_count bound rows others set' f =
     let q = sum_by_one (filter (λ row. ltb bound row.stamp) others) in
     omega arith
 
-pub after_vacuum : NewestLaws → IsUniqueLaw → (stored all kept : List Row) (horizon floor : ℕ) (opened points : List ℕ) (changes : List Witness) → RowsStandFor stored all horizon opened → horizon ≤ floor → ArePoints opened floor points → Vacuumed stored points changes kept → StandsAfterVacuum kept all floor opened points changes
-after_vacuum laws unique stored all kept horizon floor opened points changes stands le are v =
-    let last : last_point points ≡ floor = last_is opened floor points are in
-    let stored_alike : Alike stored all points = λ key point i.
-    elim ((are.members point).0 i) [
-      | inl o ↦ stands.at_open key point o
-      | inr e ↦ stands.from_horizon key point (omega arith)
-    ] in
-    let within : (row : Row) → Contains kept row → Contains all row = λ row i. stands.within row (v.within row i) in
-    let above : (row : Row) → Contains all row → floor < row.stamp → Contains kept row = λ row i l. v.above row (stands.above row i (omega arith)) (omega arith) in
-    let kept_alike : Alike kept all points = λ key point i. v.alike key point i ∙ stored_alike key point i in
-    let own : AreChanges all points changes = changes_alike stored all points changes stored_alike v.listed in
-    let low_alike : Alike (rows_to floor kept) all points = λ key point i.
-    answer-rows_to laws unique kept floor key point v.row_set (elim ((are.members point).0 i) [ inl o ↦ are.open_below point o | inr e ↦ omega arith ]) ∙ kept_alike key point i in
-    let count : length (rows_to floor kept) ≡ length changes = subst (λ f. length (rows_to f kept) ≡ length changes) last v.count in
-    record {
-      stands = record {
+-- two row sets with the same rows above the bound have as many of them
+same_above : (bound : ℕ) (rows others : List Row) → IsRowSet rows → IsRowSet others → ((row : Row) → Contains rows row → bound < row.stamp → Contains others row) → ((row : Row) → Contains others row → bound < row.stamp → Contains rows row) → count_above bound rows ≡ count_above bound others
+same_above bound rows others set' others_set f g = let a = above_count bound rows others set' f in let b = above_count bound others rows others_set g in omega arith
+
+-- the rows above a stamp are those up to a higher one, and those above that
+pub counted : (low high : ℕ) (rows : List Row) → low ≤ high → count_above low rows ≡ count_between low high rows + count_above high rows
+counted low high [] le = refl
+counted low high (row ∷ rows) le =
+    let h = counted low high rows le in
+    elim (cases_lt low row.stamp) [
+      | inl lt ↦ elim (cases_lt high row.stamp) [
+        | inl up ↦ let a = lt-ltb low row.stamp lt in let b = lt-leb row.stamp high up in let d = lt-ltb high row.stamp up in rw (a, b, d) (omega arith)
+        | inr in_bound ↦ let a = lt-ltb low row.stamp lt in let b = le-leb row.stamp high in_bound in let d = le-ltb high row.stamp in_bound in rw (a, b, d) (omega arith)
+      ]
+      | inr ge ↦ let a = le-ltb low row.stamp ge in let d = le-ltb high row.stamp (omega arith) in rw (a, d) (omega arith)
+    ]
+
+-- the points are the open stamps, none of them above the floor, and the floor
+module _ (floor : ℕ) (opened points : List ℕ) (members : (point : ℕ) → Contains points point ↔ (Contains opened point ⊎ (point ≡ floor))) (open_below : (stamp : ℕ) → Contains opened stamp → stamp ≤ floor) where
+  last_is : PointsAscend points → last_point points ≡ floor
+  last_is rise =
+      let a : floor ≤ last_point points = last_upper points rise floor ((members floor).1 (inr refl)) in
+      let last_in : Contains points (last_point points) =
+      subst (Contains points) (sym (last_point-get_or points)) (Contains-get_or points (length points - 1) 0 (let p = rise.0 in omega arith)) in
+      elim ((members (last_point points)).0 last_in) [
+        | inl o ↦ let b = open_below (last_point points) o in omega arith
+        | inr e ↦ e
+      ]
+
+  -- at or below the floor they are as many as the changes, and each change forces a row
+  pub fewest_standing : NewestLaws → IsUniqueLaw → (stored all : List Row) (changes : List Witness) → RowsStandFor stored all floor opened → AreChanges all points changes → length stored ≡ length changes + count_above floor all → StandsAfterVacuum stored all floor opened points changes
+  fewest_standing laws unique stored all changes stands own counts =
+      let count : length (rows_to floor stored) ≡ length changes =
+      (let a = split_count floor stored in
+      let b = same_above floor stored all stands.row_set stands.all_row_set (λ row i l. stands.within row i) stands.above in
+      omega arith) in
+      record {
+        stands = stands;
+        listed = own;
+        count = count;
+        fewest = record {
+          alike = λ key point i. elim ((members point).0 i) [
+            | inl o ↦ answer-rows_to laws unique stored floor key point stands.row_set (open_below point o) ∙ stands.at_open key point o
+            | inr e ↦ answer-rows_to laws unique stored floor key point stands.row_set (omega arith) ∙ stands.from_horizon key point (omega arith)
+          ];
+          least = λ others set' alike. let h = changes_force_rows laws all others points changes own.ascend own.each alike in omega arith;
+        };
+        stored_count = counts;
+      }
+
+  pub after_vacuum : NewestLaws → IsUniqueLaw → (stored all kept : List Row) (horizon : ℕ) (changes : List Witness) → RowsStandFor stored all horizon opened → horizon ≤ floor → PointsAscend points → Vacuumed stored points changes kept → StandsAfterVacuum kept all floor opened points changes
+  after_vacuum laws unique stored all kept horizon changes stands le rise v =
+      let last : last_point points ≡ floor = last_is rise in
+      let stored_alike : Alike stored all points = λ key point i.
+      elim ((members point).0 i) [
+        | inl o ↦ stands.at_open key point o
+        | inr e ↦ stands.from_horizon key point (omega arith)
+      ] in
+      let within : (row : Row) → Contains kept row → Contains all row = λ row i. stands.within row (v.within row i) in
+      let above : (row : Row) → Contains all row → floor < row.stamp → Contains kept row = λ row i l. v.above row (stands.above row i (omega arith)) (omega arith) in
+      let kept_alike : Alike kept all points = λ key point i. v.alike key point i ∙ stored_alike key point i in
+      let count : length (rows_to floor kept) ≡ length changes = subst (λ f. length (rows_to f kept) ≡ length changes) last v.count in
+      fewest_standing laws unique kept all changes (record {
         row_set = v.row_set;
         all_row_set = stands.all_row_set;
         within = within;
         above = above;
-        at_open = λ key stamp o. kept_alike key stamp ((are.members stamp).1 (inl o));
-        from_horizon = λ key stamp f. alike_from laws unique kept all floor v.row_set within above key stamp f (kept_alike key floor ((are.members floor).1 (inr refl)));
-      };
-      listed = own;
-      count = count;
-      fewest = record {
-        alike = low_alike;
-        least = λ others set' alike. let h = changes_force_rows laws all others points changes own.ascend own.each alike in omega arith;
-      };
-      stored_count =
-          (let a = split_count floor kept in
-          let b = above_count floor kept all v.row_set (λ row i l. within row i) in
-          let d = above_count floor all kept stands.all_row_set (λ row i l. above row i l) in
-          omega arith);
-    }
+        at_open = λ key stamp o. kept_alike key stamp ((members stamp).1 (inl o));
+        from_horizon = λ key stamp f. alike_from laws unique kept all floor v.row_set within above key stamp f (kept_alike key floor ((members floor).1 (inr refl)));
+      })
+      (changes_alike stored all points changes stored_alike v.listed)
+      (let a = split_count floor kept in let b = same_above floor kept all v.row_set stands.all_row_set (λ row i l. within row i) above in omega arith)
+
+-- a row set with the same rows is told the same
+same_rows : NewestLaws → IsUniqueLaw → (rows others : List Row) → IsRowSet rows → ((row : Row) → Contains rows row → Contains others row) → ((row : Row) → Contains others row → Contains rows row) → (key : List ℕ) (stamp : ℕ) → answer rows key stamp ≡ answer others key stamp
+same_rows laws unique rows others set' within back key stamp =
+    elim (newest others key stamp) as (λ o. newest others key stamp ≡ o → answer rows key stamp ≡ answer others key stamp) [
+      | None ↦ λ e. answer_none rows key stamp (none_in_part laws rows others key stamp within e) ∙ sym (answer_none others key stamp e)
+      | Some row ↦ λ e.
+          let is = laws.greatest others key stamp row e in
+          answer_some rows key stamp row (newest_in_part unique rows others key stamp row set' within is (back row is.member)) ∙ sym (answer_some others key stamp row e)
+    ] refl
+
+-- the stored rows at or below the floor, sorted
+pub sorted_certified : NewestLaws → IsUniqueLaw → (stored all rows : List Row) (floor : ℕ) (opened points : List ℕ) (changes : List Witness) → StandsAfterVacuum stored all floor opened points changes → PointsAscend points → last_point points ≡ floor → IsPermutation (rows_to floor stored) rows → RowsAscend rows → IsCertificate rows points changes
+sorted_certified laws unique stored all rows floor opened points changes after rise last moved up =
+    certified rows all points changes rise up
+    (All-permutation (λ row. row.stamp ≤ last_point points) (rows_to floor stored) rows moved
+    (All-weaker (λ row. leb row.stamp floor ≡ true) (λ row. row.stamp ≤ last_point points) (λ row t. let le = leb-true row.stamp floor t in omega arith) (rows_to floor stored) (filter_passes (λ row. leb row.stamp floor) stored)))
+    (λ key point i.
+    same_rows laws unique rows (rows_to floor stored) (ascend-IsRowSet rows up)
+    (λ row m. Contains-permutation rows (rows_to floor stored) row (IsPermutation-sym (rows_to floor stored) rows moved) m)
+    (λ row m. Contains-permutation (rows_to floor stored) rows row moved m)
+    key point
+    ∙ after.fewest.alike key point i)
+    after.listed
+    (length_permutation (rows_to floor stored) rows moved ∙ after.count)
 
 -- a snapshot opens at or above the horizon
 pub after_open : (stored all : List Row) (horizon stamp : ℕ) (opened : List ℕ) → RowsStandFor stored all horizon opened → horizon ≤ stamp → RowsStandFor stored all horizon (opened ++ stamp ∷ [])

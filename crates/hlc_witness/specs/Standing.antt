@@ -1,9 +1,8 @@
 -- Stored rows that stand for all accepted ones, whatever vacuums dropped.
-use Rattle.std.specs.Prelude.{◌≡◌, ◌↔◌, ◌⊎◌, ℕ, ◌+◌, ◌<◌, ◌≤◌, List, length, Contains, filter, nat_lt}
+use Rattle.std.specs.Prelude.{◌≡◌, ℕ, ◌+◌, ◌<◌, ◌≤◌, ◌&&◌, List, length, Contains, filter, nat_lt, nat_le}
 use Rattle.hlc_node.specs.declared.row.Row.{Row}
 use Rattle.hlc_node.specs.Rows.{answer, IsRowSet}
 use Rattle.hlc_witness.specs.declared.witness.Witness.{Witness}
-use Rattle.hlc_witness.specs.Points.{PointsAscend}
 use Rattle.hlc_witness.specs.Fewest.{Fewest}
 use Rattle.hlc_witness.specs.Changes.{AreChanges}
 use Rattle.hlc_witness.specs.Vacuumed.{rows_to}
@@ -18,15 +17,13 @@ pub record RowsStandFor (stored all : List Row) (horizon : ℕ) (opened : List �
   pub at_open : (key : List ℕ) (stamp : ℕ) → Contains opened stamp → answer stored key stamp ≡ answer all key stamp
   pub from_horizon : (key : List ℕ) (stamp : ℕ) → horizon ≤ stamp → answer stored key stamp ≡ answer all key stamp
 
--- the points of a vacuum: the stamps of open snapshots, none of them above the floor, and the floor, each once and ascending
-pub record ArePoints (opened : List ℕ) (floor : ℕ) (points : List ℕ) : Type 0 where
-  pub ascend : PointsAscend points
-  pub members : (point : ℕ) → Contains points point ↔ (Contains opened point ⊎ (point ≡ floor))
-  pub open_below : (stamp : ℕ) → Contains opened stamp → stamp ≤ floor
-
 -- how many rows are above a stamp
 abbrev pub count_above : ℕ → List Row → ℕ
 count_above bound rows = length (filter (λ row. nat_lt bound row.stamp) rows)
+
+-- how many rows are above the one stamp and at or below the other
+abbrev pub count_between : ℕ → ℕ → List Row → ℕ
+count_between low high rows = length (filter (λ row. nat_lt low row.stamp && nat_le row.stamp high) rows)
 
 -- Just after a vacuum at the floor: the rows stand for all, with the floor as the horizon, and those at or below it are the fewest
 -- against all, as many as the changes of all.

@@ -1,8 +1,8 @@
 //! What holds of the fewest rows, whichever rows there are. A law that calls others follows from them.
-ghost use Rattle.std.specs.Prelude.{◌≡◌, ◌+◌, ◌<◌, ◌≤◌, ℕ, List, [], ◌∷◌, ◌++◌, length, Contains};
+ghost use Rattle.std.specs.Prelude.{◌≡◌, ◌↔◌, ◌⊎◌, ◌+◌, ◌<◌, ◌≤◌, ℕ, List, [], ◌∷◌, ◌++◌, length, Contains};
 ghost use Rattle.std.specs.Ordering.{nat_cmp};
 ghost use Rattle.std.specs.Cmp.Lexicographic.{slice_cmp};
-ghost use Rattle.std.specs.List.Sorted.{IsStrictlySortedBy};
+ghost use Rattle.std.specs.List.Sorted.{IsPermutation, IsStrictlySortedBy};
 ghost use Rattle.hlc_node.specs.declared.row.Row.{Row as ARow};
 ghost use Rattle.hlc_node.specs.Rows.{IsRowSet};
 ghost use Rattle.hlc_witness.specs.declared.witness.Witness.{Witness as AWitness};
@@ -12,7 +12,7 @@ ghost use Rattle.hlc_witness.specs.Changes.{AreChanges};
 ghost use Rattle.hlc_witness.specs.AllChanges.{all_changes, changes_of};
 ghost use Rattle.hlc_witness.specs.Vacuumed.{KeepsNewest, Vacuumed, rows_to};
 ghost use Rattle.hlc_witness.specs.Certificate.{IsCertificate, RowsAscend, NoneAbove};
-ghost use Rattle.hlc_witness.specs.Standing.{RowsStandFor, ArePoints, StandsAfterVacuum, count_above};
+ghost use Rattle.hlc_witness.specs.Standing.{RowsStandFor, StandsAfterVacuum, count_above, count_between};
 
 use hlc_node::{newest_is_greatest, newest_is_unique, newest_stays, no_newest_no_row};
 
@@ -83,21 +83,45 @@ pub fn newest_rows_suffice()
 }
 
 /// Ascending rows that are alike to all, and as many as the changes of all, are certified by those
-/// changes.
+/// changes. So are, just after a vacuum, the stored rows at or below the floor, once sorted by key,
+/// stamp and node.
 pub fn vacuums_are_certified()
-    ensures { (rows all : List ARow) (points : List ℕ) (changes : List AWitness) → PointsAscend points → RowsAscend rows → NoneAbove points rows → Alike rows all points → AreChanges all points changes → length rows ≡ length changes → IsCertificate rows points changes }
-{}
-
-/// After a vacuum at the floor the rows stand for all accepted ones, and those at or below the floor
-/// are the fewest against all of them, whatever was dropped before.
-pub fn vacuums_compose()
-    ensures { (stored all kept : List ARow) (horizon floor : ℕ) (opened points : List ℕ) (changes : List AWitness) → RowsStandFor stored all horizon opened → horizon ≤ floor → ArePoints opened floor points → Vacuumed stored points changes kept → StandsAfterVacuum kept all floor opened points changes }
+    ensures alike { (rows all : List ARow) (points : List ℕ) (changes : List AWitness) → PointsAscend points → RowsAscend rows → NoneAbove points rows → Alike rows all points → AreChanges all points changes → length rows ≡ length changes → IsCertificate rows points changes }
+    ensures sorted { (stored all rows : List ARow) (floor : ℕ) (opened points : List ℕ) (changes : List AWitness) → StandsAfterVacuum stored all floor opened points changes → PointsAscend points → last_point points ≡ floor → IsPermutation (rows_to floor stored) rows → RowsAscend rows → IsCertificate rows points changes }
 {
     newest_is_greatest();
     no_newest_no_row();
     newest_stays();
     newest_is_unique();
 }
+
+/// After a vacuum at the floor the rows stand for all accepted ones, and those at or below the floor
+/// are the fewest against all of them, whatever was dropped before. Its points are the open stamps,
+/// none of them above the floor, and the floor.
+pub fn vacuums_compose()
+    ensures { (stored all kept : List ARow) (horizon floor : ℕ) (opened points : List ℕ) (changes : List AWitness) → RowsStandFor stored all horizon opened → horizon ≤ floor → PointsAscend points → ((point : ℕ) → Contains points point ↔ (Contains opened point ⊎ (point ≡ floor))) → ((stamp : ℕ) → Contains opened stamp → stamp ≤ floor) → Vacuumed stored points changes kept → StandsAfterVacuum kept all floor opened points changes }
+{
+    newest_is_greatest();
+    no_newest_no_row();
+    newest_stays();
+    newest_is_unique();
+}
+
+/// Rows that stand for all with the floor as the horizon, and are as many as the changes and the rows
+/// above the floor, are just after a vacuum: those at or below the floor are the fewest.
+pub fn standing_rows_are_fewest()
+    ensures { (stored all : List ARow) (floor : ℕ) (opened points : List ℕ) (changes : List AWitness) → RowsStandFor stored all floor opened → PointsAscend points → ((point : ℕ) → Contains points point ↔ (Contains opened point ⊎ (point ≡ floor))) → ((stamp : ℕ) → Contains opened stamp → stamp ≤ floor) → AreChanges all points changes → length stored ≡ length changes + count_above floor all → StandsAfterVacuum stored all floor opened points changes }
+{
+    newest_is_greatest();
+    no_newest_no_row();
+    newest_stays();
+    newest_is_unique();
+}
+
+/// The rows above a stamp are those up to a higher one, and those above that.
+pub fn rows_above_are_counted()
+    ensures { (low high : ℕ) (rows : List ARow) → low ≤ high → count_above low rows ≡ count_between low high rows + count_above high rows }
+{}
 
 /// A row that is written above the horizon is stored with the others, and counts as one more.
 pub fn writes_keep_standing()

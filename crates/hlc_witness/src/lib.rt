@@ -15,7 +15,8 @@ pub use hlc_node::{Bytes, Row, Stamp};
 pub use laws::{
     ascending_rows_are_a_row_set, certificates_show_fewest, changes_are_computed,
     changes_are_found_key_by_key, changes_force_rows, newest_rows_suffice, opens_keep_standing,
-    vacuums_are_certified, vacuums_compose, vacuums_keep_fewest, writes_keep_standing,
+    rows_above_are_counted, standing_rows_are_fewest, vacuums_are_certified, vacuums_compose,
+    vacuums_keep_fewest, writes_keep_standing,
 };
 pub use order::do_points_ascend;
 pub use reason::NotShown;
