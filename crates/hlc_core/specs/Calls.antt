@@ -1,6 +1,6 @@
 -- What each call of a core does, for one past that the core stood for.
 use Rattle.std.specs.Prelude.{map, Contains, ◌↔◌, ◌≡◌, ℕ, ◌<◌, ◌≤◌, ◌+◌, ◌⊎◌, List, [], ◌∷◌, ◌==◌, ◌||◌, nat_lt, Option, Some, None, if◌then◌else◌, Result, Ok, Err, MatchResult, ⊤}
-use Rattle.std.specs.List.Sorted.{IsStrictlySortedBy}
+use Rattle.std.specs.List.Sorted.{IsPermutation, IsStrictlySortedBy}
 use Rattle.std.specs.Cmp.Lexicographic.{slice_cmp}
 use Rattle.std.specs.Ordering.{nat_cmp}
 use Rattle.hlc_node.specs.Rows.{answer}
@@ -14,7 +14,11 @@ use Rattle.hlc_core.specs.declared.fault.NoNode.{NoNode as NoSuchNode}
 use Rattle.hlc_snapshot.specs.declared.fault.NoSnapshot.{NoSnapshot as NoSuchSnapshot}
 use Rattle.hlc_core.specs.declared.listing.Pair.{Pair}
 use Rattle.hlc_floor.specs.Heads.{Acceptance}
-use Rattle.hlc_core.specs.Past.{Step, Took, Opened, Closed, count, floor, opened, stamp_of, writes, item_refusal, room_refusal, open_refusal}
+use Rattle.hlc_witness.specs.Vacuumed.{rows_to}
+use Rattle.hlc_witness.specs.Certificate.{RowsAscend}
+use Rattle.hlc_vacuum.specs.declared.report.Report.{Report as AReport}
+use Rattle.hlc_core.specs.Past.{Step, Took, Opened, Closed, Vacuumed, count, floor, opened, stamp_of, writes, item_refusal, room_refusal, open_refusal}
+use Rattle.hlc_core.specs.Stored.{IsReport, LeavesFewest}
 use Rattle.hlc_core.specs.Kept.{Kept, nodes, StandsFor}
 
 -- the call refused with the first reason that holds; or with want of memory, where there is none and the call may want it
@@ -85,3 +89,15 @@ list_refusal (Some stamp) = None
 abbrev pub Lists : ℕ → List Step → Result (List Pair) CoreFault → Type 0
 Lists id past (Ok listing) = IsListed (stamp_of id past) (writes past) listing
 Lists id past (Err fault) = IsRefusal (list_refusal (stamp_of id past)) ⊤ fault
+
+-- the rows at or below a stamp, by key, stamp and node
+pub record AreRowsTo (rows : List Row) (bound : ℕ) (listed : List Row) : Type 0 where
+  pub same : IsPermutation (rows_to bound rows) listed
+  pub ascend : RowsAscend listed
+
+-- a vacuum took place: the core stands for it, the report is the due one, and what is left are the fewest rows against all accepted
+-- writes
+pub record Vacuums (old new : Kept) (past : List Step) (report : AReport) : Type 0 where
+  pub stands : StandsFor new (Vacuumed ∷ past)
+  pub due : IsReport (nodes old) past report
+  pub fewest : LeavesFewest new.rows (writes past) report

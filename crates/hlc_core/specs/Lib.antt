@@ -1,6 +1,7 @@
 pub mod Listing
 pub mod Past
 pub mod PastLaws
+pub mod Stored
 pub mod Kept
 pub mod Calls
 pub mod ListingLaws

@@ -15,11 +15,13 @@ use Rattle.hlc_snapshot.specs.declared.fault.SnapshotFault.TheVariants as snapsh
 use Rattle.hlc_snapshot.specs.Register.{stamp_in, without, room_refusal as room_in}
 use Rattle.hlc_core.specs.declared.fault.CoreFault.TheVariants.{NoNode, NotNext, StampNotRising, AboveFloor, BelowHorizon, TooManySnapshots, BadBody, NumbersSpent, NoMemory}
 
--- an event that took place: an item was accepted; a snapshot was opened at a stamp; the snapshot of an id was closed
+-- an event that took place: an item was accepted; a snapshot was opened at a stamp; the snapshot of an id was closed; rows were
+-- vacuumed at the floor
 pub data Step : Type 0 where
   Took : Item → Step
   Opened : ℕ → Step
   Closed : ℕ → Step
+  Vacuumed : Step
 
 -- Below, a past is the list of the steps that took place, the last one first. Refused calls and reads are no steps.
 
@@ -45,9 +47,11 @@ least f (suc (suc n)) = min (f (suc n)) (least f (suc n))
 abbrev pub floor : ℕ → List Step → ℕ
 floor nodes past = least (λ n. head n past) nodes
 
--- the floor of the last vacuum, 0 before the first; there is none yet
-abbrev pub horizon : List Step → ℕ
-horizon past = 0
+-- the floor of the last vacuum, 0 before the first
+abbrev pub horizon : ℕ → List Step → ℕ
+horizon nodes [] = 0
+horizon nodes (Vacuumed ∷ past) = floor nodes past
+horizon nodes (_ ∷ past) = horizon nodes past
 
 -- the row of what an item of this node and stamp says
 abbrev pub body_rows : ℕ → ℕ → Body → List Row
@@ -129,7 +133,7 @@ open_after top bottom room stamp =
 
 -- the first reason to open no snapshot at a stamp, memory aside
 abbrev pub open_refusal : ℕ → List Step → ℕ → Option CoreFault
-open_refusal nodes past stamp = open_after (floor nodes past) (horizon past) (room_refusal past) stamp
+open_refusal nodes past stamp = open_after (floor nodes past) (horizon nodes past) (room_refusal past) stamp
 
 -- no step was due a refusal
 abbrev pub IsLegal : ℕ → List Step → Type 0
@@ -137,3 +141,4 @@ IsLegal nodes [] = ⊤
 IsLegal nodes (Took item ∷ past) = (item_refusal nodes past item ≡ None) × IsLegal nodes past
 IsLegal nodes (Opened stamp ∷ past) = (open_refusal nodes past stamp ≡ None) × IsLegal nodes past
 IsLegal nodes (Closed id ∷ past) = (stamp_of id past ≢ None) × IsLegal nodes past
+IsLegal nodes (Vacuumed ∷ past) = IsLegal nodes past

@@ -9,13 +9,16 @@ mod list;
 mod listing;
 mod opening;
 mod rows;
+mod sorted;
 mod store;
 
 pub use fault::{CoreFault, NoNode};
 pub use hlc_clock::Stamp;
 pub use hlc_floor::Accepted;
 pub use hlc_node::{Body, BodyFault, Bytes, Item, Row};
-pub use hlc_snapshot::NoSnapshot;
+pub use hlc_snapshot::{NoMemory, NoSnapshot};
+pub use hlc_vacuum::{Points, Report, Witnesses};
+pub use hlc_witness::Witness;
 pub use laws::{
     accepted_writes_are_a_row_set, floor_is_the_least_head, later_items_are_above_the_floor,
     open_snapshots_are_at_most_the_floor, there_is_one_listing,

@@ -1,20 +1,26 @@
 //! The store and its calls.
-ghost use Rattle.std.specs.Prelude.{◌≡◌, IfOk, IfErr, OnErr, IsErr, IsOkAnd, MatchOption, option_copied, List};
+ghost use Rattle.std.specs.Prelude.{◌≡◌, IfOk, IfErr, OnErr, IsErr, IsOkAnd, MatchOption, option_copied, List, length};
 ghost use Rattle.hlc_node.specs.Rows.{answer};
 ghost use Rattle.hlc_core.specs.Past.{Step, floor, horizon, stamp_of, writes};
 ghost use Rattle.hlc_core.specs.Kept.{nodes, StandsFor};
-ghost use Rattle.hlc_core.specs.Calls.{Makes, Accepts, Checks, Counts, Opens, OpensAtFloor, Closes, Lists};
+ghost use Rattle.hlc_core.specs.Stored.{IsStoredCount};
+ghost use Rattle.hlc_core.specs.Calls.{Makes, Accepts, Checks, Counts, Opens, OpensAtFloor, Closes, Lists, Vacuums, AreRowsTo};
 
 use crate::fault::{CoreFault, NoNode};
 use crate::list::listing_at;
 use crate::listing::Listing;
 use crate::opening::of_registry;
+use crate::sorted::sorted_rows_to;
 use crate::{link, rows};
 use hlc_clock::Stamp;
 use hlc_floor::{Accepted, Heads, HeadsFault};
 use hlc_link::Intake;
 use hlc_node::{Item, Row};
-use hlc_snapshot::{NoSnapshot, Registry};
+use hlc_snapshot::{NoMemory, NoSnapshot, Registry};
+use hlc_vacuum::{Report, apply_rows, plan_rows};
+use hlc_witness::{
+    opens_keep_standing, rows_above_are_counted, vacuums_are_certified, vacuums_compose, writes_keep_standing,
+};
 use std::alloc::Global;
 use std::marker::Model;
 
@@ -29,17 +35,18 @@ pub struct Core {
     heads: Heads,
     alloc: Global,
     registry: Registry,
+    horizon: Stamp,
     rows: Vec<Row>,
 }
 
 impl Model for Core {
-    ghost use Rattle.hlc_core.specs.Kept.{Kept, IsMatched};
+    ghost use Rattle.hlc_core.specs.Kept.{Kept, IsMatched, IsHeld};
 
     ghost Value = { Kept };
 
-    ghost view = { λ core. record { links = core.intakes.items; snapshots = core.registry.snapshots; opened = core.registry.opened; rows = core.rows.items } };
+    ghost view = { λ core. record { links = core.intakes.items; snapshots = core.registry.snapshots; opened = core.registry.opened; horizon = core.horizon; rows = core.rows.items } };
 
-    ghost invariant = { λ core. IsMatched core.intakes.items core.heads };
+    ghost invariant = { λ core. IsMatched core.intakes.items core.heads × IsHeld core.heads core.registry.snapshots core.rows.items };
 }
 
 impl Core {
@@ -60,6 +67,7 @@ impl Core {
             heads,
             alloc,
             registry: Registry::new(alloc),
+            horizon: Stamp::from_bits(0),
             rows: Vec::new(alloc),
         })
     }
@@ -75,6 +83,8 @@ impl Core {
         ensures err { IfErr result (λ refused. (refused.1 ≡ item) × (self.new ≡ self.old)) }
         ensures nodes { nodes self.new ≡ nodes self.old }
     {
+        // What the proof cites.
+        writes_keep_standing();
         let intake = match link::admitted(self.intakes.as_slice(), &item) {
             Ok(intake) => intake,
             Err(fault) => return Err((fault, item)),
@@ -115,11 +125,11 @@ impl Core {
         self.heads.floor()
     }
 
-    /// The floor of the last vacuum, 0.0 before the first. There is none yet.
+    /// The floor of the last vacuum, 0.0 before the first.
     pub fn horizon(&self) -> Stamp
-        ensures { (past : List Step) → StandsFor self.now past → result ≡ horizon past }
+        ensures { (past : List Step) → StandsFor self.now past → result ≡ horizon (nodes self.now) past }
     {
-        Stamp::from_bits(0)
+        self.horizon
     }
 
     /// Opens a snapshot at a stamp from the horizon to the floor, and gives its id. Ids are 1, 2, 3
@@ -132,6 +142,8 @@ impl Core {
         ensures err { OnErr result (self.new ≡ self.old) }
         ensures nodes { nodes self.new ≡ nodes self.old }
     {
+        // What the proof cites.
+        opens_keep_standing();
         let floor = self.floor();
         if stamp > floor {
             return Err(CoreFault::AboveFloor { floor });
@@ -154,6 +166,8 @@ impl Core {
         ensures err { OnErr result (self.new ≡ self.old) }
         ensures nodes { nodes self.new ≡ nodes self.old }
     {
+        // What the proof cites.
+        opens_keep_standing();
         let stamp = self.floor();
         match self.registry.open(stamp) {
             Ok(id) => Ok((id, stamp)),
@@ -199,6 +213,47 @@ impl Core {
         match listing_at(self.alloc, self.rows.as_slice(), stamp) {
             Ok(listing) => Ok(listing),
             Err(_) => Err(CoreFault::NoMemory),
+        }
+    }
+
+    /// Drops all rows at or below the floor but for the fewest that answer as all accepted writes do
+    /// at each open snapshot and at the floor, and reports what it did. The horizon is the floor
+    /// from now on. All memory that it wants is taken before anything changes.
+    pub fn vacuum(&mut self) -> Result<Report, NoMemory>
+        ensures ok { IfOk result (λ report. (past : List Step) → StandsFor self.old past → Vacuums self.old self.new past report) }
+        ensures err { OnErr result (self.new ≡ self.old) }
+        ensures nodes { nodes self.new ≡ nodes self.old }
+    {
+        // What the proof cites.
+        vacuums_compose();
+        vacuums_are_certified();
+        rows_above_are_counted();
+        let floor = self.heads.floor();
+        let points = self.registry.points(floor)?;
+        let Ok(plan) = plan_rows(self.alloc, self.rows.as_slice(), points.as_slice()) else {
+            return Err(NoMemory);
+        };
+        let report = apply_rows(&mut self.rows, plan);
+        self.horizon = floor;
+        Ok(report)
+    }
+
+    /// How many rows are stored. It takes no memory.
+    pub fn rows(&self) -> u64
+        ensures count { result ≡ length self.now.rows }
+        ensures stored { (past : List Step) → StandsFor self.now past → IsStoredCount (nodes self.now) past result }
+    {
+        self.rows.len() as u64
+    }
+
+    /// The stored rows at or below a stamp, by key, stamp and node, as copies. After a vacuum, those
+    /// up to its floor are certified by its report.
+    pub fn rows_to(&self, bound: Stamp) -> Result<Vec<Row>, NoMemory>
+        ensures { IfOk result (λ rows. AreRowsTo self.now.rows bound rows.items) }
+    {
+        match sorted_rows_to(self.alloc, self.rows.as_slice(), bound) {
+            Ok(rows) => Ok(rows),
+            Err(_) => Err(NoMemory),
         }
     }
 }

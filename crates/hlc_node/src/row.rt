@@ -1,6 +1,9 @@
 //! What a table stores of a write.
+ghost use Rattle.std.specs.Prelude.{◌≡◌};
+
 use crate::bytes::Bytes;
 use hlc_clock::Stamp;
+use std::alloc::AllocError;
 
 /// A version of a key.
 #[derive(PartialEq, Eq, Debug, Drop)]
@@ -11,4 +14,22 @@ pub struct Row {
     pub node: u16,
     /// The value, or none for a deletion mark.
     pub value: Option<Bytes>,
+}
+
+impl Clone for Row {
+    ghost is_clone = { λ row copy. copy ≡ row };
+
+    fn clone(&self) -> Result<Row, AllocError> {
+        let key = self.key.clone()?;
+        let value = match &self.value {
+            None => None,
+            Some(bytes) => Some(bytes.clone()?),
+        };
+        Ok(Row {
+            key,
+            stamp: self.stamp,
+            node: self.node,
+            value,
+        })
+    }
 }

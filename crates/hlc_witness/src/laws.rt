@@ -110,7 +110,7 @@ pub fn vacuums_compose()
 /// Rows that stand for all with the floor as the horizon, and are as many as the changes and the rows
 /// above the floor, are just after a vacuum: those at or below the floor are the fewest.
 pub fn standing_rows_are_fewest()
-    ensures { (stored all : List ARow) (floor : ℕ) (opened points : List ℕ) (changes : List AWitness) → RowsStandFor stored all floor opened → PointsAscend points → ((point : ℕ) → Contains points point ↔ (Contains opened point ⊎ (point ≡ floor))) → ((stamp : ℕ) → Contains opened stamp → stamp ≤ floor) → AreChanges all points changes → length stored ≡ length changes + count_above floor all → StandsAfterVacuum stored all floor opened points changes }
+    ensures { (stored all : List ARow) (floor : ℕ) (opened points : List ℕ) (changes : List AWitness) → RowsStandFor stored all floor opened → ((point : ℕ) → Contains points point ↔ (Contains opened point ⊎ (point ≡ floor))) → ((stamp : ℕ) → Contains opened stamp → stamp ≤ floor) → AreChanges all points changes → length stored ≡ length changes + count_above floor all → StandsAfterVacuum stored all floor opened points changes }
 {
     newest_is_greatest();
     no_newest_no_row();
