@@ -1,22 +1,33 @@
 -- A core goes on standing for what took place: each part that is kept follows the step as its definition does.
 use Rattle.std.proofs.Common.{◌≡◌, ℕ, zero, suc, ◌+◌, ◌<◌, ◌≤◌, List, [], ◌∷◌, ◌++◌, length, map, get_or, Some, None, Option, Ok, Err, Result, refl, ap, sym, ◌∙◌, subst, inl, inr, arith, length-set, get_or-set_other, replicate}
 use Rattle.std.proofs.lemmas.Grind.{get_or-set_at, get_or_default_zero}
-use Rattle.std.specs.Prelude.{⊤, ◌==◌, slice_get, slice_set, MatchOption, MatchResult}
+use Rattle.std.specs.Prelude.{⊤, ◌==◌, not, Contains, IfOk, OnErr, slice_get, slice_set, MatchOption, MatchResult}
 use Rattle.std.proofs.lemmas.Option.{slice_get-get_or, slice_get_past}
-use Rattle.std.proofs.lemmas.Bool.{cond-true, cond-false, eq-eqb, ne_eqb, le-leb, le-ltb, or_from, cases_lt, cases_eq}
-use Rattle.std.proofs.lemmas.List.{get_or-map, length-map, map-set}
-use Rattle.std.proofs.lemmas.List.Elements.{Contains-get_or}
+use Rattle.std.proofs.lemmas.Bool.{cond-true, cond-false, eq-eqb, ne_eqb, le-leb, le-ltb, or_from, cases_lt, cases_eq, cases_Bool}
+use Rattle.std.proofs.lemmas.List.{get_or-map, length-map, map-set, map-append, append-nil}
+use Rattle.std.proofs.lemmas.List.Elements.{Contains-get_or, All-weaker, All-contains_itself}
+use Rattle.hlc_node.specs.declared.row.Row.{Row}
 use Rattle.hlc_node.specs.declared.item.Item.{Item}
+use Rattle.hlc_node.specs.declared.item.Body.{Body}
+use Rattle.hlc_node.specs.declared.item.Body.TheVariants.{Write, Report}
+use Rattle.hlc_node.specs.Rows.{answer, IsRowSet}
 use Rattle.hlc_link.specs.Progress.{Progress}
 use Rattle.hlc_floor.specs.Heads.{IsFloor}
 use Rattle.hlc_core.specs.declared.fault.CoreFault.{CoreFault}
 use Rattle.hlc_core.specs.declared.fault.CoreFault.TheVariants.{NoNode}
-use Rattle.hlc_core.specs.Past.{Step, Took, Opened, Closed, count, head, floor, item_rows, open_snapshots, link_refusal, item_refusal, of_registry, of_room, room_refusal, open_refusal, stamp_of, IsLegal}
+use Rattle.hlc_core.specs.Past.{Step, Took, Opened, Closed, count, head, floor, horizon, opened, writes, body_rows, item_rows, open_snapshots, link_refusal, item_refusal, of_registry, of_room, room_refusal, open_refusal, stamp_of, IsLegal}
+use Rattle.hlc_core.specs.Stored.{IsStoredCount}
 use Rattle.hlc_core.specs.Kept.{Kept, nodes, IsMatched, StandsFor}
 use Rattle.hlc_snapshot.specs.declared.fault.SnapshotFault.{SnapshotFault}
-use Rattle.hlc_snapshot.specs.Register.{stamp_in, without, room_refusal as room_in, IsRefusal as IsRoomRefusal}
-use Rattle.hlc_core.specs.Calls.{new_refusal, IsRefusal}
-use Rattle.hlc_core.specs.PastLaws.{admissible, on_link, inside, least-some, least-le}
+use Rattle.hlc_snapshot.specs.declared.snapshot.Snapshot.{Snapshot}
+use Rattle.hlc_witness.specs.Standing.{RowsStandFor, count_above}
+use Rattle.hlc_snapshot.specs.RegisterLaws.{stamp_in-all}
+use Rattle.hlc_snapshot.specs.declared.fault.NoSnapshot.{NoSnapshot}
+use Rattle.hlc_core.specs.declared.listing.Pair.{Pair}
+use Rattle.hlc_core.proofs.Keys.{in_map}
+use Rattle.hlc_snapshot.specs.Register.{Register, closed, stamps, stamp_in, without, room_refusal as room_in, IsRefusal as IsRoomRefusal}
+use Rattle.hlc_core.specs.Calls.{new_refusal, IsRefusal, IsListing, Closes}
+use Rattle.hlc_core.specs.PastLaws.{admissible, on_link, inside, least-some, least-le, above-horizon, open-above, writes-row_set, contained-cases, contained-first, contained-rest}
 
 abbrev a_link : ℕ → ℕ → Progress
 a_link next head = record { next = next; head = head }
@@ -124,21 +135,44 @@ with_item kept item = record {
   links = slice_set kept.links item.node (a_link (item.number + 1) item.stamp);
   snapshots = kept.snapshots;
   opened = kept.opened;
+  horizon = kept.horizon;
   rows = kept.rows ++ item_rows item;
 }
 
+-- a row that is written above the horizon is stored with the others, and counts as one more
+abbrev pub WritesStand : Type 0
+WritesStand = (stored all : List Row) (horizon : ℕ) (opened : List ℕ) (row : Row) → RowsStandFor stored all horizon opened → horizon < row.stamp → IsRowSet (all ++ row ∷ []) → RowsStandFor (stored ++ row ∷ []) (all ++ row ∷ []) horizon opened
+
+abbrev pub WritesCount : Type 0
+WritesCount = (stored all : List Row) (horizon changes : ℕ) (row : Row) → length stored ≡ changes + count_above horizon all → horizon < row.stamp → length (stored ++ row ∷ []) ≡ changes + count_above horizon (all ++ row ∷ [])
+
+-- and so is the row of an item, if it has one
+rows-body : WritesStand → (stored all : List Row) (horizon : ℕ) (opened : List ℕ) (node stamp : ℕ) (body : Body) → RowsStandFor stored all horizon opened → horizon < stamp → IsRowSet (all ++ body_rows node stamp body) → RowsStandFor (stored ++ body_rows node stamp body) (all ++ body_rows node stamp body) horizon opened
+rows-body law stored all horizon opened node stamp Report stand up apart = rw (append-nil, append-nil) stand
+rows-body law stored all horizon opened node stamp (Write key value) stand up apart = law stored all horizon opened (record { key = key; stamp = stamp; node = node; value = value }) stand up apart
+
+count-body : WritesCount → (stored all : List Row) (horizon changes : ℕ) (node stamp : ℕ) (body : Body) → length stored ≡ changes + count_above horizon all → horizon < stamp → length (stored ++ body_rows node stamp body) ≡ changes + count_above horizon (all ++ body_rows node stamp body)
+count-body law stored all horizon changes node stamp Report is up = rw (append-nil, append-nil) is
+count-body law stored all horizon changes node stamp (Write key value) is up = law stored all horizon changes (record { key = key; stamp = stamp; node = node; value = value }) is up
+
 -- an item that nothing refuses is taken
-pub took : (kept : Kept) (past : List Step) (item : Item) → StandsFor kept past → item_refusal (nodes kept) past item ≡ None → StandsFor (with_item kept item) (Took item ∷ past)
-took kept past item h none =
+pub took : WritesStand → WritesCount → (kept : Kept) (past : List Step) (item : Item) → StandsFor kept past → item_refusal (nodes kept) past item ≡ None → StandsFor (with_item kept item) (Took item ∷ past)
+took stand count' kept past item h none =
     let within : item.node < nodes kept = inside (nodes kept) past item none in
     let next : item.number ≡ count item.node past = (admissible (count item.node past) (head item.node past) item (sym (on_link (nodes kept) past item within) ∙ none)).number in
     let same : nodes (with_item kept item) ≡ nodes kept = length-set kept.links item.node (a_link (item.number + 1) item.stamp) in
+    let legal : IsLegal (nodes kept) (Took item ∷ past) = (none, h.legal) in
+    let up : horizon (nodes kept) past < item.stamp = above-horizon (nodes kept) past item h.legal none in
+    let rows : RowsStandFor (kept.rows ++ item_rows item) (writes past ++ item_rows item) (horizon (nodes kept) past) (stamps (open_snapshots past)) = rows-body stand kept.rows (writes past) (horizon (nodes kept) past) (stamps (open_snapshots past)) item.node item.stamp item.body h.rows up (writes-row_set (nodes kept) (Took item ∷ past) legal) in
+    let stored : IsStoredCount (nodes kept) (Took item ∷ past) (length (kept.rows ++ item_rows item)) = (h.stored.0, h.stored.1, count-body count' kept.rows (writes past) (horizon (nodes kept) past) (length h.stored.0) item.node item.stamp item.body h.stored.2 up) in
     record {
-      legal = subst (λ n. IsLegal n (Took item ∷ past)) (sym same) (none, h.legal);
+      legal = subst (λ n. IsLegal n (Took item ∷ past)) (sym same) legal;
       links = λ n lt. links-took kept.links past item item.number next within h.links n (rw same at lt);
       snapshots = h.snapshots;
       opened = h.opened;
-      rows = ap (λ rows. rows ++ item_rows item) h.rows;
+      rows = subst (λ n. RowsStandFor (kept.rows ++ item_rows item) (writes past ++ item_rows item) (horizon n past) (stamps (open_snapshots past))) (sym same) rows;
+      stored = subst (λ n. IsStoredCount n (Took item ∷ past) (length (kept.rows ++ item_rows item))) (sym same) stored;
+      horizon = h.horizon ∙ ap (λ n. horizon n past) (sym same);
     }
 
 -- the least of the kept heads is the floor of the past
@@ -176,22 +210,54 @@ with_snapshot kept stamp = record {
   links = kept.links;
   snapshots = kept.snapshots ++ record { id = kept.opened + 1; stamp = stamp } ∷ [];
   opened = kept.opened + 1;
+  horizon = kept.horizon;
   rows = kept.rows;
 }
 
+-- a snapshot that opens at or above the horizon is told the same
+abbrev pub OpensStand : Type 0
+OpensStand = (stored all : List Row) (horizon stamp : ℕ) (opened : List ℕ) → RowsStandFor stored all horizon opened → horizon ≤ stamp → RowsStandFor stored all horizon (opened ++ stamp ∷ [])
+
 -- a snapshot that nothing refuses is opened
-pub opens : (kept : Kept) (past : List Step) (stamp : ℕ) → StandsFor kept past → open_refusal (nodes kept) past stamp ≡ None → StandsFor (with_snapshot kept stamp) (Opened stamp ∷ past)
-opens kept past stamp h none =
+pub opens : OpensStand → (kept : Kept) (past : List Step) (stamp : ℕ) → StandsFor kept past → open_refusal (nodes kept) past stamp ≡ None → StandsFor (with_snapshot kept stamp) (Opened stamp ∷ past)
+opens stand kept past stamp h none =
     record {
       legal = (none, h.legal);
       links = h.links;
       snapshots = ap (λ xs. xs ++ record { id = kept.opened + 1; stamp = stamp } ∷ []) h.snapshots ∙ ap (λ n. open_snapshots past ++ record { id = n + 1; stamp = stamp } ∷ []) h.opened;
       opened = ap (λ n. n + 1) h.opened;
-      rows = h.rows;
+      rows = subst (λ opened. RowsStandFor kept.rows (writes past) (horizon (nodes kept) past) opened)
+          (sym (map-append (λ (snapshot : Snapshot). snapshot.stamp) (open_snapshots past) (record { id = opened past + 1; stamp = stamp } ∷ [])))
+          (stand kept.rows (writes past) (horizon (nodes kept) past) stamp (stamps (open_snapshots past)) h.rows (open-above (nodes kept) past stamp none));
+      stored = h.stored;
+      horizon = h.horizon;
     }
 
 abbrev pub less_snapshot : Kept → ℕ → Kept
-less_snapshot kept id = record { links = kept.links; snapshots = without id kept.snapshots; opened = kept.opened; rows = kept.rows }
+less_snapshot kept id = record { links = kept.links; snapshots = without id kept.snapshots; opened = kept.opened; horizon = kept.horizon; rows = kept.rows }
+
+-- the stamps that are still open were open
+still-open : (id stamp : ℕ) (xs : List Snapshot) → Contains (stamps (without id xs)) stamp → Contains (stamps xs) stamp
+still-open id stamp [] m = m
+still-open id stamp (x ∷ xs) m =
+    elim (cases_Bool (not (x.id == id))) [
+      | inl kept ↦
+          elim (contained-cases x.stamp (stamps (without id xs)) stamp (subst (λ ys. Contains (stamps ys) stamp) (cond-true _ _ _ kept) m)) [
+            | inl here ↦ subst (λ k. Contains (stamps (x ∷ xs)) k) here (contained-first x.stamp (stamps xs))
+            | inr rest ↦ contained-rest x.stamp (stamps xs) stamp (still-open id stamp xs rest)
+          ]
+      | inr gone ↦ contained-rest x.stamp (stamps xs) stamp (still-open id stamp xs (subst (λ ys. Contains (stamps ys) stamp) (cond-false _ _ _ gone) m))
+    ]
+
+fewer-open : (stored all : List Row) (horizon : ℕ) (opened fewer : List ℕ) → RowsStandFor stored all horizon opened → ((stamp : ℕ) → Contains fewer stamp → Contains opened stamp) → RowsStandFor stored all horizon fewer
+fewer-open stored all horizon opened fewer stand still = record {
+  row_set = stand.row_set;
+  all_row_set = stand.all_row_set;
+  within = stand.within;
+  above = stand.above;
+  at_open = λ key stamp m. stand.at_open key stamp (still stamp m);
+  from_horizon = stand.from_horizon;
+}
 
 -- an open one is closed
 pub closes : (kept : Kept) (past : List Step) (id stamp : ℕ) → StandsFor kept past → stamp_in id kept.snapshots ≡ Some stamp → (stamp_of id past ≡ Some stamp) × StandsFor (less_snapshot kept id) (Closed id ∷ past)
@@ -203,12 +269,14 @@ closes kept past id stamp h there =
         links = h.links;
         snapshots = ap (without id) h.snapshots;
         opened = h.opened;
-        rows = h.rows;
+        rows = fewer-open kept.rows (writes past) (horizon (nodes kept) past) (stamps (open_snapshots past)) (stamps (without id (open_snapshots past))) h.rows (λ stamp m. still-open id stamp (open_snapshots past) m);
+        stored = h.stored;
+        horizon = h.horizon;
       },
     )
 
 abbrev pub new_core : ℕ → Kept
-new_core many = record { links = replicate many (a_link 0 0); snapshots = []; opened = 0; rows = [] }
+new_core many = record { links = replicate many (a_link 0 0); snapshots = []; opened = 0; horizon = 0; rows = [] }
 
 get-replicate : (count k : ℕ) (link : Progress) → k < count → slice_get (replicate count link) k ≡ Some link
 get-replicate zero k link lt = absurd (omega arith)
@@ -239,10 +307,39 @@ starts many =
         links = λ n lt. get-replicate many n (a_link 0 0) (omega arith);
         snapshots = refl;
         opened = refl;
-        rows = refl;
+        rows = record { row_set = tt; all_row_set = tt; within = λ row m. m; above = λ row m up. m; at_open = λ key stamp m. refl; from_horizon = λ key stamp le. refl };
+        stored = ([], refl, refl);
+        horizon = refl;
       },
     )
 
 -- no core of 1 to 64 nodes is refused
 pub new_refusal-none : (many : ℕ) → 0 < many → many ≤ 64 → new_refusal many ≡ None
 new_refusal-none many some few = cond-false _ _ _ (or_from _ _ (ne_eqb many 0 (λ e. omega arith)) (le-ltb 64 many few))
+
+-- what is open is one of the open stamps, so the rows answer there as all accepted writes do
+pub told-alike : (kept : Kept) (past : List Step) (id stamp : ℕ) → StandsFor kept past → stamp_in id kept.snapshots ≡ Some stamp → (key : List ℕ) → answer kept.rows key stamp ≡ answer (writes past) key stamp
+told-alike kept past id stamp h there key =
+    h.rows.at_open key stamp
+    (stamp_in-all (λ stamp. Contains (stamps (open_snapshots past)) stamp) id stamp (open_snapshots past)
+    (All-weaker (Contains (open_snapshots past)) (λ snapshot. Contains (stamps (open_snapshots past)) snapshot.stamp) (λ snapshot m. in_map (λ (x : Snapshot). x.stamp) (open_snapshots past) snapshot m) (open_snapshots past) (All-contains_itself (open_snapshots past)))
+    (ap (stamp_in id) (sym h.snapshots) ∙ there))
+
+-- and list the same
+pub lists-alike : (rows others : List Row) (stamp : ℕ) (listing : List Pair) → ((key : List ℕ) → answer rows key stamp ≡ answer others key stamp) → IsListing rows stamp listing → IsListing others stamp listing
+lists-alike rows others stamp listing alike is = record {
+  ascending = is.ascending;
+  exact = λ key value. (λ m. sym (alike key) ∙ (is.exact key value).0 m, λ e. (is.exact key value).1 (alike key ∙ e));
+}
+
+-- the core with this register
+abbrev pub with_register : Kept → Register → Kept
+with_register kept register = record { links = kept.links; snapshots = register.snapshots; opened = register.opened; horizon = kept.horizon; rows = kept.rows }
+
+abbrev pub register_of : Kept → Register
+register_of kept = record { snapshots = kept.snapshots; opened = kept.opened }
+
+-- what the registry answers to a closing is what the core answers
+pub closes-result : (kept : Kept) (past : List Step) (id : ℕ) (new : Register) (result : Result ℕ NoSnapshot) → StandsFor kept past → IfOk result (λ stamp. (stamp_in id kept.snapshots ≡ Some stamp) × (new ≡ closed id (register_of kept))) → OnErr result ((stamp_in id kept.snapshots ≡ None) × (new ≡ register_of kept)) → Closes (with_register kept new) id past result
+closes-result kept past id new (Ok stamp) h ok err = subst (λ register. Closes (with_register kept register) id past (Ok stamp)) (sym ok.1) (closes kept past id stamp h ok.0)
+closes-result kept past id new (Err fault) h ok err = ap (stamp_in id) (sym h.snapshots) ∙ err.0

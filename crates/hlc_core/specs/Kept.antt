@@ -21,6 +21,10 @@ pub record Kept : Type 0 where
 abbrev pub nodes : Kept → ℕ
 nodes kept = length kept.links
 
+-- with these rows left, at this horizon
+abbrev pub vacuumed : Kept → List Row → ℕ → Kept
+vacuumed kept rows horizon = record { links = kept.links; snapshots = kept.snapshots; opened = kept.opened; horizon = horizon; rows = rows }
+
 -- there are 1 to 64 links, and the heads are theirs
 pub record IsMatched (links : List Progress) (heads : List ℕ) : Type 0 where
   pub some : 0 < length links

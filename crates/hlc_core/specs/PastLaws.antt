@@ -8,9 +8,9 @@ use Rattle.hlc_node.specs.declared.row.Row.{Row}
 use Rattle.hlc_node.specs.declared.item.Item.{Item}
 use Rattle.hlc_node.specs.declared.item.Body.{Body}
 use Rattle.hlc_node.specs.declared.item.Body.TheVariants.{Write, Report}
-use Rattle.hlc_core.specs.declared.fault.CoreFault.TheVariants.{NoNode, NotNext, StampNotRising, AboveFloor, NumbersSpent}
+use Rattle.hlc_core.specs.declared.fault.CoreFault.TheVariants.{NoNode, NotNext, StampNotRising, AboveFloor, BelowHorizon, NumbersSpent}
 use Rattle.hlc_node.specs.Rows.{IsSameVersion, IsRowSet}
-use Rattle.hlc_core.specs.Past.{Step, Took, Opened, Closed, count, head, floor, least, open_snapshots, room_refusal, open_refusal, body_rows, item_rows, writes, link_refusal, item_refusal, IsLegal}
+use Rattle.hlc_core.specs.Past.{Step, Took, Opened, Closed, Vacuumed, count, head, floor, horizon, least, open_snapshots, room_refusal, open_refusal, body_rows, item_rows, writes, link_refusal, item_refusal, IsLegal}
 
 -- what it says of an item that nothing refuses it
 pub record IsAdmissible (next last : ℕ) (item : Item) : Type 0 where
@@ -96,7 +96,7 @@ pub contained-rest : {X : Type 0} (x : X) (xs : List X) (y : X) → Contains xs 
 contained-rest x xs y (k, lt, e) = (suc k, omega arith, e)
 
 -- the row of an item has its node and its stamp
-body_rows-are : (node stamp : ℕ) (body : Body) (row : Row) → Contains (body_rows node stamp body) row → (row.node ≡ node) × (row.stamp ≡ stamp)
+pub body_rows-are : (node stamp : ℕ) (body : Body) (row : Row) → Contains (body_rows node stamp body) row → (row.node ≡ node) × (row.stamp ≡ stamp)
 body_rows-are node stamp Report row m = absurd (none-contained row m)
 body_rows-are node stamp (Write key value) row m =
     elim (contained-cases (record { key = key; stamp = stamp; node = node; value = value }) [] row m) [
@@ -126,6 +126,7 @@ below_head : (nodes : ℕ) (past : List Step) → IsLegal nodes past → (row : 
 below_head nodes [] legal row m = absurd (none-contained row m)
 below_head nodes (Opened stamp ∷ past) legal row m = below_head nodes past legal.1 row m
 below_head nodes (Closed id ∷ past) legal row m = below_head nodes past legal.1 row m
+below_head nodes (Vacuumed ∷ past) legal row m = below_head nodes past legal row m
 below_head nodes (Took item ∷ past) legal row m =
     let up : head item.node past < item.stamp = rises nodes past item legal.0 in
     elim (Contains-append_cases (writes past) (item_rows item) row m) [
@@ -161,7 +162,8 @@ row_set-push (first ∷ rows) row fresh set' = (
   row_set-push rows row (λ other m v. fresh other (contained-rest first rows other m) v) set'.1,
 )
 
-row_set-body : (node stamp : ℕ) (body : Body) (rows : List Row) → ((row other : Row) → Contains (body_rows node stamp body) row → Contains rows other → IsSameVersion other row → ⊥) → IsRowSet rows → IsRowSet (rows ++ body_rows node stamp body)
+-- the row of an item, if it is a write, is set behind others that are not its version
+pub row_set-body : (node stamp : ℕ) (body : Body) (rows : List Row) → ((row other : Row) → Contains (body_rows node stamp body) row → Contains rows other → IsSameVersion other row → ⊥) → IsRowSet rows → IsRowSet (rows ++ body_rows node stamp body)
 row_set-body node stamp Report rows fresh set' = rw append-nil set'
 row_set-body node stamp (Write key value) rows fresh set' =
     row_set-push rows _ (λ other m v. fresh _ other (contained-first _ []) m v) set'
@@ -171,6 +173,7 @@ pub writes-row_set : (nodes : ℕ) (past : List Step) → IsLegal nodes past →
 writes-row_set nodes [] legal = tt
 writes-row_set nodes (Opened stamp ∷ past) legal = writes-row_set nodes past legal.1
 writes-row_set nodes (Closed id ∷ past) legal = writes-row_set nodes past legal.1
+writes-row_set nodes (Vacuumed ∷ past) legal = writes-row_set nodes past legal
 writes-row_set nodes (Took item ∷ past) legal =
     row_set-body item.node item.stamp item.body (writes past) (new_version nodes past item legal.1 legal.0) (writes-row_set nodes past legal.1)
 
@@ -204,7 +207,34 @@ open-low nodes (Took item ∷ past) legal =
     All-weaker (λ snapshot. snapshot.stamp ≤ floor nodes past) (λ snapshot. snapshot.stamp ≤ floor nodes (Took item ∷ past)) (λ snapshot low. (let low' : snapshot.stamp ≤ floor nodes past = low in omega arith)) _ (open-low nodes past legal.1)
 open-low nodes (Opened stamp ∷ past) legal = All-push (λ snapshot. snapshot.stamp ≤ floor nodes past) _ _ (open-low nodes past legal.1) (open-below nodes past stamp legal.0)
 open-low nodes (Closed id ∷ past) legal = All-filter _ (λ snapshot. snapshot.stamp ≤ floor nodes past) _ (open-low nodes past legal.1)
+open-low nodes (Vacuumed ∷ past) legal = open-low nodes past legal
+
+-- nor below the horizon
+pub open-above : (nodes : ℕ) (past : List Step) (stamp : ℕ) → open_refusal nodes past stamp ≡ None → horizon nodes past ≤ stamp
+open-above nodes past stamp none =
+    elim (cases_lt stamp (horizon nodes past)) [
+      | inl low ↦
+          let low_floor : stamp ≤ floor nodes past = open-below nodes past stamp none in
+          absurd (let e : Some (BelowHorizon (horizon nodes past)) ≡ None = sym (cond-true _ _ _ (lt-ltb stamp (horizon nodes past) low)) ∙ sym (cond-false _ _ _ (le-ltb (floor nodes past) stamp low_floor)) ∙ none in cc)
+      | inr high ↦ high
+    ]
+
+-- the horizon is not above the floor
+pub horizon-low : (nodes : ℕ) (past : List Step) → IsLegal nodes past → horizon nodes past ≤ floor nodes past
+horizon-low nodes [] legal = omega arith
+horizon-low nodes (Took item ∷ past) legal =
+    let low : horizon nodes past ≤ floor nodes past = horizon-low nodes past legal.1 in
+    let up : floor nodes past ≤ floor nodes (Took item ∷ past) = floor-grows nodes past item legal.0 in omega arith
+horizon-low nodes (Opened stamp ∷ past) legal = horizon-low nodes past legal.1
+horizon-low nodes (Closed id ∷ past) legal = horizon-low nodes past legal.1
+horizon-low nodes (Vacuumed ∷ past) legal = omega arith
+
+-- what is accepted is above the horizon
+pub above-horizon : (nodes : ℕ) (past : List Step) (item : Item) → IsLegal nodes past → item_refusal nodes past item ≡ None → horizon nodes past < item.stamp
+above-horizon nodes past item legal none =
+    let low : horizon nodes past ≤ floor nodes past = horizon-low nodes past legal in
+    let up : floor nodes past < item.stamp = above_floor nodes past item none in omega arith
 
 -- a stamp that is neither above the floor nor below the horizon is refused for want of room alone
-pub open-room : (nodes : ℕ) (past : List Step) (stamp : ℕ) → stamp ≤ floor nodes past → open_refusal nodes past stamp ≡ room_refusal past
-open-room nodes past stamp low = cond-false _ _ _ (le-ltb (floor nodes past) stamp low) ∙ cond-false _ _ _ (le-ltb stamp 0 (omega arith))
+pub open-room : (nodes : ℕ) (past : List Step) (stamp : ℕ) → stamp ≤ floor nodes past → horizon nodes past ≤ stamp → open_refusal nodes past stamp ≡ room_refusal past
+open-room nodes past stamp low high = cond-false _ _ _ (le-ltb (floor nodes past) stamp low) ∙ cond-false _ _ _ (le-ltb stamp (horizon nodes past) high)

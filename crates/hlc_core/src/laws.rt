@@ -1,11 +1,21 @@
 //! What holds of every legal past.
-ghost use Rattle.std.specs.Prelude.{◌≡◌, ◌<◌, ◌≤◌, ℕ, List, None, All};
+ghost use Rattle.std.specs.Prelude.{◌≡◌, ◌+◌, ◌<◌, ◌≤◌, ℕ, List, ◌∷◌, None, All, length};
 ghost use Rattle.hlc_node.specs.Rows.{IsRowSet};
-ghost use Rattle.hlc_core.specs.Past.{Step, IsLegal, writes, head, floor, open_snapshots, item_refusal};
-ghost use Rattle.hlc_core.specs.Calls.{IsListing};
+ghost use Rattle.hlc_core.specs.Past.{Step, Vacuumed, IsLegal, writes, head, floor, open_snapshots, item_refusal};
+ghost use Rattle.hlc_witness.specs.Vacuumed.{Vacuumed as IsVacuumOf};
+ghost use Rattle.hlc_vacuum.specs.declared.report.Report.{Report as AReport};
+ghost use Rattle.hlc_core.specs.Stored.{AreVacuumPoints, IsReport, LeavesFewest};
+ghost use Rattle.hlc_core.specs.Kept.{Kept, nodes, vacuumed, StandsFor};
+ghost use Rattle.hlc_core.specs.Calls.{IsListing, Vacuums};
 ghost use Rattle.hlc_core.specs.declared.listing.Pair.{Pair as APair};
 ghost use Rattle.hlc_node.specs.declared.item.Item.{Item as AnItem};
 ghost use Rattle.hlc_node.specs.declared.row.Row.{Row as ARow};
+
+use hlc_snapshot::points_are_unique;
+use hlc_witness::{
+    changes_are_computed, rows_above_are_counted, standing_rows_are_fewest, vacuums_are_certified,
+    vacuums_compose,
+};
 
 /// No two accepted writes are alike in key, stamp and node, so a read has one answer.
 pub fn accepted_writes_are_a_row_set()
@@ -34,3 +44,26 @@ pub fn floor_is_the_least_head()
 pub fn there_is_one_listing()
     ensures { (rows : List ARow) (stamp : ℕ) (listing other : List APair) → IsListing rows stamp listing → IsListing rows stamp other → listing ≡ other }
 {}
+
+/// A vacuum of the stored rows at the points of the past keeps the core standing, reports what is
+/// due, and leaves the fewest.
+pub fn vacuums_keep_standing()
+    ensures { (kept : Kept) (past : List Step) (rows : List ARow) (report : AReport) → StandsFor kept past → AreVacuumPoints (nodes kept) past report.points → IsVacuumOf kept.rows report.points report.witnesses rows → report.floor ≡ floor (nodes kept) past → report.kept ≡ length report.witnesses → report.dropped + length rows ≡ length kept.rows → Vacuums kept (vacuumed kept rows (floor (nodes kept) past)) past report }
+{
+    points_are_unique();
+    changes_are_computed();
+    vacuums_compose();
+    standing_rows_are_fewest();
+    vacuums_are_certified();
+    rows_above_are_counted();
+}
+
+/// Just after a vacuum the rows at or below its floor are the fewest, against all accepted writes.
+pub fn vacuums_leave_the_fewest()
+    ensures { (kept : Kept) (past : List Step) (report : AReport) → StandsFor kept (Vacuumed ∷ past) → IsReport (nodes kept) past report → LeavesFewest kept.rows (writes past) report }
+{
+    points_are_unique();
+    changes_are_computed();
+    standing_rows_are_fewest();
+    vacuums_are_certified();
+}

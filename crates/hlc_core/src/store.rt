@@ -1,12 +1,14 @@
 //! The store and its calls.
-ghost use Rattle.std.specs.Prelude.{◌≡◌, IfOk, IfErr, OnErr, IsErr, IsOkAnd, MatchOption, option_copied, List, length};
+ghost use Rattle.std.specs.Prelude.{◌≡◌, IfOk, IfErr, OnErr, IsErr, IsOkAnd, MatchOption, option_copied, List, length, map};
 ghost use Rattle.hlc_node.specs.Rows.{answer};
+ghost use Rattle.hlc_floor.specs.Heads.{IsFloor};
 ghost use Rattle.hlc_core.specs.Past.{Step, floor, horizon, stamp_of, writes};
 ghost use Rattle.hlc_core.specs.Kept.{nodes, StandsFor};
 ghost use Rattle.hlc_core.specs.Stored.{IsStoredCount};
 ghost use Rattle.hlc_core.specs.Calls.{Makes, Accepts, Checks, Counts, Opens, OpensAtFloor, Closes, Lists, Vacuums, AreRowsTo};
 
 use crate::fault::{CoreFault, NoNode};
+use crate::laws::vacuums_keep_standing;
 use crate::list::listing_at;
 use crate::listing::Listing;
 use crate::opening::of_registry;
@@ -18,9 +20,7 @@ use hlc_link::Intake;
 use hlc_node::{Item, Row};
 use hlc_snapshot::{NoMemory, NoSnapshot, Registry};
 use hlc_vacuum::{Report, apply_rows, plan_rows};
-use hlc_witness::{
-    opens_keep_standing, rows_above_are_counted, vacuums_are_certified, vacuums_compose, writes_keep_standing,
-};
+use hlc_witness::{opens_keep_standing, writes_keep_standing};
 use std::alloc::Global;
 use std::marker::Model;
 
@@ -120,7 +120,8 @@ impl Core {
 
     /// The floor: the least head of all links. What is accepted later lies above it.
     pub fn floor(&self) -> Stamp
-        ensures { (past : List Step) → StandsFor self.now past → result ≡ floor (nodes self.now) past }
+        ensures stands { (past : List Step) → StandsFor self.now past → result ≡ floor (nodes self.now) past }
+        ensures least { IsFloor (map (λ link. link.head) self.now.links) result }
     {
         self.heads.floor()
     }
@@ -225,10 +226,8 @@ impl Core {
         ensures nodes { nodes self.new ≡ nodes self.old }
     {
         // What the proof cites.
-        vacuums_compose();
-        vacuums_are_certified();
-        rows_above_are_counted();
-        let floor = self.heads.floor();
+        vacuums_keep_standing();
+        let floor = self.floor();
         let points = self.registry.points(floor)?;
         let Ok(plan) = plan_rows(self.alloc, self.rows.as_slice(), points.as_slice()) else {
             return Err(NoMemory);

@@ -1,5 +1,6 @@
-use Rattle.std.proofs.Common.{◌≡◌, ◌<◌, inl, inr, refl, arith, length}
+use Rattle.std.proofs.Common.{◌≡◌, ◌<◌, inl, inr, refl, arith, length, get_or}
 use Rattle.hlc_core.proofs.Standing.{admitted, admitted-due, fault-due, matched, head-of, heads-length, took}
+use Rattle.hlc_core.proofs.Held.{held-accept}
 use Rattle.hlc_core.proofs.store.Core.accept.Goals as goal
 
 pub returns-in-Err-clause-stands : goal.returns-in-Err-clause-stands
@@ -24,20 +25,23 @@ pub raise-requires-clause-node : goal.raise-requires-clause-node
 raise-requires-clause-node c =
     let looked = rw c.as_slice.ensures.value at c.in-Ok.ensures in
     let within : c.args.item.node < length c.self.inside.intakes.items = (admitted _ c.args.item c.in-Ok.intake looked).within in
-    let len : length c.self.inside.heads ≡ length c.self.inside.intakes.items = heads-length _ _ c.self.invariant in
+    let len : length c.self.inside.heads ≡ length c.self.inside.intakes.items = heads-length _ _ c.self.invariant.0 in
     omega arith
 
 pub raise-requires-clause-rising : goal.raise-requires-clause-rising
 raise-requires-clause-rising c =
     let looked = rw c.as_slice.ensures.value at c.in-Ok.ensures in
     let is = admitted _ c.args.item c.in-Ok.intake looked in
-    rw (head-of _ _ c.args.item.node c.self.invariant is.within) is.rising
+    rw (head-of _ _ c.args.item.node c.self.invariant.0 is.within) is.rising
 
 pub invariant_of-self-2 : goal.invariant_of-self-2
 invariant_of-self-2 c =
     let looked = rw c.as_slice.ensures.value at c.in-Ok.ensures in
     let is = admitted _ c.args.item c.in-Ok.intake looked in
-    rw (c.raise.ensures.raised, is.is) (matched _ _ c.args.item.node _ c.self.invariant)
+    let within : c.args.item.node < length c.self.inside.heads = (let len : length c.self.inside.heads ≡ length c.self.inside.intakes.items = heads-length _ _ c.self.invariant.0 in let w : c.args.item.node < length c.self.inside.intakes.items = is.within in omega arith) in
+    let up : get_or c.self.inside.heads c.args.item.node 0 < c.args.item.stamp = rw (head-of _ _ c.args.item.node c.self.invariant.0 is.within) is.rising in
+    rw (c.raise.ensures.raised, is.is, c.in_default.ensures.ok)
+    (matched _ _ c.args.item.node _ c.self.invariant.0, held-accept _ _ _ c.args.item.node c.args.item.stamp c.args.item.body c.self.invariant.1 within up)
 
 pub returns-clause-stands : goal.returns-clause-stands
 returns-clause-stands c = λ past h.
@@ -45,4 +49,4 @@ returns-clause-stands c = λ past h.
     let looked = rw c.as_slice.ensures.value at c.in-Ok.ensures in
     let is = admitted _ c.args.item c.in-Ok.intake looked in
     let none = admitted-due _ past c.args.item c.in-Ok.intake h' looked in
-    rw (← c.self.view_is, c.in_default.ensures.ok, is.is) (none, took _ past c.args.item h' none)
+    rw (← c.self.view_is, c.in_default.ensures.ok, is.is) (none, took c.writes_keep_standing.ensures.stands c.writes_keep_standing.ensures.count _ past c.args.item h' none)
