@@ -238,11 +238,11 @@ impl Core {
     }
 
     /// How many rows are stored. It takes no memory.
-    pub fn rows(&self) -> u64
+    pub fn rows(&self) -> u128
         ensures count { result ≡ length self.now.rows }
         ensures stored { (past : List Step) → StandsFor self.now past → IsStoredCount (nodes self.now) past result }
     {
-        self.rows.len() as u64
+        self.rows.len() as u128
     }
 
     /// The stored rows at or below a stamp, by key, stamp and node, as copies. After a vacuum, those

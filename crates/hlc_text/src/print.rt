@@ -138,6 +138,27 @@ pub fn put_named_number<W: Write>(
     put_number(writer, waiting, number);
 }
 
+/// Prints some words, and the count behind them.
+pub fn put_named_count<W: Write>(
+    writer: &mut Watched<W>,
+    waiting: &mut Waiting,
+    name: &[u8],
+    count: u128,
+)
+    ensures { Prints W.contents writer.old writer.new waiting.old waiting.new (name.now ++ decimal count) }
+{
+    put(writer, waiting, name);
+    put_count(writer, waiting, count);
+}
+
+/// Prints the digits of the count.
+fn put_count<W: Write>(writer: &mut Watched<W>, waiting: &mut Waiting, count: u128)
+    ensures { Prints W.contents writer.old writer.new waiting.old waiting.new (decimal count) }
+{
+    let mut buffer = Buffer::new();
+    put(writer, waiting, buffer.format(count).as_bytes());
+}
+
 /// Prints some words, and the stamp behind them.
 pub fn put_named_stamp<W: Write>(
     writer: &mut Watched<W>,
