@@ -12,5 +12,3 @@ mod nodes;
 mod snapshots;
 #[cfg(test)]
 mod stamps;
-#[cfg(test)]
-mod store;

@@ -1,0 +1,8 @@
+//! Tests of the store and its vacuum, by the public calls of the libraries from the registry to the world. There is nothing here
+//! but tests.
+#![tactic(auto)]
+
+#[cfg(test)]
+mod store;
+#[cfg(test)]
+mod vacuums;
