@@ -8,12 +8,12 @@ use Rattle.hlc_node.specs.declared.item.Item.{Item}
 use Rattle.hlc_node.specs.declared.item.Body.TheVariants.{Write as a_write, Report as a_report}
 use Rattle.hlc_snapshot.specs.RegisterLaws.{stamp_in-all}
 use Rattle.hlc_core.specs.declared.fault.CoreFault.{CoreFault}
-use Rattle.hlc_core.specs.Past.{floor, stamp_of, open_snapshots, open_refusal, IsLegal as IsLegalPast}
-use Rattle.hlc_core.specs.PastLaws.{open-room, open-low}
+use Rattle.hlc_core.specs.Past.{floor, horizon, stamp_of, open_snapshots, open_refusal, IsLegal as IsLegalPast}
+use Rattle.hlc_core.specs.PastLaws.{open-room, open-low, horizon-low}
 use Rattle.hlc_world.specs.declared.event.Event.{Event}
-use Rattle.hlc_world.specs.declared.event.Event.TheVariants.{Write, Delete, Report, Deliver, OpenAt, OpenFloor, Close}
+use Rattle.hlc_world.specs.declared.event.Event.TheVariants.{Write, Delete, Report, Deliver, OpenAt, OpenFloor, Close, Vacuum}
 use Rattle.hlc_world.specs.declared.reply.Reply.{Reply}
-use Rattle.hlc_world.specs.declared.reply.Reply.TheVariants.{Stamped, Accepted, Snapshot, Closed}
+use Rattle.hlc_world.specs.declared.reply.Reply.TheVariants.{Stamped, Accepted, Snapshot, Closed, Vacuumed}
 use Rattle.hlc_world.specs.Schedule.{an_item, item_made, stamping_of, with_item, issued, item_at, taking, with_step, core_past}
 use Rattle.hlc_world.specs.Due.{core_refusal, snapshot_refusal, refusal_due, IsGiven, IsLegal}
 use Rattle.hlc_world.specs.Before.{entry_at, IsStamped}
@@ -42,8 +42,11 @@ past-entry : (nodes : ℕ) (s : List (Event × Reply)) (event : Event) (reply : 
 past-entry nodes s (Deliver p k) (Accepted st) given ordered legal = past-taken nodes s p k (item_at p k s) refl given.0 ordered legal
 past-entry nodes s (OpenAt at) (Snapshot id st) given ordered legal = (subst (λ x. open_refusal nodes (core_past s) x ≡ None) (sym given.1.1) (no-core _ given.0), legal)
 past-entry nodes s OpenFloor (Snapshot id st) given ordered legal =
-    (open-room nodes (core_past s) st (let e : st ≡ floor nodes (core_past s) = given.1.1 in omega arith) ∙ no-core _ given.0, legal)
+    let e : st ≡ floor nodes (core_past s) = given.1.1 in
+    let low : horizon nodes (core_past s) ≤ floor nodes (core_past s) = horizon-low nodes (core_past s) legal in
+    (open-room nodes (core_past s) st (omega arith) (omega arith) ∙ no-core _ given.0, legal)
 past-entry nodes s (Close id) (Closed st) given ordered legal = (no-snapshot (stamp_of id (core_past s)) given.0, legal)
+past-entry nodes s Vacuum (Vacuumed report) given ordered legal = legal
 past-entry nodes s _ _ given ordered legal = legal
 
 -- the core's past of a legal schedule is legal

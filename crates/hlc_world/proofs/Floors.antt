@@ -6,12 +6,12 @@ use Rattle.std.proofs.lemmas.Option.{slice_get-get_or, slice_get_within}
 use Rattle.std.proofs.lemmas.Bool.{cases_lt, cases_eq}
 use Rattle.std.proofs.lemmas.List.Elements.{Contains-append_left, Contains-append_right}
 use Rattle.hlc_node.specs.declared.item.Item.{Item}
-use Rattle.hlc_core.specs.Past.{Step, Took, Opened, Closed as ClosedOf, count, head, floor}
+use Rattle.hlc_core.specs.Past.{Step, Took, Opened, Closed as ClosedOf, Vacuumed as VacuumedOf, count, head, floor}
 use Rattle.hlc_core.specs.PastLaws.{least-le}
 use Rattle.hlc_world.specs.declared.event.Event.{Event}
-use Rattle.hlc_world.specs.declared.event.Event.TheVariants.{Write, Delete, Report, Deliver, OpenAt, OpenFloor, Close}
+use Rattle.hlc_world.specs.declared.event.Event.TheVariants.{Write, Delete, Report, Deliver, OpenAt, OpenFloor, Close, Vacuum}
 use Rattle.hlc_world.specs.declared.reply.Reply.{Reply}
-use Rattle.hlc_world.specs.declared.reply.Reply.TheVariants.{Stamped, Accepted, Snapshot, Closed}
+use Rattle.hlc_world.specs.declared.reply.Reply.TheVariants.{Stamped, Accepted, Snapshot, Closed, Vacuumed}
 use Rattle.hlc_world.specs.Schedule.{with_item, issued, taking, with_step, core_past}
 use Rattle.hlc_world.specs.Due.{IsGiven, IsLegal, deliver_refusal}
 use Rattle.hlc_world.specs.Floor.{IsComplete, IsBelowClocks}
@@ -85,6 +85,7 @@ taken-entry nodes s (Deliver p k) (Accepted st) given ordered h = taken-delivere
 taken-entry nodes s (OpenAt at) (Snapshot id st) given ordered h = λ n. taken-more (issued n s) (count n (core_past s)) (core_past s) (Opened st) (h n)
 taken-entry nodes s OpenFloor (Snapshot id st) given ordered h = λ n. taken-more (issued n s) (count n (core_past s)) (core_past s) (Opened st) (h n)
 taken-entry nodes s (Close id) (Closed st) given ordered h = λ n. taken-more (issued n s) (count n (core_past s)) (core_past s) (ClosedOf id) (h n)
+taken-entry nodes s Vacuum (Vacuumed report) given ordered h = λ n. taken-more (issued n s) (count n (core_past s)) (core_past s) VacuumedOf (h n)
 taken-entry nodes s _ _ given ordered h = h
 
 taken : (nodes : ℕ) (s : List (Event × Reply)) → IsLegal nodes s → AllTaken s

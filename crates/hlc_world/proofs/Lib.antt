@@ -8,4 +8,6 @@ pub mod Entries
 pub mod Openings
 pub mod Times
 pub mod Closure
+pub mod OneReport
+pub mod Faithful
 pub mod Runs

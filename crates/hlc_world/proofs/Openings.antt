@@ -5,7 +5,7 @@ use Rattle.std.specs.Prelude.{◌==◌, if◌then◌else◌}
 use Rattle.std.proofs.lemmas.Bool.{cond-true, cond-false, eq-eqb, ne_eqb, cases_eq}
 use Rattle.hlc_snapshot.specs.Register.{stamp_in}
 use Rattle.hlc_snapshot.specs.RegisterLaws.{stamp_in-push_cases, stamp_in-without_gone, stamp_in-without_other}
-use Rattle.hlc_core.specs.Past.{Step, Took, Opened, Closed as ClosedOf, opened, open_snapshots, stamp_of}
+use Rattle.hlc_core.specs.Past.{Step, Took, Opened, Closed as ClosedOf, Vacuumed as VacuumedOf, opened, open_snapshots, stamp_of}
 use Rattle.hlc_world.specs.declared.event.Event.{Event}
 use Rattle.hlc_world.specs.declared.event.Event.TheVariants.{OpenAt, OpenFloor, Observe}
 use Rattle.hlc_world.specs.declared.reply.Reply.{Reply}
@@ -26,6 +26,7 @@ opening-low : (past : List Step) (id stamp : ℕ) → opening id past ≡ Some s
 opening-low [] id stamp is = absurd (cc)
 opening-low (Took item ∷ past) id stamp is = opening-low past id stamp is
 opening-low (ClosedOf other ∷ past) id stamp is = opening-low past id stamp is
+opening-low (VacuumedOf ∷ past) id stamp is = opening-low past id stamp is
 opening-low (Opened at ∷ past) id stamp is =
     elim (cases_eq (opened past + 1) id) [
       | inl same ↦ omega arith
@@ -35,6 +36,7 @@ opening-low (Opened at ∷ past) id stamp is =
 opening-stays : (step : Step) (past : List Step) (id stamp : ℕ) → opening id past ≡ Some stamp → opening id (step ∷ past) ≡ Some stamp
 opening-stays (Took item) past id stamp is = is
 opening-stays (ClosedOf other) past id stamp is = is
+opening-stays VacuumedOf past id stamp is = is
 opening-stays (Opened at) past id stamp is =
     cond-false _ _ _ (ne_eqb (opened past + 1) id (λ e. let low : id ≤ opened past = opening-low past id stamp is in omega arith)) ∙ is
 
@@ -49,6 +51,7 @@ opening-here past id stamp is = cond-true _ _ _ (eq-eqb _ _ (sym is))
 open-opening : (past : List Step) (id stamp : ℕ) → stamp_of id past ≡ Some stamp → opening id past ≡ Some stamp
 open-opening [] id stamp is = absurd (cc)
 open-opening (Took item ∷ past) id stamp is = open-opening past id stamp is
+open-opening (VacuumedOf ∷ past) id stamp is = open-opening past id stamp is
 open-opening (Opened at ∷ past) id stamp is =
     elim (stamp_in-push_cases id stamp (record { id = opened past + 1; stamp = at }) (open_snapshots past) is) [
       | inl before ↦ opening-stays (Opened at) past id stamp (open-opening past id stamp before)

@@ -18,9 +18,9 @@ use Rattle.hlc_node.specs.Items.{body_refusal}
 use Rattle.hlc_node.specs.Node.{Node, clocked, unless_bad, issue_due}
 use Rattle.hlc_core.specs.Past.{Step, Took, count, head}
 use Rattle.hlc_world.specs.declared.event.Event.{Event}
-use Rattle.hlc_world.specs.declared.event.Event.TheVariants.{Write, Delete, Report, Send, Receive, Observe, Deliver, OpenAt, OpenFloor, Close}
+use Rattle.hlc_world.specs.declared.event.Event.TheVariants.{Write, Delete, Report, Send, Receive, Observe, Deliver, OpenAt, OpenFloor, Close, Vacuum}
 use Rattle.hlc_world.specs.declared.reply.Reply.{Reply}
-use Rattle.hlc_world.specs.declared.reply.Reply.TheVariants.{Stamped, Sent, Received, Observed, Accepted, Snapshot, Closed}
+use Rattle.hlc_world.specs.declared.reply.Reply.TheVariants.{Stamped, Sent, Received, Observed, Accepted, Snapshot, Closed, Vacuumed}
 use Rattle.hlc_world.specs.declared.refusal.Refusal.{Refusal}
 use Rattle.hlc_world.specs.declared.refusal.Refusal.TheVariants.{NoNode, NotNext}
 use Rattle.hlc_world.specs.Schedule.{an_item, with_item, stamp_or, issued, last_stamp, node_of, taking, with_step, core_past}
@@ -270,6 +270,7 @@ orderly-entry nodes s (Deliver p k) (Accepted st) given h =
 orderly-entry nodes s (OpenAt at) (Snapshot id st) given h = h
 orderly-entry nodes s OpenFloor (Snapshot id st) given h = h
 orderly-entry nodes s (Close id) (Closed st) given h = h
+orderly-entry nodes s Vacuum (Vacuumed report) given h = h
 orderly-entry nodes s _ _ given h = h
 
 -- every legal schedule is orderly

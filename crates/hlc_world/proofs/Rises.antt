@@ -18,7 +18,7 @@ use Rattle.hlc_snapshot.specs.declared.fault.SnapshotFault.{SnapshotFault}
 use Rattle.hlc_snapshot.specs.declared.fault.SnapshotFault.TheVariants as snapshot_fault
 use Rattle.hlc_snapshot.specs.Register.{room_refusal as room_in}
 use Rattle.hlc_world.specs.declared.event.Event.{Event}
-use Rattle.hlc_world.specs.declared.event.Event.TheVariants.{Write, Delete, Report, Send, Receive, Observe, Deliver, OpenAt, OpenFloor, Read, List as ListAll, Close, Floor}
+use Rattle.hlc_world.specs.declared.event.Event.TheVariants.{Write, Delete, Report, Send, Receive, Observe, Deliver, OpenAt, OpenFloor, Read, List as ListAll, Close, Floor, Vacuum, Rows}
 use Rattle.hlc_world.specs.declared.reply.Reply.{Reply}
 use Rattle.hlc_world.specs.declared.reply.Reply.TheVariants.{Refused}
 use Rattle.hlc_world.specs.declared.refusal.Refusal.{Refusal}
@@ -70,8 +70,8 @@ open-rise nodes past stamp head e =
       | inl above ↦ absurd (let g : Some (AboveFloor (floor nodes past)) ≡ Some (StampNotRising head) = ap core_refusal (sym (cond-true _ _ _ above)) ∙ e in cc)
       | inr low ↦
           let e1 = ap core_refusal (sym (cond-false _ _ _ low)) ∙ e in
-          elim (cases_Bool (nat_lt stamp (horizon past))) [
-            | inl below ↦ absurd (let g : Some (BelowHorizon (horizon past)) ≡ Some (StampNotRising head) = ap core_refusal (sym (cond-true _ _ _ below)) ∙ e1 in cc)
+          elim (cases_Bool (nat_lt stamp (horizon nodes past))) [
+            | inl below ↦ absurd (let g : Some (BelowHorizon (horizon nodes past)) ≡ Some (StampNotRising head) = ap core_refusal (sym (cond-true _ _ _ below)) ∙ e1 in cc)
             | inr high ↦ room-rise (room_in (length (open_snapshots past)) (opened past)) head (ap core_refusal (sym (cond-false _ _ _ high)) ∙ e1)
           ]
     ]
@@ -101,6 +101,8 @@ due-rise nodes s (Read id key) = snapshot-rise (stamp_of id (core_past s))
 due-rise nodes s (ListAll id) = snapshot-rise (stamp_of id (core_past s))
 due-rise nodes s (Close id) = snapshot-rise (stamp_of id (core_past s))
 due-rise nodes s Floor = λ head e. absurd (cc)
+due-rise nodes s Vacuum = λ head e. absurd (cc)
+due-rise nodes s Rows = λ head e. absurd (cc)
 
 -- so no world answers that a stamp does not rise
 pub rising : (nodes : ℕ) (s : List (Event × Reply)) (event : Event) (head : ℕ) (reply : Reply) → IsLegal nodes ((event, reply) ∷ s) → reply ≡ Refused (StampNotRising head) → ⊥

@@ -16,10 +16,11 @@ use Rattle.hlc_core.specs.declared.fault.CoreFault.{CoreFault}
 use Rattle.hlc_core.specs.declared.fault.CoreFault.TheVariants as core_fault
 use Rattle.hlc_core.specs.Past.{count, floor, opened, stamp_of, writes, room_refusal, open_refusal}
 use Rattle.hlc_core.specs.Calls.{IsWrite, IsListed}
+use Rattle.hlc_core.specs.Stored.{IsStoredCount, IsReport}
 use Rattle.hlc_world.specs.declared.event.Event.{Event}
-use Rattle.hlc_world.specs.declared.event.Event.TheVariants.{Write, Delete, Report, Send, Receive, Observe, Deliver, OpenAt, OpenFloor, Read, List as ListAll, Close, Floor}
+use Rattle.hlc_world.specs.declared.event.Event.TheVariants.{Write, Delete, Report, Send, Receive, Observe, Deliver, OpenAt, OpenFloor, Read, List as ListAll, Close, Floor, Vacuum, Rows}
 use Rattle.hlc_world.specs.declared.reply.Reply.{Reply}
-use Rattle.hlc_world.specs.declared.reply.Reply.TheVariants.{Stamped, Sent, Received, Observed, Accepted, Snapshot, Answer, Listing, Closed, Floor as FloorIs, Refused}
+use Rattle.hlc_world.specs.declared.reply.Reply.TheVariants.{Stamped, Sent, Received, Observed, Accepted, Snapshot, Answer, Listing, Closed, Floor as FloorIs, Vacuumed, Rows as RowsAre, Refused}
 use Rattle.hlc_world.specs.declared.refusal.Refusal.{Refusal}
 use Rattle.hlc_world.specs.declared.refusal.Refusal.TheVariants.{NoNode, ReadingTooLarge, CounterFull, NoMessage, NoItem, NotNext, StampNotRising, AboveFloor, BelowHorizon, NoSnapshot, TooManySnapshots, BadKey, ValueTooLong, NumbersSpent, NoMemory}
 use Rattle.hlc_world.specs.Schedule.{issued, item_at, last_stamp, sent, message_at, node_of, core_past}
@@ -112,6 +113,8 @@ refusal_due nodes schedule (Read id key) = snapshot_refusal (stamp_of id (core_p
 refusal_due nodes schedule (ListAll id) = snapshot_refusal (stamp_of id (core_past schedule))
 refusal_due nodes schedule (Close id) = snapshot_refusal (stamp_of id (core_past schedule))
 refusal_due nodes schedule Floor = None
+refusal_due nodes schedule Vacuum = None
+refusal_due nodes schedule Rows = None
 
 -- the stamp of the item, if there is one
 abbrev pub stamp_in : Option Item → Option ℕ
@@ -156,6 +159,8 @@ IsDueReply nodes schedule (Read id key) (Answer value) =
 IsDueReply nodes schedule (ListAll id) (Listing pairs) = IsListed (stamp_of id (core_past schedule)) (writes (core_past schedule)) pairs
 IsDueReply nodes schedule (Close id) (Closed stamp) = stamp_of id (core_past schedule) ≡ Some stamp
 IsDueReply nodes schedule Floor (FloorIs stamp) = stamp ≡ floor nodes (core_past schedule)
+IsDueReply nodes schedule Vacuum (Vacuumed report) = IsReport nodes (core_past schedule) report
+IsDueReply nodes schedule Rows (RowsAre count) = IsStoredCount nodes (core_past schedule) count
 IsDueReply nodes schedule _ _ = ⊥
 
 -- the item is a write or a deletion, whose row is stored
@@ -168,7 +173,7 @@ abbrev pub TakesValue : Option ℕ → (ℕ → Option (List ℕ)) → Type 0
 TakesValue None answers = ⊥
 TakesValue (Some stamp) answers = answers stamp ≢ None
 
--- the event may want memory: it makes an item, a message, a snapshot or a listing, or it stores a row, or gives a value
+-- the event may want memory: it makes an item, a message, a snapshot or a listing, or it stores a row, or gives a value, or is a vacuum
 abbrev pub MayLackMemory : List (Event × Reply) → Event → Type 0
 MayLackMemory schedule (Receive node reading message) = ⊥
 MayLackMemory schedule (Observe node reading id) = ⊥
@@ -176,6 +181,7 @@ MayLackMemory schedule (Deliver node number) = TakesRow (item_at node number sch
 MayLackMemory schedule (Read id key) = TakesValue (stamp_of id (core_past schedule)) (answer (writes (core_past schedule)) key)
 MayLackMemory schedule (Close id) = ⊥
 MayLackMemory schedule Floor = ⊥
+MayLackMemory schedule Rows = ⊥
 MayLackMemory schedule _ = ⊤
 
 -- the reply is the refusal that is due; or, where none is, a due reply, or want of memory where the event may want it

@@ -5,11 +5,11 @@ use Rattle.hlc_node.specs.declared.item.Body.{Body}
 use Rattle.hlc_node.specs.declared.item.Body.TheVariants.{Write as a_write, Report as a_report}
 use Rattle.hlc_node.specs.declared.item.Message.{Message}
 use Rattle.hlc_node.specs.Node.{Node}
-use Rattle.hlc_core.specs.Past.{Step, Took, Opened, Closed as ClosedOf}
+use Rattle.hlc_core.specs.Past.{Step, Took, Opened, Closed as ClosedOf, Vacuumed as VacuumedOf}
 use Rattle.hlc_world.specs.declared.event.Event.{Event}
-use Rattle.hlc_world.specs.declared.event.Event.TheVariants.{Write, Delete, Report, Send, Receive, Observe, Deliver, OpenAt, OpenFloor, Close}
+use Rattle.hlc_world.specs.declared.event.Event.TheVariants.{Write, Delete, Report, Send, Receive, Observe, Deliver, OpenAt, OpenFloor, Close, Vacuum}
 use Rattle.hlc_world.specs.declared.reply.Reply.{Reply}
-use Rattle.hlc_world.specs.declared.reply.Reply.TheVariants.{Stamped, Sent, Received, Observed, Accepted, Snapshot, Closed}
+use Rattle.hlc_world.specs.declared.reply.Reply.TheVariants.{Stamped, Sent, Received, Observed, Accepted, Snapshot, Closed, Vacuumed}
 
 -- Below, a schedule is the list of the events with their replies, the last one first. An event whose reply is a refusal did not
 -- take place.
@@ -93,6 +93,7 @@ step_of schedule (Deliver node number) (Accepted stamp) = taking (item_at node n
 step_of schedule (OpenAt at) (Snapshot id stamp) = Some (Opened stamp)
 step_of schedule OpenFloor (Snapshot id stamp) = Some (Opened stamp)
 step_of schedule (Close id) (Closed stamp) = Some (ClosedOf id)
+step_of schedule Vacuum (Vacuumed report) = Some VacuumedOf
 step_of schedule _ _ = None
 
 -- the past, and this step after it

@@ -67,4 +67,8 @@ pub enum Event {
     },
     /// The floor is asked for: the stamp that no later item falls below.
     Floor,
+    /// Rows that no reader needs any more are dropped, at the floor.
+    Vacuum,
+    /// The number of stored rows is asked for.
+    Rows,
 }

@@ -11,11 +11,11 @@ mod world;
 
 pub use event::Event;
 pub use hlc_clock::Stamp;
-pub use hlc_core::{Listing, Pair};
+pub use hlc_core::{Listing, Pair, Points, Report, Witness, Witnesses};
 pub use hlc_node::Bytes;
 pub use laws::{
     no_clock_is_below_the_floor, open_snapshots_are_closed, stamps_follow_events,
-    the_floor_is_complete,
+    the_floor_is_complete, there_is_one_report,
 };
 pub use refusal::{NoMemory, Refusal};
 pub use reply::Reply;

@@ -27,7 +27,7 @@ pub enum Refusal {
     StampNotRising { head: Stamp },
     /// The stamp to open at is above the floor.
     AboveFloor { floor: Stamp },
-    /// The stamp to open at is below the floor of the last vacuum. It comes with vacuums.
+    /// The stamp to open at is below the floor of the last vacuum.
     BelowHorizon { horizon: Stamp },
     /// No open snapshot has that id.
     NoSnapshot,

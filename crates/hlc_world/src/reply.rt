@@ -1,7 +1,7 @@
 //! What a world answers to an event.
 use crate::refusal::Refusal;
 use hlc_clock::Stamp;
-use hlc_core::Listing;
+use hlc_core::{Listing, Report};
 use hlc_node::Bytes;
 
 /// What a world answers to an event.
@@ -27,6 +27,10 @@ pub enum Reply {
     Closed { stamp: Stamp },
     /// The floor is at this stamp.
     Floor { stamp: Stamp },
+    /// The vacuum took place, and did this.
+    Vacuumed { report: Report },
+    /// So many rows are stored.
+    Rows { count: u128 },
     /// The event did not take place.
     Refused(Refusal),
 }

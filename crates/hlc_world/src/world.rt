@@ -7,6 +7,7 @@ ghost use Rattle.hlc_world.specs.Schedule.{after};
 ghost use Rattle.hlc_world.specs.Before.{HappenedBefore, IsStamped};
 ghost use Rattle.hlc_world.specs.Due.{IsGiven, IsRefused};
 ghost use Rattle.hlc_world.specs.Floor.{IsComplete, IsBelowClocks, IsClosed};
+ghost use Rattle.hlc_world.specs.Headline.{IsFaithful};
 ghost use Rattle.hlc_world.specs.State.{StandsFor, Makes, world_nodes, fresh};
 ghost use Rattle.hlc_world.specs.declared.event.Event.{Event as AnEvent};
 ghost use Rattle.hlc_world.specs.declared.reply.Reply.{Reply as AReply};
@@ -16,8 +17,9 @@ use crate::node::Node;
 use crate::refusal::{self, NoMemory, Refusal};
 use crate::reply::Reply;
 use hlc_clock::Stamp;
-use hlc_core::{Core, CoreFault};
+use hlc_core::{Core, CoreFault, vacuums_leave_the_fewest};
 use hlc_node::{Bytes, Item, Message};
+use hlc_witness::changes_force_rows;
 use std::alloc::{AllocError, Global};
 use std::marker::Model;
 
@@ -74,7 +76,8 @@ impl World {
     /// snapshot; reading too large; counter full. Deliver: no such node; no such item; not the next
     /// number. OpenAt: above the floor; below the horizon; too many snapshots; numbers spent.
     /// OpenFloor: the last two. Read, List, Close: no such snapshot. Last, where the event makes an
-    /// item, a message, a snapshot or a listing, stores a row or gives a value, want of memory.
+    /// item, a message, a snapshot or a listing, stores a row, gives a value or is a Vacuum, want of
+    /// memory. A Vacuum is refused for nothing else, and Floor and Rows are never refused.
     pub fn step(&mut self, event: Event) -> Reply
         ensures stands { (schedule : List (AnEvent × AReply)) → StandsFor self.old schedule → StandsFor self.new ((event, result) ∷ schedule) }
         ensures given { (schedule : List (AnEvent × AReply)) → StandsFor self.old schedule → IsGiven (world_nodes self.old) schedule event result }
@@ -82,20 +85,31 @@ impl World {
         ensures complete { (schedule : List (AnEvent × AReply)) → StandsFor self.old schedule → IsComplete (world_nodes self.old) ((event, result) ∷ schedule) }
         ensures clocks { (schedule : List (AnEvent × AReply)) → StandsFor self.old schedule → IsBelowClocks (world_nodes self.old) ((event, result) ∷ schedule) }
         ensures closed { (schedule : List (AnEvent × AReply)) → StandsFor self.old schedule → IsClosed ((event, result) ∷ schedule) }
+        ensures faithful { (schedule : List (AnEvent × AReply)) → StandsFor self.old schedule → IsFaithful (world_nodes self.old) ((event, result) ∷ schedule) self.new.core.rows }
         ensures rising { (schedule : List (AnEvent × AReply)) (head : ℕ) → StandsFor self.old schedule → result ≢ Reply.Refused (Refusal.StampNotRising head) }
         ensures unchanged { IsRefused result → self.new ≡ self.old }
         ensures nodes { world_nodes self.new ≡ world_nodes self.old }
     {
-        self.take_place(event)
+        // What the proof cites.
+        changes_force_rows();
+        vacuums_leave_the_fewest();
+        let reply = self.take_place(event);
+        // The world's invariant is known where a field is looked at.
+        let _ = &self.core;
+        reply
     }
 
     /// The events in turn. Room for all replies is made first: where that is refused, no event took
     /// place and the events come back.
     pub fn run(&mut self, events: Vec<Event>) -> Result<Vec<Reply>, (NoMemory, Vec<Event>)>
         ensures ok { IfOk result (λ replies. (length replies.items ≡ length events.items) × ((schedule : List (AnEvent × AReply)) → StandsFor self.old schedule → StandsFor self.new (after events.items replies.items schedule))) }
+        ensures faithful { IfOk result (λ replies. (schedule : List (AnEvent × AReply)) → StandsFor self.old schedule → IsFaithful (world_nodes self.old) (after events.items replies.items schedule) self.new.core.rows) }
         ensures err { IfErr result (λ refused. (refused.1.items ≡ events.items) × (self.new ≡ self.old)) }
         ensures nodes { world_nodes self.new ≡ world_nodes self.old }
     {
+        // What the proof cites.
+        changes_force_rows();
+        vacuums_leave_the_fewest();
         let mut replies = match Vec::with_capacity(self.alloc, events.len()) {
             Ok(replies) => replies,
             Err(_) => return Err((NoMemory, events)),
@@ -104,6 +118,8 @@ impl World {
             let reply = self.step(event);
             replies.push_reserved(reply);
         }
+        // The world's invariant is known where a field is looked at.
+        let _ = &self.core;
         Ok(replies)
     }
 
@@ -135,6 +151,8 @@ impl World {
             Event::List { id } => self.list(id),
             Event::Close { id } => self.close(id),
             Event::Floor => self.floor(),
+            Event::Vacuum => self.vacuum(),
+            Event::Rows => self.rows(),
         }
     }
 
@@ -341,6 +359,26 @@ impl World {
     {
         Reply::Floor {
             stamp: self.core.floor(),
+        }
+    }
+
+    fn vacuum(&mut self) -> Reply
+        ensures stands { (schedule : List (AnEvent × AReply)) → StandsFor self.old schedule → StandsFor self.new ((AnEvent.Vacuum, result) ∷ schedule) }
+        ensures unchanged { IsRefused result → self.new ≡ self.old }
+        ensures nodes { world_nodes self.new ≡ world_nodes self.old }
+    {
+        match self.core.vacuum() {
+            Ok(report) => Reply::Vacuumed { report },
+            Err(_) => Reply::Refused(Refusal::NoMemory),
+        }
+    }
+
+    fn rows(&mut self) -> Reply
+        ensures stands { (schedule : List (AnEvent × AReply)) → StandsFor self.old schedule → StandsFor self.new ((AnEvent.Rows, result) ∷ schedule) }
+        ensures unchanged { self.new ≡ self.old }
+    {
+        Reply::Rows {
+            count: self.core.rows(),
         }
     }
 }

@@ -1,5 +1,10 @@
-use Rattle.std.proofs.Common.{◌∙◌, ◌++◌, sym, ap, length-append, ◌+◌, append_assoc}
+use Rattle.std.proofs.Common.{◌≡◌, ◌∙◌, subst, ◌++◌, sym, ap, length-append, ◌+◌, append_assoc, arith}
+use Rattle.hlc_world.specs.Schedule.{after}
+use Rattle.hlc_world.specs.State.{StandsFor}
+use Rattle.hlc_world.specs.Headline.{IsFaithful}
+use Rattle.std.proofs.lemmas.Grind.{common_steps}
 use Rattle.hlc_world.proofs.Runs.{after-push}
+use Rattle.hlc_world.proofs.Faithful.{faithful}
 use Rattle.hlc_world.proofs.world.World.run.Goals as goal
 
 pub loop-event-preserved : goal.loop-event-preserved
@@ -12,3 +17,11 @@ loop-event-preserved c = record {
       rw (c.push_reserved.ensures.items, after-push c.loop-event.yielded c.loop-event.replies.items s c.in-Some.event c.step-reply.result (sym c.loop-event.invariant.counted))
       (c.step-reply.ensures.stands _ (c.loop-event.invariant.stands s h));
 }
+
+pub returns-clause-faithful : goal.returns-clause-faithful
+returns-clause-faithful c = λ s h.
+    let end : c.loop-event.yielded ≡ c.args.events.items = grind (arith, common_steps) in
+    let stands : StandsFor c.loop-event.self (after c.args.events.items c.loop-event.replies.items s) =
+    subst (λ events. StandsFor c.loop-event.self (after events c.loop-event.replies.items s)) end (c.loop-event.invariant.stands s h) in
+    subst (λ n. IsFaithful n (after c.args.events.items c.loop-event.replies.items s) c.loop-event.self.core.rows) c.loop-event.invariant.same
+    (faithful c.changes_force_rows.ensures.listed c.vacuums_leave_the_fewest.ensures c.loop-event.self (after c.args.events.items c.loop-event.replies.items s) (rw (← c.self-2.view_is) c.self-2.invariant) stands)
