@@ -3,6 +3,8 @@
 #![tactic(auto)]
 
 #[cfg(test)]
+mod histories;
+#[cfg(test)]
 mod store;
 #[cfg(test)]
 mod vacuums;

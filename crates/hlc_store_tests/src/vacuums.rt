@@ -67,7 +67,11 @@ fn vacuums(core: &mut Core, floor: u64, kept: u64, dropped: u128) -> Option<Repo
     let points = report.points.as_slice();
     let shown = check(rows.as_slice(), points, report.witnesses.as_slice()).ok()?;
     let told = report.floor == stamp(floor) && report.kept == kept && report.dropped == dropped;
-    if told && shown.count() == kept && rows.len() as u64 == kept && core.horizon() == stamp(floor) {
+    if told
+        && shown.count() == kept
+        && rows.len() as u64 == kept
+        && core.horizon() == stamp(floor)
+    {
         Some(report)
     } else {
         None
@@ -80,7 +84,11 @@ fn three_versions(alloc: Global, second: Option<&[u8]>, third: &[u8]) -> Option<
     let first = take(&mut core, alloc, (0, 0, 1), Some(b"x"));
     let second = take(&mut core, alloc, (0, 1, 2), second);
     let third = take(&mut core, alloc, (0, 2, 3), Some(third));
-    if first && second && third { Some(core) } else { None }
+    if first && second && third {
+        Some(core)
+    } else {
+        None
+    }
 }
 
 #[test]
