@@ -66,7 +66,7 @@ impl Course {
 
 /// A text of one byte, one of so many from this one on.
 fn letter(alloc: Global, lots: &mut Lots, first: u8, many: u64) -> Result<Bytes, AllocError> {
-    let byte = first.wrapping_add(lots.below(many) as u8);
+    let byte = first.wrapping_add((lots.below(many) % 256) as u8);
     Ok(Bytes::from_vec(Vec::from_slice(alloc, &[byte])?))
 }
 
@@ -195,7 +195,7 @@ fn a_history_with_vacuums(rt: HostRuntime) -> Result<(), Fail> {
         dropped: 0,
     };
     for turn in 0..600u64 {
-        let node = lots.below(2) as u16;
+        let node = (lots.below(2) % 2) as u16;
         let event = if turn % 3 == 2 {
             opening_of(&mut lots, &course)
         } else {

@@ -153,7 +153,7 @@ fn a_store_without_rows(rt: HostRuntime) -> Result<(), Fail> {
 /// The write of version `turn / 2000` of key `turn % 2000`, whose value is half of that version.
 fn turn_of(alloc: Global, turn: u64) -> Result<Item, AllocError> {
     let key = turn % 2_000;
-    let value = turn / 4_000;
+    let value = turn / 4_000 % 256;
     Ok(Item {
         node: 0,
         number: turn,
