@@ -10,7 +10,7 @@ use Rattle.hlc_text.specs.Text.{Reads, bytes_token, AreBytes}
 use Rattle.hlc_text.specs.TokenLaws.{number_is_word, stamp_is_word, bytes_are_word, split_words, no_stamp, one_stamp}
 use Rattle.hlc_text.specs.SpellingLaws.{one_token}
 use Rattle.hlc_world.specs.declared.event.Event.{Event}
-use Rattle.hlc_world.specs.declared.event.Event.TheVariants.{Write, Delete, Report, Send, Receive, Observe, Deliver, OpenAt, OpenFloor, Read, List as ListAll, Close, Floor}
+use Rattle.hlc_world.specs.declared.event.Event.TheVariants.{Write, Delete, Report, Send, Receive, Observe, Deliver, OpenAt, OpenFloor, Read, List as ListAll, Close, Floor, Vacuum, Rows}
 use Rattle.hlc_script.specs.Line.{spaced, event_words, event_line, HasLine, header_words, header_line, HasHeader}
 use Rattle.hlc_script.specs.Laws.{OneEvent}
 
@@ -41,6 +41,8 @@ words_of_line (Read id key) has =
 words_of_line (ListAll id) has = split_words (codes "list") (decimal id ∷ []) (refl, (number_is_word id (omega arith), tt))
 words_of_line (Close id) has = split_words (codes "close") (decimal id ∷ []) (refl, (number_is_word id (omega arith), tt))
 words_of_line Floor has = split_words (codes "floor") [] (refl, tt)
+words_of_line Vacuum has = split_words (codes "vacuum") [] (refl, tt)
+words_of_line Rows has = split_words (codes "rows") [] (refl, tt)
 
 -- the words of a header are the header's words
 pub words_of_header : (nodes : ℕ) → HasHeader nodes → slice_split (λ b. eqb b 32) (header_line nodes) ≡ header_words nodes
@@ -105,6 +107,14 @@ no_read args none event has is = absurd (omega (arith, ap mark is))
 pub no_floor : (args : List (List ℕ)) → args ≢ [] → (event : Event) → HasLine event → codes "floor" ∷ args ≢ event_words event
 no_floor args none Floor has is = let rest : args ≡ [] = cc in none rest
 no_floor args none event has is = absurd (omega (arith, ap mark is))
+
+pub no_vacuum : (args : List (List ℕ)) → args ≢ [] → (event : Event) → HasLine event → codes "vacuum" ∷ args ≢ event_words event
+no_vacuum args none Vacuum has is = let rest : args ≡ [] = cc in none rest
+no_vacuum args none event has is = absurd (omega (arith, ap mark is))
+
+pub no_rows : (args : List (List ℕ)) → args ≢ [] → (event : Event) → HasLine event → codes "rows" ∷ args ≢ event_words event
+no_rows args none Rows has is = let rest : args ≡ [] = cc in none rest
+no_rows args none event has is = absurd (omega (arith, ap mark is))
 
 one_write : (node node2 reading reading2 : ℕ) (key key2 value value2 : List ℕ) → HasLine (Write node reading key value) → HasLine (Write node2 reading2 key2 value2) → event_words (Write node reading key value) ≡ event_words (Write node2 reading2 key2 value2) → Write node reading key value ≡ Write node2 reading2 key2 value2
 one_write node node2 reading reading2 key key2 value value2 has also e =
@@ -205,6 +215,10 @@ same_words (Close id) (Close id2) has also same = (let e : decimal id ≡ decima
 same_words (Close id) other has also same = absurd (omega (arith, ap mark same))
 same_words Floor Floor has also same = refl
 same_words Floor other has also same = absurd (omega (arith, ap mark same))
+same_words Vacuum Vacuum has also same = refl
+same_words Vacuum other has also same = absurd (omega (arith, ap mark same))
+same_words Rows Rows has also same = refl
+same_words Rows other has also same = absurd (omega (arith, ap mark same))
 
 -- a line is one event's at most
 pub one_event : OneEvent

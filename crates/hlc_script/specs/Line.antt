@@ -4,7 +4,7 @@ use Rattle.std.specs.List.{slice_split, join_with_byte}
 use Rattle.hlc_clock.specs.Stamp.{stamp_text}
 use Rattle.hlc_text.specs.Text.{bytes_token, AreBytes}
 use Rattle.hlc_world.specs.declared.event.Event.{Event}
-use Rattle.hlc_world.specs.declared.event.Event.TheVariants.{Write, Delete, Report, Send, Receive, Observe, Deliver, OpenAt, OpenFloor, Read, List as ListAll, Close, Floor}
+use Rattle.hlc_world.specs.declared.event.Event.TheVariants.{Write, Delete, Report, Send, Receive, Observe, Deliver, OpenAt, OpenFloor, Read, List as ListAll, Close, Floor, Vacuum, Rows}
 
 -- words with one space between each two
 abbrev pub spaced : List (List ℕ) → List ℕ
@@ -25,6 +25,8 @@ event_words (Read id key) = codes "read" ∷ decimal id ∷ bytes_token key ∷ 
 event_words (ListAll id) = codes "list" ∷ decimal id ∷ []
 event_words (Close id) = codes "close" ∷ decimal id ∷ []
 event_words Floor = codes "floor" ∷ []
+event_words Vacuum = codes "vacuum" ∷ []
+event_words Rows = codes "rows" ∷ []
 
 -- the one line of an event
 abbrev pub event_line : Event → List ℕ
@@ -45,6 +47,8 @@ HasLine (Read id key) = (id < 2 ^ 64) × AreBytes key
 HasLine (ListAll id) = id < 2 ^ 64
 HasLine (Close id) = id < 2 ^ 64
 HasLine Floor = ⊤
+HasLine Vacuum = ⊤
+HasLine Rows = ⊤
 
 -- the event has a key, which may want memory
 abbrev pub BearsBytes : Event → Type 0

@@ -4,10 +4,13 @@ use Rattle.std.specs.List.{flat_map}
 use Rattle.hlc_clock.specs.Stamp.{stamp_text}
 use Rattle.hlc_text.specs.Text.{bytes_token}
 use Rattle.hlc_core.specs.declared.listing.Pair.{Pair}
+use Rattle.hlc_witness.specs.declared.witness.Witness.{Witness}
+use Rattle.hlc_vacuum.specs.declared.report.Report.{Report}
 use Rattle.hlc_world.specs.declared.reply.Reply.{Reply}
-use Rattle.hlc_world.specs.declared.reply.Reply.TheVariants.{Stamped, Sent, Received, Observed, Accepted, Snapshot, Answer, Listing, Closed, Floor, Refused}
+use Rattle.hlc_world.specs.declared.reply.Reply.TheVariants.{Stamped, Sent, Received, Observed, Accepted, Snapshot, Answer, Listing, Closed, Floor, Vacuumed, Rows, Refused}
 use Rattle.hlc_world.specs.declared.refusal.Refusal.{Refusal}
 use Rattle.hlc_world.specs.declared.refusal.Refusal.TheVariants.{NoNode, ReadingTooLarge, CounterFull, NoMessage, NoItem, NotNext, StampNotRising, AboveFloor, BelowHorizon, NoSnapshot, TooManySnapshots, BadKey, ValueTooLong, NumbersSpent, NoMemory}
+use Rattle.hlc_script.specs.CheckLine.{check_line, says_witness}
 
 -- a refusal's number, and what it tells behind it
 abbrev pub refusal_line : Refusal → List ℕ
@@ -36,6 +39,15 @@ answer_line (Some value) = codes "value " ++ bytes_token value
 abbrev pub pair_line : Pair → List ℕ
 pair_line pair = (codes "row " ++ bytes_token pair.key) ++ (codes " " ++ bytes_token pair.value)
 
+-- the first line of a vacuum's report
+abbrev pub report_line : Report → List ℕ
+report_line report =
+    (codes "vacuum " ++ stamp_text report.floor) ++ ((codes " kept " ++ decimal report.kept) ++ (codes " dropped " ++ decimal report.dropped))
+
+-- the line of a change, as a certificate has it
+abbrev pub witness_line : Witness → List ℕ
+witness_line witness = check_line (says_witness witness)
+
 -- the first line of a reply
 abbrev pub reply_line : Reply → List ℕ
 reply_line (Stamped stamp item) = (codes "stamp " ++ stamp_text stamp) ++ (codes " item " ++ decimal item)
@@ -48,6 +60,8 @@ reply_line (Answer value) = answer_line value
 reply_line (Listing pairs) = codes "listing " ++ decimal (length pairs)
 reply_line (Closed stamp) = codes "closed " ++ stamp_text stamp
 reply_line (Floor stamp) = codes "floor " ++ stamp_text stamp
+reply_line (Vacuumed report) = report_line report
+reply_line (Rows count) = codes "rows " ++ decimal count
 reply_line (Refused refusal) = refusal_line refusal
 
 -- the line that refuses the line of this number
@@ -58,9 +72,10 @@ bad_line number = codes "refused 16 line " ++ decimal number
 abbrev pub printed : List ℕ → List ℕ
 printed line = line ++ 10 ∷ []
 
--- the lines behind it: those of a listing's pairs
+-- the lines behind it: those of a listing's pairs, or of a vacuum's changes
 abbrev pub more_lines : Reply → List (List ℕ)
 more_lines (Listing pairs) = map pair_line pairs
+more_lines (Vacuumed report) = map witness_line report.witnesses
 more_lines _ = []
 
 -- all lines of a reply

@@ -2,7 +2,7 @@
 use Rattle.hlc_world.specs.declared.event.Event.{Event}
 use Rattle.hlc_world.specs.declared.event.Event.TheVariants as event
 use Rattle.hlc_script.specs.declared.line.Line.{Line}
-use Rattle.hlc_script.specs.declared.line.Line.TheVariants.{Write, Delete, Report, Send, Receive, Observe, Deliver, OpenAt, OpenFloor, Read, List, Close, Floor}
+use Rattle.hlc_script.specs.declared.line.Line.TheVariants.{Write, Delete, Report, Send, Receive, Observe, Deliver, OpenAt, OpenFloor, Read, List, Close, Floor, Vacuum, Rows}
 
 -- its fields are the event's, with the bytes as they are spelled
 abbrev pub event_of : Line → Event
@@ -19,3 +19,5 @@ event_of (Read id key) = event.Read id key
 event_of (List id) = event.List id
 event_of (Close id) = event.Close id
 event_of Floor = event.Floor
+event_of Vacuum = event.Vacuum
+event_of Rows = event.Rows

@@ -1,5 +1,7 @@
-//! What holds of every script.
+//! What holds of every script. A law that calls another follows from it.
 ghost use Rattle.hlc_script.specs.Laws.{OneEvent, OneOutput};
+
+use hlc_world::there_is_one_report;
 
 /// A line is the line of one event at most.
 pub fn one_event_for_a_line()
@@ -10,4 +12,6 @@ pub fn one_event_for_a_line()
 /// tells of want of memory and no read failed.
 pub fn one_output_for_an_input()
     ensures { OneOutput }
-{}
+{
+    there_is_one_report();
+}

@@ -63,6 +63,8 @@ pub enum Line<'a> {
         id: u64,
     },
     Floor,
+    Vacuum,
+    Rows,
 }
 
 impl<'a> Line<'a> {
@@ -123,6 +125,8 @@ impl<'a> Line<'a> {
                 key: Bytes::from_vec(key.to_vec(alloc)?),
             }),
             Line::Floor => Ok(Event::Floor),
+            Line::Vacuum => Ok(Event::Vacuum),
+            Line::Rows => Ok(Event::Rows),
         }
     }
 }
@@ -175,6 +179,12 @@ fn line_of_words<'a>(words: &mut Words<'a>) -> Option<Line<'a>>
     }
     if verb == b"floor".as_slice() {
         return floor_line(words);
+    }
+    if verb == b"vacuum".as_slice() {
+        return vacuum_line(words);
+    }
+    if verb == b"rows".as_slice() {
+        return rows_line(words);
     }
     None
 }
@@ -288,6 +298,26 @@ fn floor_line<'a>(words: &mut Words<'a>) -> Option<Line<'a>>
         return None;
     }
     Some(Line::Floor)
+}
+
+/// The event of the words behind `vacuum`, where none stands.
+fn vacuum_line<'a>(words: &mut Words<'a>) -> Option<Line<'a>>
+    ensures { Reads event_words HasLine (codes "vacuum" ∷ words.old) (option_map event_of result) }
+{
+    if words.next().is_some() {
+        return None;
+    }
+    Some(Line::Vacuum)
+}
+
+/// The event of the words behind `rows`, where none stands.
+fn rows_line<'a>(words: &mut Words<'a>) -> Option<Line<'a>>
+    ensures { Reads event_words HasLine (codes "rows" ∷ words.old) (option_map event_of result) }
+{
+    if words.next().is_some() {
+        return None;
+    }
+    Some(Line::Rows)
 }
 
 // The shapes of what stands behind a verb.

@@ -1,4 +1,4 @@
-//! What holds of every schedule that a world can stand for.
+//! What holds of every schedule that a world can stand for. A law that calls others follows from them.
 ghost use Rattle.std.specs.Prelude.{◌≡◌, ◌<◌, ℕ, List};
 ghost use Rattle.hlc_world.specs.declared.event.Event.{Event as AnEvent};
 ghost use Rattle.hlc_world.specs.declared.reply.Reply.{Reply as AReply};

@@ -6,7 +6,7 @@ use std::test::*;
 /// A script, what is written for it, and the status.
 type Case = (&'static [u8], &'static [u8], u8);
 
-const CASES: [Case; 23] = [
+const CASES: [Case; 26] = [
     (b"", b"refused 17\n", 2),
     (
         b"nodes 1\nwrite 0 5 a x\ndeliver 0 0\nopen floor\nread 1 a\n",
@@ -112,6 +112,26 @@ const CASES: [Case; 23] = [
     (
         b"nodes 2\nwrite 0 1 a x\nwrite 1 2 b y\ndeliver 0 0\nopen floor\nread 1 a\ndeliver 1 0\nopen floor\nread 2 a\nread 2 b\nread 1 a\nread 3 a\nread 0 a\n",
         b"nodes 2\nstamp 1.0 item 0\nstamp 2.0 item 0\naccepted 1.0\nsnapshot 1 at 0.0\nnone\naccepted 2.0\nsnapshot 2 at 1.0\nvalue x\nnone\nnone\nrefused 10\nrefused 10\n",
+        0,
+    ),
+    // A vacuum keeps a row for each change at the points, and the next one finds no more to drop.
+    (
+        b"nodes 1\nwrite 0 1 a x\nwrite 0 2 a x\nwrite 0 3 a y\ndeliver 0 0\ndeliver 0 1\ndeliver 0 2\nopen 1.0\nopen 2.0\nvacuum\nrows\nvacuum\nrows\n",
+        b"nodes 1\nstamp 1.0 item 0\nstamp 2.0 item 1\nstamp 3.0 item 2\naccepted 1.0\naccepted 2.0\naccepted 3.0\nsnapshot 1 at 1.0\nsnapshot 2 at 2.0\nvacuum 3.0 kept 2 dropped 1\nwitness a none 1.0\nwitness a 2.0 3.0\nrows 2\nvacuum 3.0 kept 2 dropped 0\nwitness a none 1.0\nwitness a 2.0 3.0\nrows 2\n",
+        0,
+    ),
+    // A deletion at the floor hides nothing, so its row is dropped; what lies above the floor
+    // stays.
+    (
+        b"nodes 2\ndelete 0 1 a\nwrite 1 9 a y\ndeliver 0 0\ndeliver 1 0\nvacuum\nrows\n",
+        b"nodes 2\nstamp 1.0 item 0\nstamp 9.0 item 0\naccepted 1.0\naccepted 9.0\nvacuum 1.0 kept 0 dropped 1\nrows 1\n",
+        0,
+    ),
+    // A deletion between two points is kept for them. Once its reader has closed, it goes, and
+    // nothing opens below the horizon.
+    (
+        b"nodes 1\nwrite 0 1 a x\ndelete 0 2 a\nwrite 0 3 a x\ndeliver 0 0\ndeliver 0 1\ndeliver 0 2\nopen 1.0\nopen 2.0\nvacuum\nclose 2\nvacuum\nopen floor\nlist 3\nopen 2.0\nread 1 a\nread 2 a\n",
+        b"nodes 1\nstamp 1.0 item 0\nstamp 2.0 item 1\nstamp 3.0 item 2\naccepted 1.0\naccepted 2.0\naccepted 3.0\nsnapshot 1 at 1.0\nsnapshot 2 at 2.0\nvacuum 3.0 kept 3 dropped 0\nwitness a none 1.0\nwitness a 1.0 2.0\nwitness a 2.0 3.0\nclosed 2.0\nvacuum 3.0 kept 1 dropped 2\nwitness a none 1.0\nsnapshot 3 at 3.0\nlisting 1\nrow a x\nrefused 9 horizon 3.0\nvalue x\nrefused 10\n",
         0,
     ),
     // Of several refusals the first is given.

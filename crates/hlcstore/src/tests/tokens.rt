@@ -23,7 +23,7 @@ const NO_HEADERS: [&[u8]; 13] = [
 ];
 
 /// Lines behind a header that are no event's.
-const BAD_LINES: [&[u8]; 51] = [
+const BAD_LINES: [&[u8]; 55] = [
     b"\n",
     b" \n",
     b"nodes 1\n",
@@ -74,11 +74,15 @@ const BAD_LINES: [&[u8]; 51] = [
     b"close 01\n",
     b"observe 0 5\n",
     b"floors\n",
+    b"vacuum 0\n",
+    b"vacuum \n",
+    b"rows 0\n",
+    b"row\n",
     b"# none\n",
 ];
 
 /// Lines that are an event's, and the replies to them.
-const GOOD_LINES: [(&[u8], &[u8]); 22] = [
+const GOOD_LINES: [(&[u8], &[u8]); 24] = [
     (b"write 0 0 a x\n", b"stamp 0.1 item 0\n"),
     (b"write 0 18446744073709551615 a x\n", b"refused 2\n"),
     (b"write 65535 5 a x\n", b"refused 1\n"),
@@ -101,6 +105,8 @@ const GOOD_LINES: [(&[u8], &[u8]); 22] = [
     (b"close 0\n", b"refused 10\n"),
     (b"observe 0 5 1\n", b"refused 10\n"),
     (b"observe 65535 5 1\n", b"refused 1\n"),
+    (b"vacuum\n", b"vacuum 0.0 kept 0 dropped 0\n"),
+    (b"rows\n", b"rows 0\n"),
 ];
 
 /// Words, and the stamps that they spell.
