@@ -3,13 +3,13 @@ ghost use Rattle.std.specs.Prelude.{◌≡◌, IfOk};
 ghost use Rattle.std.specs.List.Sorted.{IsPermutation};
 ghost use Rattle.hlc_node.specs.Rows.{IsRowSet};
 ghost use Rattle.hlc_witness.specs.Vacuumed.{rows_to};
-ghost use Rattle.hlc_witness.specs.Certificate.{row_cmp, RowsAscend};
+ghost use Rattle.hlc_witness.specs.Certificate.{RowsAscend};
 ghost use Rattle.hlc_core.specs.Calls.{AreRowsTo};
 
 use hlc_clock::Stamp;
 use hlc_node::Row;
+use hlc_witness::row_order;
 use std::alloc::{AllocError, Global};
-use std::cmp::Ordering;
 
 /// The rows at or below a stamp, by key, stamp and node.
 pub fn sorted_rows_to(alloc: Global, rows: &[Row], bound: Stamp) -> Result<Vec<Row>, AllocError>
@@ -40,14 +40,5 @@ fn sort(rows: &mut Vec<Row>)
     ensures same { IsPermutation rows.old.items rows.new.items }
     ensures ascend { RowsAscend rows.new.items }
 {
-    rows.sort_unstable_by(|a, b| order_of(a, b));
-}
-
-/// How two rows compare by key, stamp and node.
-fn order_of(a: &Row, b: &Row) -> Ordering
-    ensures { result ≡ row_cmp a.now b.now }
-{
-    let by_key = a.key.as_slice().cmp(b.key.as_slice());
-    let by_stamp = a.stamp.cmp(&b.stamp);
-    by_key.then(by_stamp.then(a.node.cmp(&b.node)))
+    rows.sort_unstable_by(|a, b| row_order(a, b));
 }

@@ -8,8 +8,8 @@ ghost use Rattle.hlc_vacuum.specs.Placed.{placed_cmp, HavePlaces, ArePlaced, IsN
 
 use hlc_clock::Stamp;
 use hlc_node::{Bytes, Row, newest_is_greatest, newest_is_unique};
+use hlc_witness::row_order;
 use std::alloc::{AllocError, Global};
-use std::cmp::Ordering;
 use std::marker::Model;
 
 /// A row with its place in a list of rows.
@@ -80,16 +80,7 @@ fn sort(placed: &mut Vec<Placed>)
     ensures same { IsPermutation placed.old.items placed.new.items }
     ensures sorted { IsSorted placed_cmp placed.new.items }
 {
-    placed.sort_unstable_by(|a, b| order_of(a, b));
-}
-
-/// How two rows compare by key, stamp and node.
-fn order_of(a: &Placed, b: &Placed) -> Ordering
-    ensures { result ≡ placed_cmp a.now b.now }
-{
-    let by_key = a.row.key.as_slice().cmp(b.row.key.as_slice());
-    let by_stamp = a.row.stamp.cmp(&b.row.stamp);
-    by_key.then(by_stamp.then(a.row.node.cmp(&b.row.node)))
+    placed.sort_unstable_by(|a, b| row_order(a.row, b.row));
 }
 
 /// The newest row of a key at or below a stamp: the last one that does not come after them, if it

@@ -18,7 +18,7 @@ pub use laws::{
     rows_above_are_counted, standing_rows_are_fewest, vacuums_are_certified, vacuums_compose,
     vacuums_keep_fewest, writes_keep_standing,
 };
-pub use order::do_points_ascend;
+pub use order::{do_points_ascend, row_order};
 pub use reason::NotShown;
 pub use shown::Shown;
 pub use witness::Witness;

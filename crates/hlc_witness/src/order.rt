@@ -9,6 +9,7 @@ ghost use Rattle.hlc_witness.specs.Reasons.{IsAbove};
 use crate::witness::Witness;
 use hlc_clock::Stamp;
 use hlc_node::Row;
+use std::cmp::Ordering;
 
 /// Whether there is a point, and each is above the one before it.
 pub fn do_points_ascend(points: &[Stamp]) -> bool
@@ -59,13 +60,20 @@ pub(crate) fn is_above(front: &[Witness], witness: &Witness) -> bool
     }
 }
 
+/// How two rows compare by key, byte by byte, then by stamp, and then by node.
+pub fn row_order(a: &Row, b: &Row) -> Ordering
+    ensures { result ≡ row_cmp a.now b.now }
+{
+    let by_key = a.key.as_slice().cmp(b.key.as_slice());
+    let by_stamp = a.stamp.cmp(&b.stamp);
+    by_key.then(by_stamp.then(a.node.cmp(&b.node)))
+}
+
 /// Whether a row comes before another, by key, stamp and node.
 fn is_row_before(a: &Row, b: &Row) -> bool
     ensures { result ≡ is_lt (row_cmp a.now b.now) }
 {
-    let by_key = a.key.as_slice().cmp(b.key.as_slice());
-    let by_stamp = a.stamp.cmp(&b.stamp).then(a.node.cmp(&b.node));
-    by_key.then(by_stamp).is_lt()
+    row_order(a, b).is_lt()
 }
 
 /// Whether a witness comes before another, by key and `at`.
