@@ -11,8 +11,10 @@ use Rattle.hlc_witness.specs.declared.witness.Witness.{Witness}
 use Rattle.hlc_witness.specs.Points.{PointsAscend, last_point}
 use Rattle.hlc_witness.specs.Changes.{AreChanges}
 use Rattle.hlc_witness.specs.AllChanges.{all_changes}
-use Rattle.hlc_core.specs.Past.{Step, Took, Opened, Closed, Vacuumed, floor, open_snapshots, writes, IsLegal}
-use Rattle.hlc_core.specs.Stored.{AreVacuumPoints, AreLastChanges}
+use Rattle.hlc_witness.specs.Standing.{count_above}
+use Rattle.hlc_vacuum.specs.declared.report.Report.{Report}
+use Rattle.hlc_core.specs.Past.{Step, Took, Opened, Closed, Vacuumed, floor, horizon, open_snapshots, writes, IsLegal}
+use Rattle.hlc_core.specs.Stored.{AreVacuumPoints, AreLastChanges, IsStoredCount, IsReport}
 use Rattle.hlc_core.specs.PastLaws.{open-low}
 
 -- there is one list of points, and one of changes
@@ -57,3 +59,26 @@ one-last one computed nodes (Took item ∷ past) changes before are were = one-l
 one-last one computed nodes (Opened stamp ∷ past) changes before are were = one-last one computed nodes past changes before are were
 one-last one computed nodes (Closed id ∷ past) changes before are were = one-last one computed nodes past changes before are were
 one-last one computed nodes (Vacuumed ∷ past) changes before are were = one-changes one computed nodes past are.0 were.0 changes before are.1 were.1 are.2 were.2
+
+-- one number of stored rows is due
+pub one-count : OnePointsLaw → OneChangesLaw → (nodes : ℕ) (past : List Step) (count other : ℕ) → IsStoredCount nodes past count → IsStoredCount nodes past other → count ≡ other
+one-count one computed nodes past count other is also =
+    is.2 ∙ ap (λ changes. length changes + count_above (horizon nodes past) (writes past)) (one-last one computed nodes past is.0 also.0 is.1 also.1) ∙ sym also.2
+
+abbrev a_report : ℕ → List ℕ → ℕ → ℕ → List Witness → Report
+a_report at points kept dropped witnesses = record { floor = at; points = points; kept = kept; dropped = dropped; witnesses = witnesses }
+
+-- and one report
+pub one-report : OnePointsLaw → OneChangesLaw → (nodes : ℕ) (past : List Step) (report other : Report) → IsReport nodes past report → IsReport nodes past other → report ≡ other
+one-report one computed nodes past report other is also =
+    let at : report.floor ≡ other.floor = is.at_floor ∙ sym also.at_floor in
+    let points : report.points ≡ other.points = one (stamps (open_snapshots past)) report.points other.points (floor nodes past) is.points also.points in
+    let witnesses : report.witnesses ≡ other.witnesses = one-changes one computed nodes past report.points other.points report.witnesses other.witnesses is.points also.points is.witnesses also.witnesses in
+    let kept : report.kept ≡ other.kept = is.kept ∙ ap length witnesses ∙ sym also.kept in
+    let before : length is.dropped.0 ≡ length also.dropped.0 = ap length (one-last one computed nodes past is.dropped.0 also.dropped.0 is.dropped.1 also.dropped.1) in
+    let dropped : report.dropped ≡ other.dropped = omega (arith, is.dropped.2, also.dropped.2) in
+    ap (λ x. a_report x report.points report.kept report.dropped report.witnesses) at
+    ∙ ap (λ x. a_report other.floor x report.kept report.dropped report.witnesses) points
+    ∙ ap (λ x. a_report other.floor other.points x report.dropped report.witnesses) kept
+    ∙ ap (λ x. a_report other.floor other.points other.kept x report.witnesses) dropped
+    ∙ ap (λ x. a_report other.floor other.points other.kept other.dropped x) witnesses

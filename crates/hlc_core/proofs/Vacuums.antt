@@ -17,7 +17,7 @@ use Rattle.hlc_core.specs.Stored.{AreVacuumPoints, IsReport, LeavesFewest}
 use Rattle.hlc_core.specs.Kept.{Kept, nodes, vacuumed, StandsFor}
 use Rattle.hlc_core.specs.Calls.{Vacuums}
 use Rattle.hlc_core.specs.PastLaws.{horizon-low}
-use Rattle.hlc_core.proofs.VacuumPoints.{OnePointsLaw, OneChangesLaw, points-ascend, points-last, open-stamps-low, one-changes, one-last}
+use Rattle.hlc_core.proofs.VacuumPoints.{OnePointsLaw, OneChangesLaw, points-ascend, points-last, open-stamps-low, one-changes}
 
 abbrev pub ComposeLaw : Type 0
 ComposeLaw =
@@ -79,12 +79,14 @@ vacuums one computed compose fewest certified counted kept past rows report h at
       points = at;
       witnesses = after.listed;
       kept = number;
-      dropped = λ before last.
-          let same : length h.stored.0 ≡ length before = ap length (one-last one computed (nodes kept) past h.stored.0 before h.stored.1 last) in
-          let was : length kept.rows ≡ length h.stored.0 + count_above (horizon (nodes kept) past) (writes past) = h.stored.2 in
-          let parts : count_above (horizon (nodes kept) past) (writes past) ≡ count_between (horizon (nodes kept) past) low (writes past) + count_above low (writes past) = counted (horizon (nodes kept) past) low (writes past) (horizon-low (nodes kept) past h.legal) in
-          let now : length rows ≡ length report.witnesses + count_above low (writes past) = after.stored_count in
-          omega (arith, number, dropped);
+      dropped = (
+        h.stored.0,
+        h.stored.1,
+        let was : length kept.rows ≡ length h.stored.0 + count_above (horizon (nodes kept) past) (writes past) = h.stored.2 in
+            let parts : count_above (horizon (nodes kept) past) (writes past) ≡ count_between (horizon (nodes kept) past) low (writes past) + count_above low (writes past) = counted (horizon (nodes kept) past) low (writes past) (horizon-low (nodes kept) past h.legal) in
+            let now : length rows ≡ length report.witnesses + count_above low (writes past) = after.stored_count in
+            omega (arith, number, dropped),
+      );
     } in
     record {
       stands = stands;

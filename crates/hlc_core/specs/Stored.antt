@@ -39,7 +39,7 @@ pub record IsReport (nodes : ℕ) (past : List Step) (report : Report) : Type 0 
   pub points : AreVacuumPoints nodes past report.points
   pub witnesses : AreChanges (writes past) report.points report.witnesses
   pub kept : report.kept ≡ length report.witnesses
-  pub dropped : (before : List Witness) → AreLastChanges nodes past before → report.dropped + report.kept ≡ length before + count_between (horizon nodes past) (floor nodes past) (writes past)
+  pub dropped : (before : List Witness) × AreLastChanges nodes past before × (report.dropped + report.kept ≡ length before + count_between (horizon nodes past) (floor nodes past) (writes past))
 
 -- What the vacuum of this report left: at or below its floor the fewest rows that answer as all do at its points, as many as it
 -- reports. In the order of key, stamp and node its witnesses certify them.

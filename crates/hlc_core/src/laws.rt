@@ -4,7 +4,7 @@ ghost use Rattle.hlc_node.specs.Rows.{IsRowSet};
 ghost use Rattle.hlc_core.specs.Past.{Step, Vacuumed, IsLegal, writes, head, floor, open_snapshots, item_refusal};
 ghost use Rattle.hlc_witness.specs.Vacuumed.{Vacuumed as IsVacuumOf};
 ghost use Rattle.hlc_vacuum.specs.declared.report.Report.{Report as AReport};
-ghost use Rattle.hlc_core.specs.Stored.{AreVacuumPoints, IsReport, LeavesFewest};
+ghost use Rattle.hlc_core.specs.Stored.{AreVacuumPoints, IsReport, IsStoredCount, LeavesFewest};
 ghost use Rattle.hlc_core.specs.Kept.{Kept, nodes, vacuumed, StandsFor};
 ghost use Rattle.hlc_core.specs.Calls.{IsListing, Vacuums};
 ghost use Rattle.hlc_core.specs.declared.listing.Pair.{Pair as APair};
@@ -66,4 +66,13 @@ pub fn vacuums_leave_the_fewest()
     changes_are_computed();
     standing_rows_are_fewest();
     vacuums_are_certified();
+}
+
+/// After a past one report of a vacuum is due at most, and one number of stored rows.
+pub fn there_is_one_report()
+    ensures report { (nodes : ℕ) (past : List Step) (report other : AReport) → IsReport nodes past report → IsReport nodes past other → report ≡ other }
+    ensures count { (nodes : ℕ) (past : List Step) (count other : ℕ) → IsStoredCount nodes past count → IsStoredCount nodes past other → count ≡ other }
+{
+    points_are_unique();
+    changes_are_computed();
 }

@@ -19,7 +19,7 @@ use Rattle.hlc_world.specs.declared.reply.Reply.TheVariants.{Stamped, Sent, Rece
 use Rattle.hlc_world.specs.declared.refusal.Refusal.{Refusal}
 use Rattle.hlc_world.specs.declared.refusal.Refusal.TheVariants.{NoMemory as no_memory}
 use Rattle.hlc_world.specs.Schedule.{core_past}
-use Rattle.hlc_world.specs.Due.{refusal_due, IsReceived, IsObserved, IsAnswer, IsDueReply, IsGiven, IsLegal}
+use Rattle.hlc_world.specs.Due.{refusal_due, IsReceived, IsObserved, IsAnswer, IsDueReply, IsGiven}
 use Rattle.hlc_script.specs.declared.run.RunEnd.{RunEnd}
 use Rattle.hlc_script.specs.declared.run.RunEnd.TheVariants.{Answered, BadLine, BadHeader, NoMemory, ReadFault, TooLong, WriteFault}
 use Rattle.hlc_script.specs.Line.{lines_of, HasHeader, header_line}
@@ -57,55 +57,55 @@ same_listing : (o : Option ℕ) (rows : List Row) (pairs pairs2 : List Pair) →
 same_listing None rows pairs pairs2 due also = absurd due
 same_listing (Some stamp) rows pairs pairs2 due also = one-listing rows stamp pairs pairs2 due also
 
--- one report of a vacuum, and one number of stored rows, is due after a legal schedule
+-- one report of a vacuum, and one number of stored rows, is due
 pub record ReportLaws : Type 0 where
-  pub report : (nodes : ℕ) (schedule : List (Event × Reply)) (report other : AReport) → IsLegal nodes schedule → IsReport nodes (core_past schedule) report → IsReport nodes (core_past schedule) other → report ≡ other
+  pub report : (nodes : ℕ) (past : List Step) (report other : AReport) → IsReport nodes past report → IsReport nodes past other → report ≡ other
   pub count : (nodes : ℕ) (past : List Step) (count other : ℕ) → IsStoredCount nodes past count → IsStoredCount nodes past other → count ≡ other
 
 -- what is due where nothing is refused is one reply
-due_once : ReportLaws → (nodes : ℕ) (schedule : List (Event × Reply)) (event : Event) (reply other : Reply) → IsLegal nodes schedule → IsDueReply nodes schedule event reply → IsDueReply nodes schedule event other → reply ≡ other
-due_once laws nodes schedule (Write node reading key value) (Stamped stamp number) (Stamped stamp2 number2) legal due also = issued_once _ _ stamp stamp2 number number2 due also
-due_once laws nodes schedule (Write node reading key value) (Stamped stamp number) other legal due also = absurd also
-due_once laws nodes schedule (Delete node reading key) (Stamped stamp number) (Stamped stamp2 number2) legal due also = issued_once _ _ stamp stamp2 number number2 due also
-due_once laws nodes schedule (Delete node reading key) (Stamped stamp number) other legal due also = absurd also
-due_once laws nodes schedule (Report node reading) (Stamped stamp number) (Stamped stamp2 number2) legal due also = issued_once _ _ stamp stamp2 number number2 due also
-due_once laws nodes schedule (Report node reading) (Stamped stamp number) other legal due also = absurd also
-due_once laws nodes schedule (Send node reading) (Sent stamp number) (Sent stamp2 number2) legal due also =
+due_once : ReportLaws → (nodes : ℕ) (schedule : List (Event × Reply)) (event : Event) (reply other : Reply) → IsDueReply nodes schedule event reply → IsDueReply nodes schedule event other → reply ≡ other
+due_once laws nodes schedule (Write node reading key value) (Stamped stamp number) (Stamped stamp2 number2) due also = issued_once _ _ stamp stamp2 number number2 due also
+due_once laws nodes schedule (Write node reading key value) (Stamped stamp number) other due also = absurd also
+due_once laws nodes schedule (Delete node reading key) (Stamped stamp number) (Stamped stamp2 number2) due also = issued_once _ _ stamp stamp2 number number2 due also
+due_once laws nodes schedule (Delete node reading key) (Stamped stamp number) other due also = absurd also
+due_once laws nodes schedule (Report node reading) (Stamped stamp number) (Stamped stamp2 number2) due also = issued_once _ _ stamp stamp2 number number2 due also
+due_once laws nodes schedule (Report node reading) (Stamped stamp number) other due also = absurd also
+due_once laws nodes schedule (Send node reading) (Sent stamp number) (Sent stamp2 number2) due also =
     let stamps : ◌≡◌ {A = Result ℕ ClockFault} (Ok stamp) (Ok stamp2) = sym due.0 ∙ also.0 in
     let s : stamp ≡ stamp2 = cc in
     let n : number ≡ number2 = due.1 ∙ sym also.1 in cc
-due_once laws nodes schedule (Send node reading) (Sent stamp number) other legal due also = absurd also
-due_once laws nodes schedule (Receive node reading message) (Received stamp) (Received stamp2) legal due also = ap Received (same_receipt _ _ reading stamp stamp2 due also)
-due_once laws nodes schedule (Receive node reading message) (Received stamp) other legal due also = absurd also
-due_once laws nodes schedule (Deliver node number) (Accepted stamp) (Accepted stamp2) legal due also =
+due_once laws nodes schedule (Send node reading) (Sent stamp number) other due also = absurd also
+due_once laws nodes schedule (Receive node reading message) (Received stamp) (Received stamp2) due also = ap Received (same_receipt _ _ reading stamp stamp2 due also)
+due_once laws nodes schedule (Receive node reading message) (Received stamp) other due also = absurd also
+due_once laws nodes schedule (Deliver node number) (Accepted stamp) (Accepted stamp2) due also =
     let stamps : Some stamp ≡ Some stamp2 = sym due ∙ also in
     let s : stamp ≡ stamp2 = cc in cc
-due_once laws nodes schedule (Deliver node number) (Accepted stamp) other legal due also = absurd also
-due_once laws nodes schedule (Observe node reading id) (Observed stamp) (Observed stamp2) legal due also = ap Observed (same_observation _ _ reading stamp stamp2 due also)
-due_once laws nodes schedule (Observe node reading id) (Observed stamp) other legal due also = absurd also
-due_once laws nodes schedule (OpenAt at) (Snapshot id stamp) (Snapshot id2 stamp2) legal due also =
+due_once laws nodes schedule (Deliver node number) (Accepted stamp) other due also = absurd also
+due_once laws nodes schedule (Observe node reading id) (Observed stamp) (Observed stamp2) due also = ap Observed (same_observation _ _ reading stamp stamp2 due also)
+due_once laws nodes schedule (Observe node reading id) (Observed stamp) other due also = absurd also
+due_once laws nodes schedule (OpenAt at) (Snapshot id stamp) (Snapshot id2 stamp2) due also =
     let i : id ≡ id2 = due.0 ∙ sym also.0 in
     let s : stamp ≡ stamp2 = due.1 ∙ sym also.1 in cc
-due_once laws nodes schedule (OpenAt at) (Snapshot id stamp) other legal due also = absurd also
-due_once laws nodes schedule OpenFloor (Snapshot id stamp) (Snapshot id2 stamp2) legal due also =
+due_once laws nodes schedule (OpenAt at) (Snapshot id stamp) other due also = absurd also
+due_once laws nodes schedule OpenFloor (Snapshot id stamp) (Snapshot id2 stamp2) due also =
     let i : id ≡ id2 = due.0 ∙ sym also.0 in
     let s : stamp ≡ stamp2 = due.1 ∙ sym also.1 in cc
-due_once laws nodes schedule OpenFloor (Snapshot id stamp) other legal due also = absurd also
-due_once laws nodes schedule (Read id key) (Answer value) (Answer value2) legal due also = ap Answer (same_answer _ _ value value2 due also)
-due_once laws nodes schedule (Read id key) (Answer value) other legal due also = absurd also
-due_once laws nodes schedule (ListAll id) (Listing pairs) (Listing pairs2) legal due also = ap Listing (same_listing _ _ pairs pairs2 due also)
-due_once laws nodes schedule (ListAll id) (Listing pairs) other legal due also = absurd also
-due_once laws nodes schedule (Close id) (Closed stamp) (Closed stamp2) legal due also =
+due_once laws nodes schedule OpenFloor (Snapshot id stamp) other due also = absurd also
+due_once laws nodes schedule (Read id key) (Answer value) (Answer value2) due also = ap Answer (same_answer _ _ value value2 due also)
+due_once laws nodes schedule (Read id key) (Answer value) other due also = absurd also
+due_once laws nodes schedule (ListAll id) (Listing pairs) (Listing pairs2) due also = ap Listing (same_listing _ _ pairs pairs2 due also)
+due_once laws nodes schedule (ListAll id) (Listing pairs) other due also = absurd also
+due_once laws nodes schedule (Close id) (Closed stamp) (Closed stamp2) due also =
     let stamps : Some stamp ≡ Some stamp2 = sym due ∙ also in
     let s : stamp ≡ stamp2 = cc in cc
-due_once laws nodes schedule (Close id) (Closed stamp) other legal due also = absurd also
-due_once laws nodes schedule Floor (FloorIs stamp) (FloorIs stamp2) legal due also = ap FloorIs (due ∙ sym also)
-due_once laws nodes schedule Floor (FloorIs stamp) other legal due also = absurd also
-due_once laws nodes schedule Vacuum (Vacuumed report) (Vacuumed report2) legal due also = ap Vacuumed (laws.report nodes schedule report report2 legal due also)
-due_once laws nodes schedule Vacuum (Vacuumed report) other legal due also = absurd also
-due_once laws nodes schedule Rows (RowsAre count) (RowsAre count2) legal due also = ap RowsAre (laws.count nodes (core_past schedule) count count2 due also)
-due_once laws nodes schedule Rows (RowsAre count) other legal due also = absurd also
-due_once laws nodes schedule _ _ _ legal due also = absurd due
+due_once laws nodes schedule (Close id) (Closed stamp) other due also = absurd also
+due_once laws nodes schedule Floor (FloorIs stamp) (FloorIs stamp2) due also = ap FloorIs (due ∙ sym also)
+due_once laws nodes schedule Floor (FloorIs stamp) other due also = absurd also
+due_once laws nodes schedule Vacuum (Vacuumed report) (Vacuumed report2) due also = ap Vacuumed (laws.report nodes (core_past schedule) report report2 due also)
+due_once laws nodes schedule Vacuum (Vacuumed report) other due also = absurd also
+due_once laws nodes schedule Rows (RowsAre count) (RowsAre count2) due also = ap RowsAre (laws.count nodes (core_past schedule) count count2 due also)
+due_once laws nodes schedule Rows (RowsAre count) other due also = absurd also
+due_once laws nodes schedule _ _ _ due also = absurd due
 
 -- a given reply is a refusal, which is due or a want of memory; or it is due where no refusal is
 abbrev GivenCases : ℕ → List (Event × Reply) → Event → Reply → Type 0
@@ -129,22 +129,22 @@ given_cases nodes schedule event (FloorIs stamp) given = inr given
 given_cases nodes schedule event (Vacuumed report) given = inr given
 given_cases nodes schedule event (RowsAre count) given = inr given
 
-once : ReportLaws → (nodes : ℕ) (schedule : List (Event × Reply)) (event : Event) (reply other : Reply) → IsLegal nodes schedule → GivenCases nodes schedule event reply → GivenCases nodes schedule event other → OneReply reply other
-once laws nodes schedule event reply other legal (inl (refusal, is, inr lost)) also = inr (inl (is ∙ ap Refused lost))
-once laws nodes schedule event reply other legal (inl (refusal, is, inl due)) (inl (refusal2, is2, inr lost)) = inr (inr (is2 ∙ ap Refused lost))
-once laws nodes schedule event reply other legal (inl (refusal, is, inl due)) (inl (refusal2, is2, inl due2)) =
+once : ReportLaws → (nodes : ℕ) (schedule : List (Event × Reply)) (event : Event) (reply other : Reply) → GivenCases nodes schedule event reply → GivenCases nodes schedule event other → OneReply reply other
+once laws nodes schedule event reply other (inl (refusal, is, inr lost)) also = inr (inl (is ∙ ap Refused lost))
+once laws nodes schedule event reply other (inl (refusal, is, inl due)) (inl (refusal2, is2, inr lost)) = inr (inr (is2 ∙ ap Refused lost))
+once laws nodes schedule event reply other (inl (refusal, is, inl due)) (inl (refusal2, is2, inl due2)) =
     let both : Some refusal ≡ Some refusal2 = sym due ∙ due2 in
     let same : refusal ≡ refusal2 = cc in inl (is ∙ ap Refused same ∙ sym is2)
-once laws nodes schedule event reply other legal (inl (refusal, is, inl due)) (inr (none, reply_due)) =
+once laws nodes schedule event reply other (inl (refusal, is, inl due)) (inr (none, reply_due)) =
     absurd (let e : Some refusal ≡ None = sym due ∙ none in cc)
-once laws nodes schedule event reply other legal (inr (none, due)) (inl (refusal2, is2, inr lost)) = inr (inr (is2 ∙ ap Refused lost))
-once laws nodes schedule event reply other legal (inr (none, due)) (inl (refusal2, is2, inl due2)) =
+once laws nodes schedule event reply other (inr (none, due)) (inl (refusal2, is2, inr lost)) = inr (inr (is2 ∙ ap Refused lost))
+once laws nodes schedule event reply other (inr (none, due)) (inl (refusal2, is2, inl due2)) =
     absurd (let e : Some refusal2 ≡ None = sym due2 ∙ none in cc)
-once laws nodes schedule event reply other legal (inr (none, due)) (inr (none2, due2)) = inl (due_once laws nodes schedule event reply other legal due due2)
+once laws nodes schedule event reply other (inr (none, due)) (inr (none2, due2)) = inl (due_once laws nodes schedule event reply other due due2)
 
 -- a world gives one reply, unless memory was wanting
-given_once : ReportLaws → (nodes : ℕ) (schedule : List (Event × Reply)) (event : Event) (reply other : Reply) → IsLegal nodes schedule → IsGiven nodes schedule event reply → IsGiven nodes schedule event other → OneReply reply other
-given_once laws nodes schedule event reply other legal given also = once laws nodes schedule event reply other legal (given_cases nodes schedule event reply given) (given_cases nodes schedule event other also)
+given_once : ReportLaws → (nodes : ℕ) (schedule : List (Event × Reply)) (event : Event) (reply other : Reply) → IsGiven nodes schedule event reply → IsGiven nodes schedule event other → OneReply reply other
+given_once laws nodes schedule event reply other given also = once laws nodes schedule event reply other (given_cases nodes schedule event reply given) (given_cases nodes schedule event other also)
 
 abbrev Same : List ℕ → List ℕ → Option ℕ → Option ℕ → Type 0
 Same output other bad worse = ((output ≡ other) × (bad ≡ worse)) ⊎ (TellsNoMemory output ⊎ TellsNoMemory other)
@@ -173,35 +173,35 @@ same_behind_lines (line ∷ lines) rest more bad worse same =
     (subst G (sym (append_assoc (printed line) (flat_map printed lines) more)) (same_behind line _ _ bad worse (same_behind_lines lines rest more bad worse same)))
 
 -- a good line, answered twice
-one_line : ReportLaws → (nodes : ℕ) (schedule : List (Event × Reply)) (number : ℕ) (lines : List (List ℕ)) (bad worse : Option ℕ) (e : Event) (r q : Reply) (s t : List (Event × Reply)) (rest more : List ℕ) → IsLegal nodes schedule → ((u : List (Event × Reply)) (o p : List ℕ) → IsLegal nodes u → Answers nodes u (number + 1) lines o bad → Answers nodes u (number + 1) lines p worse → Same o p bad worse) → AnswersLine nodes schedule e r s → AnswersLine nodes schedule e q t → Answers nodes s (number + 1) lines rest bad → Answers nodes t (number + 1) lines more worse → Same (reply_text r ++ rest) (reply_text q ++ more) bad worse
-one_line laws nodes schedule number lines bad worse e r q s t rest more legal onward (inr lost) other first second = inr (inl (tells r rest lost.1))
-one_line laws nodes schedule number lines bad worse e r q s t rest more legal onward (inl given) (inr lost) first second = inr (inr (tells q more lost.1))
-one_line laws nodes schedule number lines bad worse e r q s t rest more legal onward (inl given) (inl also) first second =
-    elim (given_once laws nodes schedule e r q legal given.0 also.0) [
+one_line : ReportLaws → (nodes : ℕ) (schedule : List (Event × Reply)) (number : ℕ) (lines : List (List ℕ)) (bad worse : Option ℕ) (e : Event) (r q : Reply) (s t : List (Event × Reply)) (rest more : List ℕ) → ((u : List (Event × Reply)) (o p : List ℕ) → Answers nodes u (number + 1) lines o bad → Answers nodes u (number + 1) lines p worse → Same o p bad worse) → AnswersLine nodes schedule e r s → AnswersLine nodes schedule e q t → Answers nodes s (number + 1) lines rest bad → Answers nodes t (number + 1) lines more worse → Same (reply_text r ++ rest) (reply_text q ++ more) bad worse
+one_line laws nodes schedule number lines bad worse e r q s t rest more onward (inr lost) other first second = inr (inl (tells r rest lost.1))
+one_line laws nodes schedule number lines bad worse e r q s t rest more onward (inl given) (inr lost) first second = inr (inr (tells q more lost.1))
+one_line laws nodes schedule number lines bad worse e r q s t rest more onward (inl given) (inl also) first second =
+    elim (given_once laws nodes schedule e r q given.0 also.0) [
       | inr (inl lost) ↦ inr (inl (tells r rest lost))
       | inr (inr lost) ↦ inr (inr (tells q more lost))
       | inl same ↦
           let together : s ≡ t = given.1 ∙ ap (λ (x : Reply). (e, x) ∷ schedule) same ∙ sym also.1 in
           let F : List (Event × Reply) → Type 0 = λ (x : List (Event × Reply)). Answers nodes x (number + 1) lines more worse in
-          let found = same_behind_lines (reply_lines r) rest more bad worse (onward s rest more (subst (λ x. IsLegal nodes x) (sym given.1) (given.0, legal)) first (subst F (sym together) second)) in
+          let found = same_behind_lines (reply_lines r) rest more bad worse (onward s rest more first (subst F (sym together) second)) in
           let G : Reply → Type 0 = λ (x : Reply). Same (reply_text r ++ rest) (reply_text x ++ more) bad worse in
           subst G same found
     ]
 
 -- some lines, answered twice
-answered_once : ReportLaws → (nodes : ℕ) (schedule : List (Event × Reply)) (number : ℕ) (lines : List (List ℕ)) (output other : List ℕ) (bad worse : Option ℕ) → IsLegal nodes schedule → Answers nodes schedule number lines output bad → Answers nodes schedule number lines other worse → Same output other bad worse
-answered_once laws nodes schedule number [] output other bad worse legal (none, well) (none2, well2) = inl (none ∙ sym none2, well ∙ sym well2)
-answered_once laws nodes schedule number (line ∷ lines) output other bad worse legal (inl (e, r, s, rest, has, spelled, answers, is, first)) (inl (f, q, t, more, also, spelled2, answers2, is2, second)) =
+answered_once : ReportLaws → (nodes : ℕ) (schedule : List (Event × Reply)) (number : ℕ) (lines : List (List ℕ)) (output other : List ℕ) (bad worse : Option ℕ) → Answers nodes schedule number lines output bad → Answers nodes schedule number lines other worse → Same output other bad worse
+answered_once laws nodes schedule number [] output other bad worse (none, well) (none2, well2) = inl (none ∙ sym none2, well ∙ sym well2)
+answered_once laws nodes schedule number (line ∷ lines) output other bad worse (inl (e, r, s, rest, has, spelled, answers, is, first)) (inl (f, q, t, more, also, spelled2, answers2, is2, second)) =
     let event : f ≡ e = one_event f e also has (sym spelled2 ∙ spelled) in
     let found : Same (reply_text r ++ rest) (reply_text q ++ more) bad worse =
-    one_line laws nodes schedule number lines bad worse e r q s t rest more legal (λ u o p. answered_once laws nodes u (number + 1) lines o p bad worse)
+    one_line laws nodes schedule number lines bad worse e r q s t rest more (λ u o p. answered_once laws nodes u (number + 1) lines o p bad worse)
     answers (subst (λ (x : Event). AnswersLine nodes schedule x q t) event answers2) first second in
     let G : List ℕ → Type 0 = λ (o : List ℕ). Same o other bad worse in
     let H : List ℕ → Type 0 = λ (o : List ℕ). Same (reply_text r ++ rest) o bad worse in
     subst G (sym is) (subst H (sym is2) found)
-answered_once laws nodes schedule number (line ∷ lines) output other bad worse legal (inl (e, r, s, rest, has, spelled, answers, is, first)) (inr (none, is2, well2)) = absurd (none e has spelled)
-answered_once laws nodes schedule number (line ∷ lines) output other bad worse legal (inr (none, is, well)) (inl (f, q, t, more, also, spelled2, answers2, is2, second)) = absurd (none f also spelled2)
-answered_once laws nodes schedule number (line ∷ lines) output other bad worse legal (inr (none, is, well)) (inr (none2, is2, well2)) = inl (is ∙ sym is2, well ∙ sym well2)
+answered_once laws nodes schedule number (line ∷ lines) output other bad worse (inl (e, r, s, rest, has, spelled, answers, is, first)) (inr (none, is2, well2)) = absurd (none e has spelled)
+answered_once laws nodes schedule number (line ∷ lines) output other bad worse (inr (none, is, well)) (inl (f, q, t, more, also, spelled2, answers2, is2, second)) = absurd (none f also spelled2)
+answered_once laws nodes schedule number (line ∷ lines) output other bad worse (inr (none, is, well)) (inr (none2, is2, well2)) = inl (is ∙ sym is2, well ∙ sym well2)
 
 -- a script, answered twice
 script_once : ReportLaws → (input output other : List ℕ) (bad worse : Option ℕ) → AnswersScript input output bad → AnswersScript input other worse → Same output other bad worse
@@ -212,7 +212,7 @@ script_once laws input output other bad worse (nodes, lines, replies, has, first
     let same : nodes2 ≡ nodes = one_header nodes2 nodes has2 has header in
     let answers3 : Answers nodes [] 2 lines replies2 worse = subst (λ (n : ℕ). Answers n [] 2 lines replies2 worse) same (subst (λ (ls : List (List ℕ)). Answers nodes2 [] 2 ls replies2 worse) same_lines answers2) in
     let found : Same (printed (header_line nodes) ++ replies) (printed (header_line nodes) ++ replies2) bad worse =
-    same_behind (header_line nodes) replies replies2 bad worse (answered_once laws nodes [] 2 lines replies replies2 bad worse tt answers answers3) in
+    same_behind (header_line nodes) replies replies2 bad worse (answered_once laws nodes [] 2 lines replies replies2 bad worse answers answers3) in
     let G : List ℕ → Type 0 = λ (o : List ℕ). Same o other bad worse in
     let H : List ℕ → Type 0 = λ (o : List ℕ). Same (printed (header_line nodes) ++ replies) o bad worse in
     subst G (sym is) (subst H (sym (is2 ∙ ap (λ (n : ℕ). printed (header_line n) ++ replies2) same)) found)

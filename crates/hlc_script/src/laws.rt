@@ -1,7 +1,7 @@
 //! What holds of every script. A law that calls another follows from it.
 ghost use Rattle.hlc_script.specs.Laws.{OneEvent, OneOutput};
 
-use hlc_world::there_is_one_report;
+use hlc_core::there_is_one_report;
 
 /// A line is the line of one event at most.
 pub fn one_event_for_a_line()

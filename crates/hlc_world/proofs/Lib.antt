@@ -8,6 +8,5 @@ pub mod Entries
 pub mod Openings
 pub mod Times
 pub mod Closure
-pub mod OneReport
 pub mod Faithful
 pub mod Runs

@@ -1,17 +1,10 @@
 //! What holds of every schedule that a world can stand for. A law that calls others follows from them.
-ghost use Rattle.std.specs.Prelude.{◌≡◌, ◌<◌, ℕ, List};
+ghost use Rattle.std.specs.Prelude.{◌<◌, ℕ, List};
 ghost use Rattle.hlc_world.specs.declared.event.Event.{Event as AnEvent};
 ghost use Rattle.hlc_world.specs.declared.reply.Reply.{Reply as AReply};
-ghost use Rattle.hlc_core.specs.Past.{Step};
-ghost use Rattle.hlc_core.specs.Stored.{IsStoredCount, IsReport};
-ghost use Rattle.hlc_vacuum.specs.declared.report.Report.{Report as AReport};
-ghost use Rattle.hlc_world.specs.Schedule.{core_past};
 ghost use Rattle.hlc_world.specs.Due.{IsLegal};
 ghost use Rattle.hlc_world.specs.Before.{HappenedBefore, IsStamped};
 ghost use Rattle.hlc_world.specs.Floor.{IsComplete, IsBelowClocks, IsClosed};
-
-use hlc_snapshot::points_are_unique;
-use hlc_witness::changes_are_computed;
 
 /// In a schedule whose events were each given their due, as in each that a world stands for, if an
 /// event happened before another (Lamport 1978), its stamp is the lesser.
@@ -35,13 +28,3 @@ pub fn no_clock_is_below_the_floor()
 pub fn open_snapshots_are_closed()
     ensures { (nodes : ℕ) (schedule : List (AnEvent × AReply)) → IsLegal nodes schedule → IsClosed schedule }
 {}
-
-/// After such a schedule one report of a vacuum is due, and after any past one number of stored
-/// rows, whatever vacuums dropped.
-pub fn there_is_one_report()
-    ensures report { (nodes : ℕ) (schedule : List (AnEvent × AReply)) (report other : AReport) → IsLegal nodes schedule → IsReport nodes (core_past schedule) report → IsReport nodes (core_past schedule) other → report ≡ other }
-    ensures count { (nodes : ℕ) (past : List Step) (count other : ℕ) → IsStoredCount nodes past count → IsStoredCount nodes past other → count ≡ other }
-{
-    points_are_unique();
-    changes_are_computed();
-}
