@@ -22,8 +22,8 @@ abbrev pub nodes : Kept → ℕ
 nodes kept = length kept.links
 
 -- with these rows left, at this horizon
-abbrev pub vacuumed : Kept → List Row → ℕ → Kept
-vacuumed kept rows horizon = record { links = kept.links; snapshots = kept.snapshots; opened = kept.opened; horizon = horizon; rows = rows }
+abbrev pub with_rows_left : Kept → List Row → ℕ → Kept
+with_rows_left kept rows horizon = record { links = kept.links; snapshots = kept.snapshots; opened = kept.opened; horizon = horizon; rows = rows }
 
 -- there are 1 to 64 links, and the heads are theirs
 pub record IsMatched (links : List Progress) (heads : List ℕ) : Type 0 where
@@ -31,7 +31,7 @@ pub record IsMatched (links : List Progress) (heads : List ℕ) : Type 0 where
   pub few : length links ≤ 64
   pub same : heads ≡ map (λ link. link.head) links
 
--- no open snapshot is above any head, no two rows are alike, and none is above the head of its node
+-- no open snapshot is above any head, no two rows are one version, and none is above the head of its node
 pub record IsHeld (heads : List ℕ) (snapshots : List Snapshot) (rows : List Row) : Type 0 where
   pub opened : All (λ snapshot. All (λ head. snapshot.stamp ≤ head) heads) snapshots
   pub row_set : IsRowSet rows

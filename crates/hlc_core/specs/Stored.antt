@@ -2,6 +2,7 @@
 use Rattle.std.specs.Prelude.{◌≡◌, ℕ, ◌+◌, List, [], ◌∷◌, length}
 use Rattle.std.specs.List.Sorted.{IsPermutation}
 use Rattle.hlc_node.specs.declared.row.Row.{Row}
+use Rattle.hlc_node.specs.Rows.{IsRowSet}
 use Rattle.hlc_snapshot.specs.Register.{stamps}
 use Rattle.hlc_snapshot.specs.Points.{ArePoints}
 use Rattle.hlc_witness.specs.declared.witness.Witness.{Witness}
@@ -41,9 +42,10 @@ pub record IsReport (nodes : ℕ) (past : List Step) (report : Report) : Type 0 
   pub kept : report.kept ≡ length report.witnesses
   pub dropped : (before : List Witness) × AreLastChanges nodes past before × (report.dropped + report.kept ≡ length before + count_between (horizon nodes past) (floor nodes past) (writes past))
 
--- What the vacuum of this report left: at or below its floor the fewest rows that answer as all do at its points, as many as it
--- reports. In the order of key, stamp and node its witnesses certify them.
+-- What the vacuum of this report left: at or below its floor a row set, the fewest rows that answer as all do at its points, as many as
+-- it reports. In the order of key, stamp and node its witnesses certify them.
 pub record LeavesFewest (rows all : List Row) (report : Report) : Type 0 where
+  pub row_set : IsRowSet (rows_to report.floor rows)
   pub fewest : Fewest (rows_to report.floor rows) all report.points
   pub count : length (rows_to report.floor rows) ≡ report.kept
   pub certified : (listed : List Row) → IsPermutation (rows_to report.floor rows) listed → RowsAscend listed → IsCertificate listed report.points report.witnesses

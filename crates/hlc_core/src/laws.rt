@@ -1,11 +1,12 @@
-//! What holds of every legal past.
+//! What holds of every legal past, and of cores that stand for one. A law that calls others follows
+//! from them.
 ghost use Rattle.std.specs.Prelude.{◌≡◌, ◌+◌, ◌<◌, ◌≤◌, ℕ, List, ◌∷◌, None, All, length};
 ghost use Rattle.hlc_node.specs.Rows.{IsRowSet};
 ghost use Rattle.hlc_core.specs.Past.{Step, Vacuumed, IsLegal, writes, head, floor, open_snapshots, item_refusal};
-ghost use Rattle.hlc_witness.specs.Vacuumed.{Vacuumed as IsVacuumOf};
+ghost use Rattle.hlc_witness.specs.Vacuumed.{IsVacuumOf};
 ghost use Rattle.hlc_vacuum.specs.declared.report.Report.{Report as AReport};
 ghost use Rattle.hlc_core.specs.Stored.{AreVacuumPoints, IsReport, IsStoredCount, LeavesFewest};
-ghost use Rattle.hlc_core.specs.Kept.{Kept, nodes, vacuumed, StandsFor};
+ghost use Rattle.hlc_core.specs.Kept.{Kept, nodes, with_rows_left, StandsFor};
 ghost use Rattle.hlc_core.specs.Calls.{IsListing, Vacuums};
 ghost use Rattle.hlc_core.specs.declared.listing.Pair.{Pair as APair};
 ghost use Rattle.hlc_node.specs.declared.item.Item.{Item as AnItem};
@@ -48,7 +49,7 @@ pub fn there_is_one_listing()
 /// A vacuum of the stored rows at the points of the past keeps the core standing, reports what is
 /// due, and leaves the fewest.
 pub fn vacuums_keep_standing()
-    ensures { (kept : Kept) (past : List Step) (rows : List ARow) (report : AReport) → StandsFor kept past → AreVacuumPoints (nodes kept) past report.points → IsVacuumOf kept.rows report.points report.witnesses rows → report.floor ≡ floor (nodes kept) past → report.kept ≡ length report.witnesses → report.dropped + length rows ≡ length kept.rows → Vacuums kept (vacuumed kept rows (floor (nodes kept) past)) past report }
+    ensures { (kept : Kept) (past : List Step) (rows : List ARow) (report : AReport) → StandsFor kept past → AreVacuumPoints (nodes kept) past report.points → IsVacuumOf kept.rows report.points report.witnesses rows → report.floor ≡ floor (nodes kept) past → report.kept ≡ length report.witnesses → report.dropped + length rows ≡ length kept.rows → Vacuums kept (with_rows_left kept rows (floor (nodes kept) past)) past report }
 {
     points_are_unique();
     changes_are_computed();

@@ -1,5 +1,6 @@
-//! The sequential store: items are accepted in the order of each link, snapshots open at the
-//! floor, and a read gives the newest accepted value.
+//! The sequential store: items are accepted in the order of each link, snapshots open from the
+//! horizon to the floor, a read gives the newest accepted value, and a vacuum keeps the fewest rows
+//! that answer so.
 #![tactic(auto)]
 
 mod fault;

@@ -27,8 +27,8 @@ use std::marker::Model;
 /// A table fed by the links of its nodes.
 ///
 /// Contracts see what it keeps, and relate that to a past: a core stands for the items that it
-/// accepted and the snapshots that it opened, in order. A call that is refused leaves the core
-/// unchanged.
+/// accepted, the snapshots that it opened and closed and its vacuums, in order. A call that is
+/// refused leaves the core unchanged.
 #[derive(Drop)]
 pub struct Core {
     intakes: Vec<Intake>,

@@ -2,7 +2,7 @@
 use Rattle.std.specs.Prelude.{◌≡◌, ℕ, List, [], ◌∷◌, Bool, length, if◌then◌else◌}
 use Rattle.hlc_node.specs.declared.row.Row.{Row}
 use Rattle.hlc_witness.specs.Points.{PointsAscend}
-use Rattle.hlc_witness.specs.Vacuumed.{Vacuumed}
+use Rattle.hlc_witness.specs.Vacuumed.{IsVacuumOf}
 use Rattle.hlc_witness.specs.declared.witness.Witness.{Witness}
 
 -- for each row in turn whether it is kept; the points; and the changes that ask for the rows kept at or below the last point
@@ -21,4 +21,4 @@ chosen (keep ∷ flags) (member ∷ members) = if keep then member ∷ chosen fl
 pub record IsPlanOf (plan : Planned) (rows : List Row) : Type 0 where
   pub each : length plan.keep ≡ length rows
   pub ascend : PointsAscend plan.points
-  pub vacuumed : Vacuumed rows plan.points plan.witnesses (chosen plan.keep rows)
+  pub vacuumed : IsVacuumOf rows plan.points plan.witnesses (chosen plan.keep rows)

@@ -2,7 +2,7 @@
 ghost use Rattle.std.specs.Prelude.{◌≡◌, ◌+◌, length};
 ghost use Rattle.hlc_witness.specs.Points.{last_point};
 ghost use Rattle.hlc_witness.specs.Fewest.{Fewest};
-ghost use Rattle.hlc_witness.specs.Vacuumed.{Vacuumed, rows_to};
+ghost use Rattle.hlc_witness.specs.Vacuumed.{IsVacuumOf, rows_to};
 ghost use Rattle.hlc_vacuum.specs.Plan.{IsPlanOf, chosen};
 
 use crate::plan::Plan;
@@ -15,7 +15,7 @@ use hlc_witness::vacuums_keep_fewest;
 pub fn apply_rows(rows: &mut Vec<Row>, plan: Plan) -> Report
     requires { IsPlanOf plan rows.old.items }
     ensures rows { rows.new.items ≡ chosen plan.keep rows.old.items }
-    ensures vacuumed { Vacuumed rows.old.items result.points result.witnesses rows.new.items }
+    ensures vacuumed { IsVacuumOf rows.old.items result.points result.witnesses rows.new.items }
     ensures fewest { Fewest (rows_to result.floor rows.new.items) rows.old.items result.points }
     ensures floor { result.floor ≡ last_point plan.points }
     ensures points { result.points ≡ plan.points }

@@ -11,7 +11,7 @@ use Rattle.hlc_witness.specs.declared.witness.Witness.{Witness}
 use Rattle.hlc_witness.specs.Points.{PointsAscend, IsPointBefore, last_point}
 use Rattle.hlc_witness.specs.Fewest.{Alike, Fewest}
 use Rattle.hlc_witness.specs.Changes.{IsChange, AreChanges, answer_at, change_cmp}
-use Rattle.hlc_witness.specs.Vacuumed.{Vacuumed, rows_to}
+use Rattle.hlc_witness.specs.Vacuumed.{IsVacuumOf, rows_to}
 use Rattle.hlc_witness.specs.Certificate.{IsCertificate, RowsAscend, NoneAbove, row_cmp}
 use Rattle.hlc_witness.proofs.Members.{Contains-filter, Contains-from_filter}
 use Rattle.hlc_witness.proofs.Newest.{NewestLaws, IsUniqueLaw, answer_none, answer_some}
@@ -87,7 +87,7 @@ answer-rows_to laws unique rows bound key point set' le =
           ∙ sym (answer_some rows key point v e)
     ] refl
 
-pub vacuum_keeps_fewest : NewestLaws → IsUniqueLaw → (rows kept : List Row) (points : List ℕ) (changes : List Witness) → PointsAscend points → Vacuumed rows points changes kept → Fewest (rows_to (last_point points) kept) rows points
+pub vacuum_keeps_fewest : NewestLaws → IsUniqueLaw → (rows kept : List Row) (points : List ℕ) (changes : List Witness) → PointsAscend points → IsVacuumOf rows points changes kept → Fewest (rows_to (last_point points) kept) rows points
 vacuum_keeps_fewest laws unique rows kept points changes rise v = record {
   alike = λ key point i. answer-rows_to laws unique kept (last_point points) key point v.row_set (last_upper points rise point i) ∙ v.alike key point i;
   least = λ others set' alike. let h = changes_force_rows laws rows others points changes v.listed.ascend v.listed.each alike in let e = v.count in omega arith;

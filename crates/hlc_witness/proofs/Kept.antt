@@ -13,7 +13,7 @@ use Rattle.hlc_witness.specs.declared.witness.Witness.{Witness}
 use Rattle.hlc_witness.specs.Points.{PointsAscend, IsPointBefore, last_point}
 use Rattle.hlc_witness.specs.Fewest.{Alike}
 use Rattle.hlc_witness.specs.Changes.{IsChange, AreChanges, answer_at}
-use Rattle.hlc_witness.specs.Vacuumed.{KeepsNewest, Vacuumed, rows_to}
+use Rattle.hlc_witness.specs.Vacuumed.{KeepsNewest, IsVacuumOf, rows_to}
 use Rattle.hlc_witness.proofs.Members.{Contains-from_filter}
 use Rattle.hlc_witness.proofs.Newest.{NewestLaws, IsUniqueLaw, stamp_below, answer_none, answer_some, answer_same}
 use Rattle.hlc_witness.proofs.Pigeons.{served, sum_by_one}
@@ -156,7 +156,7 @@ module _ (laws : NewestLaws) (unique : IsUniqueLaw) (rows : List Row) (points : 
       let d = sum_by_one changes in
       omega arith
 
-  pub vacuumed : Vacuumed rows points changes kept
+  pub vacuumed : IsVacuumOf rows points changes kept
   vacuumed = record {
     listed = are;
     row_set = keeps.row_set;

@@ -11,7 +11,7 @@ use Rattle.hlc_witness.specs.declared.witness.Witness.{Witness}
 use Rattle.hlc_witness.specs.Points.{PointsAscend, last_point}
 use Rattle.hlc_witness.specs.Fewest.{Alike}
 use Rattle.hlc_witness.specs.Changes.{IsChange, AreChanges}
-use Rattle.hlc_witness.specs.Vacuumed.{Vacuumed, rows_to}
+use Rattle.hlc_witness.specs.Vacuumed.{IsVacuumOf, rows_to}
 use Rattle.hlc_witness.specs.Certificate.{IsCertificate, RowsAscend}
 use Rattle.hlc_witness.specs.Standing.{RowsStandFor, StandsAfterVacuum, count_above, count_between}
 use Rattle.hlc_witness.proofs.Members.{Contains-none, Contains-first, Contains-rest, Contains-cons_cases, Contains-filter, Contains-from_filter}
@@ -209,7 +209,7 @@ module _ (floor : ℕ) (opened points : List ℕ) (members : (point : ℕ) → C
         stored_count = counts;
       }
 
-  pub after_vacuum : NewestLaws → IsUniqueLaw → (stored all kept : List Row) (horizon : ℕ) (changes : List Witness) → RowsStandFor stored all horizon opened → horizon ≤ floor → PointsAscend points → Vacuumed stored points changes kept → StandsAfterVacuum kept all floor opened points changes
+  pub after_vacuum : NewestLaws → IsUniqueLaw → (stored all kept : List Row) (horizon : ℕ) (changes : List Witness) → RowsStandFor stored all horizon opened → horizon ≤ floor → PointsAscend points → IsVacuumOf stored points changes kept → StandsAfterVacuum kept all floor opened points changes
   after_vacuum laws unique stored all kept horizon changes stands le rise v =
       let last : last_point points ≡ floor = last_is rise in
       let stored_alike : Alike stored all points = λ key point i.

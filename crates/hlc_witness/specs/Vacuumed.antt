@@ -13,7 +13,7 @@ rows_to bound rows = filter (λ row. nat_le row.stamp bound) rows
 
 -- The rows kept are rows of these and a row set, all above the last point among them. They answer alike at the points, and at or
 -- below the last point they are as many as the changes.
-pub record Vacuumed (rows : List Row) (points : List ℕ) (changes : List Witness) (kept : List Row) : Type 0 where
+pub record IsVacuumOf (rows : List Row) (points : List ℕ) (changes : List Witness) (kept : List Row) : Type 0 where
   pub listed : AreChanges rows points changes
   pub row_set : IsRowSet kept
   pub within : (row : Row) → Contains kept row → Contains rows row

@@ -10,7 +10,7 @@ ghost use Rattle.hlc_witness.specs.Points.{PointsAscend, last_point};
 ghost use Rattle.hlc_witness.specs.Fewest.{Alike, Fewest};
 ghost use Rattle.hlc_witness.specs.Changes.{AreChanges};
 ghost use Rattle.hlc_witness.specs.AllChanges.{all_changes, changes_of};
-ghost use Rattle.hlc_witness.specs.Vacuumed.{KeepsNewest, Vacuumed, rows_to};
+ghost use Rattle.hlc_witness.specs.Vacuumed.{KeepsNewest, IsVacuumOf, rows_to};
 ghost use Rattle.hlc_witness.specs.Certificate.{IsCertificate, RowsAscend, NoneAbove};
 ghost use Rattle.hlc_witness.specs.Standing.{RowsStandFor, StandsAfterVacuum, count_above, count_between};
 
@@ -64,7 +64,7 @@ pub fn changes_are_found_key_by_key()
 
 /// What a vacuum keeps at or below the last point is the fewest, against all rows that there were.
 pub fn vacuums_keep_fewest()
-    ensures { (rows kept : List ARow) (points : List ℕ) (changes : List AWitness) → PointsAscend points → Vacuumed rows points changes kept → Fewest (rows_to (last_point points) kept) rows points }
+    ensures { (rows kept : List ARow) (points : List ℕ) (changes : List AWitness) → PointsAscend points → IsVacuumOf rows points changes kept → Fewest (rows_to (last_point points) kept) rows points }
 {
     newest_is_greatest();
     no_newest_no_row();
@@ -74,7 +74,7 @@ pub fn vacuums_keep_fewest()
 
 /// Keeping the newest row at each change, all rows above the last point, and no other, is a vacuum.
 pub fn newest_rows_suffice()
-    ensures { (rows kept : List ARow) (points : List ℕ) (changes : List AWitness) → PointsAscend points → AreChanges rows points changes → KeepsNewest rows points changes kept → Vacuumed rows points changes kept }
+    ensures { (rows kept : List ARow) (points : List ℕ) (changes : List AWitness) → PointsAscend points → AreChanges rows points changes → KeepsNewest rows points changes kept → IsVacuumOf rows points changes kept }
 {
     newest_is_greatest();
     no_newest_no_row();
@@ -99,7 +99,7 @@ pub fn vacuums_are_certified()
 /// are the fewest against all of them, whatever was dropped before. Its points are the open stamps,
 /// none of them above the floor, and the floor.
 pub fn vacuums_compose()
-    ensures { (stored all kept : List ARow) (horizon floor : ℕ) (opened points : List ℕ) (changes : List AWitness) → RowsStandFor stored all horizon opened → horizon ≤ floor → PointsAscend points → ((point : ℕ) → Contains points point ↔ (Contains opened point ⊎ (point ≡ floor))) → ((stamp : ℕ) → Contains opened stamp → stamp ≤ floor) → Vacuumed stored points changes kept → StandsAfterVacuum kept all floor opened points changes }
+    ensures { (stored all kept : List ARow) (horizon floor : ℕ) (opened points : List ℕ) (changes : List AWitness) → RowsStandFor stored all horizon opened → horizon ≤ floor → PointsAscend points → ((point : ℕ) → Contains points point ↔ (Contains opened point ⊎ (point ≡ floor))) → ((stamp : ℕ) → Contains opened stamp → stamp ≤ floor) → IsVacuumOf stored points changes kept → StandsAfterVacuum kept all floor opened points changes }
 {
     newest_is_greatest();
     no_newest_no_row();

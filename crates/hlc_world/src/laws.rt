@@ -5,6 +5,11 @@ ghost use Rattle.hlc_world.specs.declared.reply.Reply.{Reply as AReply};
 ghost use Rattle.hlc_world.specs.Due.{IsLegal};
 ghost use Rattle.hlc_world.specs.Before.{HappenedBefore, IsStamped};
 ghost use Rattle.hlc_world.specs.Floor.{IsComplete, IsBelowClocks, IsClosed};
+ghost use Rattle.hlc_world.specs.Headline.{IsFaithful};
+ghost use Rattle.hlc_world.specs.State.{State, IsMatched, StandsFor, world_nodes};
+
+use hlc_core::vacuums_leave_the_fewest;
+use hlc_witness::changes_force_rows;
 
 /// In a schedule whose events were each given their due, as in each that a world stands for, if an
 /// event happened before another (Lamport 1978), its stamp is the lesser.
@@ -28,3 +33,12 @@ pub fn no_clock_is_below_the_floor()
 pub fn open_snapshots_are_closed()
     ensures { (nodes : ℕ) (schedule : List (AnEvent × AReply)) → IsLegal nodes schedule → IsClosed schedule }
 {}
+
+/// A world is faithful to each schedule that it stands for: its reads gave the newest accepted
+/// values, what can be read is closed, its vacuums were the least, and left the fewest rows.
+pub fn worlds_are_faithful()
+    ensures { (state : State) (schedule : List (AnEvent × AReply)) → IsMatched state → StandsFor state schedule → IsFaithful (world_nodes state) schedule state.core.rows }
+{
+    changes_force_rows();
+    vacuums_leave_the_fewest();
+}

@@ -8,18 +8,18 @@ ghost use Rattle.hlc_world.specs.Before.{HappenedBefore, IsStamped};
 ghost use Rattle.hlc_world.specs.Due.{IsGiven, IsRefused};
 ghost use Rattle.hlc_world.specs.Floor.{IsComplete, IsBelowClocks, IsClosed};
 ghost use Rattle.hlc_world.specs.Headline.{IsFaithful};
-ghost use Rattle.hlc_world.specs.State.{StandsFor, Makes, world_nodes, fresh};
+ghost use Rattle.hlc_world.specs.State.{StandsFor, IsMatched, Makes, world_nodes, fresh};
 ghost use Rattle.hlc_world.specs.declared.event.Event.{Event as AnEvent};
 ghost use Rattle.hlc_world.specs.declared.reply.Reply.{Reply as AReply};
 
 use crate::event::Event;
+use crate::laws::worlds_are_faithful;
 use crate::node::Node;
 use crate::refusal::{self, NoMemory, Refusal};
 use crate::reply::Reply;
 use hlc_clock::Stamp;
-use hlc_core::{Core, CoreFault, vacuums_leave_the_fewest};
+use hlc_core::{Core, CoreFault};
 use hlc_node::{Bytes, Item, Message};
-use hlc_witness::changes_force_rows;
 use std::alloc::{AllocError, Global};
 use std::marker::Model;
 
@@ -91,11 +91,9 @@ impl World {
         ensures nodes { world_nodes self.new ≡ world_nodes self.old }
     {
         // What the proof cites.
-        changes_force_rows();
-        vacuums_leave_the_fewest();
+        worlds_are_faithful();
         let reply = self.take_place(event);
-        // The world's invariant is known where a field is looked at.
-        let _ = &self.core;
+        self.has_a_link_for_each_node();
         reply
     }
 
@@ -108,8 +106,7 @@ impl World {
         ensures nodes { world_nodes self.new ≡ world_nodes self.old }
     {
         // What the proof cites.
-        changes_force_rows();
-        vacuums_leave_the_fewest();
+        worlds_are_faithful();
         let mut replies = match Vec::with_capacity(self.alloc, events.len()) {
             Ok(replies) => replies,
             Err(_) => return Err((NoMemory, events)),
@@ -118,9 +115,16 @@ impl World {
             let reply = self.step(event);
             replies.push_reserved(reply);
         }
-        // The world's invariant is known where a field is looked at.
-        let _ = &self.core;
+        self.has_a_link_for_each_node();
         Ok(replies)
+    }
+
+    /// The core has a link for each node, as the invariant says: it is known where a field is looked
+    /// at.
+    fn has_a_link_for_each_node(&self)
+        ensures { IsMatched self.now }
+    {
+        let _ = &self.core;
     }
 
     fn take_place(&mut self, event: Event) -> Reply

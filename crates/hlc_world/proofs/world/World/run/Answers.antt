@@ -4,7 +4,6 @@ use Rattle.hlc_world.specs.State.{StandsFor}
 use Rattle.hlc_world.specs.Headline.{IsFaithful}
 use Rattle.std.proofs.lemmas.Grind.{common_steps}
 use Rattle.hlc_world.proofs.Runs.{after-push}
-use Rattle.hlc_world.proofs.Faithful.{faithful}
 use Rattle.hlc_world.proofs.world.World.run.Goals as goal
 
 pub loop-event-preserved : goal.loop-event-preserved
@@ -24,4 +23,4 @@ returns-clause-faithful c = λ s h.
     let stands : StandsFor c.loop-event.self (after c.args.events.items c.loop-event.replies.items s) =
     subst (λ events. StandsFor c.loop-event.self (after events c.loop-event.replies.items s)) end (c.loop-event.invariant.stands s h) in
     subst (λ n. IsFaithful n (after c.args.events.items c.loop-event.replies.items s) c.loop-event.self.core.rows) c.loop-event.invariant.same
-    (faithful c.changes_force_rows.ensures.listed c.vacuums_leave_the_fewest.ensures c.loop-event.self (after c.args.events.items c.loop-event.replies.items s) (rw (← c.self-2.view_is) c.self-2.invariant) stands)
+    (c.worlds_are_faithful.ensures c.loop-event.self (after c.args.events.items c.loop-event.replies.items s) c.has_a_link_for_each_node.ensures stands)

@@ -4,7 +4,6 @@ use Rattle.hlc_world.proofs.Times.{less}
 use Rattle.hlc_world.proofs.Floors.{complete, below_clocks}
 use Rattle.hlc_world.proofs.Rises.{rising}
 use Rattle.hlc_world.proofs.Closure.{closed}
-use Rattle.hlc_world.proofs.Faithful.{faithful}
 use Rattle.hlc_world.specs.Headline.{IsFaithful}
 use Rattle.hlc_world.proofs.world.World.step.Goals as goal
 
@@ -27,4 +26,4 @@ returns-clause-closed c = λ s h. closed _ ((c.args.event, c.take_place-reply.re
 
 pub returns-clause-faithful : goal.returns-clause-faithful
 returns-clause-faithful c = λ s h. subst (λ n. IsFaithful n ((c.args.event, c.take_place-reply.result) ∷ s) c.take_place-reply.new.self.core.rows) c.take_place-reply.ensures.nodes
-    (faithful c.changes_force_rows.ensures.listed c.vacuums_leave_the_fewest.ensures c.take_place-reply.new.self ((c.args.event, c.take_place-reply.result) ∷ s) (rw (← c.self.view_is) c.self.invariant) (c.take_place-reply.ensures.stands s h))
+    (c.worlds_are_faithful.ensures c.take_place-reply.new.self ((c.args.event, c.take_place-reply.result) ∷ s) c.has_a_link_for_each_node.ensures (c.take_place-reply.ensures.stands s h))
