@@ -1,5 +1,7 @@
-//! A long history, compared with that of a world that is never vacuumed.
-use hlc_world::{Bytes, Event, Reply, Stamp, World};
+//! Histories of a world: a short one by hand, and a long one whose reads are compared with plain lists.
+use crate::items::bytes;
+use hlc_core::{Body, Item, Row};
+use hlc_world::{Bytes, Event, Points, Refusal, Reply, Report, Stamp, Witness, Witnesses, World};
 use std::alloc::{AllocError, Global};
 use std::test::*;
 
@@ -127,28 +129,199 @@ fn opening_of(lots: &mut Lots, course: &Course) -> Event {
     }
 }
 
-/// Two worlds that are handed the same events, but that the one is vacuumed and the other is not.
-#[derive(Drop)]
-struct Worlds {
-    vacuumed: World,
-    plain: World,
-    dropped: u128,
+/// The row of an item, if it is a write, as a copy.
+fn row_of(item: &Item) -> Result<Option<Row>, AllocError> {
+    let Body::Write { key, value } = item.body.clone()? else {
+        return Ok(None);
+    };
+    Ok(Some(Row {
+        key,
+        stamp: item.stamp,
+        node: item.node,
+        value,
+    }))
 }
 
-impl Worlds {
-    /// The reply of both to an event, if they agree.
-    fn step(&mut self, event: Event) -> Result<Option<Reply>, AllocError> {
-        let reply = self.vacuumed.step(event.clone()?);
-        if self.plain.step(event) == reply {
-            Ok(Some(reply))
-        } else {
-            Ok(None)
+/// Whether a row is of this key, at or below this stamp.
+fn is_seen(row: &Row, key: &Bytes, bound: Stamp) -> bool {
+    row.key == *key && row.stamp <= bound
+}
+
+/// Whether a row is later than another, by stamp and then by node.
+fn is_later(row: &Row, other: Option<&Row>) -> bool {
+    match other {
+        None => true,
+        Some(other) => {
+            other.stamp < row.stamp || (other.stamp == row.stamp && other.node < row.node)
+        }
+    }
+}
+
+/// What the replies so far have told: the issued items, the rows of the accepted ones, of which none
+/// is ever lost, and the open snapshots with their stamps.
+#[derive(Drop)]
+struct Plain {
+    issued: Vec<Item>,
+    accepted: Vec<Row>,
+    open: Vec<(u64, Stamp)>,
+}
+
+impl Plain {
+    fn new(alloc: Global) -> Plain {
+        Plain {
+            issued: Vec::new(alloc),
+            accepted: Vec::new(alloc),
+            open: Vec::new(alloc),
         }
     }
 
-    /// Vacuums the one, and gives its floor.
+    /// Follows the reply to an event.
+    fn follow(&mut self, event: Event, reply: &Reply) -> Result<(), AllocError> {
+        match reply {
+            Reply::Stamped { stamp, item } => self.issue(event, *stamp, *item),
+            Reply::Accepted { .. } => self.accept(&event),
+            Reply::Snapshot { id, stamp } => Ok(self.open.push((*id, *stamp))?),
+            Reply::Closed { .. } => {
+                self.close(&event);
+                Ok(())
+            }
+            _ => Ok(()),
+        }
+    }
+
+    /// The event issued the item of this stamp and number.
+    fn issue(&mut self, event: Event, stamp: Stamp, number: u64) -> Result<(), AllocError> {
+        let (node, body) = match event {
+            Event::Write {
+                node,
+                key,
+                value,
+                ..
+            } => (
+                node,
+                Body::Write {
+                    key,
+                    value: Some(value),
+                },
+            ),
+            Event::Delete { node, key, .. } => (node, Body::Write { key, value: None }),
+            Event::Report { node, .. } => (node, Body::Report),
+            _ => return Ok(()),
+        };
+        self.issued.push(Item {
+            node,
+            number,
+            stamp,
+            body,
+        })?;
+        Ok(())
+    }
+
+    /// The row of the item that the event delivers, if that is a write, is kept for good.
+    fn accept(&mut self, event: &Event) -> Result<(), AllocError> {
+        let Event::Deliver { node, number } = event else {
+            return Ok(());
+        };
+        let row = match self.item(*node, *number) {
+            None => None,
+            Some(item) => row_of(item)?,
+        };
+        if let Some(row) = row {
+            self.accepted.push(row)?;
+        }
+        Ok(())
+    }
+
+    /// The issued item of a node that has this number.
+    fn item(&self, node: u16, number: u64) -> Option<&Item> {
+        for item in self.issued.as_slice() {
+            if item.node == node && item.number == number {
+                return Some(item);
+            }
+        }
+        None
+    }
+
+    /// The snapshot that the event closes is open no more.
+    fn close(&mut self, event: &Event) {
+        let Event::Close { id } = event else {
+            return;
+        };
+        for place in 0..self.open.len() {
+            if self.open[place].0 == *id {
+                self.open.swap_remove(place);
+                return;
+            }
+        }
+    }
+
+    /// The stamp of an open snapshot.
+    fn stamp_of(&self, id: u64) -> Option<Stamp> {
+        for (open, stamp) in self.open.as_slice() {
+            if *open == id {
+                return Some(*stamp);
+            }
+        }
+        None
+    }
+
+    /// The newest accepted row of a key at or below a stamp: the greatest by stamp and node.
+    fn newest(&self, key: &Bytes, bound: Stamp) -> Option<&Row> {
+        let mut newest: Option<&Row> = None;
+        for row in self.accepted.as_slice() {
+            if is_seen(row, key, bound) && is_later(row, newest) {
+                newest = Some(row);
+            }
+        }
+        newest
+    }
+
+    /// The reply that is due to a read.
+    fn answer(&self, id: u64, key: &Bytes) -> Result<Reply, AllocError> {
+        let Some(stamp) = self.stamp_of(id) else {
+            return Ok(Reply::Refused(Refusal::NoSnapshot));
+        };
+        let value = match self.newest(key, stamp) {
+            None => None,
+            Some(row) => match &row.value {
+                None => None,
+                Some(value) => Some(value.clone()?),
+            },
+        };
+        Ok(Reply::Answer { value })
+    }
+}
+
+/// Whether the reply to a read gives a value.
+fn is_value(reply: &Reply) -> bool {
+    match reply {
+        Reply::Answer { value } => value.is_some(),
+        _ => false,
+    }
+}
+
+/// A world with the plain lists of what it replied, how many rows its vacuums dropped, and how many
+/// of its reads gave a value.
+#[derive(Drop)]
+struct History {
+    world: World,
+    plain: Plain,
+    dropped: u128,
+    values: u64,
+}
+
+impl History {
+    /// The world's reply to an event.
+    fn step(&mut self, event: Event) -> Result<Reply, AllocError> {
+        let copy = event.clone()?;
+        let reply = self.world.step(event);
+        self.plain.follow(copy, &reply)?;
+        Ok(reply)
+    }
+
+    /// Vacuums the world, and gives its floor.
     fn vacuum(&mut self) -> Option<u64> {
-        match self.vacuumed.step(Event::Vacuum) {
+        match self.world.step(Event::Vacuum) {
             Reply::Vacuumed { report } => {
                 self.dropped = self.dropped.wrapping_add(report.dropped);
                 Some(report.floor.bits())
@@ -157,11 +330,22 @@ impl Worlds {
         }
     }
 
-    /// Whether both agree on a read of a key in each snapshot that was ever opened.
-    fn do_reads_agree(&mut self, key: &Bytes, opened: u64) -> Result<bool, AllocError> {
+    /// Whether a read of a key in a snapshot, be it open or not, gives what is due.
+    fn is_read_right(&mut self, id: u64, key: &Bytes) -> Result<bool, AllocError> {
+        let due = self.plain.answer(id, key)?;
+        let key = key.clone()?;
+        let reply = self.world.step(Event::Read { id, key });
+        if is_value(&reply) {
+            self.values = self.values.wrapping_add(1);
+        }
+        Ok(reply == due)
+    }
+
+    /// Whether reads of a key in each snapshot that was ever opened, and in one that was not, give
+    /// what is due.
+    fn are_reads_right(&mut self, key: &Bytes, opened: u64) -> Result<bool, AllocError> {
         for id in 0..opened.wrapping_add(1) {
-            let key = key.clone()?;
-            if self.step(Event::Read { id, key })?.is_none() {
+            if !self.is_read_right(id, key)? {
                 return Ok(false);
             }
         }
@@ -176,9 +360,11 @@ fn count_of(reply: Reply) -> Option<u128> {
     }
 }
 
-/// 600 events on two nodes, a vacuum after every 16: each reply, and each read in between, is that of
-/// the world that keeps all rows. What the one keeps and all that it dropped are the rows of the
-/// other.
+/// 600 events on two nodes, a vacuum after every 16. After each event a key is read in each snapshot
+/// that was ever opened: the reply is the value of the newest row in the plain list of all accepted
+/// writes at or below the snapshot's stamp, none at a deletion mark or where there is no such row, and
+/// a refusal exactly where the snapshot is not open. What is stored in the end and all that was
+/// dropped are as many rows as the list.
 #[test]
 fn a_history_with_vacuums(rt: HostRuntime) -> Result<(), Fail> {
     let alloc = rt.alloc();
@@ -189,10 +375,11 @@ fn a_history_with_vacuums(rt: HostRuntime) -> Result<(), Fail> {
         horizon: 0,
         opened: 0,
     };
-    let mut worlds = Worlds {
-        vacuumed: World::new(alloc, 2).ok().ok_or("a world")?,
-        plain: World::new(alloc, 2).ok().ok_or("a world")?,
+    let mut history = History {
+        world: World::new(alloc, 2).ok().ok_or("a world")?,
+        plain: Plain::new(alloc),
         dropped: 0,
+        values: 0,
     };
     for turn in 0..600u64 {
         let node = (lots.below(2) % 2) as u16;
@@ -201,17 +388,90 @@ fn a_history_with_vacuums(rt: HostRuntime) -> Result<(), Fail> {
         } else {
             event_of(alloc, &mut lots, &course, node, turn / 4)?
         };
-        let reply = worlds.step(event)?.ok_or("one reply")?;
+        let reply = history.step(event)?;
         course.follow(node, &reply);
         if turn % 16 == 15 {
-            course.horizon = worlds.vacuum().ok_or("a vacuum")?;
+            course.horizon = history.vacuum().ok_or("a vacuum")?;
             course.floor = course.horizon;
         }
         let key = letter(alloc, &mut lots, b'a', 4)?;
-        assert!(rt; worlds.do_reads_agree(&key, course.opened)?, "{turn}");
+        assert!(rt; history.are_reads_right(&key, course.opened)?, "{turn}");
     }
-    let kept = count_of(worlds.vacuumed.step(Event::Rows)).ok_or("rows")?;
-    let all = count_of(worlds.plain.step(Event::Rows)).ok_or("rows")?;
-    assert!(rt; 0 < worlds.dropped && kept.wrapping_add(worlds.dropped) == all);
+    let kept = count_of(history.world.step(Event::Rows)).ok_or("rows")?;
+    let dropped = history.dropped;
+    assert_eq!(rt;
+        kept.wrapping_add(dropped),
+        history.plain.accepted.len() as u128
+    );
+    assert!(rt; 0 < dropped && 1_000 < history.values);
+    Ok(())
+}
+
+/// Two writes of a key, deliveries early, repeated and unknown, and a vacuum.
+fn deliveries(alloc: Global) -> Result<Vec<Event>, AllocError> {
+    let mut events = Vec::new(alloc);
+    for (reading, text) in [(1, b"x"), (2, b"y")] {
+        let key = bytes(alloc, b"a")?;
+        let value = bytes(alloc, text)?;
+        events.push(Event::Write {
+            node: 0,
+            reading,
+            key,
+            value,
+        })?;
+    }
+    for (node, number) in [(0, 1), (0, 0), (0, 0), (0, 1), (0, 2), (1, 0)] {
+        events.push(Event::Deliver { node, number })?;
+    }
+    events.push(Event::Vacuum)?;
+    Ok(events)
+}
+
+/// The report of the vacuum after them: at the floor, the only point, the later write is read, and
+/// the earlier one is dropped.
+fn report_of_them(alloc: Global, floor: Stamp) -> Result<Report, AllocError> {
+    let witness = Witness {
+        key: bytes(alloc, b"a")?,
+        before: None,
+        at: floor,
+    };
+    Ok(Report {
+        floor,
+        points: Points::from_vec(vec![in alloc; floor]?),
+        kept: 1,
+        dropped: 1,
+        witnesses: Witnesses::from_vec(vec![in alloc; witness]?),
+    })
+}
+
+#[test]
+fn a_run_is_its_events_in_turn(rt: HostRuntime) -> Result<(), Fail> {
+    let alloc = rt.alloc();
+    let first = Stamp::from_bits(65_536);
+    let second = Stamp::from_bits(131_072);
+    let due = [
+        Reply::Stamped {
+            stamp: first,
+            item: 0,
+        },
+        Reply::Stamped {
+            stamp: second,
+            item: 1,
+        },
+        Reply::Refused(Refusal::NotNext { next: 0 }),
+        Reply::Accepted { stamp: first },
+        Reply::Refused(Refusal::NotNext { next: 1 }),
+        Reply::Accepted { stamp: second },
+        Reply::Refused(Refusal::NoItem),
+        Reply::Refused(Refusal::NoNode),
+        Reply::Vacuumed {
+            report: report_of_them(alloc, second)?,
+        },
+    ];
+    let mut world = World::new(alloc, 1).ok().ok_or("a world")?;
+    let Ok(replies) = world.run(deliveries(alloc)?) else {
+        return Err(Fail::from("no room"));
+    };
+    assert!(rt; replies.as_slice() == due.as_slice());
     Ok(())
 }

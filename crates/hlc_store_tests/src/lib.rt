@@ -1,9 +1,11 @@
-//! Tests of the store and its vacuum, by the public calls of the libraries from the registry to the world. There is nothing here
-//! but tests.
+//! Tests of the store, its vacuum and the world, by their public calls, and the small callers of the pages of `hlc_core` and
+//! `hlc_vacuum`. There is nothing here but tests.
 #![tactic(auto)]
 
 #[cfg(test)]
 mod histories;
+#[cfg(test)]
+mod items;
 #[cfg(test)]
 mod store;
 #[cfg(test)]

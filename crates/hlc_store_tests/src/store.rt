@@ -1,36 +1,9 @@
 //! The store by itself, fed items that no world makes.
-use hlc_clock::Stamp;
-use hlc_core::{Body, BodyFault, Bytes, Core, CoreFault, Item, NoNode, NoSnapshot};
-use hlc_floor::{Heads, HeadsFault};
-use hlc_link::{Intake, LinkFault};
+use crate::items::{bytes, item};
+use hlc_core::{Body, BodyFault, Core, CoreFault, Item, NoNode, NoSnapshot, Stamp};
 use hlc_world::{Event, Reply};
 use std::alloc::{AllocError, Global};
 use std::test::*;
-
-fn bytes(alloc: Global, text: &[u8]) -> Result<Bytes, AllocError> {
-    Ok(Bytes::from_vec(Vec::from_slice(alloc, text)?))
-}
-
-/// The item of a write to this key, or of a deletion where there is no value.
-fn item(
-    alloc: Global,
-    at: (u16, u64, u64),
-    key: &[u8],
-    value: Option<&[u8]>,
-) -> Result<Item, AllocError> {
-    let (node, number, bits) = at;
-    let key = bytes(alloc, key)?;
-    let value = match value {
-        None => None,
-        Some(text) => Some(bytes(alloc, text)?),
-    };
-    Ok(Item {
-        node,
-        number,
-        stamp: Stamp::from_bits(bits),
-        body: Body::Write { key, value },
-    })
-}
 
 fn report(node: u16, number: u64, bits: u64) -> Item {
     Item {
@@ -52,33 +25,6 @@ fn counts_of_nodes(rt: HostRuntime) {
     for (nodes, due) in cases {
         assert_eq!(rt; Core::new(rt.alloc(), nodes).err(), due, "{nodes}");
     }
-    assert_eq!(rt; Heads::new(rt.alloc(), 65).err(), Some(HeadsFault::NoNode));
-}
-
-#[test]
-fn an_intake_takes_the_next_item(rt: HostRuntime) {
-    let mut intake = Intake::new();
-    let head = Stamp::from_bits(327_680);
-    let later = Stamp::from_bits(327_681);
-    let cases = [
-        (1, head, Err(LinkFault::NotNext { next: 0 })),
-        (
-            0,
-            Stamp::from_bits(0),
-            Err(LinkFault::StampNotRising {
-                head: Stamp::from_bits(0),
-            }),
-        ),
-        (0, head, Ok(())),
-        (0, later, Err(LinkFault::NotNext { next: 1 })),
-        (2, later, Err(LinkFault::NotNext { next: 1 })),
-        (1, head, Err(LinkFault::StampNotRising { head })),
-        (1, later, Ok(())),
-    ];
-    for (number, stamp, due) in cases {
-        assert_eq!(rt; intake.admit(number, stamp), due, "{number} {stamp}");
-    }
-    assert_eq!(rt; (intake.next(), intake.head()), (2, later));
 }
 
 /// A core of one node whose link has come to number 1 and stamp 5.0.
@@ -152,6 +98,11 @@ fn copies(rt: HostRuntime) -> Result<(), Fail> {
         value: Some(bytes(alloc, b"x")?),
     };
     assert_eq!(rt; answer.clone()?, answer);
+    let report = core_at_five(alloc)?.vacuum()?;
+    assert_eq!(rt; report.witnesses.len(), 1);
+    assert_eq!(rt; report.clone()?, report);
+    let vacuumed = Reply::Vacuumed { report };
+    assert_eq!(rt; vacuumed.clone()?, vacuumed);
     Ok(())
 }
 

@@ -1,17 +1,23 @@
 //! Vacuums of a store by itself: what they report, and the certificate of what they leave.
-ghost use Rattle.std.specs.Prelude.{ℕ, List, IfOk, IsOk};
-ghost use Rattle.hlc_core.specs.Past.{Step};
-ghost use Rattle.hlc_core.specs.Kept.{StandsFor};
+ghost use Rattle.std.specs.Prelude.{◌≡◌, List, length, IfOk, IsOkAnd, OnOk};
+ghost use Rattle.hlc_node.specs.Rows.{IsRowSet};
+ghost use Rattle.hlc_witness.specs.Points.{PointsAscend};
+ghost use Rattle.hlc_witness.specs.Fewest.{Alike};
+ghost use Rattle.hlc_witness.specs.Vacuumed.{rows_to};
+ghost use Rattle.hlc_core.specs.Past.{Step, floor};
+ghost use Rattle.hlc_core.specs.Kept.{nodes, StandsFor};
 
-use hlc_core::{Body, Bytes, Core, Item, NoMemory, Report, Stamp, Witness};
-use hlc_witness::{NotShown, Shown, check};
+use crate::items::{bytes, item};
+use hlc_core::{Core, Item, NoMemory, Report, Row, Stamp, Witness};
+use hlc_vacuum::{apply_rows, plan_rows};
+use hlc_witness::{NotShown, Shown, ascending_rows_are_a_row_set, check, do_points_ascend};
 use std::alloc::{AllocError, Global};
 use std::test::*;
 
 /// Vacuums a store, and checks by the report alone that the rows left up to its floor are the
 /// fewest. They always are.
 pub fn vacuum_and_check(core: &mut Core) -> Result<Result<Shown, NotShown>, NoMemory>
-    ensures { (past : List Step) → StandsFor core.old past → IfOk result (λ shown. IsOk shown) }
+    ensures { (past : List Step) → StandsFor core.old past → IfOk result (λ shown. IsOkAnd shown (λ count. count ≡ length (rows_to (floor (nodes core.old) past) core.new.rows))) }
 {
     let report = core.vacuum()?;
     let rows = core.rows_to(report.floor)?;
@@ -20,34 +26,42 @@ pub fn vacuum_and_check(core: &mut Core) -> Result<Result<Shown, NotShown>, NoMe
     Ok(check(rows.as_slice(), points, witnesses))
 }
 
+/// Drops the rows that no reader at these points needs, and answers how many they were.
+pub fn drop_unread(alloc: Global, rows: &mut Vec<Row>, points: &[Stamp]) -> Result<u128, AllocError>
+    requires rows { IsRowSet rows.old.items }
+    requires points { PointsAscend points.now }
+    ensures { OnOk result (Alike rows.new.items rows.old.items points.now) }
+{
+    let plan = plan_rows(alloc, rows.as_slice(), points)?;
+    Ok(apply_rows(rows, plan).dropped)
+}
+
+/// How many of a store's rows no reader at these points needs, if the points ascend.
+fn count_unread(core: &Core, alloc: Global, points: &[Stamp]) -> Option<u128> {
+    // What the proof cites.
+    ascending_rows_are_a_row_set();
+    let mut rows = core.rows_to(core.floor()).ok()?;
+    if !do_points_ascend(points) {
+        return None;
+    }
+    drop_unread(alloc, &mut rows, points).ok()
+}
+
 fn stamp(reading: u64) -> Stamp {
     Stamp::from_bits(reading.wrapping_mul(65_536))
 }
 
-fn bytes(alloc: Global, text: &[u8]) -> Result<Bytes, AllocError> {
-    Ok(Bytes::from_vec(Vec::from_slice(alloc, text)?))
-}
-
-/// A node's write of key `a`, or a deletion where there is no value, is accepted.
-fn take(core: &mut Core, alloc: Global, at: (u16, u64, u64), value: Option<&[u8]>) -> bool {
+/// Whether a node's write of key `a` at a reading, or a deletion where there is no value, is accepted.
+fn is_accepted(
+    core: &mut Core,
+    alloc: Global,
+    at: (u16, u64, u64),
+    value: Option<&[u8]>,
+) -> Result<bool, AllocError> {
     let (node, number, reading) = at;
-    let Ok(key) = bytes(alloc, b"a") else {
-        return false;
-    };
-    let value = match value {
-        None => None,
-        Some(text) => match bytes(alloc, text) {
-            Ok(bytes) => Some(bytes),
-            Err(_) => return false,
-        },
-    };
-    let item = Item {
-        node,
-        number,
-        stamp: stamp(reading),
-        body: Body::Write { key, value },
-    };
-    core.accept(item).is_ok()
+    let bits = stamp(reading).bits();
+    let item = item(alloc, (node, number, bits), b"a", value)?;
+    Ok(core.accept(item).is_ok())
 }
 
 /// The witness of key `a` at a reading, after another.
@@ -59,9 +73,9 @@ fn witness(alloc: Global, before: Option<u64>, at: u64) -> Result<Witness, Alloc
     })
 }
 
-/// Whether a vacuum reports this floor, these numbers of rows kept and dropped, and as many
-/// witnesses as rows kept, and whether its certificate shows that number.
-fn vacuums(core: &mut Core, floor: u64, kept: u64, dropped: u128) -> Option<Report> {
+/// The report of a vacuum, if it has this floor and these numbers of rows kept and dropped, and if
+/// its certificate shows that number.
+fn certified_report(core: &mut Core, floor: u64, kept: u64, dropped: u128) -> Option<Report> {
     let report = core.vacuum().ok()?;
     let rows = core.rows_to(report.floor).ok()?;
     let points = report.points.as_slice();
@@ -79,30 +93,30 @@ fn vacuums(core: &mut Core, floor: u64, kept: u64, dropped: u128) -> Option<Repo
 }
 
 /// A store of one node, with x at 1.0, another value or none at 2.0, and a value at 3.0.
-fn three_versions(alloc: Global, second: Option<&[u8]>, third: &[u8]) -> Option<Core> {
-    let mut core = Core::new(alloc, 1).ok()?;
-    let first = take(&mut core, alloc, (0, 0, 1), Some(b"x"));
-    let second = take(&mut core, alloc, (0, 1, 2), second);
-    let third = take(&mut core, alloc, (0, 2, 3), Some(third));
+fn three_versions(alloc: Global, second: Option<&[u8]>, third: &[u8]) -> Result<Core, Fail> {
+    let mut core = Core::new(alloc, 1).ok().ok_or("a store")?;
+    let first = is_accepted(&mut core, alloc, (0, 0, 1), Some(b"x"))?;
+    let second = is_accepted(&mut core, alloc, (0, 1, 2), second)?;
+    let third = is_accepted(&mut core, alloc, (0, 2, 3), Some(third))?;
     if first && second && third {
-        Some(core)
+        Ok(core)
     } else {
-        None
+        Err(Fail::from("three items"))
     }
 }
 
 #[test]
 fn a_value_written_twice_is_kept_once(rt: HostRuntime) -> Result<(), Fail> {
     let alloc = rt.alloc();
-    let mut core = three_versions(alloc, Some(b"x"), b"y").ok_or("a store")?;
+    let mut core = three_versions(alloc, Some(b"x"), b"y")?;
     assert_eq!(rt; core.open(stamp(1)), Ok(1));
     assert_eq!(rt; core.open(stamp(2)), Ok(2));
-    let report = vacuums(&mut core, 3, 2, 1).ok_or("kept 2, dropped 1")?;
+    let report = certified_report(&mut core, 3, 2, 1).ok_or("kept 2, dropped 1")?;
     let due = vec![in alloc; witness(alloc, None, 1)?, witness(alloc, Some(2), 3)?]?;
     assert!(rt; report.witnesses.as_slice() == due.as_slice());
     assert!(rt; report.points.as_slice() == [stamp(1), stamp(2), stamp(3)].as_slice());
     assert_eq!(rt; core.rows(), 2);
-    let again = vacuums(&mut core, 3, 2, 0).ok_or("kept 2, dropped 0")?;
+    let again = certified_report(&mut core, 3, 2, 0).ok_or("kept 2, dropped 0")?;
     assert!(rt; again.witnesses == report.witnesses);
     Ok(())
 }
@@ -111,9 +125,9 @@ fn a_value_written_twice_is_kept_once(rt: HostRuntime) -> Result<(), Fail> {
 fn a_leading_deletion_mark_is_dropped(rt: HostRuntime) -> Result<(), Fail> {
     let alloc = rt.alloc();
     let mut core = Core::new(alloc, 2).ok().ok_or("a store")?;
-    assert!(rt; take(&mut core, alloc, (0, 0, 1), None));
-    assert!(rt; take(&mut core, alloc, (1, 0, 9), Some(b"y")));
-    vacuums(&mut core, 1, 0, 1).ok_or("kept 0, dropped 1")?;
+    assert!(rt; is_accepted(&mut core, alloc, (0, 0, 1), None)?);
+    assert!(rt; is_accepted(&mut core, alloc, (1, 0, 9), Some(b"y"))?);
+    certified_report(&mut core, 1, 0, 1).ok_or("kept 0, dropped 1")?;
     assert_eq!(rt; core.rows(), 1);
     // The row above the floor is no part of the rows up to it, and all rows are those up to 9.0.
     let below = core.rows_to(stamp(8))?;
@@ -125,10 +139,10 @@ fn a_leading_deletion_mark_is_dropped(rt: HostRuntime) -> Result<(), Fail> {
 #[test]
 fn snapshots_hold_what_they_see(rt: HostRuntime) -> Result<(), Fail> {
     let alloc = rt.alloc();
-    let mut core = three_versions(alloc, None, b"x").ok_or("a store")?;
+    let mut core = three_versions(alloc, None, b"x")?;
     assert_eq!(rt; core.open(stamp(1)), Ok(1));
     assert_eq!(rt; core.open(stamp(2)), Ok(2));
-    let report = vacuums(&mut core, 3, 3, 0).ok_or("kept 3, dropped 0")?;
+    let report = certified_report(&mut core, 3, 3, 0).ok_or("kept 3, dropped 0")?;
     let due = vec![in alloc;
         witness(alloc, None, 1)?,
         witness(alloc, Some(1), 2)?,
@@ -136,15 +150,25 @@ fn snapshots_hold_what_they_see(rt: HostRuntime) -> Result<(), Fail> {
     ]?;
     assert!(rt; report.witnesses.as_slice() == due.as_slice());
     assert_eq!(rt; core.close(2), Ok(stamp(2)));
-    vacuums(&mut core, 3, 1, 2).ok_or("kept 1, dropped 2")?;
+    certified_report(&mut core, 3, 1, 2).ok_or("kept 1, dropped 2")?;
     assert_eq!(rt; core.read(1, b"a"), Ok(Some(b"x".as_slice())));
+    Ok(())
+}
+
+#[test]
+fn one_row_is_unread(rt: HostRuntime) -> Result<(), Fail> {
+    let alloc = rt.alloc();
+    let core = three_versions(alloc, Some(b"x"), b"y")?;
+    let points = [stamp(1), stamp(2), stamp(3)];
+    assert_eq!(rt; count_unread(&core, alloc, &points), Some(1));
+    assert_eq!(rt; count_unread(&core, alloc, &[stamp(2), stamp(1)]), None);
     Ok(())
 }
 
 #[test]
 fn a_store_without_rows(rt: HostRuntime) -> Result<(), Fail> {
     let mut core = Core::new(rt.alloc(), 3).ok().ok_or("a store")?;
-    vacuums(&mut core, 0, 0, 0).ok_or("kept 0, dropped 0")?;
+    certified_report(&mut core, 0, 0, 0).ok_or("kept 0, dropped 0")?;
     let shown = vacuum_and_check(&mut core)?;
     assert_eq!(rt; shown.map(|shown| shown.count()), Ok(0));
     Ok(())
@@ -153,16 +177,10 @@ fn a_store_without_rows(rt: HostRuntime) -> Result<(), Fail> {
 /// The write of version `turn / 2000` of key `turn % 2000`, whose value is half of that version.
 fn turn_of(alloc: Global, turn: u64) -> Result<Item, AllocError> {
     let key = turn % 2_000;
-    let value = turn / 4_000 % 256;
-    Ok(Item {
-        node: 0,
-        number: turn,
-        stamp: stamp(turn.wrapping_add(1)),
-        body: Body::Write {
-            key: bytes(alloc, &[(key / 256) as u8, (key % 256) as u8])?,
-            value: Some(bytes(alloc, &[value as u8])?),
-        },
-    })
+    let key = [(key / 256) as u8, (key % 256) as u8];
+    let value = [(turn / 4_000 % 256) as u8];
+    let bits = stamp(turn.wrapping_add(1)).bits();
+    item(alloc, (0, turn, bits), &key, Some(&value))
 }
 
 /// 10 versions of each of 2,000 keys, each value written twice, and a snapshot after every 312 writes
@@ -179,7 +197,7 @@ fn twenty_thousand_rows(rt: HostRuntime) -> Result<(), Fail> {
             assert!(rt; core.open_floor().is_ok());
         }
     }
-    vacuums(&mut core, 20_000, 10_000, 10_000).ok_or("kept 10000, dropped 10000")?;
+    certified_report(&mut core, 20_000, 10_000, 10_000).ok_or("kept 10000, dropped 10000")?;
     assert_eq!(rt; core.rows(), 10_000);
     Ok(())
 }

@@ -1,22 +1,18 @@
-//! The small callers of the libraries' own pages, each with what it may rely on.
-ghost use Rattle.std.specs.Prelude.{◌≡◌, ◌<◌, ◌∷◌, List, None, Some, ◌≤◌, ℕ, length, Contains, is_some, true, IfOk, IfSome, IsErr, IsOkAnd, MatchOption};
+//! The small callers of the pages of clock, node, link, floor, snapshot, witness and world, each with what it may rely on.
+ghost use Rattle.std.specs.Prelude.{◌≡◌, ◌<◌, ◌∷◌, List, None, Some, ◌≤◌, ℕ, length, Contains, true, IfOk, IfSome, IsErr};
 ghost use Rattle.hlc_node.specs.Items.{body_refusal};
-ghost use Rattle.hlc_node.specs.Rows.{answer};
 ghost use Rattle.hlc_node.specs.Rows.{IsRowSet};
 ghost use Rattle.hlc_node.specs.declared.row.Row.{Row as ARow};
 ghost use Rattle.hlc_witness.specs.Fewest.{Alike};
-ghost use Rattle.hlc_core.specs.Past.{Step, stamp_of, writes};
-ghost use Rattle.hlc_core.specs.Kept.{StandsFor as CoreStandsFor};
 ghost use Rattle.hlc_snapshot.specs.Register.{stamp_in};
 ghost use Rattle.hlc_world.specs.declared.event.Event.{Event as AnEvent};
 ghost use Rattle.hlc_world.specs.declared.reply.Reply.{Reply as AReply};
 ghost use Rattle.hlc_world.specs.State.{StandsFor};
 
 use hlc_clock::{Clock, ClockFault, Stamp};
-use hlc_core::{Body, Bytes, Core, NoSnapshot};
 use hlc_floor::Heads;
 use hlc_link::{Intake, LinkFault};
-use hlc_node::{Row, body_fault};
+use hlc_node::{Body, Bytes, Row, body_fault};
 use hlc_snapshot::{Registry, SnapshotFault};
 use hlc_witness::{Witness, check};
 use hlc_world::{Event, Reply, World};
@@ -69,16 +65,6 @@ pub fn open_twice(registry: &mut Registry, stamp: Stamp) -> Result<(u64, u64), S
     Ok((first, second))
 }
 
-/// Whether a key has a value in an open snapshot.
-pub fn has_value(core: &Core, id: u64, key: &[u8]) -> Result<bool, NoSnapshot>
-    ensures { (past : List Step) → CoreStandsFor core.now past → MatchOption (stamp_of id past) (IsErr result) (λ stamp. IsOkAnd result (λ found. found ≡ is_some (answer (writes past) key.now stamp))) }
-{
-    match core.read(id, key) {
-        Ok(value) => Ok(value.is_some()),
-        Err(fault) => Err(fault),
-    }
-}
-
 /// Delivers an item twice, and gives both replies.
 pub fn deliver_twice(world: &mut World, node: u16, number: u64) -> (Reply, Reply)
     ensures { (schedule : List (AnEvent × AReply)) → StandsFor world.old schedule → StandsFor world.new ((AnEvent.Deliver node number, result.1) ∷ (AnEvent.Deliver node number, result.0) ∷ schedule) }
@@ -120,10 +106,6 @@ fn callers(rt: HostRuntime) -> Result<(), Fail> {
     assert!(rt; is_complete(&heads, Stamp::from_bits(0)) && !is_complete(&heads, first));
     let mut registry = Registry::new(alloc);
     assert_eq!(rt; open_twice(&mut registry, first), Ok((1, 2)));
-    let mut core = Core::new(alloc, 1).ok().ok_or("a core")?;
-    assert_eq!(rt; has_value(&core, 1, b"a"), Err(NoSnapshot));
-    assert!(rt; core.open_floor().is_ok());
-    assert_eq!(rt; has_value(&core, 1, b"a"), Ok(false));
     let mut world = World::new(alloc, 1).ok().ok_or("a world")?;
     let key = Bytes::from_vec(Vec::from_slice(alloc, b"a")?);
     let value = key.clone()?;

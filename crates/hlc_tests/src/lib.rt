@@ -1,5 +1,5 @@
-//! Tests of the libraries by themselves, from the clock to the world: outside vectors, the calls that may refuse memory where they
-//! succeed, and the small callers of the libraries' own pages. There is nothing here but tests.
+//! Tests of clocks, nodes, links, the floor, snapshots and certificates, by their public calls, and the small callers of those
+//! libraries' pages and of the page of `hlc_world`. There is nothing here but tests.
 #![tactic(auto)]
 
 #[cfg(test)]

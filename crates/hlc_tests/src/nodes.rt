@@ -1,7 +1,8 @@
-//! A node's core by itself, and events that are run in one list.
+//! A node's core, an intake and heads by themselves.
 use hlc_clock::{ClockFault, Stamp};
+use hlc_floor::{Heads, HeadsFault};
+use hlc_link::{Intake, LinkFault};
 use hlc_node::{Body, BodyFault, Bytes, Item, Message, NodeCore, NodeFault};
-use hlc_world::{Event, Refusal, Reply, World};
 use std::alloc::{AllocError, Global};
 use std::test::*;
 
@@ -91,50 +92,33 @@ fn a_node_at_the_greatest_stamp(rt: HostRuntime) -> Result<(), Fail> {
     Ok(())
 }
 
-/// Deliveries early, repeated and unknown.
-fn deliveries(alloc: Global) -> Result<Vec<Event>, AllocError> {
-    let mut events = Vec::new(alloc);
-    for (reading, text) in [(1, b"x"), (2, b"y")] {
-        let key = bytes(alloc, b"a")?;
-        let value = bytes(alloc, text)?;
-        events.push(Event::Write {
-            node: 0,
-            reading,
-            key,
-            value,
-        })?;
+#[test]
+fn an_intake_takes_the_next_item(rt: HostRuntime) {
+    let mut intake = Intake::new();
+    let head = Stamp::from_bits(327_680);
+    let later = Stamp::from_bits(327_681);
+    let cases = [
+        (1, head, Err(LinkFault::NotNext { next: 0 })),
+        (
+            0,
+            Stamp::from_bits(0),
+            Err(LinkFault::StampNotRising {
+                head: Stamp::from_bits(0),
+            }),
+        ),
+        (0, head, Ok(())),
+        (0, later, Err(LinkFault::NotNext { next: 1 })),
+        (2, later, Err(LinkFault::NotNext { next: 1 })),
+        (1, head, Err(LinkFault::StampNotRising { head })),
+        (1, later, Ok(())),
+    ];
+    for (number, stamp, due) in cases {
+        assert_eq!(rt; intake.admit(number, stamp), due, "{number} {stamp}");
     }
-    for (node, number) in [(0, 1), (0, 0), (0, 0), (0, 1), (0, 2), (1, 0)] {
-        events.push(Event::Deliver { node, number })?;
-    }
-    Ok(events)
+    assert_eq!(rt; (intake.next(), intake.head()), (2, later));
 }
 
 #[test]
-fn a_run_is_its_events_in_turn(rt: HostRuntime) -> Result<(), Fail> {
-    let alloc = rt.alloc();
-    let first = Stamp::from_bits(65_536);
-    let second = Stamp::from_bits(131_072);
-    let due = [
-        Reply::Stamped {
-            stamp: first,
-            item: 0,
-        },
-        Reply::Stamped {
-            stamp: second,
-            item: 1,
-        },
-        Reply::Refused(Refusal::NotNext { next: 0 }),
-        Reply::Accepted { stamp: first },
-        Reply::Refused(Refusal::NotNext { next: 1 }),
-        Reply::Accepted { stamp: second },
-        Reply::Refused(Refusal::NoItem),
-        Reply::Refused(Refusal::NoNode),
-    ];
-    let mut world = World::new(alloc, 1).ok().ok_or("a world")?;
-    let Ok(replies) = world.run(deliveries(alloc)?) else {
-        return Err(Fail::from("no room"));
-    };
-    assert!(rt; replies.as_slice() == due.as_slice());
-    Ok(())
+fn too_many_nodes_have_no_heads(rt: HostRuntime) {
+    assert_eq!(rt; Heads::new(rt.alloc(), 65).err(), Some(HeadsFault::NoNode));
 }
