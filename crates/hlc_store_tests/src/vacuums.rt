@@ -1,4 +1,5 @@
-//! Vacuums of a store by itself: what they report, and the certificate of what they leave.
+//! Vacuums of a store by itself: what they report, the certificate of what they leave, and the callers of the pages of `hlc_core` and
+//! `hlc_vacuum`.
 ghost use Rattle.std.specs.Prelude.{◌≡◌, List, length, IfOk, IsOkAnd, OnOk};
 ghost use Rattle.hlc_node.specs.Rows.{IsRowSet};
 ghost use Rattle.hlc_witness.specs.Points.{PointsAscend};
