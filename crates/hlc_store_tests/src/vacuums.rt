@@ -153,6 +153,8 @@ fn snapshots_hold_what_they_see(rt: HostRuntime) -> Result<(), Fail> {
     assert_eq!(rt; core.close(2), Ok(stamp(2)));
     certified_report(&mut core, 3, 1, 2).ok_or("kept 1, dropped 2")?;
     assert_eq!(rt; core.read(1, b"a"), Ok(Some(b"x".as_slice())));
+    let shown = vacuum_and_check(&mut core)?;
+    assert_eq!(rt; shown.map(|shown| shown.count()), Ok(1));
     Ok(())
 }
 
