@@ -51,10 +51,7 @@ pub fn value_at<'a>(rows: &'a [Row], key: &[u8], bound: Stamp) -> Option<&'a [u8
 {
     match newest_row(rows, key, bound) {
         None => None,
-        Some(row) => match &row.value {
-            None => None,
-            Some(bytes) => Some(bytes.as_slice()),
-        },
+        Some(row) => row.value(),
     }
 }
 

@@ -15,13 +15,13 @@ pub record IsNextItem (link : Progress) (number stamp : ℕ) : Type 0 where
   pub rising : link.head < stamp
 
 -- the first reason why an item of this number and stamp is not the next one
-abbrev pub IsFirstReason : Progress → ℕ → ℕ → LinkFault → Type 0
-IsFirstReason link number stamp (NotNext next) = (next ≡ link.next) × (number ≢ link.next)
-IsFirstReason link number stamp NumbersSpent = (number ≡ link.next) × (number ≡ 18446744073709551615)
-IsFirstReason link number stamp (StampNotRising head) =
+abbrev pub IsFirstRefusal : Progress → ℕ → ℕ → LinkFault → Type 0
+IsFirstRefusal link number stamp (NotNext next) = (next ≡ link.next) × (number ≢ link.next)
+IsFirstRefusal link number stamp NumbersSpent = (number ≡ link.next) × (number ≡ 18446744073709551615)
+IsFirstRefusal link number stamp (StampNotRising head) =
     (head ≡ link.head) × (number ≡ link.next) × (number ≢ 18446744073709551615) × (stamp ≤ link.head)
 
 -- the next item is admitted, and the link has come to it; any other is refused for the first reason, and the link stays
 abbrev pub Admits : Progress → Progress → ℕ → ℕ → Result Unit LinkFault → Type 0
 Admits old new number stamp (Ok done) = IsNextItem old number stamp × (new ≡ record { next = number + 1; head = stamp })
-Admits old new number stamp (Err fault) = IsFirstReason old number stamp fault × (new ≡ old)
+Admits old new number stamp (Err fault) = IsFirstRefusal old number stamp fault × (new ≡ old)

@@ -1,5 +1,5 @@
 //! What a table stores of a write.
-ghost use Rattle.std.specs.Prelude.{◌≡◌};
+ghost use Rattle.std.specs.Prelude.{◌≡◌, option_copied};
 
 use crate::bytes::Bytes;
 use hlc_clock::Stamp;
@@ -14,6 +14,18 @@ pub struct Row {
     pub node: u16,
     /// The value, or none for a deletion mark.
     pub value: Option<Bytes>,
+}
+
+impl Row {
+    /// The bytes of the value, or none for a deletion mark.
+    pub fn value(&self) -> Option<&[u8]>
+        ensures { option_copied result ≡ self.now.value }
+    {
+        match &self.value {
+            None => None,
+            Some(bytes) => Some(bytes.as_slice()),
+        }
+    }
 }
 
 impl Clone for Row {

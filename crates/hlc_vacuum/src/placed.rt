@@ -8,7 +8,7 @@ ghost use Rattle.hlc_vacuum.specs.Placed.{placed_cmp, HavePlaces, ArePlaced, IsN
 
 use hlc_clock::Stamp;
 use hlc_node::{Bytes, Row, newest_is_greatest, newest_is_unique};
-use hlc_witness::row_order;
+use hlc_witness::{is_reached, row_order};
 use std::alloc::{AllocError, Global};
 use std::marker::Model;
 
@@ -46,10 +46,7 @@ impl<'a> Placed<'a> {
     fn value(&self) -> Option<&'a [u8]>
         ensures { option_copied result ≡ self.now.row.value }
     {
-        match &self.row.value {
-            None => None,
-            Some(bytes) => Some(bytes.as_slice()),
-        }
+        self.row.value()
     }
 }
 
@@ -96,7 +93,7 @@ pub(crate) fn newest_in<'p, 'a>(
     // What the proof cites: the newest row is the greatest of the key's rows there, and no other is.
     newest_is_greatest();
     newest_is_unique();
-    let end = placed.partition_point(|one| is_reached(one, key, bound));
+    let end = placed.partition_point(|one| is_reached(one.row, key, bound));
     if end == 0 {
         return None;
     }
@@ -106,14 +103,6 @@ pub(crate) fn newest_in<'p, 'a>(
     } else {
         None
     }
-}
-
-/// Whether a row does not come after a key and a stamp.
-fn is_reached(one: &Placed, key: &Bytes, bound: Stamp) -> bool
-    ensures { result ≡ is_reached key.now bound one.now.row }
-{
-    let by_key = one.row.key.as_slice().cmp(key.as_slice());
-    by_key.then(one.row.stamp.cmp(&bound)).is_le()
 }
 
 /// The value of a row, and none where there is no row.

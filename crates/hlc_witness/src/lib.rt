@@ -20,5 +20,6 @@ pub use laws::{
 };
 pub use order::{do_points_ascend, row_order};
 pub use reason::NotShown;
+pub use search::is_reached;
 pub use shown::Shown;
 pub use witness::Witness;

@@ -26,10 +26,7 @@ pub(crate) fn value_in<'a>(rows: &'a [Row], key: &Bytes, bound: Stamp) -> Option
 {
     match newest_in(rows, key, bound) {
         None => None,
-        Some(row) => match &row.value {
-            None => None,
-            Some(bytes) => Some(bytes.as_slice()),
-        },
+        Some(row) => row.value(),
     }
 }
 
@@ -50,8 +47,8 @@ fn newest_in<'a>(rows: &'a [Row], key: &Bytes, bound: Stamp) -> Option<&'a Row>
     if row.key == *key { Some(row) } else { None }
 }
 
-/// Whether a row does not come after a key and a stamp.
-fn is_reached(row: &Row, key: &Bytes, bound: Stamp) -> bool
+/// Whether a row does not come after a key and a stamp, in the order of rows.
+pub fn is_reached(row: &Row, key: &Bytes, bound: Stamp) -> bool
     ensures { result ≡ is_reached key.now bound row.now }
 {
     let by_key = row.key.as_slice().cmp(key.as_slice());
