@@ -1,8 +1,13 @@
 //! Items to feed a store with.
+ghost use Rattle.std.specs.Prelude.{◌≡◌, IfOk, option_copied};
+
 use hlc_core::{Body, Bytes, Item, Stamp};
 use std::alloc::{AllocError, Global};
 
-pub fn bytes(alloc: Global, text: &[u8]) -> Result<Bytes, AllocError> {
+/// The text, as bytes of their own.
+pub fn bytes(alloc: Global, text: &[u8]) -> Result<Bytes, AllocError>
+    ensures { IfOk result (λ made. made ≡ text.now) }
+{
     Ok(Bytes::from_vec(Vec::from_slice(alloc, text)?))
 }
 
@@ -13,7 +18,9 @@ pub fn item(
     at: (u16, u64, u64),
     key: &[u8],
     value: Option<&[u8]>,
-) -> Result<Item, AllocError> {
+) -> Result<Item, AllocError>
+    ensures { IfOk result (λ made. made ≡ record { node = at.0; number = at.1; stamp = at.2; body = Body.Write key.now (option_copied value.entry) }) }
+{
     let (node, number, bits) = at;
     let key = bytes(alloc, key)?;
     let value = match value {

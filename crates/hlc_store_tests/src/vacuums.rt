@@ -1,41 +1,10 @@
-//! Vacuums of a store by itself: what they report, the certificate of what they leave, and the callers of the pages of `hlc_core` and
-//! `hlc_vacuum`.
-ghost use Rattle.std.specs.Prelude.{◌≡◌, List, length, IfOk, IsOkAnd, OnOk};
-ghost use Rattle.hlc_node.specs.Rows.{IsRowSet};
-ghost use Rattle.hlc_witness.specs.Points.{PointsAscend};
-ghost use Rattle.hlc_witness.specs.Fewest.{Alike};
-ghost use Rattle.hlc_witness.specs.Vacuumed.{rows_to};
-ghost use Rattle.hlc_core.specs.Past.{Step, floor};
-ghost use Rattle.hlc_core.specs.Kept.{nodes, StandsFor};
-
+//! Vacuums of a store by itself: what they report, and the certificate of what they leave.
+use crate::callers::{drop_unread, vacuum_and_check};
 use crate::items::{bytes, item};
-use hlc_core::{Core, Item, NoMemory, Report, Row, Stamp, Witness};
-use hlc_vacuum::{apply_rows, plan_rows};
-use hlc_witness::{NotShown, Shown, ascending_rows_are_a_row_set, check, do_points_ascend};
+use hlc_core::{Core, Item, Report, Stamp, Witness};
+use hlc_witness::{ascending_rows_are_a_row_set, check, do_points_ascend};
 use std::alloc::{AllocError, Global};
 use std::test::*;
-
-/// Vacuums a store, and checks by the report alone that the rows left up to its floor are the
-/// fewest. They always are.
-pub fn vacuum_and_check(core: &mut Core) -> Result<Result<Shown, NotShown>, NoMemory>
-    ensures { (past : List Step) → StandsFor core.old past → IfOk result (λ shown. IsOkAnd shown (λ count. count ≡ length (rows_to (floor (nodes core.old) past) core.new.rows))) }
-{
-    let report = core.vacuum()?;
-    let rows = core.rows_to(report.floor)?;
-    let points = report.points.as_slice();
-    let witnesses = report.witnesses.as_slice();
-    Ok(check(rows.as_slice(), points, witnesses))
-}
-
-/// Drops the rows that no reader at these points needs, and answers how many they were.
-pub fn drop_unread(alloc: Global, rows: &mut Vec<Row>, points: &[Stamp]) -> Result<u128, AllocError>
-    requires rows { IsRowSet rows.old.items }
-    requires points { PointsAscend points.now }
-    ensures { OnOk result (Alike rows.new.items rows.old.items points.now) }
-{
-    let plan = plan_rows(alloc, rows.as_slice(), points)?;
-    Ok(apply_rows(rows, plan).dropped)
-}
 
 /// How many of a store's rows no reader at these points needs, if the points ascend.
 fn count_unread(core: &Core, alloc: Global, points: &[Stamp]) -> Option<u128> {

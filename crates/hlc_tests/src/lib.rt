@@ -1,9 +1,10 @@
 //! Tests of clocks, nodes, links, the floor, snapshots and certificates, by their public calls, and the small callers of those
-//! libraries' pages and of the page of `hlc_world`. There is nothing here but tests.
+//! libraries' pages and of the page of `hlc_world`. There is nothing else here.
 #![tactic(auto)]
 
 #[cfg(test)]
-mod callers;
+mod called;
+pub mod callers;
 #[cfg(test)]
 mod certificates;
 #[cfg(test)]
