@@ -1,8 +1,11 @@
 //! The clock of a node.
 ghost use Rattle.std.specs.Prelude.{◌≡◌, ℕ, [], ◌∷◌, IfOk, OnErr};
+ghost use Rattle.std.proofs.Common.{rules};
+ghost use Rattle.std.proofs.lemmas.Grind.{common_steps};
 ghost use Rattle.hlc_clock.specs.NextStamp.{stamp_due, IsClockAnswer};
 
 use crate::stamp::Stamp;
+use hlc_values::Exact;
 use std::marker::Model;
 
 /// Why a clock gives no stamp.
@@ -14,12 +17,18 @@ pub enum ClockFault {
     CounterFull { at: Stamp },
 }
 
+impl Exact for ClockFault {
+    ghost equal = { Prim.search (rules, common_steps) };
+
+    ghost copied = { Prim.search rules };
+}
+
 /// A node's clock, which remembers the stamp of the node's last event. Contracts see it as that
 /// stamp.
 ///
 /// The rule is that of Kulkarni et al. 2014 for hybrid logical clocks, with one difference: where
 /// the counter has no room the event is refused, and nothing is carried into the physical part.
-#[derive(Clone, Copy)]
+#[derive(Clone, Copy, PartialEq, Eq, Debug)]
 pub struct Clock {
     last: Stamp,
 }
@@ -32,6 +41,12 @@ impl Model for Clock {
     ghost view = { λ clock. clock.last };
 
     ghost inverse = { λ stamp. record { last = stamp } };
+}
+
+impl Exact for Clock {
+    ghost equal = { Prim.search (rules, common_steps) };
+
+    ghost copied = { Prim.search rules };
 }
 
 impl Clock {

@@ -1,20 +1,37 @@
 //! The stamp: a physical part and a counter in one word.
-ghost use Rattle.std.specs.Prelude.{◌≡◌, ℕ, ◌+◌, ◌*◌, ◌/◌, ◌%◌, ◌^◌, ◌<◌, ◌≤◌, MatchResult, Some};
+ghost use Rattle.std.specs.Prelude.{ℕ, ⊤, ◌≡◌, ◌+◌, ◌*◌, ◌/◌, ◌%◌, ◌^◌, ◌<◌, ◌≤◌};
+ghost use Rattle.std.specs.Prelude.{MatchResult, Some, nat_eq};
+ghost use Rattle.std.specs.Cmp.{partial_order_from_own_ties, partial_equiv_from_equiv};
+ghost use Rattle.std.specs.Cmp.Rules.{comparing, hashing};
+ghost use Rattle.std.specs.Hash as fed;
+ghost use Rattle.std.specs.Ordering.{nat_cmp, as_partial_cmp};
+ghost use Rattle.std.proofs.Common.{rules};
+ghost use Rattle.std.proofs.lemmas.Cmp.{nat_cmp_total, nat_eq_equiv};
 ghost use Rattle.hlc_clock.specs.Stamp.{physical, counter, stamp_text};
 
+use hlc_values::Exact;
+use std::alloc::AllocError;
+use std::cmp::Ordering;
 use std::fmt;
+use std::hash::{Hash, Hasher};
 use std::marker::Model;
 
 /// A reading, or the physical part of a stamp, is 2^48 or more.
 #[derive(Clone, Copy, PartialEq, Eq, Debug)]
 pub struct ReadingTooLarge;
 
+impl Exact for ReadingTooLarge {
+    ghost equal = { Prim.search (comparing, rules) };
+
+    ghost copied = { Prim.search rules };
+}
+
 /// A stamp of a hybrid logical clock, in the compact form of Kulkarni et al. 2014.
 ///
 /// The physical part `l` has 48 bits, in the unit of the readings; the counter `c` has 16.
 /// Both stand in one word, `l * 65536 + c`, so stamps compare as their words do. Contracts see
 /// a stamp as that word. It is printed `l.c`, both in decimal.
-#[derive(Clone, Copy, PartialEq, Eq, PartialOrd, Ord, Hash, Debug)]
+#[derive(Copy, Debug)]
 pub struct Stamp {
     bits: u64,
 }
@@ -67,6 +84,70 @@ impl Stamp {
         ensures { result ≡ counter self }
     {
         (self.bits % 65536) as u16
+    }
+}
+
+impl Clone for Stamp {
+    ghost is_clone = { λ stamp copy. copy ≡ stamp };
+
+    ghost is_infallible = { λ _. ⊤ };
+
+    fn clone(&self) -> Result<Stamp, AllocError> {
+        Ok(*self)
+    }
+}
+
+impl PartialEq for Stamp {
+    ghost eq = { nat_eq };
+
+    ghost laws = { partial_equiv_from_equiv nat_eq_equiv };
+
+    fn eq(&self, other: &Stamp) -> bool {
+        self.bits == other.bits
+    }
+}
+
+impl Eq for Stamp {
+    ghost laws = { nat_eq_equiv };
+}
+
+impl PartialOrd for Stamp {
+    ghost partial_cmp = { as_partial_cmp nat_cmp };
+
+    ghost laws = { partial_order_from_own_ties (Prim.search (comparing, rules)) (Prim.search (comparing, rules)) };
+
+    fn partial_cmp(&self, other: &Stamp) -> Option<Ordering> {
+        Some(self.cmp(other))
+    }
+}
+
+impl Ord for Stamp {
+    ghost cmp = { nat_cmp };
+
+    ghost total = { nat_cmp_total };
+
+    ghost matches_partial_cmp = { Prim.search (comparing, rules) };
+
+    ghost matches_eq = { Prim.search (comparing, rules) };
+
+    fn cmp(&self, other: &Stamp) -> Ordering {
+        self.bits.cmp(&other.bits)
+    }
+}
+
+impl Exact for Stamp {
+    ghost equal = { Prim.search (comparing, rules) };
+
+    ghost copied = { λ stamp copy same. same };
+}
+
+impl Hash for Stamp {
+    ghost hash_input = { fed.u64 };
+
+    ghost respects_eq = { Prim.search (hashing, rules) };
+
+    fn hash<H: Hasher>(&self, state: &mut H) {
+        self.bits.hash(state);
     }
 }
 

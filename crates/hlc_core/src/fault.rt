@@ -1,6 +1,10 @@
 //! Why a core refuses a call.
+ghost use Rattle.std.proofs.Common.{rules};
+ghost use Rattle.std.proofs.lemmas.Grind.{common_steps};
+
 use hlc_clock::Stamp;
 use hlc_node::BodyFault;
+use hlc_values::Exact;
 
 /// Why a core refuses a call.
 #[derive(Clone, Copy, PartialEq, Eq, Debug)]
@@ -27,6 +31,18 @@ pub enum CoreFault {
     NoMemory,
 }
 
+impl Exact for CoreFault {
+    ghost equal = { Prim.search (rules, common_steps) };
+
+    ghost copied = { Prim.search rules };
+}
+
 /// The node is not below the count of nodes.
 #[derive(Clone, Copy, PartialEq, Eq, Debug)]
 pub struct NoNode;
+
+impl Exact for NoNode {
+    ghost equal = { Prim.search (rules, common_steps) };
+
+    ghost copied = { Prim.search rules };
+}

@@ -1,7 +1,10 @@
 //! The word that an item was accepted.
 ghost use Rattle.std.specs.Prelude.{◌≡◌};
+ghost use Rattle.std.proofs.Common.{rules};
+ghost use Rattle.std.proofs.lemmas.Grind.{common_steps};
 
 use hlc_clock::Stamp;
+use hlc_values::Exact;
 use std::marker::Model;
 
 /// An item of this node, with this stamp, was accepted: it is the node's head, or was. Only
@@ -20,6 +23,12 @@ impl Model for Accepted {
     ghost view = { λ accepted. record { node = accepted.node; stamp = accepted.stamp } };
 
     ghost inverse = { λ acceptance. record { node = acceptance.node; stamp = acceptance.stamp } };
+}
+
+impl Exact for Accepted {
+    ghost equal = { Prim.search (rules, common_steps) };
+
+    ghost copied = { Prim.search rules };
 }
 
 impl Accepted {

@@ -1,9 +1,12 @@
 //! The head of each link, and the floor.
 ghost use Rattle.std.specs.Prelude.{◌≡◌, ◌<◌, Some, length, slice_get, slice_set, slice_index_or};
+ghost use Rattle.std.proofs.Common.{rules};
+ghost use Rattle.std.proofs.lemmas.Grind.{common_steps};
 ghost use Rattle.hlc_floor.specs.Heads.{Makes, IsFloor};
 
 use crate::accepted::Accepted;
 use hlc_clock::Stamp;
+use hlc_values::Exact;
 use std::alloc::Global;
 use std::marker::Model;
 
@@ -14,6 +17,12 @@ pub enum HeadsFault {
     NoNode,
     /// A growth was refused.
     NoMemory,
+}
+
+impl Exact for HeadsFault {
+    ghost equal = { Prim.search (rules, common_steps) };
+
+    ghost copied = { Prim.search rules };
 }
 
 /// The head of each node: the stamp of its last accepted item, 0.0 where there is none. Contracts

@@ -1,8 +1,11 @@
 //! The receiving end of a link, as far as order goes.
 ghost use Rattle.std.specs.Prelude.{◌≡◌};
+ghost use Rattle.std.proofs.Common.{rules};
+ghost use Rattle.std.proofs.lemmas.Grind.{common_steps};
 ghost use Rattle.hlc_link.specs.Progress.{Admits};
 
 use hlc_node::Stamp;
+use hlc_values::Exact;
 use std::marker::Model;
 
 /// Why an item is not admitted.
@@ -14,6 +17,12 @@ pub enum LinkFault {
     NumbersSpent,
     /// The stamp is not above that of the link's last admitted item.
     StampNotRising { head: Stamp },
+}
+
+impl Exact for LinkFault {
+    ghost equal = { Prim.search (rules, common_steps) };
+
+    ghost copied = { Prim.search rules };
 }
 
 /// How far a node's link has come: the number of its next item, and the stamp of the last admitted
@@ -32,6 +41,12 @@ impl Model for Intake {
     ghost view = { λ intake. record { next = intake.next; head = intake.head } };
 
     ghost inverse = { λ progress. record { next = progress.next; head = progress.head } };
+}
+
+impl Exact for Intake {
+    ghost equal = { Prim.search (rules, common_steps) };
+
+    ghost copied = { Prim.search rules };
 }
 
 impl Intake {

@@ -1,10 +1,13 @@
 //! Items, which a node hands on over its link, and messages to other nodes.
-ghost use Rattle.std.specs.Prelude.{◌≡◌, ◌≢◌, IfOk, OnErr};
+ghost use Rattle.std.specs.Prelude.{◌≡◌};
+ghost use Rattle.std.proofs.Common.{rules};
+ghost use Rattle.std.proofs.lemmas.Grind.{common_steps};
 ghost use Rattle.hlc_node.specs.Items.{body_refusal};
-ghost use Rattle.hlc_node.specs.declared.item.Body.TheVariants.{Write as a_write};
+ghost use Rattle.hlc_node.specs.declared.item.Body.TheVariants.{Write as a_write, Report};
 
 use crate::bytes::Bytes;
 use hlc_clock::Stamp;
+use hlc_values::Exact;
 use std::alloc::AllocError;
 
 /// What an item says.
@@ -17,7 +20,7 @@ pub enum Body {
 }
 
 /// An item of a node's link.
-#[derive(PartialEq, Eq, Debug, Drop)]
+#[derive(Clone, PartialEq, Eq, Debug, Drop)]
 pub struct Item {
     /// The node that issued it.
     pub node: u16,
@@ -48,39 +51,43 @@ pub enum BodyFault {
 }
 
 impl Clone for Body {
-    /// A report takes no memory.
-    fn clone(&self) -> Result<Body, AllocError>
-        ensures ok { IfOk result (λ copy. copy ≡ self.now) }
-        ensures err { OnErr result (self.now ≢ Body.Report) }
-    {
+    ghost is_clone = { λ body copy. copy ≡ body };
+
+    ghost is_infallible = { λ body. body ≡ Report };
+
+    fn clone(&self) -> Result<Body, AllocError> {
         match self {
             Body::Report => Ok(Body::Report),
-            Body::Write { key, value } => {
-                let key = key.clone()?;
-                let value = match value {
-                    None => None,
-                    Some(bytes) => Some(bytes.clone()?),
-                };
-                Ok(Body::Write { key, value })
-            }
+            Body::Write { key, value } => Ok(Body::Write {
+                key: key.clone()?,
+                value: value.clone()?,
+            }),
         }
     }
 }
 
-impl Clone for Item {
-    /// A report takes no memory.
-    fn clone(&self) -> Result<Item, AllocError>
-        ensures ok { IfOk result (λ copy. copy ≡ self.now) }
-        ensures err { OnErr result (self.now.body ≢ Body.Report) }
-    {
-        let body = self.body.clone()?;
-        Ok(Item {
-            node: self.node,
-            number: self.number,
-            stamp: self.stamp,
-            body,
-        })
-    }
+impl Exact for Body {
+    ghost equal = { Prim.search (rules, common_steps) };
+
+    ghost copied = { Prim.search rules };
+}
+
+impl Exact for Item {
+    ghost equal = { Prim.search (rules, common_steps) };
+
+    ghost copied = { Prim.search rules };
+}
+
+impl Exact for Message {
+    ghost equal = { Prim.search (rules, common_steps) };
+
+    ghost copied = { Prim.search rules };
+}
+
+impl Exact for BodyFault {
+    ghost equal = { Prim.search (rules, common_steps) };
+
+    ghost copied = { Prim.search rules };
 }
 
 /// The first reason why no item may write this value, or deletion mark, to this key.

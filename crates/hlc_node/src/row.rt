@@ -1,8 +1,11 @@
 //! What a table stores of a write.
 ghost use Rattle.std.specs.Prelude.{◌≡◌, option_copied};
+ghost use Rattle.std.proofs.Common.{rules};
+ghost use Rattle.std.proofs.lemmas.Grind.{common_steps};
 
 use crate::bytes::Bytes;
 use hlc_clock::Stamp;
+use hlc_values::Exact;
 use std::alloc::AllocError;
 
 /// A version of a key.
@@ -32,16 +35,17 @@ impl Clone for Row {
     ghost is_clone = { λ row copy. copy ≡ row };
 
     fn clone(&self) -> Result<Row, AllocError> {
-        let key = self.key.clone()?;
-        let value = match &self.value {
-            None => None,
-            Some(bytes) => Some(bytes.clone()?),
-        };
         Ok(Row {
-            key,
+            key: self.key.clone()?,
             stamp: self.stamp,
             node: self.node,
-            value,
+            value: self.value.clone()?,
         })
     }
+}
+
+impl Exact for Row {
+    ghost equal = { Prim.search (rules, common_steps) };
+
+    ghost copied = { Prim.search rules };
 }

@@ -1,13 +1,19 @@
 //! What a vacuum did.
-ghost use Rattle.std.specs.Prelude.{◌≡◌};
+ghost use Rattle.std.specs.Prelude.{ℕ, ◌≡◌, ◌↔◌, IsTrue, List};
+ghost use Rattle.std.proofs.Common.{rules};
+ghost use Rattle.std.proofs.lemmas.Grind.{common_steps};
+ghost use Rattle.std.specs.Cmp.Lexicographic.{pointwise_decides};
+ghost use Rattle.hlc_clock.specs.contracts.stamp.StampExact.TheImpl.Laws.{equal-law as stamp_equal};
+ghost use Rattle.hlc_witness.specs.declared.witness.Witness.{Witness as AWitness};
+ghost use Rattle.hlc_witness.specs.contracts.witness.WitnessExact.TheImpl.Laws.{equal-law as witness_equal};
 
 use crate::points::Points;
 use crate::witnesses::Witnesses;
 use hlc_clock::Stamp;
-use std::alloc::AllocError;
+use hlc_values::Exact;
 
 /// What a vacuum kept and dropped of the rows at or below its floor, which is its last point.
-#[derive(PartialEq, Eq, Debug, Drop)]
+#[derive(Clone, PartialEq, Eq, Debug, Drop)]
 pub struct Report {
     pub floor: Stamp,
     /// The stamps at which the answers stayed, ascending.
@@ -20,18 +26,12 @@ pub struct Report {
     pub witnesses: Witnesses,
 }
 
-impl Clone for Report {
-    ghost is_clone = { λ report copy. copy ≡ report };
+impl Exact for Report {
+    ghost equal = { let points : (x y : List ℕ) → IsTrue (⟦<Points as PartialEq>⟧.eq x y) ↔ (x ≡ y)
+        = pointwise_decides stamp_equal in
+        let witnesses : (x y : List AWitness) → IsTrue (⟦<Witnesses as PartialEq>⟧.eq x y) ↔ (x ≡ y)
+        = pointwise_decides witness_equal in
+        Prim.search (rules, common_steps, points, witnesses) };
 
-    fn clone(&self) -> Result<Report, AllocError> {
-        let points = self.points.clone()?;
-        let witnesses = self.witnesses.clone()?;
-        Ok(Report {
-            floor: self.floor,
-            points,
-            kept: self.kept,
-            dropped: self.dropped,
-            witnesses,
-        })
-    }
+    ghost copied = { Prim.search rules };
 }

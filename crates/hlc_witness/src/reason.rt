@@ -1,4 +1,8 @@
 //! Why witnesses do not show that rows are the fewest.
+ghost use Rattle.std.proofs.Common.{rules};
+ghost use Rattle.std.proofs.lemmas.Grind.{common_steps};
+
+use hlc_values::Exact;
 
 /// The reasons, in the order in which they are looked for. Each witness in turn is looked at for
 /// the fourth, the fifth and the sixth.
@@ -18,4 +22,10 @@ pub enum NotShown {
     SameAnswers,
     /// There are not as many witnesses as rows.
     CountsDiffer,
+}
+
+impl Exact for NotShown {
+    ghost equal = { Prim.search (rules, common_steps) };
+
+    ghost copied = { Prim.search rules };
 }

@@ -1,6 +1,9 @@
 //! What a certificate shows.
 ghost use Rattle.std.specs.Prelude.{◌≡◌};
+ghost use Rattle.std.proofs.Common.{rules};
+ghost use Rattle.std.proofs.lemmas.Grind.{common_steps};
 
+use hlc_values::Exact;
 use std::marker::Model;
 
 /// Some rows are the fewest. Contracts see how many they are. Only `check` makes one.
@@ -17,6 +20,12 @@ impl Model for Shown {
     ghost view = { λ shown. shown.rows };
 
     ghost inverse = { λ rows. record { rows = rows } };
+}
+
+impl Exact for Shown {
+    ghost equal = { Prim.search (rules, common_steps) };
+
+    ghost copied = { Prim.search rules };
 }
 
 impl Shown {

@@ -1,12 +1,13 @@
 //! What shows that a row is needed.
-ghost use Rattle.std.specs.Prelude.{◌≡◌};
+ghost use Rattle.std.proofs.Common.{rules};
+ghost use Rattle.std.proofs.lemmas.Grind.{common_steps};
 
 use hlc_clock::Stamp;
 use hlc_node::Bytes;
-use std::alloc::AllocError;
+use hlc_values::Exact;
 
 /// A change: a key, and a point at which its answer differs from that at the point before.
-#[derive(PartialEq, Eq, Debug, Drop)]
+#[derive(Clone, PartialEq, Eq, Debug, Drop)]
 pub struct Witness {
     pub key: Bytes,
     /// The point before, or none where `at` is the first.
@@ -14,15 +15,8 @@ pub struct Witness {
     pub at: Stamp,
 }
 
-impl Clone for Witness {
-    ghost is_clone = { λ witness copy. copy ≡ witness };
+impl Exact for Witness {
+    ghost equal = { Prim.search (rules, common_steps) };
 
-    fn clone(&self) -> Result<Witness, AllocError> {
-        let key = self.key.clone()?;
-        Ok(Witness {
-            key,
-            before: self.before,
-            at: self.at,
-        })
-    }
+    ghost copied = { Prim.search rules };
 }

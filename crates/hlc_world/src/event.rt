@@ -1,6 +1,10 @@
 //! What may happen in a world.
+ghost use Rattle.std.proofs.Common.{rules};
+ghost use Rattle.std.proofs.lemmas.Grind.{common_steps};
+
 use hlc_clock::Stamp;
 use hlc_node::Bytes;
+use hlc_values::Exact;
 
 /// What may happen in a world.
 #[derive(Clone, PartialEq, Eq, Debug, Drop)]
@@ -71,4 +75,10 @@ pub enum Event {
     Vacuum,
     /// The number of stored rows is asked for.
     Rows,
+}
+
+impl Exact for Event {
+    ghost equal = { Prim.search (rules, common_steps) };
+
+    ghost copied = { Prim.search rules };
 }

@@ -1,10 +1,13 @@
 //! Why an event does not take place.
 ghost use Rattle.std.specs.Prelude.{◌≡◌};
+ghost use Rattle.std.proofs.Common.{rules};
+ghost use Rattle.std.proofs.lemmas.Grind.{common_steps};
 ghost use Rattle.hlc_world.specs.Due.{of_body, of_clock, of_node, of_core};
 
 use hlc_clock::{ClockFault, Stamp};
 use hlc_core::CoreFault;
 use hlc_node::{BodyFault, NodeFault};
+use hlc_values::Exact;
 
 /// Why an event does not take place.
 #[derive(Clone, Copy, PartialEq, Eq, Debug)]
@@ -43,9 +46,21 @@ pub enum Refusal {
     NoMemory,
 }
 
+impl Exact for Refusal {
+    ghost equal = { Prim.search (rules, common_steps) };
+
+    ghost copied = { Prim.search rules };
+}
+
 /// A growth was refused.
 #[derive(Clone, Copy, PartialEq, Eq, Debug)]
 pub struct NoMemory;
+
+impl Exact for NoMemory {
+    ghost equal = { Prim.search (rules, common_steps) };
+
+    ghost copied = { Prim.search rules };
+}
 
 /// What no item may say, as a refusal.
 pub fn of_body(fault: BodyFault) -> Refusal

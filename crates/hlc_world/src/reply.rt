@@ -1,8 +1,18 @@
 //! What a world answers to an event.
+ghost use Rattle.std.specs.Prelude.{◌≡◌, ◌↔◌, IsTrue, List};
+ghost use Rattle.std.specs.Cmp.Lexicographic.{pointwise_decides};
+ghost use Rattle.std.proofs.Common.{rules};
+ghost use Rattle.std.proofs.lemmas.Grind.{common_steps};
+ghost use Rattle.hlc_vacuum.specs.declared.report.Report.{Report as AReport};
+ghost use Rattle.hlc_vacuum.specs.contracts.report.ReportExact.TheImpl.Laws.{equal-law as report_equal};
+ghost use Rattle.hlc_core.specs.declared.listing.Pair.{Pair as APair};
+ghost use Rattle.hlc_core.specs.contracts.listing.PairExact.TheImpl.Laws.{equal-law as pair_equal};
+
 use crate::refusal::Refusal;
 use hlc_clock::Stamp;
 use hlc_core::{Listing, Report};
 use hlc_node::Bytes;
+use hlc_values::Exact;
 
 /// What a world answers to an event.
 #[derive(Clone, PartialEq, Eq, Debug, Drop)]
@@ -33,4 +43,14 @@ pub enum Reply {
     Rows { count: u128 },
     /// The event did not take place.
     Refused(Refusal),
+}
+
+impl Exact for Reply {
+    ghost equal = { let listings : (x y : List APair) → IsTrue (⟦<Listing as PartialEq>⟧.eq x y) ↔ (x ≡ y)
+        = pointwise_decides pair_equal in
+        let reports : (x y : AReport) → IsTrue (⟦<Report as PartialEq>⟧.eq x y) ↔ (x ≡ y)
+        = report_equal in
+        Prim.search (rules, common_steps, listings, reports) };
+
+    ghost copied = { Prim.search rules };
 }

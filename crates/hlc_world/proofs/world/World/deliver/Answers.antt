@@ -1,4 +1,5 @@
-use Rattle.std.proofs.Common.{◌∙◌, ◌<◌, sym, ap, length, arith, refl}
+-- The item that is found is accepted as a copy, which is equal to it.
+use Rattle.std.proofs.Common.{◌≡◌, ◌∙◌, ◌<◌, sym, ap, length, arith, refl, rules}
 use Rattle.std.proofs.lemmas.Option.{slice_get_read}
 use Rattle.hlc_world.specs.Schedule.{core_past}
 use Rattle.hlc_world.specs.declared.reply.Reply.TheVariants.{Refused}
@@ -20,14 +21,15 @@ returns-in_default-clone-clause-stands c = λ s h.
     let inside : c.args.node < length c.self.inside.nodes.items = omega (arith, c.self.inside.nodes.ok.0) in
     let at = found _ s c.args.node c.args.number c.index.result.now c.in-Some.item.now h' inside (slice_get_read c.self.inside.nodes.items (length c.self.inside.nodes.items) c.args.node c.index.result.now refl inside c.index.ensures) c.in-Some.ensures in
     rw (← c.self.view_is)
-    (no_memory _ s _ _ c.in-Some.item.now c.self.invariant h' at (c.in_default-check_item.ensures (core_past s) h'.core) (is_write _ c.in_default-clone.ensures.err))
+    (no_memory _ s _ _ c.in-Some.item.now c.self.invariant h' at (c.in_default-check_item.ensures (core_past s) h'.core) (is_write _ (λ report. c.in_default-clone.ensures.cases (tt, (tt, (tt, report))))))
 
 pub returns-clause-stands : goal.returns-clause-stands
 returns-clause-stands c = λ s h.
     let h' = rw (← c.self.view_is) at h in
     let inside : c.args.node < length c.self.inside.nodes.items = omega (arith, c.self.inside.nodes.ok.0) in
     let at = found _ s c.args.node c.args.number c.index.result.now c.in-Some.item.now h' inside (slice_get_read c.self.inside.nodes.items (length c.self.inside.nodes.items) c.args.node c.index.result.now refl inside c.index.ensures) c.in-Some.ensures in
-    let all' = answered _ s c.args.node c.args.number c.in-Some.item.now c.in-Ok.copy c.accept.new.core c.accept.result c.in-Ok.ensures.ok c.self.invariant h' at (c.in_default-check_item.ensures (core_past s) h'.core) (c.accept.ensures.stands (core_past s) h'.core) in
+    let copy : c.in-Ok.copy ≡ c.in-Some.item.now = search rules in
+    let all' = answered _ s c.args.node c.args.number c.in-Some.item.now c.in-Ok.copy c.accept.new.core c.accept.result copy c.self.invariant h' at (c.in_default-check_item.ensures (core_past s) h'.core) (c.accept.ensures.stands (core_past s) h'.core) in
     elim c.match-accept.branch [
       | in-Ok-accept w ↦ rw (w.result-is ∙ sym (ap reply_of w.in-Ok-accept.is)) all'
       | in-Err-accept w ↦ rw (w.result-is ∙ ap Refused w.of_core-in-Err-accept.ensures ∙ sym (ap reply_of w.in-Err-accept.is)) all'

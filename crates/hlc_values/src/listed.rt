@@ -1,0 +1,117 @@
+//! A vector that contracts see as its list.
+ghost use Rattle.std.specs.Prelude.{◌≡◌, ◌==◌, ◌<◌, ◌^◌, length};
+ghost use Rattle.std.specs.Cmp.Lexicographic.{pointwise, pointwise_decides, lists_per, lists_equiv};
+ghost use Rattle.std.specs.Iterator.Runs.{EveryRun, ItemsMapTo};
+ghost use Rattle.std.specs.Slice.Iter.{iter_rest, iter_steps};
+
+use crate::exact::Exact;
+use std::alloc::AllocError;
+use std::marker::Model;
+use std::slice;
+
+/// Some values in their order. Contracts see their list.
+///
+/// It is a vector whose capacity and place no contract can name. Making one of a vector, and giving
+/// the vector back, moves it.
+#[derive(Debug, Drop)]
+pub struct Listed<T> {
+    held: Vec<T>,
+}
+
+impl<T> Model for Listed<T> {
+    ghost use Rattle.std.specs.Prelude.{List};
+    ghost use Rattle.std.specs.Coded.{coded_list};
+
+    ghost Value = { List T };
+
+    ghost coded = { coded_list T.code };
+
+    ghost view = { λ listed. listed.held.items };
+}
+
+impl<T> Listed<T> {
+    /// The values of a vector.
+    pub fn from_vec(held: Vec<T>) -> Listed<T>
+        ensures { result ≡ held.items }
+    {
+        Listed { held }
+    }
+
+    /// The vector of the values.
+    pub fn into_vec(self) -> Vec<T>
+        ensures { result.items ≡ self }
+    {
+        let Listed { held } = self;
+        held
+    }
+
+    /// The values as a slice.
+    pub fn as_slice(&self) -> &[T]
+        ensures { result.now ≡ self.now }
+    {
+        self.held.as_slice()
+    }
+
+    /// How many values there are.
+    pub fn len(&self) -> usize
+        ensures { result ≡ length self.now }
+    {
+        self.held.len()
+    }
+
+    /// Whether there are none.
+    pub fn is_empty(&self) -> bool
+        ensures { result ≡ (length self.now == 0) }
+    {
+        self.held.is_empty()
+    }
+
+    /// The values in turn.
+    pub fn iter(&self) -> slice::Iter<'_, T>
+        ensures { iter_rest result ≡ self.now }
+    {
+        self.held.iter()
+    }
+}
+
+impl<'a, T> IntoIterator for &'a Listed<T> {
+    type Item = &'a T;
+
+    type IntoIter = slice::Iter<'a, T>;
+
+    ghost into_iter_gives = { λ v it. (iter_rest it ≡ v.now) × (length (iter_rest it) < 2 ^ 64)
+        × EveryRun (iter_steps {A = T}) (λ p. ItemsMapTo p (λ x. x.now) (iter_rest p.from)) };
+
+    fn into_iter(self) -> slice::Iter<'a, T> {
+        self.as_slice().iter()
+    }
+}
+
+impl<T: Exact> Clone for Listed<T> {
+    ghost is_clone = { λ listed copy. copy ≡ listed };
+
+    fn clone(&self) -> Result<Listed<T>, AllocError> {
+        let held = self.held.clone()?;
+        Ok(Listed { held })
+    }
+}
+
+impl<T: PartialEq> PartialEq for Listed<T> {
+    ghost eq = { pointwise T.eq };
+
+    ghost laws = { lists_per T.laws };
+
+    fn eq(&self, other: &Listed<T>) -> bool {
+        self.held == other.held
+    }
+}
+
+impl<T: Eq> Eq for Listed<T> {
+    ghost laws = { lists_equiv T.Eq.laws };
+}
+
+impl<T: Exact> Exact for Listed<T> {
+    ghost equal = { pointwise_decides T.equal };
+
+    ghost copied = { λ listed copy same. same };
+}
