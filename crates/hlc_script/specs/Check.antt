@@ -44,7 +44,7 @@ MayAnswer input (NotShown reason) = (length input ≤ 16777216) × ShowsReason (
 MayAnswer input (BadLine number) = (length input ≤ 16777216) × IsFirstBad (lines_of input) number
 -- memory is asked for only where there is a byte to hold
 MayAnswer input NotHeld = 0 < length input
-MayAnswer input NoMemory = (length input ≤ 16777216) × AreGood (lines_of input)
+MayAnswer input NoMemory = (length input ≤ 16777216) × (0 < length (lines_of input)) × AreGood (lines_of input)
 MayAnswer input ReadFault = ⊤
 MayAnswer input TooLong = 16777216 < length input
 -- a failed write is no answer: it cuts that off
