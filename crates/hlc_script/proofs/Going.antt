@@ -73,10 +73,10 @@ taken_more (Some xs) (Some ys) None taken more first second = absurd second
 taken_more (Some xs) (Some ys) (Some zs) taken more first second = first ∙ ap (λ l. taken ++ l) second ∙ sym (append_assoc taken more zs)
 
 -- a header and the answers behind it
-pub script_answered : (input : List ℕ) (line rest : List ℕ) (nodes made : ℕ) (bad : Option ℕ) (f g h : Bool) (a b c : Option (List ℕ)) (u v w : List ℕ) → length input ≤ 16777216 → lines_of input ≡ line ∷ lines_of rest → HasHeader nodes → line ≡ header_line nodes → made ≡ nodes → Printed f g a b u v (printed (header_line nodes)) → (output : List ℕ) × Answers made [] 2 (lines_of rest) output bad × Printed g h b c v w output → (output : List ℕ) × ((length input ≤ 16777216) × AnswersScript input output bad) × Printed f h a c u w output
-script_answered input line rest nodes made bad f g h a b c u v w fits first has header same wrote (output, answers, more) = (
+pub script_answered : (input : List ℕ) (rest : List ℕ) (nodes made : ℕ) (bad : Option ℕ) (f g h : Bool) (a b c : Option (List ℕ)) (u v w : List ℕ) → length input ≤ 16777216 → lines_of input ≡ header_line nodes ∷ lines_of rest → HasHeader nodes → made ≡ nodes → Printed f g a b u v (printed (header_line nodes)) → (output : List ℕ) × Answers made [] 2 (lines_of rest) output bad × Printed g h b c v w output → (output : List ℕ) × ((length input ≤ 16777216) × AnswersScript input output bad) × Printed f h a c u w output
+script_answered input rest nodes made bad f g h a b c u v w fits first has same wrote (output, answers, more) = (
   printed (header_line nodes) ++ output,
-  (fits, (nodes, lines_of rest, output, has, first ∙ ap (λ l. l ∷ lines_of rest) header, refl, subst (λ (n : ℕ). Answers n [] 2 (lines_of rest) output bad) same answers)),
+  (fits, (nodes, lines_of rest, output, has, first, refl, subst (λ (n : ℕ). Answers n [] 2 (lines_of rest) output bad) same answers)),
   printed_then wrote more,
 )
 

@@ -1,5 +1,5 @@
 //! A whole run: the bytes of a script in, the bytes of its replies out.
-ghost use Rattle.std.specs.Prelude.{◌≡◌, ◌≤◌, ◌↔◌, [], ℕ, List, false, true, length};
+ghost use Rattle.std.specs.Prelude.{◌≡◌, ◌≢◌, ◌≤◌, ◌↔◌, ◌∷◌, [], ℕ, List, MatchOption, false, true, length};
 ghost use Rattle.std.specs.Io.KnownBytes.{Consumes};
 ghost use Rattle.hlc_text.specs.Text.{Reads};
 ghost use Rattle.hlc_text.specs.Watched.{inner_of, has_failed};
@@ -129,12 +129,7 @@ pub fn answer_input<W: Write>(
     ensures written { (output : List ℕ) × MayWrite input.now output result
         × Prints W.contents writer.old writer.new waiting.old waiting.new output }
 {
-    if input.is_empty() {
-        put(writer, waiting, b"refused 17\n");
-        return RunEnd::BadHeader;
-    }
-    let (line, rest) = first_line(input);
-    let Some(nodes) = read_header(line) else {
+    let Some((nodes, rest)) = split_header(input) else {
         put(writer, waiting, b"refused 17\n");
         return RunEnd::BadHeader;
     };
@@ -147,6 +142,23 @@ pub fn answer_input<W: Write>(
         None => RunEnd::Answered,
         Some(number) => RunEnd::BadLine(number),
     }
+}
+
+/// The nodes of the header, and the text behind it, or none where the first line is no header.
+fn split_header(input: &[u8]) -> Option<(u16, &[u8])>
+    ensures { MatchOption result
+        ((nodes : ℕ) (lines : List (List ℕ)) → HasHeader nodes
+        → lines_of input.now ≢ header_line nodes ∷ lines)
+        (λ found. HasHeader found.0
+        × (lines_of input.now ≡ header_line found.0 ∷ lines_of found.1.now)
+        × (length found.1.now ≤ length input.now)) }
+{
+    if input.is_empty() {
+        return None;
+    }
+    let (line, rest) = first_line(input);
+    let nodes = read_header(line)?;
+    Some((nodes, rest))
 }
 
 /// The nodes of a header, or none where the line is no header.
