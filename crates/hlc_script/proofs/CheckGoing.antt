@@ -88,6 +88,10 @@ pub record Going (text rest : List ℕ) (number section : ℕ) (kept : Option Ce
   pub reached : (latest : ℕ) → NoneLater latest front → section ≤ latest
   pub count : number ≡ length front + 1
   pub held : IfSome kept (λ certificate. Holds certificate points rows witnesses)
+  pub lost : kept ≡ None → 0 < length front
+
+some_not_none : (certificate : Certificate) → Some certificate ≡ None → ⊥
+some_not_none certificate same = cc
 
 pub going_first : (text : List ℕ) (certificate : Certificate) → Holds certificate [] [] [] → Going text text 1 0 (Some certificate)
 going_first text certificate empty = record {
@@ -102,6 +106,7 @@ going_first text certificate empty = record {
   reached = λ latest none. omega arith;
   count = refl;
   held = empty;
+  lost = λ none. absurd (some_not_none certificate none);
 }
 
 -- the first bad line: no line of its section or a later one
@@ -202,6 +207,7 @@ going_more text rest after line number section kept new (Point p) going first ha
       reached = reached_more going.front line (Point p) is;
       count = count_more going.front line number going.count;
       held = held_point kept new going.points going.rows going.witnesses p going.held adds;
+      lost = λ none. omega (arith, length-append going.front (line ∷ []));
     }
 going_more text rest after line number section kept new (Row key stamp node value) going first has is adds =
     let row : ARow = record { key = key; stamp = stamp; node = node; value = value } in
@@ -217,6 +223,7 @@ going_more text rest after line number section kept new (Row key stamp node valu
       reached = reached_more going.front line (Row key stamp node value) is;
       count = count_more going.front line number going.count;
       held = held_row kept new going.points going.rows going.witnesses row going.held adds;
+      lost = λ none. omega (arith, length-append going.front (line ∷ []));
     }
 going_more text rest after line number section kept new (Witness key before at) going first has is adds =
     let witness : AWitness = record { key = key; before = before; at = at } in record {
@@ -231,4 +238,5 @@ going_more text rest after line number section kept new (Witness key before at) 
       reached = reached_more going.front line (Witness key before at) is;
       count = count_more going.front line number going.count;
       held = held_witness kept new going.points going.rows going.witnesses witness going.held adds;
+      lost = λ none. omega (arith, length-append going.front (line ∷ []));
     }

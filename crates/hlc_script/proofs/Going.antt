@@ -11,7 +11,8 @@ use Rattle.hlc_world.specs.declared.reply.Reply.{Reply}
 use Rattle.hlc_world.specs.State.{State, world_nodes, StandsFor}
 use Rattle.hlc_script.specs.Line.{event_line, HasLine, lines_of_parts, lines_of, HasHeader, header_line}
 use Rattle.hlc_script.specs.Reply.{reply_text, bad_line, printed}
-use Rattle.hlc_script.specs.Run.{AnswersLine, Answers, AnswersScript, IsInput}
+use Rattle.hlc_script.specs.Input.{IsInput}
+use Rattle.hlc_script.specs.Run.{AnswersLine, Answers, AnswersScript}
 
 -- whatever answers the lines that are left completes an answer to all of them
 pub record Going (nodes : ℕ) (world : State) (text rest : List ℕ) (number : ℕ) (failed_before failed : Bool) (before after : Option (List ℕ)) (waited waits : List ℕ) : Type 0 where
@@ -64,23 +65,23 @@ first_of_lines line text rest e = ap lines_of_parts e ∙ not_last (slice_split 
     not_last [] some = absurd (omega arith)
     not_last (part ∷ parts) some = refl
 
--- more bytes came than may be held
-pub too_long : (before now after : Option (List ℕ)) (items more : List ℕ) → Consumes before now items → Consumes now after more → 16777216 < length items + length more → (input : List ℕ) × IsInput before input × (16777216 < length input)
-too_long None now after items more first second long = (items ++ more, tt, omega (arith, length-append items more))
-too_long (Some xs) None after items more first second long = absurd first
-too_long (Some xs) (Some ys) None items more first second long = absurd second
-too_long (Some xs) (Some ys) (Some zs) items more first second long =
-    (xs, refl, omega (arith, ap length first, length-append items ys, ap length second, length-append more zs))
+-- what was taken, and then more
+pub taken_more : (before now after : Option (List ℕ)) (taken more : List ℕ) → Consumes before now taken → Consumes now after more → Consumes before after (taken ++ more)
+taken_more None now after taken more first second = tt
+taken_more (Some xs) None after taken more first second = absurd first
+taken_more (Some xs) (Some ys) None taken more first second = absurd second
+taken_more (Some xs) (Some ys) (Some zs) taken more first second = first ∙ ap (λ l. taken ++ l) second ∙ sym (append_assoc taken more zs)
 
 -- a header and the answers behind it
-pub script_answered : (input : List ℕ) (line rest : List ℕ) (nodes made : ℕ) (bad : Option ℕ) (f g h : Bool) (a b c : Option (List ℕ)) (u v w : List ℕ) → length input ≤ 16777216 → lines_of input ≡ line ∷ lines_of rest → HasHeader nodes → line ≡ header_line nodes → made ≡ nodes → Printed f g a b u v (printed (header_line nodes)) → (output : List ℕ) × Answers made [] 2 (lines_of rest) output bad × Printed g h b c v w output → (output : List ℕ) × ((length input ≤ 16777216) × AnswersScript input output bad) × Printed f h a c u w output
-script_answered input line rest nodes made bad f g h a b c u v w fits first has header same wrote (output, answers, more) = (
+pub script_answered : (input : List ℕ) (rest : List ℕ) (nodes made : ℕ) (bad : Option ℕ) (f g h : Bool) (a b c : Option (List ℕ)) (u v w : List ℕ) → length input ≤ 16777216 → lines_of input ≡ header_line nodes ∷ lines_of rest → HasHeader nodes → made ≡ nodes → Printed f g a b u v (printed (header_line nodes)) → (output : List ℕ) × Answers made [] 2 (lines_of rest) output bad × Printed g h b c v w output → (output : List ℕ) × ((length input ≤ 16777216) × AnswersScript input output bad) × Printed f h a c u w output
+script_answered input rest nodes made bad f g h a b c u v w fits first has same wrote (output, answers, more) = (
   printed (header_line nodes) ++ output,
-  (fits, (nodes, lines_of rest, output, has, first ∙ ap (λ l. l ∷ lines_of rest) header, refl, subst (λ (n : ℕ). Answers n [] 2 (lines_of rest) output bad) same answers)),
+  (fits, (nodes, lines_of rest, output, has, first, refl, subst (λ (n : ℕ). Answers n [] 2 (lines_of rest) output bad) same answers)),
   printed_then wrote more,
 )
 
--- a reader has some bytes left, known or not
-pub some_input : (known : Option (List ℕ)) → (input : List ℕ) × IsInput known input
-some_input None = ([], tt)
-some_input (Some bytes) = (bytes, refl)
+-- what was taken is the beginning of an input
+pub input_taken : (before after : Option (List ℕ)) (taken : List ℕ) → Consumes before after taken → (input : List ℕ) × IsInput before input × (length taken ≤ length input)
+input_taken None after taken is = (taken, tt, omega arith)
+input_taken (Some xs) None taken is = absurd is
+input_taken (Some xs) (Some ys) taken is = (xs, refl, omega (arith, ap length is, length-append taken ys))

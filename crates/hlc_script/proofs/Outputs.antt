@@ -21,7 +21,7 @@ use Rattle.hlc_world.specs.declared.refusal.Refusal.TheVariants.{NoMemory as no_
 use Rattle.hlc_world.specs.Schedule.{core_past}
 use Rattle.hlc_world.specs.Due.{refusal_due, IsReceived, IsObserved, IsAnswer, IsDueReply, IsGiven}
 use Rattle.hlc_script.specs.declared.run.RunEnd.{RunEnd}
-use Rattle.hlc_script.specs.declared.run.RunEnd.TheVariants.{Answered, BadLine, BadHeader, NoMemory, ReadFault, TooLong, WriteFault}
+use Rattle.hlc_script.specs.declared.run.RunEnd.TheVariants.{Answered, BadLine, BadHeader, NotHeld, NoMemory, ReadFault, TooLong, WriteFault}
 use Rattle.hlc_script.specs.Line.{lines_of, HasHeader, header_line}
 use Rattle.hlc_script.specs.Reply.{reply_lines, reply_text, printed}
 use Rattle.hlc_script.specs.Run.{AnswersLine, Answers, AnswersScript}
@@ -234,8 +234,10 @@ header_not : (input output : List ℕ) (bad : Option ℕ) → AnswersScript inpu
 header_not input output bad (nodes, lines, replies, has, first, is, answers) none = none nodes lines has first
 
 pub one_output : ReportLaws → OneOutput
-one_output laws input output other NoMemory finish is also e f = inr (inl (short_alone output is))
-one_output laws input output other end NoMemory is also e f = inr (inr (short_alone other also))
+one_output laws input output other NotHeld finish is also e f = inr (inl (short_alone output is.1))
+one_output laws input output other end NotHeld is also e f = inr (inr (short_alone other also.1))
+one_output laws input output other NoMemory finish is also e f = inr (inl (short_alone output is.2))
+one_output laws input output other end NoMemory is also e f = inr (inr (short_alone other also.2))
 one_output laws input output other Answered Answered is also e f = ended output other None None (script_once laws input output other None None is.1 also.1)
 one_output laws input output other Answered (BadLine n) is also e f = ended output other None (Some n) (script_once laws input output other None (Some n) is.1 also.1)
 one_output laws input output other (BadLine m) Answered is also e f = ended output other (Some m) None (script_once laws input output other (Some m) None is.1 also.1)

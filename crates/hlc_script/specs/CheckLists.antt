@@ -1,5 +1,5 @@
 -- The three lists that an input hands in, and why there are none.
-use Rattle.std.specs.Prelude.{◌≡◌, ℕ, List, [], ◌∷◌, ◌++◌}
+use Rattle.std.specs.Prelude.{◌≡◌, ◌<◌, ℕ, List, [], ◌∷◌, ◌++◌, length}
 use Rattle.hlc_node.specs.declared.row.Row.{Row as ARow}
 use Rattle.hlc_witness.specs.declared.witness.Witness.{Witness as AWitness}
 use Rattle.hlc_script.specs.declared.check_line.CheckLine.{CheckLine}
@@ -23,7 +23,8 @@ AddsLine old new (Row key stamp node value) =
 AddsLine old new (Witness key before at) =
     Holds new old.points.items old.rows.items (old.witnesses.items ++ record { key = key; before = before; at = at } ∷ [])
 
--- why the lines give no lists: the line of this number is the first bad one; or no line is bad, and there was no memory
+-- why the lines give no lists: the line of this number is the first bad one; or there are lines, none of them bad, and there
+-- was no memory for what they say
 abbrev pub IsNoCertificate : List (List ℕ) → NoCertificate → Type 0
 IsNoCertificate lines (BadLine number) = IsFirstBad lines number
-IsNoCertificate lines NoMemory = AreGood lines
+IsNoCertificate lines NoMemory = (0 < length lines) × AreGood lines

@@ -1,6 +1,7 @@
 pub mod Line
 pub mod Spelled
 pub mod Reply
+pub mod Input
 pub mod Run
 pub mod Words
 pub mod Laws
@@ -8,3 +9,4 @@ pub mod CheckLine
 pub mod CheckLists
 pub mod Check
 pub mod CheckLaws
+pub mod Program

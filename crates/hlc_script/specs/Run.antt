@@ -1,12 +1,17 @@
 -- What a run may write for an input, and how it ends.
-use Rattle.std.specs.Prelude.{◌≡◌, ◌≢◌, ℕ, ◌+◌, ◌<◌, ◌≤◌, ◌⊎◌, List, [], ◌∷◌, ◌++◌, length, codes, Option, Some, None, ⊤}
+use Rattle.std.specs.Prelude.{◌≡◌, ◌≢◌, ◌↔◌, ℕ, ◌+◌, ◌<◌, ◌≤◌, ◌⊎◌, List, [], ◌∷◌, ◌++◌, length, codes, Option, Some, None, true, false, ⊤}
+use Rattle.std.specs.Io.KnownBytes.{Consumes}
+use Rattle.hlc_text.specs.declared.watched.Watched.{Watched}
+use Rattle.hlc_text.specs.Watched.{inner_of, has_failed}
+use Rattle.hlc_text.specs.Printing.{Writes}
 use Rattle.hlc_world.specs.declared.event.Event.{Event}
 use Rattle.hlc_world.specs.declared.reply.Reply.{Reply}
 use Rattle.hlc_world.specs.declared.reply.Reply.TheVariants.{Refused}
 use Rattle.hlc_world.specs.declared.refusal.Refusal.TheVariants.{NoMemory as no_memory}
 use Rattle.hlc_world.specs.Due.{IsGiven}
 use Rattle.hlc_script.specs.declared.run.RunEnd.{RunEnd}
-use Rattle.hlc_script.specs.declared.run.RunEnd.TheVariants.{Answered, BadLine, BadHeader, NoMemory, ReadFault, TooLong, WriteFault}
+use Rattle.hlc_script.specs.declared.run.RunEnd.TheVariants.{Answered, BadLine, BadHeader, NotHeld, NoMemory, ReadFault, TooLong, WriteFault}
+use Rattle.hlc_script.specs.Input.{IsInput}
 use Rattle.hlc_script.specs.Line.{event_line, HasLine, BearsBytes, header_line, HasHeader, lines_of}
 use Rattle.hlc_script.specs.Reply.{reply_text, bad_line, printed}
 
@@ -46,22 +51,67 @@ MayWrite input output BadHeader =
     (length input ≤ 16777216)
     × ((nodes : ℕ) (lines : List (List ℕ)) → HasHeader nodes → lines_of input ≢ header_line nodes ∷ lines)
     × (output ≡ printed (codes "refused 17"))
-MayWrite input output NoMemory = output ≡ printed (codes "refused 15")
+-- memory is asked for only where there is a byte to hold
+MayWrite input output NotHeld = (0 < length input) × (output ≡ printed (codes "refused 15"))
+-- a world is made only behind a header
+MayWrite input output NoMemory =
+    (length input ≤ 16777216)
+    × ((nodes : ℕ) × (lines : List (List ℕ)) × HasHeader nodes × (lines_of input ≡ header_line nodes ∷ lines))
+    × (output ≡ printed (codes "refused 15"))
 MayWrite input output ReadFault = output ≡ printed (codes "refused 18")
 MayWrite input output TooLong = (16777216 < length input) × (output ≡ printed (codes "refused 20"))
 -- a failed write is no end of what may be written: it cuts that off
 MayWrite input output WriteFault = ⊥
 
--- the bytes that a reader had left, where they are known
-abbrev pub IsInput : Option (List ℕ) → List ℕ → Type 0
-IsInput None input = ⊤
-IsInput (Some bytes) input = bytes ≡ input
+-- the input was read whole and held, and then it came to this end
+abbrev pub IsOfHeld : RunEnd → Type 0
+IsOfHeld Answered = ⊤
+IsOfHeld (BadLine number) = ⊤
+IsOfHeld BadHeader = ⊤
+IsOfHeld NoMemory = ⊤
+IsOfHeld NotHeld = ⊥
+IsOfHeld ReadFault = ⊥
+IsOfHeld TooLong = ⊥
+IsOfHeld WriteFault = ⊥
+
+-- What may have been taken from the reader when a run came to its end. Three ends are met in reading: bytes that can't be
+-- held, a read that fails, and a byte past the limit. The first of them ends the reading. Else the whole input was taken.
+abbrev pub MayTake : List ℕ → List ℕ → RunEnd → Type 0
+MayTake input taken NotHeld = (0 < length taken) × (length taken ≤ 16777216)
+MayTake input taken ReadFault = length taken ≤ 16777216
+MayTake input taken TooLong = 16777216 < length taken
+MayTake input taken Answered = taken ≡ input
+MayTake input taken (BadLine number) = taken ≡ input
+MayTake input taken BadHeader = taken ≡ input
+MayTake input taken NoMemory = taken ≡ input
+MayTake input taken WriteFault = ⊥
+
+-- A script was read and answered: there are an input, an output that it may have, and the end of such a run.
+-- `remaining` and `contents` tell what the reader has left and what the writer holds, where that is known.
+pub record RunsScript {R W : Type 0} (remaining : R → Option (List ℕ)) (contents : W → Option (List ℕ))
+    (reader reader_after : Watched R) (writer writer_after : Watched W) (result : RunEnd) : Type 0 where
+  pub input : List ℕ
+  pub taken : List ℕ
+  pub output : List ℕ
+  pub end : RunEnd
+  -- the input is what the reader had left, and some of it was taken
+  pub is_input : IsInput (remaining (inner_of reader)) input
+  pub consumed : Consumes (remaining (inner_of reader)) (remaining (inner_of reader_after)) taken
+  pub may_take : MayTake input taken end
+  pub may_write : MayWrite input output end
+  -- the output was written, or a beginning of it where the writer failed
+  pub wrote : Writes contents writer writer_after output
+  pub read_fault : (end ≡ ReadFault) ↔ (has_failed reader_after ≡ true)
+  -- a failed write cuts the end off
+  pub end_is : has_failed writer_after ≡ false → result ≡ end
+  pub write_fault : (result ≡ WriteFault) ↔ (has_failed writer_after ≡ true)
 
 -- the exit status
 abbrev pub status_of : RunEnd → ℕ
 status_of Answered = 0
 status_of (BadLine number) = 2
 status_of BadHeader = 2
+status_of NotHeld = 2
 status_of NoMemory = 2
 status_of ReadFault = 2
 status_of TooLong = 2

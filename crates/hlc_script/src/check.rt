@@ -1,10 +1,11 @@
 //! A whole check: the bytes of a certificate in, one line out.
-ghost use Rattle.std.specs.Prelude.{◌≡◌, ◌≢◌, ◌≤◌, ◌↔◌, ◌++◌, ℕ, List, false, true, length, decimal};
+ghost use Rattle.std.specs.Prelude.{◌≡◌, ◌≤◌, ◌↔◌, ◌++◌, ℕ, List, false, true, length, decimal};
+ghost use Rattle.std.specs.Io.KnownBytes.{Consumes};
 ghost use Rattle.hlc_text.specs.Watched.{inner_of, has_failed};
-ghost use Rattle.hlc_text.specs.Printing.{Prints, Wrote};
+ghost use Rattle.hlc_text.specs.Printing.{Prints};
 ghost use Rattle.hlc_script.specs.Reply.{printed};
-ghost use Rattle.hlc_script.specs.Run.{IsInput};
-ghost use Rattle.hlc_script.specs.Check.{MayAnswer, answer_output, reason_number, check_status};
+ghost use Rattle.hlc_script.specs.Input.{IsInput};
+ghost use Rattle.hlc_script.specs.Check.{MayAnswer, MayTake, IsOfHeld, RunsCheck, answer_output, reason_number, check_status};
 
 use crate::certificate::{NoCertificate, read_certificate};
 use crate::input::{InputFault, read_input};
@@ -60,14 +61,7 @@ pub fn run_check<R: Read, W: Write>(
 ) -> CheckEnd
     requires reader_well { has_failed reader.old ≡ false }
     requires writer_well { has_failed writer.old ≡ false }
-    // There are an input, and an end that it may have. The input is what the reader had left, where that is known. The end's line is
-    // what was written, or it begins so where the writer failed.
-    ensures written { (input : List ℕ) × (end : CheckEnd)
-        × IsInput (R.remaining (inner_of reader.old)) input × MayAnswer input end
-        × Wrote false (has_failed writer.new) (W.contents (inner_of writer.old)) (W.contents (inner_of writer.new)) (answer_output end)
-        × ((end ≡ CheckEnd.ReadFault) ↔ (has_failed reader.new ≡ true))
-        × (has_failed writer.new ≡ false → result ≡ end) }
-    ensures write_fault { (result ≡ CheckEnd.WriteFault) ↔ (has_failed writer.new ≡ true) }
+    ensures { RunsCheck R.remaining W.contents reader.old reader.new writer.old writer.new result }
 {
     let end = check_reader(alloc, reader);
     let mut waiting = Waiting::new();
@@ -83,7 +77,10 @@ pub fn run_check<R: Read, W: Write>(
 /// Checks all that the reader has left.
 fn check_reader<R: Read>(alloc: Global, reader: &mut Watched<R>) -> CheckEnd
     requires { has_failed reader.old ≡ false }
-    ensures answer { (input : List ℕ) × IsInput (R.remaining (inner_of reader.old)) input × MayAnswer input result }
+    ensures answer { (input : List ℕ) × (taken : List ℕ)
+        × IsInput (R.remaining (inner_of reader.old)) input
+        × Consumes (R.remaining (inner_of reader.old)) (R.remaining (inner_of reader.new)) taken
+        × MayTake input taken result × MayAnswer input result }
     ensures read_fault { (result ≡ CheckEnd.ReadFault) ↔ (has_failed reader.new ≡ true) }
 {
     match read_input(alloc, reader) {
@@ -94,11 +91,14 @@ fn check_reader<R: Read>(alloc: Global, reader: &mut Watched<R>) -> CheckEnd
     }
 }
 
-/// Checks a whole input.
-fn check_input(alloc: Global, input: &[u8]) -> CheckEnd
+/// Checks an input that is held, as `run_check` does once it has read one.
+///
+/// The first bad line is looked for to the end, also where memory was refused before it, so it is
+/// never hidden by want of memory. Takes memory for the keys and values, and for the three lists.
+pub fn check_input(alloc: Global, input: &[u8]) -> CheckEnd
     requires { length input.now ≤ 16777216 }
+    ensures held { IsOfHeld result }
     ensures answer { MayAnswer input.now result }
-    ensures read { result ≢ CheckEnd.ReadFault }
 {
     let certificate = match read_certificate(alloc, input) {
         Ok(certificate) => certificate,

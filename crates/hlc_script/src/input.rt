@@ -1,8 +1,9 @@
 //! The whole input of a run, and its first line.
 ghost use Rattle.std.specs.Prelude.{◌≡◌, ◌<◌, ◌≤◌, ◌∷◌, ◌↔◌, ℕ, List, Err, false, true, length, vec_len, IfOk};
+ghost use Rattle.std.specs.Io.KnownBytes.{Consumes};
 ghost use Rattle.hlc_text.specs.Watched.{inner_of, has_failed};
 ghost use Rattle.hlc_script.specs.Line.{lines_of};
-ghost use Rattle.hlc_script.specs.Run.{IsInput};
+ghost use Rattle.hlc_script.specs.Input.{IsInput};
 
 use hlc_text::watched::Watched;
 use hlc_text::words::cut;
@@ -26,9 +27,21 @@ pub enum InputFault {
 /// Reads all that the reader has left. The fault is the one that is met first.
 pub fn read_input<R: Read>(alloc: Global, reader: &mut Watched<R>) -> Result<Vec<u8>, InputFault>
     requires { has_failed reader.old ≡ false }
-    ensures ok { IfOk result (λ input. IsInput (R.remaining (inner_of reader.old)) input.items × (vec_len input ≤ 16777216)) }
-    ensures long { result ≡ Err InputFault.TooLong → (input : List ℕ) × IsInput (R.remaining (inner_of reader.old)) input × (16777216 < length input) }
-    ensures fault { (result ≡ Err InputFault.ReadFault) ↔ (has_failed reader.new ≡ true) }
+    ensures ok { IfOk result (λ input. IsInput (R.remaining (inner_of reader.old)) input.items
+        × Consumes (R.remaining (inner_of reader.old)) (R.remaining (inner_of reader.new)) input.items
+        × (vec_len input ≤ 16777216)) }
+    ensures failed { (result ≡ Err InputFault.ReadFault) ↔ (has_failed reader.new ≡ true) }
+
+    // What was taken till then, by the fault.
+    ensures memory { result ≡ Err InputFault.NoMemory → (taken : List ℕ)
+        × Consumes (R.remaining (inner_of reader.old)) (R.remaining (inner_of reader.new)) taken
+        × (0 < length taken) × (length taken ≤ 16777216) }
+    ensures fault { result ≡ Err InputFault.ReadFault → (taken : List ℕ)
+        × Consumes (R.remaining (inner_of reader.old)) (R.remaining (inner_of reader.new)) taken
+        × (length taken ≤ 16777216) }
+    ensures long { result ≡ Err InputFault.TooLong → (taken : List ℕ)
+        × Consumes (R.remaining (inner_of reader.old)) (R.remaining (inner_of reader.new)) taken
+        × (16777216 < length taken) }
 {
     let mut input = Vec::new(alloc);
     let mut block = [0u8; 4096];

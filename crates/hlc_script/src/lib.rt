@@ -14,14 +14,16 @@ mod check_line;
 // The whole.
 mod input;
 mod laws;
+mod program;
 mod run;
 mod words;
 
-pub use check::{CheckEnd, run_check};
-pub use check_laws::one_certificate_for_lines;
+pub use check::{CheckEnd, check_input, run_check};
+pub use check_laws::{one_answer_for_an_input, one_certificate_for_lines};
 pub use check_line::{CheckLine, read_check_line};
 pub use laws::{one_event_for_a_line, one_output_for_an_input};
 pub use line::{Line, read_line};
+pub use program::run_program;
 pub use reply::{put_refusal, put_reply};
-pub use run::{RunEnd, run_script};
+pub use run::{RunEnd, answer_input, run_script};
 pub use words::{BadWords, Words, read_words};

@@ -1,15 +1,17 @@
 //! A whole run: the bytes of a script in, the bytes of its replies out.
-ghost use Rattle.std.specs.Prelude.{◌≡◌, ◌≢◌, ◌≤◌, ◌↔◌, [], ℕ, List, Option, false, true, length};
+ghost use Rattle.std.specs.Prelude.{◌≡◌, ◌≢◌, ◌≤◌, ◌↔◌, ◌∷◌, [], ℕ, List, MatchOption, false, true, length};
+ghost use Rattle.std.specs.Io.KnownBytes.{Consumes};
 ghost use Rattle.hlc_text.specs.Text.{Reads};
 ghost use Rattle.hlc_text.specs.Watched.{inner_of, has_failed};
-ghost use Rattle.hlc_text.specs.Printing.{Prints, Wrote};
+ghost use Rattle.hlc_text.specs.Printing.{Prints};
 ghost use Rattle.hlc_world.specs.declared.event.Event.{Event as AnEvent};
 ghost use Rattle.hlc_world.specs.declared.reply.Reply.{Reply as AReply};
 ghost use Rattle.hlc_world.specs.State.{StandsFor, world_nodes};
 ghost use Rattle.hlc_script.specs.Line.{lines_of, header_line, header_words, HasHeader};
 ghost use Rattle.hlc_script.specs.Spelled.{event_of};
 ghost use Rattle.hlc_script.specs.Reply.{printed, bad_line};
-ghost use Rattle.hlc_script.specs.Run.{Answers, AnswersLine, MayWrite, IsInput, status_of};
+ghost use Rattle.hlc_script.specs.Input.{IsInput};
+ghost use Rattle.hlc_script.specs.Run.{Answers, AnswersLine, MayWrite, MayTake, IsOfHeld, RunsScript, status_of};
 
 use crate::input::{InputFault, first_line, read_input};
 use crate::line::{Line, read_line};
@@ -32,7 +34,9 @@ pub enum RunEnd {
     BadLine(u64),
     /// There is no first line, or it is not `nodes N` with N from 1 to 64.
     BadHeader,
-    /// The input could not be held, or the world not made.
+    /// The input could not be held.
+    NotHeld,
+    /// The first line is a header, and the world could not be made.
     NoMemory,
     /// A read failed.
     ReadFault,
@@ -67,14 +71,7 @@ pub fn run_script<R: Read, W: Write>(
 ) -> RunEnd
     requires reader_well { has_failed reader.old ≡ false }
     requires writer_well { has_failed writer.old ≡ false }
-    // There are an input, an output that it may have, and the end of such a run. The input is what the reader had left, where that
-    // is known. The output is what was written, or it begins so where the writer failed.
-    ensures written { (input : List ℕ) × (output : List ℕ) × (end : RunEnd)
-        × IsInput (R.remaining (inner_of reader.old)) input × MayWrite input output end
-        × Wrote false (has_failed writer.new) (W.contents (inner_of writer.old)) (W.contents (inner_of writer.new)) output
-        × ((end ≡ RunEnd.ReadFault) ↔ (has_failed reader.new ≡ true))
-        × (has_failed writer.new ≡ false → result ≡ end) }
-    ensures write_fault { (result ≡ RunEnd.WriteFault) ↔ (has_failed writer.new ≡ true) }
+    ensures { RunsScript R.remaining W.contents reader.old reader.new writer.old writer.new result }
 {
     let mut waiting = Waiting::new();
     let end = read_and_answer(alloc, reader, writer, &mut waiting);
@@ -93,8 +90,10 @@ fn read_and_answer<R: Read, W: Write>(
     waiting: &mut Waiting,
 ) -> RunEnd
     requires { has_failed reader.old ≡ false }
-    ensures written { (input : List ℕ) × (output : List ℕ)
-        × IsInput (R.remaining (inner_of reader.old)) input × MayWrite input output result
+    ensures written { (input : List ℕ) × (taken : List ℕ) × (output : List ℕ)
+        × IsInput (R.remaining (inner_of reader.old)) input
+        × Consumes (R.remaining (inner_of reader.old)) (R.remaining (inner_of reader.new)) taken
+        × MayTake input taken result × MayWrite input output result
         × Prints W.contents writer.old writer.new waiting.old waiting.new output }
     ensures read_fault { (result ≡ RunEnd.ReadFault) ↔ (has_failed reader.new ≡ true) }
 {
@@ -102,7 +101,7 @@ fn read_and_answer<R: Read, W: Write>(
         Ok(input) => answer_input(alloc, input.as_slice(), writer, waiting),
         Err(InputFault::NoMemory) => {
             put(writer, waiting, b"refused 15\n");
-            RunEnd::NoMemory
+            RunEnd::NotHeld
         }
         Err(InputFault::ReadFault) => {
             put(writer, waiting, b"refused 18\n");
@@ -115,24 +114,22 @@ fn read_and_answer<R: Read, W: Write>(
     }
 }
 
-/// Answers a whole input.
-fn answer_input<W: Write>(
+/// Answers an input that is held, as `run_script` does once it has read one. It prints, and leaves
+/// `finish` to the caller.
+///
+/// Memory is asked for only behind a header, so a first line that is none is refused as such.
+pub fn answer_input<W: Write>(
     alloc: Global,
     input: &[u8],
     writer: &mut Watched<W>,
     waiting: &mut Waiting,
 ) -> RunEnd
     requires { length input.now ≤ 16777216 }
-    ensures read { result ≢ RunEnd.ReadFault }
+    ensures held { IsOfHeld result }
     ensures written { (output : List ℕ) × MayWrite input.now output result
         × Prints W.contents writer.old writer.new waiting.old waiting.new output }
 {
-    if input.is_empty() {
-        put(writer, waiting, b"refused 17\n");
-        return RunEnd::BadHeader;
-    }
-    let (line, rest) = first_line(input);
-    let Some(nodes) = read_header(line) else {
+    let Some((nodes, rest)) = split_header(input) else {
         put(writer, waiting, b"refused 17\n");
         return RunEnd::BadHeader;
     };
@@ -145,6 +142,23 @@ fn answer_input<W: Write>(
         None => RunEnd::Answered,
         Some(number) => RunEnd::BadLine(number),
     }
+}
+
+/// The nodes of the header, and the text behind it, or none where the first line is no header.
+fn split_header(input: &[u8]) -> Option<(u16, &[u8])>
+    ensures { MatchOption result
+        ((nodes : ℕ) (lines : List (List ℕ)) → HasHeader nodes
+        → lines_of input.now ≢ header_line nodes ∷ lines)
+        (λ found. HasHeader found.0
+        × (lines_of input.now ≡ header_line found.0 ∷ lines_of found.1.now)
+        × (length found.1.now ≤ length input.now)) }
+{
+    if input.is_empty() {
+        return None;
+    }
+    let (line, rest) = first_line(input);
+    let nodes = read_header(line)?;
+    Some((nodes, rest))
 }
 
 /// The nodes of a header, or none where the line is no header.

@@ -4,7 +4,7 @@ ghost use Rattle.hlc_text.specs.Printing.{Writes};
 ghost use Rattle.hlc_world.specs.declared.event.Event.{Event as AnEvent};
 ghost use Rattle.hlc_script.specs.Line.{HasLine, event_line};
 
-use crate::tests::streams::{Spent, Taking};
+use crate::tests::streams::Taking;
 use hlc_script::read_line;
 use hlc_text::number::number;
 use hlc_text::print::{finish, put_number};
@@ -35,13 +35,8 @@ pub fn is_bad(line: &[u8]) -> bool
 fn callers(rt: HostRuntime) {
     let alloc = rt.alloc();
     assert!(rt; is_bad(b"write 0") && !is_bad(b"open floor"));
-    let mut writer = Watched::new(Taking {
-        taken: Vec::new(alloc),
-        most: 1,
-        calls: 10,
-        spent: Spent::TakesNone,
-    });
+    let mut writer = Watched::new(Taking::whole(alloc));
     assert_eq!(rt; echo(&mut writer, b"1024"), Some(1024));
-    let Taking { taken, .. } = writer.into_inner();
-    assert_eq!(rt; taken.as_slice(), b"1024".as_slice());
+    let writer = writer.into_inner();
+    assert_eq!(rt; writer.taken.as_slice(), b"1024".as_slice());
 }

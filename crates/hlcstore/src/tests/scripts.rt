@@ -151,39 +151,80 @@ const CASES: [Case; 26] = [
 #[test]
 fn whole_scripts(rt: HostRuntime) {
     for (input, output, status) in CASES {
-        let (ended, written) = answer(rt.alloc(), input);
+        let (ended, written) = answer(rt.alloc(), "run", input);
         assert_eq!(rt; written.as_slice(), output);
         assert_eq!(rt; ended, status);
     }
 }
 
-/// A script that writes a value of so many bytes to a key of so many, and reads it.
-fn write_of(alloc: Global, key: usize, value: usize) -> Result<Vec<u8>, AllocError> {
-    let mut text = Vec::from_slice(alloc, b"nodes 1\nwrite 0 1 ")?;
-    for _ in 0..key {
-        text.push(b'k')?;
+/// A text in which K stands for a key of so many bytes, and V for a value of so many.
+fn filled(alloc: Global, text: &[u8], key: usize, value: usize) -> Result<Vec<u8>, AllocError> {
+    let mut filled = Vec::new(alloc);
+    for byte in text {
+        let (letter, count) = match *byte {
+            b'K' => (b'k', key),
+            b'V' => (b'v', value),
+            other => (other, 1),
+        };
+        for _ in 0..count {
+            filled.push(letter)?;
+        }
     }
-    text.push(b' ')?;
-    for _ in 0..value {
-        text.push(b'v')?;
-    }
-    text.extend_from_slice(b"\n")?;
-    Ok(text)
+    Ok(filled)
 }
+
+/// A word, an input with a key and a value, their lengths, and what is written for it.
+type Filled = (&'static str, &'static [u8], usize, usize, &'static [u8]);
+
+/// The longest key and value are written, delivered, read, listed, vacuumed and checked.
+const LENGTHS: [Filled; 5] = [
+    (
+        "run",
+        b"nodes 1\nwrite 0 1 K V\n",
+        256,
+        1,
+        b"nodes 1\nrefused 12\n",
+    ),
+    (
+        "run",
+        b"nodes 1\nwrite 0 1 K V\n",
+        1,
+        65_536,
+        b"nodes 1\nrefused 13\n",
+    ),
+    (
+        "run",
+        b"nodes 1\nwrite 0 1 K V\n",
+        256,
+        65_536,
+        b"nodes 1\nrefused 12\n",
+    ),
+    (
+        "run",
+        b"nodes 1\nwrite 0 1 K V\ndeliver 0 0\nopen floor\nread 1 K\nlist 1\nvacuum\nread 1 K\n",
+        255,
+        65_535,
+        b"nodes 1\nstamp 1.0 item 0\naccepted 1.0\nsnapshot 1 at 1.0\nvalue V\nlisting 1\nrow K V\nvacuum 1.0 kept 1 dropped 0\nwitness K none 1.0\nvalue V\n",
+    ),
+    (
+        "check",
+        b"point 1.0\nrow K 1.0 0 value V\nwitness K none 1.0\n",
+        255,
+        65_535,
+        b"fewest 1\n",
+    ),
+];
 
 #[test]
 fn lengths_of_keys_and_values(rt: HostRuntime) -> Result<(), Fail> {
-    let cases: [(usize, usize, &[u8]); 5] = [
-        (255, 1, b"nodes 1\nstamp 1.0 item 0\n"),
-        (256, 1, b"nodes 1\nrefused 12\n"),
-        (1, 65_535, b"nodes 1\nstamp 1.0 item 0\n"),
-        (1, 65_536, b"nodes 1\nrefused 13\n"),
-        (256, 65_536, b"nodes 1\nrefused 12\n"),
-    ];
-    for (key, value, due) in cases {
-        let text = write_of(rt.alloc(), key, value)?;
-        let (status, written) = answer(rt.alloc(), text.as_slice());
-        assert_eq!(rt; (status, written.as_slice()), (0u8, due), "{key} {value}");
+    for (word, text, key, value, due) in LENGTHS {
+        let text = filled(rt.alloc(), text, key, value)?;
+        let due = filled(rt.alloc(), due, key, value)?;
+        let (status, written) = answer(rt.alloc(), word, text.as_slice());
+        assert!(rt;
+            (status, written.as_slice()) == (0u8, due.as_slice()),
+            "{word} {key} {value}"
+        );
     }
     Ok(())
 }
@@ -195,7 +236,7 @@ fn a_full_counter(rt: HostRuntime) -> Result<(), Fail> {
         text.extend_from_slice(b"write 0 1 a x\n")?;
     }
     text.extend_from_slice(b"write 0 2 a x\n")?;
-    let (status, written) = answer(rt.alloc(), text.as_slice());
+    let (status, written) = answer(rt.alloc(), "run", text.as_slice());
     assert_eq!(rt; status, 0);
     assert!(rt;
         written.as_slice().ends_with(
@@ -211,7 +252,7 @@ fn the_most_snapshots(rt: HostRuntime) -> Result<(), Fail> {
     for _ in 0..1_025 {
         text.extend_from_slice(b"open floor\n")?;
     }
-    let (status, written) = answer(rt.alloc(), text.as_slice());
+    let (status, written) = answer(rt.alloc(), "run", text.as_slice());
     assert_eq!(rt; status, 0);
     assert!(rt;
         written

@@ -1,25 +1,48 @@
-//! Readers and writers that fail, that give or take little, and that count.
-use hlc_script::run_script;
+//! Readers and writers that fail once and would go on, that give or take little, and that count.
+use hlc_script::{run_program, run_script};
 use hlc_text::watched::Watched;
-use std::alloc::Global;
+use std::alloc::{AllocError, Global};
 use std::io;
 use std::io::{ErrorKind, Read, Write};
 use std::test::*;
 
-/// Gives a text, so many bytes a call, and once a number of calls were made it is interrupted.
+/// What happens at one call.
+#[derive(Clone, Copy, Debug, PartialEq, Eq)]
+pub enum Fault {
+    Error(ErrorKind),
+    TakesNone,
+}
+
+/// Gives a text, so many bytes a call, and counts its calls. The call of one number fails, and
+/// those behind it go on. Calls are numbered from 1.
 #[derive(Drop)]
 pub struct Giving<'a> {
     pub text: &'a [u8],
     pub most: usize,
+    pub at: u64,
+    pub kind: ErrorKind,
     pub calls: u64,
+}
+
+impl<'a> Giving<'a> {
+    /// Gives the text without a failure.
+    pub fn whole(text: &'a [u8]) -> Giving<'a> {
+        Giving {
+            text,
+            most: 4096,
+            at: 0,
+            kind: ErrorKind::Other,
+            calls: 0,
+        }
+    }
 }
 
 impl<'a> Read for Giving<'a> {
     fn read(&mut self, buf: &mut [u8]) -> io::Result<usize> {
-        if self.calls == 0 {
-            return Err(io::Error::from(ErrorKind::Interrupted));
+        self.calls = self.calls.wrapping_add(1);
+        if self.calls == self.at {
+            return Err(io::Error::from(self.kind));
         }
-        self.calls -= 1;
         let count = self.most.min(buf.len()).min(self.text.len());
         buf[..count].copy_from_slice(&self.text[..count]);
         self.text = &self.text[count..];
@@ -27,14 +50,18 @@ impl<'a> Read for Giving<'a> {
     }
 }
 
-/// Gives so many times the letter x.
+/// Gives so many times the letter x, and then ends or fails.
 #[derive(Drop)]
 struct Letters {
     left: usize,
+    fails: bool,
 }
 
 impl Read for Letters {
     fn read(&mut self, buf: &mut [u8]) -> io::Result<usize> {
+        if self.left == 0 && self.fails {
+            return Err(io::Error::from(ErrorKind::Other));
+        }
         let count = buf.len().min(self.left);
         buf[..count].fill(b'x');
         self.left -= count;
@@ -42,31 +69,39 @@ impl Read for Letters {
     }
 }
 
-/// What a writer does once its calls are spent.
-#[derive(Clone, Copy, Debug, PartialEq, Eq)]
-pub enum Spent {
-    Fails,
-    TakesNone,
-}
-
-/// Takes so many bytes a call, for a number of calls.
+/// Takes so many bytes a call, and counts its calls. The call of one number fails or takes none,
+/// and those behind it go on. Calls are numbered from 1.
 #[derive(Drop)]
 pub struct Taking {
     pub taken: Vec<u8>,
     pub most: usize,
+    pub at: u64,
+    pub fault: Fault,
     pub calls: u64,
-    pub spent: Spent,
+}
+
+impl Taking {
+    /// Takes all without a failure.
+    pub fn whole(alloc: Global) -> Taking {
+        Taking {
+            taken: Vec::new(alloc),
+            most: usize::MAX,
+            at: 0,
+            fault: Fault::TakesNone,
+            calls: 0,
+        }
+    }
 }
 
 impl Write for Taking {
     fn write(&mut self, buf: &[u8]) -> io::Result<usize> {
-        if self.calls == 0 {
-            return match self.spent {
-                Spent::Fails => Err(io::Error::from(ErrorKind::Other)),
-                Spent::TakesNone => Ok(0),
+        self.calls = self.calls.wrapping_add(1);
+        if self.calls == self.at {
+            return match self.fault {
+                Fault::Error(kind) => Err(io::Error::from(kind)),
+                Fault::TakesNone => Ok(0),
             };
         }
-        self.calls -= 1;
         let count = self.most.min(buf.len());
         if self.taken.extend_from_slice(&buf[..count]).is_err() {
             return Err(io::Error::from(ErrorKind::OutOfMemory));
@@ -100,101 +135,146 @@ impl Write for Counting {
     }
 }
 
-/// Runs a script through a reader and a writer, and gives the status and what was taken.
-fn run<R: Read + Drop>(
+/// The words of a text.
+fn split(alloc: Global, text: &str) -> Result<Vec<String>, AllocError> {
+    let mut words = Vec::new(alloc);
+    for word in text.split_whitespace() {
+        words.push(String::from_str(alloc, word)?)?;
+    }
+    Ok(words)
+}
+
+/// Runs the program for the words of a text, or for words that could not be held, and gives its
+/// status with the reader and the writer.
+pub fn run<R: Read + Drop>(
     alloc: Global,
+    text: Option<&str>,
     reader: R,
-    most: usize,
-    calls: u64,
-    spent: Spent,
-) -> (u8, Vec<u8>) {
+    writer: Taking,
+) -> (u8, R, Taking) {
+    let words = text.map(|text| split(alloc, text).unwrap_or(Vec::new(alloc)));
+    let words = words.as_ref().map(|words| words.as_slice());
     let mut reader = Watched::new(reader);
-    let mut writer = Watched::new(Taking {
-        taken: Vec::new(alloc),
-        most,
-        calls,
-        spent,
-    });
-    let end = run_script(alloc, &mut reader, &mut writer);
-    let Taking { taken, .. } = writer.into_inner();
-    (end.status(), taken)
+    let mut writer = Watched::new(writer);
+    let status = run_program(alloc, words, &mut reader, &mut writer);
+    (status, reader.into_inner(), writer.into_inner())
 }
 
-/// Runs a script that is read and written without a failure.
-pub(crate) fn answer(alloc: Global, text: &[u8]) -> (u8, Vec<u8>) {
-    let reader = Giving {
-        text,
-        most: 4096,
-        calls: u64::MAX,
-    };
-    run(alloc, reader, usize::MAX, u64::MAX, Spent::Fails)
+/// Runs the program for one word, over an input that is read and written without a failure.
+pub fn answer(alloc: Global, word: &str, input: &[u8]) -> (u8, Vec<u8>) {
+    let (status, _, writer) = run(
+        alloc,
+        Some(word),
+        Giving::whole(input),
+        Taking::whole(alloc),
+    );
+    (status, writer.taken)
 }
 
-const INPUT: &[u8] = b"nodes 1\nwrite 0 5 a x\ndeliver 0 0\nopen floor\nread 1 a\n";
+pub const SCRIPT: &[u8] = b"nodes 1\nwrite 0 5 a x\ndeliver 0 0\nopen floor\nread 1 a\n";
 
-const OUTPUT: &[u8] = b"nodes 1\nstamp 5.0 item 0\naccepted 5.0\nsnapshot 1 at 5.0\nvalue x\n";
+pub const REPLIES: &[u8] = b"nodes 1\nstamp 5.0 item 0\naccepted 5.0\nsnapshot 1 at 5.0\nvalue x\n";
+
+pub const CERTIFICATE: &[u8] = b"point 1.0\nrow a 1.0 0 value x\nwitness a none 1.0\n";
+
+/// A word, an input, and what is written for it.
+pub const SUBJECTS: [(&str, &[u8], &[u8]); 2] = [
+    ("run", SCRIPT, REPLIES),
+    ("check", CERTIFICATE, b"fewest 1\n"),
+];
 
 #[test]
-fn each_read_fails_in_turn(rt: HostRuntime) {
-    for most in [1usize, 5, 4096] {
-        let mut reads = None;
-        for calls in 0..100u64 {
-            let reader = Giving {
-                text: INPUT,
-                most,
-                calls,
-            };
-            let (status, taken) = run(rt.alloc(), reader, 4096, 1000, Spent::Fails);
-            if status == 0 {
-                reads = Some(calls);
-                break;
+fn a_reader_fails_once(rt: HostRuntime) {
+    let kinds = [
+        ErrorKind::Other,
+        ErrorKind::Interrupted,
+        ErrorKind::WouldBlock,
+        ErrorKind::UnexpectedEof,
+    ];
+    for (word, text, output) in SUBJECTS {
+        for kind in kinds {
+            for most in [1usize, 7, 4096] {
+                // A read for each piece, and one that finds the end.
+                let reads = text.len().div_ceil(most) as u64 + 1;
+                for at in 1..reads + 2 {
+                    let reader = Giving {
+                        text,
+                        most,
+                        at,
+                        kind,
+                        calls: 0,
+                    };
+                    let writer = Taking::whole(rt.alloc());
+                    let (status, reader, writer) = run(rt.alloc(), Some(word), reader, writer);
+                    let seen = (status, writer.taken.as_slice(), reader.calls);
+                    let due = if at <= reads {
+                        (2u8, b"refused 18\n".as_slice(), at)
+                    } else {
+                        (0u8, output, reads)
+                    };
+                    assert_eq!(rt; seen, due, "{word} {most} {at}");
+                }
             }
-            assert_eq!(rt;
-                (status, taken.as_slice()),
-                (2u8, b"refused 18\n".as_slice()),
-                "{most} {calls}"
-            );
         }
-        // A read for each piece, and one that finds the end.
-        let due = INPUT.len().div_ceil(most) as u64 + 1;
-        assert_eq!(rt; reads, Some(due), "{most}");
     }
 }
 
 #[test]
-fn each_write_fails_in_turn(rt: HostRuntime) {
-    for spent in [Spent::Fails, Spent::TakesNone] {
-        for most in [1usize, 7] {
-            let mut ended = false;
-            for calls in 0..100u64 {
-                let reader = Giving {
-                    text: INPUT,
-                    most: 4096,
-                    calls: 100,
-                };
-                let (status, taken) = run(rt.alloc(), reader, most, calls, spent);
-                assert!(rt;
-                    OUTPUT.starts_with(taken.as_slice()),
-                    "{spent:?} {most} {calls}"
-                );
-                if status == 0 {
-                    assert_eq!(rt; taken.as_slice(), OUTPUT);
-                    ended = true;
-                    break;
+fn a_writer_fails_once(rt: HostRuntime) {
+    let faults = [
+        Fault::Error(ErrorKind::Other),
+        Fault::Error(ErrorKind::Interrupted),
+        Fault::TakesNone,
+    ];
+    for (word, text, output) in SUBJECTS {
+        for fault in faults {
+            for most in [1usize, 7, 4096] {
+                let writes = output.len().div_ceil(most) as u64;
+                for at in 1..writes + 2 {
+                    let writer = Taking {
+                        taken: Vec::new(rt.alloc()),
+                        most,
+                        at,
+                        fault,
+                        calls: 0,
+                    };
+                    let (status, _, writer) = run(
+                        rt.alloc(),
+                        Some(word),
+                        Giving::whole(text),
+                        writer,
+                    );
+                    let before = output.len().min(most.saturating_mul(at as usize - 1));
+                    let seen = (status, writer.taken.as_slice(), writer.calls);
+                    let due = if at <= writes {
+                        (3u8, &output[..before], at)
+                    } else {
+                        (0u8, output, writes)
+                    };
+                    assert_eq!(rt; seen, due, "{word} {fault:?} {most} {at}");
                 }
-                assert_eq!(rt; status, 3, "{spent:?} {most} {calls}");
             }
-            assert!(rt; ended);
         }
     }
 }
 
 #[test]
 fn the_longest_input(rt: HostRuntime) {
-    let cases: [(usize, &[u8]); 2] = [(16_777_216, b"refused 17\n"), (16_777_217, b"refused 20\n")];
-    for (left, due) in cases {
-        let (status, taken) = run(rt.alloc(), Letters { left }, 4096, 1000, Spent::Fails);
-        assert_eq!(rt; (status, taken.as_slice()), (2u8, due), "{left}");
+    let cases: [(&str, usize, bool, &[u8]); 8] = [
+        ("run", 16_777_216, false, b"refused 17\n"),
+        ("run", 16_777_216, true, b"refused 18\n"),
+        ("run", 16_777_217, false, b"refused 20\n"),
+        ("run", 16_777_217, true, b"refused 20\n"),
+        ("check", 16_777_216, false, b"refused 16 line 1\n"),
+        ("check", 16_777_216, true, b"refused 18\n"),
+        ("check", 16_777_217, false, b"refused 20\n"),
+        ("check", 16_777_217, true, b"refused 20\n"),
+    ];
+    for (word, left, fails, due) in cases {
+        let writer = Taking::whole(rt.alloc());
+        let (status, _, writer) = run(rt.alloc(), Some(word), Letters { left, fails }, writer);
+        let seen = (status, writer.taken.as_slice());
+        assert_eq!(rt; seen, (2u8, due), "{word} {left} {fails}");
     }
 }
 
@@ -204,11 +284,7 @@ fn replies_leave_in_blocks(rt: HostRuntime) -> Result<(), Fail> {
     for _ in 0..3000 {
         text.extend_from_slice(b"write 0 5 a x\n")?;
     }
-    let mut reader = Watched::new(Giving {
-        text: text.as_slice(),
-        most: 4096,
-        calls: u64::MAX,
-    });
+    let mut reader = Watched::new(Giving::whole(text.as_slice()));
     let mut writer = Watched::new(Counting {
         blocks: 0,
         small: 0,

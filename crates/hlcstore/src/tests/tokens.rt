@@ -143,7 +143,7 @@ fn stamps_are_spelled_in_one_way(rt: HostRuntime) {
 #[test]
 fn no_headers(rt: HostRuntime) {
     for line in NO_HEADERS {
-        let (status, written) = answer(rt.alloc(), line);
+        let (status, written) = answer(rt.alloc(), "run", line);
         assert_eq!(rt;
             (status, written.as_slice()),
             (2u8, b"refused 17\n".as_slice())
@@ -157,7 +157,7 @@ fn bad_lines(rt: HostRuntime) -> Result<(), Fail> {
         let mut text = Vec::from_slice(rt.alloc(), b"nodes 1\n")?;
         text.extend_from_slice(line)?;
         text.extend_from_slice(b"open floor\n")?;
-        let (status, written) = answer(rt.alloc(), text.as_slice());
+        let (status, written) = answer(rt.alloc(), "run", text.as_slice());
         assert_eq!(rt;
             (status, written.as_slice()),
             (2u8, b"nodes 1\nrefused 16 line 2\n".as_slice())
@@ -173,7 +173,7 @@ fn good_lines(rt: HostRuntime) -> Result<(), Fail> {
         text.extend_from_slice(line)?;
         let mut due = Vec::from_slice(rt.alloc(), b"nodes 1\n")?;
         due.extend_from_slice(reply)?;
-        let (status, written) = answer(rt.alloc(), text.as_slice());
+        let (status, written) = answer(rt.alloc(), "run", text.as_slice());
         assert_eq!(rt;
             (status, written.as_slice()),
             (0u8, due.as_slice()),
@@ -211,5 +211,5 @@ fn written_and_read(alloc: Global, token: &[u8]) -> (u8, Vec<u8>) {
     for part in parts {
         let _ = text.extend_from_slice(part);
     }
-    answer(alloc, text.as_slice())
+    answer(alloc, "run", text.as_slice())
 }

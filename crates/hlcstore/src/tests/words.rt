@@ -1,43 +1,58 @@
 //! The words behind the program's name, and the text of each refusal.
-use crate::tests::streams::{Spent, Taking};
+use crate::tests::streams::{CERTIFICATE, Giving, REPLIES, SCRIPT, Taking, run};
 use hlc_clock::Stamp;
-use hlc_script::{BadWords, Words, put_refusal, read_words};
+use hlc_script::put_refusal;
 use hlc_text::print::finish;
 use hlc_text::waiting::Waiting;
 use hlc_text::watched::Watched;
 use hlc_world::Refusal;
-use std::alloc::{AllocError, Global};
 use std::test::*;
 
-fn split(alloc: Global, text: &str) -> Result<Vec<String>, AllocError> {
-    let mut words = Vec::new(alloc);
-    for word in text.split_whitespace() {
-        words.push(String::from_str(alloc, word)?)?;
-    }
-    Ok(words)
-}
+/// The words, none where they could not be held; an input; what is written for it, and the status.
+type Case = (Option<&'static str>, &'static [u8], &'static [u8], u8);
+
+/// Each word makes its own call. What is refused reads nothing.
+const CASES: [Case; 14] = [
+    (Some("run"), SCRIPT, REPLIES, 0),
+    (Some("run"), CERTIFICATE, b"refused 17\n", 2),
+    (
+        Some("run"),
+        b"nodes 1\nrow\n",
+        b"nodes 1\nrefused 16 line 2\n",
+        2,
+    ),
+    (Some("check"), CERTIFICATE, b"fewest 1\n", 0),
+    (Some("check"), SCRIPT, b"refused 16 line 1\n", 2),
+    (
+        Some("check"),
+        b"point 2.0\npoint 1.0\n",
+        b"refused 22 reason 1\n",
+        2,
+    ),
+    (None, SCRIPT, b"refused 25\n", 1),
+    (Some(""), SCRIPT, b"refused 25\n", 1),
+    (Some("run run"), SCRIPT, b"refused 25\n", 1),
+    (Some("Run"), SCRIPT, b"refused 25\n", 1),
+    (Some("runs"), SCRIPT, b"refused 25\n", 1),
+    (Some("check check"), CERTIFICATE, b"refused 25\n", 1),
+    (Some("Check"), CERTIFICATE, b"refused 25\n", 1),
+    (
+        Some("storm --nodes 65 --writes 0 --keys 1 --readers 0"),
+        SCRIPT,
+        b"refused 25\n",
+        1,
+    ),
+];
 
 #[test]
-fn words_of_the_program(rt: HostRuntime) -> Result<(), Fail> {
-    let cases = [
-        ("", Err(BadWords)),
-        ("run", Ok(Words::Run)),
-        ("run run", Err(BadWords)),
-        ("Run", Err(BadWords)),
-        ("runs", Err(BadWords)),
-        ("check", Ok(Words::Check)),
-        ("check check", Err(BadWords)),
-        ("Check", Err(BadWords)),
-        (
-            "storm --nodes 65 --writes 0 --keys 1 --readers 0",
-            Err(BadWords),
-        ),
-    ];
-    for (text, due) in cases {
-        let words = split(rt.alloc(), text)?;
-        assert_eq!(rt; read_words(words.as_slice()), due, "{text}");
+fn words_of_the_program(rt: HostRuntime) {
+    for (words, input, due, status) in CASES {
+        let writer = Taking::whole(rt.alloc());
+        let (ended, reader, writer) = run(rt.alloc(), words, Giving::whole(input), writer);
+        let reads = if status == 1 { 0 } else { 2 };
+        let seen = (ended, writer.taken.as_slice(), reader.calls);
+        assert_eq!(rt; seen, (status, due, reads), "{words:?}");
     }
-    Ok(())
 }
 
 #[test]
@@ -65,15 +80,10 @@ fn texts_of_refusals(rt: HostRuntime) {
     ];
     for (refusal, text) in cases {
         let mut waiting = Waiting::new();
-        let mut writer = Watched::new(Taking {
-            taken: Vec::new(rt.alloc()),
-            most: 4096,
-            calls: 10,
-            spent: Spent::Fails,
-        });
+        let mut writer = Watched::new(Taking::whole(rt.alloc()));
         put_refusal(&mut writer, &mut waiting, refusal);
         finish(&mut writer, &mut waiting);
-        let Taking { taken, .. } = writer.into_inner();
-        assert_eq!(rt; taken.as_slice(), text);
+        let writer = writer.into_inner();
+        assert_eq!(rt; writer.taken.as_slice(), text);
     }
 }

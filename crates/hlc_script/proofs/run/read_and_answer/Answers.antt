@@ -1,10 +1,30 @@
-use Rattle.std.proofs.Common.{refl}
-use Rattle.hlc_text.specs.Watched.{inner_of}
-use Rattle.hlc_script.proofs.Going.{some_input}
+-- An input that is held was taken whole. Of one that is not held, what was taken is a beginning, whose length tells why.
+use Rattle.std.proofs.Common.{refl, arith}
+use Rattle.hlc_script.proofs.Going.{input_taken}
+use Rattle.hlc_script.proofs.Taken.{run_takes_all}
 use Rattle.hlc_script.proofs.run.read_and_answer.Goals as goal
 
+pub returns-in-Ok-clause-written : goal.returns-in-Ok-clause-written
+returns-in-Ok-clause-written g c =
+    let held = c.in-Ok.ensures.ok in
+    let written = c.answer_input.ensures.written in
+    let same = c.as_slice.ensures.value in
+    (c.as_slice.result.now, c.as_slice.result.now, written.0, rw same held.0, rw same held.1, run_takes_all _ c.answer_input.result c.answer_input.ensures.held, written.1, written.2)
+
 pub returns-in-Err-NoMemory-clause-written : goal.returns-in-Err-NoMemory-clause-written
-returns-in-Err-NoMemory-clause-written g c = let any = some_input (g.R.Read.remaining (inner_of c.args.reader.now)) in (any.0, _, any.1, refl, c.put.ensures)
+returns-in-Err-NoMemory-clause-written g c =
+    let took = c.in-Err-NoMemory.ensures.memory (cc) in
+    let any = input_taken _ _ took.0 took.1 in
+    (any.0, took.0, _, any.1, took.1, (took.2, took.3), (omega (arith, any.2, took.2), refl), c.put.ensures)
 
 pub returns-in-Err-ReadFault-clause-written : goal.returns-in-Err-ReadFault-clause-written
-returns-in-Err-ReadFault-clause-written g c = let any = some_input (g.R.Read.remaining (inner_of c.args.reader.now)) in (any.0, _, any.1, refl, c.put-in-Err-ReadFault.ensures)
+returns-in-Err-ReadFault-clause-written g c =
+    let took = c.in-Err-ReadFault.ensures.fault (cc) in
+    let any = input_taken _ _ took.0 took.1 in
+    (any.0, took.0, _, any.1, took.1, took.2, refl, c.put-in-Err-ReadFault.ensures)
+
+pub returns-in-Err-TooLong-clause-written : goal.returns-in-Err-TooLong-clause-written
+returns-in-Err-TooLong-clause-written g c =
+    let took = c.in-Err-TooLong.ensures.long (cc) in
+    let any = input_taken _ _ took.0 took.1 in
+    (any.0, took.0, _, any.1, took.1, took.2, (omega (arith, any.2, took.2), refl), c.put-in-Err-TooLong.ensures)

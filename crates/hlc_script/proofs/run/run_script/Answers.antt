@@ -1,35 +1,43 @@
-use Rattle.std.proofs.Common.{◌≡◌, refl, subst, Bool, true, arith}
+-- What is printed is written when all is finished, and cut off where the writer failed.
+use Rattle.std.proofs.Common.{◌≡◌, refl, true, false, arith}
 use Rattle.std.proofs.lemmas.Grind.{common_steps}
-use Rattle.hlc_text.specs.Printing.{Wrote}
 use Rattle.hlc_text.specs.PrintingLaws.{printed_finished}
-use Rattle.hlc_text.specs.Watched.{inner_of, has_failed}
+use Rattle.hlc_text.specs.Watched.{has_failed}
+use Rattle.hlc_script.proofs.Taken.{run_not_cut}
 use Rattle.hlc_script.proofs.run.run_script.Goals as goal
 
-pub returns-then-failed-clause-written : goal.returns-then-failed-clause-written
-returns-then-failed-clause-written g c =
+pub returns-then-failed : goal.returns-then-failed
+returns-then-failed g c =
     let w = c.read_and_answer-end.ensures.written in
-    let well = c.requires.writer_well in
-    let failed : has_failed c.finish.new.writer ≡ true = grind (arith, common_steps) in (
-      w.0,
-      w.1,
-      c.read_and_answer-end.result,
-      w.2,
-      w.3,
-      rw (← well) (printed_finished c.new-waiting.ensures w.4 c.finish.ensures.written),
-      c.read_and_answer-end.ensures.read_fault,
-      λ e. absurd (grind (arith, e, failed)),
-    )
+    let failed : has_failed c.finish.new.writer ≡ true = grind (arith, common_steps) in record {
+      input = w.0;
+      taken = w.1;
+      output = w.2;
+      end = c.read_and_answer-end.result;
+      is_input = w.3;
+      consumed = w.4;
+      may_take = w.5;
+      may_write = w.6;
+      wrote = printed_finished c.new-waiting.ensures w.7 c.finish.ensures.written;
+      read_fault = c.read_and_answer-end.ensures.read_fault;
+      end_is = λ e. absurd (grind (arith, e, failed));
+      write_fault = (λ _. failed, λ _. refl);
+    }
 
-pub returns-else-failed-clause-written : goal.returns-else-failed-clause-written
-returns-else-failed-clause-written g c =
+pub returns-else-failed : goal.returns-else-failed
+returns-else-failed g c =
     let w = c.read_and_answer-end.ensures.written in
-    let well = c.requires.writer_well in (
-      w.0,
-      w.1,
-      c.read_and_answer-end.result,
-      w.2,
-      w.3,
-      subst (λ (b : Bool). Wrote b (has_failed c.finish.new.writer) (g.W.Write.contents (inner_of c.args.writer.now)) (g.W.Write.contents (inner_of c.finish.new.writer)) w.1) well (printed_finished c.new-waiting.ensures w.4 c.finish.ensures.written),
-      c.read_and_answer-end.ensures.read_fault,
-      λ e. refl,
-    )
+    let well : has_failed c.finish.new.writer ≡ false = grind (arith, common_steps) in record {
+      input = w.0;
+      taken = w.1;
+      output = w.2;
+      end = c.read_and_answer-end.result;
+      is_input = w.3;
+      consumed = w.4;
+      may_take = w.5;
+      may_write = w.6;
+      wrote = printed_finished c.new-waiting.ensures w.7 c.finish.ensures.written;
+      read_fault = c.read_and_answer-end.ensures.read_fault;
+      end_is = λ _. refl;
+      write_fault = (λ e. absurd (run_not_cut w.0 w.2 c.read_and_answer-end.result w.6 e), λ e. absurd (grind (arith, e, well)));
+    }

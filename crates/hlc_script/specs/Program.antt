@@ -1,0 +1,31 @@
+-- What the program does for the words behind its name, and its exit status.
+use Rattle.std.specs.Prelude.{◌≡◌, ℕ, List, Option, Some, None, codes}
+use Rattle.hlc_text.specs.declared.watched.Watched.{Watched}
+use Rattle.hlc_text.specs.Text.{Reads}
+use Rattle.hlc_text.specs.Printing.{Writes}
+use Rattle.hlc_script.specs.declared.words.Words.{Words}
+use Rattle.hlc_script.specs.declared.words.Words.TheVariants.{Run, Check}
+use Rattle.hlc_script.specs.declared.run.RunEnd.{RunEnd}
+use Rattle.hlc_script.specs.declared.check.CheckEnd.{CheckEnd}
+use Rattle.hlc_script.specs.Reply.{printed}
+use Rattle.hlc_script.specs.Run.{RunsScript, status_of}
+use Rattle.hlc_script.specs.Check.{RunsCheck, check_status}
+use Rattle.hlc_script.specs.Words.{words_of, AreWords}
+
+-- what the words ask for; words that could not be held ask for nothing
+abbrev pub Asks : Option (List (List ℕ)) → Option Words → Type 0
+Asks None asked = asked ≡ None
+Asks (Some words) asked = Reads words_of AreWords words asked
+
+-- What was asked for is done, and the exit status is that of its end. Where nothing is asked for, the words are refused,
+-- and nothing is read.
+abbrev pub Does : {R W : Type 0} → (R → Option (List ℕ)) → (W → Option (List ℕ))
+    → Option Words → Watched R → Watched R → Watched W → Watched W → ℕ → Type 0
+Does remaining contents (Some Run) reader reader_after writer writer_after status =
+    (end : RunEnd) × RunsScript remaining contents reader reader_after writer writer_after end
+    × (status ≡ status_of end)
+Does remaining contents (Some Check) reader reader_after writer writer_after status =
+    (end : CheckEnd) × RunsCheck remaining contents reader reader_after writer writer_after end
+    × (status ≡ check_status end)
+Does remaining contents None reader reader_after writer writer_after status =
+    (reader_after ≡ reader) × Writes contents writer writer_after (printed (codes "refused 25")) × (status ≡ 1)
