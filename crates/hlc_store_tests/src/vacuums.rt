@@ -1,7 +1,7 @@
 //! Vacuums of a store by itself: what they report, and the certificate of what they leave.
 use crate::callers::{drop_unread, vacuum_and_check};
 use crate::items::{bytes, item};
-use hlc_core::{Core, Item, Report, Stamp, Witness};
+use hlc_core::{Bytes, Core, Item, Pair, Report, Stamp, Witness};
 use hlc_witness::{ascending_rows_are_a_row_set, check, do_points_ascend};
 use std::alloc::{AllocError, Global};
 use std::test::*;
@@ -143,6 +143,44 @@ fn a_store_without_rows(rt: HostRuntime) -> Result<(), Fail> {
     certified_report(&mut core, 0, 0, 0).ok_or("kept 0, dropped 0")?;
     let shown = vacuum_and_check(&mut core)?;
     assert_eq!(rt; shown.map(|shown| shown.count()), Ok(0));
+    Ok(())
+}
+
+/// So many bytes, the last of them this one.
+fn letters(alloc: Global, count: usize, last: u8) -> Result<Bytes, AllocError> {
+    let mut letters = vec![in alloc; b'k'; count.saturating_sub(1)]?;
+    letters.push(last)?;
+    Ok(Bytes::from_vec(letters))
+}
+
+/// A key of 255 bytes that ends so, and a value of 65,535.
+fn longest(alloc: Global, last: u8) -> Result<Pair, AllocError> {
+    let key = letters(alloc, 255, last)?;
+    let value = letters(alloc, 65_535, b'v')?;
+    Ok(Pair { key, value })
+}
+
+/// The write of a pair, of this number and one reading above it.
+fn write_of(alloc: Global, number: u64, pair: &Pair) -> Result<Item, AllocError> {
+    let bits = stamp(number.wrapping_add(1)).bits();
+    let value = Some(pair.value.as_slice());
+    item(alloc, (0, number, bits), pair.key.as_slice(), value)
+}
+
+#[test]
+fn the_longest_keys_and_values(rt: HostRuntime) -> Result<(), Fail> {
+    let alloc = rt.alloc();
+    let mut core = Core::new(alloc, 1).ok().ok_or("a store")?;
+    let pairs = [longest(alloc, b'a')?, longest(alloc, b'b')?];
+    for (number, pair) in [(0u64, &pairs[1]), (1, &pairs[0]), (2, &pairs[0])] {
+        assert!(rt; core.accept(write_of(alloc, number, pair)?).is_ok());
+    }
+    assert_eq!(rt; core.open(stamp(2)), Ok(1));
+    certified_report(&mut core, 3, 2, 1).ok_or("kept 2, dropped 1")?;
+    let listing = core.list(1).ok().ok_or("a listing")?;
+    assert!(rt; listing.as_slice() == pairs.as_slice());
+    let value = core.read(1, pairs[0].key.as_slice());
+    assert!(rt; value == Ok(Some(pairs[0].value.as_slice())));
     Ok(())
 }
 
