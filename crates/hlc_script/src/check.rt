@@ -1,6 +1,8 @@
 //! A whole check: the bytes of a certificate in, one line out.
 ghost use Rattle.std.specs.Prelude.{◌≡◌, ◌≤◌, ◌↔◌, ◌++◌, ℕ, List, false, true, length, decimal};
 ghost use Rattle.std.specs.Io.KnownBytes.{Consumes};
+ghost use Rattle.std.proofs.Common.{rules};
+ghost use Rattle.std.proofs.lemmas.Grind.{common_steps};
 ghost use Rattle.hlc_text.specs.Watched.{inner_of, has_failed};
 ghost use Rattle.hlc_text.specs.Printing.{Prints};
 ghost use Rattle.hlc_script.specs.Reply.{printed};
@@ -12,6 +14,7 @@ use crate::input::{InputFault, read_input};
 use hlc_text::print::{finish, put, put_named_number};
 use hlc_text::waiting::Waiting;
 use hlc_text::watched::Watched;
+use hlc_values::Exact;
 use hlc_witness::{NotShown, check};
 use std::alloc::Global;
 use std::io::{Read, Write};
@@ -35,6 +38,12 @@ pub enum CheckEnd {
     TooLong,
     /// A write failed.
     WriteFault,
+}
+
+impl Exact for CheckEnd {
+    ghost equal = { Prim.search (rules, common_steps) };
+
+    ghost copied = { Prim.search rules };
 }
 
 impl CheckEnd {

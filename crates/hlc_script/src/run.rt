@@ -1,6 +1,8 @@
 //! A whole run: the bytes of a script in, the bytes of its replies out.
 ghost use Rattle.std.specs.Prelude.{◌≡◌, ◌≢◌, ◌≤◌, ◌↔◌, ◌∷◌, [], ℕ, List, MatchOption, false, true, length};
 ghost use Rattle.std.specs.Io.KnownBytes.{Consumes};
+ghost use Rattle.std.proofs.Common.{rules};
+ghost use Rattle.std.proofs.lemmas.Grind.{common_steps};
 ghost use Rattle.hlc_text.specs.Text.{Reads};
 ghost use Rattle.hlc_text.specs.Watched.{inner_of, has_failed};
 ghost use Rattle.hlc_text.specs.Printing.{Prints};
@@ -21,6 +23,7 @@ use hlc_text::print::{finish, put, put_named_number};
 use hlc_text::waiting::Waiting;
 use hlc_text::watched::Watched;
 use hlc_text::words::Words;
+use hlc_values::Exact;
 use hlc_world::{Refusal, Reply, World};
 use std::alloc::Global;
 use std::io::{Read, Write};
@@ -44,6 +47,12 @@ pub enum RunEnd {
     TooLong,
     /// A write failed.
     WriteFault,
+}
+
+impl Exact for RunEnd {
+    ghost equal = { Prim.search (rules, common_steps) };
+
+    ghost copied = { Prim.search rules };
 }
 
 impl RunEnd {

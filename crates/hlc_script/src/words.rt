@@ -1,8 +1,12 @@
 //! The words behind the program's name.
 ghost use Rattle.std.specs.Prelude.{◌≡◌, ◌∷◌, [], map, string_bytes, MatchOption};
 ghost use Rattle.std.specs.Result.{result_ok};
+ghost use Rattle.std.proofs.Common.{rules};
+ghost use Rattle.std.proofs.lemmas.Grind.{common_steps};
 ghost use Rattle.hlc_text.specs.Text.{Reads};
 ghost use Rattle.hlc_script.specs.Words.{words_of, AreWords};
+
+use hlc_values::Exact;
 
 /// What the program is asked to do.
 #[derive(Clone, Copy, Debug, PartialEq, Eq)]
@@ -13,9 +17,21 @@ pub enum Words {
     Check,
 }
 
+impl Exact for Words {
+    ghost equal = { Prim.search (rules, common_steps) };
+
+    ghost copied = { Prim.search rules };
+}
+
 /// The words ask for nothing that the program does.
 #[derive(Clone, Copy, Debug, PartialEq, Eq)]
 pub struct BadWords;
+
+impl Exact for BadWords {
+    ghost equal = { Prim.search (rules, common_steps) };
+
+    ghost copied = { Prim.search rules };
+}
 
 /// The first word, and the others.
 fn next_word(words: &[String]) -> Option<(&[u8], &[String])>

@@ -1,6 +1,7 @@
 //! The small callers, called.
 use crate::callers::{
-    admit_twice, deliver_twice, is_complete, least_count, open_twice, two_events, write_of,
+    admit_twice, are_equal, deliver_twice, is_complete, least_count, open_twice, two_events,
+    write_of,
 };
 use hlc_clock::{Clock, Stamp};
 use hlc_floor::Heads;
@@ -22,6 +23,7 @@ fn callers(rt: HostRuntime) -> Result<(), Fail> {
     let key = Bytes::from_vec(Vec::from_slice(alloc, b"a")?);
     let none = Bytes::from_vec(Vec::new(alloc));
     assert!(rt; write_of(none, key.clone()?).is_none());
+    assert!(rt; are_equal(&key, &key.clone()?) && !are_equal(&clock.now(), &Stamp::from_bits(0)));
     assert!(rt; write_of(key.clone()?, key).is_some());
     let mut intake = Intake::new();
     let first = Stamp::from_bits(1);

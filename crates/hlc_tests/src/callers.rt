@@ -1,5 +1,7 @@
-//! The small callers of the pages of clock, node, link, floor, snapshot, witness and world, each with what it may rely on.
-ghost use Rattle.std.specs.Prelude.{◌≡◌, ◌<◌, ◌∷◌, List, None, Some, ◌≤◌, ℕ, length, Contains, true, IfOk, IfSome, IsErr};
+//! The small callers of the pages of values, clock, node, link, floor, snapshot, witness and world, each with what it may
+//! rely on.
+ghost use Rattle.std.specs.Prelude.{ℕ, ◌≡◌, ◌<◌, ◌≤◌, ◌↔◌, List, ◌∷◌, None, Some, true};
+ghost use Rattle.std.specs.Prelude.{length, Contains, IsTrue, IfOk, IfSome, IsErr};
 ghost use Rattle.hlc_node.specs.Items.{body_refusal};
 ghost use Rattle.hlc_node.specs.Rows.{IsRowSet};
 ghost use Rattle.hlc_node.specs.declared.row.Row.{Row as ARow};
@@ -14,8 +16,16 @@ use hlc_floor::Heads;
 use hlc_link::{Intake, LinkFault};
 use hlc_node::{Body, Bytes, Row, body_fault};
 use hlc_snapshot::{Registry, SnapshotFault};
+use hlc_values::Exact;
 use hlc_witness::{Witness, check};
 use hlc_world::{Event, Reply, World};
+
+/// Whether two values are equal.
+pub fn are_equal<T: Exact>(a: &T, b: &T) -> bool
+    ensures { IsTrue result ↔ (a.now ≡ b.now) }
+{
+    *a == *b
+}
 
 /// Stamps two events at one reading, the second later than the first.
 pub fn two_events(clock: &mut Clock, reading: u64) -> Result<(Stamp, Stamp), ClockFault>
