@@ -4,7 +4,7 @@ use hlc_script::read_line;
 use hlc_world::{Event, Refusal, Reply, World};
 use std::alloc::{AllocError, Global};
 
-/// How many requests the world of `world` takes.
+/// How many requests `world` makes.
 const MADE: u64 = 30;
 
 /// What took place before.
@@ -30,20 +30,21 @@ const PAST: [&[u8]; 18] = [
 ];
 
 /// What is asked for. None of it changes anything.
-const QUESTIONS: [&[u8]; 10] = [
+const QUESTIONS: [&[u8]; 11] = [
     b"floor",
     b"rows",
     b"list 1",
     b"list 3",
+    b"list 4",
     b"read 2 a",
-    b"read 3 a",
+    b"read 4 a",
     b"open 9.0",
     b"deliver 0 0",
     b"receive 0 1 7",
     b"observe 0 1 9",
 ];
 
-/// What changes a world, and then the same questions.
+/// What changes a world.
 const CHANGES: [&[u8]; 6] = [
     b"write 0 50 d u",
     b"deliver 0 3",

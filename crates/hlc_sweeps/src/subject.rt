@@ -56,7 +56,7 @@ pub trait Subject: Drop {
 }
 
 /// Makes the call while the request of that turn is refused, and compares with a twin on which none
-/// was.
+/// is.
 pub fn tried<S: Subject>(alloc: Global, line: &[u8], turn: &mut Turn) -> Result<Seen, AllocError> {
     let Some(mut tried) = S::new(alloc, line)? else {
         return Ok(Seen::NotMade);
@@ -70,12 +70,10 @@ pub fn tried<S: Subject>(alloc: Global, line: &[u8], turn: &mut Turn) -> Result<
         return Ok(Seen::NotMade);
     };
     let seen = called(alloc, &mut tried, &mut twin, answer)?;
-    let later = tried.ask(alloc)? == twin.ask(alloc)? && tried.go_on(alloc)? == twin.go_on(alloc)?;
-    match seen {
-        Seen::Wrong(place) => Ok(Seen::Wrong(place)),
-        _ if !later => Ok(Seen::Wrong(Place::Later)),
-        seen => Ok(seen),
+    if matches!(seen, Seen::Wrong(_)) || go_on_alike(alloc, &mut tried, &mut twin)? {
+        return Ok(seen);
     }
+    Ok(Seen::Wrong(Place::Later))
 }
 
 /// What was seen of the answer, of the state where it was none, and of the same call made again.
@@ -86,20 +84,21 @@ fn called<S: Subject>(
     answer: Option<S::Answer>,
 ) -> Result<Seen, AllocError> {
     if answer.is_some() {
-        let alike = answer == twin.call();
-        return Ok(if alike {
-            Seen::Answered
-        } else {
-            Seen::Wrong(Place::Answer)
-        });
+        return Ok(seen_if(answer == twin.call(), Seen::Answered, Place::Answer));
     }
     if tried.ask(alloc)? != twin.ask(alloc)? {
         return Ok(Seen::Wrong(Place::State));
     }
-    let alike = tried.call() == twin.call();
-    Ok(if alike {
-        Seen::Refused
-    } else {
-        Seen::Wrong(Place::Again)
-    })
+    let due = twin.call();
+    let alike = due.is_some() && tried.call() == due;
+    Ok(seen_if(alike, Seen::Refused, Place::Again))
+}
+
+/// Whether both tell the same, now and after further changes.
+fn go_on_alike<S: Subject>(alloc: Global, tried: &mut S, twin: &mut S) -> Result<bool, AllocError> {
+    Ok(tried.ask(alloc)? == twin.ask(alloc)? && tried.go_on(alloc)? == twin.go_on(alloc)?)
+}
+
+fn seen_if(alike: bool, seen: Seen, place: Place) -> Seen {
+    if alike { seen } else { Seen::Wrong(place) }
 }
