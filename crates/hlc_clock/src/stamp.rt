@@ -1,8 +1,10 @@
 //! The stamp: a physical part and a counter in one word.
 ghost use Rattle.std.specs.Prelude.{ℕ, ⊤, ◌≡◌, ◌+◌, ◌*◌, ◌/◌, ◌%◌, ◌^◌, ◌<◌, ◌≤◌};
-ghost use Rattle.std.specs.Prelude.{MatchResult, Some, nat_eq};
+ghost use Rattle.std.specs.Prelude.{MatchResult, IfOk, Some, nat_eq};
 ghost use Rattle.std.specs.Cmp.{partial_order_from_own_ties, partial_equiv_from_equiv};
 ghost use Rattle.std.specs.Cmp.Rules.{comparing, hashing};
+ghost use Rattle.std.specs.Fmt.{styled_text};
+ghost use Rattle.std.specs.Fmt.InlineText.{inline_text};
 ghost use Rattle.std.specs.Hash as fed;
 ghost use Rattle.std.specs.Ordering.{nat_cmp, as_partial_cmp};
 ghost use Rattle.std.proofs.Common.{rules};
@@ -12,7 +14,7 @@ ghost use Rattle.hlc_clock.specs.Stamp.{physical, counter, stamp_text};
 use hlc_values::Exact;
 use std::alloc::AllocError;
 use std::cmp::Ordering;
-use std::fmt;
+use std::fmt::{self, InlineText, Write};
 use std::hash::{Hash, Hasher};
 use std::marker::Model;
 
@@ -30,7 +32,8 @@ impl Exact for ReadingTooLarge {
 ///
 /// The physical part `l` has 48 bits, in the unit of the readings; the counter `c` has 16.
 /// Both stand in one word, `l * 65536 + c`, so stamps compare as their words do. Contracts see
-/// a stamp as that word. It is printed `l.c`, both in decimal.
+/// a stamp as that word. It is printed `l.c`, both in decimal; width, fill, alignment and precision
+/// are those of a `str` of that text.
 #[derive(Copy, Debug)]
 pub struct Stamp {
     bits: u64,
@@ -154,9 +157,21 @@ impl Hash for Stamp {
 impl fmt::Display for Stamp {
     ghost output = { λ stamp. Some (stamp_text stamp) };
 
+    ghost styled_output = { λ stamp spec. Some (styled_text spec (stamp_text stamp)) };
+
     fn fmt<W: fmt::Write>(&self, f: &mut fmt::Formatter<W>) -> fmt::Result {
-        let l = self.l();
-        let c = self.c();
-        write!(f, "{l}.{c}")
+        let text = text_of(*self)?;
+        f.pad(text.as_str())
     }
+}
+
+/// The text of a stamp, in place. It has 21 bytes at most.
+fn text_of(stamp: Stamp) -> Result<InlineText<21>, fmt::Error>
+    ensures { IfOk result (λ text. inline_text text ≡ stamp_text stamp) }
+{
+    let l = stamp.l();
+    let c = stamp.c();
+    let mut text = InlineText::<21>::new();
+    write!(text, "{l}.{c}")?;
+    Ok(text)
 }

@@ -4,8 +4,6 @@
 
 pub mod callers;
 #[cfg(test)]
-mod histories;
-#[cfg(test)]
 mod items;
 #[cfg(test)]
 mod store;

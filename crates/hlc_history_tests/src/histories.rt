@@ -1,9 +1,13 @@
 //! Histories of a world: a short one by hand, and a long one whose reads are compared with plain lists.
-use crate::items::bytes;
 use hlc_core::{Body, Item, Row};
 use hlc_world::{Bytes, Event, Points, Refusal, Reply, Report, Stamp, Witness, Witnesses, World};
 use std::alloc::{AllocError, Global};
 use std::test::*;
+
+/// The text, as bytes of their own.
+fn bytes(alloc: Global, text: &[u8]) -> Result<Bytes, AllocError> {
+    Ok(Bytes::from_vec(Vec::from_slice(alloc, text)?))
+}
 
 /// Numbers as if they were drawn by lot, the same at each run (Knuth's multiplier).
 #[derive(Drop)]

@@ -1,0 +1,5 @@
+//! Tests of whole histories of a world. There is nothing else here.
+#![tactic(auto)]
+
+#[cfg(test)]
+mod histories;
