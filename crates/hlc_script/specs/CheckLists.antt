@@ -23,8 +23,8 @@ AddsLine old new (Row key stamp node value) =
 AddsLine old new (Witness key before at) =
     Holds new old.points.items old.rows.items (old.witnesses.items ++ record { key = key; before = before; at = at } ∷ [])
 
--- why the lines give no lists: the line of this number is the first bad one; or there are lines, none of them bad, and there
--- was no memory for what they say
+-- why the lines give no lists: the line of this number is the first bad one; or there are lines, none of them bad,
+-- and there was no memory for what they say
 abbrev pub IsNoCertificate : List (List ℕ) → NoCertificate → Type 0
 IsNoCertificate lines (BadLine number) = IsFirstBad lines number
 IsNoCertificate lines NoMemory = (0 < length lines) × AreGood lines

@@ -74,8 +74,9 @@ IsOfHeld ReadFault = ⊥
 IsOfHeld TooLong = ⊥
 IsOfHeld WriteFault = ⊥
 
--- What may have been taken from the reader when a run came to its end. Three ends are met in reading: bytes that can't be
--- held, a read that fails, and a byte past the limit. The first of them ends the reading. Else the whole input was taken.
+-- What may have been taken from the reader when a run came to its end. Three ends are met in reading: bytes that
+-- can't be held, a read that fails, and a byte past the limit. The first of them ends the reading.
+-- Else the whole input was taken.
 abbrev pub MayTake : List ℕ → List ℕ → RunEnd → Type 0
 MayTake input taken NotHeld = (0 < length taken) × (length taken ≤ 16777216)
 MayTake input taken ReadFault = length taken ≤ 16777216

@@ -7,7 +7,8 @@ ghost use Rattle.hlc_text.specs.Watched.{inner_of, has_failed};
 ghost use Rattle.hlc_text.specs.Printing.{Prints};
 ghost use Rattle.hlc_script.specs.Reply.{printed};
 ghost use Rattle.hlc_script.specs.Input.{IsInput};
-ghost use Rattle.hlc_script.specs.Check.{MayAnswer, MayTake, IsOfHeld, RunsCheck, answer_output, reason_number, check_status};
+ghost use Rattle.hlc_script.specs.Check.{MayAnswer, MayTake, IsOfHeld, RunsCheck};
+ghost use Rattle.hlc_script.specs.Check.{answer_output, reason_number, check_status};
 
 use crate::certificate::{NoCertificate, read_certificate};
 use crate::input::{InputFault, read_input};
