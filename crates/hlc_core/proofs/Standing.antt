@@ -24,7 +24,7 @@ use Rattle.hlc_witness.specs.Standing.{RowsStandFor, count_above}
 use Rattle.hlc_snapshot.specs.RegisterLaws.{stamp_in-all}
 use Rattle.hlc_snapshot.specs.declared.fault.NoSnapshot.{NoSnapshot}
 use Rattle.hlc_core.specs.declared.listing.Pair.{Pair}
-use Rattle.hlc_core.proofs.Keys.{in_map}
+use Rattle.hlc_core.proofs.Mapped.{in_map}
 use Rattle.hlc_snapshot.specs.Register.{Register, closed, stamps, stamp_in, without, room_refusal as room_in, IsRefusal as IsRoomRefusal}
 use Rattle.hlc_core.specs.Calls.{new_refusal, IsRefusal, IsListing, Closes}
 use Rattle.hlc_core.specs.PastLaws.{admissible, on_link, inside, least-some, least-le, above-horizon, open-above, writes-row_set, contained-cases, contained-first, contained-rest}

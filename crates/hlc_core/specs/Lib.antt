@@ -4,4 +4,5 @@ pub mod PastLaws
 pub mod Stored
 pub mod Kept
 pub mod Calls
+pub mod PlanAt
 pub mod ListingLaws

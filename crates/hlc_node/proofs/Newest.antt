@@ -1,9 +1,10 @@
 -- The newest row is the greatest one. It is found by going down the list: a row that is no candidate changes nothing, and one
 -- that is a candidate is the later of itself and the newest of the rest. Two greatest rows are one version, so in a row set one row.
-use Rattle.std.proofs.Common.{◌≡◌, ℕ, zero, suc, ◌<◌, ◌≤◌, ◌⊎◌, List, [], ◌∷◌, length, true, false, Some, None, Option, refl, ap, sym, ◌∙◌, subst, inl, inr, arith}
-use Rattle.std.specs.Prelude.{Contains, ◌==◌, nat_lt, nat_le}
+use Rattle.std.proofs.Common.{◌≡◌, ◌≢◌, ℕ, zero, suc, ◌<◌, ◌≤◌, ◌⊎◌, List, [], ◌∷◌, ◌++◌, length, true, false, Some, None, Option, refl, ap, sym, ◌∙◌, subst, inl, inr, arith}
+use Rattle.std.specs.Prelude.{Contains, ◌==◌, nat_lt, nat_le, if◌then◌else◌}
 use Rattle.std.specs.Str.{bytes_eq}
 use Rattle.std.proofs.lemmas.Bool.{cases_Bool, cond-true, cond-false, and_parts, and_from, or_cases, leb-true, le-leb, ltb-true, lt-ltb, eqb-true, eq-eqb, both_ways, cases_lt, cases_order, or_left, or_right}
+use Rattle.std.proofs.lemmas.List.{append-nil}
 use Rattle.std.proofs.lemmas.Slice.Eq.{bytes_eq-Decides}
 use Rattle.hlc_node.specs.declared.row.Row.{Row}
 use Rattle.hlc_node.specs.Rows.{is_candidate, is_before, later, newest, IsNoLater, IsNewest, IsSameVersion, IsRowSet}
@@ -201,3 +202,25 @@ unfolding newest
 newest-stays [] key low high le none = refl
 newest-stays (first ∷ rows) key low high le none =
     rw (candidate-same key low high first le (none first (Contains-first first rows)), newest-stays rows key low high le (λ row m. none row (Contains-rest first rows row m))) refl
+
+other-misses : (key : List ℕ) (bound : ℕ) (row : Row) → row.key ≢ key → is_candidate key bound row ≡ false
+other-misses key bound row apart =
+    elim (cases_Bool (is_candidate key bound row)) [
+      | inl hit ↦ absurd (apart (candidate-true key bound row hit).0)
+      | inr miss ↦ miss
+    ]
+
+-- rows of other keys in front change nothing
+pub newest-after_others : (others rows : List Row) (key : List ℕ) (bound : ℕ) → ((row : Row) → Contains others row → row.key ≢ key) → newest (others ++ rows) key bound ≡ newest rows key bound
+unfolding newest
+newest-after_others [] rows key bound apart = refl
+newest-after_others (first ∷ others) rows key bound apart =
+    cond-false _ _ _ (other-misses key bound first (apart first (Contains-first first others)))
+    ∙ newest-after_others others rows key bound (λ row m. apart row (Contains-rest first others row m))
+
+-- nor do rows of other keys behind
+pub newest-before_others : (rows others : List Row) (key : List ℕ) (bound : ℕ) → ((row : Row) → Contains others row → row.key ≢ key) → newest (rows ++ others) key bound ≡ newest rows key bound
+unfolding newest
+newest-before_others [] others key bound apart = ap (λ xs. newest xs key bound) (sym (append-nil others)) ∙ newest-after_others others [] key bound apart
+newest-before_others (first ∷ rows) others key bound apart =
+    ap (λ o. if is_candidate key bound first then Some (later first o) else o) (newest-before_others rows others key bound apart)

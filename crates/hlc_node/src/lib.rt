@@ -11,6 +11,8 @@ mod row;
 pub use bytes::Bytes;
 pub use hlc_clock::Stamp;
 pub use item::{Body, BodyFault, Item, Message, body_fault, write_fault};
-pub use laws::{newest_is_greatest, newest_is_unique, newest_stays, no_newest_no_row};
+pub use laws::{
+    newest_is_greatest, newest_is_unique, newest_stays, no_newest_no_row, other_keys_do_not_count,
+};
 pub use node::{NodeCore, NodeFault, RefusedWrite};
 pub use row::Row;

@@ -1,0 +1,18 @@
+-- The plan is of the rows that are kept, at the points of the open snapshots and the floor.
+use Rattle.std.proofs.Common.{subst, sym, ◌∙◌}
+use Rattle.hlc_snapshot.specs.Register.{stamps}
+use Rattle.hlc_snapshot.specs.Points.{ArePoints}
+use Rattle.hlc_vacuum.specs.Plan.{IsPlanOf}
+use Rattle.hlc_core.specs.Kept.{Kept}
+use Rattle.hlc_core.proofs.store.Core.plan_parallel.Goals as goal
+
+pub returns-in-Ok : goal.returns-in-Ok
+returns-in-Ok g c =
+    let points = c.in-Ok.ensures.points ∙ c.as_slice.ensures.value in
+    record {
+      made = subst (λ (kept : Kept). IsPlanOf c.in-Ok.plan kept.rows) c.self.view_is c.in-Ok.ensures.made;
+      points =
+          subst (λ (kept : Kept). ArePoints (stamps kept.snapshots) c.floor-floor.result c.in-Ok.plan.points) c.self.view_is
+          (subst (ArePoints (stamps c.self.inside.registry.snapshots) c.floor-floor.result) (sym points) c.in_ok-points.ensures);
+      floor = c.floor-floor.ensures.stands;
+    }

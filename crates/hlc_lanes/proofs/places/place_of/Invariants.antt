@@ -1,0 +1,13 @@
+-- No place so far holds the stamp and the node.
+use Rattle.std.proofs.Common.{◌-◌, ◌≤◌, length}
+use Rattle.hlc_lanes.specs.Places.{HoldsNowhere}
+use Rattle.hlc_lanes.proofs.places.place_of.Given as goal
+
+abbrev pub invariant-loop-at : goal.invariant-loop-at
+invariant-loop-at l = record {
+  nowhere : HoldsNowhere l.stamps l.nodes l.stamp l.node 0 l.at;
+  inside : l.at ≤ length l.stamps;
+}
+
+abbrev pub decreases-loop-at : goal.decreases-loop-at
+decreases-loop-at l = length l.stamps - l.at
