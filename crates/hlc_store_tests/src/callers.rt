@@ -1,14 +1,14 @@
 //! The small callers of the pages of `hlc_core` and `hlc_vacuum`, each with what it may rely on.
 ghost use Rattle.std.specs.Prelude.{◌≡◌, List, length, IfOk, IsOkAnd, OnOk};
-ghost use Rattle.hlc_node.specs.Rows.{IsRowSet};
 ghost use Rattle.hlc_witness.specs.Points.{PointsAscend};
 ghost use Rattle.hlc_witness.specs.Fewest.{Alike};
 ghost use Rattle.hlc_witness.specs.Vacuumed.{rows_to};
 ghost use Rattle.hlc_core.specs.Past.{Step, floor};
 ghost use Rattle.hlc_core.specs.Kept.{nodes, StandsFor};
 
-use hlc_core::{Core, NoMemory, Row, Stamp};
-use hlc_vacuum::{apply_rows, plan_rows};
+use hlc_columns::Table;
+use hlc_core::{Core, NoMemory, Stamp};
+use hlc_vacuum::{apply, plan_table};
 use hlc_witness::{NotShown, Shown, check};
 use std::alloc::{AllocError, Global};
 
@@ -24,12 +24,11 @@ pub fn vacuum_and_check(core: &mut Core) -> Result<Result<Shown, NotShown>, NoMe
     Ok(check(rows.as_slice(), points, witnesses))
 }
 
-/// Drops the rows that no reader at these points needs, and answers how many they were.
-pub fn drop_unread(alloc: Global, rows: &mut Vec<Row>, points: &[Stamp]) -> Result<u128, AllocError>
-    requires rows { IsRowSet rows.old.items }
-    requires points { PointsAscend points.now }
-    ensures { OnOk result (Alike rows.new.items rows.old.items points.now) }
+/// Drops the rows of a table that no reader at these points needs, and answers how many they were.
+pub fn drop_unread(alloc: Global, table: &mut Table, points: &[Stamp]) -> Result<u128, AllocError>
+    requires { PointsAscend points.now }
+    ensures { OnOk result (Alike table.new table.old points.now) }
 {
-    let plan = plan_rows(alloc, rows.as_slice(), points)?;
-    Ok(apply_rows(rows, plan).dropped)
+    let plan = plan_table(alloc, table, points)?;
+    Ok(apply(table, plan).dropped)
 }

@@ -1,20 +1,26 @@
 //! Vacuums of a store by itself: what they report, and the certificate of what they leave.
 use crate::callers::{drop_unread, vacuum_and_check};
 use crate::items::{bytes, item};
-use hlc_core::{Bytes, Core, Item, Pair, Report, Stamp, Witness};
-use hlc_witness::{ascending_rows_are_a_row_set, check, do_points_ascend};
+use hlc_columns::Table;
+use hlc_core::{Bytes, Core, Item, Pair, Report, Row, Stamp, Witness};
+use hlc_witness::{check, do_points_ascend};
 use std::alloc::{AllocError, Global};
 use std::test::*;
 
-/// How many of a store's rows no reader at these points needs, if the points ascend.
-fn count_unread(core: &Core, alloc: Global, points: &[Stamp]) -> Option<u128> {
-    // What the proof cites.
-    ascending_rows_are_a_row_set();
-    let mut rows = core.rows_to(core.floor()).ok()?;
+/// How many rows no reader at these points needs, of a table with one row at 1.0, if the points ascend.
+fn count_unread(alloc: Global, value: Option<Bytes>, points: &[Stamp]) -> Option<u128> {
+    let mut table = Table::new(alloc);
+    let row = Row {
+        key: bytes(alloc, b"a").ok()?,
+        stamp: stamp(1),
+        node: 0,
+        value,
+    };
+    table.insert(row).ok()?;
     if !do_points_ascend(points) {
         return None;
     }
-    drop_unread(alloc, &mut rows, points).ok()
+    drop_unread(alloc, &mut table, points).ok()
 }
 
 fn stamp(reading: u64) -> Stamp {
@@ -130,10 +136,11 @@ fn snapshots_hold_what_they_see(rt: HostRuntime) -> Result<(), Fail> {
 #[test]
 fn one_row_is_unread(rt: HostRuntime) -> Result<(), Fail> {
     let alloc = rt.alloc();
-    let core = three_versions(alloc, Some(b"x"), b"y")?;
     let points = [stamp(1), stamp(2), stamp(3)];
-    assert_eq!(rt; count_unread(&core, alloc, &points), Some(1));
-    assert_eq!(rt; count_unread(&core, alloc, &[stamp(2), stamp(1)]), None);
+    let value = bytes(alloc, b"x")?;
+    assert_eq!(rt; count_unread(alloc, None, &points), Some(1));
+    assert_eq!(rt; count_unread(alloc, Some(value), &points), Some(0));
+    assert_eq!(rt; count_unread(alloc, None, &[stamp(2), stamp(1)]), None);
     Ok(())
 }
 

@@ -1,0 +1,24 @@
+-- Bytes that each stand as themselves are their own spelling: what is printed for them, and what they are read as.
+use Rattle.std.proofs.Common.{◌≡◌, ℕ, List, [], ◌∷◌, Bool, true, false, ◌&&◌, Some, ap, refl}
+use Rattle.std.specs.List.{list_all, flat_map}
+use Rattle.hlc_text.specs.Text.{stands_as_itself, byte_token}
+use Rattle.hlc_text.specs.Spelling.{spelled_bytes, with_byte}
+
+both : (s t : Bool) → (s && t) ≡ true → (s ≡ true) × (t ≡ true)
+both true t h = (refl, h)
+both false t h = absurd (cc)
+
+first_stands : (b : ℕ) (bs : List ℕ) → list_all stands_as_itself (b ∷ bs) ≡ true
+    → (stands_as_itself b ≡ true) × (list_all stands_as_itself bs ≡ true)
+first_stands b bs h = both (stands_as_itself b) (list_all stands_as_itself bs) h
+
+pub printed_plain : (bs : List ℕ) → list_all stands_as_itself bs ≡ true → flat_map byte_token bs ≡ bs
+printed_plain [] h = refl
+printed_plain (b ∷ bs) h = let p = first_stands b bs h in rw p.0 (ap (λ l. b ∷ l) (printed_plain bs p.1))
+
+pub read_plain : (bs : List ℕ) → list_all stands_as_itself bs ≡ true → spelled_bytes bs ≡ Some bs
+read_plain [] h = refl
+read_plain (b ∷ []) h = rw (first_stands b [] h).0 refl
+read_plain (b ∷ c ∷ []) h = let p = first_stands b (c ∷ []) h in rw p.0 (ap (with_byte b) (read_plain (c ∷ []) p.1))
+read_plain (b ∷ high ∷ low ∷ rest) h =
+    let p = first_stands b (high ∷ low ∷ rest) h in rw p.0 (ap (with_byte b) (read_plain (high ∷ low ∷ rest) p.1))
