@@ -1,5 +1,5 @@
 -- An index of places.
-use Rattle.std.proofs.Common.{◌≡◌, ℕ, zero, suc, ◌+◌, ◌-◌, ◌<◌, ◌≤◌, Bool, true, false, List, [], ◌∷◌, ◌++◌, Option, Some, None, length, get_or, take, refl, sym, ap, ◌∙◌, subst, ◌⊎◌, inl, inr, arith, Contains, All, true≢false, cond, eqb, leb, ltb, IsTrue}
+use Rattle.std.proofs.Common.{◌≡◌, ℕ, zero, suc, ◌+◌, ◌-◌, ◌<◌, ◌≤◌, Bool, true, false, List, [], ◌∷◌, ◌++◌, Option, Some, None, length, get_or, take, drop, refl, sym, ap, ◌∙◌, subst, ◌⊎◌, inl, inr, arith, Contains, All, true≢false, cond, eqb, leb, ltb, IsTrue}
 use Rattle.std.specs.Prelude.{IfSome, MatchOption}
 use Rattle.std.specs.List.Sorted.{IsPartitionedBy, IsPartitionPoint, IsPermutation, IsSortedBy}
 use Rattle.std.specs.Cmp.{IsTotalOrder}
@@ -8,8 +8,8 @@ use Rattle.std.specs.declared.cmp.Ordering.TheVariants.{Less, Equal, Greater}
 use Rattle.std.proofs.lemmas.Cmp.{then_total, on_total, back_total, nat_cmp_total, ranked}
 use Rattle.std.proofs.lemmas.Bool.{cases_lt, cases_eq}
 use Rattle.std.proofs.lemmas.Bool.Decides.{nat_tests}
-use Rattle.std.proofs.lemmas.List.{get_or_default, get_or_append_left, length_push, get_or_push, length-append, append_assoc, append-nil}
-use Rattle.std.proofs.lemmas.List.Sorted.{All-permutation, Contains-permutation, length_permutation, sorted_far, ranks_by}
+use Rattle.std.proofs.lemmas.List.{get_or_default, get_or_append_left, get_or-append_right, get_or-take, get_or-drop, length-drop, length-take-le, take-append-le, take-append-drop, length_push, get_or_push, length-append, append_assoc, append-nil}
+use Rattle.std.proofs.lemmas.List.Sorted.{All-permutation, Contains-permutation, IsPermutation-append_right, length_permutation, sorted_far, ranks_by}
 use Rattle.hlc_columns.specs.Newest.{NotAbove, IsNewestBelow}
 use Rattle.hlc_columns.specs.Order.{Rises, IsIndex, IsNumbered, place_cmp}
 use Rattle.hlc_columns.proofs.Best.{not_above_itself, not_above_trans}
@@ -22,6 +22,15 @@ stamps_partitioned ss ns order bound (long, below, every, rises) i j d le lt pas
     let h = (rises i j le lt).0 in
     subst (λ p. leb (get_or ss p 0) bound ≡ true) e
     (let y = subst (λ p. leb (get_or ss p 0) bound ≡ true) (sym f) passes in
+    grind (arith, nat_tests))
+
+pub stamps_partitioned_below : (ss ns order : List ℕ) (stamp : ℕ) → IsIndex ss ns order → IsPartitionedBy (λ p. ltb (get_or ss p 0) stamp) order
+stamps_partitioned_below ss ns order stamp (long, below, every, rises) i j d le lt passes =
+    let e = get_or_default order i 0 d (omega (arith, le, lt)) in
+    let f = get_or_default order j 0 d lt in
+    let h = (rises i j le lt).0 in
+    subst (λ p. ltb (get_or ss p 0) stamp ≡ true) e
+    (let y = subst (λ p. ltb (get_or ss p 0) stamp ≡ true) (sym f) passes in
     grind (arith, nat_tests))
 
 -- none is at or below the bound
@@ -73,13 +82,40 @@ sorted_rises ss ns order sorted i j le lt =
     not_less (get_or ss (get_or order j 0) 0) (get_or ss (get_or order i 0) 0) (get_or ns (get_or order j 0) 0) (get_or ns (get_or order i 0) 0) (get_or order i 0) (get_or order j 0)
     (sorted_far (λ p q. is_lt (place_cmp ss ns p q)) (ranks_by (place_order ss ns) (λ (p : ℕ). p)) order sorted i j 0 le lt)
 
+-- all places below the length, rising
+pub risen_index : (ss ns xs ys : List ℕ) → IsPermutation xs ys → length xs ≤ length ss → All (λ p. p < length xs) xs → ((p : ℕ) → p < length xs → Contains xs p)
+    → Rises ss ns ys → IsIndex ss ns ys
+risen_index ss ns xs ys moved long below every rises =
+    let same : length ys ≡ length xs = length_permutation xs ys moved in
+    (omega (arith, same, long), subst (λ (n : ℕ). All (λ p. p < n) ys) (sym same) (All-permutation (λ p. p < length xs) xs ys moved below),
+    λ p lt. Contains-permutation xs ys p moved (every p (omega (arith, lt, same))), rises)
+
+-- a rising front below a stamp, and a rising tail that is not
+pub joined_rises : (ss ns front tail : List ℕ) (stamp : ℕ) → Rises ss ns front → Rises ss ns tail → ((i : ℕ) → i < length front → get_or ss (get_or front i 0) 0 < stamp)
+    → All (λ p. stamp ≤ get_or ss p 0) tail → Rises ss ns (front ++ tail)
+joined_rises ss ns front tail stamp rises risen under over i j le lt =
+    let wide = length-append front tail in
+    elim (cases_lt j (length front)) [
+      | inl before ↦
+          subst (λ (p : ℕ). NotAbove ss ns p (get_or (front ++ tail) j 0)) (sym (get_or_append_left front tail 0 i (omega (arith, le, before))))
+          (subst (λ (q : ℕ). NotAbove ss ns (get_or front i 0) q) (sym (get_or_append_left front tail 0 j before)) (rises i j le before))
+      | inr after ↦
+          subst (λ (q : ℕ). NotAbove ss ns (get_or (front ++ tail) i 0) q) (sym (get_or-append_right front tail (length front) j 0 refl after))
+          (elim (cases_lt i (length front)) [
+            | inl inside ↦ subst (λ (p : ℕ). NotAbove ss ns p (get_or tail (j - length front) 0)) (sym (get_or_append_left front tail 0 i inside))
+                (let a = under i inside in
+                let b = over (j - length front) 0 (omega (arith, wide, lt, after)) in
+                (omega (arith, a, b), λ same. absurd (omega (arith, a, b, same)), λ same alike. absurd (omega (arith, a, b, same))))
+            | inr behind ↦ subst (λ (p : ℕ). NotAbove ss ns p (get_or tail (j - length front) 0)) (sym (get_or-append_right front tail (length front) i 0 refl behind))
+                (risen (i - length front) (j - length front) (omega (arith, le, behind, after)) (omega (arith, wide, lt, after)))
+          ])
+    ]
+
 -- all places below the length, sorted
 pub sorted_index : (ss ns xs ys : List ℕ) → IsPermutation xs ys → length xs ≤ length ss → All (λ p. p < length xs) xs → ((p : ℕ) → p < length xs → Contains xs p)
     → IsSortedBy (λ p q. is_lt (place_cmp ss ns p q)) ys → IsIndex ss ns ys
 sorted_index ss ns xs ys moved long below every sorted =
-    let same : length ys ≡ length xs = length_permutation xs ys moved in
-    (omega (arith, same, long), subst (λ (n : ℕ). All (λ p. p < n) ys) (sym same) (All-permutation (λ p. p < length xs) xs ys moved below),
-    λ p lt. Contains-permutation xs ys p moved (every p (omega (arith, lt, same))), sorted_rises ss ns ys sorted)
+    risen_index ss ns xs ys moved long below every (sorted_rises ss ns ys sorted)
 
 -- what stands in a numbered list
 pub numbered_below : (old new : List ℕ) (count : ℕ) → IsNumbered old new count → length old ≤ count → All (λ p. p < length old) old → All (λ p. p < length new) new
@@ -123,6 +159,38 @@ numbered_more old new count (front, long, numbers) =
       | inl below ↦ get_or_append_left new (count ∷ []) 0 p (omega (arith, below, long)) ∙ numbers p le below
       | inr here ↦ let e : p ≡ count = omega (arith, lt, here) in get_or_push new count 0 p (long ∙ sym e) ∙ sym e
     ])
+
+-- where all places were numbered and those from one on sorted, which are the places of all rows that are not below a stamp
+pub tail_index : (ss ns order all tail : List ℕ) (from least : ℕ) → IsIndex ss ns order → IsNumbered order all (length ss) → from ≤ length order
+    → ((i : ℕ) → i < from → get_or ss (get_or order i 0) 0 < least) → ((i : ℕ) → from ≤ i → i < length order → least ≤ get_or ss (get_or order i 0) 0)
+    → ((p : ℕ) → length order ≤ p → p < length ss → least ≤ get_or ss p 0)
+    → IsPermutation (drop from all) tail → Rises ss ns tail → IsIndex ss ns (take from all ++ tail)
+tail_index ss ns order all tail from least (room, below, every, rises) numbered fits under over new moved risen =
+    let (rest, long, numbers) = numbered in
+    let front : take from all ≡ take from order = ap (take from) rest.1 ∙ take-append-le from order rest.0 fits in
+    let few : length (take from order) ≡ from = length-take-le from order fits in
+    let at : (i : ℕ) → i < length (take from order) → get_or (take from order) i 0 ≡ get_or order i 0 = λ i lt. get_or-take from order i 0 (omega (arith, lt, few)) in
+    risen_index ss ns all (take from all ++ tail)
+    (subst (λ (xs : List ℕ). IsPermutation xs (take from all ++ tail)) (take-append-drop from all) (IsPermutation-append_right (take from all) (drop from all) tail moved))
+    (omega (arith, long)) (numbered_below order all (length ss) numbered room below) (numbered_every order all (length ss) numbered every)
+    (subst (λ (xs : List ℕ). Rises ss ns (xs ++ tail)) (sym front)
+    (joined_rises ss ns (take from order) tail least
+      (λ i j le lt. subst (λ (p : ℕ). NotAbove ss ns p (get_or (take from order) j 0)) (sym (at i (omega (arith, le, lt))))
+        (subst (λ (q : ℕ). NotAbove ss ns (get_or order i 0) q) (sym (at j lt)) (rises i j le (omega (arith, lt, few, fits)))))
+      risen (λ i lt. subst (λ (p : ℕ). get_or ss p 0 < least) (sym (at i lt)) (under i (omega (arith, lt, few))))
+      (All-permutation (λ p. least ≤ get_or ss p 0) (drop from all) tail moved (λ k d lt.
+        let wide = length-drop from all in
+        subst (λ (p : ℕ). least ≤ get_or ss p 0) (sym (get_or-drop from all k d))
+        (elim (cases_lt (from + k) (length order)) [
+          | inl before ↦
+              subst (λ (p : ℕ). least ≤ get_or ss p 0)
+              (sym (ap (λ (l : List ℕ). get_or l (from + k) d) rest.1 ∙ get_or_append_left order rest.0 d (from + k) before ∙ sym (get_or_default order (from + k) 0 d before)))
+              (over (from + k) (omega arith) before)
+          | inr after ↦
+              let inside : from + k < length all = omega (arith, lt, wide) in
+              subst (λ (p : ℕ). least ≤ get_or ss p 0) (sym (sym (get_or_default all (from + k) 0 d inside) ∙ numbers (from + k) after (omega (arith, inside, long))))
+              (new (from + k) after (omega (arith, inside, long)))
+        ])))))
 
 -- the next place goes last where it is above the last
 pub pushed_index : (ss ns order : List ℕ) → IsIndex ss ns order → length order < length ss → 0 < length order → NotAbove ss ns (get_or order (length order - 1) 0) (length order) → IsIndex ss ns (order ++ length order ∷ [])

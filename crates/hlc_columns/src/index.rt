@@ -1,8 +1,10 @@
 //! The index of a hot key: places of its first rows, in the order of their stamps and nodes.
-ghost use Rattle.std.specs.Prelude.{◌≡◌, ◌≤◌, ◌<◌, [], IsTrue, length, slice_index, false};
-ghost use Rattle.hlc_columns.specs.Order.{IsIndex, IsNumbered, place_cmp};
+ghost use Rattle.std.specs.Prelude.{◌≡◌, ◌≤◌, ◌<◌, ◌+◌, ◌++◌, [], ℕ, IsTrue, IfOk, length, take, drop, slice_index, false};
+ghost use Rattle.std.specs.List.Sorted.{IsPermutation};
+ghost use Rattle.hlc_columns.specs.Order.{Rises, IsIndex, IsNumbered, place_cmp};
 
 use crate::newest::{is_below, node_at, stamp_at};
+use std::alloc::AllocError;
 use std::cmp::Ordering;
 
 /// At most so many rows, and one for each `SHARE` of the index, stand outside of it.
@@ -34,18 +36,72 @@ fn add_places(order: &mut Vec<usize>, count: usize) -> bool
     true
 }
 
-/// Takes all rows into the index, if there is memory.
+/// A stamp that no row from a place on is below: the least of theirs.
+fn least_from(stamps: &[u64], from: usize) -> u64
+    ensures { (p : ℕ) → from ≤ p → p < length stamps.now → result ≤ slice_index stamps.now p }
+{
+    let mut least = u64::MAX;
+    for place in from..stamps.len() {
+        if stamps[place] < least {
+            least = stamps[place];
+        }
+    }
+    least
+}
+
+/// How many rows of the index are below a stamp: they stand in front.
+fn count_below(stamps: &[u64], nodes: &[u16], order: &[usize], stamp: u64) -> usize
+    requires { IsIndex stamps.now nodes.now order.now }
+    ensures few { result ≤ length order.now }
+    ensures below { (i : ℕ) → i < result → slice_index stamps.now (slice_index order.now i) < stamp }
+    ensures above { (i : ℕ) → result ≤ i → i < length order.now
+        → stamp ≤ slice_index stamps.now (slice_index order.now i) }
+{
+    order.partition_point(|place| stamp_at(stamps, *place) < stamp)
+}
+
+/// The places from one of the list on, sorted. It is refused where memory lacks.
+fn sorted_tail(
+    order: &Vec<usize>,
+    from: usize,
+    stamps: &[u64],
+    nodes: &[u16],
+) -> Result<Vec<usize>, AllocError>
+    requires { from ≤ length order.now.items }
+    ensures same { IfOk result (λ tail. IsPermutation (drop from order.now.items) tail.items) }
+    ensures rises { IfOk result (λ tail. Rises stamps.now nodes.now tail.items) }
+{
+    let mut tail = Vec::from_slice(*order.allocator(), &order[from..])?;
+    tail.sort_by(|place, other| compare(stamps, nodes, *place, *other))?;
+    Ok(tail)
+}
+
+/// Puts as many other places in the stead of those from one on.
+fn replace_tail(order: &mut Vec<usize>, from: usize, tail: Vec<usize>)
+    requires from { from ≤ length order.old.items }
+    requires alike { from + length tail.items ≡ length order.old.items }
+    ensures { order.new.items ≡ take from order.old.items ++ tail.items }
+{
+    let mut tail = tail;
+    order.truncate(from);
+    let _ = order.append(&mut tail);
+}
+
+/// Takes all rows into the index, if there is memory. Just the rows from the least stamp of the
+/// new ones on are sorted.
 fn index_all(order: &mut Vec<usize>, stamps: &[u64], nodes: &[u16])
     requires { IsIndex stamps.now nodes.now order.old.items }
     ensures { IsIndex stamps.now nodes.now order.new.items }
 {
     let count = order.len();
+    let least = least_from(stamps, count);
+    let from = count_below(stamps, nodes, order.as_slice(), least);
     let added = add_places(order, stamps.len());
     if !added {
         return;
     }
-    match order.sort_by(|place, other| compare(stamps, nodes, *place, *other)) {
-        Ok(()) => {}
+    match sorted_tail(order, from, stamps, nodes) {
+        Ok(tail) => replace_tail(order, from, tail),
         Err(_) => order.truncate(count),
     }
 }
