@@ -1,22 +1,25 @@
--- The place of the newest of some stamps and nodes, which stand side by side.
-use Rattle.std.specs.Prelude.{◌≡◌, ◌≤◌, ◌<◌, ℕ, List, Option, Some, None, slice_index}
-use Rattle.hlc_lanes.specs.Newest.{IsNewest}
-use Rattle.hlc_lanes.specs.Places.{IsGreatestNode, IsPlace}
+-- The newest of some stamps and nodes, which stand side by side.
+use Rattle.std.specs.Prelude.{◌≡◌, ◌≤◌, ◌<◌, ℕ, List, Option, Some, None, length, slice_index}
 
--- it holds the greatest stamp at or below the bound, of these the greatest node, and of these it is the first; or no stamp is at or
--- below the bound
-abbrev pub IsNewestPlace : List ℕ → List ℕ → ℕ → Option ℕ → Type 0
-IsNewestPlace stamps nodes bound None = IsNewest stamps bound None
-IsNewestPlace stamps nodes bound (Some place) =
-    IsNewest stamps bound (Some (slice_index stamps place))
-    × IsGreatestNode stamps nodes (slice_index stamps place) (Some (slice_index nodes place))
-    × IsPlace stamps nodes (slice_index stamps place) (slice_index nodes place) (Some place)
+-- the row at p is not above that at q: by stamp, then by node, and of rows alike in both the later one is below
+abbrev pub NotAbove : List ℕ → List ℕ → ℕ → ℕ → Type 0
+NotAbove stamps nodes p q =
+    (slice_index stamps p ≤ slice_index stamps q)
+    × (slice_index stamps p ≡ slice_index stamps q → slice_index nodes p ≤ slice_index nodes q)
+    × (slice_index stamps p ≡ slice_index stamps q → slice_index nodes p ≡ slice_index nodes q → q ≤ p)
 
--- the same of the places below n alone
+-- of the places below n it is that of the greatest row at or below the bound; or each row there is above the bound
 abbrev pub IsNewestBelow : List ℕ → List ℕ → ℕ → ℕ → Option ℕ → Type 0
-IsNewestBelow stamps nodes bound n None = (k : ℕ) → k < n → bound < slice_index stamps k
+IsNewestBelow stamps nodes bound n None = (p : ℕ) → p < n → bound < slice_index stamps p
 IsNewestBelow stamps nodes bound n (Some place) =
     (place < n) × (slice_index stamps place ≤ bound)
-    × ((k : ℕ) → k < n → slice_index stamps k ≤ bound → slice_index stamps k ≤ slice_index stamps place)
-    × ((k : ℕ) → k < n → slice_index stamps k ≡ slice_index stamps place → slice_index nodes k ≤ slice_index nodes place)
-    × ((k : ℕ) → k < place → slice_index stamps k ≡ slice_index stamps place → slice_index nodes k < slice_index nodes place)
+    × ((p : ℕ) → p < n → slice_index stamps p ≤ bound → NotAbove stamps nodes p place)
+
+-- of the places that hold the stamp it is that of the greatest node, and of those the first; or none holds it
+abbrev pub IsGreatestAt : List ℕ → List ℕ → ℕ → Option ℕ → Type 0
+IsGreatestAt stamps nodes stamp None = (p : ℕ) → p < length stamps → slice_index stamps p ≡ stamp → ⊥
+IsGreatestAt stamps nodes stamp (Some place) =
+    (place < length stamps) × (slice_index stamps place ≡ stamp)
+    × ((p : ℕ) → p < length stamps → slice_index stamps p ≡ stamp
+      → (slice_index nodes p ≤ slice_index nodes place)
+      × (slice_index nodes p ≡ slice_index nodes place → place ≤ p))

@@ -1,81 +1,134 @@
-//! The place of the newest of some stamps and nodes, which stand side by side.
-ghost use Rattle.std.specs.Prelude.{◌≡◌, ◌↔◌, ◌⊎◌, ◌+◌, ◌<◌, IsTrue, length};
-ghost use Rattle.hlc_columns.specs.Newest.{IsNewestPlace, IsNewestBelow};
+//! The greatest row at or below a bound.
+ghost use Rattle.std.specs.Prelude.{◌≡◌, ◌≤◌, ◌<◌, ◌⊎◌, ℕ, IsTrue, Some, IfSome, MatchOption, length, slice_index, false};
+ghost use Rattle.hlc_columns.specs.Newest.{NotAbove, IsNewestBelow, IsGreatestAt};
+ghost use Rattle.hlc_columns.specs.Order.{IsIndex};
 
 use hlc_lanes::{greatest_node, newest_at, place_of};
 
-/// Below so many rows one plain pass is faster than three by the kernels.
+/// Fewer rows than these are compared one by one.
 const FEW: usize = 16;
 
-/// The place of the newest at or below the bound, the first of several that are alike.
-pub(crate) fn newest_place(stamps: &[u64], nodes: &[u16], bound: u64) -> Option<usize>
-    requires { length nodes.now ≡ length stamps.now }
-    ensures { IsNewestPlace stamps.now nodes.now bound result }
+/// The stamp at a place, 0 where there is none.
+pub fn stamp_at(stamps: &[u64], place: usize) -> u64
+    ensures { result ≡ slice_index stamps.now place }
 {
-    if stamps.len() < FEW {
-        newest_of_few(stamps, nodes, bound)
-    } else {
-        newest_of_many(stamps, nodes, bound)
+    match stamps.get(place) {
+        Some(stamp) => *stamp,
+        None => 0,
     }
 }
 
-/// The same, by the kernels: the stamp, its greatest node, and their first place.
-fn newest_of_many(stamps: &[u64], nodes: &[u16], bound: u64) -> Option<usize>
-    requires { length nodes.now ≡ length stamps.now }
-    ensures { IsNewestPlace stamps.now nodes.now bound result }
+/// The node at a place, 0 where there is none.
+pub fn node_at(nodes: &[u16], place: usize) -> u16
+    ensures { result ≡ slice_index nodes.now place }
 {
-    let Some(stamp) = newest_at(stamps, bound) else {
-        return None;
-    };
+    match nodes.get(place) {
+        Some(node) => *node,
+        None => 0,
+    }
+}
+
+/// Whether a row is below one that came later.
+pub fn is_below(stamps: &[u64], nodes: &[u16], place: usize, later: usize) -> bool
+    requires { place < later }
+    ensures below { IsTrue result → NotAbove stamps.now nodes.now place later }
+    ensures above { result ≡ false → NotAbove stamps.now nodes.now later place }
+{
+    let stamp = stamp_at(stamps, place);
+    let other = stamp_at(stamps, later);
+    stamp < other || stamp == other && node_at(nodes, place) < node_at(nodes, later)
+}
+
+/// The better of the best so far and a later row.
+fn newer(stamps: &[u64], nodes: &[u16], best: Option<usize>, later: usize) -> usize
+    requires { IfSome best (λ place. place < later) }
+    ensures one { (result ≡ later) ⊎ (best ≡ Some result) }
+    ensures later { NotAbove stamps.now nodes.now later result }
+    ensures best { IfSome best (λ place. NotAbove stamps.now nodes.now place result) }
+{
+    match best {
+        Some(place) if !is_below(stamps, nodes, place, later) => place,
+        _ => later,
+    }
+}
+
+/// The best with the rows from a place on, one by one.
+fn newest_of_few(stamps: &[u64], nodes: &[u16], from: usize, bound: u64, first: Option<usize>) -> Option<usize>
+    requires from { from ≤ length stamps.now }
+    requires first { IsNewestBelow stamps.now nodes.now bound from first }
+    ensures { IsNewestBelow stamps.now nodes.now bound (length stamps.now) result }
+{
+    let mut best = first;
+    for place in from..stamps.len() {
+        if stamps[place] <= bound {
+            best = Some(newer(stamps, nodes, best, place));
+        }
+    }
+    best
+}
+
+/// The place of the greatest node beside a stamp.
+fn greatest_place(stamps: &[u64], nodes: &[u16], stamp: u64) -> Option<usize>
+    requires { length nodes.now ≡ length stamps.now }
+    ensures { IsGreatestAt stamps.now nodes.now stamp result }
+{
     let Some(node) = greatest_node(stamps, nodes, stamp) else {
         return None;
     };
     place_of(stamps, nodes, stamp, node)
 }
 
-/// The same, one place after another.
-fn newest_of_few(stamps: &[u64], nodes: &[u16], bound: u64) -> Option<usize>
-    requires { length nodes.now ≡ length stamps.now }
-    ensures { IsNewestPlace stamps.now nodes.now bound result }
+/// Whether the first is a row above the stamp.
+fn is_above(stamps: &[u64], first: Option<usize>, stamp: u64) -> bool
+    ensures { IsTrue result → MatchOption first ⊥ (λ place. stamp < slice_index stamps.now place) }
 {
-    let mut best = None;
-    for place in 0..stamps.len() {
-        best = newer(stamps, nodes, bound, best, place);
+    match first {
+        Some(place) => stamp < stamp_at(stamps, place),
+        None => false,
     }
-    best
 }
 
-/// The newest of the places so far and the next.
-fn newer(
-    stamps: &[u64],
-    nodes: &[u16],
-    bound: u64,
-    best: Option<usize>,
-    place: usize,
-) -> Option<usize>
-    requires inside { place < length stamps.now }
+/// The best with the rows from a place on, by the kernels.
+fn newest_of_many(stamps: &[u64], nodes: &[u16], from: usize, bound: u64, first: Option<usize>) -> Option<usize>
     requires beside { length nodes.now ≡ length stamps.now }
-    requires best { IsNewestBelow stamps.now nodes.now bound place best }
-    ensures { IsNewestBelow stamps.now nodes.now bound (place + 1) result }
+    requires from { from ≤ length stamps.now }
+    requires first { IsNewestBelow stamps.now nodes.now bound from first }
+    ensures { IsNewestBelow stamps.now nodes.now bound (length stamps.now) result }
 {
-    if stamps[place] > bound {
-        return best;
+    let Some(stamp) = newest_at(&stamps[from..], bound) else {
+        return first;
+    };
+    if is_above(stamps, first, stamp) {
+        return first;
     }
-    match best {
-        None => Some(place),
-        Some(other) => {
-            if is_later(stamps[place], nodes[place], stamps[other], nodes[other]) {
-                Some(place)
-            } else {
-                Some(other)
-            }
-        }
+    let Some(place) = greatest_place(&stamps[from..], &nodes[from..], stamp) else {
+        return first;
+    };
+    Some(newer(stamps, nodes, first, from + place))
+}
+
+/// The best with the rows from a place on.
+pub fn newest_from(stamps: &[u64], nodes: &[u16], from: usize, bound: u64, first: Option<usize>) -> Option<usize>
+    requires beside { length nodes.now ≡ length stamps.now }
+    requires from { from ≤ length stamps.now }
+    requires first { IsNewestBelow stamps.now nodes.now bound from first }
+    ensures { IsNewestBelow stamps.now nodes.now bound (length stamps.now) result }
+{
+    if stamps.len() - from < FEW {
+        newest_of_few(stamps, nodes, from, bound, first)
+    } else {
+        newest_of_many(stamps, nodes, from, bound, first)
     }
 }
 
-/// Whether a stamp and a node come after others.
-fn is_later(stamp: u64, node: u16, other_stamp: u64, other_node: u16) -> bool
-    ensures { IsTrue result ↔ ((other_stamp < stamp) ⊎ ((stamp ≡ other_stamp) × (other_node < node))) }
+/// The best of the rows that the index has.
+pub fn newest_indexed(stamps: &[u64], nodes: &[u16], order: &[usize], bound: u64) -> Option<usize>
+    requires { IsIndex stamps.now nodes.now order.now }
+    ensures { IsNewestBelow stamps.now nodes.now bound (length order.now) result }
 {
-    stamp > other_stamp || (stamp == other_stamp && node > other_node)
+    let count = order.partition_point(|place| stamp_at(stamps, *place) <= bound);
+    if count == 0 {
+        return None;
+    }
+    Some(order[count - 1])
 }

@@ -1,0 +1,9 @@
+use Rattle.std.proofs.Common.{◌≡◌, ◌≤◌, ◌+◌, ◌-◌, length}
+use Rattle.hlc_columns.specs.Order.{IsNumbered}
+use Rattle.hlc_columns.proofs.index.add_places.Given as goal
+
+abbrev pub invariant-loop-place : goal.invariant-loop-place
+invariant-loop-place l = record {
+  numbered : IsNumbered l.fn.order.items l.order.items l.place;
+  room : l.count ≤ l.order.cap;
+}

@@ -1,0 +1,22 @@
+use Rattle.std.proofs.Common.{rules, ◌≡◌, ◌≤◌, ◌<◌, ◌∙◌, ℕ, [], List, length, subst, sym, ap, take, arith}
+use Rattle.std.specs.Ordering.{is_lt}
+use Rattle.std.specs.List.Sorted.{IsSortedBy, IsPermutation}
+use Rattle.std.proofs.lemmas.List.{length-take}
+use Rattle.std.proofs.lemmas.Fn.{always_returns_same}
+use Rattle.std.proofs.lemmas.List.Sorted.{ranks_by}
+use Rattle.hlc_columns.specs.Order.{IsIndex, IsNumbered, place_cmp}
+use Rattle.hlc_columns.proofs.Places.{sorted_index, numbered_below, numbered_every, place_order}
+use Rattle.hlc_columns.proofs.index.index_again.Goals as goal
+
+pub returns : goal.returns
+returns c =
+    let ss = c.args.stamps.now in
+    let ns = c.args.nodes.now in
+    let all = c.number.ensures in
+    let xs = c.number.new.order.items in
+    let long = all.1 in
+    let cut = ap length c.truncate.ensures.items in
+    let few = length-take (length ss) c.args.order.now.items in
+    sorted_index ss ns xs c.sort_unstable_by.new.self.items c.sort_unstable_by.ensures.permutation (omega (arith, long, cut, few))
+    (numbered_below [] xs _ all (omega arith) (λ k d lt. absurd (omega (arith, lt)))) (numbered_every [] xs _ all (λ p lt. absurd (omega (arith, lt))))
+    (c.sort_unstable_by.ensures.sorted (λ p q. is_lt (place_cmp ss ns p q)) (ranks_by (place_order ss ns) (λ (p : ℕ). p)) (always_returns_same _ (λ a r. is_lt r ≡ is_lt (place_cmp ss ns a.0.now a.1.0.now)) _ (λ a r f k. search rules)))
