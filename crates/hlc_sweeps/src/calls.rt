@@ -4,7 +4,7 @@ use crate::subject::Subject;
 use hlc_core::{Accepted, Core, CoreFault, Item, Stamp};
 use std::alloc::{AllocError, Global};
 
-/// The acceptance of a fifth row.
+/// The acceptance of a fifth row of a key, whose column grows for it.
 #[derive(Drop)]
 pub struct Accepting {
     core: Core,
@@ -18,15 +18,20 @@ impl Subject for Accepting {
     type State = (Answers, Option<Item>);
 
     fn new(alloc: Global, _line: &[u8]) -> Result<Option<Accepting>, AllocError> {
-        let item = Some(write(alloc, (0, 3, 5), b"d", b"v")?);
-        match stocked(alloc)? {
-            Some(core) => Ok(Some(Accepting { core, item })),
-            None => Ok(None),
+        let item = Some(write(alloc, (0, 5, 6), b"a", b"v")?);
+        let Some(mut core) = stocked(alloc)? else {
+            return Ok(None);
+        };
+        let third = core.accept(write(alloc, (0, 3, 4), b"a", b"u")?);
+        let fourth = core.accept(write(alloc, (0, 4, 5), b"a", b"w")?);
+        if third.is_err() || fourth.is_err() {
+            return Ok(None);
         }
+        Ok(Some(Accepting { core, item }))
     }
 
     fn requests(&self) -> u64 {
-        STOCKED + 2
+        STOCKED + 6
     }
 
     fn call(&mut self) -> Option<Result<Accepted, CoreFault>> {

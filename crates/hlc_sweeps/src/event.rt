@@ -5,14 +5,16 @@ use hlc_world::{Event, Refusal, Reply, World};
 use std::alloc::{AllocError, Global};
 
 /// How many requests `world` makes.
-const MADE: u64 = 30;
+const MADE: u64 = 38;
 
-/// What took place before.
-const PAST: [&[u8]; 18] = [
+/// What took place before. Four rows of key `a` are stored, so that the next one makes its column grow.
+const PAST: [&[u8]; 22] = [
     b"write 0 1 a x",
     b"write 0 2 b y",
     b"write 0 3 a z",
     b"write 1 3 b w",
+    b"write 1 4 a q",
+    b"write 1 5 a r",
     b"send 0 4",
     b"send 0 4",
     b"send 1 4",
@@ -21,12 +23,14 @@ const PAST: [&[u8]; 18] = [
     b"deliver 0 1",
     b"deliver 0 2",
     b"deliver 1 0",
+    b"deliver 1 1",
+    b"deliver 1 2",
     b"report 1 9",
     b"open 1.0",
     b"open 2.0",
     b"open 2.0",
     b"open floor",
-    b"write 0 9 c v",
+    b"write 0 9 a v",
 ];
 
 /// What is asked for. None of it changes anything.
