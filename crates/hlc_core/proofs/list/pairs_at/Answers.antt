@@ -1,7 +1,6 @@
 -- What a key's own column answers is what all columns answer.
-use Rattle.std.proofs.Common.{◌≡◌, ◌++◌, ◌∙◌, ap, ℕ, List, sym}
-use Rattle.std.specs.Prelude.{option_and_then, option_copied}
-use Rattle.hlc_node.specs.declared.row.Row.{Row}
+use Rattle.std.proofs.Common.{◌++◌, ◌∙◌, ap, ℕ, List}
+use Rattle.std.specs.Prelude.{option_copied}
 use Rattle.hlc_node.specs.Rows.{answer}
 use Rattle.hlc_columns.specs.Cells.{Cell}
 use Rattle.hlc_columns.specs.Rows.{rows_of}

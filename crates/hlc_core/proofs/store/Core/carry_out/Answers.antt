@@ -3,7 +3,7 @@ use Rattle.std.proofs.Common.{ap, sym, ◌∙◌, subst, length}
 use Rattle.hlc_snapshot.specs.Register.{stamps}
 use Rattle.hlc_snapshot.specs.Points.{ArePoints}
 use Rattle.hlc_vacuum.specs.declared.report.Report.{Report}
-use Rattle.hlc_core.specs.Past.{open_snapshots, floor}
+use Rattle.hlc_core.specs.Past.{open_snapshots}
 use Rattle.hlc_core.specs.PlanAt.{IsPlanAt}
 use Rattle.hlc_core.proofs.VacuumPoints.{points-last}
 use Rattle.hlc_core.proofs.Held.{held-fewer}
