@@ -1,14 +1,13 @@
--- The best of some rows, and of more.
-use Rattle.std.proofs.Common.{◌≡◌, ℕ, zero, suc, ◌+◌, ◌-◌, ◌<◌, ◌≤◌, List, [], ◌∷◌, Option, Some, None, length, get_or, drop, take, refl, sym, ap, ◌∙◌, subst, ◌⊎◌, inl, inr, arith, Contains, All, slice_get}
+-- The newest of some first places, together with the newest of the rest, is the newest of all; and the newest of all places is the newest row, for it is the first of those that come before no other.
+use Rattle.std.proofs.Common.{◌≡◌, ℕ, ◌+◌, ◌-◌, ◌<◌, ◌≤◌, List, Option, Some, None, length, get_or, drop, take, refl, sym, ap, ◌∙◌, subst, ◌⊎◌, inl, inr, arith}
 use Rattle.std.specs.Prelude.{IfSome, MatchOption}
-use Rattle.std.proofs.lemmas.Bool.{cases_lt, cases_eq}
+use Rattle.std.proofs.lemmas.Bool.{cases_lt}
 use Rattle.std.proofs.lemmas.List.{get_or-drop, get_or_default, length-drop, take_all}
 use Rattle.std.proofs.lemmas.Option.{none-some, same_Some}
-use Rattle.hlc_node.specs.declared.row.Row.{Row}
 use Rattle.hlc_node.specs.Rows.{newest}
 use Rattle.hlc_lanes.specs.Newest.{IsNewest}
 use Rattle.hlc_lanes.specs.Places.{IsGreatestNode, IsPlace}
-use Rattle.hlc_columns.specs.Cells.{Cell, cells_of, AreBeside}
+use Rattle.hlc_columns.specs.Cells.{cells_of, AreBeside}
 use Rattle.hlc_columns.specs.Rows.{rows_of, at_place}
 use Rattle.hlc_columns.proofs.Beside.{newest_found, newest_missing}
 use Rattle.hlc_columns.specs.Newest.{NotAbove, IsNewestBelow, IsGreatestAt}
@@ -17,20 +16,21 @@ pub not_above_itself : (ss ns : List ℕ) (p : ℕ) → NotAbove ss ns p p
 not_above_itself ss ns p = (omega arith, λ e. omega arith, λ e f. omega arith)
 
 pub not_above_trans : (ss ns : List ℕ) (p q r : ℕ) → NotAbove ss ns p q → NotAbove ss ns q r → NotAbove ss ns p r
-not_above_trans ss ns p q r (a, b, c) (d, e, f) =
-    (omega (arith, a, d),
-    λ same.
+not_above_trans ss ns p q r (a, b, c) (d, e, f) = (
+  omega (arith, a, d),
+  λ same.
       let x : get_or ss p 0 ≡ get_or ss q 0 = omega (arith, a, d, same) in
       let y : get_or ss q 0 ≡ get_or ss r 0 = omega (arith, a, d, same) in
       let m = b x in let n = e y in omega (arith, m, n),
-    λ same alike.
+  λ same alike.
       let x : get_or ss p 0 ≡ get_or ss q 0 = omega (arith, a, d, same) in
       let y : get_or ss q 0 ≡ get_or ss r 0 = omega (arith, a, d, same) in
       let m = b x in
       let n = e y in
       let u : get_or ns p 0 ≡ get_or ns q 0 = omega (arith, m, n, alike) in
       let v : get_or ns q 0 ≡ get_or ns r 0 = omega (arith, m, n, alike) in
-      let k = c x u in let l = f y v in omega (arith, k, l))
+      let k = c x u in let l = f y v in omega (arith, k, l),
+)
 
 -- the first stays the best where no further row is above it
 pub best_stays : (ss ns : List ℕ) (bound m n : ℕ) (first : Option ℕ) → IsNewestBelow ss ns bound m first → m ≤ n
@@ -40,11 +40,14 @@ best_stays ss ns bound m n None best le further = λ q lt.
       | inl below ↦ best q below
       | inr above ↦ further q above lt
     ]
-best_stays ss ns bound m n (Some p) (inside, within, top) le further =
-    (omega (arith, inside, le), within, λ q lt seen. elim (cases_lt q m) [
-      | inl below ↦ top q below seen
-      | inr above ↦ further q above lt seen
-    ])
+best_stays ss ns bound m n (Some p) (inside, within, top) le further = (
+  omega (arith, inside, le),
+  within,
+  λ q lt seen. elim (cases_lt q m) [
+    | inl below ↦ top q below seen
+    | inr above ↦ further q above lt seen
+  ],
+)
 
 -- the better of the first and of the best further row
 pub best_joins : (ss ns : List ℕ) (bound m n t r : ℕ) (first : Option ℕ) → IsNewestBelow ss ns bound m first → m ≤ t → t < n → get_or ss t 0 ≤ bound
@@ -52,26 +55,32 @@ pub best_joins : (ss ns : List ℕ) (bound m n t r : ℕ) (first : Option ℕ) �
     → (r ≡ t) ⊎ (first ≡ Some r) → NotAbove ss ns t r → IfSome first (λ p. NotAbove ss ns p r) → IsNewestBelow ss ns bound n (Some r)
 best_joins ss ns bound m n t r None best le lt seen top one later other =
     elim one [
-      | inl is ↦ subst (λ (k : ℕ). IsNewestBelow ss ns bound n (Some k)) (sym is)
-          (lt, seen, λ q l s. elim (cases_lt q m) [
-            | inl below ↦ absurd (let b = best q below in omega (arith, b, s))
-            | inr above ↦ top q above l s
-          ])
+      | inl is ↦ subst (λ (k : ℕ). IsNewestBelow ss ns bound n (Some k)) (sym is) (
+        lt,
+        seen,
+        λ q l s. elim (cases_lt q m) [
+          | inl below ↦ absurd (let b = best q below in omega (arith, b, s))
+          | inr above ↦ top q above l s
+        ],
+      )
       | inr other_one ↦ absurd (none-some r other_one)
     ]
-best_joins ss ns bound m n t r (Some p) (inside, within, greatest) le lt seen top one later other =
-    (elim one [
-      | inl is ↦ subst (λ k. k < n) (sym is) lt
-      | inr is ↦ subst (λ k. k < n) (same_Some p r is) (omega (arith, inside, le, lt))
-    ], elim one [
-      | inl is ↦ subst (λ k. get_or ss k 0 ≤ bound) (sym is) seen
-      | inr is ↦ subst (λ k. get_or ss k 0 ≤ bound) (same_Some p r is) within
-    ], λ q l s. elim (cases_lt q m) [
-      | inl below ↦ not_above_trans ss ns q p r (greatest q below s) other
-      | inr above ↦ not_above_trans ss ns q t r (top q above l s) later
-    ])
+best_joins ss ns bound m n t r (Some p) (inside, within, greatest) le lt seen top one later other = (
+  elim one [
+    | inl is ↦ subst (λ k. k < n) (sym is) lt
+    | inr is ↦ subst (λ k. k < n) (same_Some p r is) (omega (arith, inside, le, lt))
+  ],
+  elim one [
+    | inl is ↦ subst (λ k. get_or ss k 0 ≤ bound) (sym is) seen
+    | inr is ↦ subst (λ k. get_or ss k 0 ≤ bound) (same_Some p r is) within
+  ],
+  λ q l s. elim (cases_lt q m) [
+    | inl below ↦ not_above_trans ss ns q p r (greatest q below s) other
+    | inr above ↦ not_above_trans ss ns q t r (top q above l s) later
+  ],
+)
 
--- ---- the rows from m on, as the kernels see them
+-- the rows from m on, as the kernels see them
 
 rest_at : (xs : List ℕ) (m q : ℕ) → m ≤ q → get_or (drop m xs) (q - m) 0 ≡ get_or xs q 0
 rest_at xs m q le = get_or-drop m xs (q - m) 0 ∙ ap (λ k. get_or xs k 0) (let e : m + (q - m) ≡ q = omega (arith, le) in e)
@@ -109,25 +118,30 @@ top_of_rest ss ns bound m stamp i r first le beside best (member, within, top) (
     let long = length-drop m ss in
     best_joins ss ns bound m (length ss) (m + i) r first best (omega arith) (omega (arith, long, inside, le)) (subst (λ s. s ≤ bound) (sym here) within)
     (λ q from lt seen.
-      let e = rest_at ss m q from in
-      let f = rest_at ns m q from in
-      let l = rest_long ss m q from lt in
-      let b : get_or ss q 0 ≤ stamp = subst (λ s. s ≤ stamp) e (top (q - m) 0 l (subst (λ s. s ≤ bound) (sym e) seen)) in
-      (subst (λ s. get_or ss q 0 ≤ s) (sym here) b,
+    let e = rest_at ss m q from in
+    let f = rest_at ns m q from in
+    let l = rest_long ss m q from lt in
+    let b : get_or ss q 0 ≤ stamp = subst (λ s. s ≤ stamp) e (top (q - m) 0 l (subst (λ s. s ≤ bound) (sym e) seen)) in (
+      subst (λ s. get_or ss q 0 ≤ s) (sym here) b,
       λ same. subst (λ n. n ≤ get_or ns (m + i) 0) f (subst (λ n. get_or (drop m ns) (q - m) 0 ≤ n) node (great (q - m) l (e ∙ same ∙ here)).0),
-      λ same alike. let h = (great (q - m) l (e ∙ same ∙ here)).1 (f ∙ alike ∙ sym node) in omega (arith, h, from)))
+      λ same alike. let h = (great (q - m) l (e ∙ same ∙ here)).1 (f ∙ alike ∙ sym node) in omega (arith, h, from),
+    ))
     one later other
 
 -- what the kernels find of one stamp
 pub top_found : (ss ns : List ℕ) (stamp node : ℕ) (place : Option ℕ) → IsGreatestNode ss ns stamp (Some node) → IsPlace ss ns stamp node place → IsGreatestAt ss ns stamp place
 top_found ss ns stamp node None (holds, great) nowhere = absurd (nowhere holds.0 (omega arith) holds.1 holds.2 holds.3)
-top_found ss ns stamp node (Some i) (holds, great) (from, l, is_stamp, is_node, nowhere) =
-    (l, is_stamp, λ p lt same.
-      (subst (λ n. get_or ns p 0 ≤ n) (sym is_node) (great p lt same),
-      λ alike. elim (cases_lt p i) [
-        | inl below ↦ absurd (nowhere p (omega arith) below same (alike ∙ is_node))
-        | inr above ↦ above
-      ]))
+top_found ss ns stamp node (Some i) (holds, great) (from, l, is_stamp, is_node, nowhere) = (
+  l,
+  is_stamp,
+  λ p lt same. (
+    subst (λ n. get_or ns p 0 ≤ n) (sym is_node) (great p lt same),
+    λ alike. elim (cases_lt p i) [
+      | inl below ↦ absurd (nowhere p (omega arith) below same (alike ∙ is_node))
+      | inr above ↦ above
+    ],
+  ),
+)
 
 -- the best of all rows is the newest
 pub best_is_newest : (ss ns : List ℕ) (vs : List (Option (List ℕ))) (bound : ℕ) (place : Option ℕ) → AreBeside ss ns vs → IsNewestBelow ss ns bound (length ss) place
@@ -135,9 +149,11 @@ pub best_is_newest : (ss ns : List ℕ) (vs : List (Option (List ℕ))) (bound :
 best_is_newest ss ns vs bound None b above =
     (tt, λ key. sym (newest_missing ss ns vs bound (λ j d lt. subst (λ s. bound < s) (get_or_default ss j 0 d lt) (above j lt)) key))
 best_is_newest ss ns vs bound (Some i) b (inside, within, top) =
-    newest_found ss ns vs bound (get_or ss i 0) (get_or ns i 0) i b
-    ((i, inside, sym (get_or_default ss i 0 (get_or ss i 0) inside)), within,
-    λ j d lt seen. let e = get_or_default ss j 0 d lt in subst (λ s. s ≤ get_or ss i 0) e (top j lt (subst (λ s. s ≤ bound) (sym e) seen)).0)
+    newest_found ss ns vs bound (get_or ss i 0) (get_or ns i 0) i b (
+      (i, inside, sym (get_or_default ss i 0 (get_or ss i 0) inside)),
+      within,
+      λ j d lt seen. let e = get_or_default ss j 0 d lt in subst (λ s. s ≤ get_or ss i 0) e (top j lt (subst (λ s. s ≤ bound) (sym e) seen)).0,
+    )
     ((i, inside, refl, refl), λ j lt same. (top j lt (subst (λ s. s ≤ bound) (sym same) within)).1 same)
     (omega arith, inside, refl, refl, λ k from below same alike. let h = (top k (omega (arith, below, inside)) (subst (λ s. s ≤ bound) (sym same) within)).2 same alike in omega (arith, h, below))
 

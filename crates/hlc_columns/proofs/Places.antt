@@ -1,12 +1,11 @@
--- An index of places.
-use Rattle.std.proofs.Common.{◌≡◌, ℕ, zero, suc, ◌+◌, ◌-◌, ◌<◌, ◌≤◌, Bool, true, false, List, [], ◌∷◌, ◌++◌, Option, Some, None, length, get_or, take, drop, refl, sym, ap, ◌∙◌, subst, ◌⊎◌, inl, inr, arith, Contains, All, true≢false, cond, eqb, leb, ltb, IsTrue}
-use Rattle.std.specs.Prelude.{IfSome, MatchOption}
+-- An index: what stands in it, what the binary search finds there, and how it stays one when rows are added. Its order is a total one, so what is sorted rises.
+use Rattle.std.proofs.Common.{◌≡◌, ℕ, ◌+◌, ◌-◌, ◌<◌, ◌≤◌, true, false, List, [], ◌∷◌, ◌++◌, Some, None, length, get_or, take, drop, refl, sym, ap, ◌∙◌, subst, inl, inr, arith, Contains, All, true≢false, leb, ltb}
 use Rattle.std.specs.List.Sorted.{IsPartitionedBy, IsPartitionPoint, IsPermutation, IsSortedBy}
 use Rattle.std.specs.Cmp.{IsTotalOrder}
 use Rattle.std.specs.Ordering.{nat_cmp, ordering_then, is_lt, MatchOrdering}
 use Rattle.std.specs.declared.cmp.Ordering.TheVariants.{Less, Equal, Greater}
 use Rattle.std.proofs.lemmas.Cmp.{then_total, on_total, back_total, nat_cmp_total, ranked}
-use Rattle.std.proofs.lemmas.Bool.{cases_lt, cases_eq}
+use Rattle.std.proofs.lemmas.Bool.{cases_lt}
 use Rattle.std.proofs.lemmas.Bool.Decides.{nat_tests}
 use Rattle.std.proofs.lemmas.List.{get_or_default, get_or_append_left, get_or-append_right, get_or-take, get_or-drop, length-drop, length-take-le, take-append-le, take-append-drop, length_push, get_or_push, length-append, append_assoc, append-nil}
 use Rattle.std.proofs.lemmas.List.Sorted.{All-permutation, Contains-permutation, IsPermutation-append_right, length_permutation, sorted_far, ranks_by}
@@ -46,17 +45,19 @@ pub last_indexed : (ss ns order : List ℕ) (bound count : ℕ) → IsIndex ss n
     → IsPartitionPoint (λ p. leb (get_or ss p 0) bound ≡ true) (λ p. leb (get_or ss p 0) bound ≡ false) order count → IsNewestBelow ss ns bound (length order) (Some (get_or order (count - 1) 0))
 last_indexed ss ns order bound count (long, below, every, rises) some inside (front, back) =
     let l : count - 1 < length order = omega (arith, some, inside) in
-    let seen = front (count - 1) 0 (omega arith) (omega (arith, some)) in
-    (below (count - 1) 0 l, (let s = seen in grind (arith, nat_tests)),
-    λ p lt within.
-      let m = every p lt in
-      let at : get_or order m.0 0 ≡ p = get_or_default order m.0 0 p m.1 ∙ m.2 in
-      elim (cases_lt m.0 count) [
-        | inl before ↦ subst (λ (q : ℕ). NotAbove ss ns q (get_or order (count - 1) 0)) at (rises m.0 (count - 1) (omega (arith, before)) l)
-        | inr after ↦ absurd (let h = subst (λ (q : ℕ). leb (get_or ss q 0) bound ≡ false) at (back m.0 0 after m.1) in grind (arith, nat_tests))
-      ])
+    let seen = front (count - 1) 0 (omega arith) (omega (arith, some)) in (
+      below (count - 1) 0 l,
+      (let s = seen in grind (arith, nat_tests)),
+      λ p lt within.
+          let m = every p lt in
+          let at : get_or order m.0 0 ≡ p = get_or_default order m.0 0 p m.1 ∙ m.2 in
+          elim (cases_lt m.0 count) [
+            | inl before ↦ subst (λ (q : ℕ). NotAbove ss ns q (get_or order (count - 1) 0)) at (rises m.0 (count - 1) (omega (arith, before)) l)
+            | inr after ↦ absurd (let h = subst (λ (q : ℕ). leb (get_or ss q 0) bound ≡ false) at (back m.0 0 after m.1) in grind (arith, nat_tests))
+          ],
+    )
 
--- ---- the order of the index
+-- the order of the index
 
 pub place_order : (ss ns : List ℕ) → IsTotalOrder (place_cmp ss ns)
 place_order ss ns = then_total (then_total (on_total (λ p. get_or ss p 0) nat_cmp_total) (on_total (λ p. get_or ns p 0) nat_cmp_total)) (back_total nat_cmp_total)
@@ -86,9 +87,12 @@ sorted_rises ss ns order sorted i j le lt =
 pub risen_index : (ss ns xs ys : List ℕ) → IsPermutation xs ys → length xs ≤ length ss → All (λ p. p < length xs) xs → ((p : ℕ) → p < length xs → Contains xs p)
     → Rises ss ns ys → IsIndex ss ns ys
 risen_index ss ns xs ys moved long below every rises =
-    let same : length ys ≡ length xs = length_permutation xs ys moved in
-    (omega (arith, same, long), subst (λ (n : ℕ). All (λ p. p < n) ys) (sym same) (All-permutation (λ p. p < length xs) xs ys moved below),
-    λ p lt. Contains-permutation xs ys p moved (every p (omega (arith, lt, same))), rises)
+    let same : length ys ≡ length xs = length_permutation xs ys moved in (
+      omega (arith, same, long),
+      subst (λ (n : ℕ). All (λ p. p < n) ys) (sym same) (All-permutation (λ p. p < length xs) xs ys moved below),
+      λ p lt. Contains-permutation xs ys p moved (every p (omega (arith, lt, same))),
+      rises,
+    )
 
 -- a rising front below a stamp, and a rising tail that is not
 pub joined_rises : (ss ns front tail : List ℕ) (stamp : ℕ) → Rises ss ns front → Rises ss ns tail → ((i : ℕ) → i < length front → get_or ss (get_or front i 0) 0 < stamp)
@@ -153,12 +157,14 @@ pub numbered_nothing : (old : List ℕ) → IsNumbered old old (length old)
 numbered_nothing old = (([], sym (append-nil old)), refl, λ p le lt. absurd (omega (arith, le, lt)))
 
 pub numbered_more : (old new : List ℕ) (count : ℕ) → IsNumbered old new count → IsNumbered old (new ++ count ∷ []) (count + 1)
-numbered_more old new count (front, long, numbers) =
-    ((front.0 ++ count ∷ [], ap (λ (l : List ℕ). l ++ count ∷ []) front.1 ∙ append_assoc old front.0 (count ∷ [])), length_push new count ∙ ap (λ n. n + 1) long,
-    λ p le lt. elim (cases_lt p count) [
-      | inl below ↦ get_or_append_left new (count ∷ []) 0 p (omega (arith, below, long)) ∙ numbers p le below
-      | inr here ↦ let e : p ≡ count = omega (arith, lt, here) in get_or_push new count 0 p (long ∙ sym e) ∙ sym e
-    ])
+numbered_more old new count (front, long, numbers) = (
+  (front.0 ++ count ∷ [], ap (λ (l : List ℕ). l ++ count ∷ []) front.1 ∙ append_assoc old front.0 (count ∷ [])),
+  length_push new count ∙ ap (λ n. n + 1) long,
+  λ p le lt. elim (cases_lt p count) [
+    | inl below ↦ get_or_append_left new (count ∷ []) 0 p (omega (arith, below, long)) ∙ numbers p le below
+    | inr here ↦ let e : p ≡ count = omega (arith, lt, here) in get_or_push new count 0 p (long ∙ sym e) ∙ sym e
+  ],
+)
 
 -- where all places were numbered and those from one on sorted, which are the places of all rows that are not below a stamp
 pub tail_index : (ss ns order all tail : List ℕ) (from least : ℕ) → IsIndex ss ns order → IsNumbered order all (length ss) → from ≤ length order
@@ -175,64 +181,68 @@ tail_index ss ns order all tail from least (room, below, every, rises) numbered 
     (omega (arith, long)) (numbered_below order all (length ss) numbered room below) (numbered_every order all (length ss) numbered every)
     (subst (λ (xs : List ℕ). Rises ss ns (xs ++ tail)) (sym front)
     (joined_rises ss ns (take from order) tail least
-      (λ i j le lt. subst (λ (p : ℕ). NotAbove ss ns p (get_or (take from order) j 0)) (sym (at i (omega (arith, le, lt))))
-        (subst (λ (q : ℕ). NotAbove ss ns (get_or order i 0) q) (sym (at j lt)) (rises i j le (omega (arith, lt, few, fits)))))
-      risen (λ i lt. subst (λ (p : ℕ). get_or ss p 0 < least) (sym (at i lt)) (under i (omega (arith, lt, few))))
-      (All-permutation (λ p. least ≤ get_or ss p 0) (drop from all) tail moved (λ k d lt.
-        let wide = length-drop from all in
-        subst (λ (p : ℕ). least ≤ get_or ss p 0) (sym (get_or-drop from all k d))
-        (elim (cases_lt (from + k) (length order)) [
-          | inl before ↦
-              subst (λ (p : ℕ). least ≤ get_or ss p 0)
-              (sym (ap (λ (l : List ℕ). get_or l (from + k) d) rest.1 ∙ get_or_append_left order rest.0 d (from + k) before ∙ sym (get_or_default order (from + k) 0 d before)))
-              (over (from + k) (omega arith) before)
-          | inr after ↦
-              let inside : from + k < length all = omega (arith, lt, wide) in
-              subst (λ (p : ℕ). least ≤ get_or ss p 0) (sym (sym (get_or_default all (from + k) 0 d inside) ∙ numbers (from + k) after (omega (arith, inside, long))))
-              (new (from + k) after (omega (arith, inside, long)))
-        ])))))
+    (λ i j le lt. subst (λ (p : ℕ). NotAbove ss ns p (get_or (take from order) j 0)) (sym (at i (omega (arith, le, lt))))
+    (subst (λ (q : ℕ). NotAbove ss ns (get_or order i 0) q) (sym (at j lt)) (rises i j le (omega (arith, lt, few, fits)))))
+    risen (λ i lt. subst (λ (p : ℕ). get_or ss p 0 < least) (sym (at i lt)) (under i (omega (arith, lt, few))))
+    (All-permutation (λ p. least ≤ get_or ss p 0) (drop from all) tail moved (λ k d lt.
+    let wide = length-drop from all in
+    subst (λ (p : ℕ). least ≤ get_or ss p 0) (sym (get_or-drop from all k d))
+    (elim (cases_lt (from + k) (length order)) [
+      | inl before ↦
+          subst (λ (p : ℕ). least ≤ get_or ss p 0)
+          (sym (ap (λ (l : List ℕ). get_or l (from + k) d) rest.1 ∙ get_or_append_left order rest.0 d (from + k) before ∙ sym (get_or_default order (from + k) 0 d before)))
+          (over (from + k) (omega arith) before)
+      | inr after ↦
+          let inside : from + k < length all = omega (arith, lt, wide) in
+          subst (λ (p : ℕ). least ≤ get_or ss p 0) (sym (sym (get_or_default all (from + k) 0 d inside) ∙ numbers (from + k) after (omega (arith, inside, long))))
+          (new (from + k) after (omega (arith, inside, long)))
+    ])))))
 
 -- the next place goes last where it is above the last
 pub pushed_index : (ss ns order : List ℕ) → IsIndex ss ns order → length order < length ss → 0 < length order → NotAbove ss ns (get_or order (length order - 1) 0) (length order) → IsIndex ss ns (order ++ length order ∷ [])
 pushed_index ss ns order (long, below, every, rises) room some last =
     let n = length order in
-    let same = length_push order n in
-    (omega (arith, same, room),
-    λ k d lt. elim (cases_lt k n) [
-      | inl before ↦ let e = get_or_append_left order (n ∷ []) d k before in let h = below k d before in omega (arith, same, e, h)
-      | inr after ↦ let e = get_or_push order n d k (omega (arith, lt, same, after)) in omega (arith, same, e)
-    ],
-    λ p lt. elim (cases_lt p n) [
-      | inl before ↦ let m = every p before in let l = m.1 in (m.0, omega (arith, l, same), get_or_append_left order (n ∷ []) p m.0 m.1 ∙ m.2)
-      | inr after ↦ (n, omega (arith, same), get_or_push order n p n refl ∙ (let e : n ≡ p = omega (arith, lt, same, after) in e))
-    ],
-    λ i j le lt. elim (cases_lt j n) [
-      | inl before ↦
-          subst (λ (p : ℕ). NotAbove ss ns p (get_or (order ++ n ∷ []) j 0)) (sym (get_or_append_left order (n ∷ []) 0 i (omega (arith, le, before))))
-          (subst (λ (q : ℕ). NotAbove ss ns (get_or order i 0) q) (sym (get_or_append_left order (n ∷ []) 0 j before)) (rises i j le before))
-      | inr after ↦
-          subst (λ (q : ℕ). NotAbove ss ns (get_or (order ++ n ∷ []) i 0) q) (sym (get_or_push order n 0 j (omega (arith, lt, same, after))))
-          (elim (cases_lt i n) [
-            | inl inside ↦ subst (λ (p : ℕ). NotAbove ss ns p n) (sym (get_or_append_left order (n ∷ []) 0 i inside))
-                (not_above_trans ss ns (get_or order i 0) (get_or order (n - 1) 0) n (rises i (n - 1) (omega (arith, inside)) (omega (arith, some))) last)
-            | inr end ↦ subst (λ (p : ℕ). NotAbove ss ns p n) (sym (get_or_push order n 0 i (omega (arith, le, lt, same, end)))) (not_above_itself ss ns n)
-          ])
-    ])
+    let same = length_push order n in (
+      omega (arith, same, room),
+      λ k d lt. elim (cases_lt k n) [
+        | inl before ↦ let e = get_or_append_left order (n ∷ []) d k before in let h = below k d before in omega (arith, same, e, h)
+        | inr after ↦ let e = get_or_push order n d k (omega (arith, lt, same, after)) in omega (arith, same, e)
+      ],
+      λ p lt. elim (cases_lt p n) [
+        | inl before ↦ let m = every p before in let l = m.1 in (m.0, omega (arith, l, same), get_or_append_left order (n ∷ []) p m.0 m.1 ∙ m.2)
+        | inr after ↦ (n, omega (arith, same), get_or_push order n p n refl ∙ (let e : n ≡ p = omega (arith, lt, same, after) in e))
+      ],
+      λ i j le lt. elim (cases_lt j n) [
+        | inl before ↦
+            subst (λ (p : ℕ). NotAbove ss ns p (get_or (order ++ n ∷ []) j 0)) (sym (get_or_append_left order (n ∷ []) 0 i (omega (arith, le, before))))
+            (subst (λ (q : ℕ). NotAbove ss ns (get_or order i 0) q) (sym (get_or_append_left order (n ∷ []) 0 j before)) (rises i j le before))
+        | inr after ↦
+            subst (λ (q : ℕ). NotAbove ss ns (get_or (order ++ n ∷ []) i 0) q) (sym (get_or_push order n 0 j (omega (arith, lt, same, after))))
+            (elim (cases_lt i n) [
+              | inl inside ↦ subst (λ (p : ℕ). NotAbove ss ns p n) (sym (get_or_append_left order (n ∷ []) 0 i inside))
+                  (not_above_trans ss ns (get_or order i 0) (get_or order (n - 1) 0) n (rises i (n - 1) (omega (arith, inside)) (omega (arith, some))) last)
+              | inr end ↦ subst (λ (p : ℕ). NotAbove ss ns p n) (sym (get_or_push order n 0 i (omega (arith, le, lt, same, end)))) (not_above_itself ss ns n)
+            ])
+      ],
+    )
 
 -- an index of some rows is one of more
 pub index_of_more : (ss ns order : List ℕ) (s n : ℕ) → length ns ≡ length ss → IsIndex ss ns order → IsIndex (ss ++ s ∷ []) (ns ++ n ∷ []) order
 index_of_more ss ns order s n beside (long, below, every, rises) =
-    let wide = length_push ss s in
-    (omega (arith, wide, long), below, every,
-    λ i j le lt.
-      let li = below i 0 (omega (arith, le, lt)) in
-      let lj = below j 0 lt in
-      let (a, b, c) = rises i j le lt in
-      let si = get_or_append_left ss (s ∷ []) 0 (get_or order i 0) (omega (arith, li, long)) in
-      let sj = get_or_append_left ss (s ∷ []) 0 (get_or order j 0) (omega (arith, lj, long)) in
-      let ni = get_or_append_left ns (n ∷ []) 0 (get_or order i 0) (omega (arith, li, long, beside)) in
-      let nj = get_or_append_left ns (n ∷ []) 0 (get_or order j 0) (omega (arith, lj, long, beside)) in
-      (omega (arith, a, si, sj), λ x. let h = b (sym si ∙ x ∙ sj) in omega (arith, h, ni, nj), λ x y. c (sym si ∙ x ∙ sj) (sym ni ∙ y ∙ nj)))
+    let wide = length_push ss s in (
+      omega (arith, wide, long),
+      below,
+      every,
+      λ i j le lt.
+          let li = below i 0 (omega (arith, le, lt)) in
+          let lj = below j 0 lt in
+          let (a, b, c) = rises i j le lt in
+          let si = get_or_append_left ss (s ∷ []) 0 (get_or order i 0) (omega (arith, li, long)) in
+          let sj = get_or_append_left ss (s ∷ []) 0 (get_or order j 0) (omega (arith, lj, long)) in
+          let ni = get_or_append_left ns (n ∷ []) 0 (get_or order i 0) (omega (arith, li, long, beside)) in
+          let nj = get_or_append_left ns (n ∷ []) 0 (get_or order j 0) (omega (arith, lj, long, beside)) in
+          (omega (arith, a, si, sj), λ x. let h = b (sym si ∙ x ∙ sj) in omega (arith, h, ni, nj), λ x y. c (sym si ∙ x ∙ sj) (sym ni ∙ y ∙ nj)),
+    )
 
 pub index_as : (ss ns rs ms order : List ℕ) → rs ≡ ss → ms ≡ ns → IsIndex ss ns order → IsIndex rs ms order
 index_as ss ns rs ms order e f i = subst (λ (l : List ℕ). IsIndex l ms order) (sym e) (subst (λ (l : List ℕ). IsIndex ss l order) (sym f) i)

@@ -21,5 +21,5 @@ IsGreatestAt stamps nodes stamp None = (p : ℕ) → p < length stamps → slice
 IsGreatestAt stamps nodes stamp (Some place) =
     (place < length stamps) × (slice_index stamps place ≡ stamp)
     × ((p : ℕ) → p < length stamps → slice_index stamps p ≡ stamp
-      → (slice_index nodes p ≤ slice_index nodes place)
-      × (slice_index nodes p ≡ slice_index nodes place → place ≤ p))
+    → (slice_index nodes p ≤ slice_index nodes place)
+    × (slice_index nodes p ≡ slice_index nodes place → place ≤ p))

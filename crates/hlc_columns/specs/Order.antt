@@ -21,8 +21,8 @@ abbrev pub place_cmp : List ℕ → List ℕ → ℕ → ℕ → Ordering
 place_cmp stamps nodes p q =
     ordering_then
     (ordering_then
-      (nat_cmp (slice_index stamps p) (slice_index stamps q))
-      (nat_cmp (slice_index nodes p) (slice_index nodes q)))
+    (nat_cmp (slice_index stamps p) (slice_index stamps q))
+    (nat_cmp (slice_index nodes p) (slice_index nodes q)))
     (nat_cmp q p)
 
 -- new is old, and then the places from its length on up to a count

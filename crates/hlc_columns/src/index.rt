@@ -1,4 +1,5 @@
-//! The index of a hot key: places of its first rows, in the order of their stamps and nodes.
+//! The index of a key of many rows: the places of its first rows, in the order of their stamps and
+//! nodes. It only makes reads fast, so want of memory leaves it as it was.
 ghost use Rattle.std.specs.Prelude.{◌≡◌, ◌≤◌, ◌<◌, ◌+◌, ◌++◌, [], ℕ, IsTrue, IfOk, length, take, drop, slice_index, false};
 ghost use Rattle.std.specs.List.Sorted.{IsPermutation};
 ghost use Rattle.hlc_columns.specs.Order.{Rises, IsIndex, IsNumbered, place_cmp};
@@ -7,36 +8,43 @@ use crate::newest::{is_below, node_at, stamp_at};
 use std::alloc::AllocError;
 use std::cmp::Ordering;
 
-/// At most so many rows, and one for each `SHARE` of the index, stand outside of it.
+/// So many rows, and one more for each `SHARE` rows of the index, may stand behind it.
 const LEAST: usize = 64;
+
 const SHARE: usize = 256;
 
-/// How two rows stand in the index.
-fn compare(stamps: &[u64], nodes: &[u16], place: usize, other: usize) -> Ordering
+/// No place of the index is above this.
+const MOST: usize = 4294967295;
+
+/// How two rows stand in the index: by stamp, then by node, and then the later one first.
+fn compare(stamps: &[u64], nodes: &[u16], place: u32, other: u32) -> Ordering
     ensures { result ≡ place_cmp stamps.now nodes.now place other }
 {
-    let by_stamp = stamp_at(stamps, place).cmp(&stamp_at(stamps, other));
-    let by_node = node_at(nodes, place).cmp(&node_at(nodes, other));
+    let by_stamp = stamp_at(stamps, place as usize).cmp(&stamp_at(stamps, other as usize));
+    let by_node = node_at(nodes, place as usize).cmp(&node_at(nodes, other as usize));
     by_stamp.then(by_node).then(other.cmp(&place))
 }
 
-/// Adds the places up to a count, if there is memory.
-fn add_places(order: &mut Vec<usize>, count: usize) -> bool
+/// Adds the places up to a count, and says whether there was memory.
+fn add_places(order: &mut Vec<u32>, count: usize) -> bool
     requires { length order.old.items ≤ count }
     ensures yes { IsTrue result → IsNumbered order.old.items order.new.items count }
     ensures no { result ≡ false → order.new.items ≡ order.old.items }
 {
+    if count > MOST {
+        return false;
+    }
     let from = order.len();
     let Ok(()) = order.reserve(count - from) else {
         return false;
     };
     for place in from..count {
-        order.push_reserved(place);
+        order.push_reserved(place as u32);
     }
     true
 }
 
-/// A stamp that no row from a place on is below: the least of theirs.
+/// The least stamp from a place on.
 fn least_from(stamps: &[u64], from: usize) -> u64
     ensures { (p : ℕ) → from ≤ p → p < length stamps.now → result ≤ slice_index stamps.now p }
 {
@@ -49,24 +57,24 @@ fn least_from(stamps: &[u64], from: usize) -> u64
     least
 }
 
-/// How many rows of the index are below a stamp: they stand in front.
-fn count_below(stamps: &[u64], nodes: &[u16], order: &[usize], stamp: u64) -> usize
+/// How many rows of the index are below a stamp. They stand in front.
+fn count_below(stamps: &[u64], nodes: &[u16], order: &[u32], stamp: u64) -> usize
     requires { IsIndex stamps.now nodes.now order.now }
     ensures few { result ≤ length order.now }
     ensures below { (i : ℕ) → i < result → slice_index stamps.now (slice_index order.now i) < stamp }
     ensures above { (i : ℕ) → result ≤ i → i < length order.now
         → stamp ≤ slice_index stamps.now (slice_index order.now i) }
 {
-    order.partition_point(|place| stamp_at(stamps, *place) < stamp)
+    order.partition_point(|place| stamp_at(stamps, *place as usize) < stamp)
 }
 
-/// The places from one of the list on, sorted. It is refused where memory lacks.
+/// The end of the list of places, sorted.
 fn sorted_tail(
-    order: &Vec<usize>,
+    order: &Vec<u32>,
     from: usize,
     stamps: &[u64],
     nodes: &[u16],
-) -> Result<Vec<usize>, AllocError>
+) -> Result<Vec<u32>, AllocError>
     requires { from ≤ length order.now.items }
     ensures same { IfOk result (λ tail. IsPermutation (drop from order.now.items) tail.items) }
     ensures rises { IfOk result (λ tail. Rises stamps.now nodes.now tail.items) }
@@ -76,8 +84,8 @@ fn sorted_tail(
     Ok(tail)
 }
 
-/// Puts as many other places in the stead of those from one on.
-fn replace_tail(order: &mut Vec<usize>, from: usize, tail: Vec<usize>)
+/// Replaces the end of the list by another that is as long. It takes no memory.
+fn replace_tail(order: &mut Vec<u32>, from: usize, tail: Vec<u32>)
     requires from { from ≤ length order.old.items }
     requires alike { from + length tail.items ≡ length order.old.items }
     ensures { order.new.items ≡ take from order.old.items ++ tail.items }
@@ -87,9 +95,9 @@ fn replace_tail(order: &mut Vec<usize>, from: usize, tail: Vec<usize>)
     let _ = order.append(&mut tail);
 }
 
-/// Takes all rows into the index, if there is memory. Just the rows from the least stamp of the
-/// new ones on are sorted.
-fn index_all(order: &mut Vec<usize>, stamps: &[u64], nodes: &[u16])
+/// Takes all rows into the index, if there is memory. It sorts only from the least of the new
+/// stamps on.
+fn index_all(order: &mut Vec<u32>, stamps: &[u64], nodes: &[u16])
     requires { IsIndex stamps.now nodes.now order.old.items }
     ensures { IsIndex stamps.now nodes.now order.new.items }
 {
@@ -107,19 +115,20 @@ fn index_all(order: &mut Vec<usize>, stamps: &[u64], nodes: &[u16])
 }
 
 /// Takes the next row into the index where it is above all that are there, if there is memory.
-fn index_next(order: &mut Vec<usize>, stamps: &[u64], nodes: &[u16])
+fn index_next(order: &mut Vec<u32>, stamps: &[u64], nodes: &[u16])
     requires index { IsIndex stamps.now nodes.now order.old.items }
     requires one { length order.old.items < length stamps.now }
     ensures { IsIndex stamps.now nodes.now order.new.items }
 {
     let count = order.len();
-    if count > 0 && is_below(stamps, nodes, order[count - 1], count) {
-        let _ = order.push(count);
+    if count > 0 && count < MOST && is_below(stamps, nodes, order[count - 1] as usize, count) {
+        let _ = order.push(count as u32);
     }
 }
 
-/// After a row was added: takes it into the index if that is cheap, or all rows if many stand outside.
-pub fn extend_index(order: &mut Vec<usize>, stamps: &[u64], nodes: &[u16])
+/// Extends the index after a row was added: by that row where it is the only one outside and above
+/// all others, and else by all rows once many stand outside.
+pub(crate) fn extend_index(order: &mut Vec<u32>, stamps: &[u64], nodes: &[u16])
     requires { IsIndex stamps.now nodes.now order.old.items }
     ensures { IsIndex stamps.now nodes.now order.new.items }
 {
@@ -132,20 +141,25 @@ pub fn extend_index(order: &mut Vec<usize>, stamps: &[u64], nodes: &[u16])
     }
 }
 
-/// Writes each place's number there.
-fn number(order: &mut Vec<usize>)
+/// Makes the list that of the first places.
+fn number(order: &mut Vec<u32>)
+    requires { length order.old.items ≤ 4294967295 }
     ensures { IsNumbered [] order.new.items (length order.old.items) }
 {
     for place in 0..order.len() {
-        order[place] = place;
+        order[place] = place as u32;
     }
 }
 
-/// After rows were dropped: an index of as many rows as there is room for. It takes no memory.
-pub fn index_again(order: &mut Vec<usize>, stamps: &[u64], nodes: &[u16])
+/// Makes the index anew after rows were dropped, of no more rows than it had. It takes no memory.
+pub(crate) fn index_again(order: &mut Vec<u32>, stamps: &[u64], nodes: &[u16])
     ensures { IsIndex stamps.now nodes.now order.new.items }
 {
-    order.truncate(stamps.len());
+    if stamps.len() <= LEAST {
+        order.clear();
+        return;
+    }
+    order.truncate(stamps.len().min(MOST));
     number(order);
     order.sort_unstable_by(|place, other| compare(stamps, nodes, *place, *other));
 }

@@ -1,15 +1,15 @@
-//! The greatest row at or below a bound.
+//! The place of the newest of some stamps and nodes, which stand side by side.
 ghost use Rattle.std.specs.Prelude.{◌≡◌, ◌≤◌, ◌<◌, ◌⊎◌, ℕ, IsTrue, Some, IfSome, MatchOption, length, slice_index, false};
 ghost use Rattle.hlc_columns.specs.Newest.{NotAbove, IsNewestBelow, IsGreatestAt};
 ghost use Rattle.hlc_columns.specs.Order.{IsIndex};
 
 use hlc_lanes::{greatest_node, newest_at, place_of};
 
-/// Fewer rows than these are compared one by one.
+/// Below so many rows one plain pass is faster than three by the kernels.
 const FEW: usize = 16;
 
 /// The stamp at a place, 0 where there is none.
-pub fn stamp_at(stamps: &[u64], place: usize) -> u64
+pub(crate) fn stamp_at(stamps: &[u64], place: usize) -> u64
     ensures { result ≡ slice_index stamps.now place }
 {
     match stamps.get(place) {
@@ -19,7 +19,7 @@ pub fn stamp_at(stamps: &[u64], place: usize) -> u64
 }
 
 /// The node at a place, 0 where there is none.
-pub fn node_at(nodes: &[u16], place: usize) -> u16
+pub(crate) fn node_at(nodes: &[u16], place: usize) -> u16
     ensures { result ≡ slice_index nodes.now place }
 {
     match nodes.get(place) {
@@ -29,7 +29,7 @@ pub fn node_at(nodes: &[u16], place: usize) -> u16
 }
 
 /// Whether a row is below one that came later.
-pub fn is_below(stamps: &[u64], nodes: &[u16], place: usize, later: usize) -> bool
+pub(crate) fn is_below(stamps: &[u64], nodes: &[u16], place: usize, later: usize) -> bool
     requires { place < later }
     ensures below { IsTrue result → NotAbove stamps.now nodes.now place later }
     ensures above { result ≡ false → NotAbove stamps.now nodes.now later place }
@@ -39,7 +39,7 @@ pub fn is_below(stamps: &[u64], nodes: &[u16], place: usize, later: usize) -> bo
     stamp < other || stamp == other && node_at(nodes, place) < node_at(nodes, later)
 }
 
-/// The better of the best so far and a later row.
+/// The newer of the best so far and a later row, and the best of two that are alike.
 fn newer(stamps: &[u64], nodes: &[u16], best: Option<usize>, later: usize) -> usize
     requires { IfSome best (λ place. place < later) }
     ensures one { (result ≡ later) ⊎ (best ≡ Some result) }
@@ -52,8 +52,14 @@ fn newer(stamps: &[u64], nodes: &[u16], best: Option<usize>, later: usize) -> us
     }
 }
 
-/// The best with the rows from a place on, one by one.
-fn newest_of_few(stamps: &[u64], nodes: &[u16], from: usize, bound: u64, first: Option<usize>) -> Option<usize>
+/// The newest of the first and of the rows from a place on, one after another.
+fn newest_of_few(
+    stamps: &[u64],
+    nodes: &[u16],
+    from: usize,
+    bound: u64,
+    first: Option<usize>,
+) -> Option<usize>
     requires from { from ≤ length stamps.now }
     requires first { IsNewestBelow stamps.now nodes.now bound from first }
     ensures { IsNewestBelow stamps.now nodes.now bound (length stamps.now) result }
@@ -67,7 +73,7 @@ fn newest_of_few(stamps: &[u64], nodes: &[u16], from: usize, bound: u64, first: 
     best
 }
 
-/// The place of the greatest node beside a stamp.
+/// The first place of the greatest node beside a stamp.
 fn greatest_place(stamps: &[u64], nodes: &[u16], stamp: u64) -> Option<usize>
     requires { length nodes.now ≡ length stamps.now }
     ensures { IsGreatestAt stamps.now nodes.now stamp result }
@@ -78,7 +84,7 @@ fn greatest_place(stamps: &[u64], nodes: &[u16], stamp: u64) -> Option<usize>
     place_of(stamps, nodes, stamp, node)
 }
 
-/// Whether the first is a row above the stamp.
+/// Whether the first is a row above a stamp.
 fn is_above(stamps: &[u64], first: Option<usize>, stamp: u64) -> bool
     ensures { IsTrue result → MatchOption first ⊥ (λ place. stamp < slice_index stamps.now place) }
 {
@@ -88,8 +94,14 @@ fn is_above(stamps: &[u64], first: Option<usize>, stamp: u64) -> bool
     }
 }
 
-/// The best with the rows from a place on, by the kernels.
-fn newest_of_many(stamps: &[u64], nodes: &[u16], from: usize, bound: u64, first: Option<usize>) -> Option<usize>
+/// The same, by the kernels: the stamp, its greatest node, and their first place.
+fn newest_of_many(
+    stamps: &[u64],
+    nodes: &[u16],
+    from: usize,
+    bound: u64,
+    first: Option<usize>,
+) -> Option<usize>
     requires beside { length nodes.now ≡ length stamps.now }
     requires from { from ≤ length stamps.now }
     requires first { IsNewestBelow stamps.now nodes.now bound from first }
@@ -107,8 +119,14 @@ fn newest_of_many(stamps: &[u64], nodes: &[u16], from: usize, bound: u64, first:
     Some(newer(stamps, nodes, first, from + place))
 }
 
-/// The best with the rows from a place on.
-pub fn newest_from(stamps: &[u64], nodes: &[u16], from: usize, bound: u64, first: Option<usize>) -> Option<usize>
+/// The newest of all rows, where the first is that of those before a place.
+pub(crate) fn newest_from(
+    stamps: &[u64],
+    nodes: &[u16],
+    from: usize,
+    bound: u64,
+    first: Option<usize>,
+) -> Option<usize>
     requires beside { length nodes.now ≡ length stamps.now }
     requires from { from ≤ length stamps.now }
     requires first { IsNewestBelow stamps.now nodes.now bound from first }
@@ -121,14 +139,19 @@ pub fn newest_from(stamps: &[u64], nodes: &[u16], from: usize, bound: u64, first
     }
 }
 
-/// The best of the rows that the index has.
-pub fn newest_indexed(stamps: &[u64], nodes: &[u16], order: &[usize], bound: u64) -> Option<usize>
+/// The newest of the rows that an index has, by binary search.
+pub(crate) fn newest_indexed(
+    stamps: &[u64],
+    nodes: &[u16],
+    order: &[u32],
+    bound: u64,
+) -> Option<usize>
     requires { IsIndex stamps.now nodes.now order.now }
     ensures { IsNewestBelow stamps.now nodes.now bound (length order.now) result }
 {
-    let count = order.partition_point(|place| stamp_at(stamps, *place) <= bound);
+    let count = order.partition_point(|place| stamp_at(stamps, *place as usize) <= bound);
     if count == 0 {
         return None;
     }
-    Some(order[count - 1])
+    Some(order[count - 1] as usize)
 }

@@ -1,4 +1,5 @@
-use Rattle.std.proofs.Common.{◌≡◌, ◌≤◌, ◌+◌, List, ℕ, subst, sym, arith}
+-- One place more is numbered.
+use Rattle.std.proofs.Common.{◌+◌, List, ℕ, subst, sym, arith}
 use Rattle.hlc_columns.specs.Order.{IsNumbered}
 use Rattle.hlc_columns.proofs.Places.{numbered_more}
 use Rattle.hlc_columns.proofs.index.add_places.Goals as goal

@@ -1,4 +1,5 @@
-use Rattle.std.proofs.Common.{◌≡◌, ◌≤◌, ◌+◌, ◌-◌, length}
+-- The places so far were added, and there is room for the others.
+use Rattle.std.proofs.Common.{◌≤◌}
 use Rattle.hlc_columns.specs.Order.{IsNumbered}
 use Rattle.hlc_columns.proofs.index.add_places.Given as goal
 

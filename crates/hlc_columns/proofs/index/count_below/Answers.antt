@@ -1,5 +1,5 @@
 -- The stamps rise along the index, so those below a stamp stand in front.
-use Rattle.std.proofs.Common.{◌≡◌, ℕ, get_or, rules, subst, arith, ltb, true, false}
+use Rattle.std.proofs.Common.{◌≡◌, ℕ, get_or, rules, arith, ltb, true, false}
 use Rattle.std.proofs.lemmas.Bool.Decides.{nat_tests}
 use Rattle.std.specs.List.Sorted.{IsPartitionPoint}
 use Rattle.std.proofs.lemmas.List.Sorted.{IsPartitionPoint-from_clause}

@@ -1,10 +1,10 @@
-use Rattle.std.proofs.Common.{rules, ◌≡◌, ◌≤◌, ◌<◌, ◌∙◌, ℕ, [], List, length, subst, sym, ap, take, arith}
+-- The first places, each once, sorted.
+use Rattle.std.proofs.Common.{rules, ◌≡◌, ℕ, [], length, ap, arith}
 use Rattle.std.specs.Ordering.{is_lt}
-use Rattle.std.specs.List.Sorted.{IsSortedBy, IsPermutation}
 use Rattle.std.proofs.lemmas.List.{length-take}
 use Rattle.std.proofs.lemmas.Fn.{always_returns_same}
 use Rattle.std.proofs.lemmas.List.Sorted.{ranks_by}
-use Rattle.hlc_columns.specs.Order.{IsIndex, IsNumbered, place_cmp}
+use Rattle.hlc_columns.specs.Order.{place_cmp}
 use Rattle.hlc_columns.proofs.Places.{sorted_index, numbered_below, numbered_every, place_order}
 use Rattle.hlc_columns.proofs.index.index_again.Goals as goal
 

@@ -1,4 +1,4 @@
--- The front is below the least new stamp and stays; the rest is sorted, and is not below it. Where memory lacks, the first places are those that were there.
+-- The front is below the least new stamp and stays; the end is not, and is sorted. Where memory lacks, what was added is cut off.
 use Rattle.std.proofs.Common.{◌≡◌, ◌≤◌, ◌<◌, ◌∙◌, ℕ, List, length, get_or, subst, sym, ap, take, drop, arith}
 use Rattle.std.proofs.lemmas.List.{length-drop}
 use Rattle.std.proofs.lemmas.List.Sorted.{length_permutation}

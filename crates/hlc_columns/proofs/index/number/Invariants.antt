@@ -1,3 +1,4 @@
+-- The places so far hold their own number.
 use Rattle.std.proofs.Common.{◌≡◌, ◌<◌, ℕ, length, slice_index}
 use Rattle.hlc_columns.proofs.index.number.Given as goal
 

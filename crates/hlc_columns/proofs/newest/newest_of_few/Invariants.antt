@@ -1,3 +1,4 @@
+-- The best is the newest of the places so far.
 use Rattle.hlc_columns.specs.Newest.{IsNewestBelow}
 use Rattle.hlc_columns.proofs.newest.newest_of_few.Given as goal
 

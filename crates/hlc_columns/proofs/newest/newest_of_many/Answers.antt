@@ -1,4 +1,5 @@
-use Rattle.std.proofs.Common.{◌≡◌, ◌-◌, List, ℕ, take, drop, length, None, Some, subst}
+-- The rest has no row at or below the bound, or its newest stamp is below the first's, or the first place of that stamp's greatest node is the newest of the rest.
+use Rattle.std.proofs.Common.{◌-◌, List, ℕ, take, drop, length, None, Some, subst}
 use Rattle.hlc_lanes.specs.Newest.{IsNewest}
 use Rattle.hlc_columns.specs.Newest.{IsGreatestAt}
 use Rattle.hlc_columns.proofs.Best.{rest_of, none_in_rest, rest_is_below, no_top, top_of_rest}
