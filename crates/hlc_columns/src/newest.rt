@@ -1,5 +1,5 @@
 //! The place of the newest of some stamps and nodes, which stand side by side.
-ghost use Rattle.std.specs.Prelude.{◌≡◌, ◌≤◌, ◌<◌, ◌⊎◌, ℕ, IsTrue, Some, IfSome, MatchOption, length, slice_index, false};
+ghost use Rattle.std.specs.Prelude.{◌≡◌, ◌↔◌, ◌≤◌, ◌<◌, ◌⊎◌, ℕ, IsTrue, Some, IfSome, MatchOption, length, slice_index, false};
 ghost use Rattle.hlc_columns.specs.Newest.{NotAbove, IsNewestBelow, IsGreatestAt};
 ghost use Rattle.hlc_columns.specs.Order.{IsIndex};
 
@@ -86,7 +86,7 @@ fn greatest_place(stamps: &[u64], nodes: &[u16], stamp: u64) -> Option<usize>
 
 /// Whether the first is a row above a stamp.
 fn is_above(stamps: &[u64], first: Option<usize>, stamp: u64) -> bool
-    ensures { IsTrue result → MatchOption first ⊥ (λ place. stamp < slice_index stamps.now place) }
+    ensures { IsTrue result ↔ MatchOption first ⊥ (λ place. stamp < slice_index stamps.now place) }
 {
     match first {
         Some(place) => stamp < stamp_at(stamps, place),

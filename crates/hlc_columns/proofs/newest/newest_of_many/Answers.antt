@@ -13,7 +13,7 @@ returns-in_default c =
 pub returns-then-is_above : goal.returns-then-is_above
 returns-then-is_above c =
     rest_is_below c.args.stamps.now c.args.nodes.now c.args.bound c.args.from c.in-Some.stamp c.args.first c.requires.from c.requires.first
-    (subst (λ (xs : List ℕ). IsNewest xs c.args.bound (Some c.in-Some.stamp)) (rest_of c.args.stamps.now c.args.from) c.in-Some.ensures) (c.is_above.ensures c.if-is_above.true)
+    (subst (λ (xs : List ℕ). IsNewest xs c.args.bound (Some c.in-Some.stamp)) (rest_of c.args.stamps.now c.args.from) c.in-Some.ensures) (c.is_above.ensures.0 c.if-is_above.true)
 
 pub returns-in_default-greatest_place : goal.returns-in_default-greatest_place
 returns-in_default-greatest_place c =
