@@ -92,7 +92,7 @@ def reads(limit):
 
 def hot(limit):
     """One key, and as many reads of it as it has versions."""
-    versions = limit // 320
+    versions = limit // 60
     return versions_read(versions, versions)
 
 

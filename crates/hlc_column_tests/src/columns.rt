@@ -5,24 +5,54 @@ use hlc_columns::{Bytes, Column, Row, Stamp, Table};
 use std::alloc::{AllocError, AllocFailed, Global};
 use std::test::*;
 
-/// The stamp, the node and the value of the row at a place. Stamps are alike at several places, and
-/// nodes are not. Every sixth row is a deletion mark.
-fn row_of(place: u64) -> (u64, u16, Option<u8>) {
-    let node = (place.wrapping_mul(29) % 67) as u16;
+/// In which order rows arrive.
+#[derive(Clone, Copy, Debug)]
+enum Order {
+    /// Of few stamps, by many nodes.
+    Mixed,
+    /// Each above the one before it.
+    Rising,
+    /// Of two nodes in turn, one far above the other.
+    Apart,
+    /// Each below the one before it.
+    Falling,
+}
+
+/// Bounds at which columns are asked.
+const BOUNDS: [u64; 20] = [
+    0, 1, 2, 3, 5, 7, 11, 12, 13, 22, 32, 63, 64, 128, 499, 500, 532, 880, 999, 1000,
+];
+
+/// The stamp and the node of the row at a place. No two rows are alike in both.
+fn version_of(order: Order, place: u64) -> (u64, u16) {
+    match order {
+        Order::Mixed => (
+            place.wrapping_mul(7) % 13,
+            (place.wrapping_mul(29) % 67) as u16,
+        ),
+        Order::Rising => (place, 0),
+        Order::Apart => (place / 2 + place % 2 * 500, (place % 2) as u16),
+        Order::Falling => (1000u64.saturating_sub(place), 0),
+    }
+}
+
+/// The stamp, the node and the value of the row at a place. Every sixth row is a deletion mark.
+fn row_of(order: Order, place: u64) -> (u64, u16, Option<u8>) {
+    let (stamp, node) = version_of(order, place);
     let value = if place % 6 == 5 {
         None
     } else {
         Some((place % 256) as u8)
     };
-    (place.wrapping_mul(7) % 13, node, value)
+    (stamp, node, value)
 }
 
 /// What a plain list of the places below a count answers: the value of the greatest row by stamp
 /// and node, of all, or of all but every third.
-fn answer_of_list(count: u64, bound: u64, all: bool) -> Option<u8> {
+fn answer_of_list(order: Order, count: u64, bound: u64, all: bool) -> Option<u8> {
     let mut best: Option<(u64, u16, Option<u8>)> = None;
     for place in 0..count {
-        let row = row_of(place);
+        let row = row_of(order, place);
         if row.0 <= bound && (all || place % 3 != 1) {
             best = match best {
                 Some(other) if other.0 > row.0 || (other.0 == row.0 && other.1 > row.1) => {
@@ -47,10 +77,10 @@ fn value_of(alloc: Global, byte: Option<u8>) -> Result<Option<Bytes>, AllocError
 }
 
 /// A column of so many rows.
-fn column_of(alloc: Global, count: u64) -> Result<Column, AllocError> {
+fn column_of(alloc: Global, order: Order, count: u64) -> Result<Column, AllocError> {
     let mut column = Column::new(alloc);
     for place in 0..count {
-        let (stamp, node, byte) = row_of(place);
+        let (stamp, node, byte) = row_of(order, place);
         let value = value_of(alloc, byte)?;
         if let Err(AllocFailed { .. }) = column.push(Stamp::from_bits(stamp), node, value) {
             return Err(AllocError);
@@ -68,8 +98,8 @@ fn told(column: &Column, bound: u64) -> Option<u8> {
 }
 
 /// Whether a column answers at each bound as a plain list does.
-fn answers_as_list(column: &Column, count: u64, all: bool) -> bool {
-    (0..14u64).all(|bound| told(column, bound) == answer_of_list(count, bound, all))
+fn answers_as_list(column: &Column, order: Order, count: u64, all: bool) -> bool {
+    BOUNDS.iter().all(|bound| told(column, *bound) == answer_of_list(order, count, *bound, all))
 }
 
 /// Keeps all rows of a column but every third.
@@ -84,17 +114,21 @@ fn keep_two_of_three(alloc: Global, column: &mut Column) -> Result<(), AllocErro
     Ok(())
 }
 
+/// Whether a column of so many rows answers as a plain list does, before and after a keep.
+fn is_as_list(alloc: Global, order: Order, count: u64) -> Result<bool, AllocError> {
+    let mut column = column_of(alloc, order, count)?;
+    let before = answers_as_list(&column, order, count, true);
+    keep_two_of_three(alloc, &mut column)?;
+    Ok(before && answers_as_list(&column, order, count, false))
+}
+
 #[test]
 fn columns_answer_as_plain_lists(rt: HostRuntime) -> Result<(), Fail> {
-    let alloc = rt.alloc();
-    for count in [0, 1, 4, 5, 8, 9, 15, 16, 17, 65] {
-        let mut column = column_of(alloc, count)?;
-        assert!(rt; answers_as_list(&column, count, true), "{count} rows");
-        keep_two_of_three(alloc, &mut column)?;
-        assert!(rt;
-            answers_as_list(&column, count, false),
-            "{count} rows, two of three kept"
-        );
+    for order in [Order::Mixed, Order::Rising, Order::Apart, Order::Falling] {
+        for count in [0, 1, 4, 5, 8, 9, 15, 16, 17, 23, 24, 64, 65, 66, 129, 400] {
+            let answers = is_as_list(rt.alloc(), order, count)?;
+            assert!(rt; answers, "{order:?} {count}");
+        }
     }
     Ok(())
 }

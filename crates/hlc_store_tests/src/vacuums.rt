@@ -1,27 +1,10 @@
 //! Vacuums of a store by itself: what they report, and the certificate of what they leave.
-use crate::callers::{drop_unread, vacuum_and_check};
+use crate::callers::vacuum_and_check;
 use crate::items::{bytes, item};
-use hlc_columns::Table;
-use hlc_core::{Bytes, Core, Item, Pair, Report, Row, Stamp, Witness};
-use hlc_witness::{check, do_points_ascend};
+use hlc_core::{Bytes, Core, Item, Pair, Report, Stamp, Witness};
+use hlc_witness::check;
 use std::alloc::{AllocError, Global};
 use std::test::*;
-
-/// How many rows no reader at these points needs, of a table with one row at 1.0, if the points ascend.
-fn count_unread(alloc: Global, value: Option<Bytes>, points: &[Stamp]) -> Option<u128> {
-    let mut table = Table::new(alloc);
-    let row = Row {
-        key: bytes(alloc, b"a").ok()?,
-        stamp: stamp(1),
-        node: 0,
-        value,
-    };
-    table.insert(row).ok()?;
-    if !do_points_ascend(points) {
-        return None;
-    }
-    drop_unread(alloc, &mut table, points).ok()
-}
 
 fn stamp(reading: u64) -> Stamp {
     Stamp::from_bits(reading.wrapping_mul(65_536))
@@ -130,17 +113,6 @@ fn snapshots_hold_what_they_see(rt: HostRuntime) -> Result<(), Fail> {
     assert_eq!(rt; core.read(1, b"a"), Ok(Some(b"x".as_slice())));
     let shown = vacuum_and_check(&mut core)?;
     assert_eq!(rt; shown.map(|shown| shown.count()), Ok(1));
-    Ok(())
-}
-
-#[test]
-fn one_row_is_unread(rt: HostRuntime) -> Result<(), Fail> {
-    let alloc = rt.alloc();
-    let points = [stamp(1), stamp(2), stamp(3)];
-    let value = bytes(alloc, b"x")?;
-    assert_eq!(rt; count_unread(alloc, None, &points), Some(1));
-    assert_eq!(rt; count_unread(alloc, Some(value), &points), Some(0));
-    assert_eq!(rt; count_unread(alloc, None, &[stamp(2), stamp(1)]), None);
     Ok(())
 }
 
