@@ -62,7 +62,6 @@ impl CheckEnd {
 }
 
 /// Reads a whole certificate, and then writes one line: whether its rows are shown to be the fewest.
-///
 /// Bad lines are found before the certificate is looked at.
 pub fn run_check<R: Read, W: Write>(
     alloc: Global,
@@ -101,10 +100,8 @@ fn check_reader<R: Read>(alloc: Global, reader: &mut Watched<R>) -> CheckEnd
     }
 }
 
-/// Checks an input that is held, as `run_check` does once it has read one.
-///
-/// The first bad line is looked for to the end, also where memory was refused before it, so it is
-/// never hidden by want of memory. Takes memory for the keys and values, and for the three lists.
+/// Checks an input that is held, as `run_check` does once it has read one. The first bad line is
+/// looked for to the end, so want of memory before it never hides it.
 pub fn check_input(alloc: Global, input: &[u8]) -> CheckEnd
     requires { length input.now ≤ 16777216 }
     ensures held { IsOfHeld result }

@@ -1,27 +1,23 @@
 //! Scripts: the lines of events, the lines of replies, and a whole run from bytes to bytes.
 #![tactic(auto)]
 
-// From a line to its event, and from a reply to its line.
-mod line;
-mod reply;
-
-// The lines of a certificate.
 mod certificate;
 mod check;
-mod check_laws;
 mod check_line;
-
-// The whole.
 mod input;
 mod laws;
+mod line;
 mod program;
+mod reply;
 mod run;
 mod words;
 
 pub use check::{CheckEnd, check_input, run_check};
-pub use check_laws::{one_answer_for_an_input, one_certificate_for_lines};
 pub use check_line::{CheckLine, read_check_line};
-pub use laws::{one_event_for_a_line, one_output_for_an_input};
+pub use laws::{
+    one_answer_for_an_input, one_certificate_for_lines, one_event_for_a_line,
+    one_output_for_an_input,
+};
 pub use line::{Line, read_line};
 pub use program::run_program;
 pub use reply::{put_refusal, put_reply};

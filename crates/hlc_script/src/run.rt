@@ -125,7 +125,6 @@ fn read_and_answer<R: Read, W: Write>(
 
 /// Answers an input that is held, as `run_script` does once it has read one. It prints, and leaves
 /// `finish` to the caller.
-///
 /// Memory is asked for only behind a header, so a first line that is none is refused as such.
 pub fn answer_input<W: Write>(
     alloc: Global,
