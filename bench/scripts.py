@@ -1,5 +1,10 @@
-"""The six kinds of script that the program is measured on, each made from a seed and of about so many bytes."""
+"""The six kinds of script that the program is measured on, each made from a seed and of about so many bytes.
+
+scripts.py KIND SIZE FILE writes one. It is a process of its own, so that the memory it takes is not counted with that of the
+programs, whose peak would begin at that of the process that starts them.
+"""
 import random
+import sys
 
 LIMIT = 16_000_000
 
@@ -181,4 +186,11 @@ KINDS = {
     "snapshots": snapshots,
     "messages": messages,
     "vacuums": vacuums,
+    "one key": one_key,
 }
+
+
+if __name__ == "__main__":
+    kind, size, path = sys.argv[1:]
+    with open(path, "wb") as script:
+        script.write(KINDS[kind](int(size)))
