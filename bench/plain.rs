@@ -1,9 +1,13 @@
 //! The same job as `hlcstore run`, in plain Rust over the maps of std: a script on standard input, its replies on
-//! standard output. No proofs; growths that are refused end the process. It is what the program is measured beside.
+//! standard output. No proofs; growths that are refused end the process. It is what the program is measured beside, and
+//! takes as much care of bytes: no list of words for each line, and plain bytes copied whole.
 use std::collections::BTreeMap;
 use std::io::{self, BufWriter, Read, Write};
 
 const LIMIT: u64 = 1 << 48;
+
+/// The most bytes that an input may have.
+const LONGEST: u64 = 16_777_216;
 
 /// A stamp as its word: the physical part times 65,536 and the counter.
 type Stamp = u64;
@@ -200,8 +204,11 @@ impl<W: Write> Out<W> {
         if bytes.is_empty() {
             return self.0.write_all(b"%");
         }
+        if bytes.iter().all(stands_as_itself) {
+            return self.0.write_all(bytes);
+        }
         for byte in bytes {
-            if (0x21..=0x7e).contains(byte) && *byte != b'%' {
+            if stands_as_itself(byte) {
                 self.0.write_all(&[*byte])?;
             } else {
                 write!(self.0, "%{byte:02X}")?;
@@ -246,15 +253,22 @@ fn digit(byte: u8) -> Option<u8> {
     }
 }
 
+fn stands_as_itself(byte: &u8) -> bool {
+    (0x21..=0x7e).contains(byte) && *byte != b'%'
+}
+
 fn bytes(word: &[u8]) -> Option<Vec<u8>> {
     if word == b"%" {
         return Some(Vec::new());
+    }
+    if !word.is_empty() && word.iter().all(stands_as_itself) {
+        return Some(word.to_vec());
     }
     let mut bytes = Vec::with_capacity(word.len());
     let mut rest = word;
     while let Some((first, others)) = rest.split_first() {
         if *first != b'%' {
-            if !(0x21..=0x7e).contains(first) {
+            if !stands_as_itself(first) {
                 return None;
             }
             bytes.push(*first);
@@ -262,7 +276,7 @@ fn bytes(word: &[u8]) -> Option<Vec<u8>> {
             continue;
         }
         let byte = digit(*others.first()?)? << 4 | digit(*others.get(1)?)?;
-        if (0x21..=0x7e).contains(&byte) && byte != b'%' {
+        if stands_as_itself(&byte) {
             return None;
         }
         bytes.push(byte);
@@ -273,9 +287,14 @@ fn bytes(word: &[u8]) -> Option<Vec<u8>> {
 
 /// Answers a line, or tells that it is none.
 fn line<W: Write>(world: &mut World, line: &[u8], out: &mut Out<W>) -> io::Result<bool> {
-    let mut words: Vec<&[u8]> = Vec::with_capacity(5);
-    words.extend(line.split(|byte| *byte == b' '));
-    let done = match words.as_slice() {
+    // No event has more than five words.
+    let mut held: [&[u8]; 6] = [b""; 6];
+    let mut count = 0;
+    for (place, word) in line.split(|byte| *byte == b' ').take(6).enumerate() {
+        held[place] = word;
+        count = place + 1;
+    }
+    let done = match &held[..count] {
         [b"write", at, reading, key, value] => match (node(at), number(reading), bytes(key), bytes(value)) {
             (Some(at), Some(reading), Some(key), Some(value)) => {
                 stamped(world.write(at, reading, key, Some(value)), out)
@@ -401,7 +420,13 @@ fn stamped<W: Write>(made: Result<(Stamp, u64), Refusal>, out: &mut Out<W>) -> i
     }
 }
 
-fn seen_by<W: Write>(world: &mut World, at: u16, reading: u64, seen: Result<Stamp, Refusal>, out: &mut Out<W>) -> io::Result<()> {
+fn seen_by<W: Write>(
+    world: &mut World,
+    at: u16,
+    reading: u64,
+    seen: Result<Stamp, Refusal>,
+    out: &mut Out<W>,
+) -> io::Result<()> {
     let made = world.node(at).and_then(|node| {
         let stamp = next_stamp(node.last, seen?, reading)?;
         node.last = stamp;
@@ -456,8 +481,13 @@ fn vacuumed<W: Write>(report: &Report, out: &mut Out<W>) -> io::Result<()> {
 
 fn main() -> io::Result<()> {
     let mut input = Vec::new();
-    io::stdin().lock().read_to_end(&mut input)?;
+    io::stdin().lock().take(LONGEST + 1).read_to_end(&mut input)?;
     let mut out = Out(BufWriter::with_capacity(8192, io::stdout().lock()));
+    if input.len() as u64 > LONGEST {
+        out.0.write_all(b"refused 20\n")?;
+        out.0.flush()?;
+        std::process::exit(2);
+    }
     let text = input.strip_suffix(b"\n").unwrap_or(&input);
     let mut lines = text.split(|byte| *byte == b'\n');
     let header = lines.next().and_then(|line| number(line.strip_prefix(b"nodes ")?));

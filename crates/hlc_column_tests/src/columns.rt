@@ -102,6 +102,20 @@ fn answers_as_list(column: &Column, order: Order, count: u64, all: bool) -> bool
     BOUNDS.iter().all(|bound| told(column, *bound) == answer_of_list(order, count, *bound, all))
 }
 
+/// How many rows of a plain list are at or below a bound, of all, or of all but every third.
+fn count_of_list(order: Order, count: u64, bound: u64, all: bool) -> usize {
+    (0..count)
+        .filter(|place| (all || *place % 3 != 1) && version_of(order, *place).0 <= bound)
+        .count()
+}
+
+/// Whether a column counts at each bound as a plain list does.
+fn counts_as_list(column: &Column, order: Order, count: u64, all: bool) -> bool {
+    BOUNDS.iter().all(|bound| {
+        column.count_at(Stamp::from_bits(*bound)) == count_of_list(order, count, *bound, all)
+    })
+}
+
 /// Keeps all rows of a column but every third.
 fn keep_two_of_three(alloc: Global, column: &mut Column) -> Result<(), AllocError> {
     let mut flags = Vec::new(alloc);
@@ -114,12 +128,18 @@ fn keep_two_of_three(alloc: Global, column: &mut Column) -> Result<(), AllocErro
     Ok(())
 }
 
-/// Whether a column of so many rows answers as a plain list does, before and after a keep.
+/// Whether a column answers and counts as a plain list does.
+fn is_list(column: &Column, order: Order, count: u64, all: bool) -> bool {
+    answers_as_list(column, order, count, all) && counts_as_list(column, order, count, all)
+}
+
+/// Whether a column of so many rows answers and counts as a plain list does, before and after a
+/// keep.
 fn is_as_list(alloc: Global, order: Order, count: u64) -> Result<bool, AllocError> {
     let mut column = column_of(alloc, order, count)?;
-    let before = answers_as_list(&column, order, count, true);
+    let before = is_list(&column, order, count, true);
     keep_two_of_three(alloc, &mut column)?;
-    Ok(before && answers_as_list(&column, order, count, false))
+    Ok(before && is_list(&column, order, count, false))
 }
 
 #[test]

@@ -8,6 +8,9 @@ use crate::newest::{is_below, node_at, stamp_at};
 use std::alloc::AllocError;
 use std::cmp::Ordering;
 
+/// A column of so many rows has no index yet.
+const FIRST: usize = 16;
+
 /// So many rows, and one more for each `SHARE` rows of the index, may stand behind it.
 const LEAST: usize = 64;
 
@@ -126,6 +129,15 @@ fn index_next(order: &mut Vec<u32>, stamps: &[u64], nodes: &[u16])
     }
 }
 
+/// How many rows may stand behind an index of so many.
+fn most_behind(count: usize) -> usize {
+    if count == 0 {
+        FIRST
+    } else {
+        LEAST + count / SHARE
+    }
+}
+
 /// Extends the index after a row was added: by that row where it is the only one outside and above
 /// all others, and else by all rows once many stand outside.
 pub(crate) fn extend_index(order: &mut Vec<u32>, stamps: &[u64], nodes: &[u16])
@@ -136,7 +148,7 @@ pub(crate) fn extend_index(order: &mut Vec<u32>, stamps: &[u64], nodes: &[u16])
     let outside = stamps.len() - count;
     if outside == 1 {
         index_next(order, stamps, nodes);
-    } else if outside > LEAST + count / SHARE {
+    } else if outside > most_behind(count) {
         index_all(order, stamps, nodes);
     }
 }

@@ -1,5 +1,5 @@
 //! The place of the newest of some stamps and nodes, which stand side by side.
-ghost use Rattle.std.specs.Prelude.{◌≡◌, ◌↔◌, ◌≤◌, ◌<◌, ◌⊎◌, ℕ, IsTrue, Some, IfSome, MatchOption, length, slice_index, false};
+ghost use Rattle.std.specs.Prelude.{◌≡◌, ◌↔◌, ◌≤◌, ◌<◌, ◌⊎◌, ℕ, IsTrue, Some, IfSome, MatchOption, length, slice_index, take, count_by, nat_le, false};
 ghost use Rattle.hlc_columns.specs.Newest.{NotAbove, IsNewestBelow, IsGreatestAt};
 ghost use Rattle.hlc_columns.specs.Order.{IsIndex};
 
@@ -154,4 +154,13 @@ pub(crate) fn newest_indexed(
         return None;
     }
     Some(order[count - 1] as usize)
+}
+
+/// How many of the rows that an index has are at or below the bound, by binary search.
+pub(crate) fn count_indexed(stamps: &[u64], nodes: &[u16], order: &[u32], bound: u64) -> usize
+    requires { IsIndex stamps.now nodes.now order.now }
+    ensures few { result ≤ length order.now }
+    ensures count { result ≡ count_by (λ stamp. nat_le stamp bound) (take (length order.now) stamps.now) }
+{
+    order.partition_point(|place| stamp_at(stamps, *place as usize) <= bound)
 }

@@ -44,6 +44,11 @@ abbrev pub Accepts : Kept → Kept → Item → List Step → Result Acceptance 
 Accepts old new item past (Ok accepted) = (item_refusal (nodes old) past item ≡ None) × StandsFor new (Took item ∷ past)
 Accepts old new item past (Err refused) = IsRefusal (item_refusal (nodes old) past item) (IsWrite item.body) refused.0
 
+-- the same of an item that its owner goes on holding
+abbrev pub AcceptsCopy : Kept → Kept → Item → List Step → Result Acceptance CoreFault → Type 0
+AcceptsCopy old new item past (Ok accepted) = (item_refusal (nodes old) past item ≡ None) × StandsFor new (Took item ∷ past)
+AcceptsCopy old new item past (Err fault) = IsRefusal (item_refusal (nodes old) past item) (IsWrite item.body) fault
+
 -- the answer to a check of an item is the refusal that is due
 abbrev pub Checks : Kept → Item → List Step → Result Unit CoreFault → Type 0
 Checks kept item past result =

@@ -5,4 +5,6 @@ pub mod Stored
 pub mod Kept
 pub mod Calls
 pub mod PlanAt
+pub mod History
+pub mod Headline
 pub mod ListingLaws

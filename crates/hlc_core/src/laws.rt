@@ -8,14 +8,18 @@ ghost use Rattle.hlc_vacuum.specs.declared.report.Report.{Report as AReport};
 ghost use Rattle.hlc_core.specs.Stored.{AreVacuumPoints, IsReport, IsStoredCount, LeavesFewest};
 ghost use Rattle.hlc_core.specs.Kept.{Kept, nodes, with_rows_left, StandsFor};
 ghost use Rattle.hlc_core.specs.Calls.{IsListing, Vacuums};
+ghost use Rattle.hlc_core.specs.History.{StandsForHistory};
+ghost use Rattle.hlc_core.specs.Headline.{IsFaithful};
+ghost use Rattle.hlc_core.specs.declared.event.CoreEvent.{CoreEvent as AnEvent};
+ghost use Rattle.hlc_core.specs.declared.reply.CoreReply.{CoreReply as AReply};
 ghost use Rattle.hlc_core.specs.declared.listing.Pair.{Pair as APair};
 ghost use Rattle.hlc_node.specs.declared.item.Item.{Item as AnItem};
 ghost use Rattle.hlc_node.specs.declared.row.Row.{Row as ARow};
 
 use hlc_snapshot::points_are_unique;
 use hlc_witness::{
-    changes_are_computed, rows_above_are_counted, standing_rows_are_fewest, vacuums_are_certified,
-    vacuums_compose,
+    changes_are_computed, changes_force_rows, rows_above_are_counted, standing_rows_are_fewest,
+    vacuums_are_certified, vacuums_compose,
 };
 
 /// No two accepted writes are alike in key, stamp and node, so a read has one answer.
@@ -76,4 +80,13 @@ pub fn there_is_one_report()
 {
     points_are_unique();
     changes_are_computed();
+}
+
+/// A core is faithful to each history that it stands for: its reads gave the newest accepted values,
+/// its vacuums were the least, and left the fewest rows.
+pub fn histories_are_faithful()
+    ensures { (kept : Kept) (history : List (AnEvent × AReply)) → StandsForHistory kept history → IsFaithful (nodes kept) history kept.rows }
+{
+    changes_force_rows();
+    vacuums_leave_the_fewest();
 }

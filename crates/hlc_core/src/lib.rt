@@ -3,16 +3,20 @@
 //! that answer so.
 #![tactic(auto)]
 
+mod event;
 mod fault;
 mod laws;
 mod link;
 mod list;
 mod listing;
 mod opening;
+mod reply;
 mod rows;
 mod sorted;
+mod step;
 mod store;
 
+pub use event::CoreEvent;
 pub use fault::{CoreFault, NoNode};
 pub use hlc_clock::Stamp;
 pub use hlc_floor::Accepted;
@@ -21,9 +25,10 @@ pub use hlc_snapshot::{NoMemory, NoSnapshot};
 pub use hlc_vacuum::{Points, Report, Witnesses};
 pub use hlc_witness::Witness;
 pub use laws::{
-    accepted_writes_are_a_row_set, floor_is_the_least_head, later_items_are_above_the_floor,
-    open_snapshots_are_at_most_the_floor, there_is_one_listing, there_is_one_report,
-    vacuums_keep_standing, vacuums_leave_the_fewest,
+    accepted_writes_are_a_row_set, floor_is_the_least_head, histories_are_faithful,
+    later_items_are_above_the_floor, open_snapshots_are_at_most_the_floor, there_is_one_listing,
+    there_is_one_report, vacuums_keep_standing, vacuums_leave_the_fewest,
 };
 pub use listing::{Listing, Pair};
+pub use reply::CoreReply;
 pub use store::Core;

@@ -3,11 +3,13 @@ use Rattle.std.proofs.Common.{◌≡◌, ℕ, ◌+◌, ◌∙◌, sym, ap, refl,
 use Rattle.std.specs.Prelude.{codes, ◌≢◌}
 use Rattle.std.specs.List.{flat_map}
 use Rattle.hlc_clock.specs.declared.clock.ClockFault.{ClockFault}
+use Rattle.hlc_node.specs.declared.item.Item.{Item}
 use Rattle.hlc_node.specs.declared.item.Message.{Message}
 use Rattle.hlc_node.specs.declared.row.Row.{Row}
 use Rattle.hlc_core.specs.declared.listing.Pair.{Pair}
 use Rattle.hlc_vacuum.specs.declared.report.Report.{Report as AReport}
 use Rattle.hlc_core.specs.Past.{Step}
+use Rattle.hlc_core.specs.History.{IsAnswer}
 use Rattle.hlc_core.specs.Calls.{IsListed}
 use Rattle.hlc_core.specs.Stored.{IsReport, IsStoredCount}
 use Rattle.hlc_core.specs.ListingLaws.{one-listing}
@@ -18,8 +20,9 @@ use Rattle.hlc_world.specs.declared.reply.Reply.{Reply}
 use Rattle.hlc_world.specs.declared.reply.Reply.TheVariants.{Stamped, Sent, Received, Observed, Accepted, Snapshot, Answer, Listing, Closed, Floor as FloorIs, Vacuumed, Rows as RowsAre, Refused}
 use Rattle.hlc_world.specs.declared.refusal.Refusal.{Refusal}
 use Rattle.hlc_world.specs.declared.refusal.Refusal.TheVariants.{NoMemory as no_memory}
-use Rattle.hlc_world.specs.Schedule.{core_past}
-use Rattle.hlc_world.specs.Due.{refusal_due, IsReceived, IsObserved, IsAnswer, IsDueReply, IsGiven}
+use Rattle.hlc_world.specs.Schedule.{item_at}
+use Rattle.hlc_world.specs.Store.{accepting, told, joined, core_past}
+use Rattle.hlc_world.specs.Due.{refusal_due, IsReceived, IsObserved, IsOwed, IsDueReply, IsGiven}
 use Rattle.hlc_script.specs.declared.run.RunEnd.{RunEnd}
 use Rattle.hlc_script.specs.declared.run.RunEnd.TheVariants.{Answered, BadLine, BadHeader, NotHeld, NoMemory, ReadFault, TooLong, WriteFault}
 use Rattle.hlc_script.specs.Line.{lines_of, HasHeader, header_line}
@@ -57,6 +60,10 @@ same_listing : (o : Option ℕ) (rows : List Row) (pairs pairs2 : List Pair) →
 same_listing None rows pairs pairs2 due also = absurd due
 same_listing (Some stamp) rows pairs pairs2 due also = one-listing rows stamp pairs pairs2 due also
 
+same_acceptance : (nodes node number : ℕ) (past : List Step) (o : Option Item) (stamp stamp2 : ℕ) → IsOwed nodes past (joined (told (Deliver node number) (Accepted stamp)) (accepting o)) → IsOwed nodes past (joined (told (Deliver node number) (Accepted stamp2)) (accepting o)) → stamp ≡ stamp2
+same_acceptance nodes node number past None stamp stamp2 due also = absurd due
+same_acceptance nodes node number past (Some item) stamp stamp2 due also = ap (λ x. x.stamp) (due ∙ sym also)
+
 -- one report of a vacuum, and one number of stored rows, is due
 pub record ReportLaws : Type 0 where
   pub report : (nodes : ℕ) (past : List Step) (report other : AReport) → IsReport nodes past report → IsReport nodes past other → report ≡ other
@@ -78,8 +85,7 @@ due_once laws nodes schedule (Send node reading) (Sent stamp number) other due a
 due_once laws nodes schedule (Receive node reading message) (Received stamp) (Received stamp2) due also = ap Received (same_receipt _ _ reading stamp stamp2 due also)
 due_once laws nodes schedule (Receive node reading message) (Received stamp) other due also = absurd also
 due_once laws nodes schedule (Deliver node number) (Accepted stamp) (Accepted stamp2) due also =
-    let stamps : Some stamp ≡ Some stamp2 = sym due ∙ also in
-    let s : stamp ≡ stamp2 = cc in cc
+    ap Accepted (same_acceptance nodes node number (core_past schedule) (item_at node number schedule) stamp stamp2 due also)
 due_once laws nodes schedule (Deliver node number) (Accepted stamp) other due also = absurd also
 due_once laws nodes schedule (Observe node reading id) (Observed stamp) (Observed stamp2) due also = ap Observed (same_observation _ _ reading stamp stamp2 due also)
 due_once laws nodes schedule (Observe node reading id) (Observed stamp) other due also = absurd also

@@ -44,7 +44,7 @@ pub fn read_input<R: Read>(alloc: Global, reader: &mut Watched<R>) -> Result<Vec
         × (16777216 < length taken) }
 {
     let mut input = Vec::new(alloc);
-    let mut block = [0u8; 4096];
+    let mut block = [0u8; 32768];
     'reading: loop {
         let Ok(taken) = reader.read(&mut block) else {
             return Err(InputFault::ReadFault);

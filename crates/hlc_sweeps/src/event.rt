@@ -5,7 +5,7 @@ use hlc_world::{Event, Refusal, Reply, World};
 use std::alloc::{AllocError, Global};
 
 /// How many requests `world` makes.
-const MADE: u64 = 38;
+const MADE: u64 = 34;
 
 /// What took place before. Four rows of key `a` are stored, so that the next one makes its column grow.
 const PAST: [&[u8]; 22] = [

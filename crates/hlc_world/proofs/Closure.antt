@@ -7,52 +7,23 @@ use Rattle.std.proofs.lemmas.List.Elements.{Contains-append_left, Contains-push}
 use Rattle.hlc_node.specs.declared.item.Item.{Item}
 use Rattle.hlc_node.specs.declared.item.Body.TheVariants.{Write as a_write, Report as a_report}
 use Rattle.hlc_snapshot.specs.RegisterLaws.{stamp_in-all}
-use Rattle.hlc_core.specs.declared.fault.CoreFault.{CoreFault}
-use Rattle.hlc_core.specs.Past.{floor, horizon, stamp_of, open_snapshots, open_refusal, IsLegal as IsLegalPast}
-use Rattle.hlc_core.specs.PastLaws.{open-room, open-low, horizon-low}
+use Rattle.hlc_core.specs.Past.{floor, open_snapshots}
+use Rattle.hlc_core.specs.PastLaws.{open-low}
 use Rattle.hlc_world.specs.declared.event.Event.{Event}
-use Rattle.hlc_world.specs.declared.event.Event.TheVariants.{Write, Delete, Report, Deliver, OpenAt, OpenFloor, Close, Vacuum}
+use Rattle.hlc_world.specs.declared.event.Event.TheVariants.{Write, Delete, Report}
 use Rattle.hlc_world.specs.declared.reply.Reply.{Reply}
-use Rattle.hlc_world.specs.declared.reply.Reply.TheVariants.{Stamped, Accepted, Snapshot, Closed, Vacuumed}
-use Rattle.hlc_world.specs.Schedule.{an_item, item_made, stamping_of, with_item, issued, item_at, taking, with_step, core_past}
-use Rattle.hlc_world.specs.Due.{core_refusal, snapshot_refusal, refusal_due, IsGiven, IsLegal}
+use Rattle.hlc_world.specs.declared.reply.Reply.TheVariants.{Stamped}
+use Rattle.hlc_world.specs.Schedule.{an_item, item_made, stamping_of, with_item, issued}
+use Rattle.hlc_world.specs.Store.{core_past}
+use Rattle.hlc_world.specs.Due.{IsLegal}
 use Rattle.hlc_world.specs.Before.{entry_at, IsStamped}
 use Rattle.hlc_world.specs.Floor.{IsIssuedAt, IsClosed}
 use Rattle.hlc_world.proofs.Lists.{some-injective}
 use Rattle.hlc_world.proofs.Nodes.{with_item-same, with_item-other}
-use Rattle.hlc_world.proofs.Orderly.{IsOrderly, orderly}
-use Rattle.hlc_world.proofs.Delivery.{due-accepts}
+use Rattle.hlc_world.proofs.Histories.{legal-past}
 use Rattle.hlc_world.proofs.Entries.{entry-cases}
 use Rattle.hlc_world.proofs.Floors.{complete}
 use Rattle.hlc_world.proofs.Times.{less}
-
-no-core : (o : Option CoreFault) → core_refusal o ≡ None → o ≡ None
-no-core None h = refl
-no-core (Some fault) h = absurd (cc)
-
-no-snapshot : (o : Option ℕ) → snapshot_refusal o ≡ None → o ≡ None → ⊥
-no-snapshot None h e = absurd (cc)
-no-snapshot (Some stamp) h e = absurd (cc)
-
-past-taken : (nodes : ℕ) (s : List (Event × Reply)) (p k : ℕ) (o : Option Item) → item_at p k s ≡ o → refusal_due nodes s (Deliver p k) ≡ None → IsOrderly nodes s → IsLegalPast nodes (core_past s) → IsLegalPast nodes (with_step (taking o) (core_past s))
-past-taken nodes s p k None at none ordered legal = legal
-past-taken nodes s p k (Some item) at none ordered legal = (due-accepts nodes s p k item ordered at none, legal)
-
-past-entry : (nodes : ℕ) (s : List (Event × Reply)) (event : Event) (reply : Reply) → IsGiven nodes s event reply → IsOrderly nodes s → IsLegalPast nodes (core_past s) → IsLegalPast nodes (core_past ((event, reply) ∷ s))
-past-entry nodes s (Deliver p k) (Accepted st) given ordered legal = past-taken nodes s p k (item_at p k s) refl given.0 ordered legal
-past-entry nodes s (OpenAt at) (Snapshot id st) given ordered legal = (subst (λ x. open_refusal nodes (core_past s) x ≡ None) (sym given.1.1) (no-core _ given.0), legal)
-past-entry nodes s OpenFloor (Snapshot id st) given ordered legal =
-    let e : st ≡ floor nodes (core_past s) = given.1.1 in
-    let low : horizon nodes (core_past s) ≤ floor nodes (core_past s) = horizon-low nodes (core_past s) legal in
-    (open-room nodes (core_past s) st (omega arith) (omega arith) ∙ no-core _ given.0, legal)
-past-entry nodes s (Close id) (Closed st) given ordered legal = (no-snapshot (stamp_of id (core_past s)) given.0, legal)
-past-entry nodes s Vacuum (Vacuumed report) given ordered legal = legal
-past-entry nodes s _ _ given ordered legal = legal
-
--- the core's past of a legal schedule is legal
-pub legal-past : (nodes : ℕ) (s : List (Event × Reply)) → IsLegal nodes s → IsLegalPast nodes (core_past s)
-legal-past nodes [] legal = tt
-legal-past nodes (entry ∷ s) legal = past-entry nodes s entry.0 entry.1 legal.0 (orderly nodes s legal.1) (legal-past nodes s legal.1)
 
 -- an item is stamped by the event that issued it
 made-stamped : (event : Event) (reply : Reply) (item : Item) → item_made event reply ≡ Some item → stamping_of event reply ≡ Some (item.node, item.stamp)

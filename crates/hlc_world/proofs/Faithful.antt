@@ -1,75 +1,69 @@
--- What is promised of a whole schedule follows from the world's standing for it: each moment of a legal schedule is legal, so each read
--- and each vacuum was given its due there; each change forces a row; and a core that stands for a vacuum was left the fewest rows.
-use Rattle.std.proofs.Common.{◌≡◌, ℕ, ◌≤◌, List, [], ◌∷◌, ◌++◌, length, Option, Some, None, refl, sym, subst, arith}
-use Rattle.hlc_node.specs.declared.row.Row.{Row}
-use Rattle.hlc_node.specs.Rows.{answer}
-use Rattle.hlc_witness.specs.declared.witness.Witness.{Witness}
-use Rattle.hlc_witness.specs.Fewest.{Alike}
-use Rattle.hlc_witness.specs.Changes.{AreChanges}
-use Rattle.hlc_vacuum.specs.declared.report.Report.{Report}
-use Rattle.hlc_core.specs.Past.{Step, Vacuumed as VacuumedOf, stamp_of, writes}
-use Rattle.hlc_core.specs.Stored.{IsReport, LeavesFewest}
-use Rattle.hlc_core.specs.Kept.{Kept, nodes, StandsFor as CoreStandsFor}
+-- What is promised of a whole schedule follows from the world's standing for it: the core stands for the store's history, which
+-- is legal,
+-- so the core is faithful to it; each moment of the schedule is one of that history; and each moment of a legal schedule is
+-- legal, so
+-- what can be read there is closed.
+use Rattle.std.proofs.Common.{ℕ, List, [], ◌∷◌, ◌++◌, Some, None, Option, refl, ap, sym, subst}
+use Rattle.hlc_core.specs.declared.event.CoreEvent.{CoreEvent}
+use Rattle.hlc_core.specs.declared.reply.CoreReply.{CoreReply}
+use Rattle.hlc_core.specs.Kept.{Kept, nodes}
+use Rattle.hlc_core.specs.History.{IsLegalHistory, StandsForHistory}
+use Rattle.hlc_core.specs.Headline.{IsMoment as IsStoreMoment, IsFaithful as IsStoreFaithful}
 use Rattle.hlc_world.specs.declared.event.Event.{Event}
-use Rattle.hlc_world.specs.declared.event.Event.TheVariants.{Read, Vacuum}
 use Rattle.hlc_world.specs.declared.reply.Reply.{Reply}
-use Rattle.hlc_world.specs.declared.reply.Reply.TheVariants.{Answer, Vacuumed}
-use Rattle.hlc_world.specs.Schedule.{core_past}
-use Rattle.hlc_world.specs.Due.{IsAnswer, IsGiven, IsLegal}
+use Rattle.hlc_world.specs.Store.{share, with_entry, store_history}
+use Rattle.hlc_world.specs.Due.{IsLegal}
 use Rattle.hlc_world.specs.State.{State, world_nodes, IsMatched, StandsFor}
-use Rattle.hlc_world.specs.Headline.{IsMoment, ReadsAreNewest, ReadsAreClosed, VacuumsAreLeast, FewestAreLeft, IsFaithful}
+use Rattle.hlc_world.specs.Headline.{MomentsAreTold, ReadsAreClosed, IsFaithful}
+use Rattle.hlc_world.proofs.Histories.{history-legal}
 use Rattle.hlc_world.proofs.Closure.{closed}
 
--- each change forces a row
-abbrev pub ForceLaw : Type 0
-ForceLaw = (all others : List Row) (points : List ℕ) (changes : List Witness) → AreChanges all points changes → Alike others all points → length changes ≤ length others
+-- a core is faithful to each history that it stands for
+abbrev pub StoreLaw : Type 0
+StoreLaw = (kept : Kept) (h : List (CoreEvent × CoreReply)) → StandsForHistory kept h → IsStoreFaithful (nodes kept) h kept.rows
 
--- a core that stands for a vacuum was left the fewest rows
-abbrev pub LeaveLaw : Type 0
-LeaveLaw = (kept : Kept) (past : List Step) (report : Report) → CoreStandsFor kept (VacuumedOf ∷ past) → IsReport (nodes kept) past report → LeavesFewest kept.rows (writes past) report
+moment-stays : (o : Option (CoreEvent × CoreReply)) (h before : List (CoreEvent × CoreReply)) → IsStoreMoment h before
+    → IsStoreMoment (with_entry o h) before
+moment-stays None h before moment = moment
+moment-stays (Some entry) h before moment = record { later = entry ∷ moment.later; order = ap (λ x. entry ∷ x) moment.order }
+
+moment-told : (later before : List (Event × Reply)) → IsStoreMoment (store_history (later ++ before)) (store_history before)
+moment-told [] before = record { later = []; order = refl }
+moment-told (entry ∷ later) before =
+    moment-stays (share (later ++ before) entry.0 entry.1) (store_history (later ++ before)) (store_history before)
+        (moment-told later before)
+
+-- each moment of a schedule is one of the store's history
+moments-told : (s : List (Event × Reply)) → MomentsAreTold s
+moments-told s =
+    λ before moment. subst (λ x. IsStoreMoment (store_history x) (store_history before)) (sym moment.order)
+    (moment-told moment.later before)
 
 before-legal : (nodes : ℕ) (later before : List (Event × Reply)) → IsLegal nodes (later ++ before) → IsLegal nodes before
 before-legal nodes [] before legal = legal
 before-legal nodes (entry ∷ later) before legal = before-legal nodes later before legal.1
 
 -- each moment of a legal schedule is legal
-moment-legal : (nodes : ℕ) (s before : List (Event × Reply)) → IsLegal nodes s → IsMoment s before → IsLegal nodes before
-moment-legal nodes s before legal moment = before-legal nodes moment.later before (subst (λ x. IsLegal nodes x) moment.order legal)
-
-answered : (o : Option ℕ) (answers : ℕ → Option (List ℕ)) (value : Option (List ℕ)) → IsAnswer o answers value → (stamp : ℕ) × (o ≡ Some stamp) × (value ≡ answers stamp)
-answered None answers value is = absurd is
-answered (Some stamp) answers value is = (stamp, refl, is)
-
-reads-newest : (nodes : ℕ) (s : List (Event × Reply)) → IsLegal nodes s → ReadsAreNewest s
-reads-newest nodes s legal = λ before id key value moment.
-    let given : IsGiven nodes before (Read id key) (Answer value) = (moment-legal nodes s ((Read id key, Answer value) ∷ before) legal moment).0 in
-    answered (stamp_of id (core_past before)) (answer (writes (core_past before)) key) value given.1
-
 reads-closed : (nodes : ℕ) (s : List (Event × Reply)) → IsLegal nodes s → ReadsAreClosed s
-reads-closed nodes s legal = λ before moment. closed nodes before (moment-legal nodes s before legal moment)
+reads-closed nodes s legal =
+    λ before moment. closed nodes before
+    (before-legal nodes moment.later before (subst (λ x. IsLegal nodes x) moment.order legal))
 
-vacuums-least : ForceLaw → (nodes : ℕ) (s : List (Event × Reply)) → IsLegal nodes s → VacuumsAreLeast nodes s
-vacuums-least force nodes s legal = λ before report moment.
-    let given : IsGiven nodes before Vacuum (Vacuumed report) = (moment-legal nodes s ((Vacuum, Vacuumed report) ∷ before) legal moment).0 in
-    let due : IsReport nodes (core_past before) report = given.1 in (
-      due,
-      λ others set' alike.
-          let few : length report.witnesses ≤ length others = force (writes (core_past before)) others report.points report.witnesses due.witnesses alike in
-          let kept : report.kept ≡ length report.witnesses = due.kept in omega arith,
-    )
-
-fewest-left : LeaveLaw → (state : State) (s : List (Event × Reply)) → IsMatched state → StandsFor state s → FewestAreLeft s state.core.rows
-fewest-left leave state s matched h = λ before report is.
-    let legal : IsLegal (world_nodes state) ((Vacuum, Vacuumed report) ∷ before) = subst (λ x. IsLegal (world_nodes state) x) is h.legal in
-    let due : IsReport (nodes state.core) (core_past before) report = subst (λ n. IsReport n (core_past before) report) (sym matched) legal.0.1 in
-    let stands : CoreStandsFor state.core (VacuumedOf ∷ core_past before) = subst (λ x. CoreStandsFor state.core (core_past x)) is h.core in
-    leave state.core (core_past before) report stands due
+-- the core stands for the store's history
+stands : (state : State) (s : List (Event × Reply)) → IsMatched state → StandsFor state s
+    → StandsForHistory state.core (store_history s)
+stands state s matched h = record {
+  legal = subst (λ n. IsLegalHistory n (store_history s)) (sym matched) (history-legal (world_nodes state) s h.legal);
+  core = h.core;
+}
 
 -- a world is faithful to each schedule that it stands for
-pub faithful : ForceLaw → LeaveLaw → (state : State) (s : List (Event × Reply)) → IsMatched state → StandsFor state s → IsFaithful (world_nodes state) s state.core.rows
-faithful force leave state s matched h = record {
-  reads = reads-newest (world_nodes state) s h.legal;
+pub faithful : StoreLaw → (state : State) (s : List (Event × Reply)) → IsMatched state → StandsFor state s
+    → IsFaithful (world_nodes state) s state.core.rows
+faithful law state s matched h = record {
+  store =
+      subst (λ n. IsStoreFaithful n (store_history s) state.core.rows) matched
+      (law state.core (store_history s) (stands state s matched h));
+  moments = moments-told s;
   closed = reads-closed (world_nodes state) s h.legal;
-  vacuums = vacuums-least force (world_nodes state) s h.legal;
-  fewest = fewest-left leave state s matched h;
 }

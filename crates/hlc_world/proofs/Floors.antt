@@ -6,18 +6,20 @@ use Rattle.std.proofs.lemmas.Option.{slice_get-get_or, slice_get_within}
 use Rattle.std.proofs.lemmas.Bool.{cases_lt, cases_eq}
 use Rattle.std.proofs.lemmas.List.Elements.{Contains-append_left, Contains-append_right}
 use Rattle.hlc_node.specs.declared.item.Item.{Item}
+use Rattle.hlc_floor.specs.Heads.{Acceptance}
 use Rattle.hlc_core.specs.Past.{Step, Took, Opened, Closed as ClosedOf, Vacuumed as VacuumedOf, count, head, floor}
 use Rattle.hlc_core.specs.PastLaws.{least-le}
 use Rattle.hlc_world.specs.declared.event.Event.{Event}
-use Rattle.hlc_world.specs.declared.event.Event.TheVariants.{Write, Delete, Report, Deliver, OpenAt, OpenFloor, Close, Vacuum}
+use Rattle.hlc_world.specs.declared.event.Event.TheVariants.{Write, Delete, Report, Deliver, OpenAt, OpenFloor, Read, List as ListAll, Close, Vacuum}
 use Rattle.hlc_world.specs.declared.reply.Reply.{Reply}
-use Rattle.hlc_world.specs.declared.reply.Reply.TheVariants.{Stamped, Accepted, Snapshot, Closed, Vacuumed}
-use Rattle.hlc_world.specs.Schedule.{with_item, issued, taking, with_step, core_past}
+use Rattle.hlc_world.specs.declared.reply.Reply.TheVariants.{Stamped, Accepted, Snapshot, Answer, Listing, Closed, Vacuumed}
+use Rattle.hlc_world.specs.Schedule.{with_item, issued}
+use Rattle.hlc_world.specs.Store.{store_history, core_past}
 use Rattle.hlc_world.specs.Due.{IsGiven, IsLegal, deliver_refusal}
 use Rattle.hlc_world.specs.Floor.{IsComplete, IsBelowClocks}
 use Rattle.hlc_world.proofs.Lists.{some-injective}
 use Rattle.hlc_world.proofs.Nodes.{with_item-same, with_item-other}
-use Rattle.hlc_world.proofs.Orderly.{IsOrderly, orderly, get-with_item, count-same, count-other, delivered, on_node-none}
+use Rattle.hlc_world.proofs.Orderly.{IsOrderly, orderly, get-with_item, count-same, count-other, delivered, past_taken, on_node-none}
 
 -- the first items of a node, as many as were accepted, are those that were
 record AreTaken (items : List Item) (number : ℕ) (past : List Step) : Type 0 where
@@ -72,18 +74,21 @@ taken-took n p k item items past own at next h =
 abbrev AllTaken : List (Event × Reply) → Type 0
 AllTaken s = (n : ℕ) → AreTaken (issued n s) (count n (core_past s)) (core_past s)
 
-taken-delivered : (nodes : ℕ) (s : List (Event × Reply)) (p k : ℕ) (o : Option Item) → slice_get (issued p s) k ≡ o → deliver_refusal o k (count p (core_past s)) ≡ None → IsOrderly nodes s → AllTaken s → (n : ℕ) → AreTaken (issued n s) (count n (with_step (taking o) (core_past s))) (with_step (taking o) (core_past s))
-taken-delivered nodes s p k None at none ordered h n = h n
-taken-delivered nodes s p k (Some item) at none ordered h n =
-    taken-took n p k item (λ j. issued j s) (core_past s) (ordered.each p k item at).node at (delivered (Some item) k (count p (core_past s)) none item refl) (h n)
+taken-delivered : (nodes : ℕ) (s : List (Event × Reply)) (p k : ℕ) (acceptance : Acceptance) (o : Option Item) → slice_get (issued p s) k ≡ o → deliver_refusal nodes (core_past s) o ≡ None → IsOrderly nodes s → AllTaken s → (n : ℕ) → AreTaken (issued n s) (count n (past_taken acceptance o (store_history s))) (past_taken acceptance o (store_history s))
+taken-delivered nodes s p k acceptance None at none ordered h n = h n
+taken-delivered nodes s p k acceptance (Some item) at none ordered h n =
+    let is = ordered.each p k item at in
+    taken-took n p k item (λ j. issued j s) (core_past s) is.node at (delivered nodes (core_past s) p k item is.node is.number none) (h n)
 
 taken-entry : (nodes : ℕ) (s : List (Event × Reply)) (event : Event) (reply : Reply) → IsGiven nodes s event reply → IsOrderly nodes s → AllTaken s → AllTaken ((event, reply) ∷ s)
 taken-entry nodes s (Write p reading key value) (Stamped st num) given ordered h = λ n. taken-issue n _ (issued n s) (count n (core_past s)) (core_past s) (h n)
 taken-entry nodes s (Delete p reading key) (Stamped st num) given ordered h = λ n. taken-issue n _ (issued n s) (count n (core_past s)) (core_past s) (h n)
 taken-entry nodes s (Report p reading) (Stamped st num) given ordered h = λ n. taken-issue n _ (issued n s) (count n (core_past s)) (core_past s) (h n)
-taken-entry nodes s (Deliver p k) (Accepted st) given ordered h = taken-delivered nodes s p k (slice_get (issued p s) k) refl (on_node-none nodes p _ given.0).1 ordered h
+taken-entry nodes s (Deliver p k) (Accepted st) given ordered h = taken-delivered nodes s p k (record { node = p; stamp = st }) (slice_get (issued p s) k) refl (on_node-none nodes p _ given.0).1 ordered h
 taken-entry nodes s (OpenAt at) (Snapshot id st) given ordered h = λ n. taken-more (issued n s) (count n (core_past s)) (core_past s) (Opened st) (h n)
 taken-entry nodes s OpenFloor (Snapshot id st) given ordered h = λ n. taken-more (issued n s) (count n (core_past s)) (core_past s) (Opened st) (h n)
+taken-entry nodes s (Read id key) (Answer value) given ordered h = h
+taken-entry nodes s (ListAll id) (Listing pairs) given ordered h = h
 taken-entry nodes s (Close id) (Closed st) given ordered h = λ n. taken-more (issued n s) (count n (core_past s)) (core_past s) (ClosedOf id) (h n)
 taken-entry nodes s Vacuum (Vacuumed report) given ordered h = λ n. taken-more (issued n s) (count n (core_past s)) (core_past s) VacuumedOf (h n)
 taken-entry nodes s _ _ given ordered h = h

@@ -7,6 +7,7 @@ pub mod Delivery
 pub mod Entries
 pub mod Openings
 pub mod Times
+pub mod Histories
 pub mod Closure
 pub mod Faithful
 pub mod Runs

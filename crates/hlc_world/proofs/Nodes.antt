@@ -9,7 +9,9 @@ use Rattle.hlc_node.specs.declared.item.Message.{Message}
 use Rattle.hlc_node.specs.declared.item.Body.{Body}
 use Rattle.hlc_node.specs.declared.item.Body.TheVariants.{Write as a_write, Report as a_report}
 use Rattle.hlc_node.specs.Node.{Node, issue_due, next_item, stamped, after_issue}
-use Rattle.hlc_core.specs.Past.{stamp_of}
+use Rattle.hlc_core.specs.declared.reply.CoreReply.{CoreReply}
+use Rattle.hlc_core.specs.Past.{Step, stamp_of}
+use Rattle.hlc_core.specs.History.{past_of}
 use Rattle.hlc_core.specs.Kept.{Kept, StandsFor as CoreStandsFor}
 use Rattle.hlc_world.specs.declared.event.Event.{Event}
 use Rattle.hlc_world.specs.declared.event.Event.TheVariants.{Write, Delete, Report, Send, Receive, Observe}
@@ -17,7 +19,8 @@ use Rattle.hlc_world.specs.declared.reply.Reply.{Reply}
 use Rattle.hlc_world.specs.declared.reply.Reply.TheVariants.{Stamped, Sent, Received, Observed, Refused}
 use Rattle.hlc_world.specs.declared.refusal.Refusal.{Refusal}
 use Rattle.hlc_world.specs.declared.refusal.Refusal.TheVariants.{NoMemory}
-use Rattle.hlc_world.specs.Schedule.{an_item, item_made, message_made, stamping_of, with_item, stamp_or, with_message, issued, last_stamp, sent, message_at, node_of, step_of, with_step, core_past}
+use Rattle.hlc_world.specs.Schedule.{an_item, item_made, message_made, stamping_of, with_item, stamp_or, with_message, issued, last_stamp, sent, message_at, node_of}
+use Rattle.hlc_world.specs.Store.{asked, told, joined, with_entry, store_history, core_past}
 use Rattle.hlc_world.specs.Due.{of_clock, issue_refusal, stamp_refusal, receive_refusal, observe_refusal, on_node, refusal_due, IsReceived, IsObserved, MayLackMemory, IsGiven, IsLegal}
 use Rattle.hlc_world.specs.State.{KeptNode, State, world_nodes, StandsFor, fresh, Issues}
 use Rattle.hlc_world.proofs.Lists.{some-injective, get-set_at, get-set_other, set-same, get-append_left, get-push}
@@ -70,12 +73,16 @@ nodes-stamped nodes lasts items p st inside h n lt =
           ∙ sym (ap (λ a. Some (a_node n a (items n))) (stamp_or-other n p st (lasts n) other))
     ]
 
+-- the core's past after an event by which the store was told this
+abbrev past_told : List (Event × Reply) → Event → Option CoreReply → List Step
+past_told s e reply = past_of (with_entry (joined reply (asked s e)) (store_history s))
+
 -- a refused event leaves all as it was
-pub stays : (state : State) (s : List (Event × Reply)) (e : Event) (refusal : Refusal) → item_made e (Refused refusal) ≡ None → stamping_of e (Refused refusal) ≡ None → message_made e (Refused refusal) ≡ None → step_of s e (Refused refusal) ≡ None → IsGiven (world_nodes state) s e (Refused refusal) → StandsFor state s → StandsFor state ((e, Refused refusal) ∷ s)
-stays state s e refusal not_made not_marked not_sent no_step given h =
+pub stays : (state : State) (s : List (Event × Reply)) (e : Event) (refusal : Refusal) → item_made e (Refused refusal) ≡ None → stamping_of e (Refused refusal) ≡ None → message_made e (Refused refusal) ≡ None → told e (Refused refusal) ≡ None → IsGiven (world_nodes state) s e (Refused refusal) → StandsFor state s → StandsFor state ((e, Refused refusal) ∷ s)
+stays state s e refusal not_made not_marked not_sent not_told given h =
     record {
       legal = (given, h.legal);
-      core = subst (λ o. CoreStandsFor state.core (with_step o (core_past s))) (sym no_step) h.core;
+      core = subst (λ o. CoreStandsFor state.core (past_told s e o)) (sym not_told) h.core;
       nodes = λ n lt.
           subst (λ o. slice_get state.nodes n ≡ Some (a_node n (stamp_or n o (last_stamp n s)) (with_item n (item_made e (Refused refusal)) (issued n s)))) (sym not_marked)
           (subst (λ o. slice_get state.nodes n ≡ Some (a_node n (last_stamp n s) (with_item n o (issued n s)))) (sym not_made) (h.nodes n lt));
@@ -91,7 +98,7 @@ pub record IsIssue (nodes : ℕ) (s : List (Event × Reply)) (e : Event) (p : �
   pub makes : (st num : ℕ) → item_made e (Stamped st num) ≡ Some (an_item p num st body)
   pub marks : (st num : ℕ) → stamping_of e (Stamped st num) ≡ Some (p, st)
   pub sends : (r : Reply) → message_made e r ≡ None
-  pub steps : (r : Reply) → step_of s e r ≡ None
+  pub tells : (r : Reply) → told e r ≡ None
   pub not_made : (f : Refusal) → item_made e (Refused f) ≡ None
   pub not_marked : (f : Refusal) → stamping_of e (Refused f) ≡ None
   pub given : (st num : ℕ) → refusal_due nodes s e ≡ None → issue_due (node_of p s) body reading ≡ Ok st → num ≡ length (issued p s) → IsGiven nodes s e (Stamped st num)
@@ -99,15 +106,15 @@ pub record IsIssue (nodes : ℕ) (s : List (Event × Reply)) (e : Event) (p : �
 
 pub write-is : (nodes : ℕ) (s : List (Event × Reply)) (p reading : ℕ) (key value : List ℕ) → IsIssue nodes s (Write p reading key value) p (a_write key (Some value)) reading
 write-is nodes s p reading key value =
-    record { refusal = refl; makes = λ st num. refl; marks = λ st num. refl; sends = λ r. refl; steps = λ r. refl; not_made = λ f. refl; not_marked = λ f. refl; given = λ st num a b c. (a, (b, c)); may = tt }
+    record { refusal = refl; makes = λ st num. refl; marks = λ st num. refl; sends = λ r. refl; tells = λ r. refl; not_made = λ f. refl; not_marked = λ f. refl; given = λ st num a b c. (a, (b, c)); may = tt }
 
 pub delete-is : (nodes : ℕ) (s : List (Event × Reply)) (p reading : ℕ) (key : List ℕ) → IsIssue nodes s (Delete p reading key) p (a_write key None) reading
 delete-is nodes s p reading key =
-    record { refusal = refl; makes = λ st num. refl; marks = λ st num. refl; sends = λ r. refl; steps = λ r. refl; not_made = λ f. refl; not_marked = λ f. refl; given = λ st num a b c. (a, (b, c)); may = tt }
+    record { refusal = refl; makes = λ st num. refl; marks = λ st num. refl; sends = λ r. refl; tells = λ r. refl; not_made = λ f. refl; not_marked = λ f. refl; given = λ st num a b c. (a, (b, c)); may = tt }
 
 pub report-is : (nodes : ℕ) (s : List (Event × Reply)) (p reading : ℕ) → IsIssue nodes s (Report p reading) p a_report reading
 report-is nodes s p reading =
-    record { refusal = refl; makes = λ st num. refl; marks = λ st num. refl; sends = λ r. refl; steps = λ r. refl; not_made = λ f. refl; not_marked = λ f. refl; given = λ st num a b c. (a, (b, c)); may = tt }
+    record { refusal = refl; makes = λ st num. refl; marks = λ st num. refl; sends = λ r. refl; tells = λ r. refl; not_made = λ f. refl; not_marked = λ f. refl; given = λ st num a b c. (a, (b, c)); may = tt }
 
 -- an item that a node issued
 pub issues : (state : State) (s : List (Event × Reply)) (e : Event) (p : ℕ) (body : Body) (reading : ℕ) (before after : KeptNode) (made : ℕ × ℕ) → IsIssue (world_nodes state) s e p body reading → StandsFor state s → p < world_nodes state → slice_get state.nodes p ≡ Some before → Issues before after body reading (Ok made) → StandsFor (with_node state p after) ((e, Stamped made.0 made.1) ∷ s)
@@ -127,7 +134,7 @@ issues state s e p body reading before after made is h inside at taken =
     subst (λ k. StandsFor (with_node state p after) ((e, Stamped st k) ∷ s)) (sym numbered)
     (record {
       legal = subst (λ n. IsLegal n ((e, Stamped st number) ∷ s)) (sym same) (is.given st number none due refl, h.legal);
-      core = subst (λ o. CoreStandsFor state.core (with_step o (core_past s))) (sym (is.steps _)) h.core;
+      core = subst (λ o. CoreStandsFor state.core (past_told s e o)) (sym (is.tells _)) h.core;
       nodes = λ n lt.
           subst (λ o. slice_get (slice_set state.nodes p after) n ≡ Some (a_node n (stamp_or n o (last_stamp n s)) (with_item n (item_made e (Stamped st number)) (issued n s)))) (sym (is.marks st number))
           (subst (λ o. slice_get (slice_set state.nodes p after) n ≡ Some (a_node n (stamp_or n (Some (p, st)) (last_stamp n s)) (with_item n o (issued n s)))) (sym (is.makes st number))
@@ -146,7 +153,7 @@ issues_not state s e p body reading before after refusal is h inside at left =
     elim left.0 [ inl due ↦ inl (first ∙ due) | inr lost ↦ inr (first ∙ lost.0, lost.1, is.may) ] in
     let unchanged : slice_set state.nodes p after ≡ state.nodes = ap (λ x. slice_set state.nodes p x) left.1 ∙ set-same state.nodes p before at in
     subst (λ xs. StandsFor (record { core = state.core; nodes = xs; messages = state.messages }) ((e, Refused refusal) ∷ s)) (sym unchanged)
-    (stays state s e refusal (is.not_made _) (is.not_marked _) (is.sends _) (is.steps _) given h)
+    (stays state s e refusal (is.not_made _) (is.not_marked _) (is.sends _) (is.tells _) given h)
 
 -- a message that a node sent
 pub sends : (state : State) (s : List (Event × Reply)) (p reading : ℕ) (before : KeptNode) (core : Node) (message : Message) (messages : List Message) → StandsFor state s → p < world_nodes state → slice_get state.nodes p ≡ Some before → stamp_due (before.core.last ∷ []) reading ≡ Ok message.stamp → message.from ≡ before.core.id → core ≡ stamped before.core message.stamp → messages ≡ state.messages ++ message ∷ [] → StandsFor (record { core = state.core; nodes = slice_set state.nodes p (record { core = core; issued = before.issued }); messages = messages }) ((Send p reading, Sent message.stamp (length state.messages)) ∷ s)
@@ -188,7 +195,7 @@ pub record IsSight (nodes : ℕ) (s : List (Event × Reply)) (e : Event) (reply 
   pub marks : (st : ℕ) → stamping_of e (reply st) ≡ Some (p, st)
   pub makes : (r : Reply) → item_made e r ≡ None
   pub sends : (r : Reply) → message_made e r ≡ None
-  pub steps : (r : Reply) → step_of s e r ≡ None
+  pub tells : (r : Reply) → told e r ≡ None
   pub not_marked : (f : Refusal) → stamping_of e (Refused f) ≡ None
   pub given : (st : ℕ) → refusal_due nodes s e ≡ None → stamp_due (last_stamp p s ∷ seen ∷ []) reading ≡ Ok st → IsGiven nodes s e (reply st)
 
@@ -199,7 +206,7 @@ receive-is nodes s p reading number message there =
       marks = λ st. refl;
       makes = λ r. refl;
       sends = λ r. refl;
-      steps = λ r. refl;
+      tells = λ r. refl;
       not_marked = λ f. refl;
       given = λ st none due. (none, subst (λ o. IsReceived o (last_stamp p s) reading st) (sym there) due);
     }
@@ -211,7 +218,7 @@ observe-is nodes s p reading id seen there =
       marks = λ st. refl;
       makes = λ r. refl;
       sends = λ r. refl;
-      steps = λ r. refl;
+      tells = λ r. refl;
       not_marked = λ f. refl;
       given = λ st none due. (none, subst (λ o. IsObserved o (last_stamp p s) reading st) (sym there) due);
     }
@@ -228,7 +235,7 @@ sees state s e reply p seen reading st before core is h inside at due core-is =
     let same : length (slice_set state.nodes p after) ≡ length state.nodes = length-set state.nodes p after in
     record {
       legal = subst (λ n. IsLegal n ((e, reply st) ∷ s)) (sym same) (is.given st none due', h.legal);
-      core = subst (λ o. CoreStandsFor state.core (with_step o (core_past s))) (sym (is.steps (reply st))) h.core;
+      core = subst (λ o. CoreStandsFor state.core (past_told s e o)) (sym (is.tells (reply st))) h.core;
       nodes = λ n lt.
           subst (λ o. slice_get (slice_set state.nodes p after) n ≡ Some (a_node n (stamp_or n o (last_stamp n s)) (with_item n (item_made e (reply st)) (issued n s)))) (sym (is.marks st))
           (subst (λ o. slice_get (slice_set state.nodes p after) n ≡ Some (a_node n (stamp_or n (Some (p, st)) (last_stamp n s)) (with_item n o (issued n s)))) (sym (is.makes (reply st)))
@@ -242,7 +249,7 @@ pub sees_not : (state : State) (s : List (Event × Reply)) (e : Event) (reply : 
 sees_not state s e reply p seen reading before fault is h inside at due =
     let was : before ≡ a_node p (last_stamp p s) (issued p s) = some-injective _ _ (sym at ∙ h.nodes p inside) in
     let due' : stamp_due (last_stamp p s ∷ seen ∷ []) reading ≡ Err fault = ap (λ node. stamp_due (node.core.last ∷ seen ∷ []) reading) (sym was) ∙ due in
-    stays state s e (of_clock fault) (is.makes _) (is.not_marked _) (is.sends _) (is.steps _) (inl (is.refusal ∙ on_node-inside (world_nodes state) p _ inside ∙ ap stamp_refusal due')) h
+    stays state s e (of_clock fault) (is.makes _) (is.not_marked _) (is.sends _) (is.tells _) (inl (is.refusal ∙ on_node-inside (world_nodes state) p _ inside ∙ ap stamp_refusal due')) h
 
 pub fresh-length : (n : ℕ) → length (fresh n) ≡ n
 fresh-length zero = refl

@@ -5,12 +5,15 @@ use Rattle.std.specs.Prelude.{◌==◌, if◌then◌else◌}
 use Rattle.std.proofs.lemmas.Bool.{cond-true, cond-false, eq-eqb, ne_eqb, cases_eq}
 use Rattle.hlc_snapshot.specs.Register.{stamp_in}
 use Rattle.hlc_snapshot.specs.RegisterLaws.{stamp_in-push_cases, stamp_in-without_gone, stamp_in-without_other}
+use Rattle.hlc_core.specs.declared.event.CoreEvent.{CoreEvent}
+use Rattle.hlc_core.specs.declared.reply.CoreReply.{CoreReply}
+use Rattle.hlc_core.specs.History.{step_of, with_step, past_of}
 use Rattle.hlc_core.specs.Past.{Step, Took, Opened, Closed as ClosedOf, Vacuumed as VacuumedOf, opened, open_snapshots, stamp_of}
 use Rattle.hlc_world.specs.declared.event.Event.{Event}
 use Rattle.hlc_world.specs.declared.event.Event.TheVariants.{OpenAt, OpenFloor, Observe}
 use Rattle.hlc_world.specs.declared.reply.Reply.{Reply}
 use Rattle.hlc_world.specs.declared.reply.Reply.TheVariants.{Snapshot, Observed}
-use Rattle.hlc_world.specs.Schedule.{step_of, with_step, core_past}
+use Rattle.hlc_world.specs.Store.{share, with_entry, store_history, core_past}
 use Rattle.hlc_world.specs.Due.{IsObserved, IsGiven, IsLegal}
 use Rattle.hlc_world.specs.Before.{entry_at}
 use Rattle.hlc_world.proofs.Orderly.{sight-rises}
@@ -40,9 +43,13 @@ opening-stays VacuumedOf past id stamp is = is
 opening-stays (Opened at) past id stamp is =
     cond-false _ _ _ (ne_eqb (opened past + 1) id (λ e. let low : id ≤ opened past = opening-low past id stamp is in omega arith)) ∙ is
 
-opening-later : (o : Option Step) (past : List Step) (id stamp : ℕ) → opening id past ≡ Some stamp → opening id (with_step o past) ≡ Some stamp
-opening-later None past id stamp is = is
-opening-later (Some step) past id stamp is = opening-stays step past id stamp is
+opening-step : (o : Option Step) (past : List Step) (id stamp : ℕ) → opening id past ≡ Some stamp → opening id (with_step o past) ≡ Some stamp
+opening-step None past id stamp is = is
+opening-step (Some step) past id stamp is = opening-stays step past id stamp is
+
+opening-later : (o : Option (CoreEvent × CoreReply)) (h : List (CoreEvent × CoreReply)) (id stamp : ℕ) → opening id (past_of h) ≡ Some stamp → opening id (past_of (with_entry o h)) ≡ Some stamp
+opening-later None h id stamp is = is
+opening-later (Some entry) h id stamp is = opening-step (step_of entry.0 entry.1) (past_of h) id stamp is
 
 opening-here : (past : List Step) (id stamp : ℕ) → id ≡ opened past + 1 → opening id (Opened stamp ∷ past) ≡ Some stamp
 opening-here past id stamp is = cond-true _ _ _ (eq-eqb _ _ (sym is))
@@ -63,7 +70,7 @@ open-opening (ClosedOf other ∷ past) id stamp is =
       | inr differs ↦ open-opening past id stamp (sym (stamp_in-without_other other id (open_snapshots past) differs) ∙ is)
     ]
 
-opened-here : (nodes : ℕ) (s : List (Event × Reply)) (event : Event) (id stamp : ℕ) → IsGiven nodes s event (Snapshot id stamp) → opening id (with_step (step_of s event (Snapshot id stamp)) (core_past s)) ≡ Some stamp
+opened-here : (nodes : ℕ) (s : List (Event × Reply)) (event : Event) (id stamp : ℕ) → IsGiven nodes s event (Snapshot id stamp) → opening id (past_of (with_entry (share s event (Snapshot id stamp)) (store_history s))) ≡ Some stamp
 opened-here nodes s (OpenAt at) id stamp given = opening-here (core_past s) id stamp given.1.0
 opened-here nodes s OpenFloor id stamp given = opening-here (core_past s) id stamp given.1.0
 opened-here nodes s _ id stamp given = absurd given.1
@@ -73,10 +80,10 @@ pub opened-found : (nodes : ℕ) (s : List (Event × Reply)) (turn : ℕ) (event
 opened-found nodes [] turn event id stamp legal at = absurd (cc)
 opened-found nodes (entry ∷ s) turn event id stamp legal at =
     elim (entry-cases entry s turn _ at) [
-      | inr there ↦ opening-later (step_of s entry.0 entry.1) (core_past s) id stamp (opened-found nodes s turn event id stamp legal.1 there.1)
+      | inr there ↦ opening-later (share s entry.0 entry.1) (store_history s) id stamp (opened-found nodes s turn event id stamp legal.1 there.1)
       | inl here ↦
           let given : IsGiven nodes s event (Snapshot id stamp) = subst (λ y. IsGiven nodes s y.0 y.1) here.1 legal.0 in
-          subst (λ y. opening id (with_step (step_of s y.0 y.1) (core_past s)) ≡ Some stamp) (sym here.1) (opened-here nodes s event id stamp given)
+          subst (λ y. opening id (past_of (with_entry (share s y.0 y.1) (store_history s))) ≡ Some stamp) (sym here.1) (opened-here nodes s event id stamp given)
     ]
 
 seen-below : (o : Option ℕ) (last reading t : ℕ) → IsObserved o last reading t → (seen : ℕ) × (o ≡ Some seen) × (seen < t)
@@ -90,9 +97,9 @@ observed-above nodes (entry ∷ s) turn n r id t legal at =
     elim (entry-cases entry s turn _ at) [
       | inr there ↦
           let x = observed-above nodes s turn n r id t legal.1 there.1 in
-          (x.0, opening-later (step_of s entry.0 entry.1) (core_past s) id x.0 x.1, x.2)
+          (x.0, opening-later (share s entry.0 entry.1) (store_history s) id x.0 x.1, x.2)
       | inl here ↦
           let given : IsGiven nodes s (Observe n r id) (Observed t) = subst (λ y. IsGiven nodes s y.0 y.1) here.1 legal.0 in
           let x = seen-below _ _ r t given.1 in
-          (x.0, opening-later (step_of s entry.0 entry.1) (core_past s) id x.0 (open-opening (core_past s) id x.0 x.1), x.2)
+          (x.0, opening-later (share s entry.0 entry.1) (store_history s) id x.0 (open-opening (core_past s) id x.0 x.1), x.2)
     ]

@@ -16,15 +16,23 @@ use Rattle.hlc_node.specs.declared.node.NodeFault.{NodeFault}
 use Rattle.hlc_node.specs.declared.node.NodeFault.TheVariants.{NumbersSpent}
 use Rattle.hlc_node.specs.Items.{body_refusal}
 use Rattle.hlc_node.specs.Node.{Node, clocked, unless_bad, issue_due}
-use Rattle.hlc_core.specs.Past.{Step, Took, count, head}
+use Rattle.hlc_floor.specs.Heads.{Acceptance}
+use Rattle.hlc_core.specs.declared.fault.CoreFault.{CoreFault}
+use Rattle.hlc_core.specs.declared.event.CoreEvent.{CoreEvent}
+use Rattle.hlc_core.specs.declared.reply.CoreReply.{CoreReply}
+use Rattle.hlc_core.specs.declared.reply.CoreReply.TheVariants.{Accepted as accepted}
+use Rattle.hlc_core.specs.Past.{Step, Took, count, head, item_refusal}
+use Rattle.hlc_core.specs.PastLaws.{inside, on_link, admissible}
+use Rattle.hlc_core.specs.History.{past_of}
 use Rattle.hlc_world.specs.declared.event.Event.{Event}
-use Rattle.hlc_world.specs.declared.event.Event.TheVariants.{Write, Delete, Report, Send, Receive, Observe, Deliver, OpenAt, OpenFloor, Close, Vacuum}
+use Rattle.hlc_world.specs.declared.event.Event.TheVariants.{Write, Delete, Report, Send, Receive, Observe, Deliver, OpenAt, OpenFloor, Read, List as ListAll, Close, Vacuum}
 use Rattle.hlc_world.specs.declared.reply.Reply.{Reply}
-use Rattle.hlc_world.specs.declared.reply.Reply.TheVariants.{Stamped, Sent, Received, Observed, Accepted, Snapshot, Closed, Vacuumed}
+use Rattle.hlc_world.specs.declared.reply.Reply.TheVariants.{Stamped, Sent, Received, Observed, Accepted, Snapshot, Answer, Listing, Closed, Vacuumed}
 use Rattle.hlc_world.specs.declared.refusal.Refusal.{Refusal}
-use Rattle.hlc_world.specs.declared.refusal.Refusal.TheVariants.{NoNode, NotNext}
-use Rattle.hlc_world.specs.Schedule.{an_item, with_item, stamp_or, issued, last_stamp, node_of, taking, with_step, core_past}
-use Rattle.hlc_world.specs.Due.{on_node, deliver_refusal, IsReceived, IsObserved, IsGiven, IsLegal}
+use Rattle.hlc_world.specs.declared.refusal.Refusal.TheVariants.{NoNode}
+use Rattle.hlc_world.specs.Schedule.{an_item, with_item, stamp_or, issued, last_stamp, node_of}
+use Rattle.hlc_world.specs.Store.{accepting, joined, with_entry, store_history, core_past}
+use Rattle.hlc_world.specs.Due.{core_refusal, on_node, deliver_refusal, IsReceived, IsObserved, IsGiven, IsLegal}
 use Rattle.hlc_world.proofs.Lists.{some-injective, get-append_left, get-push}
 use Rattle.hlc_world.proofs.Nodes.{with_item-same, with_item-other, stamp_or-other}
 
@@ -232,13 +240,21 @@ issue-by None last next reading st h =
 pub issue-ok : (node : Node) (body : Body) (reading st : ℕ) → issue_due node body reading ≡ Ok st → (body_refusal body ≡ None) × (node.next ≡ 18446744073709551615 → ⊥) × (node.last < st)
 issue-ok node body reading st h = issue-by (body_refusal body) node.last node.next reading st h
 
-pub delivered : (o : Option Item) (number next : ℕ) → deliver_refusal o number next ≡ None → (item : Item) → o ≡ Some item → number ≡ next
-delivered None number next h item e = absurd (cc)
-delivered (Some x) number next h item e =
-    elim (cases_eq number next) [
-      | inl same ↦ same
-      | inr other ↦ absurd (let g : Some (NotNext next) ≡ None = sym (cond-false _ _ _ (ne_eqb _ _ other)) ∙ h in cc)
-    ]
+-- where the world refuses nothing for the core, the core does not refuse
+pub no-core : (o : Option CoreFault) → core_refusal o ≡ None → o ≡ None
+no-core None h = refl
+no-core (Some fault) h = absurd (cc)
+
+-- an item that nothing refuses to deliver is the next one
+pub delivered : (nodes : ℕ) (past : List Step) (p k : ℕ) (item : Item) → item.node ≡ p → item.number ≡ k → deliver_refusal nodes past (Some item) ≡ None → k ≡ count p past
+delivered nodes past p k item own number none =
+    let accepts : item_refusal nodes past item ≡ None = no-core (item_refusal nodes past item) none in
+    let link = sym (on_link nodes past item (inside nodes past item accepts)) ∙ accepts in
+    sym number ∙ (admissible (count item.node past) (head item.node past) item link).number ∙ ap (λ j. count j past) own
+
+-- the core's past after a delivery
+abbrev pub past_taken : Acceptance → Option Item → List (CoreEvent × CoreReply) → List Step
+past_taken acceptance o history = past_of (with_entry (joined (Some (accepted acceptance)) (accepting o)) history)
 
 abbrev pub IsOrderly : ℕ → List (Event × Reply) → Type 0
 IsOrderly nodes s = Orderly nodes (λ n. issued n s) (λ n. last_stamp n s) (λ n. count n (core_past s)) (λ n. head n (core_past s))
@@ -248,10 +264,12 @@ orderly-issued nodes s p reading st num body rest none due is h =
     let f = issue-ok (node_of p s) body reading st due in
     orderly-issue nodes (λ n. issued n s) (λ n. last_stamp n s) (λ n. count n (core_past s)) (λ n. head n (core_past s)) p st num body h (on_node-none nodes p rest none).0 is f.1 f.0 f.2
 
-orderly-taken : (nodes : ℕ) (s : List (Event × Reply)) (p k : ℕ) (o : Option Item) → slice_get (issued p s) k ≡ o → deliver_refusal o k (count p (core_past s)) ≡ None → IsOrderly nodes s → Orderly nodes (λ n. issued n s) (λ n. last_stamp n s) (λ n. count n (with_step (taking o) (core_past s))) (λ n. head n (with_step (taking o) (core_past s)))
-orderly-taken nodes s p k None at none h = h
-orderly-taken nodes s p k (Some item) at none h =
-    orderly-took nodes (λ n. issued n s) (λ n. last_stamp n s) (core_past s) p k item h at (delivered (Some item) k (count p (core_past s)) none item refl)
+orderly-taken : (nodes : ℕ) (s : List (Event × Reply)) (p k : ℕ) (acceptance : Acceptance) (o : Option Item) → slice_get (issued p s) k ≡ o → deliver_refusal nodes (core_past s) o ≡ None → IsOrderly nodes s → Orderly nodes (λ n. issued n s) (λ n. last_stamp n s) (λ n. count n (past_taken acceptance o (store_history s))) (λ n. head n (past_taken acceptance o (store_history s)))
+orderly-taken nodes s p k acceptance None at none h = h
+orderly-taken nodes s p k acceptance (Some item) at none h =
+    let is = h.each p k item at in
+    orderly-took nodes (λ n. issued n s) (λ n. last_stamp n s) (core_past s) p k item h at
+    (delivered nodes (core_past s) p k item is.node is.number none)
 
 orderly-entry : (nodes : ℕ) (s : List (Event × Reply)) (event : Event) (reply : Reply) → IsGiven nodes s event reply → IsOrderly nodes s → IsOrderly nodes ((event, reply) ∷ s)
 orderly-entry nodes s (Write p reading key value) (Stamped st num) given h =
@@ -266,9 +284,11 @@ orderly-entry nodes s (Receive p reading number) (Received st) given h =
 orderly-entry nodes s (Observe p reading id) (Observed st) given h =
     orderly-mark nodes (λ n. issued n s) (λ n. last_stamp n s) (λ n. count n (core_past s)) (λ n. head n (core_past s)) p st h (observed-rises _ _ reading st given.1)
 orderly-entry nodes s (Deliver p k) (Accepted st) given h =
-    orderly-taken nodes s p k (slice_get (issued p s) k) refl (on_node-none nodes p _ given.0).1 h
+    orderly-taken nodes s p k (record { node = p; stamp = st }) (slice_get (issued p s) k) refl (on_node-none nodes p _ given.0).1 h
 orderly-entry nodes s (OpenAt at) (Snapshot id st) given h = h
 orderly-entry nodes s OpenFloor (Snapshot id st) given h = h
+orderly-entry nodes s (Read id key) (Answer value) given h = h
+orderly-entry nodes s (ListAll id) (Listing pairs) given h = h
 orderly-entry nodes s (Close id) (Closed st) given h = h
 orderly-entry nodes s Vacuum (Vacuumed report) given h = h
 orderly-entry nodes s _ _ given h = h

@@ -13,6 +13,7 @@ use Rattle.hlc_node.specs.declared.item.Message.{Message}
 use Rattle.hlc_node.specs.declared.node.NodeFault.{NodeFault}
 use Rattle.hlc_node.specs.declared.node.NodeFault.TheVariants as node_fault
 use Rattle.hlc_node.specs.Node.{issue_due}
+use Rattle.hlc_core.specs.Calls.{list_refusal}
 use Rattle.hlc_core.specs.Past.{Step, count, floor, horizon, opened, stamp_of, open_snapshots, of_room, open_refusal}
 use Rattle.hlc_snapshot.specs.declared.fault.SnapshotFault.{SnapshotFault}
 use Rattle.hlc_snapshot.specs.declared.fault.SnapshotFault.TheVariants as snapshot_fault
@@ -23,8 +24,10 @@ use Rattle.hlc_world.specs.declared.reply.Reply.{Reply}
 use Rattle.hlc_world.specs.declared.reply.Reply.TheVariants.{Refused}
 use Rattle.hlc_world.specs.declared.refusal.Refusal.{Refusal}
 use Rattle.hlc_world.specs.declared.refusal.Refusal.TheVariants.{NoNode, NotNext, StampNotRising, AboveFloor, BelowHorizon, NoMemory}
-use Rattle.hlc_world.specs.Schedule.{item_at, last_stamp, message_at, node_of, core_past}
-use Rattle.hlc_world.specs.Due.{issue_refusal, stamp_refusal, receive_refusal, observe_refusal, core_refusal, on_node, deliver_refusal, snapshot_refusal, refusal_due, IsGiven, IsLegal}
+use Rattle.hlc_world.specs.Schedule.{item_at, last_stamp, message_at, node_of}
+use Rattle.hlc_world.specs.Store.{core_past}
+use Rattle.hlc_world.specs.Due.{issue_refusal, stamp_refusal, receive_refusal, observe_refusal, core_refusal, on_node, refusal_due, number_refusal, GoesByNumber, IsGiven, IsLegal}
+use Rattle.hlc_world.proofs.Delivery.{goes-by-number}
 
 -- the refusal is not that a stamp does not rise
 abbrev IsRise : Option Refusal → Type 0
@@ -50,9 +53,9 @@ observe-rise : (o : Option ℕ) (last reading : ℕ) → IsRise (observe_refusal
 observe-rise None last reading head e = absurd (cc)
 observe-rise (Some seen) last reading head e = stamp-rise (stamp_due (last ∷ seen ∷ []) reading) head e
 
-deliver-rise : (o : Option Item) (number next : ℕ) → IsRise (deliver_refusal o number next)
-deliver-rise None number next head e = absurd (cc)
-deliver-rise (Some item) number next head e =
+number-rise : (o : Option Item) (number next : ℕ) → IsRise (number_refusal o number next)
+number-rise None number next head e = absurd (cc)
+number-rise (Some item) number next head e =
     elim (cases_eq number next) [
       | inl same ↦ absurd (let g : None ≡ Some (StampNotRising head) = sym (cond-true _ _ _ (eq-eqb _ _ same)) ∙ e in cc)
       | inr other ↦ absurd (let g : Some (NotNext next) ≡ Some (StampNotRising head) = sym (cond-false _ _ _ (ne_eqb _ _ other)) ∙ e in cc)
@@ -76,7 +79,7 @@ open-rise nodes past stamp head e =
           ]
     ]
 
-snapshot-rise : (o : Option ℕ) → IsRise (snapshot_refusal o)
+snapshot-rise : (o : Option ℕ) → IsRise (core_refusal (list_refusal o))
 snapshot-rise None head e = absurd (cc)
 snapshot-rise (Some stamp) head e = absurd (cc)
 
@@ -87,28 +90,28 @@ inside-rise nodes p rest h head e =
       | inr inside ↦ h head (sym (cond-false _ _ _ inside) ∙ e)
     ]
 
-due-rise : (nodes : ℕ) (s : List (Event × Reply)) (event : Event) → IsRise (refusal_due nodes s event)
-due-rise nodes s (Write p reading key value) = inside-rise nodes p _ (issue-rise (issue_due (node_of p s) (a_write key (Some value)) reading))
-due-rise nodes s (Delete p reading key) = inside-rise nodes p _ (issue-rise (issue_due (node_of p s) (a_write key None) reading))
-due-rise nodes s (Report p reading) = inside-rise nodes p _ (issue-rise (issue_due (node_of p s) a_report reading))
-due-rise nodes s (Send p reading) = inside-rise nodes p _ (stamp-rise (stamp_due (last_stamp p s ∷ []) reading))
-due-rise nodes s (Receive p reading k) = inside-rise nodes p _ (receive-rise (message_at k s) (last_stamp p s) reading)
-due-rise nodes s (Deliver p k) = inside-rise nodes p _ (deliver-rise (item_at p k s) k (count p (core_past s)))
-due-rise nodes s (Observe p reading id) = inside-rise nodes p _ (observe-rise (stamp_of id (core_past s)) (last_stamp p s) reading)
-due-rise nodes s (OpenAt stamp) = open-rise nodes (core_past s) stamp
-due-rise nodes s OpenFloor = room-rise (room_in (length (open_snapshots (core_past s))) (opened (core_past s)))
-due-rise nodes s (Read id key) = snapshot-rise (stamp_of id (core_past s))
-due-rise nodes s (ListAll id) = snapshot-rise (stamp_of id (core_past s))
-due-rise nodes s (Close id) = snapshot-rise (stamp_of id (core_past s))
-due-rise nodes s Floor = λ head e. absurd (cc)
-due-rise nodes s Vacuum = λ head e. absurd (cc)
-due-rise nodes s Rows = λ head e. absurd (cc)
+due-rise : (nodes : ℕ) (s : List (Event × Reply)) (event : Event) → GoesByNumber nodes s → IsRise (refusal_due nodes s event)
+due-rise nodes s (Write p reading key value) numbers = inside-rise nodes p _ (issue-rise (issue_due (node_of p s) (a_write key (Some value)) reading))
+due-rise nodes s (Delete p reading key) numbers = inside-rise nodes p _ (issue-rise (issue_due (node_of p s) (a_write key None) reading))
+due-rise nodes s (Report p reading) numbers = inside-rise nodes p _ (issue-rise (issue_due (node_of p s) a_report reading))
+due-rise nodes s (Send p reading) numbers = inside-rise nodes p _ (stamp-rise (stamp_due (last_stamp p s ∷ []) reading))
+due-rise nodes s (Receive p reading k) numbers = inside-rise nodes p _ (receive-rise (message_at k s) (last_stamp p s) reading)
+due-rise nodes s (Deliver p k) numbers = subst IsRise (sym (numbers p k)) (inside-rise nodes p _ (number-rise (item_at p k s) k (count p (core_past s))))
+due-rise nodes s (Observe p reading id) numbers = inside-rise nodes p _ (observe-rise (stamp_of id (core_past s)) (last_stamp p s) reading)
+due-rise nodes s (OpenAt stamp) numbers = open-rise nodes (core_past s) stamp
+due-rise nodes s OpenFloor numbers = room-rise (room_in (length (open_snapshots (core_past s))) (opened (core_past s)))
+due-rise nodes s (Read id key) numbers = snapshot-rise (stamp_of id (core_past s))
+due-rise nodes s (ListAll id) numbers = snapshot-rise (stamp_of id (core_past s))
+due-rise nodes s (Close id) numbers = snapshot-rise (stamp_of id (core_past s))
+due-rise nodes s Floor numbers = λ head e. absurd (cc)
+due-rise nodes s Vacuum numbers = λ head e. absurd (cc)
+due-rise nodes s Rows numbers = λ head e. absurd (cc)
 
 -- so no world answers that a stamp does not rise
 pub rising : (nodes : ℕ) (s : List (Event × Reply)) (event : Event) (head : ℕ) (reply : Reply) → IsLegal nodes ((event, reply) ∷ s) → reply ≡ Refused (StampNotRising head) → ⊥
 rising nodes s event head reply legal is =
     let given' : IsGiven nodes s event (Refused (StampNotRising head)) = subst (λ r. IsGiven nodes s event r) is legal.0 in
     elim given' [
-      | inl due ↦ due-rise nodes s event head due
+      | inl due ↦ due-rise nodes s event (goes-by-number nodes s legal.1) head due
       | inr lost ↦ (let g : StampNotRising head ≡ NoMemory = lost.1 in absurd (cc))
     ]

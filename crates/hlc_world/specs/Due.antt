@@ -1,5 +1,5 @@
 -- The reply that is due to an event after a schedule.
-use Rattle.std.specs.Prelude.{◌≡◌, ◌≢◌, ℕ, ◌+◌, List, [], ◌∷◌, length, Option, Some, None, Result, Ok, Err, ◌==◌, ◌⊎◌, nat_le, if◌then◌else◌, ⊤}
+use Rattle.std.specs.Prelude.{◌≡◌, ℕ, List, [], ◌∷◌, length, Option, Some, None, Result, Ok, Err, ◌==◌, ◌⊎◌, nat_le, if◌then◌else◌, ⊤}
 use Rattle.hlc_clock.specs.NextStamp.{stamp_due}
 use Rattle.hlc_clock.specs.declared.clock.ClockFault.{ClockFault}
 use Rattle.hlc_clock.specs.declared.clock.ClockFault.TheVariants as clock_fault
@@ -11,19 +11,22 @@ use Rattle.hlc_node.specs.declared.item.Message.{Message}
 use Rattle.hlc_node.specs.declared.node.NodeFault.{NodeFault}
 use Rattle.hlc_node.specs.declared.node.NodeFault.TheVariants as node_fault
 use Rattle.hlc_node.specs.Node.{issue_due}
-use Rattle.hlc_node.specs.Rows.{answer}
 use Rattle.hlc_core.specs.declared.fault.CoreFault.{CoreFault}
 use Rattle.hlc_core.specs.declared.fault.CoreFault.TheVariants as core_fault
-use Rattle.hlc_core.specs.Past.{count, floor, opened, stamp_of, writes, room_refusal, open_refusal}
-use Rattle.hlc_core.specs.Calls.{IsWrite, IsListed}
-use Rattle.hlc_core.specs.Stored.{IsStoredCount, IsReport}
+use Rattle.hlc_core.specs.declared.event.CoreEvent.{CoreEvent}
+use Rattle.hlc_core.specs.declared.event.CoreEvent.TheVariants.{Accept}
+use Rattle.hlc_core.specs.declared.reply.CoreReply.{CoreReply}
+use Rattle.hlc_core.specs.Past.{Step, count, floor, stamp_of}
+use Rattle.hlc_core.specs.Stored.{IsStoredCount}
+use Rattle.hlc_core.specs.History.{refusal_due as refusal_owed, IsDueReply as IsOwedReply, MayLackMemory as CoreMayLack}
 use Rattle.hlc_world.specs.declared.event.Event.{Event}
-use Rattle.hlc_world.specs.declared.event.Event.TheVariants.{Write, Delete, Report, Send, Receive, Observe, Deliver, OpenAt, OpenFloor, Read, List as ListAll, Close, Floor, Vacuum, Rows}
+use Rattle.hlc_world.specs.declared.event.Event.TheVariants.{Write, Delete, Report, Send, Receive, Observe, Deliver, Floor, Rows}
 use Rattle.hlc_world.specs.declared.reply.Reply.{Reply}
-use Rattle.hlc_world.specs.declared.reply.Reply.TheVariants.{Stamped, Sent, Received, Observed, Accepted, Snapshot, Answer, Listing, Closed, Floor as FloorIs, Vacuumed, Rows as RowsAre, Refused}
+use Rattle.hlc_world.specs.declared.reply.Reply.TheVariants.{Stamped, Sent, Received, Observed, Floor as FloorIs, Rows as RowsAre, Refused}
 use Rattle.hlc_world.specs.declared.refusal.Refusal.{Refusal}
 use Rattle.hlc_world.specs.declared.refusal.Refusal.TheVariants.{NoNode, ReadingTooLarge, CounterFull, NoMessage, NoItem, NotNext, StampNotRising, AboveFloor, BelowHorizon, NoSnapshot, TooManySnapshots, BadKey, ValueTooLong, NumbersSpent, NoMemory}
-use Rattle.hlc_world.specs.Schedule.{issued, item_at, last_stamp, sent, message_at, node_of, core_past}
+use Rattle.hlc_world.specs.Schedule.{issued, item_at, last_stamp, sent, message_at, node_of}
+use Rattle.hlc_world.specs.Store.{asked, share, core_past}
 
 -- what no item may say, as a refusal
 abbrev pub of_body : BodyFault → Refusal
@@ -83,17 +86,17 @@ core_refusal (Some fault) = Some (of_core fault)
 abbrev pub on_node : ℕ → ℕ → Option Refusal → Option Refusal
 on_node nodes node rest = if nat_le nodes node then Some NoNode else rest
 
--- only an issued item is delivered, and only the next one accepted
-abbrev pub deliver_refusal : Option Item → ℕ → ℕ → Option Refusal
-deliver_refusal None number next = Some NoItem
-deliver_refusal (Some item) number next = if number == next then None else Some (NotNext next)
+-- why the store refuses what it is asked, if it does
+abbrev pub store_refusal : ℕ → List Step → Option CoreEvent → Option Refusal
+store_refusal nodes past None = None
+store_refusal nodes past (Some event) = core_refusal (refusal_owed nodes past event)
 
--- only an open snapshot is read, listed and closed
-abbrev pub snapshot_refusal : Option ℕ → Option Refusal
-snapshot_refusal None = Some NoSnapshot
-snapshot_refusal (Some stamp) = None
+-- only an issued item is delivered, and the store may refuse it
+abbrev pub deliver_refusal : ℕ → List Step → Option Item → Option Refusal
+deliver_refusal nodes past None = Some NoItem
+deliver_refusal nodes past (Some item) = store_refusal nodes past (Some (Accept item))
 
--- the first refusal that is due, memory aside
+-- the first refusal that is due, memory aside; to an event that asks something of the store, the one that the store owes
 abbrev pub refusal_due : ℕ → List (Event × Reply) → Event → Option Refusal
 refusal_due nodes schedule (Write node reading key value) =
     on_node nodes node (issue_refusal (issue_due (node_of node schedule) (a_write key (Some value)) reading))
@@ -106,25 +109,8 @@ refusal_due nodes schedule (Receive node reading message) =
 refusal_due nodes schedule (Observe node reading id) =
     on_node nodes node (observe_refusal (stamp_of id (core_past schedule)) (last_stamp node schedule) reading)
 refusal_due nodes schedule (Deliver node number) =
-    on_node nodes node (deliver_refusal (item_at node number schedule) number (count node (core_past schedule)))
-refusal_due nodes schedule (OpenAt stamp) = core_refusal (open_refusal nodes (core_past schedule) stamp)
-refusal_due nodes schedule OpenFloor = core_refusal (room_refusal (core_past schedule))
-refusal_due nodes schedule (Read id key) = snapshot_refusal (stamp_of id (core_past schedule))
-refusal_due nodes schedule (ListAll id) = snapshot_refusal (stamp_of id (core_past schedule))
-refusal_due nodes schedule (Close id) = snapshot_refusal (stamp_of id (core_past schedule))
-refusal_due nodes schedule Floor = None
-refusal_due nodes schedule Vacuum = None
-refusal_due nodes schedule Rows = None
-
--- the stamp of the item, if there is one
-abbrev pub stamp_in : Option Item → Option ℕ
-stamp_in None = None
-stamp_in (Some item) = Some item.stamp
-
--- the value is what the accepted writes answer at the snapshot's stamp
-abbrev pub IsAnswer : Option ℕ → (ℕ → Option (List ℕ)) → Option (List ℕ) → Type 0
-IsAnswer None answers value = ⊥
-IsAnswer (Some stamp) answers value = value ≡ answers stamp
+    on_node nodes node (deliver_refusal nodes (core_past schedule) (item_at node number schedule))
+refusal_due nodes schedule event = store_refusal nodes (core_past schedule) (asked schedule event)
 
 -- the stamp of the receipt of a message
 abbrev pub IsReceived : Option Message → ℕ → ℕ → ℕ → Type 0
@@ -136,7 +122,12 @@ abbrev pub IsObserved : Option ℕ → ℕ → ℕ → ℕ → Type 0
 IsObserved None last reading stamp = ⊥
 IsObserved (Some seen) last reading stamp = stamp_due (last ∷ seen ∷ []) reading ≡ Ok stamp
 
--- the reply that is due where no refusal is
+-- the store owes this reply to what it was asked
+abbrev pub IsOwed : ℕ → List Step → Option (CoreEvent × CoreReply) → Type 0
+IsOwed nodes past None = ⊥
+IsOwed nodes past (Some entry) = IsOwedReply nodes past entry.0 entry.1
+
+-- the reply that is due where no refusal is; to an event that asks something of the store, one that tells what the store owes
 abbrev pub IsDueReply : ℕ → List (Event × Reply) → Event → Reply → Type 0
 IsDueReply nodes schedule (Write node reading key value) (Stamped stamp number) =
     (issue_due (node_of node schedule) (a_write key (Some value)) reading ≡ Ok stamp) × (number ≡ length (issued node schedule))
@@ -150,39 +141,22 @@ IsDueReply nodes schedule (Receive node reading message) (Received stamp) =
     IsReceived (message_at message schedule) (last_stamp node schedule) reading stamp
 IsDueReply nodes schedule (Observe node reading id) (Observed stamp) =
     IsObserved (stamp_of id (core_past schedule)) (last_stamp node schedule) reading stamp
-IsDueReply nodes schedule (Deliver node number) (Accepted stamp) = stamp_in (item_at node number schedule) ≡ Some stamp
-IsDueReply nodes schedule (OpenAt at) (Snapshot id stamp) = (id ≡ opened (core_past schedule) + 1) × (stamp ≡ at)
-IsDueReply nodes schedule OpenFloor (Snapshot id stamp) =
-    (id ≡ opened (core_past schedule) + 1) × (stamp ≡ floor nodes (core_past schedule))
-IsDueReply nodes schedule (Read id key) (Answer value) =
-    IsAnswer (stamp_of id (core_past schedule)) (answer (writes (core_past schedule)) key) value
-IsDueReply nodes schedule (ListAll id) (Listing pairs) = IsListed (stamp_of id (core_past schedule)) (writes (core_past schedule)) pairs
-IsDueReply nodes schedule (Close id) (Closed stamp) = stamp_of id (core_past schedule) ≡ Some stamp
 IsDueReply nodes schedule Floor (FloorIs stamp) = stamp ≡ floor nodes (core_past schedule)
-IsDueReply nodes schedule Vacuum (Vacuumed report) = IsReport nodes (core_past schedule) report
 IsDueReply nodes schedule Rows (RowsAre count) = IsStoredCount nodes (core_past schedule) count
-IsDueReply nodes schedule _ _ = ⊥
+IsDueReply nodes schedule event reply = IsOwed nodes (core_past schedule) (share schedule event reply)
 
--- the item is a write or a deletion, whose row is stored
-abbrev pub TakesRow : Option Item → Type 0
-TakesRow None = ⊥
-TakesRow (Some item) = IsWrite item.body
+-- the store may want memory for what it is asked
+abbrev pub StoreMayLack : List Step → Option CoreEvent → Type 0
+StoreMayLack past None = ⊥
+StoreMayLack past (Some event) = CoreMayLack past event
 
--- the answer is a value, which is copied out of the store
-abbrev pub TakesValue : Option ℕ → (ℕ → Option (List ℕ)) → Type 0
-TakesValue None answers = ⊥
-TakesValue (Some stamp) answers = answers stamp ≢ None
-
--- the event may want memory: it makes an item, a message, a snapshot or a listing, or it stores a row, or gives a value, or is a vacuum
+-- the event may want memory: it makes an item or a message, or the store may want it for what the event asks
 abbrev pub MayLackMemory : List (Event × Reply) → Event → Type 0
-MayLackMemory schedule (Receive node reading message) = ⊥
-MayLackMemory schedule (Observe node reading id) = ⊥
-MayLackMemory schedule (Deliver node number) = TakesRow (item_at node number schedule)
-MayLackMemory schedule (Read id key) = TakesValue (stamp_of id (core_past schedule)) (answer (writes (core_past schedule)) key)
-MayLackMemory schedule (Close id) = ⊥
-MayLackMemory schedule Floor = ⊥
-MayLackMemory schedule Rows = ⊥
-MayLackMemory schedule _ = ⊤
+MayLackMemory schedule (Write node reading key value) = ⊤
+MayLackMemory schedule (Delete node reading key) = ⊤
+MayLackMemory schedule (Report node reading) = ⊤
+MayLackMemory schedule (Send node reading) = ⊤
+MayLackMemory schedule event = StoreMayLack (core_past schedule) (asked schedule event)
 
 -- the reply is the refusal that is due; or, where none is, a due reply, or want of memory where the event may want it
 abbrev pub IsGiven : ℕ → List (Event × Reply) → Event → Reply → Type 0
@@ -200,3 +174,15 @@ IsRefused _ = ⊥
 abbrev pub IsLegal : ℕ → List (Event × Reply) → Type 0
 IsLegal nodes [] = ⊤
 IsLegal nodes (entry ∷ schedule) = IsGiven nodes schedule entry.0 entry.1 × IsLegal nodes schedule
+
+-- only an issued item is delivered, and only the next one accepted
+abbrev pub number_refusal : Option Item → ℕ → ℕ → Option Refusal
+number_refusal None number next = Some NoItem
+number_refusal (Some item) number next = if number == next then None else Some (NotNext next)
+
+-- an issued item is refused for its number alone, memory aside: its stamp is never too low, its key and value never bad
+abbrev pub GoesByNumber : ℕ → List (Event × Reply) → Type 0
+GoesByNumber nodes schedule =
+    (node number : ℕ)
+    → refusal_due nodes schedule (Deliver node number)
+    ≡ on_node nodes node (number_refusal (item_at node number schedule) number (count node (core_past schedule)))

@@ -1,15 +1,14 @@
--- A schedule, and what it says of nodes, items and the core.
+-- A schedule, and what it says of nodes, items and messages.
 use Rattle.std.specs.Prelude.{ℕ, List, [], ◌∷◌, ◌++◌, length, Option, Some, None, ◌==◌, if◌then◌else◌, slice_get}
 use Rattle.hlc_node.specs.declared.item.Item.{Item}
 use Rattle.hlc_node.specs.declared.item.Body.{Body}
 use Rattle.hlc_node.specs.declared.item.Body.TheVariants.{Write as a_write, Report as a_report}
 use Rattle.hlc_node.specs.declared.item.Message.{Message}
 use Rattle.hlc_node.specs.Node.{Node}
-use Rattle.hlc_core.specs.Past.{Step, Took, Opened, Closed as ClosedOf, Vacuumed as VacuumedOf}
 use Rattle.hlc_world.specs.declared.event.Event.{Event}
-use Rattle.hlc_world.specs.declared.event.Event.TheVariants.{Write, Delete, Report, Send, Receive, Observe, Deliver, OpenAt, OpenFloor, Close, Vacuum}
+use Rattle.hlc_world.specs.declared.event.Event.TheVariants.{Write, Delete, Report, Send, Receive, Observe}
 use Rattle.hlc_world.specs.declared.reply.Reply.{Reply}
-use Rattle.hlc_world.specs.declared.reply.Reply.TheVariants.{Stamped, Sent, Received, Observed, Accepted, Snapshot, Closed, Vacuumed}
+use Rattle.hlc_world.specs.declared.reply.Reply.TheVariants.{Stamped, Sent, Received, Observed}
 
 -- Below, a schedule is the list of the events with their replies, the last one first. An event whose reply is a refusal did not
 -- take place.
@@ -81,30 +80,6 @@ message_at number schedule = slice_get (sent schedule) number
 -- what a node has come to
 abbrev pub node_of : ℕ → List (Event × Reply) → Node
 node_of n schedule = record { id = n; last = last_stamp n schedule; next = length (issued n schedule) }
-
--- an item that is found is taken
-abbrev pub taking : Option Item → Option Step
-taking None = None
-taking (Some item) = Some (Took item)
-
--- what an event did to the core
-abbrev pub step_of : List (Event × Reply) → Event → Reply → Option Step
-step_of schedule (Deliver node number) (Accepted stamp) = taking (item_at node number schedule)
-step_of schedule (OpenAt at) (Snapshot id stamp) = Some (Opened stamp)
-step_of schedule OpenFloor (Snapshot id stamp) = Some (Opened stamp)
-step_of schedule (Close id) (Closed stamp) = Some (ClosedOf id)
-step_of schedule Vacuum (Vacuumed report) = Some VacuumedOf
-step_of schedule _ _ = None
-
--- the past, and this step after it
-abbrev pub with_step : Option Step → List Step → List Step
-with_step None past = past
-with_step (Some step) past = step ∷ past
-
--- what took place in the core, the last step first
-abbrev pub core_past : List (Event × Reply) → List Step
-core_past [] = []
-core_past (entry ∷ schedule) = with_step (step_of schedule entry.0 entry.1) (core_past schedule)
 
 -- a schedule, and then these events with their replies, the first of them first
 abbrev pub after : List Event → List Reply → List (Event × Reply) → List (Event × Reply)

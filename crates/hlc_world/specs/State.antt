@@ -10,7 +10,8 @@ use Rattle.hlc_world.specs.declared.event.Event.{Event}
 use Rattle.hlc_world.specs.declared.reply.Reply.{Reply}
 use Rattle.hlc_world.specs.declared.refusal.Refusal.{Refusal}
 use Rattle.hlc_world.specs.declared.refusal.Refusal.TheVariants.{NoMemory}
-use Rattle.hlc_world.specs.Schedule.{issued, sent, node_of, core_past}
+use Rattle.hlc_world.specs.Schedule.{issued, sent, node_of}
+use Rattle.hlc_world.specs.Store.{core_past}
 use Rattle.hlc_world.specs.Due.{issue_refusal, of_core, IsLegal}
 
 -- what is kept of a node: its core, and the items that it issued

@@ -2,19 +2,24 @@
 ghost use Rattle.std.specs.Prelude.{◌<◌, ℕ, List};
 ghost use Rattle.hlc_world.specs.declared.event.Event.{Event as AnEvent};
 ghost use Rattle.hlc_world.specs.declared.reply.Reply.{Reply as AReply};
-ghost use Rattle.hlc_world.specs.Due.{IsLegal};
+ghost use Rattle.hlc_world.specs.Due.{IsLegal, GoesByNumber};
 ghost use Rattle.hlc_world.specs.Before.{HappenedBefore, IsStamped};
 ghost use Rattle.hlc_world.specs.Floor.{IsComplete, IsBelowClocks, IsClosed};
 ghost use Rattle.hlc_world.specs.Headline.{IsFaithful};
 ghost use Rattle.hlc_world.specs.State.{State, IsMatched, StandsFor, world_nodes};
 
-use hlc_core::vacuums_leave_the_fewest;
-use hlc_witness::changes_force_rows;
+use hlc_core::histories_are_faithful;
 
 /// In a schedule whose events were each given their due, as in each that a world stands for, if an
 /// event happened before another (Lamport 1978), its stamp is the lesser.
 pub fn stamps_follow_events()
     ensures { (nodes : ℕ) (schedule : List (AnEvent × AReply)) (first later : ℕ) (n a m b : ℕ) → IsLegal nodes schedule → HappenedBefore schedule first later → IsStamped schedule first n a → IsStamped schedule later m b → a < b }
+{}
+
+/// In such a schedule an issued item is refused for its number alone, memory aside: its stamp is
+/// never too low, its key and value never bad.
+pub fn items_go_by_number()
+    ensures { (nodes : ℕ) (schedule : List (AnEvent × AReply)) → IsLegal nodes schedule → GoesByNumber nodes schedule }
 {}
 
 /// In such a schedule every issued item at or below the floor was accepted, so what is read there
@@ -34,11 +39,11 @@ pub fn open_snapshots_are_closed()
     ensures { (nodes : ℕ) (schedule : List (AnEvent × AReply)) → IsLegal nodes schedule → IsClosed schedule }
 {}
 
-/// A world is faithful to each schedule that it stands for: its reads gave the newest accepted
-/// values, what can be read is closed, its vacuums were the least, and left the fewest rows.
+/// A world is faithful to each schedule that it stands for: its store is faithful to its history, so
+/// reads gave the newest accepted values, vacuums were the least and left the fewest rows; that
+/// history has each moment of the schedule; and what can be read is closed.
 pub fn worlds_are_faithful()
     ensures { (state : State) (schedule : List (AnEvent × AReply)) → IsMatched state → StandsFor state schedule → IsFaithful (world_nodes state) schedule state.core.rows }
 {
-    changes_force_rows();
-    vacuums_leave_the_fewest();
+    histories_are_faithful();
 }

@@ -5,7 +5,7 @@ ghost use Rattle.hlc_core.specs.Kept.{nodes, StandsFor as CoreStandsFor};
 ghost use Rattle.hlc_core.specs.Calls.{IsRefusal, IsWrite};
 ghost use Rattle.hlc_world.specs.Schedule.{after};
 ghost use Rattle.hlc_world.specs.Before.{HappenedBefore, IsStamped};
-ghost use Rattle.hlc_world.specs.Due.{IsGiven, IsRefused};
+ghost use Rattle.hlc_world.specs.Due.{IsGiven, IsRefused, GoesByNumber};
 ghost use Rattle.hlc_world.specs.Floor.{IsComplete, IsBelowClocks, IsClosed};
 ghost use Rattle.hlc_world.specs.Headline.{IsFaithful};
 ghost use Rattle.hlc_world.specs.State.{StandsFor, IsMatched, Makes, world_nodes, fresh};
@@ -87,6 +87,7 @@ impl World {
         ensures closed { (schedule : List (AnEvent × AReply)) → StandsFor self.old schedule → IsClosed ((event, result) ∷ schedule) }
         ensures faithful { (schedule : List (AnEvent × AReply)) → StandsFor self.old schedule → IsFaithful (world_nodes self.old) ((event, result) ∷ schedule) self.new.core.rows }
         ensures rising { (schedule : List (AnEvent × AReply)) (head : ℕ) → StandsFor self.old schedule → result ≢ Reply.Refused (Refusal.StampNotRising head) }
+        ensures numbered { (schedule : List (AnEvent × AReply)) → StandsFor self.old schedule → GoesByNumber (world_nodes self.old) schedule }
         ensures unchanged { IsRefused result → self.new ≡ self.old }
         ensures nodes { world_nodes self.new ≡ world_nodes self.old }
     {
@@ -285,14 +286,7 @@ impl World {
         let Some(item) = self.nodes[place].item(number) else {
             return Reply::Refused(Refusal::NoItem);
         };
-        // The refusals are looked for first, so that a copy is made of an accepted item alone.
-        if let Err(fault) = self.core.check_item(item) {
-            return Reply::Refused(refusal::of_core(fault));
-        }
-        let Ok(copy) = item.clone() else {
-            return Reply::Refused(Refusal::NoMemory);
-        };
-        match accept(&mut self.core, copy) {
+        match accept(&mut self.core, item) {
             Ok(stamp) => Reply::Accepted { stamp },
             Err(fault) => Reply::Refused(refusal::of_core(fault)),
         }
@@ -405,17 +399,14 @@ fn post(messages: &mut Vec<Message>, message: Message) -> bool
     messages.push(message).is_ok()
 }
 
-/// Hands an item to the store, gives its stamp, and lets a refused one go.
-fn accept(core: &mut Core, item: Item) -> Result<Stamp, CoreFault>
-    ensures stands { (past : List Step) → CoreStandsFor core.old past → MatchResult result (λ stamp. (stamp ≡ item.stamp) × (item_refusal (nodes core.old) past item ≡ None) × CoreStandsFor core.new (Took item ∷ past)) (λ fault. IsRefusal (item_refusal (nodes core.old) past item) (IsWrite item.body) fault × (core.new ≡ core.old)) }
+/// Hands an item to the store, which takes a copy, and gives its stamp.
+fn accept(core: &mut Core, item: &Item) -> Result<Stamp, CoreFault>
+    ensures stands { (past : List Step) → CoreStandsFor core.old past → MatchResult result (λ stamp. (stamp ≡ item.now.stamp) × (item_refusal (nodes core.old) past item.now ≡ None) × CoreStandsFor core.new (Took item.now ∷ past)) (λ fault. IsRefusal (item_refusal (nodes core.old) past item.now) (IsWrite item.now.body) fault × (core.new ≡ core.old)) }
     ensures err { OnErr result (core.new ≡ core.old) }
     ensures nodes { nodes core.new ≡ nodes core.old }
 {
-    match core.accept(item) {
+    match core.accept_copy(item) {
         Ok(accepted) => Ok(accepted.stamp()),
-        Err(refused) => {
-            let (fault, _item) = refused;
-            Err(fault)
-        }
+        Err(fault) => Err(fault),
     }
 }

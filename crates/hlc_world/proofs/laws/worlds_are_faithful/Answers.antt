@@ -2,4 +2,4 @@ use Rattle.hlc_world.proofs.Faithful.{faithful}
 use Rattle.hlc_world.proofs.laws.worlds_are_faithful.Goals as goal
 
 pub returns : goal.returns
-returns c = faithful c.changes_force_rows.ensures.listed c.vacuums_leave_the_fewest.ensures
+returns c = faithful c.histories_are_faithful.ensures

@@ -3,7 +3,7 @@ use Rattle.std.proofs.lemmas.Option.{slice_get_read}
 use Rattle.hlc_clock.specs.NextStamp.{stamp_due}
 use Rattle.hlc_core.specs.Past.{stamp_of}
 use Rattle.hlc_node.specs.Node.{stamped}
-use Rattle.hlc_world.specs.Schedule.{core_past}
+use Rattle.hlc_world.specs.Store.{core_past}
 use Rattle.hlc_world.specs.declared.event.Event.TheVariants.{Observe}
 use Rattle.hlc_world.specs.declared.reply.Reply.TheVariants.{Observed}
 use Rattle.hlc_world.proofs.Lists.{some-injective}

@@ -3,6 +3,7 @@ use Rattle.hlc_world.specs.Floor.{IsComplete, IsBelowClocks}
 use Rattle.hlc_world.proofs.Times.{less}
 use Rattle.hlc_world.proofs.Floors.{complete, below_clocks}
 use Rattle.hlc_world.proofs.Rises.{rising}
+use Rattle.hlc_world.proofs.Delivery.{goes-by-number}
 use Rattle.hlc_world.proofs.Closure.{closed}
 use Rattle.hlc_world.specs.Headline.{IsFaithful}
 use Rattle.hlc_world.proofs.world.World.step.Goals as goal
@@ -20,6 +21,9 @@ returns-clause-clocks c = λ s h. subst (λ n. IsBelowClocks n ((c.args.event, c
 
 pub returns-clause-rising : goal.returns-clause-rising
 returns-clause-rising c = λ s head h. rising _ s c.args.event head c.take_place-reply.result (c.take_place-reply.ensures.stands s h).legal
+
+pub returns-clause-numbered : goal.returns-clause-numbered
+returns-clause-numbered c = λ s h. goes-by-number _ s h.legal
 
 pub returns-clause-closed : goal.returns-clause-closed
 returns-clause-closed c = λ s h. closed _ ((c.args.event, c.take_place-reply.result) ∷ s) (c.take_place-reply.ensures.stands s h).legal

@@ -1,0 +1,120 @@
+//! Calls of a shared store, timed: reads of 64 keys by so many threads, without a trail or with one.
+#![tactic(auto)]
+
+ghost use Rattle.std.specs.Prelude.{◌≡◌, ◌<◌};
+
+use hlc_core::{Body, Bytes, Item, Stamp};
+use hlc_server::{Caller, Receipt, Shared};
+use std::alloc::{AllocError, Global};
+use std::marker::Brand;
+use std::rt::Clock;
+use std::sync::Wait;
+use std::sync::ledger::{Blank, Ledger};
+use std::thread::Threads;
+use std::time::Instant;
+use std::{env, io, thread};
+
+/// How many keys are written, and read in turn.
+const KEYS: u8 = 64;
+
+/// How many calls all threads make.
+const CALLS: u64 = 400_000;
+
+/// A key or a value of one byte.
+fn bytes(alloc: Global, byte: u8) -> Result<Bytes, AllocError> {
+    let mut bytes = Vec::new(alloc);
+    bytes.push(byte)?;
+    Ok(Bytes::from_vec(bytes))
+}
+
+/// The write of this number on the only node's link, to a key of its own.
+fn write(alloc: Global, number: u8) -> Result<Item, AllocError> {
+    Ok(Item {
+        node: 0,
+        number: u64::from(number),
+        stamp: Stamp::from_bits((u64::from(number) + 1) * 65_536),
+        body: Body::Write {
+            key: bytes(alloc, number)?,
+            value: Some(bytes(alloc, 7)?),
+        },
+    })
+}
+
+/// So many reads in the first snapshot, and their receipts.
+fn read_all<L: Ledger, R: Wait>(
+    rt: &R,
+    alloc: Global,
+    shared: &Shared<L>,
+    caller: Caller<L>,
+    calls: u64,
+) -> Result<(Caller<L>, Vec<Receipt>), AllocError> {
+    let mut caller = caller;
+    let mut receipts = Vec::new(alloc);
+    for round in 0..calls {
+        let key = bytes(alloc, (round % u64::from(KEYS)) as u8)?;
+        let (back, told) = shared.read(rt, caller, 1, key);
+        caller = back;
+        if let Ok(receipt) = told {
+            receipts.push(receipt)?;
+        }
+    }
+    Ok((caller, receipts))
+}
+
+/// The microseconds that all calls take, by so many threads.
+fn timed<L: Ledger + Send + Sync, R: Threads + Wait + Sync + Clock>(
+    rt: &R,
+    alloc: Global,
+    blank: Blank,
+    threads: u16,
+    trail: bool,
+) -> io::Result<u128>
+    requires { (blank.name ≡ L.name) × (blank.parts ≡ L.parts) × (blank.parts ≡ threads) × (0 < threads) }
+{
+    let Ok((shared, mut callers)) = Shared::<L>::new(alloc, blank, 1, threads, trail) else {
+        return Ok(0);
+    };
+    let Some(first) = callers.pop() else {
+        return Ok(0);
+    };
+    let mut first = first;
+    for number in 0..KEYS {
+        let (back, _) = shared.accept(rt, first, write(alloc, number)?);
+        first = back;
+    }
+    let (first, _) = shared.open_floor(rt, first);
+    callers.push(first)?;
+    let store = &shared;
+    let share = CALLS / u64::from(threads);
+    let start = Instant::now(rt)?;
+    let done = thread::map_vec(
+        rt,
+        callers,
+        &|caller| read_all(rt, alloc, store, caller, share),
+    )?;
+    let took = start.elapsed(rt)?;
+    drop(done);
+    Ok(took.as_micros())
+}
+
+/// The word at a place; the program's name is at 0.
+fn word(rt: &HostRuntime, place: usize) -> Option<String> {
+    env::args(rt).ok()?.nth(place)
+}
+
+/// Times the calls of as many threads as the first word says, with a trail where the second is `on`.
+/// With no word it times nothing.
+fn main(rt: HostRuntime) -> io::Result<()> {
+    let alloc = rt.alloc();
+    let Some(first) = word(&rt, 1) else {
+        return Ok(());
+    };
+    let threads = match first.as_str() {
+        "2" => 2,
+        "4" => 4,
+        _ => 1,
+    };
+    let trail = word(&rt, 2).is_some_and(|word| word.as_str() == "on");
+    let took = timed::<Brand, _>(&rt, alloc, Blank::new(u64::from(threads)), threads, trail)?;
+    println!(rt; "threads {threads} trail {trail} calls {CALLS} micros {took}")
+}

@@ -1,0 +1,10 @@
+//! A link between two threads: what is taken from it is what was put, in order, and the end stands last.
+#![tactic(auto)]
+
+mod ends;
+mod laws;
+mod rule;
+
+pub use ends::{LinkClosed, LinkReceiver, LinkSender, PutFault, link};
+pub use laws::link_carries;
+pub use rule::Parcel;

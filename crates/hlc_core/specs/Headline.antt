@@ -1,0 +1,48 @@
+-- What is promised of a whole history, to be read aloud: each read and each vacuum, against all that was accepted before it, whatever
+-- vacuums dropped.
+use Rattle.std.specs.Prelude.{◌≡◌, ℕ, ◌≤◌, List, ◌∷◌, ◌++◌, length, Option, Some}
+use Rattle.hlc_node.specs.declared.row.Row.{Row}
+use Rattle.hlc_node.specs.Rows.{answer, IsRowSet}
+use Rattle.hlc_witness.specs.Fewest.{Alike}
+use Rattle.hlc_vacuum.specs.declared.report.Report.{Report}
+use Rattle.hlc_core.specs.declared.event.CoreEvent.{CoreEvent}
+use Rattle.hlc_core.specs.declared.event.CoreEvent.TheVariants.{Read, Vacuum}
+use Rattle.hlc_core.specs.declared.reply.CoreReply.{CoreReply}
+use Rattle.hlc_core.specs.declared.reply.CoreReply.TheVariants.{Answer, Vacuumed}
+use Rattle.hlc_core.specs.Past.{stamp_of, writes}
+use Rattle.hlc_core.specs.Stored.{IsReport, LeavesFewest}
+use Rattle.hlc_core.specs.History.{past_of}
+
+-- at some moment of the history just these events had taken their turn
+pub record IsMoment (history before : List (CoreEvent × CoreReply)) : Type 0 where
+  pub later : List (CoreEvent × CoreReply)
+  pub order : history ≡ later ++ before
+
+-- each read at an open snapshot gave the value of the newest accepted write, by stamp and node, at or below the snapshot's stamp
+abbrev pub ReadsAreNewest : List (CoreEvent × CoreReply) → Type 0
+ReadsAreNewest history =
+    (before : List (CoreEvent × CoreReply)) (id : ℕ) (key : List ℕ) (value : Option (List ℕ))
+    → IsMoment history ((Read id key, Answer value) ∷ before)
+    → (stamp : ℕ) × (stamp_of id (past_of before) ≡ Some stamp) × (value ≡ answer (writes (past_of before)) key stamp)
+
+-- each vacuum reported its points, the changes of all accepted writes there and their number, and no row set that answers alike at
+-- the points is smaller than the number of rows that it kept
+abbrev pub VacuumsAreLeast : ℕ → List (CoreEvent × CoreReply) → Type 0
+VacuumsAreLeast nodes history =
+    (before : List (CoreEvent × CoreReply)) (report : Report)
+    → IsMoment history ((Vacuum, Vacuumed report) ∷ before)
+    → IsReport nodes (past_of before) report
+    × ((others : List Row) → IsRowSet others → Alike others (writes (past_of before)) report.points → report.kept ≤ length others)
+
+-- just after a vacuum the stored rows at or below its floor answer alike at its points, are as many as it kept, and are the fewest
+abbrev pub FewestAreLeft : List (CoreEvent × CoreReply) → List Row → Type 0
+FewestAreLeft history rows =
+    (before : List (CoreEvent × CoreReply)) (report : Report)
+    → history ≡ (Vacuum, Vacuumed report) ∷ before
+    → LeavesFewest rows (writes (past_of before)) report
+
+-- all of this is true of a history over so many nodes, after which these rows are stored
+pub record IsFaithful (nodes : ℕ) (history : List (CoreEvent × CoreReply)) (rows : List Row) : Type 0 where
+  pub reads : ReadsAreNewest history
+  pub vacuums : VacuumsAreLeast nodes history
+  pub fewest : FewestAreLeft history rows

@@ -1,0 +1,71 @@
+//! What a store answers to an event.
+ghost use Rattle.std.specs.Prelude.{◌≡◌, ◌↔◌, IsTrue, List};
+ghost use Rattle.std.specs.Cmp.Lexicographic.{pointwise_decides};
+ghost use Rattle.std.proofs.Common.{rules};
+ghost use Rattle.std.proofs.lemmas.Grind.{common_steps};
+ghost use Rattle.hlc_vacuum.specs.declared.report.Report.{Report as AReport};
+ghost use Rattle.hlc_vacuum.specs.contracts.report.ReportExact.TheImpl.Laws.{equal-law as report_equal};
+ghost use Rattle.hlc_core.specs.declared.listing.Pair.{Pair as APair};
+ghost use Rattle.hlc_core.specs.contracts.listing.PairExact.TheImpl.Laws.{equal-law as pair_equal};
+ghost use Rattle.hlc_core.specs.History.{IsPlain};
+
+use crate::fault::CoreFault;
+use crate::listing::Listing;
+use hlc_clock::Stamp;
+use hlc_floor::Accepted;
+use hlc_node::Bytes;
+use hlc_vacuum::Report;
+use hlc_values::Exact;
+use std::alloc::AllocError;
+
+/// What a store answers to an event.
+#[derive(PartialEq, Eq, Debug, Drop)]
+pub enum CoreReply {
+    /// The item was accepted.
+    Accepted(Accepted),
+    /// The snapshot of this id was opened, at this stamp.
+    Opened { id: u64, stamp: Stamp },
+    /// The value of the key, or none.
+    Answer(Option<Bytes>),
+    /// All keys that have a value, in byte order, with their values.
+    Listing(Listing),
+    /// The snapshot was closed; this was its stamp.
+    Closed(Stamp),
+    /// The vacuum took place, and did this.
+    Vacuumed(Report),
+    /// The event did not take place.
+    Refused(CoreFault),
+}
+
+impl Clone for CoreReply {
+    ghost is_clone = { λ reply copy. copy ≡ reply };
+
+    ghost is_infallible = { λ reply. IsPlain reply };
+
+    /// Only a value, a listing and a report take memory.
+    fn clone(&self) -> Result<CoreReply, AllocError> {
+        match self {
+            CoreReply::Accepted(accepted) => Ok(CoreReply::Accepted(*accepted)),
+            CoreReply::Opened { id, stamp } => Ok(CoreReply::Opened {
+                id: *id,
+                stamp: *stamp,
+            }),
+            CoreReply::Answer(None) => Ok(CoreReply::Answer(None)),
+            CoreReply::Answer(Some(value)) => Ok(CoreReply::Answer(Some(value.clone()?))),
+            CoreReply::Listing(pairs) => Ok(CoreReply::Listing(pairs.clone()?)),
+            CoreReply::Closed(stamp) => Ok(CoreReply::Closed(*stamp)),
+            CoreReply::Vacuumed(report) => Ok(CoreReply::Vacuumed(report.clone()?)),
+            CoreReply::Refused(fault) => Ok(CoreReply::Refused(*fault)),
+        }
+    }
+}
+
+impl Exact for CoreReply {
+    ghost equal = { let listings : (x y : List APair) → IsTrue (⟦<Listing as PartialEq>⟧.eq x y) ↔ (x ≡ y)
+        = pointwise_decides pair_equal in
+        let reports : (x y : AReport) → IsTrue (⟦<Report as PartialEq>⟧.eq x y) ↔ (x ≡ y)
+        = report_equal in
+        Prim.search (rules, common_steps, listings, reports) };
+
+    ghost copied = { Prim.search rules };
+}

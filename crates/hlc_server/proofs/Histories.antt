@@ -1,0 +1,60 @@
+-- A trail with one call more is the history with that call as its last event, by induction on the trail; so one call more keeps a
+-- trail legal and the core standing for it.
+use Rattle.std.proofs.Common.{Bool, true, false, ◌≡◌, ℕ, ◌+◌, List, [], ◌∷◌, ◌++◌, length, Option, Some, None, refl, ap, sym}
+use Rattle.std.proofs.Common.{◌∙◌, subst, arith, length-append}
+use Rattle.std.specs.Prelude.{if◌then◌else◌}
+use Rattle.std.specs.Option.{ForSome}
+use Rattle.hlc_core.specs.declared.event.CoreEvent.{CoreEvent}
+use Rattle.hlc_core.specs.declared.reply.CoreReply.{CoreReply}
+use Rattle.hlc_core.specs.Kept.{Kept, StandsFor}
+use Rattle.hlc_core.specs.History.{StandsForHistory, IsStep}
+use Rattle.hlc_server.specs.declared.entry.Entry.{Entry}
+use Rattle.hlc_server.specs.Trails.{history_after, history_of, IsAudited, entry, with_entry, entries_of}
+use Rattle.hlc_server.specs.declared.trail.Trail.{Trail}
+
+history_after-push : (history : List (CoreEvent × CoreReply)) (trail : List Entry) (e : Entry)
+    → history_after history (trail ++ e ∷ []) ≡ (e.event, e.reply) ∷ history_after history trail
+history_after-push history [] e = refl
+history_after-push history (x ∷ trail) e = history_after-push ((x.event, x.reply) ∷ history) trail e
+
+-- the last entry is the last event
+pub history_of-push : (trail : List Entry) (e : Entry) → history_of (trail ++ e ∷ []) ≡ (e.event, e.reply) ∷ history_of trail
+history_of-push trail e = history_after-push [] trail e
+
+-- One call more keeps the trail legal, the core standing for it, and the count.
+pub audited_more : (old new : Kept) (trail trail' : Option (List Entry)) (caller : ℕ) (event : CoreEvent) (reply : CoreReply)
+    (total total' : ℕ)
+    → ForSome trail (λ t. IsAudited old t total) → trail' ≡ with_entry trail (entry caller event reply)
+    → ((history : List (CoreEvent × CoreReply)) → StandsForHistory old history → IsStep old new event history reply)
+    → total' ≡ total + 1 → ForSome trail' (λ t. IsAudited new t total')
+audited_more old new None trail' caller event reply total total' audited is stands more =
+    λ t some. absurd (let e : Some t ≡ None = sym some ∙ is in cc)
+audited_more old new (Some before) trail' caller event reply total total' audited is stands more = λ t some.
+    let same : t ≡ before ++ entry caller event reply ∷ [] =
+        (let both : Some t ≡ Some (before ++ entry caller event reply ∷ []) = sym some ∙ is in cc) in
+    let was = audited before refl in
+    let goes = (stands (history_of before) was.stands).1 in
+    let now : StandsForHistory new (history_of t) =
+        subst (λ h. StandsForHistory new h) (sym (ap history_of same ∙ history_of-push before (entry caller event reply)))
+        goes in
+    record {
+      legal = now.legal;
+      stands = now;
+      counted = ap length same ∙ omega (arith, length-append before (entry caller event reply ∷ []), was.counted, more);
+    }
+
+cond-empty : (audit : Bool) (t : List Entry) → Some t ≡ (if audit then Some [] else None) → t ≡ []
+cond-empty true t are = cc
+cond-empty false t are = absurd (cc)
+
+-- a new core stands for the empty trail
+pub audited_first : (core : Kept) (audit : Bool) (trail : Option Trail) (total : ℕ) → StandsFor core []
+    → entries_of trail ≡ (if audit then Some [] else None) → total ≡ 0
+    → ForSome (entries_of trail) (λ t. IsAudited core t total)
+audited_first core audit trail total stands is none = λ t some. first t (sym some ∙ is)
+  where
+    first : (t : List Entry) → Some t ≡ (if audit then Some [] else None) → IsAudited core t total
+    first t are =
+        let empty : t ≡ [] = cond-empty audit t are in
+        subst (λ l. IsAudited core l total) (sym empty)
+            (record { legal = tt; stands = record { legal = tt; core = stands }; counted = sym none })

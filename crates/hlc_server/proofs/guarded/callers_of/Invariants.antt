@@ -1,0 +1,7 @@
+use Rattle.std.proofs.Common.{◌≡◌, ◌+◌, map}
+use Rattle.std.specs.List.{range_with_len}
+use Rattle.hlc_server.specs.Seats.{fresh}
+use Rattle.hlc_server.proofs.guarded.callers_of.Given as goal
+
+abbrev pub invariant-loop-number : goal.invariant-loop-number
+invariant-loop-number g l = (l.rest.parts + l.number ≡ l.callers) × (l.rest.amount ≡ 0) × (l.made.items ≡ map fresh (range_with_len 0 l.number))

@@ -1,0 +1,131 @@
+//! A store that threads share.
+ghost use Rattle.std.specs.Prelude.{◌≡◌, ◌<◌, ⊤, MatchResult, map};
+ghost use Rattle.std.specs.List.{range_with_len};
+ghost use Rattle.hlc_core.specs.Calls.{new_refusal, IsRefusal};
+ghost use Rattle.hlc_core.specs.declared.event.CoreEvent.{CoreEvent as AnEvent};
+ghost use Rattle.hlc_server.specs.Seats.{fresh};
+ghost use Rattle.hlc_server.specs.Calls.{IsToldFor};
+
+use crate::caller::Caller;
+use crate::entry::{NotDone, Receipt};
+use crate::guarded::{Guarded, step_guarded, vacuum_guarded};
+use hlc_core::{Bytes, CoreEvent, CoreFault, Item, Stamp};
+use std::alloc::Global;
+use std::sync::ledger::{Blank, Ledger};
+use std::sync::{Mutex, Wait};
+use std::thread::Threads;
+
+/// A store that threads share, behind one lock. Each call holds the lock once.
+///
+/// A call hands its caller back, with the receipt of the call; or why it was not made, and the event.
+/// What a caller was told can be checked afterwards, by `settle`.
+#[derive(Drop)]
+pub struct Shared<L: Ledger> {
+    pub(crate) lock: Mutex<Guarded<L>>,
+}
+
+impl<L: Ledger> Shared<L> {
+    /// A new core of so many nodes under a lock, and its callers, who are numbered from 0. With
+    /// `audit`, a trail is kept: each call costs one copy more of its event and its reply.
+    ///
+    /// Refused, in this order: not 1 to 64 nodes; want of memory.
+    pub fn new(
+        alloc: Global,
+        blank: Blank,
+        nodes: u16,
+        callers: u16,
+        audit: bool,
+    ) -> Result<(Shared<L>, Vec<Caller<L>>), CoreFault>
+        requires ledger { (blank.name ≡ L.name) × (blank.parts ≡ L.parts) }
+        requires callers { (0 < callers) × (blank.parts ≡ callers) }
+        ensures { MatchResult result (λ made. (new_refusal nodes ≡ None) × (made.1.items ≡ map fresh (range_with_len 0 callers))) (λ fault. IsRefusal (new_refusal nodes) ⊤ fault) }
+    {
+        let (guarded, callers) = Guarded::new(alloc, blank, nodes, callers, audit)?;
+        let lock = Mutex::new(guarded);
+        Ok((Shared { lock }, callers))
+    }
+
+    /// Takes the next item of a link.
+    pub fn accept<R: Wait>(
+        &self,
+        rt: &R,
+        caller: Caller<L>,
+        item: Item,
+    ) -> (Caller<L>, Result<Receipt, (NotDone, CoreEvent)>)
+        ensures { IsToldFor caller (AnEvent.Accept item) result }
+    {
+        step_guarded(&mut self.lock.lock(rt), caller, CoreEvent::Accept(item))
+    }
+
+    /// Opens a snapshot at a stamp.
+    pub fn open<R: Wait>(
+        &self,
+        rt: &R,
+        caller: Caller<L>,
+        stamp: Stamp,
+    ) -> (Caller<L>, Result<Receipt, (NotDone, CoreEvent)>)
+        ensures { IsToldFor caller (AnEvent.OpenAt stamp) result }
+    {
+        step_guarded(&mut self.lock.lock(rt), caller, CoreEvent::OpenAt(stamp))
+    }
+
+    /// Opens a snapshot at the floor.
+    pub fn open_floor<R: Wait>(
+        &self,
+        rt: &R,
+        caller: Caller<L>,
+    ) -> (Caller<L>, Result<Receipt, (NotDone, CoreEvent)>)
+        ensures { IsToldFor caller AnEvent.OpenFloor result }
+    {
+        step_guarded(&mut self.lock.lock(rt), caller, CoreEvent::OpenFloor)
+    }
+
+    /// Reads a key in an open snapshot.
+    pub fn read<R: Wait>(
+        &self,
+        rt: &R,
+        caller: Caller<L>,
+        id: u64,
+        key: Bytes,
+    ) -> (Caller<L>, Result<Receipt, (NotDone, CoreEvent)>)
+        ensures { IsToldFor caller (AnEvent.Read id key) result }
+    {
+        step_guarded(&mut self.lock.lock(rt), caller, CoreEvent::Read { id, key })
+    }
+
+    /// Lists an open snapshot.
+    pub fn list<R: Wait>(
+        &self,
+        rt: &R,
+        caller: Caller<L>,
+        id: u64,
+    ) -> (Caller<L>, Result<Receipt, (NotDone, CoreEvent)>)
+        ensures { IsToldFor caller (AnEvent.List id) result }
+    {
+        step_guarded(&mut self.lock.lock(rt), caller, CoreEvent::List(id))
+    }
+
+    /// Closes an open snapshot.
+    pub fn close<R: Wait>(
+        &self,
+        rt: &R,
+        caller: Caller<L>,
+        id: u64,
+    ) -> (Caller<L>, Result<Receipt, (NotDone, CoreEvent)>)
+        ensures { IsToldFor caller (AnEvent.Close id) result }
+    {
+        step_guarded(&mut self.lock.lock(rt), caller, CoreEvent::Close(id))
+    }
+
+    /// Drops the rows that no reader needs, by a plan of several threads. The lock is held all the
+    /// while.
+    pub fn vacuum<R: Wait + Threads + Sync>(
+        &self,
+        rt: &R,
+        caller: Caller<L>,
+    ) -> (Caller<L>, Result<Receipt, (NotDone, CoreEvent)>)
+        ensures { IsToldFor caller AnEvent.Vacuum result }
+    {
+        vacuum_guarded(rt, &mut self.lock.lock(rt), caller)
+    }
+}

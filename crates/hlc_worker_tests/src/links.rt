@@ -1,0 +1,60 @@
+//! Links between two threads.
+use crate::makers::report;
+use hlc_channel::{LinkClosed, LinkReceiver, LinkSender, Parcel, PutFault, link};
+use std::sync::Wait;
+use std::test::*;
+use std::thread;
+
+/// Puts three items, and then the end.
+fn put_three<R: Wait>(rt: &R, mut sender: LinkSender) -> Option<u64> {
+    for number in 0..3 {
+        if sender.put(rt, report(number)).is_err() {
+            return None;
+        }
+    }
+    sender.finish(rt).ok()
+}
+
+/// The number of an item that was taken; 100 for the end, 200 where nothing was taken.
+fn number_of(parcel: Result<Parcel, LinkClosed>) -> u64 {
+    match parcel {
+        Ok(Parcel::Item(item)) => item.number,
+        Ok(Parcel::End) => 100,
+        Err(LinkClosed) => 200,
+    }
+}
+
+/// Takes five times.
+fn take_five<R: Wait>(rt: &R, mut receiver: LinkReceiver) -> [u64; 5] {
+    let mut numbers = [0; 5];
+    for i in 0..5 {
+        numbers[i] = number_of(receiver.take(rt));
+    }
+    numbers
+}
+
+#[test]
+fn three_items_and_the_end(rt: HostRuntime) -> Result<(), Fail> {
+    let (sender, receiver) = link(&rt, rt.alloc(), 1)?;
+    let (count, numbers) = thread::join(
+        &rt,
+        move || put_three(&rt, sender),
+        move || take_five(&rt, receiver),
+    );
+    assert_eq!(rt; count, Some(3));
+    assert_eq!(rt; numbers, [0, 1, 2, 100, 100]);
+    Ok(())
+}
+
+#[test]
+fn an_end_that_is_gone(rt: HostRuntime) -> Result<(), Fail> {
+    let (mut sender, receiver) = link(&rt, rt.alloc(), 1)?;
+    drop(receiver);
+    let refused = sender.put(&rt, report(7));
+    assert_eq!(rt; refused, Err((PutFault::Closed, report(7))));
+    assert_eq!(rt; sender.finish(&rt), Err(LinkClosed));
+    let (sender, mut receiver) = link(&rt, rt.alloc(), 1)?;
+    drop(sender);
+    assert_eq!(rt; number_of(receiver.take(&rt)), 200);
+    Ok(())
+}

@@ -1,0 +1,38 @@
+//! What the tests hand in.
+use hlc_core::{Body, Bytes, Item, Stamp};
+use std::alloc::{AllocError, Global};
+
+/// The stamp of a second, with the counter at 0.
+pub fn at_second(second: u8) -> Stamp {
+    Stamp::from_bits(u64::from(second) * 65_536)
+}
+
+/// A key or a value of one byte.
+pub fn bytes(alloc: Global, byte: u8) -> Result<Bytes, AllocError> {
+    let mut bytes = Vec::new(alloc);
+    bytes.push(byte)?;
+    Ok(Bytes::from_vec(bytes))
+}
+
+/// The item of this number on the link of node 0, a second later for each: a value of the key `a`.
+pub fn write(alloc: Global, number: u8, value: u8) -> Result<Item, AllocError> {
+    Ok(Item {
+        node: 0,
+        number: u64::from(number),
+        stamp: Stamp::from_bits((u64::from(number) + 1) * 65_536),
+        body: Body::Write {
+            key: bytes(alloc, b'a')?,
+            value: Some(bytes(alloc, value)?),
+        },
+    })
+}
+
+/// A report of node 0 of this number, a second later for each.
+pub fn report(number: u8) -> Item {
+    Item {
+        node: 0,
+        number: u64::from(number),
+        stamp: Stamp::from_bits((u64::from(number) + 1) * 65_536),
+        body: Body::Report,
+    }
+}

@@ -1,0 +1,127 @@
+-- What the receipts tell after one call more, or one round more: the new receipts stand behind those before, and each fact
+-- about a list of receipts is put together of those about its two parts.
+use Rattle.std.proofs.Common.{◌≡◌, ℕ, List, [], ◌∷◌, ◌++◌, map, Option, Some, None, IfNone, sym, ap, ◌∙◌, arith}
+use Rattle.std.proofs.Common.{length-append, append_assoc, refl, subst, All}
+use Rattle.std.proofs.lemmas.List.{append-nil, map-append}
+use Rattle.std.proofs.lemmas.List.Elements.{All-append, All-nil}
+use Rattle.hlc_node.specs.declared.item.Item.{Item}
+use Rattle.hlc_server.specs.declared.entry.Receipt.{Receipt}
+use Rattle.hlc_server.specs.Seats.{Seat}
+use Rattle.hlc_board.specs.Views.{Post, post}
+use Rattle.hlc_workers.specs.Paid.{event_of, IsPaid, MadeNone, MadeSome}
+use Rattle.hlc_workers.specs.Feeding.{accept_of, TookAll, raised_by, highest}
+use Rattle.hlc_core.specs.declared.event.CoreEvent.TheVariants.{OpenAt, OpenFloor}
+use Rattle.hlc_workers.specs.declared.room.WorkEnd.{WorkEnd}
+use Rattle.hlc_workers.specs.declared.room.WorkEnd.TheVariants.{Done, Held}
+use Rattle.hlc_workers.specs.declared.opening.Opening.{Opening}
+use Rattle.hlc_workers.specs.declared.opening.Opening.TheVariants.{Opened as opened, Below as below}
+use Rattle.hlc_workers.specs.Rounds.{opening_of, reads_of, GoesOn, AtFloor, GoesOnOrAgain, IsRound, AreRounds}
+
+-- before the first call
+pub paid-none : (seat : Seat) → IsPaid seat seat []
+paid-none seat = record { number = refl; share = omega arith; bear = All-nil (λ (r : Receipt). r.caller ≡ seat.number) }
+
+-- the calls of two parts of the work
+pub paid-append : (a b c : Seat) (xs ys : List Receipt) → IsPaid a b xs → IsPaid b c ys → IsPaid a c (xs ++ ys)
+paid-append a b c xs ys p q = record {
+  number = q.number ∙ p.number;
+  share = omega (arith, p.share, q.share, length-append xs ys);
+  bear = All-append (λ (r : Receipt). r.caller ≡ a.number) xs ys p.bear
+      (subst (λ (n : ℕ). All (λ (r : Receipt). r.caller ≡ n) ys) p.number q.bear);
+}
+
+-- the same, of a list that is the two
+pub paid_all : (a b c : Seat) (xs ys all : List Receipt) → all ≡ xs ++ ys → IsPaid a b xs → IsPaid b c ys → IsPaid a c all
+paid_all a b c xs ys all is p q = subst (λ (l : List Receipt). IsPaid a c l) (sym is) (paid-append a b c xs ys p q)
+
+unwrapped : (a b : WorkEnd) → Some a ≡ Some b → a ≡ b
+unwrapped a b e = cc
+
+-- where no call was made, none more were
+pub stopped : (old new : List Receipt) (before after : Seat) (end : WorkEnd) (Wanted : List Receipt → Type 0) (held : Type 0)
+    → MadeNone old new before after end held → MadeSome old new before after (Some end) Wanted held
+stopped old new before after end Wanted held none = (
+  [],
+  none.0 ∙ sym (append-nil old),
+  subst (λ (seat : Seat). IsPaid before seat []) (sym none.1) (paid-none before),
+  tt,
+  λ e. none.2 (unwrapped end Done e),
+  λ e. none.3 (unwrapped end Held e),
+)
+
+-- one item more was taken and handed in
+pub took_more : (before taken after : List Item) (receipts more : List Receipt) (r : Receipt) (item : Item)
+    → TookAll before taken receipts None → more ≡ receipts ++ r ∷ [] → r.event ≡ accept_of item → after ≡ taken ++ item ∷ []
+    → TookAll before after more None
+took_more before taken after receipts more r item took is event now = (
+  took.0 ++ item ∷ [],
+  now
+      ∙ ap (λ (l : List Item). l ++ item ∷ []) (took.1 ∙ append-nil (before ++ took.0))
+      ∙ append_assoc before took.0 (item ∷ [])
+      ∙ sym (append-nil (before ++ (took.0 ++ item ∷ []))),
+  ap (map event_of) is
+      ∙ map-append event_of receipts (r ∷ [])
+      ∙ ap (λ l. l ++ event_of r ∷ []) took.2
+      ∙ ap (λ e. map accept_of took.0 ++ e ∷ []) event
+      ∙ sym (map-append accept_of took.0 (item ∷ [])),
+)
+
+-- the greatest stamp after one receipt more
+highest_more : (node raised : ℕ) (xs : List Receipt) (r : Receipt)
+    → highest node raised (xs ++ r ∷ []) ≡ raised_by node (highest node raised xs) r.reply
+highest_more node raised [] r = refl
+highest_more node raised (y ∷ ys) r = highest_more node (raised_by node raised y.reply) ys r
+
+-- the feeder after one receipt more
+pub raised_more : (first was now : Post) (receipts more : List Receipt) (r : Receipt)
+    → was ≡ post first.board first.node (highest first.node first.raised receipts) → more ≡ receipts ++ r ∷ []
+    → now ≡ post was.board was.node (raised_by was.node was.raised r.reply)
+    → now ≡ post first.board first.node (highest first.node first.raised more)
+raised_more first was now receipts more r before is step =
+    step
+    ∙ ap (λ (p : Post). post p.board p.node (raised_by p.node p.raised r.reply)) before
+    ∙ ap (λ (n : ℕ). post first.board first.node n) (sym (highest_more first.node first.raised receipts r))
+    ∙ ap (λ (l : List Receipt). post first.board first.node (highest first.node first.raised l)) (sym is)
+
+-- one round more behind those before
+rounds-append : (keys : List (List ℕ)) (stamps : List ℕ) (stamp : ℕ) (before round : List Receipt) → AreRounds keys stamps before
+    → IsRound keys stamp round → AreRounds keys (stamps ++ stamp ∷ []) (before ++ round)
+rounds-append keys [] stamp before round had here =
+    (round, [], ap (λ (l : List Receipt). l ++ round) had ∙ sym (append-nil round), here, refl)
+rounds-append keys (s ∷ stamps) stamp before round had here = (
+  had.0,
+  had.1 ++ round,
+  ap (λ (l : List Receipt). l ++ round) had.2 ∙ append_assoc had.0 had.1 round,
+  had.3,
+  rounds-append keys stamps stamp had.1 round had.4 here,
+)
+
+-- the same, of a list that is the two
+pub rounds_more : (keys : List (List ℕ)) (stamps : List ℕ) (stamp : ℕ) (before round all : List Receipt) → all ≡ before ++ round
+    → AreRounds keys stamps before → IsRound keys stamp round → AreRounds keys (stamps ++ stamp ∷ []) all
+rounds_more keys stamps stamp before round all is had here =
+    subst (λ (l : List Receipt). AreRounds keys (stamps ++ stamp ∷ []) l) (sym is)
+    (rounds-append keys stamps stamp before round had here)
+
+-- a receipt and then more behind the first ones
+pub pushed : (old mid new more : List Receipt) (r : Receipt) → mid ≡ old ++ r ∷ [] → new ≡ mid ++ more → new ≡ old ++ (r ∷ more)
+pushed old mid new more r one rest = rest ∙ ap (λ (l : List Receipt). l ++ more) one ∙ append_assoc old (r ∷ []) more
+
+-- an opening at the floor, and then the reads
+pub at_floor : (keys : List (List ℕ)) (r : Receipt) (id : ℕ) (more : List Receipt) (end : Option WorkEnd) → r.event ≡ OpenFloor
+    → opened id ≡ opening_of r.reply → IfNone end (map event_of more ≡ reads_of id keys) → IfNone end (AtFloor keys (r ∷ more))
+at_floor keys r id more None event is h = (event, subst (λ (o : Opening). GoesOn keys o more) is h)
+at_floor keys r id more (Some end) event is h = tt
+
+-- an opening at the board's floor, and then the reads
+pub at_board : (keys : List (List ℕ)) (stamp : ℕ) (r : Receipt) (id : ℕ) (more : List Receipt) (end : Option WorkEnd)
+    → r.event ≡ OpenAt stamp → opened id ≡ opening_of r.reply → IfNone end (map event_of more ≡ reads_of id keys)
+    → IfNone end (IsRound keys stamp (r ∷ more))
+at_board keys stamp r id more None event is h = (event, subst (λ (o : Opening). GoesOnOrAgain keys o more) is h)
+at_board keys stamp r id more (Some end) event is h = tt
+
+-- an opening below the horizon, and then one at the floor
+pub again : (keys : List (List ℕ)) (stamp : ℕ) (r : Receipt) (more : List Receipt) (end : Option WorkEnd) → r.event ≡ OpenAt stamp
+    → below ≡ opening_of r.reply → IfNone end (AtFloor keys more) → IfNone end (IsRound keys stamp (r ∷ more))
+again keys stamp r more None event is h = (event, subst (λ (o : Opening). GoesOnOrAgain keys o more) is h)
+again keys stamp r more (Some end) event is h = tt

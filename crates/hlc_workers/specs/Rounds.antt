@@ -1,0 +1,77 @@
+-- What a reader's worker has done.
+use Rattle.std.specs.Prelude.{◌≡◌, ℕ, ◌+◌, ◌-◌, ◌<◌, ◌≤◌, List, [], ◌∷◌, ◌++◌, map, length, slice_index}
+use Rattle.hlc_core.specs.declared.fault.CoreFault.TheVariants.{BelowHorizon}
+use Rattle.hlc_core.specs.declared.event.CoreEvent.{CoreEvent}
+use Rattle.hlc_core.specs.declared.event.CoreEvent.TheVariants.{OpenAt, OpenFloor, Read, Close}
+use Rattle.hlc_core.specs.declared.reply.CoreReply.{CoreReply}
+use Rattle.hlc_core.specs.declared.reply.CoreReply.TheVariants.{Opened, Refused}
+use Rattle.hlc_server.specs.declared.entry.Receipt.{Receipt}
+use Rattle.hlc_board.specs.Views.{Sight, IsLeast}
+use Rattle.hlc_workers.specs.declared.opening.Opening.{Opening}
+use Rattle.hlc_workers.specs.declared.opening.Opening.TheVariants.{Opened as opened, Below as below, NotOpened as refused}
+use Rattle.hlc_server.specs.Seats.{Seat}
+use Rattle.hlc_workers.specs.Paid.{event_of, IsPaid}
+
+-- what an opening came to, by its reply
+abbrev pub opening_of : CoreReply → Opening
+opening_of (Opened id stamp) = opened id
+opening_of (Refused (BelowHorizon horizon)) = below
+opening_of _ = refused
+
+-- One opening more was made, for this event, and it came to this: the receipts were `old` and are `new`, the caller was
+-- `before` and is `after`.
+abbrev pub MadeOpening : List Receipt → List Receipt → Seat → Seat → CoreEvent → Opening → Type 0
+MadeOpening old new before after event opening =
+    (receipt : Receipt) × (new ≡ old ++ receipt ∷ []) × IsPaid before after (receipt ∷ []) × (receipt.event ≡ event)
+    × (opening ≡ opening_of receipt.reply)
+
+-- the calls of a snapshot: each key is read in turn, and it is closed
+abbrev pub reads_of : ℕ → List (List ℕ) → List CoreEvent
+reads_of id keys = map (Read id) keys ++ Close id ∷ []
+
+-- after an opening at the floor
+abbrev pub GoesOn : List (List ℕ) → Opening → List Receipt → Type 0
+GoesOn keys (opened id) receipts = map event_of receipts ≡ reads_of id keys
+GoesOn keys below receipts = receipts ≡ []
+GoesOn keys refused receipts = receipts ≡ []
+
+-- an opening at the floor, and what follows
+abbrev pub AtFloor : List (List ℕ) → List Receipt → Type 0
+AtFloor keys [] = ⊥
+AtFloor keys (receipt ∷ receipts) = (receipt.event ≡ OpenFloor) × GoesOn keys (opening_of receipt.reply) receipts
+
+-- after an opening at the board's floor: where it is below the horizon, an opening at the floor
+abbrev pub GoesOnOrAgain : List (List ℕ) → Opening → List Receipt → Type 0
+GoesOnOrAgain keys (opened id) receipts = map event_of receipts ≡ reads_of id keys
+GoesOnOrAgain keys below receipts = AtFloor keys receipts
+GoesOnOrAgain keys refused receipts = receipts ≡ []
+
+-- one round at a stamp
+abbrev pub IsRound : List (List ℕ) → ℕ → List Receipt → Type 0
+IsRound keys stamp [] = ⊥
+IsRound keys stamp (receipt ∷ receipts) = (receipt.event ≡ OpenAt stamp) × GoesOnOrAgain keys (opening_of receipt.reply) receipts
+
+-- a round at each of the stamps, one after another
+abbrev pub AreRounds : List (List ℕ) → List ℕ → List Receipt → Type 0
+AreRounds keys [] receipts = receipts ≡ []
+AreRounds keys (stamp ∷ stamps) receipts =
+    (round : List Receipt) × (rest : List Receipt) × (receipts ≡ round ++ rest) × IsRound keys stamp round
+    × AreRounds keys stamps rest
+
+-- stamps that never fall
+abbrev pub NeverFalls : List ℕ → Type 0
+NeverFalls xs = (i j : ℕ) → i ≤ j → j < length xs → slice_index xs i ≤ slice_index xs j
+
+-- For each of these stamps a pass has made one look at each word of its board. No seen value fell, nor do the stamps, and the
+-- last of them is the least of the values seen at the end.
+pub record HasLookedFor (before after : Sight) (stamps : List ℕ) : Type 0 where
+  pub board : after.board ≡ before.board
+  pub looks : (k : ℕ) → k < before.board.words → slice_index after.looks k ≡ slice_index before.looks k + length stamps
+  pub rises : (k : ℕ) → slice_index before.seen k ≤ slice_index after.seen k
+  pub never_fall : NeverFalls stamps
+  pub last : 0 < length stamps → IsLeast before.board.words after.seen (slice_index stamps (length stamps - 1))
+
+-- so many rounds, each at a stamp for which the pass has looked
+abbrev pub HasServed : List (List ℕ) → ℕ → Sight → Sight → List Receipt → Type 0
+HasServed keys rounds before after receipts =
+    (stamps : List ℕ) × (length stamps ≡ rounds) × AreRounds keys stamps receipts × HasLookedFor before after stamps

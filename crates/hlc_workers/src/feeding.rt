@@ -1,0 +1,137 @@
+//! The worker of a link.
+ghost use Rattle.std.specs.Prelude.{◌≡◌, true, false, None, vec_len, MatchOption};
+ghost use Rattle.hlc_board.specs.Views.{post};
+ghost use Rattle.hlc_workers.specs.Paid.{IsPaid};
+ghost use Rattle.hlc_workers.specs.Feeding.{TookAll, FedOne, FedNone, fed_by, highest};
+
+use crate::gate::Gate;
+use crate::room::{WorkEnd, make_room};
+use hlc_board::{Board, Feeder};
+use hlc_channel::{LinkReceiver, Parcel};
+use hlc_core::{CoreEvent, CoreReply, Item};
+use hlc_server::{Caller, Receipt, Shared};
+use std::alloc::Global;
+use std::sync::Wait;
+use std::sync::ledger::Ledger;
+
+/// What the worker of a link gives back: its caller, its ends of the link and of the board, its
+/// receipts in the order of its calls, and how it ended.
+#[derive(Drop)]
+pub struct Fed<L: Ledger> {
+    pub caller: Caller<L>,
+    pub link: LinkReceiver,
+    pub feeder: Feeder,
+    pub receipts: Vec<Receipt>,
+    /// The item that was taken and not handed in, where there is one.
+    pub left: Option<Item>,
+    pub end: WorkEnd,
+}
+
+/// Takes the parcels of a link until its end. It hands each item in, and raises the board with each
+/// item of the feeder's node that was accepted above what was raised, after the lock is free, and with
+/// no other. The feeder is of this board. Parcels are taken first, then the gate is asked.
+///
+/// It ends `Done` at the end of the link, `Closed` where the link handed the call back, `Held` where
+/// the gate answered false, and `Spent` where an item was not handed in, or the room for its receipt
+/// was refused; in the last two cases the item is `left`. A refusal of the store does not end it.
+pub fn feed<L: Ledger, G: Gate, R: Wait>(
+    rt: &R,
+    alloc: Global,
+    shared: &Shared<L>,
+    caller: Caller<L>,
+    link: LinkReceiver,
+    board: &Board,
+    feeder: Feeder,
+    gate: &G,
+) -> Fed<L>
+    requires { feeder.board ≡ board.now }
+    ensures share { IsPaid caller result.caller result.receipts.items }
+    ensures items { TookAll link.taken result.link.taken result.receipts.items result.left }
+    ensures raised { result.feeder
+        ≡ post feeder.board feeder.node (highest feeder.node feeder.raised result.receipts.items) }
+    ensures done { result.end ≡ WorkEnd.Done → (result.link.ended ≡ true) × (result.left ≡ None) }
+    ensures held { result.end ≡ WorkEnd.Held → G.may_answer gate.now (vec_len result.receipts) false }
+{
+    let mut link = link;
+    let mut caller = caller;
+    let mut feeder = feeder;
+    let mut receipts = Vec::new(alloc);
+    for _ in rt.forever() {
+        let (back, told) = feed_one(
+            rt,
+            shared,
+            caller,
+            &mut link,
+            board,
+            &mut feeder,
+            &mut receipts,
+            gate,
+        );
+        caller = back;
+        if let Some((left, end)) = told {
+            return Fed {
+                caller,
+                link,
+                feeder,
+                receipts,
+                left,
+                end,
+            };
+        }
+    }
+    unreachable!()
+}
+
+/// Takes one item and hands it in, or says what is left and how the work ends.
+fn feed_one<L: Ledger, G: Gate, R: Wait>(
+    rt: &R,
+    shared: &Shared<L>,
+    caller: Caller<L>,
+    link: &mut LinkReceiver,
+    board: &Board,
+    feeder: &mut Feeder,
+    receipts: &mut Vec<Receipt>,
+    gate: &G,
+) -> (Caller<L>, Option<(Option<Item>, WorkEnd)>)
+    requires { feeder.old.board ≡ board.now }
+    ensures went { MatchOption result.1
+        (FedOne receipts.old.items receipts.new.items caller result.0
+        link.old.taken link.new.taken feeder.old feeder.new)
+        (λ told. FedNone receipts.old.items receipts.new.items caller result.0
+        link.old.taken link.new feeder.old feeder.new told (G.may_answer gate.now (vec_len receipts.new) false)) }
+{
+    let item = match link.take(rt) {
+        Ok(Parcel::Item(item)) => item,
+        Ok(Parcel::End) => return (caller, Some((None, WorkEnd::Done))),
+        Err(_) => return (caller, Some((None, WorkEnd::Closed))),
+    };
+    if let Err(end) = make_room(rt, gate, receipts) {
+        return (caller, Some((Some(item), end)));
+    }
+    match shared.accept(rt, caller, item) {
+        (caller, Ok(receipt)) => {
+            raise_if(board, feeder, &receipt.reply);
+            receipts.push_reserved(receipt);
+            (caller, None)
+        }
+        (caller, Err((why, event))) => {
+            let CoreEvent::Accept(item) = event else {
+                unreachable!()
+            };
+            (caller, Some((Some(item), WorkEnd::Spent(why))))
+        }
+    }
+}
+
+/// Raises the board where the reply says that an item of the feeder's node was accepted, above what the
+/// feeder raised.
+fn raise_if(board: &Board, feeder: &mut Feeder, reply: &CoreReply)
+    requires { feeder.old.board ≡ board.now }
+    ensures { feeder.new ≡ fed_by feeder.old reply.now }
+{
+    if let CoreReply::Accepted(accepted) = reply {
+        if accepted.node() == feeder.node() && feeder.raised() < accepted.stamp() {
+            board.raise(feeder, accepted);
+        }
+    }
+}

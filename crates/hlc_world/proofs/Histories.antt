@@ -1,0 +1,73 @@
+-- The store's history of a legal schedule is legal, since what is due to an event that asks something of the store is what the
+-- store
+-- owes; and what took place in a legal history is a legal past.
+use Rattle.std.proofs.Common.{◌≡◌, ℕ, ◌≤◌, List, [], ◌∷◌, Some, None, Option, ◌∙◌, sym, subst, arith}
+use Rattle.hlc_node.specs.declared.item.Item.{Item}
+use Rattle.hlc_floor.specs.Heads.{Acceptance}
+use Rattle.hlc_core.specs.declared.event.CoreEvent.{CoreEvent}
+use Rattle.hlc_core.specs.declared.event.CoreEvent.TheVariants as core_event
+use Rattle.hlc_core.specs.declared.reply.CoreReply.{CoreReply}
+use Rattle.hlc_core.specs.declared.reply.CoreReply.TheVariants as core_reply
+use Rattle.hlc_core.specs.Past.{Step, floor, horizon, stamp_of, open_refusal, IsLegal as IsLegalPast}
+use Rattle.hlc_core.specs.PastLaws.{open-room, horizon-low}
+use Rattle.hlc_core.specs.Calls.{list_refusal}
+use Rattle.hlc_core.specs.History.{step_of, with_step, past_of, IsDue, IsLegalHistory}
+use Rattle.hlc_world.specs.declared.event.Event.{Event}
+use Rattle.hlc_world.specs.declared.event.Event.TheVariants.{Deliver, OpenAt, OpenFloor, Read, List as ListAll, Close, Vacuum}
+use Rattle.hlc_world.specs.declared.reply.Reply.{Reply}
+use Rattle.hlc_world.specs.declared.reply.Reply.TheVariants.{Accepted, Snapshot, Answer, Listing, Closed, Vacuumed}
+use Rattle.hlc_world.specs.Schedule.{item_at}
+use Rattle.hlc_world.specs.Store.{accepting, joined, with_entry, store_history, core_past}
+use Rattle.hlc_world.specs.Due.{deliver_refusal, IsOwed, IsGiven, IsLegal}
+use Rattle.hlc_world.proofs.Orderly.{no-core, on_node-none}
+
+-- the store's share of a delivery is due
+history-taken : (nodes : ℕ) (h : List (CoreEvent × CoreReply)) (acceptance : Acceptance) (o : Option Item)
+    → deliver_refusal nodes (past_of h) o ≡ None
+    → IsOwed nodes (past_of h) (joined (Some (core_reply.Accepted acceptance)) (accepting o)) → IsLegalHistory nodes h
+    → IsLegalHistory nodes (with_entry (joined (Some (core_reply.Accepted acceptance)) (accepting o)) h)
+history-taken nodes h acceptance None none owed legal = legal
+history-taken nodes h acceptance (Some item) none owed legal = ((no-core _ none, owed), legal)
+
+history-entry : (nodes : ℕ) (s : List (Event × Reply)) (event : Event) (reply : Reply) → IsGiven nodes s event reply
+    → IsLegalHistory nodes (store_history s) → IsLegalHistory nodes (store_history ((event, reply) ∷ s))
+history-entry nodes s (Deliver p k) (Accepted st) given legal =
+    history-taken nodes (store_history s) (record { node = p; stamp = st }) (item_at p k s) (on_node-none nodes p _ given.0).1
+        given.1 legal
+history-entry nodes s (OpenAt at) (Snapshot id st) given legal = ((no-core _ given.0, given.1), legal)
+history-entry nodes s OpenFloor (Snapshot id st) given legal = ((no-core _ given.0, given.1), legal)
+history-entry nodes s (Read id key) (Answer value) given legal = ((no-core _ given.0, given.1), legal)
+history-entry nodes s (ListAll id) (Listing pairs) given legal = ((no-core _ given.0, given.1), legal)
+history-entry nodes s (Close id) (Closed st) given legal = ((no-core _ given.0, given.1), legal)
+history-entry nodes s Vacuum (Vacuumed report) given legal = ((no-core _ given.0, given.1), legal)
+history-entry nodes s _ _ given legal = legal
+
+-- the store's history of a legal schedule is legal
+pub history-legal : (nodes : ℕ) (s : List (Event × Reply)) → IsLegal nodes s → IsLegalHistory nodes (store_history s)
+history-legal nodes [] legal = tt
+history-legal nodes (entry ∷ s) legal = history-entry nodes s entry.0 entry.1 legal.0 (history-legal nodes s legal.1)
+
+no-list : (o : Option ℕ) → list_refusal o ≡ None → o ≡ None → ⊥
+no-list None h e = absurd (cc)
+no-list (Some stamp) h e = absurd (cc)
+
+past-step : (nodes : ℕ) (past : List Step) (event : CoreEvent) (reply : CoreReply) → IsDue nodes past event reply
+    → IsLegalPast nodes past → IsLegalPast nodes (with_step (step_of event reply) past)
+past-step nodes past (core_event.Accept item) (core_reply.Accepted acceptance) due legal = (due.0, legal)
+past-step nodes past (core_event.OpenAt at) (core_reply.Opened id st) due legal =
+    (subst (λ x. open_refusal nodes past x ≡ None) (sym due.1.1) due.0, legal)
+past-step nodes past core_event.OpenFloor (core_reply.Opened id st) due legal =
+    let e : st ≡ floor nodes past = due.1.1 in
+    let low : horizon nodes past ≤ floor nodes past = horizon-low nodes past legal in
+    (open-room nodes past st (omega arith) (omega arith) ∙ due.0, legal)
+past-step nodes past (core_event.Close id) (core_reply.Closed st) due legal = (no-list (stamp_of id past) due.0, legal)
+past-step nodes past core_event.Vacuum (core_reply.Vacuumed report) due legal = legal
+past-step nodes past _ _ due legal = legal
+
+past-legal : (nodes : ℕ) (h : List (CoreEvent × CoreReply)) → IsLegalHistory nodes h → IsLegalPast nodes (past_of h)
+past-legal nodes [] legal = tt
+past-legal nodes (entry ∷ h) legal = past-step nodes (past_of h) entry.0 entry.1 legal.0 (past-legal nodes h legal.1)
+
+-- the core's past of a legal schedule is legal
+pub legal-past : (nodes : ℕ) (s : List (Event × Reply)) → IsLegal nodes s → IsLegalPast nodes (core_past s)
+legal-past nodes s legal = past-legal nodes (store_history s) (history-legal nodes s legal)

@@ -1,0 +1,66 @@
+-- The store's share of a schedule: what its events asked of the store, and what the store answered.
+use Rattle.std.specs.Prelude.{List, [], ◌∷◌, Option, Some, None}
+use Rattle.hlc_node.specs.declared.item.Item.{Item}
+use Rattle.hlc_core.specs.declared.event.CoreEvent.{CoreEvent}
+use Rattle.hlc_core.specs.declared.event.CoreEvent.TheVariants as core_event
+use Rattle.hlc_core.specs.declared.reply.CoreReply.{CoreReply}
+use Rattle.hlc_core.specs.declared.reply.CoreReply.TheVariants as core_reply
+use Rattle.hlc_core.specs.Past.{Step}
+use Rattle.hlc_core.specs.History.{past_of}
+use Rattle.hlc_world.specs.declared.event.Event.{Event}
+use Rattle.hlc_world.specs.declared.event.Event.TheVariants.{Deliver, OpenAt, OpenFloor, Read, List as ListAll, Close, Vacuum}
+use Rattle.hlc_world.specs.declared.reply.Reply.{Reply}
+use Rattle.hlc_world.specs.declared.reply.Reply.TheVariants.{Accepted, Snapshot, Answer, Listing, Closed, Vacuumed}
+use Rattle.hlc_world.specs.Schedule.{item_at}
+
+-- an item that is found is to be accepted
+abbrev pub accepting : Option Item → Option CoreEvent
+accepting None = None
+accepting (Some item) = Some (core_event.Accept item)
+
+-- What an event asks of the store: a delivery asks it to accept the item of that number. The events of nodes ask nothing of it, and the
+-- questions for the floor and the rows are the world's own.
+abbrev pub asked : List (Event × Reply) → Event → Option CoreEvent
+asked schedule (Deliver node number) = accepting (item_at node number schedule)
+asked schedule (OpenAt stamp) = Some (core_event.OpenAt stamp)
+asked schedule OpenFloor = Some core_event.OpenFloor
+asked schedule (Read id key) = Some (core_event.Read id key)
+asked schedule (ListAll id) = Some (core_event.List id)
+asked schedule (Close id) = Some (core_event.Close id)
+asked schedule Vacuum = Some core_event.Vacuum
+asked schedule _ = None
+
+-- what the store answered to it, by the event's reply; nothing, where the event did not take place
+abbrev pub told : Event → Reply → Option CoreReply
+told (Deliver node number) (Accepted stamp) = Some (core_reply.Accepted (record { node = node; stamp = stamp }))
+told (OpenAt at) (Snapshot id stamp) = Some (core_reply.Opened id stamp)
+told OpenFloor (Snapshot id stamp) = Some (core_reply.Opened id stamp)
+told (Read id key) (Answer value) = Some (core_reply.Answer value)
+told (ListAll id) (Listing pairs) = Some (core_reply.Listing pairs)
+told (Close id) (Closed stamp) = Some (core_reply.Closed stamp)
+told Vacuum (Vacuumed report) = Some (core_reply.Vacuumed report)
+told _ _ = None
+
+-- the reply and the event, if there are both
+abbrev pub joined : Option CoreReply → Option CoreEvent → Option (CoreEvent × CoreReply)
+joined None event = None
+joined (Some reply) None = None
+joined (Some reply) (Some event) = Some (event, reply)
+
+-- what the store is asked by an event that takes place, with its answer
+abbrev pub share : List (Event × Reply) → Event → Reply → Option (CoreEvent × CoreReply)
+share schedule event reply = joined (told event reply) (asked schedule event)
+
+-- the history, and this entry after it
+abbrev pub with_entry : Option (CoreEvent × CoreReply) → List (CoreEvent × CoreReply) → List (CoreEvent × CoreReply)
+with_entry None history = history
+with_entry (Some entry) history = entry ∷ history
+
+-- the store's history: each event of the schedule that asked something of the store and took place, in order, the last one first
+abbrev pub store_history : List (Event × Reply) → List (CoreEvent × CoreReply)
+store_history [] = []
+store_history (entry ∷ schedule) = with_entry (share schedule entry.0 entry.1) (store_history schedule)
+
+-- what took place in the core, the last step first
+abbrev pub core_past : List (Event × Reply) → List Step
+core_past schedule = past_of (store_history schedule)
