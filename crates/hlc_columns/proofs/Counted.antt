@@ -25,7 +25,7 @@ summed ss g (suc n) xs le long every =
     let front = take k xs in
     let back = drop (k + 1) xs in
     let split : xs ≡ front ++ n ∷ back =
-        sym (take-append-drop k xs) ∙ ap (λ l. front ++ l) (drop_more xs k n m.1 ∙ ap (λ x. x ∷ back) m.2) in
+    sym (take-append-drop k xs) ∙ ap (λ l. front ++ l) (drop_more xs k n m.1 ∙ ap (λ x. x ∷ back) m.2) in
     let within = m.1 in
     let low : length front ≡ k = length-take-le k xs (omega (arith, within)) in
     let high : length back ≡ length xs - (k + 1) = length-drop (k + 1) xs in
@@ -56,7 +56,7 @@ module _ (p : ℕ → Bool) (xs : List ℕ) (count : ℕ) (inside : count ≤ le
   front_counted (suc i) le =
       subst (λ n. count_by p (take n xs) ≡ n) (let e : i + 1 ≡ suc i = omega arith in e)
       (count_by_more_yes p xs i 0 (omega (arith, le, inside)) (point.0 i 0 (omega arith) (omega (arith, le))) ∙ ap (λ n. n + 1)
-          (front_counted i (omega (arith, le))))
+      (front_counted i (omega (arith, le))))
 
   back_counted : (j : ℕ) → count + j ≤ length xs → count_by p (take (count + j) xs) ≡ count
   back_counted zero le =
@@ -65,13 +65,13 @@ module _ (p : ℕ → Bool) (xs : List ℕ) (count : ℕ) (inside : count ≤ le
   back_counted (suc j) le =
       subst (λ n. count_by p (take n xs) ≡ count) (let e : count + j + 1 ≡ count + suc j = omega arith in e)
       (count_by_more_no p xs (count + j) 0 (omega (arith, le)) (point.1 (count + j) 0 (omega arith) (omega (arith, le)))
-          ∙ back_counted j (omega (arith, le)))
+      ∙ back_counted j (omega (arith, le)))
 
   pub partition_counted : count_by p xs ≡ count
   partition_counted =
       let all' : length xs ≤ count + (length xs - count) = omega arith in
       sym (ap (count_by p) (take_all (count + (length xs - count)) xs all')) ∙ back_counted (length xs - count)
-          (omega (arith, inside))
+      (omega (arith, inside))
 
 -- what an index counts
 pub index_counted : (ss ns order : List ℕ) (bound count : ℕ) → IsIndex ss ns order → count ≤ length order

@@ -48,7 +48,7 @@ same_rising n (x ∷ xs) (y ∷ ys) a b f g =
     let rest = same_rising m xs ys a.1 b'
     (λ r i. ⊎_elim (λ e. absurd (omega (arith, in_above m r xs a.1 i, ap (λ (z : Receipt). z.number) e))) (λ j. j) (f r (inr i)))
     (λ r i. ⊎_elim (λ e. absurd (omega (arith, in_above m r ys b' i, ap (λ (z : Receipt). z.number) e))) (λ j. j)
-        (g r (inr i))) in
+    (g r (inr i))) in
     cc (same, rest)
   where
     heads : (n : ℕ) (x y : Receipt) (xs ys : List Receipt) → Above n (x ∷ xs) → Above n (y ∷ ys) → In x (y ∷ ys) → In y (x ∷ xs)
@@ -97,7 +97,7 @@ unfolding Above
 entries_above k n [] = tt
 entries_above k n (e ∷ es) =
     if_case (e.caller == k) (receipt_of n e ∷ of_caller k (receipts_from (n + 1) es)) (of_caller k (receipts_from (n + 1) es))
-        (λ rs. Above n rs)
+    (λ rs. Above n rs)
     (λ is. (omega arith, entries_above k (n + 1) es))
     (λ is. lower n (n + 1) _ (omega arith) (entries_above k (n + 1) es))
 
@@ -108,7 +108,7 @@ in_of_caller k r (x ∷ xs) is i =
     if_case (x.caller == k) (x ∷ of_caller k xs) (of_caller k xs) (λ rs. In r rs)
     (λ here. ⊎_elim (λ e. inl e) (λ j. inr (in_of_caller k r xs is j)) i)
     (λ away. ⊎_elim (λ e. absurd (false≢true (sym away ∙ eq_is x.caller k (ap (λ (y : Receipt). y.caller) (sym e) ∙ is))))
-        (λ j. in_of_caller k r xs is j) i)
+    (λ j. in_of_caller k r xs is j) i)
 
 of_caller_in : (k : ℕ) (r : Receipt) (rs : List Receipt) → In r (of_caller k rs) → (r.caller ≡ k) × In r rs
 unfolding In
@@ -116,7 +116,7 @@ of_caller_in k r [] = λ i. absurd i
 of_caller_in k r (x ∷ xs) =
     if_case (x.caller == k) (x ∷ of_caller k xs) (of_caller k xs) (λ rs. In r rs → (r.caller ≡ k) × In r (x ∷ xs))
     (λ here i. ⊎_elim (λ e. (ap (λ (y : Receipt). y.caller) e ∙ is_eq x.caller k here, inl e))
-        (λ j. let p = of_caller_in k r xs j in (p.0, inr p.1)) i)
+    (λ j. let p = of_caller_in k r xs j in (p.0, inr p.1)) i)
     (λ away i. let p = of_caller_in k r xs i in (p.0, inr p.1))
 
 -- a receipt that stands in the trail is one of those due for it
@@ -136,9 +136,12 @@ stands_of : (n : ℕ) (es : List Entry) (r : Receipt) → In r (receipts_from n 
     → (m : ℕ) × (r.number ≡ n + m) × (m < length es) × (slice_get es m ≡ Some (entry r.caller r.event r.reply))
 unfolding In
 stands_of n [] r i = absurd i
-stands_of n (e ∷ es) r (inl same) =
-    (0, (let q = ap (λ (x : Receipt). x.number) same in omega (arith, q)), omega arith,
-    ap (λ (x : Receipt). Some (entry x.caller x.event x.reply)) (sym same))
+stands_of n (e ∷ es) r (inl same) = (
+  0,
+  (let q = ap (λ (x : Receipt). x.number) same in omega (arith, q)),
+  omega arith,
+  ap (λ (x : Receipt). Some (entry x.caller x.event x.reply)) (sym same),
+)
 stands_of n (e ∷ es) r (inr i) = let p = stands_of (n + 1) es r i in (suc p.0, omega (arith, p.1), omega (arith, p.2), p.3)
 
 good_stands : (t : List Entry) (b : Option (ℕ × ℕ)) (cs : List Claim) (r : Receipt) → AreGood t b cs → In r (receipts_in cs)
@@ -163,9 +166,9 @@ one_standing t r s a b is =
 pub each_is_told : (t : List Entry) (cs : List Claim) → IsSettled t cs → EachIsTold t cs
 each_is_told t cs s k =
     same_rising 0 (of_caller k (receipts_in cs)) (of_caller k (receipts_from 0 t))
-        (good_above t k None cs s.0 0 (λ j h. omega arith)) (entries_above k 0 t)
+    (good_above t k None cs s.0 0 (λ j h. omega arith)) (entries_above k 0 t)
     (λ r i. let p = of_caller_in k r (receipts_in cs) i in in_of_caller k r (receipts_from 0 t) p.0
-        (due_of 0 r.number t r (good_stands t None cs r s.0 p.1) (omega arith)))
+    (due_of 0 r.number t r (good_stands t None cs r s.0 p.1) (omega arith)))
     (λ r i.
     let p = of_caller_in k r (receipts_from 0 t) i in
     let q = stands_of 0 t r p.1 in
@@ -174,5 +177,5 @@ each_is_told t cs s k =
     let told = all_told t cs s r.number (omega (arith, num, q.2)) in
     let there = in_at cs told.0 told.1 told.2 in
     let same : told.1.receipt ≡ r =
-        one_standing t told.1.receipt r (good_stands t None cs told.1.receipt s.0 there) stands told.3 in
+    one_standing t told.1.receipt r (good_stands t None cs told.1.receipt s.0 there) stands told.3 in
     in_of_caller k r (receipts_in cs) p.0 (subst (λ (x : Receipt). In x (receipts_in cs)) same there))

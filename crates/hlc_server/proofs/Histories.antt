@@ -31,12 +31,12 @@ audited_more old new None trail' caller event reply total total' audited is stan
     λ t some. absurd (let e : Some t ≡ None = sym some ∙ is in cc)
 audited_more old new (Some before) trail' caller event reply total total' audited is stands more = λ t some.
     let same : t ≡ before ++ entry caller event reply ∷ [] =
-        (let both : Some t ≡ Some (before ++ entry caller event reply ∷ []) = sym some ∙ is in cc) in
+    (let both : Some t ≡ Some (before ++ entry caller event reply ∷ []) = sym some ∙ is in cc) in
     let was = audited before refl in
     let goes = (stands (history_of before) was.stands).1 in
     let now : StandsForHistory new (history_of t) =
-        subst (λ h. StandsForHistory new h) (sym (ap history_of same ∙ history_of-push before (entry caller event reply)))
-        goes in
+    subst (λ h. StandsForHistory new h) (sym (ap history_of same ∙ history_of-push before (entry caller event reply)))
+    goes in
     record {
       legal = now.legal;
       stands = now;
@@ -57,4 +57,4 @@ audited_first core audit trail total stands is none = λ t some. first t (sym so
     first t are =
         let empty : t ≡ [] = cond-empty audit t are in
         subst (λ l. IsAudited core l total) (sym empty)
-            (record { legal = tt; stands = record { legal = tt; core = stands }; counted = sym none })
+        (record { legal = tt; stands = record { legal = tt; core = stands }; counted = sym none })

@@ -90,7 +90,7 @@ fewer p q h n zero (e ∷ es) x at passes fails =
 fewer p q h n (suc m) (e ∷ es) x at passes fails =
     let here : n + suc m ≡ (n + 1) + m = omega arith in
     let rest =
-        fewer p q h (n + 1) m es x at (ap (λ (k : ℕ). p k x) (sym here) ∙ passes) (ap (λ (k : ℕ). q k x) (sym here) ∙ fails) in
+    fewer p q h (n + 1) m es x at (ap (λ (k : ℕ). p k x) (sym here) ∙ passes) (ap (λ (k : ℕ). q k x) (sym here) ∙ fails) in
     omega (arith, one_le (q n e) (p n e) (h n e), rest)
 
 -- the receipts' numbers pass a test
@@ -126,9 +126,9 @@ good-bound t test b (c ∷ cs) g pass =
     let passes : candidates test b (0 + m) x ≡ true = rw here (both_true (test m) (is_above b k) pass.0 (above_of b k g.0.2)) in
     let fails : candidates test (Some k) (0 + m) x ≡ false = rw here (and_false (test m) (is_above (Some k) k) (not_above k)) in
     let less =
-        fewer (candidates test b) (candidates test (Some k))
-        (λ n e h. let p = and_true (test n) _ h in both_true (test n) _ p.0 (above_above b k (e.caller, n) g.0.2 p.1)) 0 m t x
-        g.0.0 passes fails in
+    fewer (candidates test b) (candidates test (Some k))
+    (λ n e h. let p = and_true (test n) _ h in both_true (test n) _ p.0 (above_above b k (e.caller, n) g.0.2 p.1)) 0 m t x
+    g.0.0 passes fails in
     omega (arith, rest, less)
 
 all_pass : (cs : List Claim) → AllPass (λ n. true) cs
@@ -184,8 +184,8 @@ pub claims_more : {Z : Type 0} (lists : List (Seat × Vec Receipt Z)) (i : ℕ) 
     → x ≡ get_or lists i x → claims_of (take (i + 1) lists) ≡ claims_of (take i lists) ++ map (claim x.0.number) x.1.items
 claims_more {Z} lists i x lt is =
     ap claims_of (take_more lists i x lt ∙ ap (λ (y : Seat × Vec Receipt Z). take i lists ++ y ∷ []) (sym is))
-        ∙ claims_of-append (take i lists) (x ∷ []) ∙ ap (λ (cs : List Claim). claims_of (take i lists) ++ cs)
-        (append-nil (map (claim x.0.number) x.1.items))
+    ∙ claims_of-append (take i lists) (x ∷ []) ∙ ap (λ (cs : List Claim). claims_of (take i lists) ++ cs)
+    (append-nil (map (claim x.0.number) x.1.items))
 
 -- all claims begin with those of the first lists
 pub claims_split : {Z : Type 0} (lists : List (Seat × Vec Receipt Z)) (i : ℕ)
@@ -206,8 +206,8 @@ pub first_within : (t : List Entry) (front list rest all : List Claim) (k : ℕ)
 first_within t front list rest all k is lt good here bad =
     let whole : all ≡ front ++ (list ++ rest) = is ∙ append_assoc front list rest in
     let cut : (n : ℕ) → n ≤ length list → take (length front + n) all ≡ front ++ take n list =
-        λ n le. ap (λ (l : List Claim). take (length front + n) l) whole ∙ take_past front (list ++ rest) n ∙ ap
-        (λ (l : List Claim). front ++ l) (take-append-le n list rest le) in
+    λ n le. ap (λ (l : List Claim). take (length front + n) l) whole ∙ take_past front (list ++ rest) n ∙ ap
+    (λ (l : List Claim). front ++ l) (take-append-le n list rest le) in
     let next : length front + k + 1 ≡ length front + (k + 1) = omega arith in (
       subst (λ (l : List Claim). AreGood t None l) (sym (cut k (omega arith))) (good-append t None front (take k list) good here),
       inl (
@@ -250,24 +250,24 @@ pub one_more_bad : (t : List Entry) (b last : Option (ℕ × ℕ)) (by : ℕ) (x
 one_more_bad t b last by xs i x lt is key bad good =
     let front = map (claim by) (take i xs) in
     bad (subst (λ (k : Option (ℕ × ℕ)). IsGood t k (claim by x)) (sym key)
-        (good-rest t b front (claim by x ∷ []) (subst (λ (l : List Claim). AreGood t b l) (map_more by xs i x lt is) good)).0)
+    (good-rest t b front (claim by x ∷ []) (subst (λ (l : List Claim). AreGood t b l) (map_more by xs i x lt is) good)).0)
 
 -- one caller's good receipts more
 pub list_good : {Z : Type 0} (t : List Entry) (lists : List (Seat × Vec Receipt Z)) (i : ℕ) (x : Seat × Vec Receipt Z) (by : ℕ)
     (items : List Receipt) (last key : Option (ℕ × ℕ)) (count len : ℕ)
     → i < length lists → x ≡ get_or lists i x → by ≡ x.0.number → items ≡ x.1.items
     → AreGood t None (claims_of (take i lists)) → last ≡ last_key None (claims_of (take i lists)) → count ≡ length
-        (claims_of (take i lists))
+    (claims_of (take i lists))
     → AreGood t last (map (claim by) items) → key ≡ last_key last (map (claim by) items) → len ≡ length items
     → (AreGood t None
-        (claims_of (take (i + 1) lists)) × (key ≡ last_key None (claims_of (take (i + 1) lists))) × (count + len ≡ length
-        (claims_of (take (i + 1) lists)))) × (count + len ≤ length t)
+    (claims_of (take (i + 1) lists)) × (key ≡ last_key None (claims_of (take (i + 1) lists))) × (count + len ≡ length
+    (claims_of (take (i + 1) lists)))) × (count + len ≤ length t)
 list_good t lists i x by items last key count len lt is by_is items_is good last_is count_is here key_is len_is =
     let front = claims_of (take i lists) in
     let list = map (claim by) items in
     let more : claims_of (take (i + 1) lists) ≡ front ++ list =
-        claims_more lists i x lt is ∙ ap (λ (l : List Receipt). front ++ map (claim x.0.number) l) (sym items_is) ∙ ap
-        (λ (n : ℕ). front ++ map (claim n) items) (sym by_is) in
+    claims_more lists i x lt is ∙ ap (λ (l : List Receipt). front ++ map (claim x.0.number) l) (sym items_is) ∙ ap
+    (λ (n : ℕ). front ++ map (claim n) items) (sym by_is) in
     let after : AreGood t (last_key None front) list = subst (λ (k : Option (ℕ × ℕ)). AreGood t k list) last_is here in
     let many : length list ≡ len = length-map items (claim by) ∙ sym len_is in (
       (
@@ -284,7 +284,7 @@ pub list_bad : {Z : Type 0} (t : List Entry) (lists : List (Seat × Vec Receipt 
     (items : List Receipt) (last : Option (ℕ × ℕ)) (count k : ℕ)
     → i < length lists → x ≡ get_or lists i x → by ≡ x.0.number → items ≡ x.1.items
     → AreGood t None (claims_of (take i lists)) → last ≡ last_key None (claims_of (take i lists)) → count ≡ length
-        (claims_of (take i lists))
+    (claims_of (take i lists))
     → (k < length items) × AreGood t last (map (claim by) (take k items)) × ¬ AreGood t last (map (claim by) (take (k + 1) items))
     → IsFirstBad t (claims_of lists) (count + k) × (count + k ≤ length t)
 list_bad t lists i x by items last count k lt is by_is items_is good last_is count_is bad =
@@ -292,17 +292,17 @@ list_bad t lists i x by items last count k lt is by_is items_is good last_is cou
     let list = map (claim by) items in
     let rest = claims_of (drop (i + 1) lists) in
     let more : claims_of (take (i + 1) lists) ≡ front ++ list =
-        claims_more lists i x lt is ∙ ap (λ (l : List Receipt). front ++ map (claim x.0.number) l) (sym items_is) ∙ ap
-        (λ (n : ℕ). front ++ map (claim n) items) (sym by_is) in
+    claims_more lists i x lt is ∙ ap (λ (l : List Receipt). front ++ map (claim x.0.number) l) (sym items_is) ∙ ap
+    (λ (n : ℕ). front ++ map (claim n) items) (sym by_is) in
     let all : claims_of lists ≡ (front ++ list) ++ rest = claims_split lists (i + 1) ∙ ap (λ (l : List Claim). l ++ rest) more in
     let P : List Claim → Type 0 = λ l. AreGood t (last_key None front) l in
     let here : P (take k list) =
-        subst P (sym (take-map (claim by) k items))
-        (subst (λ (key : Option (ℕ × ℕ)). AreGood t key (map (claim by) (take k items))) last_is bad.1) in
+    subst P (sym (take-map (claim by) k items))
+    (subst (λ (key : Option (ℕ × ℕ)). AreGood t key (map (claim by) (take k items))) last_is bad.1) in
     let next : ¬ P (take (k + 1) list) =
-        λ g. bad.2
-        (subst (λ (key : Option (ℕ × ℕ)). AreGood t key (map (claim by) (take (k + 1) items))) (sym last_is)
-        (subst P (take-map (claim by) (k + 1) items) g)) in
+    λ g. bad.2
+    (subst (λ (key : Option (ℕ × ℕ)). AreGood t key (map (claim by) (take (k + 1) items))) (sym last_is)
+    (subst P (take-map (claim by) (k + 1) items) g)) in
     let many = length-map items (claim by) in
     let some = length-map (take k items) (claim by) in (
       subst (λ (n : ℕ). IsFirstBad t (claims_of lists) (n + k)) (sym count_is)

@@ -35,8 +35,13 @@ last_of_zip R (x ∷ []) [] y h = record { front = []; last = x; is = refl; fron
 last_of_zip R (x ∷ w ∷ xs) [] y h = absurd h.1
 last_of_zip R (x ∷ xs) (z ∷ ys) y h =
     let rest = last_of_zip R xs ys y h.1 in
-    record { front = x ∷ rest.front; last = rest.last; is = ap (λ l. x ∷ l) rest.is; fronts = (h.0, rest.fronts);
-        lasts = rest.lasts }
+    record {
+      front = x ∷ rest.front;
+      last = rest.last;
+      is = ap (λ l. x ∷ l) rest.is;
+      fronts = (h.0, rest.fronts);
+      lasts = rest.lasts;
+    }
 
 -- what the joined draft of some pieces says
 abbrev pub JoinsPieces : List (Result Draft AllocError) → Draft → Type 0
@@ -48,20 +53,20 @@ JoinsPieces drafts whole =
 pub pieces_on : OthersBefore → OthersBehind → (drafts : List (Result Draft AllocError)) (whole more new : Draft)
     → JoinsPieces drafts whole
     → new.witnesses.items ≡ whole.witnesses.items ++ more.witnesses.items → new.keep.items ≡ whole.keep.items ++ more.keep.items
-        → JoinsPieces (drafts ++ Ok more ∷ []) new
+    → JoinsPieces (drafts ++ Ok more ∷ []) new
 pieces_on before behind drafts whole more new so news keeps = λ points pieces up each.
     let parts = last_of_zip (DraftsPiece points) pieces drafts (Ok more) each in
     let both : columns_of pieces ≡ columns_of parts.front ++ parts.last =
-        ap columns_of parts.is ∙ flat_map-append (λ piece. piece) parts.front (parts.last ∷ []) ∙ ap
-        (λ xs. columns_of parts.front ++ xs) (append-nil parts.last) in
+    ap columns_of parts.is ∙ flat_map-append (λ piece. piece) parts.front (parts.last ∷ []) ∙ ap
+    (λ xs. columns_of parts.front ++ xs) (append-nil parts.last) in
     let ascend = subst KeysAscend both up in
     let front = so points parts.front (ascend_front (columns_of parts.front) parts.last ascend) parts.fronts in
     subst (λ xs. IsJoined xs points new.witnesses.items new.keep.items) (sym both)
     (subst (λ cs. IsJoined (columns_of parts.front ++ parts.last) points cs new.keep.items) (sym news)
     (subst (λ fs. IsJoined (columns_of parts.front ++ parts.last) points (whole.witnesses.items ++ more.witnesses.items) fs)
-        (sym keeps)
+    (sym keeps)
     (joined_append before behind points (columns_of parts.front) parts.last ascend whole.witnesses.items more.witnesses.items
-        whole.keep.items more.keep.items front parts.lasts)))
+    whole.keep.items more.keep.items front parts.lasts)))
 
 -- of no piece
 pub pieces_none : (pieces : List (List KeyCells)) (points : List ℕ) → AllZip (DraftsPiece points) pieces []

@@ -127,19 +127,19 @@ reply_of (Err fault) = Refused (of_core fault)
 pub answered : (state : State) (s : List (Event × Reply)) (p k : ℕ) (item : Item) (core : Kept) (result : Result ℕ CoreFault)
     → IsMatched state → StandsFor state s → item_at p k s ≡ Some item
     → MatchResult result
-        (λ stamp. (stamp ≡ item.stamp) × (item_refusal (nodes state.core) (core_past s) item ≡ None) × CoreStandsFor core
-        (Took item ∷ core_past s))
+    (λ stamp. (stamp ≡ item.stamp) × (item_refusal (nodes state.core) (core_past s) item ≡ None) × CoreStandsFor core
+    (Took item ∷ core_past s))
     (λ fault. IsRefusal (item_refusal (nodes state.core) (core_past s) item) (IsWrite item.body) fault × (core ≡ state.core))
     → StandsFor (record { core = core; nodes = state.nodes; messages = state.messages }) ((Deliver p k, reply_of result) ∷ s)
 answered state s p k item core (Ok stamp) matched h at a =
     let t : StandsFor (record { core = core; nodes = state.nodes; messages = state.messages })
-        ((Deliver p k, Accepted item.stamp) ∷ s) =
+    ((Deliver p k, Accepted item.stamp) ∷ s) =
     taken state s p k item core matched h at a.1 a.2 in
     subst (λ x. StandsFor (record { core = core; nodes = state.nodes; messages = state.messages })
-        ((Deliver p k, Accepted x) ∷ s)) (sym a.0) t
+    ((Deliver p k, Accepted x) ∷ s)) (sym a.0) t
 answered state s p k item core (Err f) matched h at a =
     subst (λ x. StandsFor (record { core = x; nodes = state.nodes; messages = state.messages })
-        ((Deliver p k, Refused (of_core f)) ∷ s)) (sym a.1)
+    ((Deliver p k, Refused (of_core f)) ∷ s)) (sym a.1)
     (elim a.0 [
       | inl due ↦ refused state s p k item f matched h at due
       | inr lost ↦ subst (λ x. StandsFor state ((Deliver p k, Refused (of_core x)) ∷ s)) (sym lost.1)

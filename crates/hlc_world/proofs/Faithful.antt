@@ -31,7 +31,7 @@ moment-told : (later before : List (Event × Reply)) → IsStoreMoment (store_hi
 moment-told [] before = record { later = []; order = refl }
 moment-told (entry ∷ later) before =
     moment-stays (share (later ++ before) entry.0 entry.1) (store_history (later ++ before)) (store_history before)
-        (moment-told later before)
+    (moment-told later before)
 
 -- each moment of a schedule is one of the store's history
 moments-told : (s : List (Event × Reply)) → MomentsAreTold s

@@ -33,7 +33,7 @@ history-entry : (nodes : ℕ) (s : List (Event × Reply)) (event : Event) (reply
     → IsLegalHistory nodes (store_history s) → IsLegalHistory nodes (store_history ((event, reply) ∷ s))
 history-entry nodes s (Deliver p k) (Accepted st) given legal =
     history-taken nodes (store_history s) (record { node = p; stamp = st }) (item_at p k s) (on_node-none nodes p _ given.0).1
-        given.1 legal
+    given.1 legal
 history-entry nodes s (OpenAt at) (Snapshot id st) given legal = ((no-core _ given.0, given.1), legal)
 history-entry nodes s OpenFloor (Snapshot id st) given legal = ((no-core _ given.0, given.1), legal)
 history-entry nodes s (Read id key) (Answer value) given legal = ((no-core _ given.0, given.1), legal)
