@@ -1,0 +1,21 @@
+-- The words behind the program's name. The sizes of a storm are in their ranges by the type.
+use Rattle.std.specs.Prelude.{ℕ, List, [], ◌∷◌, map, codes, decimal, String, string_bytes}
+use Rattle.hlc_words.specs.declared.plan.StormPlan.{StormPlan}
+use Rattle.hlc_words.specs.declared.words.Words.{Words}
+use Rattle.hlc_words.specs.declared.words.Words.TheVariants.{Run, Check, Storm}
+
+-- the bytes of each word
+abbrev pub bytes_of : {Z : Type 0} → List (String Z) → List (List ℕ)
+bytes_of words = map (λ word. string_bytes word) words
+
+-- the words behind `storm`
+abbrev pub plan_words : StormPlan → List (List ℕ)
+plan_words plan =
+    codes "--nodes" ∷ decimal plan.nodes ∷ codes "--writes" ∷ decimal plan.writes
+    ∷ codes "--keys" ∷ decimal plan.keys ∷ codes "--readers" ∷ decimal plan.readers ∷ []
+
+-- the words that ask for this
+abbrev pub words_of : Words → List (List ℕ)
+words_of Run = codes "run" ∷ []
+words_of Check = codes "check" ∷ []
+words_of (Storm plan) = codes "storm" ∷ plan_words plan
