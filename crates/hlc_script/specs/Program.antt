@@ -1,13 +1,12 @@
 -- What the program does for the words behind its name, and its exit status.
 use Rattle.std.specs.Prelude.{◌≡◌, ℕ, List, Option, Some, None, codes}
 use Rattle.hlc_text.specs.declared.watched.Watched.{Watched}
-use Rattle.hlc_text.specs.Text.{Reads}
+use Rattle.hlc_text.specs.Text.{Reads, printed}
 use Rattle.hlc_text.specs.Printing.{Writes}
 use Rattle.hlc_script.specs.declared.words.Words.{Words}
 use Rattle.hlc_script.specs.declared.words.Words.TheVariants.{Run, Check}
 use Rattle.hlc_script.specs.declared.run.RunEnd.{RunEnd}
 use Rattle.hlc_script.specs.declared.check.CheckEnd.{CheckEnd}
-use Rattle.hlc_script.specs.Reply.{printed}
 use Rattle.hlc_script.specs.Run.{RunsScript, status_of}
 use Rattle.hlc_script.specs.Check.{RunsCheck, check_status}
 use Rattle.hlc_script.specs.Words.{words_of, AreWords}

@@ -3,7 +3,7 @@ ghost use Rattle.std.specs.Prelude.{◌≡◌, false, map, codes, string_bytes, 
 ghost use Rattle.std.specs.Option.{option_map};
 ghost use Rattle.hlc_text.specs.Watched.{has_failed};
 ghost use Rattle.hlc_text.specs.Printing.{Writes};
-ghost use Rattle.hlc_script.specs.Reply.{printed};
+ghost use Rattle.hlc_text.specs.Text.{printed};
 ghost use Rattle.hlc_script.specs.Program.{Asks, Does};
 
 use crate::check::run_check;
