@@ -20,8 +20,8 @@ abbrev pub Asks : Option (List (List ℕ)) → Option Words → Type 0
 Asks None asked = asked ≡ None
 Asks (Some words) asked = Reads words_of (λ asked. ⊤) words asked
 
--- What was asked for is done, and the exit status is that of its end. Nothing is read for a storm: there is an outcome whose text is
--- written. Where nothing is asked for, the words are refused, and nothing is read.
+-- What was asked for is done, and the exit status is that of its end. For a storm there is an outcome whose text is
+-- written. Where nothing is asked for, the words are refused. For both of these nothing is read.
 abbrev pub Does : {R W : Type 0} → (R → Option (List ℕ)) → (W → Option (List ℕ))
     → Option Words → Watched R → Watched R → Watched W → Watched W → ℕ → Type 0
 Does remaining contents (Some Run) reader reader_after writer writer_after status =

@@ -29,7 +29,8 @@ const CASES: [Case; 5] = [
     // Keys go by their bytes, not by their numbers.
     (
         "storm --nodes 1 --writes 11 --keys 11 --readers 1",
-        b"accepted 0 12\nfloor 12.0\nk0 0.0\nk1 0.1\nk10 0.10\nk2 0.2\nk3 0.3\nk4 0.4\nk5 0.5\nk6 0.6\nk7 0.7\nk8 0.8\nk9 0.9\nkept 11\nhistory legal\n",
+        b"accepted 0 12\nfloor 12.0\nk0 0.0\nk1 0.1\nk10 0.10\nk2 0.2\nk3 0.3\nk4 0.4\n\
+            k5 0.5\nk6 0.6\nk7 0.7\nk8 0.8\nk9 0.9\nkept 11\nhistory legal\n",
     ),
 ];
 
