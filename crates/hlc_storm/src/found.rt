@@ -1,21 +1,8 @@
 //! What a storm found.
-use crate::report::StormFault;
-use hlc_core::{Core, Listing, Stamp};
+use crate::report::{StormFault, StormReport};
+use hlc_core::Core;
 use hlc_words::StormPlan;
 use std::alloc::Global;
-
-/// What a storm found, once its receipts settled.
-#[derive(Debug, Drop)]
-pub struct StormReport {
-    /// How many items of each node were accepted, by node.
-    pub accepted: Vec<u64>,
-    /// The floor behind the last of them.
-    pub floor: Stamp,
-    /// The keys that have a value at the floor, with their values, in byte order.
-    pub pairs: Listing,
-    /// How many rows the last vacuum kept.
-    pub kept: u64,
-}
 
 /// What the settled core tells.
 pub(crate) fn report_of(

@@ -4,12 +4,13 @@
 
 mod found;
 mod places;
+mod printing;
 mod report;
 mod storming;
 mod working;
 mod writing;
 
-pub use found::StormReport;
 pub use hlc_words::StormPlan;
-pub use report::{StormFault, StormGates};
+pub use printing::print_storm;
+pub use report::{StormFault, StormGates, StormReport};
 pub use storming::{storm, storm_gated};

@@ -1,7 +1,8 @@
-//! What a storm is started with, and why it may have no report.
+//! What a storm is started with, what it found, and why it may have no report.
 ghost use Rattle.std.proofs.Common.{rules};
 ghost use Rattle.std.proofs.lemmas.Grind.{common_steps};
 
+use hlc_core::{Listing, Stamp};
 use hlc_server::SettleFault;
 use hlc_values::Exact;
 use hlc_workers::WorkEnd;
@@ -12,6 +13,19 @@ pub struct StormGates<F, R, V> {
     pub feeders: F,
     pub readers: R,
     pub vacuum: V,
+}
+
+/// What a storm found, once its receipts settled.
+#[derive(Debug, Drop)]
+pub struct StormReport {
+    /// How many items of each node were accepted, by node.
+    pub accepted: Vec<u64>,
+    /// The floor behind the last of them.
+    pub floor: Stamp,
+    /// The keys that have a value at the floor, with their values, in byte order.
+    pub pairs: Listing,
+    /// How many rows the last vacuum kept.
+    pub kept: u64,
 }
 
 /// Why a storm has no report.

@@ -1,9 +1,9 @@
 //! A storm by a scope of threads.
 ghost use Rattle.std.specs.Prelude.{◌≡◌, ◌+◌};
 
-use crate::found::{StormReport, report_of};
+use crate::found::report_of;
 use crate::places::{Looking, Node, node_places, reader_places};
-use crate::report::{StormFault, StormGates};
+use crate::report::{StormFault, StormGates, StormReport};
 use crate::working::{Lists, Started, feed_link, join_all, read_keys, vacuum_rows};
 use crate::writing::{all_keys, write_all};
 use hlc_board::Board;
