@@ -7,6 +7,8 @@ mod places;
 mod printing;
 mod report;
 mod storming;
+#[cfg(test)]
+mod tests;
 mod working;
 mod writing;
 

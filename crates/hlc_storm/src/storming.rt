@@ -57,7 +57,6 @@ pub fn storm_gated<F: Gate + Sync, D: Gate + Sync, V: Gate + Sync, R: Threads + 
 }
 
 /// A storm of callers of this ledger.
-#[tactic(auto, using(crate::proofs::Placed::feeders_new, crate::proofs::Placed::passes_new))]
 fn storm_in<
     L: Ledger + Send + Sync,
     F: Gate + Sync,
@@ -74,6 +73,31 @@ fn storm_in<
     requires ledger { (blank.name ≡ L.name) × (blank.parts ≡ L.parts) }
     requires callers { blank.parts ≡ plan.nodes + plan.readers + 1 }
     ensures { MayTell plan result }
+{
+    let (shared, lists) = work::<L, F, D, V, R>(rt, alloc, blank, plan, gates)?;
+    match shared.settle(lists) {
+        Ok(settled) => report_of(alloc, settled.core, plan),
+        Err(fault) => Err(StormFault::Settle(fault)),
+    }
+}
+
+/// The work of a storm: a new store after it, and the receipts by caller.
+#[tactic(auto, using(crate::proofs::Placed::feeders_new, crate::proofs::Placed::passes_new))]
+pub(crate) fn work<
+    L: Ledger + Send + Sync,
+    F: Gate + Sync,
+    D: Gate + Sync,
+    V: Gate + Sync,
+    R: Threads + Wait + Sync,
+>(
+    rt: &R,
+    alloc: Global,
+    blank: Blank,
+    plan: StormPlan,
+    gates: &StormGates<F, D, V>,
+) -> Result<(Shared<L>, Lists<L>), StormFault>
+    requires ledger { (blank.name ≡ L.name) × (blank.parts ≡ L.parts) }
+    requires callers { blank.parts ≡ plan.nodes + plan.readers + 1 }
 {
     let count = plan.nodes + plan.readers + 1;
     let Ok((shared, callers)) = Shared::<L>::new(alloc, blank, plan.nodes, count, true) else {
@@ -100,10 +124,7 @@ fn storm_in<
         plan,
         gates,
     )?;
-    match shared.settle(lists) {
-        Ok(settled) => report_of(alloc, settled.core, plan),
-        Err(fault) => Err(StormFault::Settle(fault)),
-    }
+    Ok((shared, lists))
 }
 
 /// Runs all threads of a storm, and gives the receipts by caller.
