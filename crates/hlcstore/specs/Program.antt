@@ -13,6 +13,7 @@ use Rattle.hlc_script.specs.Run.{RunsScript, status_of}
 use Rattle.hlc_script.specs.Check.{RunsCheck, check_status}
 use Rattle.hlc_storm.specs.declared.report.StormReport.{StormReport}
 use Rattle.hlc_storm.specs.declared.report.StormFault.{StormFault}
+use Rattle.hlc_storm.specs.Found.{MayTell}
 use Rattle.hlc_storm.specs.Printed.{storm_text, storm_status}
 
 -- what the words ask for; words that could not be held ask for nothing
@@ -20,8 +21,8 @@ abbrev pub Asks : Option (List (List ℕ)) → Option Words → Type 0
 Asks None asked = asked ≡ None
 Asks (Some words) asked = Reads words_of (λ asked. ⊤) words asked
 
--- What was asked for is done, and the exit status is that of its end. For a storm there is an outcome whose text is
--- written. Where nothing is asked for, the words are refused. For both of these nothing is read.
+-- What was asked for is done, and the exit status is that of its end. For a storm there is an outcome that its plan may
+-- have, whose text is written. Where nothing is asked for, the words are refused. For both of these nothing is read.
 abbrev pub Does : {R W : Type 0} → (R → Option (List ℕ)) → (W → Option (List ℕ))
     → Option Words → Watched R → Watched R → Watched W → Watched W → ℕ → Type 0
 Does remaining contents (Some Run) reader reader_after writer writer_after status =
@@ -31,7 +32,7 @@ Does remaining contents (Some Check) reader reader_after writer writer_after sta
     (end : CheckEnd) × RunsCheck remaining contents reader reader_after writer writer_after end
     × (status ≡ check_status end)
 Does remaining contents (Some (Storm plan)) reader reader_after writer writer_after status =
-    (told : Result StormReport StormFault) × (reader_after ≡ reader)
+    (told : Result StormReport StormFault) × MayTell plan told × (reader_after ≡ reader)
     × Writes contents writer writer_after (storm_text told)
     × (status ≡ storm_status (has_failed writer_after) told)
 Does remaining contents None reader reader_after writer writer_after status =
