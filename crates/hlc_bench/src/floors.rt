@@ -1,5 +1,5 @@
 //! Looks at a floor, timed: on a board, through a shared store, and in a core behind a lock alone, while
-//! one writer accepts reports of all nodes in turn.
+//! one writer hands in reports of all nodes in turn.
 ghost use Rattle.std.specs.Prelude.{◌≡◌, ◌<◌, ◌≤◌, ◌+◌};
 ghost use Rattle.hlc_bench.specs.Places.{FeedersOf, PassesOf};
 
@@ -99,33 +99,42 @@ fn report(node: u16, number: u64) -> Item
     }
 }
 
-/// Accepts the report of this number of the feeder's node, and raises the board with it.
-fn raise_next(core: &mut Core, raising: &mut Raising<'_>, number: u64)
-    requires { number < 1_000_000_000 }
-{
-    let node = raising.feeder.node();
-    if let Ok(accepted) = core.accept(report(node, number)) {
-        if accepted.node() == node && raising.feeder.raised() < accepted.stamp() {
-            raising.board.raise(&mut raising.feeder, &accepted);
+/// Raises the board where the reply says that an item of the feeder's node was accepted, above what the
+/// feeder raised.
+fn raise_if(raising: &mut Raising<'_>, reply: &CoreReply) {
+    if let CoreReply::Accepted(accepted) = reply {
+        if accepted.node() == raising.feeder.node() && raising.feeder.raised() < accepted.stamp() {
+            raising.board.raise(&mut raising.feeder, accepted);
         }
     }
 }
 
-/// Accepts reports of all nodes in turn, and raises the board with each, until told to stop. Gives how
-/// many.
-fn raise_until(core: Core, raising: Vec<Raising<'_>>, stop: &AtomicBool) -> u64 {
-    let mut core = core;
+/// Hands in reports of all nodes in turn, and raises the board with each after the lock is free, until
+/// told to stop. Gives how many.
+fn hand_in_until<L: Ledger, R: Wait>(
+    rt: &R,
+    shared: &Shared<L>,
+    caller: Caller<L>,
+    raising: Vec<Raising<'_>>,
+    stop: &AtomicBool,
+) -> (Caller<L>, u64) {
+    let mut caller = caller;
     let mut raising = raising;
     let nodes = raising.len();
     for number in 0..ROUNDS {
         if stop.load(Ordering::SeqCst) {
-            return number * u64::from(NODES);
+            return (caller, number * u64::from(NODES));
         }
         for i in 0..nodes {
-            raise_next(&mut core, &mut raising[i], number);
+            let item = report(raising[i].feeder.node(), number);
+            let (back, told) = shared.accept(rt, caller, item);
+            caller = back;
+            if let Ok(receipt) = told {
+                raise_if(&mut raising[i], &receipt.reply);
+            }
         }
     }
-    0
+    (caller, 0)
 }
 
 /// Looks often at the floor of a board, and gives the greatest that was seen.
@@ -146,29 +155,36 @@ fn stopped<R: Clock>(rt: &R, start: Instant, stop: &AtomicBool) -> io::Result<u1
     Ok(took?.as_nanos())
 }
 
-/// What looks by so many readers at the floor of a board of so many nodes take.
+/// What looks by so many readers at the floor of a board of so many nodes take. The writer hands in at a
+/// shared store, which keeps no trail.
 #[tactic(auto, using(crate::proofs::Placed::feeders_new, crate::proofs::Placed::passes_new))]
-pub(crate) fn on_a_board<R: Threads + Sync + Clock>(
+pub(crate) fn on_a_board<L: Ledger + Send + Sync, R: Threads + Wait + Sync + Clock>(
     rt: &R,
     alloc: Global,
+    blank: Blank,
     nodes: u16,
     readers: u16,
 ) -> io::Result<Option<Looked>>
-    requires { readers ≤ 64 }
+    requires blank { (blank.name ≡ L.name) × (blank.parts ≡ L.parts) }
+    requires parts { (blank.parts ≡ 1) × (readers ≤ 64) }
 {
-    let Ok(core) = Core::new(alloc, nodes) else {
+    let Ok((shared, mut callers)) = Shared::<L>::new(alloc, blank, nodes, 1, false) else {
         return Ok(None);
     };
     let Ok((board, feeders, passes)) = Board::new(alloc, nodes, usize::from(readers)) else {
         return Ok(None);
     };
+    let Some(writer) = callers.pop() else {
+        return Ok(None);
+    };
     let raising = raising_all(alloc, &board, feeders)?;
     let looking = looking_all(alloc, &board, passes)?;
+    let store = &shared;
     let stop = AtomicBool::new(false);
     let start = Instant::now(rt)?;
-    let (raises, nanos) = thread::join(
+    let (written, nanos) = thread::join(
         rt,
-        || raise_until(core, raising, &stop),
+        || hand_in_until(rt, store, writer, raising, &stop),
         || {
             let seen = thread::map_vec(rt, looking, &|one| look_often(one));
             let nanos = stopped(rt, start, &stop);
@@ -179,7 +195,7 @@ pub(crate) fn on_a_board<R: Threads + Sync + Clock>(
     Ok(Some(Looked {
         looks: LOOKS,
         nanos: nanos?,
-        raises,
+        raises: written.1,
     }))
 }
 
@@ -210,49 +226,35 @@ fn ask_often<L: Ledger, R: Wait>(
     (caller, greatest)
 }
 
-/// Hands in reports of all nodes in turn, until told to stop. Gives how many.
-fn hand_in_until<L: Ledger, R: Wait>(
-    rt: &R,
-    shared: &Shared<L>,
-    caller: Caller<L>,
-    stop: &AtomicBool,
-) -> (Caller<L>, u64) {
-    let mut caller = caller;
-    for number in 0..ROUNDS {
-        if stop.load(Ordering::SeqCst) {
-            return (caller, number * u64::from(NODES));
-        }
-        for node in 0..NODES {
-            let (back, told) = shared.accept(rt, caller, report(node, number));
-            caller = back;
-            drop(told);
-        }
-    }
-    (caller, 0)
-}
-
-/// What looks by so many readers at the floor of a shared store take. It keeps no trail.
+/// What looks by so many readers at the floor of a shared store of so many nodes take. It keeps no trail,
+/// and its writer raises a board too.
+#[tactic(auto, using(crate::proofs::Placed::feeders_new))]
 pub(crate) fn in_a_shared_store<L: Ledger + Send + Sync, R: Threads + Wait + Sync + Clock>(
     rt: &R,
     alloc: Global,
     blank: Blank,
+    nodes: u16,
     readers: u16,
 ) -> io::Result<Option<Looked>>
     requires blank { (blank.name ≡ L.name) × (blank.parts ≡ L.parts) }
     requires parts { (blank.parts ≡ readers + 1) × (readers ≤ 64) }
 {
-    let Ok((shared, mut callers)) = Shared::<L>::new(alloc, blank, NODES, readers + 1, false) else {
+    let Ok((shared, mut callers)) = Shared::<L>::new(alloc, blank, nodes, readers + 1, false) else {
+        return Ok(None);
+    };
+    let Ok((board, feeders, _)) = Board::new(alloc, nodes, 0) else {
         return Ok(None);
     };
     let Some(writer) = callers.pop() else {
         return Ok(None);
     };
+    let raising = raising_all(alloc, &board, feeders)?;
     let store = &shared;
     let stop = AtomicBool::new(false);
     let start = Instant::now(rt)?;
     let (written, nanos) = thread::join(
         rt,
-        || hand_in_until(rt, store, writer, &stop),
+        || hand_in_until(rt, store, writer, raising, &stop),
         || {
             let seen = thread::map_vec(rt, callers, &|caller| ask_often(rt, store, caller));
             let nanos = stopped(rt, start, &stop);

@@ -130,11 +130,12 @@ fn looked<R: Threads + Wait + Sync + Clock>(
 ) -> io::Result<Option<Looked>>
     requires { readers ≤ 4 }
 {
+    let nodes = floors::NODES;
     match place {
-        "board" => floors::on_a_board(rt, alloc, floors::NODES, readers),
+        "board" => floors::on_a_board::<Brand, _>(rt, alloc, Blank::new(1), nodes, readers),
         "shared" => {
             let blank = Blank::new(u64::from(readers) + 1);
-            floors::in_a_shared_store::<Brand, _>(rt, alloc, blank, readers)
+            floors::in_a_shared_store::<Brand, _>(rt, alloc, blank, nodes, readers)
         }
         "lock" => floors::behind_a_lock(rt, alloc, readers),
         _ => Ok(None),
