@@ -6,11 +6,12 @@ use Rattle.std.specs.Io.KnownBytes.{Consumes}
 use Rattle.std.specs.Prelude.{◌≢◌}
 use Rattle.hlc_text.specs.Printing.{Printed}
 use Rattle.hlc_text.specs.PrintingLaws.{printed_then, printed_none, append-nil}
+use Rattle.hlc_text.specs.Text.{printed}
 use Rattle.hlc_world.specs.declared.event.Event.{Event}
 use Rattle.hlc_world.specs.declared.reply.Reply.{Reply}
 use Rattle.hlc_world.specs.State.{State, world_nodes, StandsFor}
 use Rattle.hlc_script.specs.Line.{event_line, HasLine, lines_of_parts, lines_of, HasHeader, header_line}
-use Rattle.hlc_script.specs.Reply.{reply_text, bad_line, printed}
+use Rattle.hlc_script.specs.Reply.{reply_text, bad_line}
 use Rattle.hlc_script.specs.Input.{IsInput}
 use Rattle.hlc_script.specs.Run.{AnswersLine, Answers, AnswersScript}
 

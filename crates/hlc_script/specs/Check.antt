@@ -4,6 +4,7 @@ use Rattle.std.specs.Io.KnownBytes.{Consumes}
 use Rattle.hlc_text.specs.declared.watched.Watched.{Watched}
 use Rattle.hlc_text.specs.Watched.{inner_of, has_failed}
 use Rattle.hlc_text.specs.Printing.{Writes}
+use Rattle.hlc_text.specs.Text.{printed}
 use Rattle.hlc_node.specs.declared.row.Row.{Row as ARow}
 use Rattle.hlc_witness.specs.declared.witness.Witness.{Witness as AWitness}
 use Rattle.hlc_witness.specs.declared.reason.NotShown.{NotShown as AReason}
@@ -16,7 +17,7 @@ use Rattle.hlc_script.specs.declared.check.CheckEnd.TheVariants.{Fewest, NotShow
 use Rattle.hlc_script.specs.Input.{IsInput}
 use Rattle.hlc_script.specs.Line.{lines_of}
 use Rattle.hlc_script.specs.CheckLine.{AreLinesOf, AreGood, IsFirstBad}
-use Rattle.hlc_script.specs.Reply.{bad_line, printed}
+use Rattle.hlc_script.specs.Reply.{bad_line}
 
 -- the rows of a certificate are the fewest of all that answer as they do at its points
 pub record ShowsFewest (lines : List (List ℕ)) (count : ℕ) : Type 0 where

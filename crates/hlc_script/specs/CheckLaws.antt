@@ -1,11 +1,11 @@
 -- Laws of certificates as they are written.
 use Rattle.std.specs.Prelude.{◌≡◌, ◌≢◌, ◌⊎◌, ℕ, List, codes}
+use Rattle.hlc_text.specs.Text.{printed}
 use Rattle.hlc_node.specs.declared.row.Row.{Row as ARow}
 use Rattle.hlc_witness.specs.declared.witness.Witness.{Witness as AWitness}
 use Rattle.hlc_script.specs.declared.check.CheckEnd.{CheckEnd}
 use Rattle.hlc_script.specs.declared.check.CheckEnd.TheVariants.{ReadFault}
 use Rattle.hlc_script.specs.CheckLine.{AreLinesOf}
-use Rattle.hlc_script.specs.Reply.{printed}
 use Rattle.hlc_script.specs.Check.{MayAnswer, answer_output}
 
 -- lines are those of one list of points, one of rows and one of witnesses

@@ -1,11 +1,11 @@
 -- Laws of scripts.
 use Rattle.std.specs.Prelude.{◌≡◌, ◌≢◌, ℕ, List, ◌++◌, ◌⊎◌, codes}
 use Rattle.std.specs.List.{flat_map}
+use Rattle.hlc_text.specs.Text.{printed}
 use Rattle.hlc_world.specs.declared.event.Event.{Event}
 use Rattle.hlc_script.specs.declared.run.RunEnd.{RunEnd}
 use Rattle.hlc_script.specs.declared.run.RunEnd.TheVariants.{ReadFault}
 use Rattle.hlc_script.specs.Line.{event_line, HasLine}
-use Rattle.hlc_script.specs.Reply.{printed}
 use Rattle.hlc_script.specs.Run.{MayWrite}
 
 -- two events that have one line are one event

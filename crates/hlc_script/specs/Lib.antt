@@ -3,10 +3,8 @@ pub mod Spelled
 pub mod Reply
 pub mod Input
 pub mod Run
-pub mod Words
 pub mod Laws
 pub mod CheckLine
 pub mod CheckLists
 pub mod Check
 pub mod CheckLaws
-pub mod Program

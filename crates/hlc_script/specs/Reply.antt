@@ -2,7 +2,7 @@
 use Rattle.std.specs.Prelude.{ℕ, List, [], ◌∷◌, ◌++◌, length, map, codes, decimal, Option, Some, None}
 use Rattle.std.specs.List.{flat_map}
 use Rattle.hlc_clock.specs.Stamp.{stamp_text}
-use Rattle.hlc_text.specs.Text.{bytes_token}
+use Rattle.hlc_text.specs.Text.{bytes_token, printed}
 use Rattle.hlc_core.specs.declared.listing.Pair.{Pair}
 use Rattle.hlc_witness.specs.declared.witness.Witness.{Witness}
 use Rattle.hlc_vacuum.specs.declared.report.Report.{Report}
@@ -67,10 +67,6 @@ reply_line (Refused refusal) = refusal_line refusal
 -- the line that refuses the line of this number
 abbrev pub bad_line : ℕ → List ℕ
 bad_line number = codes "refused 16 line " ++ decimal number
-
--- a line as it is printed: with a line feed at its end
-abbrev pub printed : List ℕ → List ℕ
-printed line = line ++ 10 ∷ []
 
 -- the lines behind it: those of a listing's pairs, or of a vacuum's changes
 abbrev pub more_lines : Reply → List (List ℕ)

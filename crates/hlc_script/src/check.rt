@@ -5,7 +5,7 @@ ghost use Rattle.std.proofs.Common.{rules};
 ghost use Rattle.std.proofs.lemmas.Grind.{common_steps};
 ghost use Rattle.hlc_text.specs.Watched.{inner_of, has_failed};
 ghost use Rattle.hlc_text.specs.Printing.{Prints};
-ghost use Rattle.hlc_script.specs.Reply.{printed};
+ghost use Rattle.hlc_text.specs.Text.{printed};
 ghost use Rattle.hlc_script.specs.Input.{IsInput};
 ghost use Rattle.hlc_script.specs.Check.{MayAnswer, MayTake, IsOfHeld, RunsCheck};
 ghost use Rattle.hlc_script.specs.Check.{answer_output, reason_number, check_status};

@@ -7,10 +7,8 @@ mod check_line;
 mod input;
 mod laws;
 mod line;
-mod program;
 mod reply;
 mod run;
-mod words;
 
 pub use check::{CheckEnd, check_input, run_check};
 pub use check_line::{CheckLine, read_check_line};
@@ -19,7 +17,5 @@ pub use laws::{
     one_output_for_an_input,
 };
 pub use line::{Line, read_line};
-pub use program::run_program;
 pub use reply::{put_refusal, put_reply};
 pub use run::{RunEnd, answer_input, run_script};
-pub use words::{BadWords, Words, read_words};

@@ -2,8 +2,9 @@
 ghost use Rattle.std.specs.Prelude.{map, ◌++◌, codes};
 ghost use Rattle.std.specs.List.{flat_map};
 ghost use Rattle.hlc_text.specs.Printing.{Prints};
+ghost use Rattle.hlc_text.specs.Text.{printed};
 ghost use Rattle.hlc_script.specs.CheckLine.{before_token};
-ghost use Rattle.hlc_script.specs.Reply.{reply_line, more_lines, pair_line, witness_line, report_line, reply_text, refusal_line, answer_line, printed};
+ghost use Rattle.hlc_script.specs.Reply.{reply_line, more_lines, pair_line, witness_line, report_line, reply_text, refusal_line, answer_line};
 
 use hlc_text::print::{put, put_named_bytes, put_named_count, put_named_number, put_named_stamp};
 use hlc_text::waiting::Waiting;

@@ -3,7 +3,7 @@ ghost use Rattle.std.specs.Prelude.{◌≡◌, ◌≢◌, ◌≤◌, ◌↔◌, 
 ghost use Rattle.std.specs.Io.KnownBytes.{Consumes};
 ghost use Rattle.std.proofs.Common.{rules};
 ghost use Rattle.std.proofs.lemmas.Grind.{common_steps};
-ghost use Rattle.hlc_text.specs.Text.{Reads};
+ghost use Rattle.hlc_text.specs.Text.{Reads, printed};
 ghost use Rattle.hlc_text.specs.Watched.{inner_of, has_failed};
 ghost use Rattle.hlc_text.specs.Printing.{Prints};
 ghost use Rattle.hlc_world.specs.declared.event.Event.{Event as AnEvent};
@@ -11,7 +11,7 @@ ghost use Rattle.hlc_world.specs.declared.reply.Reply.{Reply as AReply};
 ghost use Rattle.hlc_world.specs.State.{StandsFor, world_nodes};
 ghost use Rattle.hlc_script.specs.Line.{lines_of, header_line, header_words, HasHeader};
 ghost use Rattle.hlc_script.specs.Spelled.{event_of};
-ghost use Rattle.hlc_script.specs.Reply.{printed, bad_line};
+ghost use Rattle.hlc_script.specs.Reply.{bad_line};
 ghost use Rattle.hlc_script.specs.Input.{IsInput};
 ghost use Rattle.hlc_script.specs.Run.{Answers, AnswersLine, MayWrite, MayTake, IsOfHeld, RunsScript, status_of};
 

@@ -1,12 +1,13 @@
-//! The program: `hlcstore run` answers a script from standard input on standard output, and
-//! `hlcstore check` a certificate.
+//! The program: `hlcstore run` answers a script from standard input on standard output, `hlcstore check`
+//! a certificate, and `hlcstore storm` lets threads write, read and vacuum one store beside each other.
 #![tactic(auto)]
 
-use hlc_script::run_program;
+use crate::program::run_program;
 use hlc_text::watched::Watched;
 use std::env;
 use std::process::ExitCode;
 
+mod program;
 #[cfg(test)]
 mod tests;
 
@@ -21,5 +22,6 @@ fn main(rt: HostRuntime) -> ExitCode {
     let words = words.as_ref().map(|words| words.as_slice());
     let mut reader = Watched::new(rt.stdin());
     let mut writer = Watched::new(rt.stdout());
-    ExitCode::from(run_program(rt.alloc(), words, &mut reader, &mut writer))
+    let status = run_program(&rt, rt.alloc(), words, &mut reader, &mut writer);
+    ExitCode::from(status)
 }

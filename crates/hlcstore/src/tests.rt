@@ -1,7 +1,8 @@
-//! Tests of the program: printed bytes, spellings, failing readers and writers, words and statuses.
+//! Tests of the program: printed bytes, spellings, failing readers and writers, storms, words and statuses.
 mod callers;
 mod checks;
 mod scripts;
+mod storms;
 mod streams;
 mod tokens;
 mod words;

@@ -111,7 +111,7 @@ const LINES: [Case; 16] = [
 #[test]
 fn certificates(rt: HostRuntime) {
     for (place, (text, due, status)) in CASES.iter().chain(LINES.iter()).enumerate() {
-        let (ended, taken) = answer(rt.alloc(), "check", text);
+        let (ended, taken) = answer(&rt, "check", text);
         assert_eq!(rt; (ended, taken.as_slice()), (*status, *due), "{place}");
     }
 }

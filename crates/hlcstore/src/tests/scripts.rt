@@ -151,7 +151,7 @@ const CASES: [Case; 26] = [
 #[test]
 fn whole_scripts(rt: HostRuntime) {
     for (input, output, status) in CASES {
-        let (ended, written) = answer(rt.alloc(), "run", input);
+        let (ended, written) = answer(&rt, "run", input);
         assert_eq!(rt; written.as_slice(), output);
         assert_eq!(rt; ended, status);
     }
@@ -220,7 +220,7 @@ fn lengths_of_keys_and_values(rt: HostRuntime) -> Result<(), Fail> {
     for (word, text, key, value, due) in LENGTHS {
         let text = filled(rt.alloc(), text, key, value)?;
         let due = filled(rt.alloc(), due, key, value)?;
-        let (status, written) = answer(rt.alloc(), word, text.as_slice());
+        let (status, written) = answer(&rt, word, text.as_slice());
         assert!(rt;
             (status, written.as_slice()) == (0u8, due.as_slice()),
             "{word} {key} {value}"
@@ -236,7 +236,7 @@ fn a_full_counter(rt: HostRuntime) -> Result<(), Fail> {
         text.extend_from_slice(b"write 0 1 a x\n")?;
     }
     text.extend_from_slice(b"write 0 2 a x\n")?;
-    let (status, written) = answer(rt.alloc(), "run", text.as_slice());
+    let (status, written) = answer(&rt, "run", text.as_slice());
     assert_eq!(rt; status, 0);
     assert!(rt;
         written.as_slice().ends_with(
@@ -252,7 +252,7 @@ fn the_most_snapshots(rt: HostRuntime) -> Result<(), Fail> {
     for _ in 0..1_025 {
         text.extend_from_slice(b"open floor\n")?;
     }
-    let (status, written) = answer(rt.alloc(), "run", text.as_slice());
+    let (status, written) = answer(&rt, "run", text.as_slice());
     assert_eq!(rt; status, 0);
     assert!(rt;
         written

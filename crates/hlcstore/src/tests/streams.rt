@@ -1,10 +1,13 @@
 //! Readers and writers that fail once and would go on, that give or take little, and that count.
-use hlc_script::{run_program, run_script};
+use crate::program::run_program;
+use hlc_script::run_script;
 use hlc_text::watched::Watched;
 use std::alloc::{AllocError, Global};
 use std::io;
 use std::io::{ErrorKind, Read, Write};
+use std::sync::Wait;
 use std::test::*;
+use std::thread::Threads;
 
 /// What happens at one call.
 #[derive(Clone, Copy, Debug, PartialEq, Eq)]
@@ -136,7 +139,7 @@ impl Write for Counting {
 }
 
 /// The words of a text.
-fn split(alloc: Global, text: &str) -> Result<Vec<String>, AllocError> {
+pub fn split(alloc: Global, text: &str) -> Result<Vec<String>, AllocError> {
     let mut words = Vec::new(alloc);
     for word in text.split_whitespace() {
         words.push(String::from_str(alloc, word)?)?;
@@ -146,27 +149,32 @@ fn split(alloc: Global, text: &str) -> Result<Vec<String>, AllocError> {
 
 /// Runs the program for the words of a text, or for words that could not be held, and gives its
 /// status with the reader and the writer.
-pub fn run<R: Read + Drop>(
-    alloc: Global,
+pub fn run<H: Threads + Wait + Sync + AllocGlobal, R: Read + Drop>(
+    rt: &H,
     text: Option<&str>,
     reader: R,
     writer: Taking,
 ) -> (u8, R, Taking) {
+    let alloc = rt.alloc();
     let words = text.map(|text| split(alloc, text).unwrap_or(Vec::new(alloc)));
     let words = words.as_ref().map(|words| words.as_slice());
     let mut reader = Watched::new(reader);
     let mut writer = Watched::new(writer);
-    let status = run_program(alloc, words, &mut reader, &mut writer);
+    let status = run_program(rt, alloc, words, &mut reader, &mut writer);
     (status, reader.into_inner(), writer.into_inner())
 }
 
 /// Runs the program for one word, over an input that is read and written without a failure.
-pub fn answer(alloc: Global, word: &str, input: &[u8]) -> (u8, Vec<u8>) {
+pub fn answer<H: Threads + Wait + Sync + AllocGlobal>(
+    rt: &H,
+    word: &str,
+    input: &[u8],
+) -> (u8, Vec<u8>) {
     let (status, _, writer) = run(
-        alloc,
+        rt,
         Some(word),
         Giving::whole(input),
-        Taking::whole(alloc),
+        Taking::whole(rt.alloc()),
     );
     (status, writer.taken)
 }
@@ -205,7 +213,7 @@ fn a_reader_fails_once(rt: HostRuntime) {
                         calls: 0,
                     };
                     let writer = Taking::whole(rt.alloc());
-                    let (status, reader, writer) = run(rt.alloc(), Some(word), reader, writer);
+                    let (status, reader, writer) = run(&rt, Some(word), reader, writer);
                     let seen = (status, writer.taken.as_slice(), reader.calls);
                     let due = if at <= reads {
                         (2u8, b"refused 18\n".as_slice(), at)
@@ -238,12 +246,7 @@ fn a_writer_fails_once(rt: HostRuntime) {
                         fault,
                         calls: 0,
                     };
-                    let (status, _, writer) = run(
-                        rt.alloc(),
-                        Some(word),
-                        Giving::whole(text),
-                        writer,
-                    );
+                    let (status, _, writer) = run(&rt, Some(word), Giving::whole(text), writer);
                     let before = output.len().min(most.saturating_mul(at as usize - 1));
                     let seen = (status, writer.taken.as_slice(), writer.calls);
                     let due = if at <= writes {
@@ -272,7 +275,7 @@ fn the_longest_input(rt: HostRuntime) {
     ];
     for (word, left, fails, due) in cases {
         let writer = Taking::whole(rt.alloc());
-        let (status, _, writer) = run(rt.alloc(), Some(word), Letters { left, fails }, writer);
+        let (status, _, writer) = run(&rt, Some(word), Letters { left, fails }, writer);
         let seen = (status, writer.taken.as_slice());
         assert_eq!(rt; seen, (2u8, due), "{word} {left} {fails}");
     }

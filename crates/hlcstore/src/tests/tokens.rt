@@ -2,8 +2,9 @@
 use crate::tests::streams::answer;
 use hlc_text::Stamp;
 use hlc_text::stamp::stamp;
-use std::alloc::Global;
+use std::sync::Wait;
 use std::test::*;
+use std::thread::Threads;
 
 /// First lines that are no header.
 const NO_HEADERS: [&[u8]; 13] = [
@@ -143,7 +144,7 @@ fn stamps_are_spelled_in_one_way(rt: HostRuntime) {
 #[test]
 fn no_headers(rt: HostRuntime) {
     for line in NO_HEADERS {
-        let (status, written) = answer(rt.alloc(), "run", line);
+        let (status, written) = answer(&rt, "run", line);
         assert_eq!(rt;
             (status, written.as_slice()),
             (2u8, b"refused 17\n".as_slice())
@@ -157,7 +158,7 @@ fn bad_lines(rt: HostRuntime) -> Result<(), Fail> {
         let mut text = Vec::from_slice(rt.alloc(), b"nodes 1\n")?;
         text.extend_from_slice(line)?;
         text.extend_from_slice(b"open floor\n")?;
-        let (status, written) = answer(rt.alloc(), "run", text.as_slice());
+        let (status, written) = answer(&rt, "run", text.as_slice());
         assert_eq!(rt;
             (status, written.as_slice()),
             (2u8, b"nodes 1\nrefused 16 line 2\n".as_slice())
@@ -173,7 +174,7 @@ fn good_lines(rt: HostRuntime) -> Result<(), Fail> {
         text.extend_from_slice(line)?;
         let mut due = Vec::from_slice(rt.alloc(), b"nodes 1\n")?;
         due.extend_from_slice(reply)?;
-        let (status, written) = answer(rt.alloc(), "run", text.as_slice());
+        let (status, written) = answer(&rt, "run", text.as_slice());
         assert_eq!(rt;
             (status, written.as_slice()),
             (0u8, due.as_slice()),
@@ -194,15 +195,15 @@ fn bytes_are_spelled_in_one_way(rt: HostRuntime) {
         (b"%", b"value %\n"),
     ];
     for (token, line) in cases {
-        let (status, written) = written_and_read(rt.alloc(), token);
+        let (status, written) = written_and_read(&rt, token);
         assert_eq!(rt; status, 0);
         assert!(rt; written.as_slice().ends_with(line));
     }
 }
 
 /// Writes the bytes of a token, and reads them.
-fn written_and_read(alloc: Global, token: &[u8]) -> (u8, Vec<u8>) {
-    let mut text = Vec::new(alloc);
+fn written_and_read<H: Threads + Wait + Sync + AllocGlobal>(rt: &H, token: &[u8]) -> (u8, Vec<u8>) {
+    let mut text = Vec::new(rt.alloc());
     let parts: [&[u8]; 3] = [
         b"nodes 1\nwrite 0 5 a ",
         token,
@@ -211,5 +212,5 @@ fn written_and_read(alloc: Global, token: &[u8]) -> (u8, Vec<u8>) {
     for part in parts {
         let _ = text.extend_from_slice(part);
     }
-    answer(alloc, "run", text.as_slice())
+    answer(rt, "run", text.as_slice())
 }

@@ -1,10 +1,11 @@
 //! The words behind the program's name, and the text of each refusal.
-use crate::tests::streams::{CERTIFICATE, Giving, REPLIES, SCRIPT, Taking, run};
+use crate::tests::streams::{CERTIFICATE, Giving, REPLIES, SCRIPT, Taking, run, split};
 use hlc_clock::Stamp;
 use hlc_script::put_refusal;
 use hlc_text::print::finish;
 use hlc_text::waiting::Waiting;
 use hlc_text::watched::Watched;
+use hlc_words::{BadWords, Words, read_words};
 use hlc_world::Refusal;
 use std::test::*;
 
@@ -48,11 +49,77 @@ const CASES: [Case; 14] = [
 fn words_of_the_program(rt: HostRuntime) {
     for (words, input, due, status) in CASES {
         let writer = Taking::whole(rt.alloc());
-        let (ended, reader, writer) = run(rt.alloc(), words, Giving::whole(input), writer);
+        let (ended, reader, writer) = run(&rt, words, Giving::whole(input), writer);
         let reads = if status == 1 { 0 } else { 2 };
         let seen = (ended, writer.taken.as_slice(), reader.calls);
         assert_eq!(rt; seen, (status, due, reads), "{words:?}");
     }
+}
+
+/// Words that ask for nothing that the program does.
+const BAD_WORDS: [&str; 24] = [
+    "",
+    "run run",
+    "check check",
+    "storm",
+    "run --nodes 1 --writes 0 --keys 1 --readers 0",
+    "Storm --nodes 1 --writes 0 --keys 1 --readers 0",
+    "storm --nodes 0 --writes 0 --keys 1 --readers 0",
+    "storm --nodes 65 --writes 0 --keys 1 --readers 0",
+    "storm --nodes 65537 --writes 0 --keys 1 --readers 0",
+    "storm --nodes 18446744073709551617 --writes 0 --keys 1 --readers 0",
+    "storm --nodes 01 --writes 0 --keys 1 --readers 0",
+    "storm --nodes +1 --writes 0 --keys 1 --readers 0",
+    "storm --nodes 1 --writes 1001 --keys 1 --readers 0",
+    "storm --nodes 1 --writes -1 --keys 1 --readers 0",
+    "storm --nodes 1 --writes 0 --keys 0 --readers 0",
+    "storm --nodes 1 --writes 0 --keys 1001 --readers 0",
+    "storm --nodes 1 --writes 0 --keys 1 --readers 65",
+    "storm --nodes 1 --writes 0 --keys 1 --readers",
+    "storm --nodes 1 --writes 0 --keys 1",
+    "storm --nodes --writes 0 --keys 1 --readers 0",
+    "storm --writes 0 --nodes 1 --keys 1 --readers 0",
+    "storm --nodes 1 --writes 0 --readers 0 --keys 1",
+    "storm --nodes 1 --writes 0 --keys 1 --readers 0 0",
+    "storm --node 1 --writes 0 --keys 1 --readers 0",
+];
+
+#[test]
+fn bad_words(rt: HostRuntime) -> Result<(), Fail> {
+    for text in BAD_WORDS {
+        let words = split(rt.alloc(), text)?;
+        assert_eq!(rt; read_words(words.as_slice()), Err(BadWords), "{text}");
+    }
+    Ok(())
+}
+
+/// The words of storms, and their nodes, writes, keys and readers: the least, the most, and others.
+const STORMS: [(&str, (u16, u64, u64, u16)); 3] = [
+    (
+        "storm --nodes 1 --writes 0 --keys 1 --readers 0",
+        (1, 0, 1, 0),
+    ),
+    (
+        "storm --nodes 64 --writes 1000 --keys 1000 --readers 64",
+        (64, 1000, 1000, 64),
+    ),
+    (
+        "storm --nodes 2 --writes 30 --keys 4 --readers 5",
+        (2, 30, 4, 5),
+    ),
+];
+
+#[test]
+fn sizes_of_storms(rt: HostRuntime) -> Result<(), Fail> {
+    for (text, due) in STORMS {
+        let words = split(rt.alloc(), text)?;
+        let seen = match read_words(words.as_slice()) {
+            Ok(Words::Storm(plan)) => Some((plan.nodes, plan.writes, plan.keys, plan.readers)),
+            _ => None,
+        };
+        assert_eq!(rt; seen, Some(due), "{text}");
+    }
+    Ok(())
 }
 
 #[test]

@@ -1,6 +1,7 @@
 -- One pair's line more is printed.
 use Rattle.hlc_text.specs.PrintingLaws.{printed_line}
-use Rattle.hlc_script.specs.Reply.{pair_line, printed}
+use Rattle.hlc_text.specs.Text.{printed}
+use Rattle.hlc_script.specs.Reply.{pair_line}
 use Rattle.hlc_script.proofs.reply.put_pairs.Goals as goal
 
 pub loop-pair-preserved : goal.loop-pair-preserved

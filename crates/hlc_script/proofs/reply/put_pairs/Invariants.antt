@@ -2,7 +2,8 @@
 use Rattle.std.proofs.Common.{map, take}
 use Rattle.std.specs.List.{flat_map}
 use Rattle.hlc_text.specs.Printing.{Prints}
-use Rattle.hlc_script.specs.Reply.{pair_line, printed}
+use Rattle.hlc_text.specs.Text.{printed}
+use Rattle.hlc_script.specs.Reply.{pair_line}
 use Rattle.hlc_script.proofs.reply.put_pairs.Given as goal
 
 abbrev pub invariant-loop-pair : goal.invariant-loop-pair

@@ -1,6 +1,7 @@
 -- One change's line more is printed.
 use Rattle.hlc_text.specs.PrintingLaws.{printed_line}
-use Rattle.hlc_script.specs.Reply.{witness_line, printed}
+use Rattle.hlc_text.specs.Text.{printed}
+use Rattle.hlc_script.specs.Reply.{witness_line}
 use Rattle.hlc_script.proofs.reply.put_witnesses.Goals as goal
 
 pub loop-witness-preserved : goal.loop-witness-preserved

@@ -2,7 +2,8 @@
 use Rattle.std.proofs.Common.{map, take}
 use Rattle.std.specs.List.{flat_map}
 use Rattle.hlc_text.specs.Printing.{Prints}
-use Rattle.hlc_script.specs.Reply.{witness_line, printed}
+use Rattle.hlc_text.specs.Text.{printed}
+use Rattle.hlc_script.specs.Reply.{witness_line}
 use Rattle.hlc_script.proofs.reply.put_witnesses.Given as goal
 
 abbrev pub invariant-loop-witness : goal.invariant-loop-witness

@@ -1,26 +1,31 @@
 //! The program: what is done for the words behind its name.
-ghost use Rattle.std.specs.Prelude.{◌≡◌, false, map, codes, string_bytes, Option};
+ghost use Rattle.std.specs.Prelude.{◌≡◌, false, codes, Option};
 ghost use Rattle.std.specs.Option.{option_map};
 ghost use Rattle.hlc_text.specs.Watched.{has_failed};
+ghost use Rattle.hlc_text.specs.Text.{printed};
 ghost use Rattle.hlc_text.specs.Printing.{Writes};
-ghost use Rattle.hlc_script.specs.Reply.{printed};
-ghost use Rattle.hlc_script.specs.Program.{Asks, Does};
+ghost use Rattle.hlc_words.specs.Words.{bytes_of};
+ghost use Rattle.hlcstore.specs.Program.{Asks, Does};
 
-use crate::check::run_check;
-use crate::run::run_script;
-use crate::words::{Words, read_words};
+use hlc_script::{run_check, run_script};
+use hlc_storm::{print_storm, storm};
 use hlc_text::print::{finish, put};
 use hlc_text::waiting::Waiting;
 use hlc_text::watched::Watched;
+use hlc_words::{Words, read_words};
 use std::alloc::Global;
 use std::io::{Read, Write};
+use std::sync::Wait;
+use std::thread::Threads;
 
 /// Does what the words ask for, and gives the exit status. The words are none where they could not
 /// be held.
 ///
-/// For `run` it answers the script that the reader has left, for `check` the certificate. Any other
-/// words are refused with status 1, before anything is read.
-pub fn run_program<R: Read, W: Write>(
+/// For `run` it answers the script that the reader has left, for `check` the certificate. For `storm`
+/// and its sizes it starts threads, joins them all and prints what they came to; nothing is read. Any
+/// other words are refused with status 1, before anything is read.
+pub fn run_program<H: Threads + Wait + Sync, R: Read, W: Write>(
+    rt: &H,
     alloc: Global,
     words: Option<&[String]>,
     reader: &mut Watched<R>,
@@ -29,19 +34,20 @@ pub fn run_program<R: Read, W: Write>(
     requires reader_well { has_failed reader.old ≡ false }
     requires writer_well { has_failed writer.old ≡ false }
     ensures { (asked : Option Words)
-        × Asks (option_map (λ words. map (λ word. string_bytes word) words.now) words.entry) asked
+        × Asks (option_map (λ words. bytes_of words.now) words.entry) asked
         × Does R.remaining W.contents asked reader.old reader.new writer.old writer.new result }
 {
     match words_asked(words) {
         Some(Words::Run) => run_script(alloc, reader, writer).status(),
         Some(Words::Check) => run_check(alloc, reader, writer).status(),
+        Some(Words::Storm(plan)) => print_storm(writer, &storm(rt, alloc, plan)),
         None => refuse_words(writer),
     }
 }
 
 /// What the words ask for, or none where that is nothing that the program does.
 fn words_asked(words: Option<&[String]>) -> Option<Words>
-    ensures { Asks (option_map (λ words. map (λ word. string_bytes word) words.now) words.entry) result }
+    ensures { Asks (option_map (λ words. bytes_of words.now) words.entry) result }
 {
     read_words(words?).ok()
 }

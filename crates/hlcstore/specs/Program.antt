@@ -1,24 +1,27 @@
 -- What the program does for the words behind its name, and its exit status.
-use Rattle.std.specs.Prelude.{◌≡◌, ℕ, List, Option, Some, None, codes}
+use Rattle.std.specs.Prelude.{◌≡◌, ℕ, List, Option, Some, None, Result, codes, ⊤}
 use Rattle.hlc_text.specs.declared.watched.Watched.{Watched}
-use Rattle.hlc_text.specs.Text.{Reads}
+use Rattle.hlc_text.specs.Watched.{has_failed}
+use Rattle.hlc_text.specs.Text.{Reads, printed}
 use Rattle.hlc_text.specs.Printing.{Writes}
-use Rattle.hlc_script.specs.declared.words.Words.{Words}
-use Rattle.hlc_script.specs.declared.words.Words.TheVariants.{Run, Check}
+use Rattle.hlc_words.specs.declared.words.Words.{Words}
+use Rattle.hlc_words.specs.declared.words.Words.TheVariants.{Run, Check, Storm}
+use Rattle.hlc_words.specs.Words.{words_of}
 use Rattle.hlc_script.specs.declared.run.RunEnd.{RunEnd}
 use Rattle.hlc_script.specs.declared.check.CheckEnd.{CheckEnd}
-use Rattle.hlc_script.specs.Reply.{printed}
 use Rattle.hlc_script.specs.Run.{RunsScript, status_of}
 use Rattle.hlc_script.specs.Check.{RunsCheck, check_status}
-use Rattle.hlc_script.specs.Words.{words_of, AreWords}
+use Rattle.hlc_storm.specs.declared.report.StormReport.{StormReport}
+use Rattle.hlc_storm.specs.declared.report.StormFault.{StormFault}
+use Rattle.hlc_storm.specs.Printed.{storm_text, storm_status}
 
 -- what the words ask for; words that could not be held ask for nothing
 abbrev pub Asks : Option (List (List ℕ)) → Option Words → Type 0
 Asks None asked = asked ≡ None
-Asks (Some words) asked = Reads words_of AreWords words asked
+Asks (Some words) asked = Reads words_of (λ asked. ⊤) words asked
 
--- What was asked for is done, and the exit status is that of its end. Where nothing is asked for, the words are
--- refused, and nothing is read.
+-- What was asked for is done, and the exit status is that of its end. For a storm there is an outcome whose text is
+-- written. Where nothing is asked for, the words are refused. For both of these nothing is read.
 abbrev pub Does : {R W : Type 0} → (R → Option (List ℕ)) → (W → Option (List ℕ))
     → Option Words → Watched R → Watched R → Watched W → Watched W → ℕ → Type 0
 Does remaining contents (Some Run) reader reader_after writer writer_after status =
@@ -27,5 +30,9 @@ Does remaining contents (Some Run) reader reader_after writer writer_after statu
 Does remaining contents (Some Check) reader reader_after writer writer_after status =
     (end : CheckEnd) × RunsCheck remaining contents reader reader_after writer writer_after end
     × (status ≡ check_status end)
+Does remaining contents (Some (Storm plan)) reader reader_after writer writer_after status =
+    (told : Result StormReport StormFault) × (reader_after ≡ reader)
+    × Writes contents writer writer_after (storm_text told)
+    × (status ≡ storm_status (has_failed writer_after) told)
 Does remaining contents None reader reader_after writer writer_after status =
     (reader_after ≡ reader) × Writes contents writer writer_after (printed (codes "refused 25")) × (status ≡ 1)

@@ -1,0 +1,168 @@
+//! A storm by a scope of threads.
+ghost use Rattle.std.specs.Prelude.{◌≡◌, ◌+◌};
+
+use crate::found::report_of;
+use crate::places::{Looking, Node, node_places, reader_places};
+use crate::report::{StormFault, StormGates, StormReport};
+use crate::working::{Lists, Started, feed_link, join_all, read_keys, vacuum_rows};
+use crate::writing::{all_keys, write_all};
+use hlc_board::Board;
+use hlc_core::Bytes;
+use hlc_server::{Caller, Shared};
+use hlc_words::StormPlan;
+use hlc_workers::{FreeGate, Gate};
+use std::alloc::Global;
+use std::marker::Brand;
+use std::sync::Wait;
+use std::sync::ledger::{Blank, Ledger};
+use std::thread;
+use std::thread::Threads;
+
+/// A storm whose workers are never held.
+pub fn storm<R: Threads + Wait + Sync>(
+    rt: &R,
+    alloc: Global,
+    plan: StormPlan,
+) -> Result<StormReport, StormFault> {
+    let gates = StormGates {
+        feeders: FreeGate,
+        readers: FreeGate,
+        vacuum: FreeGate,
+    };
+    storm_gated(rt, alloc, plan, &gates)
+}
+
+/// Starts each writer, feeder, reader and the vacuum in a thread of its own, joins them, settles, and then lists at the floor
+/// and makes a last vacuum.
+///
+/// Node i makes its write of number j, from 0, of the value `i.j` to the key `k` with j modulo the number of keys behind it,
+/// at reading j + 1. Behind its last write it reports at the reading after it. Its link holds 8 parcels. Each reader makes 16
+/// rounds over all keys, at the floor of a board that the feeders raise, and one worker makes 16 vacuums.
+///
+/// Refused, in this order: want of memory, of a writer too, or of a thread; the first worker that was not done, feeders by
+/// node, then readers, then the vacuum; receipts that don't settle; want of memory for what is asked of the store then.
+pub fn storm_gated<F: Gate + Sync, D: Gate + Sync, V: Gate + Sync, R: Threads + Wait + Sync>(
+    rt: &R,
+    alloc: Global,
+    plan: StormPlan,
+    gates: &StormGates<F, D, V>,
+) -> Result<StormReport, StormFault> {
+    let callers = plan.nodes + plan.readers + 1;
+    storm_in::<Brand, F, D, V, R>(rt, alloc, Blank::new(u64::from(callers)), plan, gates)
+}
+
+/// A storm of callers of this ledger.
+#[tactic(auto, using(crate::proofs::Placed::feeders_new, crate::proofs::Placed::passes_new))]
+fn storm_in<
+    L: Ledger + Send + Sync,
+    F: Gate + Sync,
+    D: Gate + Sync,
+    V: Gate + Sync,
+    R: Threads + Wait + Sync,
+>(
+    rt: &R,
+    alloc: Global,
+    blank: Blank,
+    plan: StormPlan,
+    gates: &StormGates<F, D, V>,
+) -> Result<StormReport, StormFault>
+    requires ledger { (blank.name ≡ L.name) × (blank.parts ≡ L.parts) }
+    requires callers { blank.parts ≡ plan.nodes + plan.readers + 1 }
+{
+    let count = plan.nodes + plan.readers + 1;
+    let Ok((shared, callers)) = Shared::<L>::new(alloc, blank, plan.nodes, count, true) else {
+        return Err(StormFault::NoMemory);
+    };
+    let Ok((board, feeders, passes)) = Board::new(alloc, plan.nodes, plan.readers as usize) else {
+        return Err(StormFault::NoMemory);
+    };
+    let mut callers = callers;
+    let Some(caller) = callers.pop() else {
+        return Err(StormFault::NoMemory);
+    };
+    let Ok(readers) = reader_places(alloc, &board, passes, &mut callers) else {
+        return Err(StormFault::NoMemory);
+    };
+    let Ok(nodes) = node_places(rt, alloc, &board, feeders, &mut callers) else {
+        return Err(StormFault::NoMemory);
+    };
+    let Ok(keys) = all_keys(alloc, &plan) else {
+        return Err(StormFault::NoMemory);
+    };
+    let lists = run_all(
+        rt,
+        alloc,
+        &shared,
+        caller,
+        readers,
+        nodes,
+        keys.as_slice(),
+        plan,
+        gates,
+    )?;
+    match shared.settle(lists) {
+        Ok(settled) => report_of(alloc, settled.core, plan),
+        Err(fault) => Err(StormFault::Settle(fault)),
+    }
+}
+
+/// Runs all threads of a storm, and gives the receipts by caller.
+fn run_all<
+    'a,
+    L: Ledger + Send + Sync,
+    F: Gate + Sync,
+    D: Gate + Sync,
+    V: Gate + Sync,
+    R: Threads + Wait + Sync,
+>(
+    rt: &R,
+    alloc: Global,
+    shared: &Shared<L>,
+    caller: Caller<L>,
+    looking: Vec<Looking<'a, L>>,
+    nodes: Vec<Node<'a, L>>,
+    keys: &[Bytes],
+    plan: StormPlan,
+    gates: &StormGates<F, D, V>,
+) -> Result<Lists<L>, StormFault> {
+    let to_feed = &gates.feeders;
+    let to_read = &gates.readers;
+    let to_vacuum = &gates.vacuum;
+    thread::scope(thread::scope_env(), rt, |scope| {
+        let mut writers = Vec::new(alloc);
+        let mut feeders = Vec::new(alloc);
+        let mut readers = Vec::new(alloc);
+        let mut lacks_memory = false;
+        let vacuum = scope
+            .spawn(move || vacuum_rows(rt, alloc, shared, caller, to_vacuum))
+            .ok();
+        for place in looking {
+            let reader = scope
+                .spawn(move || read_keys(rt, alloc, shared, place, keys, to_read))
+                .ok();
+            lacks_memory = readers.push(reader).is_err() || lacks_memory;
+        }
+        for Node {
+            number,
+            link,
+            feeding,
+        } in nodes {
+            let writer = scope
+                .spawn(move || write_all(rt, alloc, link, number, plan))
+                .ok();
+            lacks_memory = writers.push(writer).is_err() || lacks_memory;
+            let feeder = scope
+                .spawn(move || feed_link(rt, alloc, shared, feeding, to_feed))
+                .ok();
+            lacks_memory = feeders.push(feeder).is_err() || lacks_memory;
+        }
+        let started = Started {
+            writers,
+            feeders,
+            readers,
+            vacuum,
+            lacks_memory,
+        };
+        join_all(rt, alloc, started)
+    })
+}

@@ -1,0 +1,72 @@
+//! What the nodes of a storm write, and how.
+use hlc_channel::LinkSender;
+use hlc_core::{Bytes, Stamp};
+use hlc_node::NodeCore;
+use hlc_words::StormPlan;
+use std::alloc::{AllocError, Global};
+use std::sync::Wait;
+
+/// Why a writer gave up.
+#[derive(Clone, Copy, Debug, PartialEq, Eq)]
+pub(crate) enum WriteFault {
+    NoMemory,
+    /// The node issued no item, or the link is closed.
+    Stopped,
+}
+
+impl From<AllocError> for WriteFault {
+    fn from(_error: AllocError) -> WriteFault {
+        WriteFault::NoMemory
+    }
+}
+
+/// The key of this number.
+fn key_of(alloc: Global, number: u64) -> Result<Bytes, AllocError> {
+    let text = format!(in alloc; "k{number}")?;
+    Ok(Bytes::from_vec(text.into_bytes()))
+}
+
+/// All keys of a storm.
+pub(crate) fn all_keys(alloc: Global, plan: &StormPlan) -> Result<Vec<Bytes>, AllocError> {
+    let mut keys = Vec::with_capacity(alloc, plan.keys as usize)?;
+    for number in 0..plan.keys {
+        keys.push(key_of(alloc, number)?)?;
+    }
+    Ok(keys)
+}
+
+/// The value of a node's write of this number.
+fn value_of(alloc: Global, node: u16, number: u64) -> Result<Bytes, AllocError> {
+    let text = format!(in alloc; "{node}.{number}")?;
+    Ok(Bytes::from_vec(text.into_bytes()))
+}
+
+/// Issues the writes of a node, and puts each on its link; then a report, and then the end of the link. The write of number
+/// j, from 0, is made at reading j + 1, and the report one above the last.
+pub(crate) fn write_all<R: Wait>(
+    rt: &R,
+    alloc: Global,
+    sender: LinkSender,
+    node: u16,
+    plan: StormPlan,
+) -> Result<(), WriteFault> {
+    let mut sender = sender;
+    let mut core = NodeCore::new(node, Stamp::from_bits(0));
+    for number in 0..plan.writes {
+        let key = key_of(alloc, number % plan.keys)?;
+        let value = value_of(alloc, node, number)?;
+        let Ok(item) = core.write(number + 1, key, Some(value)) else {
+            return Err(WriteFault::Stopped);
+        };
+        if sender.put(rt, item).is_err() {
+            return Err(WriteFault::Stopped);
+        }
+    }
+    let Ok(item) = core.report(plan.writes + 1) else {
+        return Err(WriteFault::Stopped);
+    };
+    if sender.put(rt, item).is_err() || sender.finish(rt).is_err() {
+        return Err(WriteFault::Stopped);
+    }
+    Ok(())
+}
