@@ -6,6 +6,7 @@ use hlc_core::{Listing, Stamp};
 use hlc_server::SettleFault;
 use hlc_values::Exact;
 use hlc_workers::WorkEnd;
+use std::alloc::AllocError;
 
 /// The gates of a storm's workers: one for all feeders, one for all readers, one for the vacuum.
 #[derive(Drop)]
@@ -43,4 +44,10 @@ impl Exact for StormFault {
     ghost equal = { Prim.search (rules, common_steps) };
 
     ghost copied = { Prim.search rules };
+}
+
+impl From<AllocError> for StormFault {
+    fn from(_error: AllocError) -> StormFault {
+        StormFault::NoMemory
+    }
 }

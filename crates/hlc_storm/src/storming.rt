@@ -1,5 +1,6 @@
 //! A storm by a scope of threads.
 ghost use Rattle.std.specs.Prelude.{◌≡◌, ◌+◌};
+ghost use Rattle.hlc_storm.specs.Found.{MayTell};
 
 use crate::found::report_of;
 use crate::places::{Looking, Node, node_places, reader_places};
@@ -23,7 +24,9 @@ pub fn storm<R: Threads + Wait + Sync>(
     rt: &R,
     alloc: Global,
     plan: StormPlan,
-) -> Result<StormReport, StormFault> {
+) -> Result<StormReport, StormFault>
+    ensures { MayTell plan result }
+{
     let gates = StormGates {
         feeders: FreeGate,
         readers: FreeGate,
@@ -46,7 +49,9 @@ pub fn storm_gated<F: Gate + Sync, D: Gate + Sync, V: Gate + Sync, R: Threads + 
     alloc: Global,
     plan: StormPlan,
     gates: &StormGates<F, D, V>,
-) -> Result<StormReport, StormFault> {
+) -> Result<StormReport, StormFault>
+    ensures { MayTell plan result }
+{
     let callers = plan.nodes + plan.readers + 1;
     storm_in::<Brand, F, D, V, R>(rt, alloc, Blank::new(u64::from(callers)), plan, gates)
 }
@@ -68,6 +73,7 @@ fn storm_in<
 ) -> Result<StormReport, StormFault>
     requires ledger { (blank.name ≡ L.name) × (blank.parts ≡ L.parts) }
     requires callers { blank.parts ≡ plan.nodes + plan.readers + 1 }
+    ensures { MayTell plan result }
 {
     let count = plan.nodes + plan.readers + 1;
     let Ok((shared, callers)) = Shared::<L>::new(alloc, blank, plan.nodes, count, true) else {
@@ -80,15 +86,9 @@ fn storm_in<
     let Some(caller) = callers.pop() else {
         return Err(StormFault::NoMemory);
     };
-    let Ok(readers) = reader_places(alloc, &board, passes, &mut callers) else {
-        return Err(StormFault::NoMemory);
-    };
-    let Ok(nodes) = node_places(rt, alloc, &board, feeders, &mut callers) else {
-        return Err(StormFault::NoMemory);
-    };
-    let Ok(keys) = all_keys(alloc, &plan) else {
-        return Err(StormFault::NoMemory);
-    };
+    let readers = reader_places(alloc, &board, passes, &mut callers)?;
+    let nodes = node_places(rt, alloc, &board, feeders, &mut callers)?;
+    let keys = all_keys(alloc, &plan)?;
     let lists = run_all(
         rt,
         alloc,

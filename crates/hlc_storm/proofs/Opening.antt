@@ -1,0 +1,34 @@
+-- A snapshot that was just opened is open, with its stamp: its id is above those of all snapshots opened before.
+use Rattle.std.proofs.Common.{◌≡◌, ℕ, ◌+◌, ◌<◌, ◌≤◌, List, [], ◌∷◌, ◌++◌, Some, refl, ◌∙◌, arith}
+use Rattle.std.specs.Prelude.{All, ◌==◌, not}
+use Rattle.std.proofs.lemmas.List.Elements.{All-head, All-tail, All-weaker, All-filter, All-nil, All-push}
+use Rattle.hlc_snapshot.specs.declared.snapshot.Snapshot.{Snapshot}
+use Rattle.hlc_snapshot.specs.Register.{stamp_in}
+use Rattle.hlc_snapshot.specs.RegisterLaws.{stamp_in-hit, stamp_in-miss}
+use Rattle.hlc_core.specs.Past.{Step, Took, Opened, Closed, Vacuumed, opened, open_snapshots, stamp_of}
+
+-- the ids of the open snapshots are no greater than the number of those opened
+ids_low : (past : List Step) → All (λ (s : Snapshot). s.id ≤ opened past) (open_snapshots past)
+ids_low [] = All-nil (λ (s : Snapshot). s.id ≤ 0)
+ids_low (Took item ∷ past) = ids_low past
+ids_low (Vacuumed ∷ past) = ids_low past
+ids_low (Closed id ∷ past) =
+    All-filter (λ (s : Snapshot). not (s.id == id)) (λ (s : Snapshot). s.id ≤ opened past) (open_snapshots past) (ids_low past)
+ids_low (Opened stamp ∷ past) =
+    let before = All-weaker (λ (s : Snapshot). s.id ≤ opened past) (λ (s : Snapshot). s.id ≤ opened past + 1)
+    (λ s low. omega (arith, low)) (open_snapshots past) (ids_low past) in
+    All-push (λ (s : Snapshot). s.id ≤ opened past + 1) (open_snapshots past) (record { id = opened past + 1; stamp = stamp })
+    before (omega arith)
+
+last_found : (y : Snapshot) (xs : List Snapshot) → All (λ (s : Snapshot). s.id < y.id) xs → stamp_in y.id (xs ++ y ∷ []) ≡ Some y.stamp
+last_found y [] below = stamp_in-hit y.id y [] refl
+last_found y (x ∷ xs) below =
+    let low : x.id < y.id = All-head (λ (s : Snapshot). s.id < y.id) x xs below in
+    stamp_in-miss y.id x (xs ++ y ∷ []) (λ same. omega arith)
+    ∙ last_found y xs (All-tail (λ (s : Snapshot). s.id < y.id) x xs below)
+
+pub just_opened : (past : List Step) (stamp : ℕ) → stamp_of (opened past + 1) (Opened stamp ∷ past) ≡ Some stamp
+just_opened past stamp =
+    last_found (record { id = opened past + 1; stamp = stamp }) (open_snapshots past)
+    (All-weaker (λ (s : Snapshot). s.id ≤ opened past) (λ (s : Snapshot). s.id < opened past + 1) (λ s low. omega (arith, low))
+    (open_snapshots past) (ids_low past))
