@@ -1,6 +1,8 @@
-// Calls of a store that threads share, in plain Rust over the maps of std: the rival of `crates/hlc_bench`, with the same lines of output.
+// Calls of a store that threads share, in plain Rust over the maps of std, and looks at a floor, in an array of atomic
+// words and behind a mutex: what `crates/hlc_bench` is measured beside, with the same lines of output.
 use std::collections::BTreeMap;
 use std::ops::Bound::{Excluded, Included};
+use std::sync::atomic::{AtomicBool, AtomicU64, Ordering};
 use std::sync::Mutex;
 use std::time::Instant;
 
@@ -10,6 +12,8 @@ type Version = (u64, u16);
 #[derive(Clone)]
 enum Event {
     Accept { node: u16, number: u64, stamp: u64, key: Key, value: Option<Vec<u8>> },
+    Report { node: u16, number: u64, stamp: u64 },
+    OpenAt(u64),
     OpenFloor,
     Read { id: u64, key: Key },
 }
@@ -24,6 +28,7 @@ enum Reply {
     Closed(u64),
     Vacuumed { floor: u64, points: Vec<u64>, kept: u64, dropped: u128, witnesses: Vec<(Key, Option<u64>, u64)> },
     Refused(u16),
+    AboveFloor(u64),
 }
 
 #[allow(dead_code)]
@@ -41,9 +46,15 @@ struct Receipt {
     reply: Reply,
 }
 
-struct Guarded {
+/// The next number of a node's link, and the stamp that was accepted last.
+#[derive(Clone, Copy, Default)]
+struct Intake {
     next: u64,
     head: u64,
+}
+
+struct Guarded {
+    nodes: Vec<Intake>,
     columns: BTreeMap<Key, BTreeMap<Version, Option<Vec<u8>>>>,
     snapshots: Vec<(u64, u64)>,
     opened: u64,
@@ -52,21 +63,55 @@ struct Guarded {
 }
 
 impl Guarded {
+    fn new(nodes: usize, trail: bool) -> Guarded {
+        Guarded {
+            nodes: vec![Intake::default(); nodes],
+            columns: BTreeMap::new(),
+            snapshots: Vec::new(),
+            opened: 0,
+            trail: if trail { Some(Vec::new()) } else { None },
+            calls: 0,
+        }
+    }
+
+    fn floor(&self) -> u64 {
+        self.nodes.iter().map(|node| node.head).min().unwrap_or(0)
+    }
+
+    fn admit(&mut self, node: u16, number: u64, stamp: u64) -> Reply {
+        match self.nodes.get_mut(node as usize) {
+            Some(intake) if number == intake.next && stamp > intake.head => {
+                *intake = Intake { next: number + 1, head: stamp };
+                Reply::Accepted(node, stamp)
+            }
+            _ => Reply::Refused(1),
+        }
+    }
+
     fn step(&mut self, event: &Event) -> Reply {
         match event {
             Event::Accept { node, number, stamp, key, value } => {
-                if *node != 0 || *number != self.next || *stamp <= self.head {
-                    return Reply::Refused(1);
+                let reply = self.admit(*node, *number, *stamp);
+                if let Reply::Accepted(..) = reply {
+                    self.columns.entry(key.clone()).or_default().insert((*stamp, *node), value.clone());
                 }
-                self.next += 1;
-                self.head = *stamp;
-                self.columns.entry(key.clone()).or_default().insert((*stamp, *node), value.clone());
-                Reply::Accepted(*node, *stamp)
+                reply
+            }
+            Event::Report { node, number, stamp } => self.admit(*node, *number, *stamp),
+            Event::OpenAt(stamp) => {
+                let floor = self.floor();
+                if *stamp > floor {
+                    return Reply::AboveFloor(floor);
+                }
+                self.opened += 1;
+                self.snapshots.push((self.opened, *stamp));
+                Reply::Opened(self.opened, *stamp)
             }
             Event::OpenFloor => {
                 self.opened += 1;
-                self.snapshots.push((self.opened, self.head));
-                Reply::Opened(self.opened, self.head)
+                let floor = self.floor();
+                self.snapshots.push((self.opened, floor));
+                Reply::Opened(self.opened, floor)
             }
             Event::Read { id, key } => match self.snapshots.iter().find(|snapshot| snapshot.0 == *id) {
                 None => Reply::Refused(12),
@@ -90,15 +135,7 @@ impl Guarded {
 }
 
 fn timed(threads: u16, trail: bool) -> u128 {
-    let store = Mutex::new(Guarded {
-        next: 0,
-        head: 0,
-        columns: BTreeMap::new(),
-        snapshots: Vec::new(),
-        opened: 0,
-        trail: if trail { Some(Vec::new()) } else { None },
-        calls: 0,
-    });
+    let store = Mutex::new(Guarded::new(1, trail));
     for number in 0..64u64 {
         let event =
             Event::Accept { node: 0, number, stamp: (number + 1) << 16, key: vec![number as u8], value: Some(vec![7]) };
@@ -130,9 +167,89 @@ fn timed(threads: u16, trail: bool) -> u128 {
 
 const CALLS: u64 = 400_000;
 
+const NODES: usize = 64;
+
+const LOOKS: u64 = 300_000;
+
+/// What looks by so many readers take in nanoseconds, while one writer raises each node's stamp in turn, and how often
+/// it raised.
+fn looked(readers: u16, raise: impl Fn(usize, u64) + Sync, floor: impl Fn() -> u64 + Sync) -> (u128, u64) {
+    let stop = AtomicBool::new(false);
+    std::thread::scope(|scope| {
+        let start = Instant::now();
+        let writer = scope.spawn(|| {
+            let mut number = 0;
+            while !stop.load(Ordering::Acquire) {
+                number += 1;
+                for node in 0..NODES {
+                    raise(node, number << 16);
+                }
+            }
+            number * NODES as u64
+        });
+        let look = || (0..LOOKS).map(|_| floor()).max();
+        let handles: Vec<_> = (0..readers).map(|_| scope.spawn(look)).collect();
+        let seen: Vec<_> = handles.into_iter().map(|handle| handle.join().unwrap()).collect();
+        let took = start.elapsed().as_nanos();
+        stop.store(true, Ordering::Release);
+        std::hint::black_box(seen);
+        (took, writer.join().unwrap())
+    })
+}
+
+/// Hands in a node's report of this number, and raises its word with it after the lock is free.
+fn raise(store: &Mutex<Guarded>, words: &[AtomicU64], node: usize, stamp: u64) {
+    let event = Event::Report { node: node as u16, number: (stamp >> 16) - 1, stamp };
+    let receipt = store.lock().unwrap().call(0, event);
+    if let Reply::Accepted(node, stamp) = receipt.reply {
+        words[node as usize].store(stamp, Ordering::Release);
+    }
+}
+
+fn words() -> Vec<AtomicU64> {
+    (0..NODES).map(|_| AtomicU64::new(0)).collect()
+}
+
+/// The readers load the words.
+fn on_a_board(readers: u16) -> (u128, u64) {
+    let (store, words) = (Mutex::new(Guarded::new(NODES, false)), words());
+    let least = || words.iter().map(|word| word.load(Ordering::Acquire)).min().unwrap();
+    looked(readers, |node, stamp| raise(&store, &words, node, stamp), least)
+}
+
+/// The readers make a call that is refused, since its stamp is above the floor.
+fn in_a_shared_store(readers: u16) -> (u128, u64) {
+    let (store, words) = (Mutex::new(Guarded::new(NODES, false)), words());
+    let least = || match store.lock().unwrap().call(1, Event::OpenAt(u64::MAX)).reply {
+        Reply::AboveFloor(floor) => floor,
+        _ => 0,
+    };
+    looked(readers, |node, stamp| raise(&store, &words, node, stamp), least)
+}
+
+/// The readers take the lock alone.
+fn behind_a_lock(readers: u16) -> (u128, u64) {
+    let store = Mutex::new(Guarded::new(NODES, false));
+    let admit = |node: usize, stamp: u64| {
+        store.lock().unwrap().admit(node as u16, (stamp >> 16) - 1, stamp);
+    };
+    looked(readers, admit, || store.lock().unwrap().floor())
+}
+
 fn main() {
     let words: Vec<String> = std::env::args().collect();
-    let threads = words[1].parse().unwrap();
-    let trail = words[2] == "on";
-    println!("threads {threads} trail {trail} calls {CALLS} micros {}", timed(threads, trail));
+    let threads = words.get(1).and_then(|word| word.parse().ok()).unwrap_or(1);
+    let second = words.get(2).map_or("", String::as_str);
+    let looks = match words[1].as_str() {
+        "board" => on_a_board,
+        "shared" => in_a_shared_store,
+        "lock" => behind_a_lock,
+        _ => {
+            let trail = second == "on";
+            println!("threads {threads} trail {trail} calls {CALLS} micros {}", timed(threads, trail));
+            return;
+        }
+    };
+    let (nanos, raises) = looks(second.parse().unwrap());
+    println!("{} readers {second} looks {LOOKS} nanos {nanos} raises {raises}", words[1]);
 }

@@ -1,8 +1,12 @@
-//! Calls of a shared store, timed: reads of 64 keys by so many threads, without a trail or with one.
+//! Calls of a shared store, timed: reads of 64 keys by so many threads, without a trail or with one; and
+//! looks at the floor, on a board and behind a lock.
 #![tactic(auto)]
 
-ghost use Rattle.std.specs.Prelude.{◌≡◌, ◌<◌};
+ghost use Rattle.std.specs.Prelude.{◌≡◌, ◌<◌, ◌≤◌};
 
+mod floors;
+
+use floors::Looked;
 use hlc_core::{Body, Bytes, Item, Stamp};
 use hlc_server::{Caller, Receipt, Shared};
 use std::alloc::{AllocError, Global};
@@ -102,19 +106,70 @@ fn word(rt: &HostRuntime, place: usize) -> Option<String> {
     env::args(rt).ok()?.nth(place)
 }
 
-/// Times the calls of as many threads as the first word says, with a trail where the second is `on`.
+/// The number of threads that a word names; 1 where it names none of 1 to 4.
+fn threads_in(word: Option<String>) -> u16
+    ensures { (0 < result) × (result ≤ 4) }
+{
+    let Some(word) = word else {
+        return 1;
+    };
+    match word.as_str() {
+        "2" => 2,
+        "3" => 3,
+        "4" => 4,
+        _ => 1,
+    }
+}
+
+/// Times looks at a floor by so many readers: `board`, `shared` or `lock`.
+fn looked<R: Threads + Wait + Sync + Clock>(
+    rt: &R,
+    alloc: Global,
+    place: &str,
+    readers: u16,
+) -> io::Result<Option<Looked>>
+    requires { readers ≤ 4 }
+{
+    let nodes = floors::NODES;
+    match place {
+        "board" => floors::on_a_board::<Brand, _>(rt, alloc, Blank::new(1), nodes, readers),
+        "shared" => {
+            let blank = Blank::new(u64::from(readers) + 1);
+            floors::in_a_shared_store::<Brand, _>(rt, alloc, blank, nodes, readers)
+        }
+        "lock" => floors::behind_a_lock(rt, alloc, readers),
+        _ => Ok(None),
+    }
+}
+
+/// With `board`, `shared` or `lock` and a number of readers it times their looks at a floor there. Else it
+/// times the calls of as many threads as the first word says, with a trail where the second is `on`.
 /// With no word it times nothing.
 fn main(rt: HostRuntime) -> io::Result<()> {
     let alloc = rt.alloc();
     let Some(first) = word(&rt, 1) else {
         return Ok(());
     };
-    let threads = match first.as_str() {
-        "2" => 2,
-        "4" => 4,
-        _ => 1,
-    };
-    let trail = word(&rt, 2).is_some_and(|word| word.as_str() == "on");
+    let second = word(&rt, 2);
+    let place = first.as_str();
+    if place == "board" || place == "shared" || place == "lock" {
+        let readers = threads_in(second);
+        let Some(
+            Looked {
+                looks,
+                nanos,
+                raises,
+            },
+        ) = looked(&rt, alloc, place, readers)?
+        else {
+            return Ok(());
+        };
+        return println!(rt;
+            "{place} readers {readers} looks {looks} nanos {nanos} raises {raises}"
+        );
+    }
+    let trail = second.is_some_and(|word| word.as_str() == "on");
+    let threads = threads_in(Some(first));
     let took = timed::<Brand, _>(&rt, alloc, Blank::new(u64::from(threads)), threads, trail)?;
     println!(rt; "threads {threads} trail {trail} calls {CALLS} micros {took}")
 }

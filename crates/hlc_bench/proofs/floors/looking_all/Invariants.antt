@@ -1,0 +1,5 @@
+use Rattle.hlc_bench.specs.Places.{PassesOf}
+use Rattle.hlc_bench.proofs.floors.looking_all.Given as goal
+
+abbrev pub invariant-loop : goal.invariant-loop
+invariant-loop l = PassesOf l.board l.passes.items

@@ -1,0 +1,5 @@
+use Rattle.hlc_bench.specs.Places.{FeedersOf}
+use Rattle.hlc_bench.proofs.floors.raising_all.Given as goal
+
+abbrev pub invariant-loop : goal.invariant-loop
+invariant-loop l = FeedersOf l.board l.feeders.items
