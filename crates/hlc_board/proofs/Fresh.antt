@@ -1,7 +1,8 @@
--- Each step keeps the rule of the board: a step gives one seat a new view, and no word falls. So what other seats saw stays at
--- or below its word; the seat that raised holds the one word that changed; and what a look saw is the word itself. A cut makes
--- two seats of one, which hold no number together.
-use Rattle.std.proofs.Common.{◌≡◌, ◌≢◌, ◌⊎◌, ℕ, zero, suc, ◌<◌, ◌≤◌, List, [], ◌∷◌, ◌++◌, length, set, get_or, take, replicate}
+-- Each step keeps the rule of the board: a step gives one seat a new view, and no word falls. So what other seats saw
+-- stays at or below its word; the seat that raised holds the one word that changed; and what a look saw is the word
+-- itself. A cut makes two seats of one, which hold no number together.
+use Rattle.std.proofs.Common.{◌≡◌, ◌≢◌, ◌⊎◌, ℕ, zero, suc, ◌<◌, ◌≤◌, List, [], ◌∷◌, ◌++◌, length, set, get_or, take}
+use Rattle.std.proofs.Common.{replicate}
 use Rattle.std.proofs.Common.{inl, inr, sym, refl, ap, ◌∙◌, subst, ⊎_elim, arith}
 use Rattle.std.specs.Prelude.{slice_index}
 use Rattle.std.proofs.lemmas.List.{set-get_or, get_or-set_same, get_or-set_other, length-take-le, length-replicate}
@@ -13,7 +14,8 @@ use lib.ListN.{get_elem?}
 use Rattle.atomic_table.specs.Table.{State, Step, step, keeps, Me, Allows, Splits, opening}
 use Rattle.atomic_table.proofs.Lists.{at_set}
 use Rattle.hlc_board.specs.declared.rule.Place.{Place}
-use Rattle.hlc_board.specs.Board.{Stands, IsSeat, IsFresh, uncut, feeder_place, pass_place, without_first, looked, Raises, Looks}
+use Rattle.hlc_board.specs.Board.{Stands, IsSeat, IsFresh, uncut, feeder_place, pass_place, without_first, looked}
+use Rattle.hlc_board.specs.Board.{Raises, Looks}
 use mathlib.Core.Option.{none}
 
 -- where a view of a list stands to which one was added
@@ -61,9 +63,11 @@ zero_at (suc n) (suc k) = zero_at n k
 
 module _ {S : Type 0} where
   -- one seat has a new view, and the words rose
-  moves : (nodes : ℕ) (s : State S Place) (id : ℕ) (v w : Place) (ws : List ℕ) (homes : List (mathlib.Core.Option.Option S))
+  moves : (nodes : ℕ) (s : State S Place) (id : ℕ) (v w : Place) (ws : List ℕ)
+      (homes : List (mathlib.Core.Option.Option S))
       → IsFresh nodes s → IsSeat s id v → length ws ≡ nodes → ((i : ℕ) → Stands w i → Stands v i)
-      → ((i : ℕ) → Stands w i → slice_index ws i ≡ w.raised) → ((i : ℕ) → ¬ Stands v i → slice_index ws i ≡ slice_index s.words i)
+      → ((i : ℕ) → Stands w i → slice_index ws i ≡ w.raised)
+      → ((i : ℕ) → ¬ Stands v i → slice_index ws i ≡ slice_index s.words i)
       → ((k : ℕ) → slice_index s.words k ≤ slice_index ws k)
       → ((k : ℕ) → slice_index w.seen k ≤ slice_index ws k)
       → IsFresh nodes record { words = ws; homes = homes; views = set s.views id w }
@@ -85,13 +89,15 @@ module _ {S : Type 0} where
             let q' = was b y q in
             h.one_seat a b i p'.0 q'.0 p'.1 q'.1 (p'.2 i m) (q'.2 i n);
         raised = λ a i x e m. ⊎_elim
-            (λ (t : (a ≡ id) × (w ≡ x)). own i (subst (λ (y : Place). Stands y i) (sym t.1) m) ∙ ap (λ (y : Place). y.raised) t.1)
+            (λ (t : (a ≡ id) × (w ≡ x)). own i (subst (λ (y : Place). Stands y i) (sym t.1) m)
+            ∙ ap (λ (y : Place). y.raised) t.1)
             (λ (t : (a ≢ id) × (get_elem? s.views a ≡ some x)).
             others i (λ (n : Stands v i). t.0 (h.one_seat a id i x v t.1 at m n)) ∙ h.raised a i x t.1 m)
             (at_set s.views id a w x e);
         seen = λ a k x e. ⊎_elim
             (λ (t : (a ≡ id) × (w ≡ x)). subst (λ (y : Place). slice_index y.seen k ≤ slice_index ws k) t.1 (sees k))
-            (λ (t : (a ≢ id) × (get_elem? s.views a ≡ some x)). let old = h.seen a k x t.1 in let more = up k in omega arith)
+            (λ (t : (a ≢ id) × (get_elem? s.views a ≡ some x)). let old = h.seen a k x t.1 in
+            let more = up k in omega arith)
             (at_set s.views id a w x e);
       }
 
@@ -133,7 +139,8 @@ module _ {S : Type 0} where
         w,
         keeps,
         tt,
-        subst (λ (ws : List ℕ). IsFresh nodes record { words = ws; homes = s.homes; views = set s.views id w }) (sym same)
+        subst
+            (λ (ws : List ℕ). IsFresh nodes record { words = ws; homes = s.homes; views = set s.views id w }) (sym same)
             (moves nodes s id v w s.words s.homes h at h.words (λ j m. m) (λ j m. absurd (let b = m.1 in omega arith))
             (λ j free. refl) (λ j. omega arith) (set_le seen s.words k n refl (λ j. h.seen id j v at))),
         (refl, h.seen id k v at),
@@ -159,7 +166,8 @@ module _ {S : Type 0} where
       (λ (t : (a ≢ id) × (get_elem? s.views a ≡ some x)). t.0 (h.one_seat a id i x v t.1 at m (right.stands i n)))
       (at_set s.views id a l x e) in
       -- the seat of which a view is a part
-      let from : (a : ℕ) (x : Place) → get_elem? (vs ++ r ∷ []) a ≡ some x → (b : ℕ) × (y : Place) × IsSeat s b y × Within y x =
+      let from : (a : ℕ) (x : Place) → get_elem? (vs ++ r ∷ []) a ≡ some x
+      → (b : ℕ) × (y : Place) × IsSeat s b y × Within y x =
       λ a x e. ⊎_elim
       (λ (t : get_elem? vs a ≡ some x). let b = before a x t in (a, b.0, b.1, b.2))
       (λ (t : (a ≡ length vs) × (r ≡ x)). (id, v, at, subst (λ (y : Place). Within v y) t.1 right))
@@ -172,15 +180,18 @@ module _ {S : Type 0} where
             let t' = before a x t in
             let u' = before b y u in
             h.one_seat a b i t'.0 u'.0 t'.1 u'.1 (t'.2.stands i m) (u'.2.stands i n))
-            (λ (u : (b ≡ length vs) × (r ≡ y)). absurd (not_right a i x t m (subst (λ (z : Place). Stands z i) (sym u.1) n)))
+            (λ (u : (b ≡ length vs) × (r ≡ y)).
+            absurd (not_right a i x t m (subst (λ (z : Place). Stands z i) (sym u.1) n)))
             (at_snoc_where vs r y b q))
             (λ (t : (a ≡ length vs) × (r ≡ x)). ⊎_elim
-            (λ (u : get_elem? vs b ≡ some y). absurd (not_right b i y u n (subst (λ (z : Place). Stands z i) (sym t.1) m)))
+            (λ (u : get_elem? vs b ≡ some y).
+            absurd (not_right b i y u n (subst (λ (z : Place). Stands z i) (sym t.1) m)))
             (λ (u : (b ≡ length vs) × (r ≡ y)). t.0 ∙ sym u.0)
             (at_snoc_where vs r y b q))
             (at_snoc_where vs r x a p);
         raised = λ a i x e m. let o = from a x e in h.raised o.0 i o.1 o.2 (o.3.stands i m) ∙ sym (o.3.raised i m);
-        seen = λ a k x e. let o = from a x e in let below = h.seen o.0 k o.1 o.2 in let less = o.3.seen k in omega arith;
+        seen = λ a k x e. let o = from a x e in let below = h.seen o.0 k o.1 o.2 in
+            let less = o.3.seen k in omega arith;
       }
 
   -- the least number is cut off for a feeder
@@ -231,7 +242,8 @@ module _ {S : Type 0} where
       only v (suc a) x e = absurd (some-ne-none x (sym e))
 
   -- the steps, at a seat that is known
-  pub raises_as : (nodes key slots id i old n : ℕ) (me : Me S Place) (st : Step S) → me ≡ (feeder_place i old, []) → key ≡ nodes
+  pub raises_as : (nodes key slots id i old n : ℕ) (me : Me S Place) (st : Step S)
+      → me ≡ (feeder_place i old, []) → key ≡ nodes
       → old < n → i < nodes → Allows (IsFresh key) slots id me i (λ _. n) (λ _. Raises st me n)
   raises_as nodes key slots id i old n me st is same more below =
       subst (λ (x : Me S Place). Allows (IsFresh key) slots id x i (λ _. n) (λ _. Raises st x n)) (sym is)
@@ -240,7 +252,8 @@ module _ {S : Type 0} where
   pub looks_as : (nodes slots id k : ℕ) (seen counts : List ℕ) (me : Me S Place) → me ≡ (pass_place seen counts, [])
       → Allows (IsFresh {S = S} nodes) slots id me k (λ n. n) (Looks (step slots k 0 0 none) me)
   looks_as nodes slots id k seen counts me is =
-      subst (λ (x : Me S Place). Allows (IsFresh {S = S} nodes) slots id x k (λ n. n) (Looks (step slots k 0 0 none) x)) (sym is)
+      subst (λ (x : Me S Place). Allows (IsFresh {S = S} nodes) slots id x k (λ n. n) (Looks (step slots k 0 0 none) x))
+      (sym is)
       (looks nodes slots id k seen counts)
 
 zeros_taken : (n m k : ℕ) → slice_index (take n (replicate m 0)) k ≡ 0
@@ -253,4 +266,5 @@ pub begins_as : {S : Type 0} (nodes key : ℕ) → key ≡ nodes → nodes ≤ 6
     → IsFresh key (opening {S = S} (take nodes (replicate 64 0)) [] (uncut key 0))
 begins_as {S} nodes key is most =
     begins {S = S} key (take nodes (replicate 64 0))
-    (length-take-le nodes (replicate 64 0) (omega (arith, length-replicate {A = ℕ} 64 0)) ∙ sym is) (zeros_taken nodes 64)
+    (length-take-le nodes (replicate 64 0) (omega (arith, length-replicate {A = ℕ} 64 0)) ∙ sym is)
+    (zeros_taken nodes 64)

@@ -1,5 +1,5 @@
--- A look at one node after another: the least so far is that of the nodes looked at, since each look finds one value more, and
--- the values seen before stay.
+-- A look at one node after another: the least so far is that of the nodes looked at, since each look finds one value
+-- more, and the values seen before stay.
 use Rattle.std.proofs.Common.{◌≡◌, ◌≢◌, ℕ, ◌+◌, ◌<◌, ◌≤◌, min, sym, ◌∙◌, subst, arith}
 use Rattle.std.specs.Prelude.{slice_index}
 use mathlib.Core.Logic.{dite}
@@ -15,14 +15,16 @@ pub record HasLooked (first now : Sight) (node least : ℕ) : Type 0 where
   pub waiting : (k : ℕ) → node ≤ k → slice_index now.looks k ≡ slice_index first.looks k
   pub rises : (k : ℕ) → slice_index first.seen k ≤ slice_index now.seen k
 
-pub looks_next : (first before after : Sight) (node least n : ℕ) → HasLooked first before node least → LooksAt node n before after
+pub looks_next : (first before after : Sight) (node least n : ℕ) → HasLooked first before node least
+    → LooksAt node n before after
     → HasLooked first after (node + 1) (min least n)
 looks_next first before after node least n h l =
     record {
       board = l.board ∙ h.board;
       among = among;
       below = λ k b. dite (ℕ_discrete k node)
-          (λ (e : k ≡ node). subst (λ (j : ℕ). min least n ≤ slice_index after.seen j) (sym e) (let s = l.sees in omega arith))
+          (λ (e : k ≡ node).
+          subst (λ (j : ℕ). min least n ≤ slice_index after.seen j) (sym e) (let s = l.sees in omega arith))
           (λ (ne : k ≢ node). let s = l.seen_else k ne in let o = h.below k (omega arith) in omega arith);
       looked = λ k b. dite (ℕ_discrete k node)
           (λ (e : k ≡ node). subst (λ (j : ℕ). slice_index after.looks j ≡ slice_index first.looks j + 1) (sym e)

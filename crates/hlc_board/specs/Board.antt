@@ -13,7 +13,8 @@ Stands v i = (v.from ≤ i) × (i < v.to)
 abbrev pub IsSeat : {S : Type 0} → State S Place → ℕ → Place → Type 0
 IsSeat s a v = get_elem? s.views a ≡ some v
 
--- no two seats hold the same number, word i is what the seat that holds i has raised, and no seen value is above its word
+-- no two seats hold the same number, word i is what the seat that holds i has raised,
+-- and no seen value is above its word
 pub record IsFresh {S : Type 0} (nodes : ℕ) (s : State S Place) : Type 0 where
   pub words : length s.words ≡ nodes
   pub one_seat : (a b i : ℕ) (v w : Place) → IsSeat s a v → IsSeat s b w → Stands v i → Stands w i → a ≡ b

@@ -1,7 +1,8 @@
--- Each step keeps the rule of a link: a step changes what one pass knows and adds the same parcel to, or takes it from, what
--- the channel holds. So the one equation that the rule says, all parcels put are those taken and then those held, stays; and no
--- step makes a second sender or receiver.
-use Rattle.std.proofs.Common.{◌≡◌, ◌≢◌, ℕ, zero, suc, Bool, true, false, true≢false, List, [], ◌∷◌, ◌++◌, map, length, set, sym}
+-- Each step keeps the rule of a link: a step changes what one pass knows and adds the same parcel to, or takes it from,
+-- what the channel holds. So the one equation that the rule says, all parcels put are those taken and then those held,
+-- stays; and no step makes a second sender or receiver.
+use Rattle.std.proofs.Common.{◌≡◌, ◌≢◌, ℕ, zero, suc, Bool, true, false, true≢false, List, [], ◌∷◌, ◌++◌, map, length}
+use Rattle.std.proofs.Common.{set, sym}
 use Rattle.std.proofs.Common.{refl, ap, ◌∙◌, subst, ⊎_elim, append_assoc}
 use mathlib.Core.Option.{some, some-ne-none}
 use lib.ListN.{get_elem?}
@@ -12,7 +13,8 @@ use Rattle.hlc_channel.specs.declared.rule.Parcel.{Parcel}
 use Rattle.hlc_channel.proofs.Streams.{as_stream, by_stream}
 use Rattle.hlc_channel.specs.declared.rule.Parcel.TheVariants as parcel
 use Rattle.hlc_channel.specs.declared.rule.Hand.{Hand}
-use Rattle.hlc_channel.specs.Link.{stream, IsSender, IsReceiver, IsInOrder, both, sender, receiver, sender_of, receiver_of}
+use Rattle.hlc_channel.specs.Link.{stream, IsSender, IsReceiver, IsInOrder, both, sender, receiver, sender_of}
+use Rattle.hlc_channel.specs.Link.{receiver_of}
 use Rattle.hlc_channel.specs.Link.{after_put, after_take}
 
 off : false ≡ true → ⊥
@@ -66,7 +68,8 @@ take_same v (parcel.Item i) = (refl, (refl, refl, refl))
 take_same v parcel.End = (refl, (refl, refl, refl))
 
 -- after one view changed, a sender was one before
-sender_was : (views : List Hand) (seat : ℕ) (v w : Hand) (s : ℕ) (a : Hand) → get_elem? views seat ≡ some v → w.puts ≡ v.puts
+sender_was : (views : List Hand) (seat : ℕ) (v w : Hand) (s : ℕ) (a : Hand)
+    → get_elem? views seat ≡ some v → w.puts ≡ v.puts
     → IsSender (set views seat w) s a → (b : Hand) × IsSender views s b
 sender_was views seat v w s a at same is =
     ⊎_elim
@@ -78,7 +81,8 @@ sender_was views seat v w s a at same is =
     (at_set views seat s w a is.0)
 
 -- and a receiver was one before
-receiver_was : (views : List Hand) (seat : ℕ) (v w : Hand) (r : ℕ) (a : Hand) → get_elem? views seat ≡ some v → w.takes ≡ v.takes
+receiver_was : (views : List Hand) (seat : ℕ) (v w : Hand) (r : ℕ) (a : Hand) → get_elem? views seat ≡ some v
+    → w.takes ≡ v.takes
     → IsReceiver (set views seat w) r a → (b : Hand) × IsReceiver views r b
 receiver_was views seat v w r a at same is =
     ⊎_elim
@@ -90,8 +94,10 @@ receiver_was views seat v w r a at same is =
     (at_set views seat r w a is.0)
 
 -- and where the change left what was put, it had put the same
-sender_kept : (views : List Hand) (seat : ℕ) (v w : Hand) (s : ℕ) (a : Hand) → get_elem? views seat ≡ some v → SamePut v w
-    → IsSender (set views seat w) s a → (b : Hand) × IsSender views s b × (stream a.put a.end_put ≡ stream b.put b.end_put)
+sender_kept : (views : List Hand) (seat : ℕ) (v w : Hand) (s : ℕ) (a : Hand)
+    → get_elem? views seat ≡ some v → SamePut v w
+    → IsSender (set views seat w) s a
+    → (b : Hand) × IsSender views s b × (stream a.put a.end_put ≡ stream b.put b.end_put)
 sender_kept views seat v w s a at same is =
     ⊎_elim
     (λ (t : (s ≡ seat) × (w ≡ a)). (
@@ -103,7 +109,8 @@ sender_kept views seat v w s a at same is =
     (at_set views seat s w a is.0)
 
 -- and where the change left what was taken, it had taken the same
-receiver_kept : (views : List Hand) (seat : ℕ) (v w : Hand) (r : ℕ) (a : Hand) → get_elem? views seat ≡ some v → SameTaken v w
+receiver_kept : (views : List Hand) (seat : ℕ) (v w : Hand) (r : ℕ) (a : Hand)
+    → get_elem? views seat ≡ some v → SameTaken v w
     → IsReceiver (set views seat w) r a
     → (b : Hand) × IsReceiver views r b × (stream a.taken a.end_taken ≡ stream b.taken b.end_taken)
 receiver_kept views seat v w r a at same is =
@@ -117,7 +124,8 @@ receiver_kept views seat v w r a at same is =
     (at_set views seat r w a is.0)
 
 -- the view that was set
-set_is : (views : List Hand) (seat : ℕ) (w : Hand) (s : ℕ) (a : Hand) → s ≡ seat → get_elem? (set views seat w) s ≡ some a → w ≡ a
+set_is : (views : List Hand) (seat : ℕ) (w : Hand) (s : ℕ) (a : Hand) → s ≡ seat
+    → get_elem? (set views seat w) s ≡ some a → w ≡ a
 set_is views seat w s a here is =
     ⊎_elim
     (λ (t : (s ≡ seat) × (w ≡ a)). t.1)
@@ -146,7 +154,8 @@ puts n seat v x may going items views room h at =
             let is : w ≡ a = set_is views seat w s a here p.0 in
             let q' = receiver_kept views seat v w r b at same.1 q in
             let taken : List Parcel = stream q'.0.taken q'.0.end_taken in
-            let old : stream v.put v.end_put ≡ taken ++ items = as_stream items v q'.0 (h.2 seat r v q'.0 (at, may) q'.1) in
+            let old : stream v.put v.end_put ≡ taken ++ items =
+            as_stream items v q'.0 (h.2 seat r v q'.0 (at, may) q'.1) in
             by_stream (items ++ x ∷ []) a b
             (ap (λ (u : Hand). stream u.put u.end_put) (sym is)
             ∙ put_more v x going
@@ -158,7 +167,8 @@ puts n seat v x may going items views room h at =
     )
 
 -- a step of the receiver
-pub takes : (seat : ℕ) (v : Hand) → v.takes ≡ true → v.end_taken ≡ false → Pops IsInOrder seat v (λ x w. w ≡ after_take v x)
+pub takes : (seat : ℕ) (v : Hand) → v.takes ≡ true → v.end_taken ≡ false
+    → Pops IsInOrder seat v (λ x w. w ≡ after_take v x)
 takes seat v may going x items views h at =
     let w : Hand = after_take v x in
     let same = take_same v x in (
@@ -191,7 +201,8 @@ takes seat v may going x items views h at =
     )
 
 -- what a list has only with one element more stands at its end
-at_end : (l : List Hand) (a b : Hand) (j : ℕ) → get_elem? l j ≢ some b → get_elem? (l ++ a ∷ []) j ≡ some b → j ≡ length l
+at_end : (l : List Hand) (a b : Hand) (j : ℕ) → get_elem? l j ≢ some b
+    → get_elem? (l ++ a ∷ []) j ≡ some b → j ≡ length l
 at_end [] a b zero n e = refl
 at_end [] a b (suc j) n e = absurd (some-ne-none b (sym e))
 at_end (x ∷ xs) a b zero n e = absurd (n e)
@@ -214,7 +225,8 @@ cuts seat v may can items views h at =
     (λ (t : (j ≢ seat) × (get_elem? views j ≡ some a)). t.0 (h.1 j seat a v (t.1, c) (at, can)))
     (at_set views seat j l a e) in
     let receiver_is : (j : ℕ) (a : Hand) → IsReceiver (vs ++ r ∷ []) j a → r ≡ a =
-    λ j a p. ⊎_elim (λ (t : get_elem? vs j ≡ some a). absurd (no_receiver j a t p.1)) (λ (t : r ≡ a). t) (at_snoc vs r a j p.0) in
+    λ j a p. ⊎_elim (λ (t : get_elem? vs j ≡ some a). absurd (no_receiver j a t p.1)) (λ (t : r ≡ a). t)
+    (at_snoc vs r a j p.0) in
     let receiver_at : (j : ℕ) (a : Hand) → IsReceiver (vs ++ r ∷ []) j a → j ≡ length vs =
     λ j a p. at_end vs r a j (λ e. no_receiver j a e p.1) p.0 in (
       (λ s t a b p q.

@@ -1,5 +1,5 @@
--- The rule of a link as one equation: the parcels put, the end last, are those taken and then those held. The two say the same,
--- since the items of a stream are those that it was made of, and its end stands last.
+-- The rule of a link as one equation: the parcels put, the end last, are those taken and then those held. The two say
+-- the same, since the items of a stream are those that it was made of, and its end stands last.
 use Rattle.std.proofs.Common.{◌≡◌, ℕ, Bool, true, false, true≢false, List, [], ◌∷◌, ◌++◌, sym, refl, ap, ◌∙◌}
 use Rattle.hlc_node.specs.declared.item.Item.{Item}
 use Rattle.hlc_channel.specs.declared.rule.Parcel.{Parcel}
@@ -48,7 +48,8 @@ append_no_items : (xs : List Item) → xs ++ [] ≡ xs
 append_no_items [] = refl
 append_no_items (x ∷ xs) = ap (λ (l : List Item). x ∷ l) (append_no_items xs)
 
-after_end : (held : List Parcel) (v w : Hand) → w.end_taken ≡ true → stream v.put v.end_put ≡ stream w.taken true ++ held
+after_end : (held : List Parcel) (v w : Hand) → w.end_taken ≡ true
+    → stream v.put v.end_put ≡ stream w.taken true ++ held
     → Carries held v w
 after_end held v w e is =
     let all = ended w.taken v.put v.end_put held is in
@@ -58,7 +59,8 @@ after_end held v w e is =
       all_taken = λ _. (all.1, all.2);
     }
 
-before_end : (held : List Parcel) (v w : Hand) → w.end_taken ≡ false → stream v.put v.end_put ≡ stream w.taken false ++ held
+before_end : (held : List Parcel) (v w : Hand) → w.end_taken ≡ false
+    → stream v.put v.end_put ≡ stream w.taken false ++ held
     → Carries held v w
 before_end held v w e is =
     let rest = going w.taken v.put v.end_put held is in
@@ -68,7 +70,8 @@ before_end held v w e is =
       all_taken = λ c. absurd (true≢false (sym c ∙ e));
     }
 
-by_end : (held : List Parcel) (v w : Hand) (e : Bool) → w.end_taken ≡ e → stream v.put v.end_put ≡ stream w.taken e ++ held
+by_end : (held : List Parcel) (v w : Hand) (e : Bool) → w.end_taken ≡ e
+    → stream v.put v.end_put ≡ stream w.taken e ++ held
     → Carries held v w
 by_end held v w true e is = after_end held v w e is
 by_end held v w false e is = before_end held v w e is
@@ -94,14 +97,17 @@ to_stream held v w false is c =
     ∙ ap (λ (l : List Parcel). stream w.taken false ++ l) (sym c.end_last)
 
 -- the rule as one equation
-pub as_stream : (held : List Parcel) (v w : Hand) → Carries held v w → stream v.put v.end_put ≡ stream w.taken w.end_taken ++ held
+pub as_stream : (held : List Parcel) (v w : Hand) → Carries held v w
+    → stream v.put v.end_put ≡ stream w.taken w.end_taken ++ held
 as_stream held v w c = to_stream held v w w.end_taken refl c
 
 -- and back
-pub by_stream : (held : List Parcel) (v w : Hand) → stream v.put v.end_put ≡ stream w.taken w.end_taken ++ held → Carries held v w
+pub by_stream : (held : List Parcel) (v w : Hand) → stream v.put v.end_put ≡ stream w.taken w.end_taken ++ held
+    → Carries held v w
 by_stream held v w is = by_end held v w w.end_taken refl is
 
 -- the rule says it of each sender and each receiver
-pub carries : (held : List Parcel) (views : List Hand) (s r : ℕ) (v w : Hand) → IsInOrder held views → IsSender views s v
+pub carries : (held : List Parcel) (views : List Hand) (s r : ℕ) (v w : Hand) → IsInOrder held views
+    → IsSender views s v
     → IsReceiver views r w → Carries held v w
 carries held views s r v w rule p q = rule.2 s r v w p q

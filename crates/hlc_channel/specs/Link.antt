@@ -1,5 +1,5 @@
--- The rule of a link: it carries items from one sender to one receiver. What was put is what was taken, followed by what the
--- channel holds, and an end stands last.
+-- The rule of a link: it carries items from one sender to one receiver. What was put is what was taken, followed by
+-- what the channel holds, and an end stands last.
 use Rattle.std.specs.Prelude.{◌≡◌, ℕ, Bool, true, false, List, [], ◌∷◌, ◌++◌, map}
 use mathlib.Core.Option.{some}
 use lib.ListN.{get_elem?}
@@ -36,8 +36,8 @@ abbrev pub end_between : Bool → Bool → Bool
 end_between put true = false
 end_between put false = put
 
--- The sender is v and the receiver w. The items put are those taken followed by those in the channel; an end stands last; the
--- end was taken only where it was put and the channel is empty.
+-- The sender is v and the receiver w. The items put are those taken followed by those in the channel; an end stands
+-- last; the end was taken only where it was put and the channel is empty.
 pub record Carries (held : List Parcel) (v w : Hand) : Type 0 where
   pub items : v.put ≡ w.taken ++ items_in held
   pub end_last : held ≡ stream (items_in held) (end_between v.end_put w.end_taken)
@@ -60,7 +60,8 @@ sender items = record { puts = true; put = items; end_put = false; takes = false
 
 -- a receiver's pass that has taken these, and whether it took the end
 abbrev pub receiver : List Item → Bool → Hand
-receiver items ended = record { puts = false; put = []; end_put = false; takes = true; taken = items; end_taken = ended }
+receiver items ended =
+    record { puts = false; put = []; end_put = false; takes = true; taken = items; end_taken = ended }
 
 -- the part of a pass that puts
 abbrev pub sender_of : Hand → Hand
@@ -68,7 +69,8 @@ sender_of v = record { puts = v.puts; put = v.put; end_put = v.end_put; takes = 
 
 -- the part of a pass that takes
 abbrev pub receiver_of : Hand → Hand
-receiver_of v = record { puts = false; put = []; end_put = false; takes = v.takes; taken = v.taken; end_taken = v.end_taken }
+receiver_of v =
+    record { puts = false; put = []; end_put = false; takes = v.takes; taken = v.taken; end_taken = v.end_taken }
 
 -- a pass that has put one parcel more
 abbrev pub after_put : Hand → Parcel → Hand

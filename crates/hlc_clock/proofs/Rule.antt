@@ -1,13 +1,15 @@
--- The function that gives a clock's answer meets the clock's rule: the next stamp is the least one above each earlier stamp and not
--- below the reading, since it is the greater of the two least bounds.
+-- The function that gives a clock's answer meets the clock's rule: the next stamp is the least one above each earlier
+-- stamp and not below the reading, since it is the greater of the two least bounds.
 use Rattle.std.proofs.Common.{◌≡◌, ℕ, suc, ◌+◌, ◌*◌, ◌<◌, ◌≤◌, List, [], ◌∷◌, length, max, true, refl, arith, inl, inr}
 use Rattle.std.specs.Prelude.{All, Contains, nat_lt, nat_le}
 use Rattle.std.proofs.lemmas.List.Elements.{All-nil, All-cons, All-head, All-tail, All-weaker}
 use Rattle.std.proofs.lemmas.Bool.Decides.{Decides-by_and, Decides-ltb}
-use Rattle.std.proofs.lemmas.Bool.{cases_lt, cases_Bool, and_parts, and_from, ltb-true, lt-ltb, leb-true, leb-false, both_ways}
+use Rattle.std.proofs.lemmas.Bool.{cases_lt, cases_Bool, and_parts, and_from, ltb-true, lt-ltb, leb-true, leb-false}
+use Rattle.std.proofs.lemmas.Bool.{both_ways}
 use Rattle.std.specs.Bool.{Decides}
 use Rattle.hlc_clock.specs.Stamp.{physical}
-use Rattle.hlc_clock.specs.NextStamp.{IsNext, IsCarried, above, greatest, next_stamp, all_below, is_carried, stamp_due, IsClockAnswer}
+use Rattle.hlc_clock.specs.NextStamp.{IsNext, IsCarried, above, greatest, next_stamp, all_below, is_carried, stamp_due}
+use Rattle.hlc_clock.specs.NextStamp.{IsClockAnswer}
 
 above-all : (es : List ℕ) → All (λ e. e < above es) es
 above-all [] = All-nil (λ e. e < 0)
@@ -55,7 +57,8 @@ next_stamp-is_next es p = record {
     above = All-weaker (λ x. x < above es) (λ x. x < max (above es) (65536 * p)) (λ x h. omega arith) es (above-all es);
     not_below = omega arith;
   };
-  least = λ other h. (let a : above es ≤ other = above-least es other h.above in let b : 65536 * p ≤ other = h.not_below in omega arith);
+  least = λ other h. (let a : above es ≤ other = above-least es other h.above in
+      let b : 65536 * p ≤ other = h.not_below in omega arith);
 }
 
 -- there is one next stamp at most
@@ -65,7 +68,8 @@ IsNext-unique es p s t h k =
 
 carried-true : (es : List ℕ) (p : ℕ) → is_carried es p ≡ true → IsCarried es p (next_stamp es p)
 carried-true es p h =
-    let both : (nat_lt p (physical (next_stamp es p)) ≡ true) × (all_below es (physical (next_stamp es p)) ≡ true) = and_parts _ _ h in
+    let both : (nat_lt p (physical (next_stamp es p)) ≡ true) × (all_below es (physical (next_stamp es p)) ≡ true) =
+    and_parts _ _ h in
     record {
       past_reading = ltb-true _ _ both.0;
       past_earlier = (all_below-Decides es (physical (next_stamp es p))).0 both.1;
@@ -87,10 +91,14 @@ due_is_answer e es p =
                 rw (small, carried) (
                   below,
                   record { member = greatest-member e es; greatest = greatest-all (e ∷ es) },
-                  λ s h. rw (IsNext-unique (e ∷ es) p s (next_stamp (e ∷ es) p) h (next_stamp-is_next (e ∷ es) p)) (carried-true (e ∷ es) p carried),
+                  λ s h. rw (IsNext-unique (e ∷ es) p s (next_stamp (e ∷ es) p) h (next_stamp-is_next (e ∷ es) p))
+                      (carried-true (e ∷ es) p carried),
                 )
             | inr not_carried ↦
-                rw (small, not_carried)
-                (below, next_stamp-is_next (e ∷ es) p, λ h. both_ways (is_carried (e ∷ es) p) not_carried (carried-from (e ∷ es) p h))
+                rw (small, not_carried) (
+                  below,
+                  next_stamp-is_next (e ∷ es) p,
+                  λ h. both_ways (is_carried (e ∷ es) p) not_carried (carried-from (e ∷ es) p h),
+                )
           ]
     ]

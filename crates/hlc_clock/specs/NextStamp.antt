@@ -1,5 +1,6 @@
 -- The rule of the clock: the stamp of an event, by the stamps of earlier events and a reading.
-use Rattle.std.specs.Prelude.{ℕ, ◌+◌, ◌*◌, ◌^◌, ◌<◌, ◌≤◌, List, [], ◌∷◌, All, max, Contains, Bool, true, ◌&&◌, nat_lt, nat_le, if◌then◌else◌, Result, Ok, Err}
+use Rattle.std.specs.Prelude.{ℕ, ◌+◌, ◌*◌, ◌^◌, ◌<◌, ◌≤◌, List, [], ◌∷◌, All, max, Contains, Bool, true, ◌&&◌, nat_lt}
+use Rattle.std.specs.Prelude.{nat_le, if◌then◌else◌, Result, Ok, Err}
 use Rattle.hlc_clock.specs.Stamp.{physical}
 use Rattle.hlc_clock.specs.declared.clock.ClockFault.{ClockFault}
 use Rattle.hlc_clock.specs.declared.clock.ClockFault.TheVariants.{ReadingTooLarge, CounterFull}
@@ -24,12 +25,13 @@ pub record IsGreatest (stamps : List ℕ) (stamp : ℕ) : Type 0 where
   pub member : Contains stamps stamp
   pub greatest : All (λ other. other ≤ stamp) stamps
 
--- What a clock answers. The reading is refused where it is too large. Else the counter is full where the next stamp would be
--- carried, and the greatest earlier stamp is named. Else it is the next stamp.
+-- What a clock answers. The reading is refused where it is too large. Else the counter is full where the next stamp
+-- would be carried, and the greatest earlier stamp is named. Else it is the next stamp.
 abbrev pub IsClockAnswer : List ℕ → ℕ → Result ℕ ClockFault → Type 0
 IsClockAnswer earlier reading (Err ReadingTooLarge) = 2 ^ 48 ≤ reading
 IsClockAnswer earlier reading (Err (CounterFull at)) =
-    (reading < 2 ^ 48) × IsGreatest earlier at × ((stamp : ℕ) → IsNext earlier reading stamp → IsCarried earlier reading stamp)
+    (reading < 2 ^ 48) × IsGreatest earlier at
+    × ((stamp : ℕ) → IsNext earlier reading stamp → IsCarried earlier reading stamp)
 IsClockAnswer earlier reading (Ok stamp) =
     (reading < 2 ^ 48) × IsNext earlier reading stamp × (IsCarried earlier reading stamp → ⊥)
 

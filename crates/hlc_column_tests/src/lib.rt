@@ -1,5 +1,5 @@
-//! Tests of kernels, columns and vacuums of columns, by their public calls, and the small callers of the pages of `hlc_lanes`,
-//! `hlc_columns` and `hlc_vacuum`. There is nothing else here.
+//! Tests of kernels, columns and vacuums of columns, by their public calls, and the small callers of the pages of
+//! `hlc_lanes`, `hlc_columns` and `hlc_vacuum`. There is nothing else here.
 #![tactic(auto)]
 
 pub mod callers;

@@ -1,9 +1,11 @@
 -- An index has each of the first places once, so what it counts is what a pass over the first rows counts.
-use Rattle.std.proofs.Common.{◌≡◌, ℕ, zero, suc, ◌+◌, ◌-◌, ◌<◌, ◌≤◌, true, false, Bool, List, [], ◌∷◌, ◌++◌, length, get_or}
+use Rattle.std.proofs.Common.{◌≡◌, ℕ, zero, suc, ◌+◌, ◌-◌, ◌<◌, ◌≤◌, true, false, Bool, List, [], ◌∷◌, ◌++◌, length}
+use Rattle.std.proofs.Common.{get_or}
 use Rattle.std.proofs.Common.{take, drop, refl, sym, ap, ◌∙◌, subst, inl, inr, ◌⊎◌, arith, Contains, leb, cond}
 use Rattle.std.specs.List.{count_by, sum_by}
 use Rattle.std.specs.List.Sorted.{IsPartitionPoint}
-use Rattle.std.proofs.lemmas.List.{take_more, drop_more, take_all, take-append-drop, length-append, length-take-le, length-drop}
+use Rattle.std.proofs.lemmas.List.{take_more, drop_more, take_all, take-append-drop, length-append, length-take-le}
+use Rattle.std.proofs.lemmas.List.{length-drop}
 use Rattle.std.proofs.lemmas.List.Sums.{count_by_more_yes, count_by_more_no, sum_by-append, sum_by-take-drop}
 use Rattle.std.proofs.lemmas.List.Elements.{Contains-append_cases, Contains-append_left, Contains-append_right}
 use Rattle.hlc_columns.specs.Order.{IsIndex}
@@ -14,7 +16,8 @@ first_or_other x xs y (zero, lt, e) = inl e
 first_or_other x xs y (suc k, lt, e) = inr (k, omega (arith, lt), e)
 
 -- a sum over the places below n, in any order, is the sum over the first n
-summed : (ss : List ℕ) (g : ℕ → ℕ) (n : ℕ) (xs : List ℕ) → n ≤ length ss → length xs ≡ n → ((p : ℕ) → p < n → Contains xs p)
+summed : (ss : List ℕ) (g : ℕ → ℕ) (n : ℕ) (xs : List ℕ) → n ≤ length ss → length xs ≡ n
+    → ((p : ℕ) → p < n → Contains xs p)
     → sum_by (λ p. g (get_or ss p 0)) xs ≡ sum_by g (take n ss)
 summed ss g zero [] le long every = refl
 summed ss g zero (x ∷ xs) le long every = absurd (omega (arith, long))
@@ -32,7 +35,8 @@ summed ss g (suc n) xs le long every =
     let both = length-append front back in
     let less : length (front ++ back) ≡ n = omega (arith, low, high, both, long, within) in
     let others : (p : ℕ) → p < n → Contains (front ++ back) p =
-    λ p lt. elim (Contains-append_cases front (n ∷ back) p (subst (λ l. Contains l p) split (every p (omega (arith, lt))))) [
+    λ p lt. elim (Contains-append_cases front (n ∷ back) p
+    (subst (λ l. Contains l p) split (every p (omega (arith, lt))))) [
       | inl here ↦ Contains-append_left front back p here
       | inr there ↦ elim (first_or_other n back p there) [
         | inl is ↦ absurd (omega (arith, is, lt))
@@ -43,7 +47,8 @@ summed ss g (suc n) xs le long every =
     let whole = ap (sum_by f) split ∙ sum_by-append f front (n ∷ back) in
     let one = sum_by-append f (n ∷ []) back in
     let parts = sum_by-append f front back in
-    let next = ap (sum_by g) (take_more ss n 0 (omega (arith, le))) ∙ sum_by-append g (take n ss) (get_or ss n 0 ∷ []) in
+    let next = ap (sum_by g) (take_more ss n 0 (omega (arith, le)))
+    ∙ sum_by-append g (take n ss) (get_or ss n 0 ∷ []) in
     let same : sum_by f (n ∷ []) ≡ sum_by g (get_or ss n 0 ∷ []) = refl in
     let to : n + 1 ≡ suc n = omega arith in
     subst (λ m. sum_by f xs ≡ sum_by g (take m ss)) to (omega (arith, rest, whole, one, parts, next, same))
@@ -55,7 +60,8 @@ module _ (p : ℕ → Bool) (xs : List ℕ) (count : ℕ) (inside : count ≤ le
   front_counted zero le = refl
   front_counted (suc i) le =
       subst (λ n. count_by p (take n xs) ≡ n) (let e : i + 1 ≡ suc i = omega arith in e)
-      (count_by_more_yes p xs i 0 (omega (arith, le, inside)) (point.0 i 0 (omega arith) (omega (arith, le))) ∙ ap (λ n. n + 1)
+      (count_by_more_yes p xs i 0 (omega (arith, le, inside)) (point.0 i 0 (omega arith) (omega (arith, le)))
+      ∙ ap (λ n. n + 1)
       (front_counted i (omega (arith, le))))
 
   back_counted : (j : ℕ) → count + j ≤ length xs → count_by p (take (count + j) xs) ≡ count

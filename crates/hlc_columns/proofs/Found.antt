@@ -1,5 +1,8 @@
--- Looking a key up: the rows of a key are those of its column, for the keys ascend, so that no other column has the key.
-use Rattle.std.proofs.Common.{◌≡◌, ◌≢◌, ℕ, zero, suc, ◌<◌, Bool, true, false, cond, List, [], ◌∷◌, ◌++◌, Option, Some, None, length, refl, Bor, ◌↔◌, sym, ap, ap₂, ◌∙◌, subst, inl, inr, arith, Contains, true≢false, Less, nat_cmp}
+-- Looking a key up: the rows of a key are those of its column, for the keys ascend,
+-- so that no other column has the key.
+use Rattle.std.proofs.Common.{◌≡◌, ◌≢◌, ℕ, zero, suc, ◌<◌, Bool, true, false, cond, List, [], ◌∷◌, ◌++◌, Option, Some}
+use Rattle.std.proofs.Common.{None, length, refl, Bor, ◌↔◌, sym, ap, ap₂, ◌∙◌, subst, inl, inr, arith, Contains}
+use Rattle.std.proofs.Common.{true≢false, Less, nat_cmp}
 use Rattle.std.specs.Prelude.{IsNone, option_copied, IfSome, option_and_then, slice_get}
 use Rattle.std.specs.Ordering.{is_eq}
 use Rattle.std.specs.Cmp.Lexicographic.{slice_cmp, texts_ties}
@@ -41,11 +44,14 @@ key_at k [] j w e = absurd (none-some w e)
 key_at k (c ∷ cs) zero w e = ap (λ (r : Row). r.key) (sym (same_Some (row_of k c) w e))
 key_at k (c ∷ cs) (suc j) w e = key_at k cs j w e
 
-no_row_on : (k key : List ℕ) (xs ys : List Row) → key ≢ k → ((i : ℕ) (v : Row) → slice_get xs i ≡ Some v → v.key ≡ k) → ((i : ℕ) (v : Row) → slice_get ys i ≡ Some v → v.key ≡ key → ⊥)
+no_row_on : (k key : List ℕ) (xs ys : List Row) → key ≢ k → ((i : ℕ) (v : Row) → slice_get xs i ≡ Some v → v.key ≡ k)
+    → ((i : ℕ) (v : Row) → slice_get ys i ≡ Some v → v.key ≡ key → ⊥)
     → (j : ℕ) (w : Row) → slice_get (xs ++ ys) j ≡ Some w → w.key ≡ key → ⊥
 no_row_on k key [] ys apart keys none j w at same = none j w at same
-no_row_on k key (x ∷ xs) ys apart keys none zero w at same = apart (sym same ∙ ap (λ (r : Row). r.key) (sym (same_Some x w at)) ∙ keys 0 x refl)
-no_row_on k key (x ∷ xs) ys apart keys none (suc j) w at same = no_row_on k key xs ys apart (λ i v. keys (suc i) v) none j w at same
+no_row_on k key (x ∷ xs) ys apart keys none zero w at same =
+    apart (sym same ∙ ap (λ (r : Row). r.key) (sym (same_Some x w at)) ∙ keys 0 x refl)
+no_row_on k key (x ∷ xs) ys apart keys none (suc j) w at same =
+    no_row_on k key xs ys apart (λ i v. keys (suc i) v) none j w at same
 
 Contains-none : {X : Type 0} (x : X) → Contains [] x → ⊥
 Contains-none x (k, lt, e) = omega (arith, lt)
@@ -54,7 +60,8 @@ Contains-none x (k, lt, e) = omega (arith, lt)
 own_rows : (key : List ℕ) (cells : List Cell) → rows_with key (rows_of key cells) ≡ rows_of key cells
 own_rows key [] = refl
 own_rows key (c ∷ cs) =
-    ap (λ b. cond b (row_of key c ∷ rows_with key (rows_of key cs)) (rows_with key (rows_of key cs))) ((bytes_eq-Decides key key).1 refl)
+    ap (λ b. cond b (row_of key c ∷ rows_with key (rows_of key cs)) (rows_with key (rows_of key cs)))
+    ((bytes_eq-Decides key key).1 refl)
     ∙ ap (λ rows. row_of key c ∷ rows) (own_rows key cs)
 
 other_rows : (k key : List ℕ) (cells : List Cell) → key ≢ k → rows_with key (rows_of k cells) ≡ []
@@ -62,67 +69,84 @@ other_rows k key [] apart = refl
 other_rows k key (c ∷ cs) apart =
     elim (cases_Bool (bytes_eq k key)) [
       | inl t ↦ absurd (apart (sym ((bytes_eq-Decides k key).0 t)))
-      | inr n ↦ ap (λ b. cond b (row_of k c ∷ rows_with key (rows_of k cs)) (rows_with key (rows_of k cs))) n ∙ other_rows k key cs apart
+      | inr n ↦ ap (λ b. cond b (row_of k c ∷ rows_with key (rows_of k cs)) (rows_with key (rows_of k cs))) n
+          ∙ other_rows k key cs apart
     ]
 
 module _ {K : Type 0} (f : K → List ℕ) where
-  pub none_here : (key : List ℕ) (e : K × List Cell) (es : List (K × List Cell)) → lookup (test f key) (e ∷ es) ≡ None → (test f key e.0 ≡ false) × (lookup (test f key) es ≡ None)
+  pub none_here : (key : List ℕ) (e : K × List Cell) (es : List (K × List Cell)) → lookup (test f key) (e ∷ es) ≡ None
+      → (test f key e.0 ≡ false) × (lookup (test f key) es ≡ None)
   none_here key e es h =
       elim (cases_Bool (test f key e.0)) [
         | inl t ↦ absurd (none-some e.1 (sym h ∙ ap (λ b. cond b (Some e.1) (lookup (test f key) es)) t))
         | inr n ↦ (n, sym (ap (λ b. cond b (Some e.1) (lookup (test f key) es)) n) ∙ h)
       ]
 
-  pub none_in_table : (key : List ℕ) (s : ℕ) (es : List (K × List Cell)) → lookup (test f key) es ≡ None → newest (table_rows f es) key s ≡ None
+  pub none_in_table : (key : List ℕ) (s : ℕ) (es : List (K × List Cell)) → lookup (test f key) es ≡ None
+      → newest (table_rows f es) key s ≡ None
   none_in_table key s [] h = newest_nil key s
   none_in_table key s (e ∷ es) h =
       let p = none_here key e es h in
-      newest_other (rows_of (f e.0) e.1) (table_rows f es) key s (λ j w at same. other_key key (f e.0) p.0 (sym same ∙ key_at (f e.0) e.1 j w at))
+      newest_other (rows_of (f e.0) e.1) (table_rows f es) key s
+      (λ j w at same. other_key key (f e.0) p.0 (sym same ∙ key_at (f e.0) e.1 j w at))
       ∙ none_in_table key s es p.1
 
-  none_past : (key : List ℕ) (es : List (K × List Cell)) → AllByRecursion (λ y. slice_cmp nat_cmp key (f y) ≡ Less) (keys_of es) → lookup (test f key) es ≡ None
+  none_past : (key : List ℕ) (es : List (K × List Cell))
+      → AllByRecursion (λ y. slice_cmp nat_cmp key (f y) ≡ Less) (keys_of es) → lookup (test f key) es ≡ None
   none_past key [] h = refl
   none_past key (e ∷ es) h = ap (λ o. cond (is_eq o) (Some e.1) (lookup (test f key) es)) h.0 ∙ none_past key es h.1
 
   -- a key that has no column has no row
-  pub no_row : (key : List ℕ) (es : List (K × List Cell)) → lookup (test f key) es ≡ None → (j : ℕ) (w : Row) → slice_get (table_rows f es) j ≡ Some w → w.key ≡ key → ⊥
+  pub no_row : (key : List ℕ) (es : List (K × List Cell)) → lookup (test f key) es ≡ None → (j : ℕ) (w : Row)
+      → slice_get (table_rows f es) j ≡ Some w → w.key ≡ key → ⊥
   no_row key [] h j w e same = absurd (none-some w e)
   no_row key (e ∷ es) h j w at same =
       let p = none_here key e es h in
-      no_row_on (f e.0) key (rows_of (f e.0) e.1) (table_rows f es) (other_key key (f e.0) p.0) (key_at (f e.0) e.1) (no_row key es p.1) j w at same
+      no_row_on (f e.0) key (rows_of (f e.0) e.1) (table_rows f es) (other_key key (f e.0) p.0) (key_at (f e.0) e.1)
+      (no_row key es p.1) j w at same
 
   -- the newest row of a key in the table is the newest of its column
-  pub newest_in_table : (key : List ℕ) (s : ℕ) (es : List (K × List Cell)) → IsStrictlySortedBy (λ a b. slice_cmp nat_cmp (f a) (f b)) (keys_of es)
+  pub newest_in_table : (key : List ℕ) (s : ℕ) (es : List (K × List Cell))
+      → IsStrictlySortedBy (λ a b. slice_cmp nat_cmp (f a) (f b)) (keys_of es)
       → newest (table_rows f es) key s ≡ newest (rows_of key (cells_in (lookup (test f key) es))) key s
   newest_in_table key s [] up = refl
   newest_in_table key s (e ∷ es) up =
       elim (cases_Bool (test f key e.0)) [
         | inl t ↦
             let same = same_key key (f e.0) t in
-            let past = none_past key es (subst (λ k. AllByRecursion (λ y. slice_cmp nat_cmp k (f y) ≡ Less) (keys_of es)) (sym same) (sorted_head (λ a b. slice_cmp nat_cmp (f a) (f b)) e.0 (keys_of es) up)) in
+            let past = none_past key es
+            (subst (λ k. AllByRecursion (λ y. slice_cmp nat_cmp k (f y) ≡ Less) (keys_of es)) (sym same)
+            (sorted_head (λ a b. slice_cmp nat_cmp (f a) (f b)) e.0 (keys_of es) up)) in
             newest_only (rows_of (f e.0) e.1) (table_rows f es) key s (no_row key es past)
             ∙ ap (λ k. newest (rows_of k e.1) key s) (sym same)
             ∙ ap (λ b. newest (rows_of key (cells_in (cond b (Some e.1) (lookup (test f key) es)))) key s) (sym t)
         | inr n ↦
-            newest_other (rows_of (f e.0) e.1) (table_rows f es) key s (λ j w at same. other_key key (f e.0) n (sym same ∙ key_at (f e.0) e.1 j w at))
+            newest_other (rows_of (f e.0) e.1) (table_rows f es) key s
+            (λ j w at same. other_key key (f e.0) n (sym same ∙ key_at (f e.0) e.1 j w at))
             ∙ newest_in_table key s es (sorted_tail (λ a b. slice_cmp nat_cmp (f a) (f b)) e.0 (keys_of es) up)
             ∙ ap (λ b. newest (rows_of key (cells_in (cond b (Some e.1) (lookup (test f key) es)))) key s) (sym n)
       ]
 
-  pub answer_in_table : (key : List ℕ) (s : ℕ) (es : List (K × List Cell)) → IsStrictlySortedBy (λ a b. slice_cmp nat_cmp (f a) (f b)) (keys_of es)
+  pub answer_in_table : (key : List ℕ) (s : ℕ) (es : List (K × List Cell))
+      → IsStrictlySortedBy (λ a b. slice_cmp nat_cmp (f a) (f b)) (keys_of es)
       → answer (table_rows f es) key s ≡ answer (rows_of key (cells_in (lookup (test f key) es))) key s
   answer_in_table key s es up = ap (option_and_then (λ (r : Row). r.value)) (newest_in_table key s es up)
 
   -- the key of each other column comes later
-  column_later : (k : List ℕ) (es : List (K × List Cell)) (one : KeyCells) → AllByRecursion (λ y. slice_cmp nat_cmp k (f y) ≡ Less) (keys_of es) → Contains (keyed f es) one → slice_cmp nat_cmp k one.key ≡ Less
+  column_later : (k : List ℕ) (es : List (K × List Cell)) (one : KeyCells)
+      → AllByRecursion (λ y. slice_cmp nat_cmp k (f y) ≡ Less) (keys_of es) → Contains (keyed f es) one
+      → slice_cmp nat_cmp k one.key ≡ Less
   column_later k [] one h i = absurd (Contains-none one i)
-  column_later k (e ∷ es) one h i = elim (Contains-cons_cases (record { key = f e.0; cells = e.1 }) (keyed f es) one i) [
-    | inl is ↦ subst (λ (x : KeyCells). slice_cmp nat_cmp k x.key ≡ Less) is h.0
-    | inr there ↦ column_later k es one h.1 there
-  ]
+  column_later k (e ∷ es) one h i =
+      elim (Contains-cons_cases (record { key = f e.0; cells = e.1 }) (keyed f es) one i) [
+        | inl is ↦ subst (λ (x : KeyCells). slice_cmp nat_cmp k x.key ≡ Less) is h.0
+        | inr there ↦ column_later k es one h.1 there
+      ]
 
   -- so the newest row of each column's key is that of the column
-  pub newest_alone : (es : List (K × List Cell)) → IsStrictlySortedBy (λ a b. slice_cmp nat_cmp (f a) (f b)) (keys_of es) → (one : KeyCells) → Contains (keyed f es) one → (bound : ℕ)
+  pub newest_alone : (es : List (K × List Cell))
+      → IsStrictlySortedBy (λ a b. slice_cmp nat_cmp (f a) (f b)) (keys_of es) → (one : KeyCells)
+      → Contains (keyed f es) one → (bound : ℕ)
       → newest (table_rows f es) one.key bound ≡ newest (rows_in_one one) one.key bound
   newest_alone [] up one i bound = absurd (Contains-none one i)
   newest_alone (e ∷ es) up one i bound =
@@ -130,14 +154,17 @@ module _ {K : Type 0} (f : K → List ℕ) where
       elim (Contains-cons_cases (record { key = f e.0; cells = e.1 }) (keyed f es) one i) [
         | inl is ↦
             subst (λ (x : KeyCells). newest (table_rows f (e ∷ es)) x.key bound ≡ newest (rows_in_one x) x.key bound) is
-            (newest_only (rows_of (f e.0) e.1) (table_rows f es) (f e.0) bound (no_row (f e.0) es (none_past (f e.0) es later)))
+            (newest_only (rows_of (f e.0) e.1) (table_rows f es) (f e.0) bound
+            (no_row (f e.0) es (none_past (f e.0) es later)))
         | inr there ↦
             newest_other (rows_of (f e.0) e.1) (table_rows f es) one.key bound
-            (λ j w at same. other_key (f e.0) one.key (ap is_eq (column_later (f e.0) es one later there)) (sym (key_at (f e.0) e.1 j w at) ∙ same))
+            (λ j w at same. other_key (f e.0) one.key (ap is_eq (column_later (f e.0) es one later there))
+            (sym (key_at (f e.0) e.1 j w at) ∙ same))
             ∙ newest_alone es (sorted_tail (λ a b. slice_cmp nat_cmp (f a) (f b)) e.0 (keys_of es) up) one there bound
       ]
 
-  absent_rows : (key : List ℕ) (es : List (K × List Cell)) → lookup (test f key) es ≡ None → rows_with key (table_rows f es) ≡ []
+  absent_rows : (key : List ℕ) (es : List (K × List Cell)) → lookup (test f key) es ≡ None
+      → rows_with key (table_rows f es) ≡ []
   absent_rows key [] h = refl
   absent_rows key (e ∷ es) h =
       let p = none_here key e es h in
@@ -145,7 +172,8 @@ module _ {K : Type 0} (f : K → List ℕ) where
       ∙ ap₂ (λ xs ys. xs ++ ys) (other_rows (f e.0) key e.1 (other_key key (f e.0) p.0)) (absent_rows key es p.1)
 
   -- the rows of a key are those of its column
-  pub rows_in_table : (key : List ℕ) (es : List (K × List Cell)) → IsStrictlySortedBy (λ a b. slice_cmp nat_cmp (f a) (f b)) (keys_of es)
+  pub rows_in_table : (key : List ℕ) (es : List (K × List Cell))
+      → IsStrictlySortedBy (λ a b. slice_cmp nat_cmp (f a) (f b)) (keys_of es)
       → rows_with key (table_rows f es) ≡ rows_of key (cells_in (lookup (test f key) es))
   rows_in_table key [] up = refl
   rows_in_table key (e ∷ es) up =
@@ -153,12 +181,16 @@ module _ {K : Type 0} (f : K → List ℕ) where
       ∙ elim (cases_Bool (test f key e.0)) [
         | inl t ↦
             let same = same_key key (f e.0) t in
-            let past = none_past key es (subst (λ k. AllByRecursion (λ y. slice_cmp nat_cmp k (f y) ≡ Less) (keys_of es)) (sym same) (sorted_head (λ a b. slice_cmp nat_cmp (f a) (f b)) e.0 (keys_of es) up)) in
-            ap₂ (λ xs ys. xs ++ ys) (ap (λ k. rows_with key (rows_of k e.1)) (sym same) ∙ own_rows key e.1) (absent_rows key es past)
+            let past = none_past key es
+            (subst (λ k. AllByRecursion (λ y. slice_cmp nat_cmp k (f y) ≡ Less) (keys_of es)) (sym same)
+            (sorted_head (λ a b. slice_cmp nat_cmp (f a) (f b)) e.0 (keys_of es) up)) in
+            ap₂ (λ xs ys. xs ++ ys) (ap (λ k. rows_with key (rows_of k e.1)) (sym same) ∙ own_rows key e.1)
+            (absent_rows key es past)
             ∙ append-nil (rows_of key e.1)
             ∙ ap (λ b. rows_of key (cells_in (cond b (Some e.1) (lookup (test f key) es)))) (sym t)
         | inr n ↦
-            ap₂ (λ xs ys. xs ++ ys) (other_rows (f e.0) key e.1 (other_key key (f e.0) n)) (rows_in_table key es (sorted_tail (λ a b. slice_cmp nat_cmp (f a) (f b)) e.0 (keys_of es) up))
+            ap₂ (λ xs ys. xs ++ ys) (other_rows (f e.0) key e.1 (other_key key (f e.0) n))
+            (rows_in_table key es (sorted_tail (λ a b. slice_cmp nat_cmp (f a) (f b)) e.0 (keys_of es) up))
             ∙ ap (λ b. rows_of key (cells_in (cond b (Some e.1) (lookup (test f key) es)))) (sym n)
       ]
 
@@ -167,13 +199,17 @@ unfolding newest
 answer_nothing key s = refl
 
 -- what a look-up tells of the key's rows
-pub told_rows : (o : Option (Bor (List Cell))) (key : List ℕ) (rows : List Row) → rows ≡ rows_of key (cells_in (option_copied o)) → IfSome o (λ column. rows_of key column.now ≡ rows)
+pub told_rows : (o : Option (Bor (List Cell))) (key : List ℕ) (rows : List Row)
+    → rows ≡ rows_of key (cells_in (option_copied o)) → IfSome o (λ column. rows_of key column.now ≡ rows)
 told_rows None key rows e = tt
 told_rows (Some column) key rows e = sym e
 
-pub told_absent : (o : Option (Bor (List Cell))) (key : List ℕ) (rows : List Row) → rows ≡ rows_of key (cells_in (option_copied o)) → IfSome (option_copied o) (λ cells. 0 < length cells) → IsNone o ↔ (rows ≡ [])
+pub told_absent : (o : Option (Bor (List Cell))) (key : List ℕ) (rows : List Row)
+    → rows ≡ rows_of key (cells_in (option_copied o)) → IfSome (option_copied o) (λ cells. 0 < length cells)
+    → IsNone o ↔ (rows ≡ [])
 told_absent None key rows e some = (λ none. e, λ empty. refl)
 told_absent (Some column) key rows e some = (
   λ none. absurd (true≢false none),
-  λ empty. absurd (let long = ap length (sym empty ∙ e) ∙ length-map column.now (row_of key) in omega (arith, some, long)),
+  λ empty.
+      absurd (let long = ap length (sym empty ∙ e) ∙ length-map column.now (row_of key) in omega (arith, some, long)),
 )

@@ -1,5 +1,6 @@
 //! The place of the newest of some stamps and nodes, which stand side by side.
-ghost use Rattle.std.specs.Prelude.{◌≡◌, ◌↔◌, ◌≤◌, ◌<◌, ◌⊎◌, ℕ, IsTrue, Some, IfSome, MatchOption, length, slice_index, take, count_by, nat_le, false};
+ghost use Rattle.std.specs.Prelude.{◌≡◌, ◌↔◌, ◌≤◌, ◌<◌, ◌⊎◌, ℕ, IsTrue, Some, IfSome, MatchOption, length, slice_index};
+ghost use Rattle.std.specs.Prelude.{take, count_by, nat_le, false};
 ghost use Rattle.hlc_columns.specs.Newest.{NotAbove, IsNewestBelow, IsGreatestAt};
 ghost use Rattle.hlc_columns.specs.Order.{IsIndex};
 

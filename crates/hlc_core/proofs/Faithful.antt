@@ -1,5 +1,6 @@
--- What is promised of a whole history follows from the core's standing for it: each moment of a legal history is legal, so each read
--- and each vacuum was given its due there; each change forces a row; and a core that stands for a vacuum was left the fewest rows.
+-- What is promised of a whole history follows from the core's standing for it: each moment of a legal history is legal,
+-- so each read and each vacuum was given its due there; each change forces a row;
+-- and a core that stands for a vacuum was left the fewest rows.
 use Rattle.std.proofs.Common.{◌≡◌, ℕ, ◌≤◌, List, [], ◌∷◌, ◌++◌, length, Option, Some, None, refl, subst, arith}
 use Rattle.hlc_node.specs.declared.row.Row.{Row}
 use Rattle.hlc_node.specs.Rows.{answer}
@@ -27,18 +28,22 @@ ForceLaw =
 abbrev pub LeaveLaw : Type 0
 LeaveLaw =
     (kept : Kept) (past : List Step) (report : Report)
-    → StandsFor kept (VacuumedAll ∷ past) → IsReport (nodes kept) past report → LeavesFewest kept.rows (writes past) report
+    → StandsFor kept (VacuumedAll ∷ past) → IsReport (nodes kept) past report
+    → LeavesFewest kept.rows (writes past) report
 
-before-legal : (nodes : ℕ) (later before : List (CoreEvent × CoreReply)) → IsLegalHistory nodes (later ++ before) → IsLegalHistory nodes before
+before-legal : (nodes : ℕ) (later before : List (CoreEvent × CoreReply)) → IsLegalHistory nodes (later ++ before)
+    → IsLegalHistory nodes before
 before-legal nodes [] before legal = legal
 before-legal nodes (entry ∷ later) before legal = before-legal nodes later before legal.1
 
 -- each moment of a legal history is legal
-moment-legal : (nodes : ℕ) (h before : List (CoreEvent × CoreReply)) → IsLegalHistory nodes h → IsMoment h before → IsLegalHistory nodes before
+moment-legal : (nodes : ℕ) (h before : List (CoreEvent × CoreReply)) → IsLegalHistory nodes h → IsMoment h before
+    → IsLegalHistory nodes before
 moment-legal nodes h before legal moment =
     before-legal nodes moment.later before (subst (λ x. IsLegalHistory nodes x) moment.order legal)
 
-answered : (o : Option ℕ) (answers : ℕ → Option (List ℕ)) (value : Option (List ℕ)) → IsAnswer o answers value → (stamp : ℕ) × (o ≡ Some stamp) × (value ≡ answers stamp)
+answered : (o : Option ℕ) (answers : ℕ → Option (List ℕ)) (value : Option (List ℕ)) → IsAnswer o answers value
+    → (stamp : ℕ) × (o ≡ Some stamp) × (value ≡ answers stamp)
 answered None answers value is = absurd is
 answered (Some stamp) answers value is = (stamp, refl, is)
 
@@ -48,7 +53,8 @@ reads-newest nodes h legal = λ before id key value moment.
     (moment-legal nodes h ((Read id key, Answer value) ∷ before) legal moment).0 in
     answered (stamp_of id (past_of before)) (answer (writes (past_of before)) key) value due.1
 
-vacuums-least : ForceLaw → (nodes : ℕ) (h : List (CoreEvent × CoreReply)) → IsLegalHistory nodes h → VacuumsAreLeast nodes h
+vacuums-least : ForceLaw → (nodes : ℕ) (h : List (CoreEvent × CoreReply)) → IsLegalHistory nodes h
+    → VacuumsAreLeast nodes h
 vacuums-least force nodes h legal = λ before report moment.
     let given : IsDue nodes (past_of before) Vacuum (Vacuumed report) =
     (moment-legal nodes h ((Vacuum, Vacuumed report) ∷ before) legal moment).0 in
@@ -60,7 +66,8 @@ vacuums-least force nodes h legal = λ before report moment.
           let kept : report.kept ≡ length report.witnesses = due.kept in omega arith,
     )
 
-fewest-left : LeaveLaw → (kept : Kept) (h : List (CoreEvent × CoreReply)) → StandsForHistory kept h → FewestAreLeft h kept.rows
+fewest-left : LeaveLaw → (kept : Kept) (h : List (CoreEvent × CoreReply)) → StandsForHistory kept h
+    → FewestAreLeft h kept.rows
 fewest-left leave kept h stands = λ before report is.
     let legal : IsLegalHistory (nodes kept) ((Vacuum, Vacuumed report) ∷ before) =
     subst (λ x. IsLegalHistory (nodes kept) x) is stands.legal in
@@ -68,7 +75,8 @@ fewest-left leave kept h stands = λ before report is.
     leave kept (past_of before) report core legal.0.1
 
 -- a core is faithful to each history that it stands for
-pub faithful : ForceLaw → LeaveLaw → (kept : Kept) (h : List (CoreEvent × CoreReply)) → StandsForHistory kept h → IsFaithful (nodes kept) h kept.rows
+pub faithful : ForceLaw → LeaveLaw → (kept : Kept) (h : List (CoreEvent × CoreReply)) → StandsForHistory kept h
+    → IsFaithful (nodes kept) h kept.rows
 faithful force leave kept h stands = record {
   reads = reads-newest (nodes kept) h stands.legal;
   vacuums = vacuums-least force (nodes kept) h stands.legal;

@@ -1,5 +1,7 @@
--- The pairs of sorted keys, each of which stands once, are the listing, where every row's key is among them: a key with a value has a row.
-use Rattle.std.proofs.Common.{◌≡◌, ℕ, List, [], ◌∷◌, ◌++◌, map, Some, None, Option, refl, sym, ap, ◌∙◌, subst, ◌⊎◌, inl, inr, Less, Ordering, nat_cmp, append_assoc}
+-- The pairs of sorted keys, each of which stands once, are the listing, where every row's key is among them:
+-- a key with a value has a row.
+use Rattle.std.proofs.Common.{◌≡◌, ℕ, List, [], ◌∷◌, ◌++◌, map, Some, None, Option, refl, sym, ap, ◌∙◌, subst, ◌⊎◌, inl}
+use Rattle.std.proofs.Common.{inr, Less, Ordering, nat_cmp, append_assoc}
 use Rattle.std.specs.Prelude.{Contains, option_and_then}
 use Rattle.std.specs.List.{AllByRecursion}
 use Rattle.std.specs.List.Sorted.{IsStrictlySortedBy}
@@ -27,7 +29,8 @@ later-cases row (Some other) top is =
     ]
 
 -- the newest row is one of the rows, and of the key
-newest-member : (rows : List Row) (key : List ℕ) (bound : ℕ) (top : Row) → newest rows key bound ≡ Some top → Contains rows top × (top.key ≡ key)
+newest-member : (rows : List Row) (key : List ℕ) (bound : ℕ) (top : Row) → newest rows key bound ≡ Some top
+    → Contains rows top × (top.key ≡ key)
 unfolding newest
 newest-member [] key bound top is = absurd (cc)
 newest-member (row ∷ rows) key bound top is =
@@ -39,25 +42,30 @@ newest-member (row ∷ rows) key bound top is =
           let one : Some (later row (newest rows key bound)) ≡ Some top = sym (cond-true _ _ _ hit) ∙ is in
           let one' : later row (newest rows key bound) ≡ top = cc in
           elim (later-cases row (newest rows key bound) top one') [
-            | inl here ↦
-                (subst (λ x. Contains (row ∷ rows) x) here (contained-first row rows), ap (λ x. x.key) (sym here) ∙ (bytes_eq-Decides row.key key).0 (and_parts _ _ hit).0)
+            | inl here ↦ (
+              subst (λ x. Contains (row ∷ rows) x) here (contained-first row rows),
+              ap (λ x. x.key) (sym here) ∙ (bytes_eq-Decides row.key key).0 (and_parts _ _ hit).0,
+            )
             | inr there ↦
                 let rest = newest-member rows key bound top there in
                 (contained-rest row rows top rest.0, rest.1)
           ]
     ]
 
-some-of : (o : Option Row) (value : List ℕ) → option_and_then (λ (row : Row). row.value) o ≡ Some value → (row : Row) × (o ≡ Some row)
+some-of : (o : Option Row) (value : List ℕ) → option_and_then (λ (row : Row). row.value) o ≡ Some value
+    → (row : Row) × (o ≡ Some row)
 some-of None value is = absurd (cc)
 some-of (Some row) value is = (row, refl)
 
 -- a key with a value has a row
-has-row : (rows : List Row) (key : List ℕ) (stamp : ℕ) (value : List ℕ) → answer rows key stamp ≡ Some value → (row : Row) × Contains rows row × (row.key ≡ key)
+has-row : (rows : List Row) (key : List ℕ) (stamp : ℕ) (value : List ℕ) → answer rows key stamp ≡ Some value
+    → (row : Row) × Contains rows row × (row.key ≡ key)
 has-row rows key stamp value is =
     let top = some-of (newest rows key stamp) value is in
     let at = newest-member rows key stamp top.0 top.1 in (top.0, at.0, at.1)
 
-pair-value : (key : List ℕ) (o : Option (List ℕ)) (pair : Pair) → Contains (pair_of key o) pair → (pair.key ≡ key) × (o ≡ Some pair.value)
+pair-value : (key : List ℕ) (o : Option (List ℕ)) (pair : Pair) → Contains (pair_of key o) pair
+    → (pair.key ≡ key) × (o ≡ Some pair.value)
 pair-value key None pair m = absurd (none-contained pair m)
 pair-value key (Some value) pair m =
     elim (contained-cases (record { key = key; value = value }) [] pair m) [
@@ -66,16 +74,19 @@ pair-value key (Some value) pair m =
     ]
 
 -- each pair is a key with its value
-values : (rows : List Row) (stamp : ℕ) (keys : List (List ℕ)) (pair : Pair) → Contains (pairs_of rows stamp keys) pair → answer rows pair.key stamp ≡ Some pair.value
+values : (rows : List Row) (stamp : ℕ) (keys : List (List ℕ)) (pair : Pair) → Contains (pairs_of rows stamp keys) pair
+    → answer rows pair.key stamp ≡ Some pair.value
 values rows stamp [] pair m = absurd (none-contained pair m)
 values rows stamp (key ∷ keys) pair m =
     elim (Contains-append_cases (pair_of key (answer rows key stamp)) (pairs_of rows stamp keys) pair m) [
-      | inl here ↦ let is = pair-value key (answer rows key stamp) pair here in ap (λ k. answer rows k stamp) is.0 ∙ is.1
+      | inl here ↦ let is = pair-value key (answer rows key stamp) pair here in
+          ap (λ k. answer rows k stamp) is.0 ∙ is.1
       | inr there ↦ values rows stamp keys pair there
     ]
 
 -- and each of the keys with a value is among them
-listed : (rows : List Row) (stamp : ℕ) (keys : List (List ℕ)) (key value : List ℕ) → Contains keys key → answer rows key stamp ≡ Some value → Contains (pairs_of rows stamp keys) (record { key = key; value = value })
+listed : (rows : List Row) (stamp : ℕ) (keys : List (List ℕ)) (key value : List ℕ) → Contains keys key
+    → answer rows key stamp ≡ Some value → Contains (pairs_of rows stamp keys) (record { key = key; value = value })
 listed rows stamp [] key value m is = absurd (none-contained key m)
 listed rows stamp (first ∷ keys) key value m is =
     elim (contained-cases first keys key m) [
@@ -83,38 +94,53 @@ listed rows stamp (first ∷ keys) key value m is =
           Contains-append_left (pair_of first (answer rows first stamp)) (pairs_of rows stamp keys) _
           (subst (λ k. Contains (pair_of k (answer rows k stamp)) (record { key = key; value = value })) (sym here)
           (subst (λ o. Contains (pair_of key o) (record { key = key; value = value })) (sym is) (contained-first _ [])))
-      | inr there ↦ Contains-append_right (pair_of first (answer rows first stamp)) (pairs_of rows stamp keys) _ (listed rows stamp keys key value there is)
+      | inr there ↦ Contains-append_right (pair_of first (answer rows first stamp)) (pairs_of rows stamp keys) _
+          (listed rows stamp keys key value there is)
     ]
 
-all-pair : (P : List ℕ → Type 0) (key : List ℕ) (o : Option (List ℕ)) (pairs : List Pair) → P key → AllByRecursion P (map (λ pair. pair.key) pairs) → AllByRecursion P (map (λ pair. pair.key) (pair_of key o ++ pairs))
+all-pair : (P : List ℕ → Type 0) (key : List ℕ) (o : Option (List ℕ)) (pairs : List Pair)
+    → P key → AllByRecursion P (map (λ pair. pair.key) pairs)
+    → AllByRecursion P (map (λ pair. pair.key) (pair_of key o ++ pairs))
 all-pair P key None pairs at rest = rest
 all-pair P key (Some value) pairs at rest = (at, rest)
 
-all-pairs : (P : List ℕ → Type 0) (rows : List Row) (stamp : ℕ) (keys : List (List ℕ)) → AllByRecursion P keys → AllByRecursion P (map (λ pair. pair.key) (pairs_of rows stamp keys))
+all-pairs : (P : List ℕ → Type 0) (rows : List Row) (stamp : ℕ) (keys : List (List ℕ)) → AllByRecursion P keys
+    → AllByRecursion P (map (λ pair. pair.key) (pairs_of rows stamp keys))
 all-pairs P rows stamp [] all' = tt
-all-pairs P rows stamp (key ∷ keys) all' = all-pair P key (answer rows key stamp) (pairs_of rows stamp keys) all'.0 (all-pairs P rows stamp keys all'.1)
+all-pairs P rows stamp (key ∷ keys) all' =
+    all-pair P key (answer rows key stamp) (pairs_of rows stamp keys) all'.0 (all-pairs P rows stamp keys all'.1)
 
-sorted-pair : (key : List ℕ) (o : Option (List ℕ)) (pairs : List Pair) → AllByRecursion (λ k. key_cmp key k ≡ Less) (map (λ pair. pair.key) pairs) → IsStrictlySortedBy key_cmp (map (λ pair. pair.key) pairs) → IsStrictlySortedBy key_cmp (map (λ pair. pair.key) (pair_of key o ++ pairs))
+sorted-pair : (key : List ℕ) (o : Option (List ℕ)) (pairs : List Pair)
+    → AllByRecursion (λ k. key_cmp key k ≡ Less) (map (λ pair. pair.key) pairs)
+    → IsStrictlySortedBy key_cmp (map (λ pair. pair.key) pairs)
+    → IsStrictlySortedBy key_cmp (map (λ pair. pair.key) (pair_of key o ++ pairs))
 unfolding IsStrictlySortedBy
 sorted-pair key None pairs below rest = rest
 sorted-pair key (Some value) pairs below rest = (below, rest)
 
-sorted-pairs : (rows : List Row) (stamp : ℕ) (keys : List (List ℕ)) → IsStrictlySortedBy key_cmp keys → IsStrictlySortedBy key_cmp (map (λ pair. pair.key) (pairs_of rows stamp keys))
+sorted-pairs : (rows : List Row) (stamp : ℕ) (keys : List (List ℕ)) → IsStrictlySortedBy key_cmp keys
+    → IsStrictlySortedBy key_cmp (map (λ pair. pair.key) (pairs_of rows stamp keys))
 unfolding IsStrictlySortedBy
 sorted-pairs rows stamp [] up = tt
 sorted-pairs rows stamp (key ∷ keys) up =
-    sorted-pair key (answer rows key stamp) (pairs_of rows stamp keys) (all-pairs (λ k. key_cmp key k ≡ Less) rows stamp keys up.0) (sorted-pairs rows stamp keys up.1)
+    sorted-pair key (answer rows key stamp) (pairs_of rows stamp keys)
+    (all-pairs (λ k. key_cmp key k ≡ Less) rows stamp keys up.0) (sorted-pairs rows stamp keys up.1)
 
-pub lists : (rows : List Row) (stamp : ℕ) (keys : List (List ℕ)) → IsStrictlySortedBy key_cmp keys → ((row : Row) → Contains rows row → Contains keys row.key) → IsListing rows stamp (pairs_of rows stamp keys)
+pub lists : (rows : List Row) (stamp : ℕ) (keys : List (List ℕ)) → IsStrictlySortedBy key_cmp keys
+    → ((row : Row) → Contains rows row → Contains keys row.key) → IsListing rows stamp (pairs_of rows stamp keys)
 lists rows stamp keys up every = record {
   ascending = sorted-pairs rows stamp keys up;
   exact = λ key value. (
     λ m. values rows stamp keys (record { key = key; value = value }) m,
-    λ is. let at = has-row rows key stamp value is in listed rows stamp keys key value (subst (λ k. Contains keys k) at.2 (every at.0 at.1)) is,
+    λ is. let at = has-row rows key stamp value is in
+        listed rows stamp keys key value (subst (λ k. Contains keys k) at.2 (every at.0 at.1)) is,
   );
 }
 
 -- one key more
-pub pairs-rest : (rows : List Row) (stamp : ℕ) (so_far : List Pair) (key : List ℕ) (o : Option (List ℕ)) (keys : List (List ℕ)) → o ≡ answer rows key stamp → (so_far ++ pair_of key o) ++ pairs_of rows stamp keys ≡ so_far ++ pairs_of rows stamp (key ∷ keys)
+pub pairs-rest : (rows : List Row) (stamp : ℕ) (so_far : List Pair) (key : List ℕ)
+    (o : Option (List ℕ)) (keys : List (List ℕ)) → o ≡ answer rows key stamp
+    → (so_far ++ pair_of key o) ++ pairs_of rows stamp keys ≡ so_far ++ pairs_of rows stamp (key ∷ keys)
 pairs-rest rows stamp so_far key o keys is =
-    append_assoc so_far (pair_of key o) (pairs_of rows stamp keys) ∙ ap (λ x. so_far ++ (pair_of key x ++ pairs_of rows stamp keys)) is
+    append_assoc so_far (pair_of key o) (pairs_of rows stamp keys)
+    ∙ ap (λ x. so_far ++ (pair_of key x ++ pairs_of rows stamp keys)) is

@@ -1,9 +1,12 @@
 -- A core goes on standing for what took place: each part that is kept follows the step as its definition does.
-use Rattle.std.proofs.Common.{◌≡◌, ℕ, zero, suc, ◌+◌, ◌<◌, ◌≤◌, List, [], ◌∷◌, ◌++◌, length, map, get_or, Some, None, Option, Ok, Err, Result, refl, ap, sym, ◌∙◌, subst, inl, inr, arith, length-set, get_or-set_other, replicate}
+use Rattle.std.proofs.Common.{◌≡◌, ℕ, zero, suc, ◌+◌, ◌<◌, ◌≤◌, List, [], ◌∷◌, ◌++◌, length, map, get_or, Some, None}
+use Rattle.std.proofs.Common.{Option, Ok, Err, Result, refl, ap, sym, ◌∙◌, subst, inl, inr, arith, length-set}
+use Rattle.std.proofs.Common.{get_or-set_other, replicate}
 use Rattle.std.proofs.lemmas.Grind.{get_or-set_at, get_or_default_zero}
 use Rattle.std.specs.Prelude.{⊤, ◌==◌, not, Contains, IfOk, OnErr, slice_get, slice_set, MatchOption, MatchResult}
 use Rattle.std.proofs.lemmas.Option.{slice_get-get_or, slice_get_past}
-use Rattle.std.proofs.lemmas.Bool.{cond-true, cond-false, eq-eqb, ne_eqb, le-leb, le-ltb, or_from, cases_lt, cases_eq, cases_Bool}
+use Rattle.std.proofs.lemmas.Bool.{cond-true, cond-false, eq-eqb, ne_eqb, le-leb, le-ltb, or_from, cases_lt, cases_eq}
+use Rattle.std.proofs.lemmas.Bool.{cases_Bool}
 use Rattle.std.proofs.lemmas.List.{get_or-map, length-map, map-set, map-append, append-nil}
 use Rattle.std.proofs.lemmas.List.Elements.{Contains-get_or, All-weaker, All-contains_itself}
 use Rattle.hlc_node.specs.declared.row.Row.{Row}
@@ -15,7 +18,9 @@ use Rattle.hlc_link.specs.Progress.{Progress}
 use Rattle.hlc_floor.specs.Heads.{IsFloor}
 use Rattle.hlc_core.specs.declared.fault.CoreFault.{CoreFault}
 use Rattle.hlc_core.specs.declared.fault.CoreFault.TheVariants.{NoNode}
-use Rattle.hlc_core.specs.Past.{Step, Took, Opened, Closed, count, head, floor, horizon, opened, writes, body_rows, item_rows, open_snapshots, link_refusal, item_refusal, of_registry, of_room, room_refusal, open_refusal, stamp_of, IsLegal}
+use Rattle.hlc_core.specs.Past.{Step, Took, Opened, Closed, count, head, floor, horizon, opened, writes, body_rows}
+use Rattle.hlc_core.specs.Past.{item_rows, open_snapshots, link_refusal, item_refusal, of_registry, of_room}
+use Rattle.hlc_core.specs.Past.{room_refusal, open_refusal, stamp_of, IsLegal}
 use Rattle.hlc_core.specs.Stored.{IsStoredCount}
 use Rattle.hlc_core.specs.Kept.{Kept, nodes, IsMatched, StandsFor}
 use Rattle.hlc_snapshot.specs.declared.fault.SnapshotFault.{SnapshotFault}
@@ -25,24 +30,30 @@ use Rattle.hlc_snapshot.specs.RegisterLaws.{stamp_in-all}
 use Rattle.hlc_snapshot.specs.declared.fault.NoSnapshot.{NoSnapshot}
 use Rattle.hlc_core.specs.declared.listing.Pair.{Pair}
 use Rattle.hlc_core.proofs.Mapped.{in_map}
-use Rattle.hlc_snapshot.specs.Register.{Register, closed, stamps, stamp_in, without, room_refusal as room_in, IsRefusal as IsRoomRefusal}
+use Rattle.hlc_snapshot.specs.Register.{Register, closed, stamps, stamp_in, without, room_refusal as room_in}
+use Rattle.hlc_snapshot.specs.Register.{IsRefusal as IsRoomRefusal}
 use Rattle.hlc_core.specs.Calls.{new_refusal, IsRefusal, IsListing, Closes}
-use Rattle.hlc_core.specs.PastLaws.{admissible, on_link, inside, least-some, least-le, above-horizon, open-above, writes-row_set, contained-cases, contained-first, contained-rest}
+use Rattle.hlc_core.specs.PastLaws.{admissible, on_link, inside, least-some, least-le, above-horizon, open-above}
+use Rattle.hlc_core.specs.PastLaws.{writes-row_set, contained-cases, contained-first, contained-rest}
 
 abbrev a_link : ℕ → ℕ → Progress
 a_link next head = record { next = next; head = head }
 
-get-set_at : (links : List Progress) (i : ℕ) (link : Progress) → i < length links → slice_get (slice_set links i link) i ≡ Some link
+get-set_at : (links : List Progress) (i : ℕ) (link : Progress) → i < length links
+    → slice_get (slice_set links i link) i ≡ Some link
 get-set_at links i link h =
-    slice_get-get_or (slice_set links i link) i link (let l : length (slice_set links i link) ≡ length links = length-set links i link in omega arith)
+    slice_get-get_or (slice_set links i link) i link
+    (let l : length (slice_set links i link) ≡ length links = length-set links i link in omega arith)
     ∙ ap Some (get_or-set_at links i i link link refl h)
 
-get-set_other : (links : List Progress) (i k : ℕ) (link : Progress) → (k ≡ i → ⊥) → slice_get (slice_set links i link) k ≡ slice_get links k
+get-set_other : (links : List Progress) (i k : ℕ) (link : Progress) → (k ≡ i → ⊥)
+    → slice_get (slice_set links i link) k ≡ slice_get links k
 get-set_other links i k link other =
     let l : length (slice_set links i link) ≡ length links = length-set links i link in
     elim (cases_lt k (length links)) [
       | inl within ↦
-          slice_get-get_or (slice_set links i link) k link (omega arith) ∙ ap Some (get_or-set_other links i k link link other) ∙ sym (slice_get-get_or links k link within)
+          slice_get-get_or (slice_set links i link) k link (omega arith)
+          ∙ ap Some (get_or-set_other links i k link link other) ∙ sym (slice_get-get_or links k link within)
       | inr outside ↦ slice_get_past (slice_set links i link) k (omega arith) ∙ sym (slice_get_past links k outside)
     ]
 
@@ -50,16 +61,20 @@ get-set_other links i k link other =
 abbrev pub LooksUp : Option Progress → Item → Result Progress CoreFault → Type 0
 LooksUp found item result =
     MatchOption found (result ≡ Err NoNode)
-    (λ link. MatchResult result (λ new. (link_refusal link.next link.head item ≡ None) × (new ≡ a_link (item.number + 1) item.stamp)) (λ fault. link_refusal link.next link.head item ≡ Some fault))
+    (λ link. MatchResult result
+    (λ new. (link_refusal link.next link.head item ≡ None) × (new ≡ a_link (item.number + 1) item.stamp))
+    (λ fault. link_refusal link.next link.head item ≡ Some fault))
 
 -- what it says of an item that its link admits it, whatever took place
 pub record IsAdmitted (links : List Progress) (item : Item) (new : Progress) : Type 0 where
   pub within : item.node < length links
-  pub refused : link_refusal (get_or links item.node (a_link 0 0)).next (get_or links item.node (a_link 0 0)).head item ≡ None
+  pub refused : link_refusal (get_or links item.node (a_link 0 0)).next (get_or links item.node (a_link 0 0)).head item
+      ≡ None
   pub rising : (get_or links item.node (a_link 0 0)).head < item.stamp
   pub is : new ≡ a_link (item.number + 1) item.stamp
 
-pub admitted : (links : List Progress) (item : Item) (new : Progress) → LooksUp (slice_get links item.node) item (Ok new) → IsAdmitted links item new
+pub admitted : (links : List Progress) (item : Item) (new : Progress)
+    → LooksUp (slice_get links item.node) item (Ok new) → IsAdmitted links item new
 admitted links item new looked =
     elim (cases_lt item.node (length links)) [
       | inl below ↦
@@ -72,7 +87,8 @@ admitted links item new looked =
     ]
 
 -- where the core stands for a past, such an item is not refused there
-pub admitted-due : (kept : Kept) (past : List Step) (item : Item) (new : Progress) → StandsFor kept past → LooksUp (slice_get kept.links item.node) item (Ok new) → item_refusal (nodes kept) past item ≡ None
+pub admitted-due : (kept : Kept) (past : List Step) (item : Item) (new : Progress) → StandsFor kept past
+    → LooksUp (slice_get kept.links item.node) item (Ok new) → item_refusal (nodes kept) past item ≡ None
 admitted-due kept past item new h looked =
     let within : item.node < nodes kept = (admitted kept.links item new looked).within in
     let found : LooksUp (Some (a_link (count item.node past) (head item.node past))) item (Ok new) =
@@ -80,7 +96,8 @@ admitted-due kept past item new h looked =
     on_link (nodes kept) past item within ∙ found.0
 
 -- and the fault is the refusal that is due there
-pub fault-due : (kept : Kept) (past : List Step) (item : Item) (fault : CoreFault) → StandsFor kept past → LooksUp (slice_get kept.links item.node) item (Err fault) → item_refusal (nodes kept) past item ≡ Some fault
+pub fault-due : (kept : Kept) (past : List Step) (item : Item) (fault : CoreFault) → StandsFor kept past
+    → LooksUp (slice_get kept.links item.node) item (Err fault) → item_refusal (nodes kept) past item ≡ Some fault
 fault-due kept past item fault h looked =
     elim (cases_lt item.node (nodes kept)) [
       | inl below ↦
@@ -94,7 +111,8 @@ fault-due kept past item fault h looked =
     ]
 
 -- the heads rise with the link
-pub matched : (links : List Progress) (heads : List ℕ) (n : ℕ) (link : Progress) → IsMatched links heads → IsMatched (slice_set links n link) (slice_set heads n link.head)
+pub matched : (links : List Progress) (heads : List ℕ) (n : ℕ) (link : Progress) → IsMatched links heads
+    → IsMatched (slice_set links n link) (slice_set heads n link.head)
 matched links heads n link h =
     let l : length (slice_set links n link) ≡ length links = length-set links n link in
     let some : 0 < length links = h.some in
@@ -109,10 +127,16 @@ pub heads-length : (links : List Progress) (heads : List ℕ) → IsMatched link
 heads-length links heads h = ap length h.same ∙ length-map links (λ link. link.head)
 
 -- a head is its link's
-pub head-of : (links : List Progress) (heads : List ℕ) (n : ℕ) → IsMatched links heads → n < length links → get_or heads n 0 ≡ (get_or links n (a_link 0 0)).head
-head-of links heads n h within = ap (λ xs. get_or xs n 0) h.same ∙ get_or-map (λ link. link.head) links n (a_link 0 0) 0 within
+pub head-of : (links : List Progress) (heads : List ℕ) (n : ℕ) → IsMatched links heads → n < length links
+    → get_or heads n 0 ≡ (get_or links n (a_link 0 0)).head
+head-of links heads n h within = ap (λ xs. get_or xs n 0) h.same
+    ∙ get_or-map (λ link. link.head) links n (a_link 0 0) 0 within
 
-links-took : (links : List Progress) (past : List Step) (item : Item) (number : ℕ) → number ≡ count item.node past → item.node < length links → ((n : ℕ) → n < length links → slice_get links n ≡ Some (a_link (count n past) (head n past))) → (n : ℕ) → n < length links → slice_get (slice_set links item.node (a_link (number + 1) item.stamp)) n ≡ Some (a_link (count n (Took item ∷ past)) (head n (Took item ∷ past)))
+links-took : (links : List Progress) (past : List Step) (item : Item) (number : ℕ)
+    → number ≡ count item.node past → item.node < length links
+    → ((n : ℕ) → n < length links → slice_get links n ≡ Some (a_link (count n past) (head n past)))
+    → (n : ℕ) → n < length links → slice_get (slice_set links item.node (a_link (number + 1) item.stamp)) n
+    ≡ Some (a_link (count n (Took item ∷ past)) (head n (Took item ∷ past)))
 links-took links past item number next within h n lt =
     elim (cases_eq item.node n) [
       | inl same ↦
@@ -120,13 +144,15 @@ links-took links past item number next within h n lt =
           ap (λ k. slice_get (slice_set links item.node (a_link (number + 1) item.stamp)) k) (sym same)
           ∙ get-set_at links item.node (a_link (number + 1) item.stamp) within
           ∙ ap (λ k. Some (a_link (k + 1) item.stamp)) (next ∙ ap (λ k. count k past) same)
-          ∙ sym (ap (λ k. Some (a_link k (head n (Took item ∷ past)))) (cond-true (item.node == n) (count n past + 1) (count n past) hit)
+          ∙ sym (ap (λ k. Some (a_link k (head n (Took item ∷ past))))
+          (cond-true (item.node == n) (count n past + 1) (count n past) hit)
           ∙ ap (λ k. Some (a_link (count n past + 1) k)) (cond-true (item.node == n) item.stamp (head n past) hit))
       | inr other ↦
           let miss = ne_eqb item.node n other in
           get-set_other links item.node n (a_link (number + 1) item.stamp) (λ e. other (sym e))
           ∙ h n lt
-          ∙ sym (ap (λ k. Some (a_link k (head n (Took item ∷ past)))) (cond-false (item.node == n) (count n past + 1) (count n past) miss)
+          ∙ sym (ap (λ k. Some (a_link k (head n (Took item ∷ past))))
+          (cond-false (item.node == n) (count n past + 1) (count n past) miss)
           ∙ ap (λ k. Some (a_link (count n past) k)) (cond-false (item.node == n) item.stamp (head n past) miss))
     ]
 
@@ -141,69 +167,99 @@ with_item kept item = record {
 
 -- a row that is written above the horizon is stored with the others, and counts as one more
 abbrev pub WritesStand : Type 0
-WritesStand = (stored all : List Row) (horizon : ℕ) (opened : List ℕ) (row : Row) → RowsStandFor stored all horizon opened → horizon < row.stamp → IsRowSet (all ++ row ∷ []) → RowsStandFor (stored ++ row ∷ []) (all ++ row ∷ []) horizon opened
+WritesStand = (stored all : List Row) (horizon : ℕ) (opened : List ℕ) (row : Row)
+    → RowsStandFor stored all horizon opened → horizon < row.stamp → IsRowSet (all ++ row ∷ [])
+    → RowsStandFor (stored ++ row ∷ []) (all ++ row ∷ []) horizon opened
 
 abbrev pub WritesCount : Type 0
-WritesCount = (stored all : List Row) (horizon changes : ℕ) (row : Row) → length stored ≡ changes + count_above horizon all → horizon < row.stamp → length (stored ++ row ∷ []) ≡ changes + count_above horizon (all ++ row ∷ [])
+WritesCount = (stored all : List Row) (horizon changes : ℕ) (row : Row)
+    → length stored ≡ changes + count_above horizon all → horizon < row.stamp
+    → length (stored ++ row ∷ []) ≡ changes + count_above horizon (all ++ row ∷ [])
 
 -- and so is the row of an item, if it has one
-rows-body : WritesStand → (stored all : List Row) (horizon : ℕ) (opened : List ℕ) (node stamp : ℕ) (body : Body) → RowsStandFor stored all horizon opened → horizon < stamp → IsRowSet (all ++ body_rows node stamp body) → RowsStandFor (stored ++ body_rows node stamp body) (all ++ body_rows node stamp body) horizon opened
+rows-body : WritesStand → (stored all : List Row) (horizon : ℕ) (opened : List ℕ) (node stamp : ℕ) (body : Body)
+    → RowsStandFor stored all horizon opened → horizon < stamp → IsRowSet (all ++ body_rows node stamp body)
+    → RowsStandFor (stored ++ body_rows node stamp body) (all ++ body_rows node stamp body) horizon opened
 rows-body law stored all horizon opened node stamp Report stand up apart = rw (append-nil, append-nil) stand
-rows-body law stored all horizon opened node stamp (Write key value) stand up apart = law stored all horizon opened (record { key = key; stamp = stamp; node = node; value = value }) stand up apart
+rows-body law stored all horizon opened node stamp (Write key value) stand up apart =
+    law stored all horizon opened (record { key = key; stamp = stamp; node = node; value = value }) stand up apart
 
-count-body : WritesCount → (stored all : List Row) (horizon changes : ℕ) (node stamp : ℕ) (body : Body) → length stored ≡ changes + count_above horizon all → horizon < stamp → length (stored ++ body_rows node stamp body) ≡ changes + count_above horizon (all ++ body_rows node stamp body)
+count-body : WritesCount → (stored all : List Row) (horizon changes : ℕ) (node stamp : ℕ) (body : Body)
+    → length stored ≡ changes + count_above horizon all → horizon < stamp
+    → length (stored ++ body_rows node stamp body) ≡ changes + count_above horizon (all ++ body_rows node stamp body)
 count-body law stored all horizon changes node stamp Report is up = rw (append-nil, append-nil) is
-count-body law stored all horizon changes node stamp (Write key value) is up = law stored all horizon changes (record { key = key; stamp = stamp; node = node; value = value }) is up
+count-body law stored all horizon changes node stamp (Write key value) is up =
+    law stored all horizon changes (record { key = key; stamp = stamp; node = node; value = value }) is up
 
 -- an item that nothing refuses is taken
-pub took : WritesStand → WritesCount → (kept : Kept) (past : List Step) (item : Item) → StandsFor kept past → item_refusal (nodes kept) past item ≡ None → StandsFor (with_item kept item) (Took item ∷ past)
+pub took : WritesStand → WritesCount → (kept : Kept) (past : List Step) (item : Item) → StandsFor kept past
+    → item_refusal (nodes kept) past item ≡ None → StandsFor (with_item kept item) (Took item ∷ past)
 took stand count' kept past item h none =
     let within : item.node < nodes kept = inside (nodes kept) past item none in
-    let next : item.number ≡ count item.node past = (admissible (count item.node past) (head item.node past) item (sym (on_link (nodes kept) past item within) ∙ none)).number in
-    let same : nodes (with_item kept item) ≡ nodes kept = length-set kept.links item.node (a_link (item.number + 1) item.stamp) in
+    let next : item.number ≡ count item.node past = (admissible (count item.node past) (head item.node past) item
+    (sym (on_link (nodes kept) past item within) ∙ none)).number in
+    let same : nodes (with_item kept item) ≡ nodes kept =
+    length-set kept.links item.node (a_link (item.number + 1) item.stamp) in
     let legal : IsLegal (nodes kept) (Took item ∷ past) = (none, h.legal) in
     let up : horizon (nodes kept) past < item.stamp = above-horizon (nodes kept) past item h.legal none in
-    let rows : RowsStandFor (kept.rows ++ item_rows item) (writes past ++ item_rows item) (horizon (nodes kept) past) (stamps (open_snapshots past)) = rows-body stand kept.rows (writes past) (horizon (nodes kept) past) (stamps (open_snapshots past)) item.node item.stamp item.body h.rows up (writes-row_set (nodes kept) (Took item ∷ past) legal) in
-    let stored : IsStoredCount (nodes kept) (Took item ∷ past) (length (kept.rows ++ item_rows item)) = (h.stored.0, h.stored.1, count-body count' kept.rows (writes past) (horizon (nodes kept) past) (length h.stored.0) item.node item.stamp item.body h.stored.2 up) in
+    let rows : RowsStandFor (kept.rows ++ item_rows item) (writes past ++ item_rows item)
+    (horizon (nodes kept) past) (stamps (open_snapshots past)) =
+    rows-body stand kept.rows (writes past) (horizon (nodes kept) past) (stamps (open_snapshots past)) item.node
+    item.stamp item.body h.rows up (writes-row_set (nodes kept) (Took item ∷ past) legal) in
+    let stored : IsStoredCount (nodes kept) (Took item ∷ past) (length (kept.rows ++ item_rows item)) = (
+      h.stored.0,
+      h.stored.1,
+      count-body count' kept.rows (writes past) (horizon (nodes kept) past)
+          (length h.stored.0) item.node item.stamp item.body h.stored.2 up,
+    ) in
     record {
       legal = subst (λ n. IsLegal n (Took item ∷ past)) (sym same) legal;
       links = λ n lt. links-took kept.links past item item.number next within h.links n (rw same at lt);
       snapshots = h.snapshots;
       opened = h.opened;
-      rows = subst (λ n. RowsStandFor (kept.rows ++ item_rows item) (writes past ++ item_rows item) (horizon n past) (stamps (open_snapshots past))) (sym same) rows;
+      rows = subst (λ n. RowsStandFor (kept.rows ++ item_rows item) (writes past ++ item_rows item) (horizon n past)
+          (stamps (open_snapshots past))) (sym same) rows;
       stored = subst (λ n. IsStoredCount n (Took item ∷ past) (length (kept.rows ++ item_rows item))) (sym same) stored;
       horizon = h.horizon ∙ ap (λ n. horizon n past) (sym same);
     }
 
 -- the least of the kept heads is the floor of the past
-pub floor-from : (kept : Kept) (past : List Step) (heads : List ℕ) (low : ℕ) → IsMatched kept.links heads → StandsFor kept past → IsFloor heads low → low ≡ floor (nodes kept) past
+pub floor-from : (kept : Kept) (past : List Step) (heads : List ℕ) (low : ℕ) → IsMatched kept.links heads
+    → StandsFor kept past → IsFloor heads low → low ≡ floor (nodes kept) past
 floor-from kept past heads low matched h is =
     let len : length heads ≡ nodes kept = heads-length kept.links heads matched in
     let each : (n : ℕ) → n < nodes kept → get_or heads n 0 ≡ head n past =
     λ n within.
-    let e : Some (get_or kept.links n (a_link 0 0)) ≡ Some (a_link (count n past) (head n past)) = sym (slice_get-get_or kept.links n (a_link 0 0) within) ∙ h.links n within in
+    let e : Some (get_or kept.links n (a_link 0 0)) ≡ Some (a_link (count n past) (head n past)) =
+    sym (slice_get-get_or kept.links n (a_link 0 0) within) ∙ h.links n within in
     let f : get_or kept.links n (a_link 0 0) ≡ a_link (count n past) (head n past) = cc in
     head-of kept.links heads n matched within ∙ ap (λ link. link.head) f in
-    let least : (n : ℕ) × (n < nodes kept) × (head n past ≡ floor (nodes kept) past) = least-some (λ n. head n past) (nodes kept) matched.some in
+    let least : (n : ℕ) × (n < nodes kept) × (head n past ≡ floor (nodes kept) past) =
+    least-some (λ n. head n past) (nodes kept) matched.some in
     let at : ℕ = is.is_head.0 in
     let at-within : at < length heads = is.is_head.1 in
     let at-is : get_or heads at low ≡ low = is.is_head.2 in
     let lower : floor (nodes kept) past ≤ head at past = least-le (λ n. head n past) (nodes kept) at (omega arith) in
     let at-each : get_or heads at 0 ≡ head at past = each at (omega arith) in
     let at-same : get_or heads at low ≡ get_or heads at 0 = get_or_default_zero heads at low at-within in
-    let upper : low ≤ get_or heads least.0 0 = is.least (get_or heads least.0 0) (Contains-get_or heads least.0 0 (let l : least.0 < nodes kept = least.1 in omega arith)) in
+    let upper : low ≤ get_or heads least.0 0 = is.least (get_or heads least.0 0)
+    (Contains-get_or heads least.0 0 (let l : least.0 < nodes kept = least.1 in omega arith)) in
     let least-each : get_or heads least.0 0 ≡ head least.0 past = each least.0 least.1 in
     let least-is : head least.0 past ≡ floor (nodes kept) past = least.2 in
     omega arith
 
 -- the room that is left is that of the past
-pub room-due : (kept : Kept) (past : List Step) → StandsFor kept past → of_room (room_in (length kept.snapshots) kept.opened) ≡ room_refusal past
+pub room-due : (kept : Kept) (past : List Step) → StandsFor kept past
+    → of_room (room_in (length kept.snapshots) kept.opened) ≡ room_refusal past
 room-due kept past h = rw (h.snapshots, h.opened) refl
 
 -- a registry's refusal is that of the past, which comes last
-pub room-fault : (kept : Kept) (past : List Step) (fault : SnapshotFault) → StandsFor kept past → IsRoomRefusal (room_in (length kept.snapshots) kept.opened) fault → IsRefusal (room_refusal past) ⊤ (of_registry fault)
+pub room-fault : (kept : Kept) (past : List Step) (fault : SnapshotFault)
+    → StandsFor kept past → IsRoomRefusal (room_in (length kept.snapshots) kept.opened) fault
+    → IsRefusal (room_refusal past) ⊤ (of_registry fault)
 room-fault kept past fault h (inl due) = inl (sym (room-due kept past h) ∙ ap of_room due)
-room-fault kept past fault h (inr lost) = inr (sym (room-due kept past h) ∙ ap of_room lost.0, ap of_registry lost.1, tt)
+room-fault kept past fault h (inr lost) =
+    inr (sym (room-due kept past h) ∙ ap of_room lost.0, ap of_registry lost.1, tt)
 
 abbrev pub with_snapshot : Kept → ℕ → Kept
 with_snapshot kept stamp = record {
@@ -216,25 +272,36 @@ with_snapshot kept stamp = record {
 
 -- a snapshot that opens at or above the horizon is told the same
 abbrev pub OpensStand : Type 0
-OpensStand = (stored all : List Row) (horizon stamp : ℕ) (opened : List ℕ) → RowsStandFor stored all horizon opened → horizon ≤ stamp → RowsStandFor stored all horizon (opened ++ stamp ∷ [])
+OpensStand = (stored all : List Row) (horizon stamp : ℕ) (opened : List ℕ) → RowsStandFor stored all horizon opened
+    → horizon ≤ stamp → RowsStandFor stored all horizon (opened ++ stamp ∷ [])
 
 -- a snapshot that nothing refuses is opened
-pub opens : OpensStand → (kept : Kept) (past : List Step) (stamp : ℕ) → StandsFor kept past → open_refusal (nodes kept) past stamp ≡ None → StandsFor (with_snapshot kept stamp) (Opened stamp ∷ past)
+pub opens : OpensStand → (kept : Kept) (past : List Step) (stamp : ℕ) → StandsFor kept past
+    → open_refusal (nodes kept) past stamp ≡ None → StandsFor (with_snapshot kept stamp) (Opened stamp ∷ past)
 opens stand kept past stamp h none =
     record {
       legal = (none, h.legal);
       links = h.links;
-      snapshots = ap (λ xs. xs ++ record { id = kept.opened + 1; stamp = stamp } ∷ []) h.snapshots ∙ ap (λ n. open_snapshots past ++ record { id = n + 1; stamp = stamp } ∷ []) h.opened;
+      snapshots = ap (λ xs. xs ++ record { id = kept.opened + 1; stamp = stamp } ∷ []) h.snapshots
+          ∙ ap (λ n. open_snapshots past ++ record { id = n + 1; stamp = stamp } ∷ []) h.opened;
       opened = ap (λ n. n + 1) h.opened;
       rows = subst (λ opened. RowsStandFor kept.rows (writes past) (horizon (nodes kept) past) opened)
-          (sym (map-append (λ (snapshot : Snapshot). snapshot.stamp) (open_snapshots past) (record { id = opened past + 1; stamp = stamp } ∷ [])))
-          (stand kept.rows (writes past) (horizon (nodes kept) past) stamp (stamps (open_snapshots past)) h.rows (open-above (nodes kept) past stamp none));
+          (sym (map-append (λ (snapshot : Snapshot). snapshot.stamp) (open_snapshots past)
+          (record { id = opened past + 1; stamp = stamp } ∷ [])))
+          (stand kept.rows (writes past) (horizon (nodes kept) past) stamp (stamps (open_snapshots past)) h.rows
+          (open-above (nodes kept) past stamp none));
       stored = h.stored;
       horizon = h.horizon;
     }
 
 abbrev pub less_snapshot : Kept → ℕ → Kept
-less_snapshot kept id = record { links = kept.links; snapshots = without id kept.snapshots; opened = kept.opened; horizon = kept.horizon; rows = kept.rows }
+less_snapshot kept id = record {
+  links = kept.links;
+  snapshots = without id kept.snapshots;
+  opened = kept.opened;
+  horizon = kept.horizon;
+  rows = kept.rows;
+}
 
 -- the stamps that are still open were open
 still-open : (id stamp : ℕ) (xs : List Snapshot) → Contains (stamps (without id xs)) stamp → Contains (stamps xs) stamp
@@ -242,14 +309,17 @@ still-open id stamp [] m = m
 still-open id stamp (x ∷ xs) m =
     elim (cases_Bool (not (x.id == id))) [
       | inl kept ↦
-          elim (contained-cases x.stamp (stamps (without id xs)) stamp (subst (λ ys. Contains (stamps ys) stamp) (cond-true _ _ _ kept) m)) [
+          elim (contained-cases x.stamp (stamps (without id xs)) stamp
+          (subst (λ ys. Contains (stamps ys) stamp) (cond-true _ _ _ kept) m)) [
             | inl here ↦ subst (λ k. Contains (stamps (x ∷ xs)) k) here (contained-first x.stamp (stamps xs))
             | inr rest ↦ contained-rest x.stamp (stamps xs) stamp (still-open id stamp xs rest)
           ]
-      | inr gone ↦ contained-rest x.stamp (stamps xs) stamp (still-open id stamp xs (subst (λ ys. Contains (stamps ys) stamp) (cond-false _ _ _ gone) m))
+      | inr gone ↦ contained-rest x.stamp (stamps xs) stamp
+          (still-open id stamp xs (subst (λ ys. Contains (stamps ys) stamp) (cond-false _ _ _ gone) m))
     ]
 
-fewer-open : (stored all : List Row) (horizon : ℕ) (opened fewer : List ℕ) → RowsStandFor stored all horizon opened → ((stamp : ℕ) → Contains fewer stamp → Contains opened stamp) → RowsStandFor stored all horizon fewer
+fewer-open : (stored all : List Row) (horizon : ℕ) (opened fewer : List ℕ) → RowsStandFor stored all horizon opened
+    → ((stamp : ℕ) → Contains fewer stamp → Contains opened stamp) → RowsStandFor stored all horizon fewer
 fewer-open stored all horizon opened fewer stand still = record {
   row_set = stand.row_set;
   all_row_set = stand.all_row_set;
@@ -260,7 +330,9 @@ fewer-open stored all horizon opened fewer stand still = record {
 }
 
 -- an open one is closed
-pub closes : (kept : Kept) (past : List Step) (id stamp : ℕ) → StandsFor kept past → stamp_in id kept.snapshots ≡ Some stamp → (stamp_of id past ≡ Some stamp) × StandsFor (less_snapshot kept id) (Closed id ∷ past)
+pub closes : (kept : Kept) (past : List Step) (id stamp : ℕ)
+    → StandsFor kept past → stamp_in id kept.snapshots ≡ Some stamp
+    → (stamp_of id past ≡ Some stamp) × StandsFor (less_snapshot kept id) (Closed id ∷ past)
 closes kept past id stamp h there =
     let is : stamp_of id past ≡ Some stamp = ap (stamp_in id) (sym h.snapshots) ∙ there in (
       is,
@@ -269,7 +341,8 @@ closes kept past id stamp h there =
         links = h.links;
         snapshots = ap (without id) h.snapshots;
         opened = h.opened;
-        rows = fewer-open kept.rows (writes past) (horizon (nodes kept) past) (stamps (open_snapshots past)) (stamps (without id (open_snapshots past))) h.rows (λ stamp m. still-open id stamp (open_snapshots past) m);
+        rows = fewer-open kept.rows (writes past) (horizon (nodes kept) past) (stamps (open_snapshots past))
+            (stamps (without id (open_snapshots past))) h.rows (λ stamp m. still-open id stamp (open_snapshots past) m);
         stored = h.stored;
         horizon = h.horizon;
       },
@@ -283,7 +356,8 @@ get-replicate zero k link lt = absurd (omega arith)
 get-replicate (suc n) zero link lt = refl
 get-replicate (suc n) (suc k) link lt = get-replicate n k link (omega arith)
 
-map-replicate : (count : ℕ) (link : Progress) → map (λ link. link.head) (replicate count link) ≡ replicate count link.head
+map-replicate : (count : ℕ) (link : Progress)
+    → map (λ link. link.head) (replicate count link) ≡ replicate count link.head
 map-replicate zero link = refl
 map-replicate (suc n) link = ap (λ xs. link.head ∷ xs) (map-replicate n link)
 
@@ -307,7 +381,14 @@ starts many =
         links = λ n lt. get-replicate many n (a_link 0 0) (omega arith);
         snapshots = refl;
         opened = refl;
-        rows = record { row_set = tt; all_row_set = tt; within = λ row m. m; above = λ row m up. m; at_open = λ key stamp m. refl; from_horizon = λ key stamp le. refl };
+        rows = record {
+          row_set = tt;
+          all_row_set = tt;
+          within = λ row m. m;
+          above = λ row m up. m;
+          at_open = λ key stamp m. refl;
+          from_horizon = λ key stamp le. refl;
+        };
         stored = ([], refl, refl);
         horizon = refl;
       },
@@ -318,15 +399,21 @@ pub new_refusal-none : (many : ℕ) → 0 < many → many ≤ 64 → new_refusal
 new_refusal-none many some few = cond-false _ _ _ (or_from _ _ (ne_eqb many 0 (λ e. omega arith)) (le-ltb 64 many few))
 
 -- what is open is one of the open stamps, so the rows answer there as all accepted writes do
-pub told-alike : (kept : Kept) (past : List Step) (id stamp : ℕ) → StandsFor kept past → stamp_in id kept.snapshots ≡ Some stamp → (key : List ℕ) → answer kept.rows key stamp ≡ answer (writes past) key stamp
+pub told-alike : (kept : Kept) (past : List Step) (id stamp : ℕ)
+    → StandsFor kept past → stamp_in id kept.snapshots ≡ Some stamp → (key : List ℕ)
+    → answer kept.rows key stamp ≡ answer (writes past) key stamp
 told-alike kept past id stamp h there key =
     h.rows.at_open key stamp
     (stamp_in-all (λ stamp. Contains (stamps (open_snapshots past)) stamp) id stamp (open_snapshots past)
-    (All-weaker (Contains (open_snapshots past)) (λ snapshot. Contains (stamps (open_snapshots past)) snapshot.stamp) (λ snapshot m. in_map (λ (x : Snapshot). x.stamp) (open_snapshots past) snapshot m) (open_snapshots past) (All-contains_itself (open_snapshots past)))
+    (All-weaker (Contains (open_snapshots past)) (λ snapshot. Contains (stamps (open_snapshots past)) snapshot.stamp)
+    (λ snapshot m. in_map (λ (x : Snapshot). x.stamp) (open_snapshots past) snapshot m) (open_snapshots past)
+    (All-contains_itself (open_snapshots past)))
     (ap (stamp_in id) (sym h.snapshots) ∙ there))
 
 -- and list the same
-pub lists-alike : (rows others : List Row) (stamp : ℕ) (listing : List Pair) → ((key : List ℕ) → answer rows key stamp ≡ answer others key stamp) → IsListing rows stamp listing → IsListing others stamp listing
+pub lists-alike : (rows others : List Row) (stamp : ℕ) (listing : List Pair)
+    → ((key : List ℕ) → answer rows key stamp ≡ answer others key stamp) → IsListing rows stamp listing
+    → IsListing others stamp listing
 lists-alike rows others stamp listing alike is = record {
   ascending = is.ascending;
   exact = λ key value. (λ m. sym (alike key) ∙ (is.exact key value).0 m, λ e. (is.exact key value).1 (alike key ∙ e));
@@ -334,12 +421,23 @@ lists-alike rows others stamp listing alike is = record {
 
 -- the core with this register
 abbrev pub with_register : Kept → Register → Kept
-with_register kept register = record { links = kept.links; snapshots = register.snapshots; opened = register.opened; horizon = kept.horizon; rows = kept.rows }
+with_register kept register = record {
+  links = kept.links;
+  snapshots = register.snapshots;
+  opened = register.opened;
+  horizon = kept.horizon;
+  rows = kept.rows;
+}
 
 abbrev pub register_of : Kept → Register
 register_of kept = record { snapshots = kept.snapshots; opened = kept.opened }
 
 -- what the registry answers to a closing is what the core answers
-pub closes-result : (kept : Kept) (past : List Step) (id : ℕ) (new : Register) (result : Result ℕ NoSnapshot) → StandsFor kept past → IfOk result (λ stamp. (stamp_in id kept.snapshots ≡ Some stamp) × (new ≡ closed id (register_of kept))) → OnErr result ((stamp_in id kept.snapshots ≡ None) × (new ≡ register_of kept)) → Closes (with_register kept new) id past result
-closes-result kept past id new (Ok stamp) h ok err = subst (λ register. Closes (with_register kept register) id past (Ok stamp)) (sym ok.1) (closes kept past id stamp h ok.0)
+pub closes-result : (kept : Kept) (past : List Step) (id : ℕ) (new : Register) (result : Result ℕ NoSnapshot)
+    → StandsFor kept past
+    → IfOk result (λ stamp. (stamp_in id kept.snapshots ≡ Some stamp) × (new ≡ closed id (register_of kept)))
+    → OnErr result ((stamp_in id kept.snapshots ≡ None) × (new ≡ register_of kept))
+    → Closes (with_register kept new) id past result
+closes-result kept past id new (Ok stamp) h ok err = subst
+    (λ register. Closes (with_register kept register) id past (Ok stamp)) (sym ok.1) (closes kept past id stamp h ok.0)
 closes-result kept past id new (Err fault) h ok err = ap (stamp_in id) (sym h.snapshots) ∙ err.0

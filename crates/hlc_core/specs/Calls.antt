@@ -1,5 +1,6 @@
 -- What each call of a core does, for one past that the core stood for.
-use Rattle.std.specs.Prelude.{map, Contains, ◌↔◌, ◌≡◌, ℕ, ◌<◌, ◌≤◌, ◌+◌, ◌⊎◌, List, [], ◌∷◌, ◌==◌, ◌||◌, nat_lt, Option, Some, None, if◌then◌else◌, Result, Ok, Err, MatchResult, ⊤}
+use Rattle.std.specs.Prelude.{map, Contains, ◌↔◌, ◌≡◌, ℕ, ◌<◌, ◌≤◌, ◌+◌, ◌⊎◌, List, [], ◌∷◌, ◌==◌, ◌||◌, nat_lt, Option}
+use Rattle.std.specs.Prelude.{Some, None, if◌then◌else◌, Result, Ok, Err, MatchResult, ⊤}
 use Rattle.std.specs.List.Sorted.{IsPermutation, IsStrictlySortedBy}
 use Rattle.std.specs.Cmp.Lexicographic.{slice_cmp}
 use Rattle.std.specs.Ordering.{nat_cmp}
@@ -17,11 +18,13 @@ use Rattle.hlc_floor.specs.Heads.{Acceptance}
 use Rattle.hlc_witness.specs.Vacuumed.{rows_to}
 use Rattle.hlc_witness.specs.Certificate.{RowsAscend}
 use Rattle.hlc_vacuum.specs.declared.report.Report.{Report as AReport}
-use Rattle.hlc_core.specs.Past.{Step, Took, Opened, Closed, Vacuumed, count, floor, opened, stamp_of, writes, item_refusal, room_refusal, open_refusal}
+use Rattle.hlc_core.specs.Past.{Step, Took, Opened, Closed, Vacuumed, count, floor, opened, stamp_of, writes}
+use Rattle.hlc_core.specs.Past.{item_refusal, room_refusal, open_refusal}
 use Rattle.hlc_core.specs.Stored.{IsReport, LeavesFewest}
 use Rattle.hlc_core.specs.Kept.{Kept, nodes, StandsFor}
 
--- the call refused with the first reason that holds; or with want of memory, where there is none and the call may want it
+-- the call refused with the first reason that holds; or with want of memory,
+-- where there is none and the call may want it
 abbrev pub IsRefusal : Option CoreFault → Type 0 → CoreFault → Type 0
 IsRefusal due MayGrow fault = (due ≡ Some fault) ⊎ ((due ≡ None) × (fault ≡ NoMemory) × MayGrow)
 
@@ -46,13 +49,15 @@ Accepts old new item past (Err refused) = IsRefusal (item_refusal (nodes old) pa
 
 -- the same of an item that its owner goes on holding
 abbrev pub AcceptsCopy : Kept → Kept → Item → List Step → Result Acceptance CoreFault → Type 0
-AcceptsCopy old new item past (Ok accepted) = (item_refusal (nodes old) past item ≡ None) × StandsFor new (Took item ∷ past)
+AcceptsCopy old new item past (Ok accepted) =
+    (item_refusal (nodes old) past item ≡ None) × StandsFor new (Took item ∷ past)
 AcceptsCopy old new item past (Err fault) = IsRefusal (item_refusal (nodes old) past item) (IsWrite item.body) fault
 
 -- the answer to a check of an item is the refusal that is due
 abbrev pub Checks : Kept → Item → List Step → Result Unit CoreFault → Type 0
 Checks kept item past result =
-    MatchResult result (λ _. item_refusal (nodes kept) past item ≡ None) (λ fault. item_refusal (nodes kept) past item ≡ Some fault)
+    MatchResult result (λ _. item_refusal (nodes kept) past item ≡ None)
+    (λ fault. item_refusal (nodes kept) past item ≡ Some fault)
 
 -- the number of a node's accepted items, or that there is no such node
 abbrev pub Counts : ℕ → ℕ → List Step → Result ℕ NoSuchNode → Type 0
@@ -61,13 +66,15 @@ Counts nodes node past (Err fault) = nodes ≤ node
 
 -- a snapshot was opened at the stamp, with an id one above the number of those opened before, or refused
 abbrev pub Opens : Kept → Kept → ℕ → List Step → Result ℕ CoreFault → Type 0
-Opens old new stamp past (Ok id) = (open_refusal (nodes old) past stamp ≡ None) × (id ≡ opened past + 1) × StandsFor new (Opened stamp ∷ past)
+Opens old new stamp past (Ok id) =
+    (open_refusal (nodes old) past stamp ≡ None) × (id ≡ opened past + 1) × StandsFor new (Opened stamp ∷ past)
 Opens old new stamp past (Err fault) = IsRefusal (open_refusal (nodes old) past stamp) ⊤ fault
 
 -- a snapshot was opened at the floor, with an id one above the number of those opened before, or refused
 abbrev pub OpensAtFloor : Kept → Kept → List Step → Result (ℕ × ℕ) CoreFault → Type 0
 OpensAtFloor old new past (Ok opening) =
-    (room_refusal past ≡ None) × (opening ≡ (opened past + 1, floor (nodes old) past)) × StandsFor new (Opened (floor (nodes old) past) ∷ past)
+    (room_refusal past ≡ None) × (opening ≡ (opened past + 1, floor (nodes old) past))
+    × StandsFor new (Opened (floor (nodes old) past) ∷ past)
 OpensAtFloor old new past (Err fault) = IsRefusal (room_refusal past) ⊤ fault
 
 -- the snapshot was closed, and this was its stamp; or there was none of this id
@@ -78,7 +85,8 @@ Closes new id past (Err fault) = stamp_of id past ≡ None
 -- the listing at a stamp: the keys that have a value there, each once, in byte order, with that value
 pub record IsListing (rows : List Row) (stamp : ℕ) (listing : List Pair) : Type 0 where
   pub ascending : IsStrictlySortedBy (slice_cmp nat_cmp) (map (λ pair. pair.key) listing)
-  pub exact : (key value : List ℕ) → Contains listing (record { key = key; value = value }) ↔ (answer rows key stamp ≡ Some value)
+  pub exact : (key value : List ℕ)
+      → Contains listing (record { key = key; value = value }) ↔ (answer rows key stamp ≡ Some value)
 
 -- the listing of the snapshot at this stamp, if there is one
 abbrev pub IsListed : Option ℕ → List Row → List Pair → Type 0
@@ -100,8 +108,8 @@ pub record AreRowsTo (rows : List Row) (bound : ℕ) (listed : List Row) : Type 
   pub same : IsPermutation (rows_to bound rows) listed
   pub ascend : RowsAscend listed
 
--- a vacuum took place: the core stands for it, the report is the due one, and what is left are the fewest rows against all accepted
--- writes
+-- a vacuum took place: the core stands for it, the report is the due one, and what is left are the fewest rows against
+-- all accepted writes
 pub record Vacuums (old new : Kept) (past : List Step) (report : AReport) : Type 0 where
   pub stands : StandsFor new (Vacuumed ∷ past)
   pub due : IsReport (nodes old) past report

@@ -1,5 +1,5 @@
--- What is promised of a whole history, to be read aloud: each read and each vacuum, against all that was accepted before it, whatever
--- vacuums dropped.
+-- What is promised of a whole history, to be read aloud: each read and each vacuum, against all that was accepted
+-- before it, whatever vacuums dropped.
 use Rattle.std.specs.Prelude.{◌≡◌, ℕ, ◌≤◌, List, ◌∷◌, ◌++◌, length, Option, Some}
 use Rattle.hlc_node.specs.declared.row.Row.{Row}
 use Rattle.hlc_node.specs.Rows.{answer, IsRowSet}
@@ -18,23 +18,26 @@ pub record IsMoment (history before : List (CoreEvent × CoreReply)) : Type 0 wh
   pub later : List (CoreEvent × CoreReply)
   pub order : history ≡ later ++ before
 
--- each read at an open snapshot gave the value of the newest accepted write, by stamp and node, at or below the snapshot's stamp
+-- each read at an open snapshot gave the value of the newest accepted write, by stamp and node,
+-- at or below the snapshot's stamp
 abbrev pub ReadsAreNewest : List (CoreEvent × CoreReply) → Type 0
 ReadsAreNewest history =
     (before : List (CoreEvent × CoreReply)) (id : ℕ) (key : List ℕ) (value : Option (List ℕ))
     → IsMoment history ((Read id key, Answer value) ∷ before)
     → (stamp : ℕ) × (stamp_of id (past_of before) ≡ Some stamp) × (value ≡ answer (writes (past_of before)) key stamp)
 
--- each vacuum reported its points, the changes of all accepted writes there and their number, and no row set that answers alike at
--- the points is smaller than the number of rows that it kept
+-- each vacuum reported its points, the changes of all accepted writes there and their number, and no row set that
+-- answers alike at the points is smaller than the number of rows that it kept
 abbrev pub VacuumsAreLeast : ℕ → List (CoreEvent × CoreReply) → Type 0
 VacuumsAreLeast nodes history =
     (before : List (CoreEvent × CoreReply)) (report : Report)
     → IsMoment history ((Vacuum, Vacuumed report) ∷ before)
     → IsReport nodes (past_of before) report
-    × ((others : List Row) → IsRowSet others → Alike others (writes (past_of before)) report.points → report.kept ≤ length others)
+    × ((others : List Row) → IsRowSet others → Alike others (writes (past_of before)) report.points
+    → report.kept ≤ length others)
 
--- just after a vacuum the stored rows at or below its floor answer alike at its points, are as many as it kept, and are the fewest
+-- just after a vacuum the stored rows at or below its floor answer alike at its points, are as many as it kept,
+-- and are the fewest
 abbrev pub FewestAreLeft : List (CoreEvent × CoreReply) → List Row → Type 0
 FewestAreLeft history rows =
     (before : List (CoreEvent × CoreReply)) (report : Report)

@@ -1,19 +1,23 @@
--- What a store owes: the reply that is due to an event after what took place, and the histories in which each event was given its due.
+-- What a store owes: the reply that is due to an event after what took place,
+-- and the histories in which each event was given its due.
 use Rattle.std.specs.Prelude.{◌≡◌, ◌≢◌, ℕ, ◌+◌, List, [], ◌∷◌, Option, Some, None, Result, Ok, Err, ⊤}
 use Rattle.hlc_node.specs.Rows.{answer}
 use Rattle.hlc_core.specs.declared.fault.CoreFault.{CoreFault}
 use Rattle.hlc_core.specs.declared.event.CoreEvent.{CoreEvent}
-use Rattle.hlc_core.specs.declared.event.CoreEvent.TheVariants.{Accept, OpenAt, OpenFloor, Read, List as ListAll, Close, Vacuum}
+use Rattle.hlc_core.specs.declared.event.CoreEvent.TheVariants.{Accept, OpenAt, OpenFloor, Read, List as ListAll, Close}
+use Rattle.hlc_core.specs.declared.event.CoreEvent.TheVariants.{Vacuum}
 use Rattle.hlc_core.specs.declared.reply.CoreReply.{CoreReply}
-use Rattle.hlc_core.specs.declared.reply.CoreReply.TheVariants.{Accepted, Opened, Answer, Listing, Closed, Vacuumed, Refused}
-use Rattle.hlc_core.specs.Past.{Step, Took, Opened as OpenedAt, Closed as ClosedOf, Vacuumed as VacuumedAll, floor, opened, stamp_of, writes}
+use Rattle.hlc_core.specs.declared.reply.CoreReply.TheVariants.{Accepted, Opened, Answer, Listing, Closed, Vacuumed}
+use Rattle.hlc_core.specs.declared.reply.CoreReply.TheVariants.{Refused}
+use Rattle.hlc_core.specs.Past.{Step, Took, Opened as OpenedAt, Closed as ClosedOf, Vacuumed as VacuumedAll, floor}
+use Rattle.hlc_core.specs.Past.{opened, stamp_of, writes}
 use Rattle.hlc_core.specs.Past.{item_refusal, room_refusal, open_refusal}
 use Rattle.hlc_core.specs.Stored.{IsReport}
 use Rattle.hlc_core.specs.Kept.{Kept, nodes, StandsFor}
 use Rattle.hlc_core.specs.Calls.{IsWrite, IsListed, list_refusal}
 
--- Below, a history is the list of the events with their replies, the last one first. Want of memory is no reply: an event that is
--- handed back for it leaves no trace.
+-- Below, a history is the list of the events with their replies, the last one first. Want of memory is no reply: an
+-- event that is handed back for it leaves no trace.
 
 -- what an event did, if its reply says that it took place and was no question
 abbrev pub step_of : CoreEvent → CoreReply → Option Step
@@ -89,12 +93,14 @@ MayLackMemory past _ = ⊤
 
 -- after a history that the core stood for, the reply is due, and the core stands for the history with it
 abbrev pub IsStep : Kept → Kept → CoreEvent → List (CoreEvent × CoreReply) → CoreReply → Type 0
-IsStep old new event history reply = IsDue (nodes old) (past_of history) event reply × StandsForHistory new ((event, reply) ∷ history)
+IsStep old new event history reply =
+    IsDue (nodes old) (past_of history) event reply × StandsForHistory new ((event, reply) ∷ history)
 
 -- the event had its step; or no refusal is due, and it lacks memory, which it may want
 abbrev pub Steps : {E : Type 0} → Kept → Kept → CoreEvent → List (CoreEvent × CoreReply) → Result CoreReply E → Type 0
 Steps old new event history (Ok reply) = IsStep old new event history reply
-Steps old new event history (Err lack) = (refusal_due (nodes old) (past_of history) event ≡ None) × MayLackMemory (past_of history) event
+Steps old new event history (Err lack) =
+    (refusal_due (nodes old) (past_of history) event ≡ None) × MayLackMemory (past_of history) event
 
 -- the reply is a refusal
 abbrev pub IsRefused : CoreReply → Type 0

@@ -9,7 +9,8 @@ use Rattle.hlc_witness.specs.Standing.{RowsStandFor}
 use Rattle.hlc_core.specs.Past.{Step, count, head, horizon, opened, open_snapshots, writes, IsLegal}
 use Rattle.hlc_core.specs.Stored.{IsStoredCount}
 
--- what a core keeps: by node how far its link has come; the open snapshots; how many were opened; the horizon; the stored rows
+-- what a core keeps: by node how far its link has come; the open snapshots; how many were opened; the horizon;
+-- the stored rows
 pub record Kept : Type 0 where
   pub links : List Progress
   pub snapshots : List Snapshot
@@ -23,7 +24,8 @@ nodes kept = length kept.links
 
 -- with these rows left, at this horizon
 abbrev pub with_rows_left : Kept → List Row → ℕ → Kept
-with_rows_left kept rows horizon = record { links = kept.links; snapshots = kept.snapshots; opened = kept.opened; horizon = horizon; rows = rows }
+with_rows_left kept rows horizon =
+    record { links = kept.links; snapshots = kept.snapshots; opened = kept.opened; horizon = horizon; rows = rows }
 
 -- there are 1 to 64 links, and the heads are theirs
 pub record IsMatched (links : List Progress) (heads : List ℕ) : Type 0 where
@@ -37,11 +39,12 @@ pub record IsHeld (heads : List ℕ) (snapshots : List Snapshot) (rows : List Ro
   pub row_set : IsRowSet rows
   pub stored : All (λ row. (row.node < length heads) × (row.stamp ≤ slice_index_or heads row.node 0)) rows
 
--- The core stands for the past: whatever vacuums dropped, its rows answer as all accepted writes do at each open snapshot and from
--- the horizon on, and they are as many as they should be.
+-- The core stands for the past: whatever vacuums dropped, its rows answer as all accepted writes do at each open
+-- snapshot and from the horizon on, and they are as many as they should be.
 pub record StandsFor (kept : Kept) (past : List Step) : Type 0 where
   pub legal : IsLegal (nodes kept) past
-  pub links : (n : ℕ) → n < nodes kept → slice_get kept.links n ≡ Some (record { next = count n past; head = head n past })
+  pub links : (n : ℕ) → n < nodes kept
+      → slice_get kept.links n ≡ Some (record { next = count n past; head = head n past })
   pub snapshots : kept.snapshots ≡ open_snapshots past
   pub opened : kept.opened ≡ opened past
   pub rows : RowsStandFor kept.rows (writes past) (horizon (nodes kept) past) (stamps (open_snapshots past))

@@ -1,5 +1,6 @@
 -- What took place in a core, and what follows from it.
-use Rattle.std.specs.Prelude.{◌≡◌, ◌≢◌, ℕ, zero, suc, ◌+◌, List, [], ◌∷◌, ◌++◌, length, min, ◌==◌, not, nat_le, nat_lt, Option, Some, None, if◌then◌else◌, ⊤}
+use Rattle.std.specs.Prelude.{◌≡◌, ◌≢◌, ℕ, zero, suc, ◌+◌, List, [], ◌∷◌, ◌++◌, length, min, ◌==◌, not, nat_le, nat_lt}
+use Rattle.std.specs.Prelude.{Option, Some, None, if◌then◌else◌, ⊤}
 use Rattle.hlc_node.specs.declared.item.Item.{Item}
 use Rattle.hlc_node.specs.declared.row.Row.{Row}
 use Rattle.hlc_node.specs.declared.item.Body.{Body}
@@ -13,10 +14,12 @@ use Rattle.hlc_snapshot.specs.declared.snapshot.Snapshot.{Snapshot}
 use Rattle.hlc_snapshot.specs.declared.fault.SnapshotFault.{SnapshotFault}
 use Rattle.hlc_snapshot.specs.declared.fault.SnapshotFault.TheVariants as snapshot_fault
 use Rattle.hlc_snapshot.specs.Register.{stamp_in, without, room_refusal as room_in}
-use Rattle.hlc_core.specs.declared.fault.CoreFault.TheVariants.{NoNode, NotNext, StampNotRising, AboveFloor, BelowHorizon, TooManySnapshots, BadBody, NumbersSpent, NoMemory}
+use Rattle.hlc_core.specs.declared.fault.CoreFault.TheVariants.{NoNode, NotNext, StampNotRising, AboveFloor}
+use Rattle.hlc_core.specs.declared.fault.CoreFault.TheVariants.{BelowHorizon, TooManySnapshots, BadBody, NumbersSpent}
+use Rattle.hlc_core.specs.declared.fault.CoreFault.TheVariants.{NoMemory}
 
--- an event that took place: an item was accepted; a snapshot was opened at a stamp; the snapshot of an id was closed; rows were
--- vacuumed at the floor
+-- an event that took place: an item was accepted; a snapshot was opened at a stamp; the snapshot of an id was closed;
+-- rows were vacuumed at the floor
 pub data Step : Type 0 where
   Took : Item → Step
   Opened : ℕ → Step

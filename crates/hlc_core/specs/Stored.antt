@@ -20,7 +20,8 @@ AreVacuumPoints nodes past points = ArePoints (stamps (open_snapshots past)) (fl
 
 -- the changes of all accepted writes at the points of a vacuum after this past
 abbrev pub AreVacuumChanges : ℕ → List Step → List Witness → Type 0
-AreVacuumChanges nodes past changes = (points : List ℕ) × AreVacuumPoints nodes past points × AreChanges (writes past) points changes
+AreVacuumChanges nodes past changes =
+    (points : List ℕ) × AreVacuumPoints nodes past points × AreChanges (writes past) points changes
 
 -- those of the last vacuum; none before the first
 abbrev pub AreLastChanges : ℕ → List Step → List Witness → Type 0
@@ -31,21 +32,24 @@ AreLastChanges nodes (_ ∷ past) changes = AreLastChanges nodes past changes
 -- how many rows are stored: as many as the changes at the last vacuum and the accepted writes above the horizon
 abbrev pub IsStoredCount : ℕ → List Step → ℕ → Type 0
 IsStoredCount nodes past number =
-    (changes : List Witness) × AreLastChanges nodes past changes × (number ≡ length changes + count_above (horizon nodes past) (writes past))
+    (changes : List Witness) × AreLastChanges nodes past changes
+    × (number ≡ length changes + count_above (horizon nodes past) (writes past))
 
--- What a vacuum after this past reports. It drops the rows of the changes at the vacuum before and those of the accepted writes
--- between the horizons, but for as many as its own changes.
+-- What a vacuum after this past reports. It drops the rows of the changes at the vacuum before and those of the
+-- accepted writes between the horizons, but for as many as its own changes.
 pub record IsReport (nodes : ℕ) (past : List Step) (report : Report) : Type 0 where
   pub at_floor : report.floor ≡ floor nodes past
   pub points : AreVacuumPoints nodes past report.points
   pub witnesses : AreChanges (writes past) report.points report.witnesses
   pub kept : report.kept ≡ length report.witnesses
-  pub dropped : (before : List Witness) × AreLastChanges nodes past before × (report.dropped + report.kept ≡ length before + count_between (horizon nodes past) (floor nodes past) (writes past))
+  pub dropped : (before : List Witness) × AreLastChanges nodes past before × (report.dropped + report.kept
+      ≡ length before + count_between (horizon nodes past) (floor nodes past) (writes past))
 
--- What the vacuum of this report left: at or below its floor a row set, the fewest rows that answer as all do at its points, as many as
--- it reports. In the order of key, stamp and node its witnesses certify them.
+-- What the vacuum of this report left: at or below its floor a row set, the fewest rows that answer as all do at its
+-- points, as many as it reports. In the order of key, stamp and node its witnesses certify them.
 pub record LeavesFewest (rows all : List Row) (report : Report) : Type 0 where
   pub row_set : IsRowSet (rows_to report.floor rows)
   pub fewest : Fewest (rows_to report.floor rows) all report.points
   pub count : length (rows_to report.floor rows) ≡ report.kept
-  pub certified : (listed : List Row) → IsPermutation (rows_to report.floor rows) listed → RowsAscend listed → IsCertificate listed report.points report.witnesses
+  pub certified : (listed : List Row) → IsPermutation (rows_to report.floor rows) listed → RowsAscend listed
+      → IsCertificate listed report.points report.witnesses

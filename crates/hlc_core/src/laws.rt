@@ -30,30 +30,38 @@ pub fn accepted_writes_are_a_row_set()
 /// What is accepted after a past lies above its floor, so no later write changes what is read at
 /// the floor or below.
 pub fn later_items_are_above_the_floor()
-    ensures { (nodes : ℕ) (past : List Step) (item : AnItem) → item_refusal nodes past item ≡ None → floor nodes past < item.stamp }
+    ensures { (nodes : ℕ) (past : List Step) (item : AnItem) → item_refusal nodes past item ≡ None
+        → floor nodes past < item.stamp }
 {}
 
 /// No open snapshot is above the floor: it was not above it when it was opened, and the floor never
 /// falls.
 pub fn open_snapshots_are_at_most_the_floor()
-    ensures { (nodes : ℕ) (past : List Step) → IsLegal nodes past → All (λ snapshot. snapshot.stamp ≤ floor nodes past) (open_snapshots past) }
+    ensures { (nodes : ℕ) (past : List Step) → IsLegal nodes past
+        → All (λ snapshot. snapshot.stamp ≤ floor nodes past) (open_snapshots past) }
 {}
 
 /// The floor is the head of some node, and no head is below it.
 pub fn floor_is_the_least_head()
-    ensures some { (nodes : ℕ) (past : List Step) → 0 < nodes → (n : ℕ) × (n < nodes) × (head n past ≡ floor nodes past) }
+    ensures some { (nodes : ℕ) (past : List Step) → 0 < nodes
+        → (n : ℕ) × (n < nodes) × (head n past ≡ floor nodes past) }
     ensures least { (nodes : ℕ) (past : List Step) (n : ℕ) → n < nodes → floor nodes past ≤ head n past }
 {}
 
 /// There is one listing of some rows at a stamp.
 pub fn there_is_one_listing()
-    ensures { (rows : List ARow) (stamp : ℕ) (listing other : List APair) → IsListing rows stamp listing → IsListing rows stamp other → listing ≡ other }
+    ensures { (rows : List ARow) (stamp : ℕ) (listing other : List APair) → IsListing rows stamp listing
+        → IsListing rows stamp other → listing ≡ other }
 {}
 
 /// A vacuum of the stored rows at the points of the past keeps the core standing, reports what is
 /// due, and leaves the fewest.
 pub fn vacuums_keep_standing()
-    ensures { (kept : Kept) (past : List Step) (rows : List ARow) (report : AReport) → StandsFor kept past → AreVacuumPoints (nodes kept) past report.points → IsVacuumOf kept.rows report.points report.witnesses rows → report.floor ≡ floor (nodes kept) past → report.kept ≡ length report.witnesses → report.dropped + length rows ≡ length kept.rows → Vacuums kept (with_rows_left kept rows (floor (nodes kept) past)) past report }
+    ensures { (kept : Kept) (past : List Step) (rows : List ARow) (report : AReport)
+        → StandsFor kept past → AreVacuumPoints (nodes kept) past report.points
+        → IsVacuumOf kept.rows report.points report.witnesses rows → report.floor ≡ floor (nodes kept) past
+        → report.kept ≡ length report.witnesses → report.dropped + length rows ≡ length kept.rows
+        → Vacuums kept (with_rows_left kept rows (floor (nodes kept) past)) past report }
 {
     points_are_unique();
     changes_are_computed();
@@ -65,7 +73,8 @@ pub fn vacuums_keep_standing()
 
 /// Just after a vacuum the rows at or below its floor are the fewest, against all accepted writes.
 pub fn vacuums_leave_the_fewest()
-    ensures { (kept : Kept) (past : List Step) (report : AReport) → StandsFor kept (Vacuumed ∷ past) → IsReport (nodes kept) past report → LeavesFewest kept.rows (writes past) report }
+    ensures { (kept : Kept) (past : List Step) (report : AReport) → StandsFor kept (Vacuumed ∷ past)
+        → IsReport (nodes kept) past report → LeavesFewest kept.rows (writes past) report }
 {
     points_are_unique();
     changes_are_computed();
@@ -75,8 +84,10 @@ pub fn vacuums_leave_the_fewest()
 
 /// After a past one report of a vacuum is due at most, and one number of stored rows.
 pub fn there_is_one_report()
-    ensures report { (nodes : ℕ) (past : List Step) (report other : AReport) → IsReport nodes past report → IsReport nodes past other → report ≡ other }
-    ensures count { (nodes : ℕ) (past : List Step) (count other : ℕ) → IsStoredCount nodes past count → IsStoredCount nodes past other → count ≡ other }
+    ensures report { (nodes : ℕ) (past : List Step) (report other : AReport) → IsReport nodes past report
+        → IsReport nodes past other → report ≡ other }
+    ensures count { (nodes : ℕ) (past : List Step) (count other : ℕ) → IsStoredCount nodes past count
+        → IsStoredCount nodes past other → count ≡ other }
 {
     points_are_unique();
     changes_are_computed();
@@ -85,7 +96,8 @@ pub fn there_is_one_report()
 /// A core is faithful to each history that it stands for: its reads gave the newest accepted values,
 /// its vacuums were the least, and left the fewest rows.
 pub fn histories_are_faithful()
-    ensures { (kept : Kept) (history : List (AnEvent × AReply)) → StandsForHistory kept history → IsFaithful (nodes kept) history kept.rows }
+    ensures { (kept : Kept) (history : List (AnEvent × AReply)) → StandsForHistory kept history
+        → IsFaithful (nodes kept) history kept.rows }
 {
     changes_force_rows();
     vacuums_leave_the_fewest();

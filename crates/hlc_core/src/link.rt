@@ -9,7 +9,10 @@ use hlc_node::{Item, body_fault};
 /// The intake of the item's link once it has admitted the item; or the first reason to refuse the
 /// item, memory aside.
 pub fn admitted(intakes: &[Intake], item: &Item) -> Result<Intake, CoreFault>
-    ensures { MatchOption (slice_get intakes.now item.now.node) (result ≡ Err CoreFault.NoNode) (λ link. MatchResult result (λ new. (link_refusal link.next link.head item.now ≡ None) × (new ≡ record { next = item.now.number + 1; head = item.now.stamp })) (λ fault. link_refusal link.next link.head item.now ≡ Some fault)) }
+    ensures { MatchOption (slice_get intakes.now item.now.node) (result ≡ Err CoreFault.NoNode)
+        (λ link. MatchResult result (λ new. (link_refusal link.next link.head item.now ≡ None)
+        × (new ≡ record { next = item.now.number + 1; head = item.now.stamp }))
+        (λ fault. link_refusal link.next link.head item.now ≡ Some fault)) }
 {
     let Some(intake) = intakes.get(item.node as usize) else {
         return Err(CoreFault::NoNode);

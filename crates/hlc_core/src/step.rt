@@ -18,7 +18,8 @@ impl Core {
     ///
     /// A refusal is a reply, but for want of memory: then the event comes back, and nothing changed.
     pub fn step(&mut self, event: CoreEvent) -> Result<CoreReply, (NoMemory, CoreEvent)>
-        ensures stands { (history : List (AnEvent × AReply)) → StandsForHistory self.old history → Steps self.old self.new event history result }
+        ensures stands { (history : List (AnEvent × AReply)) → StandsForHistory self.old history
+            → Steps self.old self.new event history result }
         ensures err { IfErr result (λ back. (back.1 ≡ event) × (self.new ≡ self.old)) }
         ensures refused { IfOk result (λ reply. IsRefused reply → self.new ≡ self.old) }
         ensures copied { IfOk result (λ reply. event ≢ CoreEvent.Vacuum → (IsPlain reply → ⊥) → self.new ≡ self.old) }
@@ -36,10 +37,12 @@ impl Core {
 
     /// The same for an event that its owner goes on holding.
     pub fn step_ref(&mut self, event: &CoreEvent) -> Result<CoreReply, NoMemory>
-        ensures stands { (history : List (AnEvent × AReply)) → StandsForHistory self.old history → Steps self.old self.new event.now history result }
+        ensures stands { (history : List (AnEvent × AReply)) → StandsForHistory self.old history
+            → Steps self.old self.new event.now history result }
         ensures err { OnErr result (self.new ≡ self.old) }
         ensures refused { IfOk result (λ reply. IsRefused reply → self.new ≡ self.old) }
-        ensures copied { IfOk result (λ reply. event.now ≢ CoreEvent.Vacuum → (IsPlain reply → ⊥) → self.new ≡ self.old) }
+        ensures copied { IfOk result
+            (λ reply. event.now ≢ CoreEvent.Vacuum → (IsPlain reply → ⊥) → self.new ≡ self.old) }
         ensures form { IfOk result (λ reply. IsReplyTo event.now reply) }
         ensures nodes { nodes self.new ≡ nodes self.old }
     {
@@ -55,7 +58,8 @@ impl Core {
     }
 
     fn step_accept(&mut self, item: Item) -> Result<CoreReply, (NoMemory, CoreEvent)>
-        ensures stands { (history : List (AnEvent × AReply)) → StandsForHistory self.old history → Steps self.old self.new (AnEvent.Accept item) history result }
+        ensures stands { (history : List (AnEvent × AReply)) → StandsForHistory self.old history
+            → Steps self.old self.new (AnEvent.Accept item) history result }
         ensures err { IfErr result (λ back. (back.1 ≡ AnEvent.Accept item) × (self.new ≡ self.old)) }
         ensures refused { IfOk result (λ reply. IsRefused reply → self.new ≡ self.old) }
         ensures plain { IfOk result IsPlain }
@@ -75,7 +79,8 @@ impl Core {
     }
 
     fn step_accept_copy(&mut self, item: &Item) -> Result<CoreReply, NoMemory>
-        ensures stands { (history : List (AnEvent × AReply)) → StandsForHistory self.old history → Steps self.old self.new (AnEvent.Accept item.now) history result }
+        ensures stands { (history : List (AnEvent × AReply)) → StandsForHistory self.old history
+            → Steps self.old self.new (AnEvent.Accept item.now) history result }
         ensures err { OnErr result (self.new ≡ self.old) }
         ensures refused { IfOk result (λ reply. IsRefused reply → self.new ≡ self.old) }
         ensures plain { IfOk result IsPlain }
@@ -89,7 +94,8 @@ impl Core {
     }
 
     fn step_open(&mut self, stamp: Stamp) -> Result<CoreReply, NoMemory>
-        ensures stands { (history : List (AnEvent × AReply)) → StandsForHistory self.old history → Steps self.old self.new (AnEvent.OpenAt stamp) history result }
+        ensures stands { (history : List (AnEvent × AReply)) → StandsForHistory self.old history
+            → Steps self.old self.new (AnEvent.OpenAt stamp) history result }
         ensures err { OnErr result (self.new ≡ self.old) }
         ensures refused { IfOk result (λ reply. IsRefused reply → self.new ≡ self.old) }
         ensures plain { IfOk result IsPlain }
@@ -103,7 +109,8 @@ impl Core {
     }
 
     fn step_open_floor(&mut self) -> Result<CoreReply, NoMemory>
-        ensures stands { (history : List (AnEvent × AReply)) → StandsForHistory self.old history → Steps self.old self.new AnEvent.OpenFloor history result }
+        ensures stands { (history : List (AnEvent × AReply)) → StandsForHistory self.old history
+            → Steps self.old self.new AnEvent.OpenFloor history result }
         ensures err { OnErr result (self.new ≡ self.old) }
         ensures refused { IfOk result (λ reply. IsRefused reply → self.new ≡ self.old) }
         ensures plain { IfOk result IsPlain }
@@ -117,7 +124,8 @@ impl Core {
     }
 
     fn step_read(&self, id: u64, key: &Bytes) -> Result<CoreReply, NoMemory>
-        ensures stands { (history : List (AnEvent × AReply)) → StandsForHistory self.now history → Steps self.now self.now (AnEvent.Read id key.now) history result }
+        ensures stands { (history : List (AnEvent × AReply)) → StandsForHistory self.now history
+            → Steps self.now self.now (AnEvent.Read id key.now) history result }
         ensures form { IfOk result (λ reply. IsReplyTo (AnEvent.Read id key.now) reply) }
     {
         match self.read(id, key.as_slice()) {
@@ -131,7 +139,8 @@ impl Core {
     }
 
     fn step_list(&self, id: u64) -> Result<CoreReply, NoMemory>
-        ensures stands { (history : List (AnEvent × AReply)) → StandsForHistory self.now history → Steps self.now self.now (AnEvent.List id) history result }
+        ensures stands { (history : List (AnEvent × AReply)) → StandsForHistory self.now history
+            → Steps self.now self.now (AnEvent.List id) history result }
         ensures form { IfOk result (λ reply. IsReplyTo (AnEvent.List id) reply) }
     {
         match self.list(id) {
@@ -141,7 +150,8 @@ impl Core {
     }
 
     fn step_close(&mut self, id: u64) -> CoreReply
-        ensures stands { (history : List (AnEvent × AReply)) → StandsForHistory self.old history → IsStep self.old self.new (AnEvent.Close id) history result }
+        ensures stands { (history : List (AnEvent × AReply)) → StandsForHistory self.old history
+            → IsStep self.old self.new (AnEvent.Close id) history result }
         ensures refused { IsRefused result → self.new ≡ self.old }
         ensures plain { IsPlain result }
         ensures form { IsReplyTo (AnEvent.Close id) result }
@@ -154,7 +164,8 @@ impl Core {
     }
 
     fn step_vacuum(&mut self) -> Result<CoreReply, NoMemory>
-        ensures stands { (history : List (AnEvent × AReply)) → StandsForHistory self.old history → Steps self.old self.new AnEvent.Vacuum history result }
+        ensures stands { (history : List (AnEvent × AReply)) → StandsForHistory self.old history
+            → Steps self.old self.new AnEvent.Vacuum history result }
         ensures err { OnErr result (self.new ≡ self.old) }
         ensures form { IfOk result (λ reply. IsReplyTo AnEvent.Vacuum reply) }
         ensures nodes { nodes self.new ≡ nodes self.old }

@@ -1,5 +1,6 @@
 -- The greatest node of one place more: the greater of the two where the place holds the stamp, and else the one before.
-use Rattle.std.proofs.Common.{◌≡◌, ℕ, ◌+◌, ◌<◌, ◌≤◌, ◌∙◌, sym, max, get_or, subst, List, Option, Some, None, arith, inl, inr}
+use Rattle.std.proofs.Common.{◌≡◌, ℕ, ◌+◌, ◌<◌, ◌≤◌, ◌∙◌, sym, max, get_or, subst, List, Option, Some, None, arith, inl}
+use Rattle.std.proofs.Common.{inr}
 use Rattle.std.specs.Prelude.{unwrap_or}
 use Rattle.std.proofs.lemmas.Bool.{cases_lt, cases_eq}
 use Rattle.hlc_lanes.specs.Places.{IsGreatestNodeBelow}
@@ -11,24 +12,41 @@ more P i below here k lt =
       | inr other ↦ below k (omega (arith, other))
     ]
 
-yes : (stamps nodes : List ℕ) (stamp i : ℕ) (best : Option ℕ) → IsGreatestNodeBelow stamps nodes stamp i best → get_or stamps i 0 ≡ stamp → IsGreatestNodeBelow stamps nodes stamp (i + 1) (Some (max (unwrap_or best 0) (get_or nodes i 0)))
-yes stamps nodes stamp i None before here =
-    ((i, omega arith, here, omega arith), more (λ k. get_or stamps k 0 ≡ stamp → get_or nodes k 0 ≤ max 0 (get_or nodes i 0)) i (λ k below is. absurd (before k below is)) (λ is. omega arith))
+yes : (stamps nodes : List ℕ) (stamp i : ℕ) (best : Option ℕ)
+    → IsGreatestNodeBelow stamps nodes stamp i best → get_or stamps i 0 ≡ stamp
+    → IsGreatestNodeBelow stamps nodes stamp (i + 1) (Some (max (unwrap_or best 0) (get_or nodes i 0)))
+yes stamps nodes stamp i None before here = (
+  (i, omega arith, here, omega arith),
+  more (λ k. get_or stamps k 0 ≡ stamp → get_or nodes k 0 ≤ max 0 (get_or nodes i 0)) i
+      (λ k below is. absurd (before k below is)) (λ is. omega arith),
+)
 yes stamps nodes stamp i (Some best) (found, most) here = (
   elim (cases_lt best (get_or nodes i 0)) [
     | inl larger ↦ (i, omega arith, here, omega arith)
     | inr smaller ↦ (found.0, omega (arith, found.1), found.2, found.3 ∙ omega arith)
   ],
-  more (λ k. get_or stamps k 0 ≡ stamp → get_or nodes k 0 ≤ max best (get_or nodes i 0)) i (λ k below is. omega (arith, most k below is)) (λ is. omega arith),
+  more (λ k. get_or stamps k 0 ≡ stamp → get_or nodes k 0 ≤ max best (get_or nodes i 0)) i
+      (λ k below is. omega (arith, most k below is)) (λ is. omega arith),
 )
 
-pub node_yes : (stamps nodes : List ℕ) (stamp i : ℕ) (best next : Option ℕ) → IsGreatestNodeBelow stamps nodes stamp i best → get_or stamps i 0 ≡ stamp → next ≡ Some (max (unwrap_or best 0) (get_or nodes i 0)) → IsGreatestNodeBelow stamps nodes stamp (i + 1) next
-node_yes stamps nodes stamp i best next before here is = subst (λ (o : Option ℕ). IsGreatestNodeBelow stamps nodes stamp (i + 1) o) (sym is) (yes stamps nodes stamp i best before here)
+pub node_yes : (stamps nodes : List ℕ) (stamp i : ℕ) (best next : Option ℕ)
+    → IsGreatestNodeBelow stamps nodes stamp i best → get_or stamps i 0 ≡ stamp
+    → next ≡ Some (max (unwrap_or best 0) (get_or nodes i 0)) → IsGreatestNodeBelow stamps nodes stamp (i + 1) next
+node_yes stamps nodes stamp i best next before here is =
+    subst (λ (o : Option ℕ). IsGreatestNodeBelow stamps nodes stamp (i + 1) o) (sym is)
+    (yes stamps nodes stamp i best before here)
 
-no : (stamps nodes : List ℕ) (stamp i : ℕ) (best : Option ℕ) → IsGreatestNodeBelow stamps nodes stamp i best → (get_or stamps i 0 ≡ stamp → ⊥) → IsGreatestNodeBelow stamps nodes stamp (i + 1) best
+no : (stamps nodes : List ℕ) (stamp i : ℕ) (best : Option ℕ) → IsGreatestNodeBelow stamps nodes stamp i best
+    → (get_or stamps i 0 ≡ stamp → ⊥) → IsGreatestNodeBelow stamps nodes stamp (i + 1) best
 no stamps nodes stamp i None before other = more (λ k. get_or stamps k 0 ≡ stamp → ⊥) i before other
-no stamps nodes stamp i (Some best) (found, most) other =
-    ((found.0, omega (arith, found.1), found.2, found.3), more (λ k. get_or stamps k 0 ≡ stamp → get_or nodes k 0 ≤ best) i most (λ is. absurd (other is)))
+no stamps nodes stamp i (Some best) (found, most) other = (
+  (found.0, omega (arith, found.1), found.2, found.3),
+  more (λ k. get_or stamps k 0 ≡ stamp → get_or nodes k 0 ≤ best) i most (λ is. absurd (other is)),
+)
 
-pub node_no : (stamps nodes : List ℕ) (stamp i : ℕ) (best next : Option ℕ) → IsGreatestNodeBelow stamps nodes stamp i best → (get_or stamps i 0 ≡ stamp → ⊥) → next ≡ best → IsGreatestNodeBelow stamps nodes stamp (i + 1) next
-node_no stamps nodes stamp i best next before other is = subst (λ (o : Option ℕ). IsGreatestNodeBelow stamps nodes stamp (i + 1) o) (sym is) (no stamps nodes stamp i best before other)
+pub node_no : (stamps nodes : List ℕ) (stamp i : ℕ) (best next : Option ℕ)
+    → IsGreatestNodeBelow stamps nodes stamp i best → (get_or stamps i 0 ≡ stamp → ⊥) → next ≡ best
+    → IsGreatestNodeBelow stamps nodes stamp (i + 1) next
+node_no stamps nodes stamp i best next before other is =
+    subst (λ (o : Option ℕ). IsGreatestNodeBelow stamps nodes stamp (i + 1) o) (sym is)
+    (no stamps nodes stamp i best before other)

@@ -8,7 +8,8 @@ pub record Progress : Type 0 where
   pub next : ℕ
   pub head : ℕ
 
--- an item of this number and stamp is the link's next one: it bears the next number, one is left after it, and its stamp is above the last one
+-- an item of this number and stamp is the link's next one: it bears the next number, one is left after it,
+-- and its stamp is above the last one
 pub record IsNextItem (link : Progress) (number stamp : ℕ) : Type 0 where
   pub in_turn : number ≡ link.next
   pub left : number < 18446744073709551615

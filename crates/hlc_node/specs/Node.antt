@@ -40,7 +40,8 @@ unless_bad (Some fault) rest = Err (BadBody fault)
 -- the stamp of the node's next item, by why what it says is refused, if it is; or the first reason that there is none
 abbrev pub issue_after : Option BodyFault → Node → ℕ → Result ℕ NodeFault
 issue_after refusal node reading =
-    unless_bad refusal (if node.next == 18446744073709551615 then Err NumbersSpent else clocked (stamp_due (node.last ∷ []) reading))
+    unless_bad refusal
+    (if node.next == 18446744073709551615 then Err NumbersSpent else clocked (stamp_due (node.last ∷ []) reading))
 
 -- the stamp of the node's next item, if it says this; or the first reason that there is none
 abbrev pub issue_due : Node → Body → ℕ → Result ℕ NodeFault

@@ -1,6 +1,7 @@
--- The receipts of each caller are the trail's calls of that caller, in order: both lists rise by number and hold the same
--- receipts.
-use Rattle.std.proofs.Common.{◌≡◌, ℕ, suc, zero, ◌+◌, ◌<◌, ◌≤◌, ◌⊎◌, inl, inr, ⊎_elim, List, [], ◌∷◌, length, Bool, true, false}
+-- The receipts of each caller are the trail's calls of that caller, in order: both lists rise by number and hold the
+-- same receipts.
+use Rattle.std.proofs.Common.{◌≡◌, ℕ, suc, zero, ◌+◌, ◌<◌, ◌≤◌, ◌⊎◌, inl, inr, ⊎_elim, List, [], ◌∷◌, length, Bool}
+use Rattle.std.proofs.Common.{true, false}
 use Rattle.std.proofs.Common.{◌==◌, Option, Some, None, slice_get, refl, sym, ap, ◌∙◌, subst, arith}
 use Rattle.std.specs.Prelude.{if◌then◌else◌}
 use Rattle.std.proofs.lemmas.Bool.Decides.{nat_tests}
@@ -46,19 +47,22 @@ same_rising n (x ∷ xs) (y ∷ ys) a b f g =
     let nums : x.number ≡ y.number = ap (λ (z : Receipt). z.number) same in
     let b' : Above m ys = lower m (y.number + 1) ys (omega arith) b.1 in
     let rest = same_rising m xs ys a.1 b'
-    (λ r i. ⊎_elim (λ e. absurd (omega (arith, in_above m r xs a.1 i, ap (λ (z : Receipt). z.number) e))) (λ j. j) (f r (inr i)))
+    (λ r i. ⊎_elim (λ e. absurd (omega (arith, in_above m r xs a.1 i, ap (λ (z : Receipt). z.number) e)))
+    (λ j. j) (f r (inr i)))
     (λ r i. ⊎_elim (λ e. absurd (omega (arith, in_above m r ys b' i, ap (λ (z : Receipt). z.number) e))) (λ j. j)
     (g r (inr i))) in
     cc (same, rest)
   where
-    heads : (n : ℕ) (x y : Receipt) (xs ys : List Receipt) → Above n (x ∷ xs) → Above n (y ∷ ys) → In x (y ∷ ys) → In y (x ∷ xs)
+    heads : (n : ℕ) (x y : Receipt) (xs ys : List Receipt) → Above n (x ∷ xs) → Above n (y ∷ ys)
+        → In x (y ∷ ys) → In y (x ∷ xs)
         → x ≡ y
     heads n x y xs ys a b (inl e) j = e
     heads n x y xs ys a b (inr i) (inl e) = sym e
     heads n x y xs ys a b (inr i) (inr j) =
         absurd (omega (arith, in_above (y.number + 1) x ys b.1 i, in_above (x.number + 1) y xs a.1 j))
 
-if_case : {A : Type 0} (b : Bool) (x y : A) (P : A → Type 0) → (b ≡ true → P x) → (b ≡ false → P y) → P (if b then x else y)
+if_case : {A : Type 0} (b : Bool) (x y : A) (P : A → Type 0) → (b ≡ true → P x) → (b ≡ false → P y)
+    → P (if b then x else y)
 if_case true x y P f g = f refl
 if_case false x y P f g = g refl
 
@@ -96,7 +100,8 @@ entries_above : (k n : ℕ) (es : List Entry) → Above n (of_caller k (receipts
 unfolding Above
 entries_above k n [] = tt
 entries_above k n (e ∷ es) =
-    if_case (e.caller == k) (receipt_of n e ∷ of_caller k (receipts_from (n + 1) es)) (of_caller k (receipts_from (n + 1) es))
+    if_case (e.caller == k) (receipt_of n e ∷ of_caller k (receipts_from (n + 1) es))
+    (of_caller k (receipts_from (n + 1) es))
     (λ rs. Above n rs)
     (λ is. (omega arith, entries_above k (n + 1) es))
     (λ is. lower n (n + 1) _ (omega arith) (entries_above k (n + 1) es))
@@ -107,7 +112,8 @@ in_of_caller k r [] is i = absurd i
 in_of_caller k r (x ∷ xs) is i =
     if_case (x.caller == k) (x ∷ of_caller k xs) (of_caller k xs) (λ rs. In r rs)
     (λ here. ⊎_elim (λ e. inl e) (λ j. inr (in_of_caller k r xs is j)) i)
-    (λ away. ⊎_elim (λ e. absurd (false≢true (sym away ∙ eq_is x.caller k (ap (λ (y : Receipt). y.caller) (sym e) ∙ is))))
+    (λ away.
+    ⊎_elim (λ e. absurd (false≢true (sym away ∙ eq_is x.caller k (ap (λ (y : Receipt). y.caller) (sym e) ∙ is))))
     (λ j. in_of_caller k r xs is j) i)
 
 of_caller_in : (k : ℕ) (r : Receipt) (rs : List Receipt) → In r (of_caller k rs) → (r.caller ≡ k) × In r rs
@@ -120,7 +126,8 @@ of_caller_in k r (x ∷ xs) =
     (λ away i. let p = of_caller_in k r xs i in (p.0, inr p.1))
 
 -- a receipt that stands in the trail is one of those due for it
-due_of : (n m : ℕ) (es : List Entry) (r : Receipt) → slice_get es m ≡ Some (entry r.caller r.event r.reply) → r.number ≡ n + m
+due_of : (n m : ℕ) (es : List Entry) (r : Receipt) → slice_get es m ≡ Some (entry r.caller r.event r.reply)
+    → r.number ≡ n + m
     → In r (receipts_from n es)
 unfolding In
 due_of n m [] r at is = absurd (cc)
@@ -142,9 +149,11 @@ stands_of n (e ∷ es) r (inl same) = (
   omega arith,
   ap (λ (x : Receipt). Some (entry x.caller x.event x.reply)) (sym same),
 )
-stands_of n (e ∷ es) r (inr i) = let p = stands_of (n + 1) es r i in (suc p.0, omega (arith, p.1), omega (arith, p.2), p.3)
+stands_of n (e ∷ es) r (inr i) = let p = stands_of (n + 1) es r i in
+    (suc p.0, omega (arith, p.1), omega (arith, p.2), p.3)
 
-good_stands : (t : List Entry) (b : Option (ℕ × ℕ)) (cs : List Claim) (r : Receipt) → AreGood t b cs → In r (receipts_in cs)
+good_stands : (t : List Entry) (b : Option (ℕ × ℕ)) (cs : List Claim) (r : Receipt) → AreGood t b cs
+    → In r (receipts_in cs)
     → StandsIn t r
 unfolding In
 good_stands t b [] r g i = absurd i

@@ -1,6 +1,7 @@
--- A trail with one call more is the history with that call as its last event, by induction on the trail; so one call more keeps a
--- trail legal and the core standing for it.
-use Rattle.std.proofs.Common.{Bool, true, false, ◌≡◌, ℕ, ◌+◌, List, [], ◌∷◌, ◌++◌, length, Option, Some, None, refl, ap, sym}
+-- A trail with one call more is the history with that call as its last event, by induction on the trail; so one call
+-- more keeps a trail legal and the core standing for it.
+use Rattle.std.proofs.Common.{Bool, true, false, ◌≡◌, ℕ, ◌+◌, List, [], ◌∷◌, ◌++◌, length, Option, Some, None, refl, ap}
+use Rattle.std.proofs.Common.{sym}
 use Rattle.std.proofs.Common.{◌∙◌, subst, arith, length-append}
 use Rattle.std.specs.Prelude.{if◌then◌else◌}
 use Rattle.std.specs.Option.{ForSome}
@@ -18,11 +19,13 @@ history_after-push history [] e = refl
 history_after-push history (x ∷ trail) e = history_after-push ((x.event, x.reply) ∷ history) trail e
 
 -- the last entry is the last event
-pub history_of-push : (trail : List Entry) (e : Entry) → history_of (trail ++ e ∷ []) ≡ (e.event, e.reply) ∷ history_of trail
+pub history_of-push : (trail : List Entry) (e : Entry)
+    → history_of (trail ++ e ∷ []) ≡ (e.event, e.reply) ∷ history_of trail
 history_of-push trail e = history_after-push [] trail e
 
 -- One call more keeps the trail legal, the core standing for it, and the count.
-pub audited_more : (old new : Kept) (trail trail' : Option (List Entry)) (caller : ℕ) (event : CoreEvent) (reply : CoreReply)
+pub audited_more : (old new : Kept) (trail trail' : Option (List Entry)) (caller : ℕ) (event : CoreEvent)
+    (reply : CoreReply)
     (total total' : ℕ)
     → ForSome trail (λ t. IsAudited old t total) → trail' ≡ with_entry trail (entry caller event reply)
     → ((history : List (CoreEvent × CoreReply)) → StandsForHistory old history → IsStep old new event history reply)

@@ -1,8 +1,10 @@
--- Good receipts, one after another, and how many there can be: their callers and numbers rise, and each stands in the trail, so
--- they are no
+-- Good receipts, one after another, and how many there can be: their callers and numbers rise, and each stands in the
+-- trail, so they are no
 -- more than its entries; and where they are as many, each entry is the one of some receipt.
-use Rattle.std.proofs.Common.{◌≡◌, ℕ, suc, zero, ◌+◌, ◌<◌, ◌≤◌, ◌⊎◌, inl, inr, ⊎_elim, List, [], ◌∷◌, ◌++◌, length, map, take}
-use Rattle.std.proofs.Common.{Bool, true, false, ◌&&◌, ◌||◌, not, ◌==◌, nat_lt, Option, Some, None, slice_get, refl, sym, ap}
+use Rattle.std.proofs.Common.{◌≡◌, ℕ, suc, zero, ◌+◌, ◌<◌, ◌≤◌, ◌⊎◌, inl, inr, ⊎_elim, List, [], ◌∷◌, ◌++◌, length, map}
+use Rattle.std.proofs.Common.{take}
+use Rattle.std.proofs.Common.{Bool, true, false, ◌&&◌, ◌||◌, not, ◌==◌, nat_lt, Option, Some, None, slice_get, refl}
+use Rattle.std.proofs.Common.{sym, ap}
 use Rattle.std.proofs.Common.{◌∙◌, subst, arith, append_assoc, length-append, drop, get_or, length-take}
 use Rattle.std.specs.Prelude.{if◌then◌else◌}
 use Rattle.std.proofs.lemmas.Bool.Decides.{nat_tests}
@@ -10,16 +12,20 @@ use Rattle.hlc_server.specs.declared.entry.Entry.{Entry}
 use Rattle.hlc_server.specs.declared.entry.Receipt.{Receipt}
 use Rattle.hlc_server.specs.Trails.{entry}
 use Rattle.std.specs.declared.vec.Vec.{Vec}
-use Rattle.std.proofs.lemmas.List.{take_more, append-nil, take-append-le, take-append-drop, map-append, length-map, take-map}
+use Rattle.std.proofs.lemmas.List.{take_more, append-nil, take-append-le, take-append-drop, map-append, length-map}
+use Rattle.std.proofs.lemmas.List.{take-map}
 use Rattle.hlc_server.specs.Seats.{Seat}
-use Rattle.hlc_server.specs.Settling.{Claim, claim, claims_of, IsFirstBad, key_of, IsBelow, IsGood, AreGood, IsSettled, last_key}
+use Rattle.hlc_server.specs.Settling.{Claim, claim, claims_of, IsFirstBad, key_of, IsBelow, IsGood, AreGood, IsSettled}
+use Rattle.hlc_server.specs.Settling.{last_key}
 
 -- each entry of the trail is that of a receipt
 abbrev pub AllTold : List Entry → List Claim → Type 0
 AllTold trail claims =
-    (number : ℕ) → number < length trail → (i : ℕ) × (c : Claim) × (slice_get claims i ≡ Some c) × (c.receipt.number ≡ number)
+    (number : ℕ) → number < length trail
+    → (i : ℕ) × (c : Claim) × (slice_get claims i ≡ Some c) × (c.receipt.number ≡ number)
 
-pub good-append : (t : List Entry) (b : Option (ℕ × ℕ)) (xs ys : List Claim) → AreGood t b xs → AreGood t (last_key b xs) ys
+pub good-append : (t : List Entry) (b : Option (ℕ × ℕ)) (xs ys : List Claim) → AreGood t b xs
+    → AreGood t (last_key b xs) ys
     → AreGood t b (xs ++ ys)
 good-append t b [] ys g h = h
 good-append t b (x ∷ xs) ys g h = (g.0, good-append t (Some (key_of x.receipt)) xs ys g.1 h)
@@ -77,7 +83,8 @@ fewer-le p q h n [] = omega arith
 fewer-le p q h n (e ∷ es) = omega (arith, one_le (q n e) (p n e) (h n e), fewer-le p q h (n + 1) es)
 
 -- where one entry passes p and not q, and each that passes q passes p, fewer pass q
-fewer : (p q : ℕ → Entry → Bool) → ((n : ℕ) (e : Entry) → q n e ≡ true → p n e ≡ true) → (n m : ℕ) (es : List Entry) (x : Entry)
+fewer : (p q : ℕ → Entry → Bool) → ((n : ℕ) (e : Entry) → q n e ≡ true → p n e ≡ true)
+    → (n m : ℕ) (es : List Entry) (x : Entry)
     → slice_get es m ≡ Some x → p (n + m) x ≡ true → q (n + m) x ≡ false → counts q n es < counts p n es
 unfolding counts
 fewer p q h n m [] x at passes fails = absurd (cc)
@@ -90,7 +97,8 @@ fewer p q h n zero (e ∷ es) x at passes fails =
 fewer p q h n (suc m) (e ∷ es) x at passes fails =
     let here : n + suc m ≡ (n + 1) + m = omega arith in
     let rest =
-    fewer p q h (n + 1) m es x at (ap (λ (k : ℕ). p k x) (sym here) ∙ passes) (ap (λ (k : ℕ). q k x) (sym here) ∙ fails) in
+    fewer p q h (n + 1) m es x at (ap (λ (k : ℕ). p k x) (sym here) ∙ passes)
+    (ap (λ (k : ℕ). q k x) (sym here) ∙ fails) in
     omega (arith, one_le (q n e) (p n e) (h n e), rest)
 
 -- the receipts' numbers pass a test
@@ -113,7 +121,8 @@ candidates : (ℕ → Bool) → Option (ℕ × ℕ) → ℕ → Entry → Bool
 candidates test b n e = test n && is_above b (e.caller, n)
 
 -- good receipts are no more than the entries above the one before
-good-bound : (t : List Entry) (test : ℕ → Bool) (b : Option (ℕ × ℕ)) (cs : List Claim) → AreGood t b cs → AllPass test cs
+good-bound : (t : List Entry) (test : ℕ → Bool) (b : Option (ℕ × ℕ)) (cs : List Claim)
+    → AreGood t b cs → AllPass test cs
     → length cs ≤ counts (candidates test b) 0 t
 unfolding AllPass candidates
 good-bound t test b [] g pass = omega arith
@@ -123,11 +132,14 @@ good-bound t test b (c ∷ cs) g pass =
     let x = entry c.receipt.caller c.receipt.event c.receipt.reply in
     let m = c.receipt.number in
     let here : 0 + m ≡ m = omega arith in
-    let passes : candidates test b (0 + m) x ≡ true = rw here (both_true (test m) (is_above b k) pass.0 (above_of b k g.0.2)) in
-    let fails : candidates test (Some k) (0 + m) x ≡ false = rw here (and_false (test m) (is_above (Some k) k) (not_above k)) in
+    let passes : candidates test b (0 + m) x ≡ true =
+    rw here (both_true (test m) (is_above b k) pass.0 (above_of b k g.0.2)) in
+    let fails : candidates test (Some k) (0 + m) x ≡ false =
+    rw here (and_false (test m) (is_above (Some k) k) (not_above k)) in
     let less =
     fewer (candidates test b) (candidates test (Some k))
-    (λ n e h. let p = and_true (test n) _ h in both_true (test n) _ p.0 (above_above b k (e.caller, n) g.0.2 p.1)) 0 m t x
+    (λ n e h. let p = and_true (test n) _ h in
+    both_true (test n) _ p.0 (above_above b k (e.caller, n) g.0.2 p.1)) 0 m t x
     g.0.0 passes fails in
     omega (arith, rest, less)
 
@@ -138,7 +150,8 @@ all_pass (c ∷ cs) = (refl, all_pass cs)
 
 -- good receipts are no more than the entries
 pub good-le : (t : List Entry) (b : Option (ℕ × ℕ)) (cs : List Claim) → AreGood t b cs → length cs ≤ length t
-good-le t b cs g = omega (arith, good-bound t (λ n. true) b cs g (all_pass cs), counts-le (candidates (λ n. true) b) 0 t)
+good-le t b cs g =
+    omega (arith, good-bound t (λ n. true) b cs g (all_pass cs), counts-le (candidates (λ n. true) b) 0 t)
 
 Told : ℕ → List Claim → Type 0
 Told number cs = (i : ℕ) × (c : Claim) × (slice_get cs i ≡ Some c) × (c.receipt.number ≡ number)
@@ -148,7 +161,8 @@ unfolding Told AllPass
 told_or_not number [] = inr tt
 told_or_not number (c ∷ cs) = go (c.receipt.number == number) refl (told_or_not number cs)
   where
-    go : (b : Bool) → (c.receipt.number == number) ≡ b → (Told number cs ⊎ AllPass (λ n. not (n == number)) cs) → Told number
+    go : (b : Bool) → (c.receipt.number == number) ≡ b
+        → (Told number cs ⊎ AllPass (λ n. not (n == number)) cs) → Told number
         (c ∷ cs) ⊎ AllPass (λ n. not (n == number)) (c ∷ cs)
     go true is rest = inl (0, c, refl, grind (arith, nat_tests))
     go false is (inl h) = inl (suc h.0, h.1, h.2, h.3)
@@ -170,18 +184,22 @@ all_told t cs s number lt = ⊎_elim (λ h. h) (λ none. absurd (fails none)) (t
         let bound = good-bound t test None cs s.0 none in
         let here : 0 + number ≡ number = omega arith in
         let same : (number == number) ≡ true = grind (arith, nat_tests) in
-        let less = fewer (λ n e. true) (candidates test None) (λ n e h. refl) 0 number t x.0 x.1 refl (rw here (rw same refl)) in
+        let less = fewer (λ n e. true) (candidates test None) (λ n e h. refl) 0 number t x.0 x.1 refl
+        (rw here (rw same refl)) in
         omega (arith, bound, less, counts-le (λ n e. true) 0 t, s.1)
 
-pub claims_of-append : {Z : Type 0} (xs ys : List (Seat × Vec Receipt Z)) → claims_of (xs ++ ys) ≡ claims_of xs ++ claims_of ys
+pub claims_of-append : {Z : Type 0} (xs ys : List (Seat × Vec Receipt Z))
+    → claims_of (xs ++ ys) ≡ claims_of xs ++ claims_of ys
 claims_of-append [] ys = refl
 claims_of-append (x ∷ xs) ys =
     ap (λ (cs : List Claim). map (claim x.0.number) x.1.items ++ cs) (claims_of-append xs ys) ∙ sym
     (append_assoc (map (claim x.0.number) x.1.items) (claims_of xs) (claims_of ys))
 
 -- the claims of one list more
-pub claims_more : {Z : Type 0} (lists : List (Seat × Vec Receipt Z)) (i : ℕ) (x : Seat × Vec Receipt Z) → i < length lists
-    → x ≡ get_or lists i x → claims_of (take (i + 1) lists) ≡ claims_of (take i lists) ++ map (claim x.0.number) x.1.items
+pub claims_more : {Z : Type 0} (lists : List (Seat × Vec Receipt Z)) (i : ℕ) (x : Seat × Vec Receipt Z)
+    → i < length lists
+    → x ≡ get_or lists i x
+    → claims_of (take (i + 1) lists) ≡ claims_of (take i lists) ++ map (claim x.0.number) x.1.items
 claims_more {Z} lists i x lt is =
     ap claims_of (take_more lists i x lt ∙ ap (λ (y : Seat × Vec Receipt Z). take i lists ++ y ∷ []) (sym is))
     ∙ claims_of-append (take i lists) (x ∷ []) ∙ ap (λ (cs : List Claim). claims_of (take i lists) ++ cs)
@@ -200,7 +218,8 @@ take_past (x ∷ xs) ys k =
     ap (λ (n : ℕ). take n (x ∷ (xs ++ ys))) e ∙ ap (λ (l : List Claim). x ∷ l) (take_past xs ys k)
 
 -- the first bad receipt, within the list of one caller
-pub first_within : (t : List Entry) (front list rest all : List Claim) (k : ℕ) → all ≡ (front ++ list) ++ rest → k < length list
+pub first_within : (t : List Entry) (front list rest all : List Claim) (k : ℕ)
+    → all ≡ (front ++ list) ++ rest → k < length list
     → AreGood t None front → AreGood t (last_key None front) (take k list)
     → ¬ AreGood t (last_key None front) (take (k + 1) list) → IsFirstBad t all (length front + k)
 first_within t front list rest all k is lt good here bad =
@@ -209,16 +228,19 @@ first_within t front list rest all k is lt good here bad =
     λ n le. ap (λ (l : List Claim). take (length front + n) l) whole ∙ take_past front (list ++ rest) n ∙ ap
     (λ (l : List Claim). front ++ l) (take-append-le n list rest le) in
     let next : length front + k + 1 ≡ length front + (k + 1) = omega arith in (
-      subst (λ (l : List Claim). AreGood t None l) (sym (cut k (omega arith))) (good-append t None front (take k list) good here),
+      subst (λ (l : List Claim). AreGood t None l) (sym (cut k (omega arith)))
+          (good-append t None front (take k list) good here),
       inl (
         omega (arith, ap length whole, length-append front (list ++ rest), length-append list rest),
         λ g. bad (good-rest t None front (take (k + 1) list)
-            (subst (λ (l : List Claim). AreGood t None l) (ap (λ (n : ℕ). take n all) next ∙ cut (k + 1) (omega arith)) g)),
+            (subst (λ (l : List Claim). AreGood t None l)
+            (ap (λ (n : ℕ). take n all) next ∙ cut (k + 1) (omega arith)) g)),
       ),
     )
 
 -- a front and a good part of the next list are no more than the entries
-pub fits_within : (t : List Entry) (front list : List Claim) → AreGood t None front → AreGood t (last_key None front) list
+pub fits_within : (t : List Entry) (front list : List Claim) → AreGood t None front
+    → AreGood t (last_key None front) list
     → length front + length list ≤ length t
 fits_within t front list good here =
     omega (arith, length-append front list, good-le t None (front ++ list) (good-append t None front list good here))
@@ -226,34 +248,40 @@ fits_within t front list good here =
 map_more : (by : ℕ) (xs : List Receipt) (i : ℕ) (x : Receipt) → i < length xs → x ≡ get_or xs i x
     → map (claim by) (take (i + 1) xs) ≡ map (claim by) (take i xs) ++ claim by x ∷ []
 map_more by xs i x lt is =
-    ap (map (claim by)) (take_more xs i x lt ∙ ap (λ (y : Receipt). take i xs ++ y ∷ []) (sym is)) ∙ map-append (claim by)
+    ap (map (claim by)) (take_more xs i x lt ∙ ap (λ (y : Receipt). take i xs ++ y ∷ []) (sym is))
+    ∙ map-append (claim by)
     (take i xs) (x ∷ [])
 
 -- one good receipt more
 pub one_more_good : (t : List Entry) (b last : Option (ℕ × ℕ)) (by : ℕ) (xs : List Receipt) (i : ℕ) (x : Receipt)
     → i < length xs → x ≡ get_or xs i x
-    → AreGood t b (map (claim by) (take i xs)) → last ≡ last_key b (map (claim by) (take i xs)) → IsGood t last (claim by x)
+    → AreGood t b (map (claim by) (take i xs)) → last ≡ last_key b (map (claim by) (take i xs))
+    → IsGood t last (claim by x)
     → AreGood t b (map (claim by) (take (i + 1) xs)) × (Some (key_of x) ≡ last_key b (map (claim by) (take (i + 1) xs)))
 one_more_good t b last by xs i x lt is good key here =
     let front = map (claim by) (take i xs) in
     let more = map_more by xs i x lt is in (
       subst (λ (l : List Claim). AreGood t b l) (sym more)
-          (good-append t b front (claim by x ∷ []) good (subst (λ (k : Option (ℕ × ℕ)). IsGood t k (claim by x)) key here, tt)),
+          (good-append t b front (claim by x ∷ []) good
+          (subst (λ (k : Option (ℕ × ℕ)). IsGood t k (claim by x)) key here, tt)),
       sym (ap (last_key b) more ∙ last_key-append b front (claim by x ∷ [])),
     )
 
 -- one bad receipt more
-pub one_more_bad : (t : List Entry) (b last : Option (ℕ × ℕ)) (by : ℕ) (xs : List Receipt) (i : ℕ) (x : Receipt) → i < length xs
+pub one_more_bad : (t : List Entry) (b last : Option (ℕ × ℕ)) (by : ℕ) (xs : List Receipt) (i : ℕ) (x : Receipt)
+    → i < length xs
     → x ≡ get_or xs i x
     → last ≡ last_key b (map (claim by) (take i xs)) → ¬ IsGood t last (claim by x)
     → ¬ AreGood t b (map (claim by) (take (i + 1) xs))
 one_more_bad t b last by xs i x lt is key bad good =
     let front = map (claim by) (take i xs) in
     bad (subst (λ (k : Option (ℕ × ℕ)). IsGood t k (claim by x)) (sym key)
-    (good-rest t b front (claim by x ∷ []) (subst (λ (l : List Claim). AreGood t b l) (map_more by xs i x lt is) good)).0)
+    (good-rest t b front (claim by x ∷ [])
+    (subst (λ (l : List Claim). AreGood t b l) (map_more by xs i x lt is) good)).0)
 
 -- one caller's good receipts more
-pub list_good : {Z : Type 0} (t : List Entry) (lists : List (Seat × Vec Receipt Z)) (i : ℕ) (x : Seat × Vec Receipt Z) (by : ℕ)
+pub list_good : {Z : Type 0} (t : List Entry) (lists : List (Seat × Vec Receipt Z)) (i : ℕ)
+    (x : Seat × Vec Receipt Z) (by : ℕ)
     (items : List Receipt) (last key : Option (ℕ × ℕ)) (count len : ℕ)
     → i < length lists → x ≡ get_or lists i x → by ≡ x.0.number → items ≡ x.1.items
     → AreGood t None (claims_of (take i lists)) → last ≡ last_key None (claims_of (take i lists)) → count ≡ length
@@ -280,12 +308,14 @@ list_good t lists i x by items last key count len lt is by_is items_is good last
     )
 
 -- a bad receipt in one caller's list
-pub list_bad : {Z : Type 0} (t : List Entry) (lists : List (Seat × Vec Receipt Z)) (i : ℕ) (x : Seat × Vec Receipt Z) (by : ℕ)
+pub list_bad : {Z : Type 0} (t : List Entry) (lists : List (Seat × Vec Receipt Z)) (i : ℕ)
+    (x : Seat × Vec Receipt Z) (by : ℕ)
     (items : List Receipt) (last : Option (ℕ × ℕ)) (count k : ℕ)
     → i < length lists → x ≡ get_or lists i x → by ≡ x.0.number → items ≡ x.1.items
     → AreGood t None (claims_of (take i lists)) → last ≡ last_key None (claims_of (take i lists)) → count ≡ length
     (claims_of (take i lists))
-    → (k < length items) × AreGood t last (map (claim by) (take k items)) × ¬ AreGood t last (map (claim by) (take (k + 1) items))
+    → (k < length items) × AreGood t last (map (claim by) (take k items))
+    × ¬ AreGood t last (map (claim by) (take (k + 1) items))
     → IsFirstBad t (claims_of lists) (count + k) × (count + k ≤ length t)
 list_bad t lists i x by items last count k lt is by_is items_is good last_is count_is bad =
     let front = claims_of (take i lists) in
@@ -294,7 +324,8 @@ list_bad t lists i x by items last count k lt is by_is items_is good last_is cou
     let more : claims_of (take (i + 1) lists) ≡ front ++ list =
     claims_more lists i x lt is ∙ ap (λ (l : List Receipt). front ++ map (claim x.0.number) l) (sym items_is) ∙ ap
     (λ (n : ℕ). front ++ map (claim n) items) (sym by_is) in
-    let all : claims_of lists ≡ (front ++ list) ++ rest = claims_split lists (i + 1) ∙ ap (λ (l : List Claim). l ++ rest) more in
+    let all : claims_of lists ≡ (front ++ list) ++ rest = claims_split lists (i + 1)
+    ∙ ap (λ (l : List Claim). l ++ rest) more in
     let P : List Claim → Type 0 = λ l. AreGood t (last_key None front) l in
     let here : P (take k list) =
     subst P (sym (take-map (claim by) k items))

@@ -11,8 +11,8 @@ use Rattle.hlc_server.specs.declared.entry.NotDone.TheVariants.{NumbersSpent}
 use Rattle.hlc_server.specs.Seats.{Seat}
 use Rattle.hlc_server.specs.Trails.{Lock, entry, with_entry, history_of}
 
--- The call was made: the share counts it; the receipt bears the caller's number, the event, a reply of that event's form, and a
--- number that counts the caller's own calls before.
+-- The call was made: the share counts it; the receipt bears the caller's number, the event, a reply of that event's
+-- form, and a number that counts the caller's own calls before.
 pub record IsMade (caller : Seat) (event : CoreEvent) (after : Seat) (receipt : Receipt) : Type 0 where
   pub number : after.number ≡ caller.number
   pub share : after.share ≡ caller.share + 1
@@ -28,17 +28,20 @@ pub record IsNotMade (caller : Seat) (event : CoreEvent) (after : Seat) (back : 
 
 -- what a call of the shared store tells its caller
 abbrev pub IsToldFor : Seat → CoreEvent → (Seat × Result Receipt (NotDone × CoreEvent)) → Type 0
-IsToldFor caller event told = MatchResult told.1 (λ receipt. IsMade caller event told.0 receipt) (λ back. IsNotMade caller event told.0 back.1)
+IsToldFor caller event told =
+    MatchResult told.1 (λ receipt. IsMade caller event told.0 receipt) (λ back. IsNotMade caller event told.0 back.1)
 
--- What happens under the lock where the call is made. The receipt's number is that of all calls before it. The trail has one entry
--- more: this caller, the event and the reply of the receipt. The reply is due after the history that the trail tells, and so with no
--- trail: after each history that the core stood for, the reply is due and the core stands for the history with it.
+-- What happens under the lock where the call is made. The receipt's number is that of all calls before it. The trail
+-- has one entry more: this caller, the event and the reply of the receipt. The reply is due after the history that the
+-- trail tells, and so with no trail: after each history that the core stood for,
+-- the reply is due and the core stands for the history with it.
 pub record IsHeld (old new : Lock) (event : CoreEvent) (receipt : Receipt) : Type 0 where
   pub number : receipt.number ≡ old.calls
   pub calls : new.calls ≡ old.calls + 1
   pub trail : new.trail ≡ with_entry old.trail (entry receipt.caller receipt.event receipt.reply)
   pub due : ForSome old.trail (λ trail. IsDue (nodes old.core) (past_of (history_of trail)) event receipt.reply)
-  pub step : (history : List (CoreEvent × CoreReply)) → StandsForHistory old.core history → IsStep old.core new.core event history receipt.reply
+  pub step : (history : List (CoreEvent × CoreReply)) → StandsForHistory old.core history
+      → IsStep old.core new.core event history receipt.reply
 
 -- where it is not made nothing changed; no number is left exactly where the book is full, and else there was no memory
 pub record IsLeft (old new : Lock) (fault : NotDone) : Type 0 where

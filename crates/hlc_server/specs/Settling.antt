@@ -1,5 +1,6 @@
 -- When the receipts of all callers settle with the trail, and what that says.
-use Rattle.std.specs.Prelude.{◌≡◌, ℕ, ◌+◌, ◌<◌, ◌⊎◌, List, [], ◌∷◌, ◌++◌, length, map, filter, ◌==◌, take, slice_get, Option, Some, None, Result, Ok, Err, ⊤}
+use Rattle.std.specs.Prelude.{◌≡◌, ℕ, ◌+◌, ◌<◌, ◌⊎◌, List, [], ◌∷◌, ◌++◌, length, map, filter, ◌==◌, take, slice_get}
+use Rattle.std.specs.Prelude.{Option, Some, None, Result, Ok, Err, ⊤}
 use Rattle.std.specs.declared.vec.Vec.{Vec}
 use Rattle.hlc_core.specs.Kept.{nodes}
 use Rattle.hlc_core.specs.History.{IsLegalHistory, StandsForHistory}
@@ -41,7 +42,8 @@ IsBelow (Some a) b = (a.0 < b.0) ⊎ ((a.0 ≡ b.0) × (a.1 < b.1))
 
 -- the receipt stands in the trail, bears the number of the caller who hands it in, and comes after the one before
 abbrev pub IsGood : List Entry → Option (ℕ × ℕ) → Claim → Type 0
-IsGood trail before one = StandsIn trail one.receipt × (one.receipt.caller ≡ one.by) × IsBelow before (key_of one.receipt)
+IsGood trail before one =
+    StandsIn trail one.receipt × (one.receipt.caller ≡ one.by) × IsBelow before (key_of one.receipt)
 
 -- each of these receipts is good, after this caller and number
 abbrev pub AreGood : List Entry → Option (ℕ × ℕ) → List Claim → Type 0
@@ -56,7 +58,8 @@ IsSettled trail claims = AreGood trail None claims × (length claims ≡ length 
 abbrev pub IsFirstBad : List Entry → List Claim → ℕ → Type 0
 IsFirstBad trail claims index =
     AreGood trail None (take index claims)
-    × (((index < length claims) × ¬ AreGood trail None (take (index + 1) claims)) ⊎ ((index ≡ length claims) × (length claims ≡ length trail → ⊥)))
+    × (((index < length claims) × ¬ AreGood trail None (take (index + 1) claims))
+    ⊎ ((index ≡ length claims) × (length claims ≡ length trail → ⊥)))
 
 -- the caller and number of the last of these receipts, or else the one before them
 abbrev pub last_key : Option (ℕ × ℕ) → List Claim → Option (ℕ × ℕ)
@@ -82,10 +85,11 @@ receipts_in claims = map (λ (one : Claim). one.receipt) claims
 
 -- each caller was told the trail's calls of that caller, each once and in their order
 abbrev pub EachIsTold : List Entry → List Claim → Type 0
-EachIsTold trail claims = (caller : ℕ) → of_caller caller (receipts_in claims) ≡ of_caller caller (receipts_from 0 trail)
+EachIsTold trail claims = (caller : ℕ)
+    → of_caller caller (receipts_in claims) ≡ of_caller caller (receipts_from 0 trail)
 
--- The receipts settle with the trail of the lock. Then all replies that were told are those of one legal history, each call once, in
--- the order of each caller's own calls; the core stands for that history, and is faithful to it.
+-- The receipts settle with the trail of the lock. Then all replies that were told are those of one legal history, each
+-- call once, in the order of each caller's own calls; the core stands for that history, and is faithful to it.
 pub record Settles (lock : Lock) (claims : List Claim) (settled : Settled) : Type 0 where
   pub trail : List Entry
   pub kept : lock.trail ≡ Some trail
@@ -101,4 +105,5 @@ pub record Settles (lock : Lock) (claims : List Claim) (settled : Settled) : Typ
 abbrev pub IsSettlement : Lock → List Claim → Result Settled SettleFault → Type 0
 IsSettlement lock claims (Ok settled) = Settles lock claims settled
 IsSettlement lock claims (Err NoTrail) = lock.trail ≡ None
-IsSettlement lock claims (Err (ReceiptMismatch index)) = (trail : List Entry) × (lock.trail ≡ Some trail) × IsFirstBad trail claims index
+IsSettlement lock claims (Err (ReceiptMismatch index)) =
+    (trail : List Entry) × (lock.trail ≡ Some trail) × IsFirstBad trail claims index

@@ -8,7 +8,8 @@ use Rattle.hlc_core.specs.History.{IsLegalHistory, StandsForHistory}
 use Rattle.hlc_server.specs.declared.entry.Entry.{Entry}
 use Rattle.hlc_server.specs.declared.trail.Trail.{Trail}
 
--- what lies under the lock: a core; the calls that it took, the first of them first, where they are kept; and how many there were
+-- what lies under the lock: a core; the calls that it took, the first of them first, where they are kept;
+-- and how many there were
 pub record Lock : Type 0 where
   pub core : Kept
   pub trail : Option (List Entry)

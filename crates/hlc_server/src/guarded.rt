@@ -1,5 +1,6 @@
 //! What lies under the lock, and the calls there.
-ghost use Rattle.std.specs.Prelude.{◌≡◌, ◌≢◌, ◌<◌, ◌≤◌, ◌+◌, ◌-◌, ◌^◌, ◌++◌, ◌∷◌, [], ⊤, List, Some, None, IfOk, OnErr, MatchResult, map, if◌then◌else◌};
+ghost use Rattle.std.specs.Prelude.{◌≡◌, ◌≢◌, ◌<◌, ◌≤◌, ◌+◌, ◌-◌, ◌^◌, ◌++◌, ◌∷◌, [], ⊤, List, Some, None, IfOk, OnErr};
+ghost use Rattle.std.specs.Prelude.{MatchResult, map, if◌then◌else◌};
 ghost use Rattle.std.specs.Option.{ForSome};
 ghost use Rattle.std.specs.List.{range_with_len};
 ghost use Rattle.hlc_core.specs.Kept.{nodes as nodes_of};
@@ -60,9 +61,11 @@ impl<L: Ledger> Guarded<L> {
     ) -> Result<(Guarded<L>, Vec<Caller<L>>), CoreFault>
         requires ledger { (blank.name ≡ L.name) × (blank.parts ≡ L.parts) }
         requires callers { (0 < callers) × (blank.parts ≡ callers) }
-        ensures made { MatchResult result (λ made. new_refusal nodes ≡ None) (λ fault. IsRefusal (new_refusal nodes) ⊤ fault) }
+        ensures made { MatchResult result (λ made. new_refusal nodes ≡ None)
+            (λ fault. IsRefusal (new_refusal nodes) ⊤ fault) }
         ensures callers { IfOk result (λ made. made.1.items ≡ map fresh (range_with_len 0 callers)) }
-        ensures fresh { IfOk result (λ made. (nodes_of made.0.core ≡ nodes) × StandsForHistory made.0.core [] × (made.0.trail ≡ (if audit then Some [] else None)) × (made.0.calls ≡ 0)) }
+        ensures fresh { IfOk result (λ made. (nodes_of made.0.core ≡ nodes) × StandsForHistory made.0.core []
+            × (made.0.trail ≡ (if audit then Some [] else None)) × (made.0.calls ≡ 0)) }
     {
         let core = Core::new(alloc, nodes)?;
         let (book, share) = blank.open::<L>();
@@ -203,8 +206,10 @@ fn make_call(
     event: &CoreEvent,
 ) -> Result<CoreReply, NoMemory>
     ensures form { IfOk result (λ reply. IsReplyTo event.now reply) }
-    ensures trail { IfOk result (λ reply. entries_of trail.new ≡ with_entry (entries_of trail.old) (entry caller event.now reply)) }
-    ensures step { IfOk result (λ reply. (history : List (AnEvent × AReply)) → StandsForHistory core.old history → IsStep core.old core.new event.now history reply) }
+    ensures trail { IfOk result
+        (λ reply. entries_of trail.new ≡ with_entry (entries_of trail.old) (entry caller event.now reply)) }
+    ensures step { IfOk result (λ reply. (history : List (AnEvent × AReply)) → StandsForHistory core.old history
+        → IsStep core.old core.new event.now history reply) }
     ensures err { OnErr result ((core.new ≡ core.old) × (entries_of trail.new ≡ entries_of trail.old)) }
 {
     match trail {
@@ -226,8 +231,10 @@ fn write_call(
 ) -> Result<CoreReply, NoMemory>
     requires { event.now ≢ AnEvent.Vacuum }
     ensures form { IfOk result (λ reply. IsReplyTo event.now reply) }
-    ensures trail { IfOk result (λ reply. trail.new.entries.items ≡ trail.old.entries.items ++ entry caller event.now reply ∷ []) }
-    ensures step { IfOk result (λ reply. (history : List (AnEvent × AReply)) → StandsForHistory core.old history → IsStep core.old core.new event.now history reply) }
+    ensures trail { IfOk result
+        (λ reply. trail.new.entries.items ≡ trail.old.entries.items ++ entry caller event.now reply ∷ []) }
+    ensures step { IfOk result (λ reply. (history : List (AnEvent × AReply)) → StandsForHistory core.old history
+        → IsStep core.old core.new event.now history reply) }
     ensures err { OnErr result ((core.new ≡ core.old) × (trail.new.entries.items ≡ trail.old.entries.items)) }
 {
     let Ok(written) = event.clone() else {
@@ -251,8 +258,10 @@ fn write_call(
 /// Vacuums the core, and makes the entry of that. Both reports are made before anything changes.
 fn write_vacuum(core: &mut Core, trail: &mut Trail, caller: u16) -> Result<CoreReply, NoMemory>
     ensures form { IfOk result (λ reply. IsReplyTo AnEvent.Vacuum reply) }
-    ensures trail { IfOk result (λ reply. trail.new.entries.items ≡ trail.old.entries.items ++ entry caller AnEvent.Vacuum reply ∷ []) }
-    ensures step { IfOk result (λ reply. (history : List (AnEvent × AReply)) → StandsForHistory core.old history → IsStep core.old core.new AnEvent.Vacuum history reply) }
+    ensures trail { IfOk result
+        (λ reply. trail.new.entries.items ≡ trail.old.entries.items ++ entry caller AnEvent.Vacuum reply ∷ []) }
+    ensures step { IfOk result (λ reply. (history : List (AnEvent × AReply)) → StandsForHistory core.old history
+        → IsStep core.old core.new AnEvent.Vacuum history reply) }
     ensures err { OnErr result ((core.new ≡ core.old) × (trail.new.entries.items ≡ trail.old.entries.items)) }
 {
     let Ok(()) = trail.entries.reserve(1) else {
@@ -275,8 +284,10 @@ fn make_vacuum(
     caller: u16,
 ) -> Result<CoreReply, NoMemory>
     ensures form { IfOk result (λ reply. IsReplyTo AnEvent.Vacuum reply) }
-    ensures trail { IfOk result (λ reply. entries_of trail.new ≡ with_entry (entries_of trail.old) (entry caller AnEvent.Vacuum reply)) }
-    ensures step { IfOk result (λ reply. (history : List (AnEvent × AReply)) → StandsForHistory core.old history → IsStep core.old core.new AnEvent.Vacuum history reply) }
+    ensures trail { IfOk result
+        (λ reply. entries_of trail.new ≡ with_entry (entries_of trail.old) (entry caller AnEvent.Vacuum reply)) }
+    ensures step { IfOk result (λ reply. (history : List (AnEvent × AReply)) → StandsForHistory core.old history
+        → IsStep core.old core.new AnEvent.Vacuum history reply) }
     ensures err { OnErr result ((core.new ≡ core.old) × (entries_of trail.new ≡ entries_of trail.old)) }
 {
     match trail {
@@ -296,8 +307,10 @@ fn write_parallel_vacuum(
     caller: u16,
 ) -> Result<CoreReply, NoMemory>
     ensures form { IfOk result (λ reply. IsReplyTo AnEvent.Vacuum reply) }
-    ensures trail { IfOk result (λ reply. trail.new.entries.items ≡ trail.old.entries.items ++ entry caller AnEvent.Vacuum reply ∷ []) }
-    ensures step { IfOk result (λ reply. (history : List (AnEvent × AReply)) → StandsForHistory core.old history → IsStep core.old core.new AnEvent.Vacuum history reply) }
+    ensures trail { IfOk result
+        (λ reply. trail.new.entries.items ≡ trail.old.entries.items ++ entry caller AnEvent.Vacuum reply ∷ []) }
+    ensures step { IfOk result (λ reply. (history : List (AnEvent × AReply)) → StandsForHistory core.old history
+        → IsStep core.old core.new AnEvent.Vacuum history reply) }
     ensures err { OnErr result ((core.new ≡ core.old) × (trail.new.entries.items ≡ trail.old.entries.items)) }
 {
     let Ok(()) = trail.entries.reserve(1) else {

@@ -1,4 +1,5 @@
-//! A store that threads share: one lock, a trail of the calls under it, and receipts that can be checked against the trail.
+//! A store that threads share: one lock, a trail of the calls under it,
+//! and receipts that can be checked against the trail.
 #![tactic(auto)]
 
 mod caller;

@@ -1,7 +1,8 @@
 //! Compares the receipts of all callers with the trail, once all threads have ended.
 ghost use Rattle.std.specs.Prelude.{◌≡◌, ◌+◌, ◌<◌, ◌↔◌, length, map, take, IsTrue, IfOk, IfErr, IfSome, IfNone};
 ghost use Rattle.hlc_server.specs.Trails.{Lock};
-ghost use Rattle.hlc_server.specs.Settling.{claim, claims_of, StandsIn, key_of, IsBelow, IsGood, AreGood, IsSettled, IsFirstBad, IsSettlement, last_key};
+ghost use Rattle.hlc_server.specs.Settling.{claim, claims_of, StandsIn, key_of, IsBelow, IsGood, AreGood, IsSettled};
+ghost use Rattle.hlc_server.specs.Settling.{IsFirstBad, IsSettlement, last_key};
 
 use crate::caller::Caller;
 use crate::entry::{Entry, Receipt};
@@ -108,8 +109,11 @@ fn look_through(
     receipts: &[Receipt],
     before: Option<(u16, u64)>,
 ) -> Result<Option<(u16, u64)>, usize>
-    ensures good { IfOk result (λ last. AreGood trail.now before (map (claim by) receipts.now) × (last ≡ last_key before (map (claim by) receipts.now))) }
-    ensures bad { IfErr result (λ i. (i < length receipts.now) × AreGood trail.now before (map (claim by) (take i receipts.now)) × ¬ AreGood trail.now before (map (claim by) (take (i + 1) receipts.now))) }
+    ensures good { IfOk result (λ last. AreGood trail.now before (map (claim by) receipts.now)
+        × (last ≡ last_key before (map (claim by) receipts.now))) }
+    ensures bad { IfErr result
+        (λ i. (i < length receipts.now) × AreGood trail.now before (map (claim by) (take i receipts.now))
+        × ¬ AreGood trail.now before (map (claim by) (take (i + 1) receipts.now))) }
 {
     let mut last = before;
     for (i, receipt) in receipts.iter().enumerate() {

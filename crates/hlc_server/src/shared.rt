@@ -38,7 +38,9 @@ impl<L: Ledger> Shared<L> {
     ) -> Result<(Shared<L>, Vec<Caller<L>>), CoreFault>
         requires ledger { (blank.name ≡ L.name) × (blank.parts ≡ L.parts) }
         requires callers { (0 < callers) × (blank.parts ≡ callers) }
-        ensures { MatchResult result (λ made. (new_refusal nodes ≡ None) × (made.1.items ≡ map fresh (range_with_len 0 callers))) (λ fault. IsRefusal (new_refusal nodes) ⊤ fault) }
+        ensures { MatchResult result
+            (λ made. (new_refusal nodes ≡ None) × (made.1.items ≡ map fresh (range_with_len 0 callers)))
+            (λ fault. IsRefusal (new_refusal nodes) ⊤ fault) }
     {
         let (guarded, callers) = Guarded::new(alloc, blank, nodes, callers, audit)?;
         let lock = Mutex::new(guarded);

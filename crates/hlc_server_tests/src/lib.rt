@@ -1,4 +1,5 @@
-//! Tests of the shared store, by its public calls, and the small caller of the page of `hlc_server`. There is nothing else here.
+//! Tests of the shared store, by its public calls, and the small caller of the page of `hlc_server`.
+//! There is nothing else here.
 #![tactic(auto)]
 
 pub mod callers;

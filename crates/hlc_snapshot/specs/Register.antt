@@ -1,5 +1,6 @@
 -- The open snapshots: what a registry keeps, and how openings and closings change it.
-use Rattle.std.specs.Prelude.{◌≡◌, ℕ, ◌+◌, ◌<◌, ◌≤◌, ◌==◌, ◌⊎◌, List, [], ◌∷◌, ◌++◌, length, map, filter, find, All, not, nat_le, Option, Some, None, if◌then◌else◌}
+use Rattle.std.specs.Prelude.{◌≡◌, ℕ, ◌+◌, ◌<◌, ◌≤◌, ◌==◌, ◌⊎◌, List, [], ◌∷◌, ◌++◌, length, map, filter, find, All}
+use Rattle.std.specs.Prelude.{not, nat_le, Option, Some, None, if◌then◌else◌}
 use Rattle.std.specs.List.{AllPairs}
 use Rattle.std.specs.Option.{option_map}
 use Rattle.hlc_snapshot.specs.declared.snapshot.Snapshot.{Snapshot}
@@ -45,8 +46,8 @@ opened_at register stamp = record {
 abbrev pub closed : ℕ → Register → Register
 closed id register = record { snapshots = without id register.snapshots; opened = register.opened }
 
--- the ids of the open snapshots rise, from the oldest to the newest, and lie from 1 to the number of those ever opened; no more than
--- 1,024 are open, and no more were ever opened than there are ids
+-- the ids of the open snapshots rise, from the oldest to the newest, and lie from 1 to the number of those ever opened;
+-- no more than 1,024 are open, and no more were ever opened than there are ids
 pub record IsRegister (register : Register) : Type 0 where
   pub rising : AllPairs (λ older newer. older.id < newer.id) register.snapshots
   pub given : All (λ snapshot. (0 < snapshot.id) × (snapshot.id ≤ register.opened)) register.snapshots

@@ -1,5 +1,6 @@
 //! The registry of open snapshots.
-ghost use Rattle.std.specs.Prelude.{◌≡◌, ℕ, ◌+◌, ◌<◌, ◌≤◌, ◌==◌, [], ◌∷◌, ◌++◌, length, All, IfOk, IfErr, OnErr, if◌then◌else◌};
+ghost use Rattle.std.specs.Prelude.{◌≡◌, ℕ, ◌+◌, ◌<◌, ◌≤◌, ◌==◌, [], ◌∷◌, ◌++◌, length, All, IfOk, IfErr, OnErr};
+ghost use Rattle.std.specs.Prelude.{if◌then◌else◌};
 ghost use Rattle.hlc_snapshot.specs.Register.{IsRegister, IsRefusal, closed, opened_at, room_refusal, stamp_in, stamps};
 ghost use Rattle.hlc_snapshot.specs.Points.{ArePoints};
 
@@ -27,7 +28,8 @@ impl Model for Registry {
 
     ghost view = { λ registry. record { snapshots = registry.snapshots.items; opened = registry.opened } };
 
-    ghost invariant = { λ registry. IsRegister (record { snapshots = registry.snapshots.items; opened = registry.opened }) };
+    ghost invariant = { λ registry.
+        IsRegister (record { snapshots = registry.snapshots.items; opened = registry.opened }) };
 }
 
 impl Registry {
@@ -46,14 +48,17 @@ impl Registry {
     ///
     /// Refused, in this order: 1,024 snapshots are open; no id is left; want of memory.
     pub fn open(&mut self, stamp: Stamp) -> Result<u64, SnapshotFault>
-        ensures ok { IfOk result (λ id. (room_refusal (length self.old.snapshots) self.old.opened ≡ None) × (id ≡ self.old.opened + 1) × (self.new ≡ opened_at self.old stamp)) }
-        ensures err { IfErr result (λ fault. IsRefusal (room_refusal (length self.old.snapshots) self.old.opened) fault × (self.new ≡ self.old)) }
+        ensures ok { IfOk result (λ id. (room_refusal (length self.old.snapshots) self.old.opened ≡ None)
+            × (id ≡ self.old.opened + 1) × (self.new ≡ opened_at self.old stamp)) }
+        ensures err { IfErr result (λ fault. IsRefusal (room_refusal (length self.old.snapshots) self.old.opened) fault
+            × (self.new ≡ self.old)) }
 
         // As a map: the id had no stamp and is above all others; now it has this one, and nothing
         // else changes.
         ensures fresh { IfOk result (λ id. stamp_in id self.old.snapshots ≡ None) }
         ensures above { IfOk result (λ id. All (λ snapshot. snapshot.id < id) self.old.snapshots) }
-        ensures map { IfOk result (λ id. (other : ℕ) → stamp_in other self.new.snapshots ≡ (if other == id then Some stamp else stamp_in other self.old.snapshots)) }
+        ensures map { IfOk result (λ id. (other : ℕ) → stamp_in other self.new.snapshots
+            ≡ (if other == id then Some stamp else stamp_in other self.old.snapshots)) }
         ensures register { IsRegister self.new }
     {
         if let Some(fault) = room_fault(self.snapshots.len(), self.opened) {
@@ -80,11 +85,13 @@ impl Registry {
 
     /// Closes the snapshot that has this id, and gives its stamp. Takes no memory.
     pub fn close(&mut self, id: u64) -> Result<Stamp, NoSnapshot>
-        ensures ok { IfOk result (λ stamp. (stamp_in id self.old.snapshots ≡ Some stamp) × (self.new ≡ closed id self.old)) }
+        ensures ok { IfOk result
+            (λ stamp. (stamp_in id self.old.snapshots ≡ Some stamp) × (self.new ≡ closed id self.old)) }
         ensures err { OnErr result ((stamp_in id self.old.snapshots ≡ None) × (self.new ≡ self.old)) }
 
         // As a map: the id has no stamp any more; nothing else changes.
-        ensures map { (other : ℕ) → stamp_in other self.new.snapshots ≡ (if other == id then None else stamp_in other self.old.snapshots) }
+        ensures map { (other : ℕ)
+            → stamp_in other self.new.snapshots ≡ (if other == id then None else stamp_in other self.old.snapshots) }
         ensures register { IsRegister self.new }
     {
         let Some(stamp) = self.stamp_of(id) else {

@@ -10,7 +10,8 @@ use hlc_witness::{NotShown, Shown, check};
 /// Vacuums a store, and checks by the report alone that the rows left up to its floor are the
 /// fewest. They always are.
 pub fn vacuum_and_check(core: &mut Core) -> Result<Result<Shown, NotShown>, NoMemory>
-    ensures { (past : List Step) → StandsFor core.old past → IfOk result (λ shown. IsOkAnd shown (λ count. count ≡ length (rows_to (floor (nodes core.old) past) core.new.rows))) }
+    ensures { (past : List Step) → StandsFor core.old past → IfOk result
+        (λ shown. IsOkAnd shown (λ count. count ≡ length (rows_to (floor (nodes core.old) past) core.new.rows))) }
 {
     let report = core.vacuum()?;
     let rows = core.rows_to(report.floor)?;

@@ -19,7 +19,8 @@ pub fn item(
     key: &[u8],
     value: Option<&[u8]>,
 ) -> Result<Item, AllocError>
-    ensures { IfOk result (λ made. made ≡ record { node = at.0; number = at.1; stamp = at.2; body = Body.Write key.now (option_copied value.entry) }) }
+    ensures { IfOk result (λ made. made
+        ≡ record { node = at.0; number = at.1; stamp = at.2; body = Body.Write key.now (option_copied value.entry) }) }
 {
     let (node, number, bits) = at;
     let key = bytes(alloc, key)?;

@@ -1,5 +1,6 @@
 -- The lines of the nodes are printed one by one: one count more gives one line more, numbered by how many there were.
-use Rattle.std.proofs.Common.{◌≡◌, ℕ, ◌+◌, ◌<◌, get_or, ◌∙◌, sym, ap, subst, refl, arith, Bool, List, [], ◌∷◌, ◌++◌, take, length, Option}
+use Rattle.std.proofs.Common.{◌≡◌, ℕ, ◌+◌, ◌<◌, get_or, ◌∙◌, sym, ap, subst, refl, arith, Bool, List, [], ◌∷◌, ◌++◌}
+use Rattle.std.proofs.Common.{take, length, Option}
 use Rattle.std.specs.List.{flat_map}
 use Rattle.std.proofs.lemmas.List.{take_more, length-take-le}
 use Rattle.std.proofs.lemmas.List.Concat.{flat_map-append}
@@ -19,13 +20,16 @@ lines_more node (y ∷ ys) x =
 text_more : (xs : List ℕ) (i d : ℕ) → i < length xs → flat_map printed (accepted_lines 0 (take (i + 1) xs))
     ≡ flat_map printed (accepted_lines 0 (take i xs)) ++ printed (accepted_line i (get_or xs i d))
 text_more xs i d within =
-    let lines : accepted_lines 0 (take (i + 1) xs) ≡ accepted_lines 0 (take i xs) ++ accepted_line i (get_or xs i d) ∷ [] =
+    let lines : accepted_lines 0 (take (i + 1) xs)
+    ≡ accepted_lines 0 (take i xs) ++ accepted_line i (get_or xs i d) ∷ [] =
     ap (accepted_lines 0) (take_more xs i d within) ∙ lines_more 0 (take i xs) (get_or xs i d)
     ∙ ap (λ n. accepted_lines 0 (take i xs) ++ accepted_line n (get_or xs i d) ∷ [])
     (let taken = length-take-le i xs (omega (arith, within)) in
     let e : 0 + length (take i xs) ≡ i = omega (arith, taken) in e) in
-    ap (flat_map printed) lines ∙ flat_map-append printed (accepted_lines 0 (take i xs)) (accepted_line i (get_or xs i d) ∷ [])
-    ∙ ap (λ l. flat_map printed (accepted_lines 0 (take i xs)) ++ l) (append-nil (printed (accepted_line i (get_or xs i d))))
+    ap (flat_map printed) lines
+    ∙ flat_map-append printed (accepted_lines 0 (take i xs)) (accepted_line i (get_or xs i d) ∷ [])
+    ∙ ap (λ l. flat_map printed (accepted_lines 0 (take i xs)) ++ l)
+    (append-nil (printed (accepted_line i (get_or xs i d))))
 
 pub counted_more : {f g h : Bool} {a b c : Option (List ℕ)} {u v w : List ℕ} (xs : List ℕ) (i d : ℕ) → i < length xs
     → Printed f g a b u v (flat_map printed (accepted_lines 0 (take i xs)))

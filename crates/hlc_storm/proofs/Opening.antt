@@ -13,14 +13,17 @@ ids_low [] = All-nil (λ (s : Snapshot). s.id ≤ 0)
 ids_low (Took item ∷ past) = ids_low past
 ids_low (Vacuumed ∷ past) = ids_low past
 ids_low (Closed id ∷ past) =
-    All-filter (λ (s : Snapshot). not (s.id == id)) (λ (s : Snapshot). s.id ≤ opened past) (open_snapshots past) (ids_low past)
+    All-filter (λ (s : Snapshot). not (s.id == id)) (λ (s : Snapshot). s.id ≤ opened past)
+    (open_snapshots past) (ids_low past)
 ids_low (Opened stamp ∷ past) =
     let before = All-weaker (λ (s : Snapshot). s.id ≤ opened past) (λ (s : Snapshot). s.id ≤ opened past + 1)
     (λ s low. omega (arith, low)) (open_snapshots past) (ids_low past) in
-    All-push (λ (s : Snapshot). s.id ≤ opened past + 1) (open_snapshots past) (record { id = opened past + 1; stamp = stamp })
+    All-push (λ (s : Snapshot). s.id ≤ opened past + 1) (open_snapshots past)
+    (record { id = opened past + 1; stamp = stamp })
     before (omega arith)
 
-last_found : (y : Snapshot) (xs : List Snapshot) → All (λ (s : Snapshot). s.id < y.id) xs → stamp_in y.id (xs ++ y ∷ []) ≡ Some y.stamp
+last_found : (y : Snapshot) (xs : List Snapshot) → All (λ (s : Snapshot). s.id < y.id) xs
+    → stamp_in y.id (xs ++ y ∷ []) ≡ Some y.stamp
 last_found y [] below = stamp_in-hit y.id y [] refl
 last_found y (x ∷ xs) below =
     let low : x.id < y.id = All-head (λ (s : Snapshot). s.id < y.id) x xs below in
@@ -30,5 +33,6 @@ last_found y (x ∷ xs) below =
 pub just_opened : (past : List Step) (stamp : ℕ) → stamp_of (opened past + 1) (Opened stamp ∷ past) ≡ Some stamp
 just_opened past stamp =
     last_found (record { id = opened past + 1; stamp = stamp }) (open_snapshots past)
-    (All-weaker (λ (s : Snapshot). s.id ≤ opened past) (λ (s : Snapshot). s.id < opened past + 1) (λ s low. omega (arith, low))
+    (All-weaker (λ (s : Snapshot). s.id ≤ opened past) (λ (s : Snapshot). s.id < opened past + 1)
+    (λ s low. omega (arith, low))
     (open_snapshots past) (ids_low past))

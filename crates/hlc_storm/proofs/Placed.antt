@@ -4,15 +4,18 @@ use Rattle.atomic_table.specs.Seated.{TableId}
 use Rattle.hlc_board.specs.Views.{Post, Sight, post, posts, blind}
 use Rattle.hlc_storm.specs.Places.{FeedersOf, PassesOf}
 
-pub feeders_last : (board : TableId) (xs : List Post) (x : Post) → FeedersOf board (xs ++ x ∷ []) → FeedersOf board xs × (x.board ≡ board)
+pub feeders_last : (board : TableId) (xs : List Post) (x : Post) → FeedersOf board (xs ++ x ∷ [])
+    → FeedersOf board xs × (x.board ≡ board)
 feeders_last board [] x h = (tt, h.0)
 feeders_last board (y ∷ ys) x h = let rest = feeders_last board ys x h.1 in ((h.0, rest.0), rest.1)
 
-pub passes_last : (board : TableId) (xs : List Sight) (x : Sight) → PassesOf board (xs ++ x ∷ []) → PassesOf board xs × (x.board ≡ board)
+pub passes_last : (board : TableId) (xs : List Sight) (x : Sight) → PassesOf board (xs ++ x ∷ [])
+    → PassesOf board xs × (x.board ≡ board)
 passes_last board [] x h = (tt, h.0)
 passes_last board (y ∷ ys) x h = let rest = passes_last board ys x h.1 in ((h.0, rest.0), rest.1)
 
-feeders_more : (board : TableId) (xs : List Post) (x : Post) → FeedersOf board xs → x.board ≡ board → FeedersOf board (xs ++ x ∷ [])
+feeders_more : (board : TableId) (xs : List Post) (x : Post) → FeedersOf board xs → x.board ≡ board
+    → FeedersOf board (xs ++ x ∷ [])
 feeders_more board [] x h is = (is, tt)
 feeders_more board (y ∷ ys) x h is = (h.0, feeders_more board ys x h.1 is)
 

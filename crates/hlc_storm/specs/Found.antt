@@ -12,8 +12,9 @@ use Rattle.hlc_words.specs.declared.plan.StormPlan.{StormPlan}
 use Rattle.hlc_storm.specs.declared.report.StormReport.{StormReport}
 use Rattle.hlc_storm.specs.declared.report.StormFault.{StormFault}
 
--- Of a past of a core of so many nodes: the number of accepted items of each node of the plan, the floor, the keys that have a value
--- there, with the newest accepted one, and the rows that a vacuum keeps, made once the snapshot of the listing is closed.
+-- Of a past of a core of so many nodes: the number of accepted items of each node of the plan, the floor, the keys that
+-- have a value there, with the newest accepted one, and the rows that a vacuum keeps,
+-- made once the snapshot of the listing is closed.
 pub record IsFoundIn (plan : StormPlan) (nodes : ℕ) (past : List Step) (report : StormReport) : Type 0 where
   pub accepted : report.accepted.items ≡ map (λ node. count node past) (range_with_len 0 plan.nodes)
   pub floor : report.floor ≡ floor nodes past

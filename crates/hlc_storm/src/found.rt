@@ -16,7 +16,8 @@ pub(crate) fn report_of(
     core: Core,
     plan: StormPlan,
 ) -> Result<StormReport, StormFault>
-    ensures { IfOk result (λ report. (past : List Step) → StandsFor core past → IsFoundIn plan (nodes core) past report) }
+    ensures { IfOk result
+        (λ report. (past : List Step) → StandsFor core past → IsFoundIn plan (nodes core) past report) }
 {
     let mut core = core;
     let accepted = counts_of(alloc, &core, plan.nodes)?;
@@ -43,7 +44,8 @@ pub(crate) fn report_of(
 
 /// How many items of each of so many nodes the core accepted.
 fn counts_of(alloc: Global, core: &Core, count_of_nodes: u16) -> Result<Vec<u64>, StormFault>
-    ensures { IfOk result (λ counts. (past : List Step) → StandsFor core.now past → counts.items ≡ map (λ node. count node past) (range_with_len 0 count_of_nodes)) }
+    ensures { IfOk result (λ counts. (past : List Step) → StandsFor core.now past
+        → counts.items ≡ map (λ node. count node past) (range_with_len 0 count_of_nodes)) }
 {
     let mut counts = Vec::new(alloc);
     for node in 0..count_of_nodes {

@@ -4,7 +4,8 @@ ghost use Rattle.std.specs.List.{flat_map};
 ghost use Rattle.hlc_text.specs.Text.{printed};
 ghost use Rattle.hlc_text.specs.Watched.{has_failed};
 ghost use Rattle.hlc_text.specs.Printing.{Prints, Writes};
-ghost use Rattle.hlc_storm.specs.Printed.{accepted_line, accepted_lines, pair_line, report_text, work_line, fault_line, storm_text, storm_status};
+ghost use Rattle.hlc_storm.specs.Printed.{accepted_line, accepted_lines, pair_line, report_text, work_line, fault_line};
+ghost use Rattle.hlc_storm.specs.Printed.{storm_text, storm_status};
 
 use crate::report::{StormFault, StormReport};
 use hlc_core::Pair;
@@ -71,7 +72,8 @@ fn put_report<W: Write>(writer: &mut Watched<W>, waiting: &mut Waiting, report: 
 
 /// Prints how many items of each node were accepted.
 fn put_counts<W: Write>(writer: &mut Watched<W>, waiting: &mut Waiting, counts: &[u64])
-    ensures { Prints W.contents writer.old writer.new waiting.old waiting.new (flat_map printed (accepted_lines 0 counts.now)) }
+    ensures { Prints W.contents writer.old writer.new waiting.old waiting.new
+        (flat_map printed (accepted_lines 0 counts.now)) }
 {
     for (node, count) in counts.iter().enumerate() {
         put_count(writer, waiting, node as u64, *count);
@@ -88,7 +90,8 @@ fn put_count<W: Write>(writer: &mut Watched<W>, waiting: &mut Waiting, node: u64
 
 /// Prints the keys with their values.
 fn put_pairs<W: Write>(writer: &mut Watched<W>, waiting: &mut Waiting, pairs: &[Pair])
-    ensures { Prints W.contents writer.old writer.new waiting.old waiting.new (flat_map printed (map pair_line pairs.now)) }
+    ensures { Prints W.contents writer.old writer.new waiting.old waiting.new
+        (flat_map printed (map pair_line pairs.now)) }
 {
     for pair in pairs {
         put_pair(writer, waiting, pair);

@@ -35,15 +35,17 @@ pub fn storm<R: Threads + Wait + Sync>(
     storm_gated(rt, alloc, plan, &gates)
 }
 
-/// Starts each writer, feeder, reader and the vacuum in a thread of its own, joins them, settles, and then lists at the floor
-/// and makes a last vacuum.
+/// Starts each writer, feeder, reader and the vacuum in a thread of its own, joins them, settles, and then lists at the
+/// floor and makes a last vacuum.
 ///
-/// Node i makes its write of number j, from 0, of the value `i.j` to the key `k` with j modulo the number of keys behind it,
-/// at reading j + 1. Behind its last write it reports at the reading after it. Its link holds 8 parcels. Each reader makes 16
-/// rounds over all keys, at the floor of a board that the feeders raise, and one worker makes 16 vacuums.
+/// Node i makes its write of number j, from 0, of the value `i.j` to the key `k` with j modulo the number of keys
+/// behind it, at reading j + 1. Behind its last write it reports at the reading after it. Its link holds 8 parcels.
+/// Each reader makes 16 rounds over all keys, at the floor of a board that the feeders raise,
+/// and one worker makes 16 vacuums.
 ///
-/// Refused, in this order: want of memory, of a writer too, or of a thread; the first worker that was not done, feeders by
-/// node, then readers, then the vacuum; receipts that don't settle; want of memory for what is asked of the store then.
+/// Refused, in this order: want of memory, of a writer too, or of a thread; the first worker that was not done, feeders
+/// by node, then readers, then the vacuum; receipts that don't settle;
+/// want of memory for what is asked of the store then.
 pub fn storm_gated<F: Gate + Sync, D: Gate + Sync, V: Gate + Sync, R: Threads + Wait + Sync>(
     rt: &R,
     alloc: Global,

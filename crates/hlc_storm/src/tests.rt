@@ -47,8 +47,8 @@ impl<'a> Gate for Meets<'a> {
     }
 }
 
-/// The reader's first read waits for the second vacuum, and the first vacuum for the reader's first read. So workers one after
-/// the other, or a lock that is held over a round, never end.
+/// The reader's first read waits for the second vacuum, and the first vacuum for the reader's first read. So workers
+/// one after the other, or a lock that is held over a round, never end.
 #[test]
 fn a_reader_and_the_vacuum_meet(rt: HostRuntime) -> Result<(), Fail> {
     let reads = AtomicBool::new(false);
@@ -122,7 +122,8 @@ fn above_floor_in<L: Ledger + Send + Sync, R: Threads + Wait + Sync>(
     Some((above, calls))
 }
 
-/// The board never runs ahead of the store: no reader that opens at the board's floor is told that it is above the floor.
+/// The board never runs ahead of the store: no reader that opens at the board's floor is told that it is above the
+/// floor.
 #[test]
 fn the_board_is_never_ahead(rt: HostRuntime) -> Result<(), Fail> {
     let plan = StormPlan {

@@ -13,8 +13,8 @@ use std::thread::{JoinHandle, Threads};
 /// How many rounds a reader makes, and how many vacuums the worker of the vacuum.
 const ROUNDS: u64 = 16;
 
-/// What is kept of a worker. Its ends of a link and of the board are dropped in its thread, so that no writer waits for a
-/// feeder that has ended.
+/// What is kept of a worker. Its ends of a link and of the board are dropped in its thread, so that no writer waits for
+/// a feeder that has ended.
 #[derive(Drop)]
 pub(crate) struct Worked<L: Ledger> {
     caller: Caller<L>,
@@ -136,8 +136,8 @@ fn note<L: Ledger>(joined: Joined<L>, worked: Worked<L>) -> Joined<L> {
     }
 }
 
-/// The threads of a storm. None stands for a thread that was not started. Each list of workers has the one with the last caller
-/// first.
+/// The threads of a storm. None stands for a thread that was not started. Each list of workers has the one with the
+/// last caller first.
 #[derive(Drop)]
 pub(crate) struct Started<L: Ledger> {
     pub(crate) writers: Vec<Option<JoinHandle<Result<(), WriteFault>>>>,

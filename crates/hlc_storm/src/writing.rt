@@ -41,8 +41,8 @@ fn value_of(alloc: Global, node: u16, number: u64) -> Result<Bytes, AllocError> 
     Ok(Bytes::from_vec(text.into_bytes()))
 }
 
-/// Issues the writes of a node, and puts each on its link; then a report, and then the end of the link. The write of number
-/// j, from 0, is made at reading j + 1, and the report one above the last.
+/// Issues the writes of a node, and puts each on its link; then a report, and then the end of the link. The write of
+/// number j, from 0, is made at reading j + 1, and the report one above the last.
 pub(crate) fn write_all<R: Wait>(
     rt: &R,
     alloc: Global,

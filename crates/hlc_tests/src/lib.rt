@@ -1,5 +1,5 @@
-//! Tests of clocks, nodes, links, the floor, snapshots and certificates, by their public calls, and the small callers of those
-//! libraries' pages and of the page of `hlc_world`. There is nothing else here.
+//! Tests of clocks, nodes, links, the floor, snapshots and certificates, by their public calls, and the small callers
+//! of those libraries' pages and of the page of `hlc_world`. There is nothing else here.
 #![tactic(auto)]
 
 #[cfg(test)]

@@ -1,5 +1,6 @@
 -- Bytes that each stand as themselves are their own spelling: what is printed for them, and what they are read as.
-use Rattle.std.proofs.Common.{◌<◌, ◌∙◌, if◌then◌else◌, length, arith, nat_eq, ne_eqb, sym, ◌≡◌, ℕ, List, [], ◌∷◌, Bool, true, false, ◌&&◌, Some, ap, refl}
+use Rattle.std.proofs.Common.{◌<◌, ◌∙◌, if◌then◌else◌, length, arith, nat_eq, ne_eqb, sym, ◌≡◌, ℕ, List, [], ◌∷◌, Bool}
+use Rattle.std.proofs.Common.{true, false, ◌&&◌, Some, ap, refl}
 use Rattle.std.specs.Prelude.{unwrap_or}
 use Rattle.std.proofs.lemmas.Bool.{false≢true}
 use Rattle.std.specs.List.{list_all, flat_map}
@@ -31,7 +32,8 @@ read_plain (b ∷ high ∷ low ∷ rest) h =
 pub plain_token : (bs : List ℕ) → 0 < length bs → list_all stands_as_itself bs ≡ true → token_bytes bs ≡ Some bs
 plain_token [] some h = absurd (omega arith)
 plain_token (b ∷ []) some h =
-    ap (λ (t : Bool). if t then Some [] else spelled_bytes (b ∷ [])) (not_percent b (first_stands b [] h).0) ∙ read_plain (b ∷ []) h
+    ap (λ (t : Bool). if t then Some [] else spelled_bytes (b ∷ [])) (not_percent b (first_stands b [] h).0)
+    ∙ read_plain (b ∷ []) h
 plain_token (b ∷ c ∷ rest) some h = read_plain (b ∷ c ∷ rest) h
 
 pub plain_bytes : (bs : List ℕ) → 0 < length bs → list_all stands_as_itself bs ≡ true → bytes_in bs ≡ bs

@@ -1,6 +1,7 @@
--- The drafts of the pieces of some columns, joined: each piece adds its draft to those before it, since keys ascend over all of
--- them.
-use Rattle.std.proofs.Common.{◌≡◌, ◌∙◌, ◌<◌, ℕ, zero, suc, List, [], ◌∷◌, ◌++◌, length, Result, Ok, sym, ap, refl, subst, arith}
+-- The drafts of the pieces of some columns, joined: each piece adds its draft to those before it, since keys ascend
+-- over all of them.
+use Rattle.std.proofs.Common.{◌≡◌, ◌∙◌, ◌<◌, ℕ, zero, suc, List, [], ◌∷◌, ◌++◌, length, Result, Ok, sym, ap, refl}
+use Rattle.std.proofs.Common.{subst, arith}
 use Rattle.std.proofs.Common.{get_or}
 use Rattle.std.specs.List.{AllZip}
 use Rattle.std.specs.declared.alloc.AllocError.{AllocError}
@@ -17,7 +18,8 @@ pub piece_ascends : (pieces : List (List KeyCells)) (k : ℕ) (d : List KeyCells
     → k < length pieces → KeysAscend (get_or pieces k d)
 piece_ascends [] k d up lt = absurd (omega arith)
 piece_ascends (piece ∷ pieces) zero d up lt = ascend_front piece (columns_of pieces) up
-piece_ascends (piece ∷ pieces) (suc k) d up lt = piece_ascends pieces k d (ascend_back piece (columns_of pieces) up) (omega arith)
+piece_ascends (piece ∷ pieces) (suc k) d up lt =
+    piece_ascends pieces k d (ascend_back piece (columns_of pieces) up) (omega arith)
 
 -- what stands beside a list and one more
 record Last {A B : Type 0} (R : A → B → Type 0) (xs : List A) (ys : List B) (y : B) : Type 0 where
@@ -46,13 +48,15 @@ last_of_zip R (x ∷ xs) (z ∷ ys) y h =
 -- what the joined draft of some pieces says
 abbrev pub JoinsPieces : List (Result Draft AllocError) → Draft → Type 0
 JoinsPieces drafts whole =
-    (points : List ℕ) (pieces : List (List KeyCells)) → KeysAscend (columns_of pieces) → AllZip (DraftsPiece points) pieces
+    (points : List ℕ) (pieces : List (List KeyCells)) → KeysAscend (columns_of pieces)
+    → AllZip (DraftsPiece points) pieces
     drafts → IsJoined (columns_of pieces) points whole.witnesses.items whole.keep.items
 
 -- one piece on
 pub pieces_on : OthersBefore → OthersBehind → (drafts : List (Result Draft AllocError)) (whole more new : Draft)
     → JoinsPieces drafts whole
-    → new.witnesses.items ≡ whole.witnesses.items ++ more.witnesses.items → new.keep.items ≡ whole.keep.items ++ more.keep.items
+    → new.witnesses.items ≡ whole.witnesses.items ++ more.witnesses.items
+    → new.keep.items ≡ whole.keep.items ++ more.keep.items
     → JoinsPieces (drafts ++ Ok more ∷ []) new
 pieces_on before behind drafts whole more new so news keeps = λ points pieces up each.
     let parts = last_of_zip (DraftsPiece points) pieces drafts (Ok more) each in
@@ -63,9 +67,11 @@ pieces_on before behind drafts whole more new so news keeps = λ points pieces u
     let front = so points parts.front (ascend_front (columns_of parts.front) parts.last ascend) parts.fronts in
     subst (λ xs. IsJoined xs points new.witnesses.items new.keep.items) (sym both)
     (subst (λ cs. IsJoined (columns_of parts.front ++ parts.last) points cs new.keep.items) (sym news)
-    (subst (λ fs. IsJoined (columns_of parts.front ++ parts.last) points (whole.witnesses.items ++ more.witnesses.items) fs)
+    (subst (λ fs. IsJoined (columns_of parts.front ++ parts.last) points
+    (whole.witnesses.items ++ more.witnesses.items) fs)
     (sym keeps)
-    (joined_append before behind points (columns_of parts.front) parts.last ascend whole.witnesses.items more.witnesses.items
+    (joined_append before behind points
+    (columns_of parts.front) parts.last ascend whole.witnesses.items more.witnesses.items
     whole.keep.items more.keep.items front parts.lasts)))
 
 -- of no piece

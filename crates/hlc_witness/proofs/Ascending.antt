@@ -1,6 +1,9 @@
--- Ascending rows and witnesses by their places: an order is total, so neighbours in order are a list in order, and what is above the
--- last of an ascending list is above all of it. Ascending rows differ in key, stamp or node, so they are a row set.
-use Rattle.std.proofs.Common.{◌≡◌, ℕ, ◌+◌, ◌-◌, ◌<◌, List, [], ◌∷◌, ◌++◌, Some, length, get_or, refl, sym, ap, ap₂, ◌∙◌, subst, inl, inr, arith, Ordering, Less, Equal, Greater, nat_cmp, true, is_lt, take, drop, slice_get}
+-- Ascending rows and witnesses by their places: an order is total, so neighbours in order are a list in order, and what
+-- is above the last of an ascending list is above all of it. Ascending rows differ in key, stamp or node,
+-- so they are a row set.
+use Rattle.std.proofs.Common.{◌≡◌, ℕ, ◌+◌, ◌-◌, ◌<◌, List, [], ◌∷◌, ◌++◌, Some, length, get_or, refl, sym, ap, ap₂, ◌∙◌}
+use Rattle.std.proofs.Common.{subst, inl, inr, arith, Ordering, Less, Equal, Greater, nat_cmp, true, is_lt, take, drop}
+use Rattle.std.proofs.Common.{slice_get}
 use Rattle.std.specs.Ordering.{ordering_then, is_gt}
 use Rattle.std.specs.Cmp.Lexicographic.{slice_cmp}
 use Rattle.std.specs.List.Sorted.{IsStrictlySortedBy}
@@ -21,16 +24,20 @@ use Rattle.hlc_witness.proofs.Certified.{change_cmp_total, row_cmp_total}
 use Rattle.hlc_witness.proofs.Members.{Contains-none, Contains-cons_cases}
 use Rattle.hlc_witness.proofs.Listed.{sorted_append}
 
-pub rows_from_neighbours : (rows : List Row) → ((k : ℕ) (d : Row) → k + 1 < length rows → row_cmp (get_or rows k d) (get_or rows (k + 1) d) ≡ Less) → RowsAscend rows
+pub rows_from_neighbours : (rows : List Row)
+    → ((k : ℕ) (d : Row) → k + 1 < length rows → row_cmp (get_or rows k d) (get_or rows (k + 1) d) ≡ Less)
+    → RowsAscend rows
 unfolding IsStrictlySortedBy
 rows_from_neighbours [] each = tt
 rows_from_neighbours (row ∷ rows) each = sorted_from_all_adjacent row_cmp_total (row ∷ rows) row (λ k lt. each k row lt)
 
-pub neighbours : (rows : List Row) (i : ℕ) (a b : Row) → 0 < i → i < length rows → a ≡ get_or rows (i - 1) a → b ≡ get_or rows i b → RowsAscend rows → row_cmp a b ≡ Less
+pub neighbours : (rows : List Row) (i : ℕ) (a b : Row) → 0 < i → i < length rows → a ≡ get_or rows (i - 1) a
+    → b ≡ get_or rows i b → RowsAscend rows → row_cmp a b ≡ Less
 neighbours rows i a b pos lt is_a is_b up =
     ap₂ row_cmp is_a (get_or_read rows i b lt is_b a) ∙ Less-from_sorted row_cmp rows (i - 1) i a up (omega arith) lt
 
-pub above_all : (front : List Witness) (last witness : Witness) → ChangesAscend front → slice_get front (length front - 1) ≡ Some last → change_cmp last witness ≡ Less → IsAbove front witness
+pub above_all : (front : List Witness) (last witness : Witness) → ChangesAscend front
+    → slice_get front (length front - 1) ≡ Some last → change_cmp last witness ≡ Less → IsAbove front witness
 above_all front last witness up is less k d lt =
     let within : length front - 1 < length front = slice_get_within front (length front - 1) last is in
     let at_end : get_or front (length front - 1) d ≡ last = get_or_from_slice_get front (length front - 1) last d is in
@@ -38,14 +45,19 @@ above_all front last witness up is less k d lt =
       | inl same ↦ ap (λ n. change_cmp (get_or front n d) witness) same ∙ ap (λ w. change_cmp w witness) at_end ∙ less
       | inr (inl below) ↦
           change_cmp_total.trans (get_or front k d) last witness
-          (subst (λ w. change_cmp (get_or front k d) w ≡ Less) at_end (Less-from_sorted change_cmp front k (length front - 1) d up below within)) less
+          (subst (λ w. change_cmp (get_or front k d) w ≡ Less) at_end
+          (Less-from_sorted change_cmp front k (length front - 1) d up below within)) less
       | inr (inr above) ↦ absurd (omega arith)
     ]
 
-pub above_last : (front : List Witness) (last witness : Witness) → slice_get front (length front - 1) ≡ Some last → IsAbove front witness → change_cmp last witness ≡ Less
+pub above_last : (front : List Witness) (last witness : Witness) → slice_get front (length front - 1) ≡ Some last
+    → IsAbove front witness → change_cmp last witness ≡ Less
 above_last front last witness is all =
-    All-contains (λ other. change_cmp other witness ≡ Less) front last all
-    (length front - 1, slice_get_within front (length front - 1) last is, get_or_from_slice_get front (length front - 1) last last is)
+    All-contains (λ other. change_cmp other witness ≡ Less) front last all (
+      length front - 1,
+      slice_get_within front (length front - 1) last is,
+      get_or_from_slice_get front (length front - 1) last last is,
+    )
 
 pub is_lt-true : (o : Ordering) → is_lt o ≡ true → o ≡ Less
 is_lt-true Less h = refl
@@ -60,32 +72,40 @@ unfolding IsStrictlySortedBy
 none_ascend = tt
 
 -- one more witness
-pub ascend_more : (witnesses : List Witness) (i : ℕ) (witness : Witness) → i < length witnesses → witness ≡ get_or witnesses i witness → ChangesAscend (take i witnesses) → IsAbove (take i witnesses) witness → ChangesAscend (take (i + 1) witnesses)
+pub ascend_more : (witnesses : List Witness) (i : ℕ) (witness : Witness) → i < length witnesses
+    → witness ≡ get_or witnesses i witness → ChangesAscend (take i witnesses) → IsAbove (take i witnesses) witness
+    → ChangesAscend (take (i + 1) witnesses)
 unfolding IsStrictlySortedBy
 ascend_more witnesses i witness lt is up above =
     subst (λ ws. ChangesAscend ws) (ap (λ w. take i witnesses ++ w ∷ []) is ∙ sym (take_more witnesses i witness lt))
     (sorted_append change_cmp (take i witnesses) (witness ∷ []) up (tt, tt) (λ x y in_front in_one.
     elim (Contains-cons_cases witness y [] in_one) [
-      | inl same ↦ subst (λ w. change_cmp x w ≡ Less) same (All-contains (λ other. change_cmp other witness ≡ Less) (take i witnesses) x above in_front)
+      | inl same ↦ subst (λ w. change_cmp x w ≡ Less) same
+          (All-contains (λ other. change_cmp other witness ≡ Less) (take i witnesses) x above in_front)
       | inr none ↦ absurd (Contains-none y none)
     ]))
 
 -- a list is what comes before a place, what stands there, and what comes after
-pub around : (witnesses : List Witness) (i : ℕ) (witness : Witness) → i < length witnesses → witness ≡ get_or witnesses i witness → witnesses ≡ take i witnesses ++ witness ∷ drop (i + 1) witnesses
+pub around : (witnesses : List Witness) (i : ℕ) (witness : Witness) → i < length witnesses
+    → witness ≡ get_or witnesses i witness → witnesses ≡ take i witnesses ++ witness ∷ drop (i + 1) witnesses
 around witnesses i witness lt is =
-    sym (take-append-drop i witnesses) ∙ ap (λ ws. take i witnesses ++ ws) (drop_more witnesses i witness lt ∙ ap (λ w. w ∷ drop (i + 1) witnesses) (sym is))
+    sym (take-append-drop i witnesses) ∙ ap (λ ws. take i witnesses ++ ws)
+    (drop_more witnesses i witness lt ∙ ap (λ w. w ∷ drop (i + 1) witnesses) (sym is))
 
 same_version-tied : (a b : Row) → IsSameVersion a b → row_cmp a b ≡ Equal
 same_version-tied a b same =
-    ap (λ o. ordering_then o (ordering_then (nat_cmp a.stamp b.stamp) (nat_cmp a.node b.node))) (ap (slice_cmp nat_cmp a.key) (sym same.key) ∙ tied_itself nat_list_cmp_total a.key)
-    ∙ ap (λ o. ordering_then o (nat_cmp a.node b.node)) (ap (nat_cmp a.stamp) (sym same.stamp) ∙ tied_itself nat_cmp_total a.stamp)
+    ap (λ o. ordering_then o (ordering_then (nat_cmp a.stamp b.stamp) (nat_cmp a.node b.node)))
+    (ap (slice_cmp nat_cmp a.key) (sym same.key) ∙ tied_itself nat_list_cmp_total a.key)
+    ∙ ap (λ o. ordering_then o (nat_cmp a.node b.node))
+    (ap (nat_cmp a.stamp) (sym same.stamp) ∙ tied_itself nat_cmp_total a.stamp)
     ∙ ap (nat_cmp a.node) (sym same.node) ∙ tied_itself nat_cmp_total a.node
 
 pub ascend-IsRowSet : (rows : List Row) → RowsAscend rows → IsRowSet rows
 ascend-IsRowSet [] up = tt
 ascend-IsRowSet (row ∷ rows) up = (
   λ other i same.
-      let less : row_cmp row other ≡ Less = All-contains (λ y. row_cmp row y ≡ Less) rows other (All-from_recursion (λ y. row_cmp row y ≡ Less) rows (sorted_head row_cmp row rows up)) i in
+      let less : row_cmp row other ≡ Less = All-contains (λ y. row_cmp row y ≡ Less) rows other
+      (All-from_recursion (λ y. row_cmp row y ≡ Less) rows (sorted_head row_cmp row rows up)) i in
       let wrong : Less ≡ Equal = sym less ∙ same_version-tied row other same in
       cc,
   ascend-IsRowSet rows (sorted_tail row_cmp row rows up),

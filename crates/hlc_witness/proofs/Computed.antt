@@ -1,12 +1,14 @@
--- The changes as they are computed: the keys that have rows come each once and in byte order, so the list of each key's changes is
--- the list of all.
-use Rattle.std.proofs.Common.{◌≡◌, ℕ, List, [], ◌∷◌, refl, ap, ◌∙◌, subst, All, Contains, Less, Equal, Greater, nat_cmp, inl, inr}
+-- The changes as they are computed: the keys that have rows come each once and in byte order, so the list of each key's
+-- changes is the list of all.
+use Rattle.std.proofs.Common.{◌≡◌, ℕ, List, [], ◌∷◌, refl, ap, ◌∙◌, subst, All, Contains, Less, Equal, Greater, nat_cmp}
+use Rattle.std.proofs.Common.{inl, inr}
 use Rattle.std.specs.Cmp.Lexicographic.{slice_cmp}
 use Rattle.std.specs.Ordering.{ordering_reverse}
 use Rattle.std.specs.List.Sorted.{IsStrictlySortedBy}
 use Rattle.std.specs.FinMap.{slice_cmp-IsAntisymmetric, nat_cmp-IsAntisymmetric}
 use Rattle.std.proofs.lemmas.Cmp.{nat_list_cmp_total}
-use Rattle.std.proofs.lemmas.List.Elements.{All-head, All-tail, All-cons, All-weaker, All-from_recursion, recursion_from_All}
+use Rattle.std.proofs.lemmas.List.Elements.{All-head, All-tail, All-cons, All-weaker, All-from_recursion}
+use Rattle.std.proofs.lemmas.List.Elements.{recursion_from_All}
 use Rattle.hlc_node.specs.declared.row.Row.{Row}
 use Rattle.hlc_witness.specs.declared.witness.Witness.{Witness}
 use Rattle.hlc_witness.specs.Points.{PointsAscend}
@@ -16,31 +18,41 @@ use Rattle.hlc_witness.proofs.Members.{Contains-none, Contains-first, Contains-r
 use Rattle.hlc_witness.proofs.Newest.{NewestLaws}
 use Rattle.hlc_witness.proofs.Listed.{changes_listed, changes_once}
 
-below_with : (j key : List ℕ) (ks : List (List ℕ)) → slice_cmp nat_cmp j key ≡ Less → All (λ l. slice_cmp nat_cmp j l ≡ Less) ks → All (λ l. slice_cmp nat_cmp j l ≡ Less) (with_key key ks)
+below_with : (j key : List ℕ) (ks : List (List ℕ)) → slice_cmp nat_cmp j key ≡ Less
+    → All (λ l. slice_cmp nat_cmp j l ≡ Less) ks → All (λ l. slice_cmp nat_cmp j l ≡ Less) (with_key key ks)
 unfolding with_key
 below_with j key [] h all = All-cons (λ l. slice_cmp nat_cmp j l ≡ Less) key [] h all
 below_with j key (k ∷ ks) h all =
-    elim (slice_cmp nat_cmp key k) as (λ o. All (λ l. slice_cmp nat_cmp j l ≡ Less) (placed o key k ks (with_key key ks))) [
+    elim (slice_cmp nat_cmp key k) as (λ o. All (λ l. slice_cmp nat_cmp j l ≡ Less)
+    (placed o key k ks (with_key key ks))) [
       | Less ↦ All-cons (λ l. slice_cmp nat_cmp j l ≡ Less) key (k ∷ ks) h all
       | Equal ↦ all
-      | Greater ↦ All-cons (λ l. slice_cmp nat_cmp j l ≡ Less) k (with_key key ks) (All-head (λ l. slice_cmp nat_cmp j l ≡ Less) k ks all) (below_with j key ks h (All-tail (λ l. slice_cmp nat_cmp j l ≡ Less) k ks all))
+      | Greater ↦ All-cons (λ l. slice_cmp nat_cmp j l ≡ Less) k (with_key key ks)
+          (All-head (λ l. slice_cmp nat_cmp j l ≡ Less) k ks all)
+          (below_with j key ks h (All-tail (λ l. slice_cmp nat_cmp j l ≡ Less) k ks all))
     ]
 
-with_sorted : (key : List ℕ) (ks : List (List ℕ)) → IsStrictlySortedBy (slice_cmp nat_cmp) ks → IsStrictlySortedBy (slice_cmp nat_cmp) (with_key key ks)
+with_sorted : (key : List ℕ) (ks : List (List ℕ)) → IsStrictlySortedBy (slice_cmp nat_cmp) ks
+    → IsStrictlySortedBy (slice_cmp nat_cmp) (with_key key ks)
 unfolding with_key IsStrictlySortedBy
 with_sorted key [] up = (tt, tt)
 with_sorted key (k ∷ ks) up =
-    let below : All (λ l. slice_cmp nat_cmp k l ≡ Less) ks = All-from_recursion (λ l. slice_cmp nat_cmp k l ≡ Less) ks up.0 in
-    elim (slice_cmp nat_cmp key k) as (λ o. slice_cmp nat_cmp key k ≡ o → IsStrictlySortedBy (slice_cmp nat_cmp) (placed o key k ks (with_key key ks))) [
+    let below : All (λ l. slice_cmp nat_cmp k l ≡ Less) ks =
+    All-from_recursion (λ l. slice_cmp nat_cmp k l ≡ Less) ks up.0 in
+    elim (slice_cmp nat_cmp key k) as (λ o. slice_cmp nat_cmp key k ≡ o
+    → IsStrictlySortedBy (slice_cmp nat_cmp) (placed o key k ks (with_key key ks))) [
       | Less ↦ λ e. (
         recursion_from_All (λ l. slice_cmp nat_cmp key l ≡ Less) (k ∷ ks)
-            (All-cons (λ l. slice_cmp nat_cmp key l ≡ Less) k ks e (All-weaker (λ l. slice_cmp nat_cmp k l ≡ Less) (λ l. slice_cmp nat_cmp key l ≡ Less) (λ l h. nat_list_cmp_total.trans key k l e h) ks below)),
+            (All-cons (λ l. slice_cmp nat_cmp key l ≡ Less) k ks e (All-weaker (λ l. slice_cmp nat_cmp k l ≡ Less)
+            (λ l. slice_cmp nat_cmp key l ≡ Less) (λ l h. nat_list_cmp_total.trans key k l e h) ks below)),
         up,
       )
       | Equal ↦ λ e. up
       | Greater ↦ λ e.
-          let back : slice_cmp nat_cmp k key ≡ Less = nat_list_cmp_total.antisymm k key ∙ ap ordering_reverse e in
-          (recursion_from_All (λ l. slice_cmp nat_cmp k l ≡ Less) (with_key key ks) (below_with k key ks back below), with_sorted key ks up.1)
+          let back : slice_cmp nat_cmp k key ≡ Less = nat_list_cmp_total.antisymm k key ∙ ap ordering_reverse e in (
+            recursion_from_All (λ l. slice_cmp nat_cmp k l ≡ Less) (with_key key ks) (below_with k key ks back below),
+            with_sorted key ks up.1,
+          )
     ] refl
 
 with_old : (key l : List ℕ) (ks : List (List ℕ)) → Contains ks l → Contains (with_key key ks) l
@@ -60,9 +72,11 @@ with_new : (key : List ℕ) (ks : List (List ℕ)) → Contains (with_key key ks
 unfolding with_key
 with_new key [] = Contains-first key []
 with_new key (k ∷ ks) =
-    elim (slice_cmp nat_cmp key k) as (λ o. slice_cmp nat_cmp key k ≡ o → Contains (placed o key k ks (with_key key ks)) key) [
+    elim (slice_cmp nat_cmp key k) as (λ o. slice_cmp nat_cmp key k ≡ o
+    → Contains (placed o key k ks (with_key key ks)) key) [
       | Less ↦ λ e. Contains-first key (k ∷ ks)
-      | Equal ↦ λ e. subst (λ x. Contains (x ∷ ks) key) (slice_cmp-IsAntisymmetric nat_cmp-IsAntisymmetric key k e) (Contains-first key ks)
+      | Equal ↦ λ e. subst (λ x. Contains (x ∷ ks) key) (slice_cmp-IsAntisymmetric nat_cmp-IsAntisymmetric key k e)
+          (Contains-first key ks)
       | Greater ↦ λ e. Contains-rest k key (with_key key ks) (with_new key ks)
     ] refl
 
@@ -80,9 +94,13 @@ keys_every (w ∷ ws) v i =
       | inr r ↦ with_old w.key v.key (keys_of ws) (keys_every ws v r)
     ]
 
-pub computed : NewestLaws → (rows : List Row) (points : List ℕ) → PointsAscend points → AreChanges rows points (all_changes rows points)
+pub computed : NewestLaws → (rows : List Row) (points : List ℕ) → PointsAscend points
+    → AreChanges rows points (all_changes rows points)
 unfolding all_changes
-computed laws rows points rise = changes_listed laws rows points (keys_of rows) rise (keys_sorted rows) (keys_every rows)
+computed laws rows points rise =
+    changes_listed laws rows points (keys_of rows) rise (keys_sorted rows) (keys_every rows)
 
-pub only_computed : NewestLaws → (rows : List Row) (points : List ℕ) (cs : List Witness) → PointsAscend points → AreChanges rows points cs → cs ≡ all_changes rows points
-only_computed laws rows points cs rise are = changes_once rows points cs (all_changes rows points) are (computed laws rows points rise)
+pub only_computed : NewestLaws → (rows : List Row) (points : List ℕ) (cs : List Witness) → PointsAscend points
+    → AreChanges rows points cs → cs ≡ all_changes rows points
+only_computed laws rows points cs rise are =
+    changes_once rows points cs (all_changes rows points) are (computed laws rows points rise)

@@ -1,19 +1,24 @@
--- The first fault of a witness, with those before it changes and ascending, is the first reason of all; and a certificate has none.
-use Rattle.std.proofs.Common.{◌≡◌, ℕ, ◌+◌, ◌<◌, List, [], ◌∷◌, ◌++◌, length, get_or, take, drop, sym, ap, ◌∙◌, subst, arith, All}
+-- The first fault of a witness, with those before it changes and ascending, is the first reason of all;
+-- and a certificate has none.
+use Rattle.std.proofs.Common.{◌≡◌, ℕ, ◌+◌, ◌<◌, List, [], ◌∷◌, ◌++◌, length, get_or, take, drop, sym, ap, ◌∙◌, subst}
+use Rattle.std.proofs.Common.{arith, All}
 use Rattle.std.proofs.lemmas.List.{get_or-take, length-take-le, get_or_default, take_more}
 use Rattle.std.proofs.lemmas.List.Elements.{All-contains, All-push}
 use Rattle.std.proofs.lemmas.Map.Keys.{Less-from_sorted}
 use Rattle.hlc_node.specs.declared.row.Row.{Row}
 use Rattle.hlc_witness.specs.declared.witness.Witness.{Witness}
 use Rattle.hlc_witness.specs.declared.reason.NotShown.{NotShown}
-use Rattle.hlc_witness.specs.declared.reason.NotShown.TheVariants.{PointsNotAscending, RowsNotAscending, RowAboveLastPoint, WitnessNotAscending, NotAtPoint, SameAnswers, CountsDiffer}
+use Rattle.hlc_witness.specs.declared.reason.NotShown.TheVariants.{PointsNotAscending, RowsNotAscending}
+use Rattle.hlc_witness.specs.declared.reason.NotShown.TheVariants.{RowAboveLastPoint, WitnessNotAscending, NotAtPoint}
+use Rattle.hlc_witness.specs.declared.reason.NotShown.TheVariants.{SameAnswers, CountsDiffer}
 use Rattle.hlc_witness.specs.Changes.{ChangesAscend, IsChange, change_cmp}
 use Rattle.hlc_witness.specs.Certificate.{IsCertificate}
 use Rattle.hlc_witness.specs.Reasons.{IsAbove, IsFault, IsFirstFault, IsFirstReason, AreSorted}
 use Rattle.hlc_witness.proofs.Ascending.{around}
 
 -- in an ascending list each is above those before it
-pub front_below : (witnesses : List Witness) (i : ℕ) (witness : Witness) → ChangesAscend witnesses → i < length witnesses → witness ≡ get_or witnesses i witness → IsAbove (take i witnesses) witness
+pub front_below : (witnesses : List Witness) (i : ℕ) (witness : Witness) → ChangesAscend witnesses
+    → i < length witnesses → witness ≡ get_or witnesses i witness → IsAbove (take i witnesses) witness
 front_below witnesses i witness up lt is k d below =
     let short : length (take i witnesses) ≡ i = length-take-le i witnesses (omega arith) in
     let before : k < i = omega arith in
@@ -22,7 +27,8 @@ front_below witnesses i witness up lt is k d below =
     ∙ Less-from_sorted change_cmp witnesses k i d up before lt
 
 -- a certificate's witness has no fault
-no_fault : (rows : List Row) (points : List ℕ) (front : List Witness) (witness : Witness) (reason : NotShown) → IsAbove front witness → IsChange rows points witness → IsFault rows points front witness reason → ⊥
+no_fault : (rows : List Row) (points : List ℕ) (front : List Witness) (witness : Witness) (reason : NotShown)
+    → IsAbove front witness → IsChange rows points witness → IsFault rows points front witness reason → ⊥
 no_fault rows points front witness PointsNotAscending above is fault = fault
 no_fault rows points front witness RowsNotAscending above is fault = fault
 no_fault rows points front witness RowAboveLastPoint above is fault = fault
@@ -31,7 +37,9 @@ no_fault rows points front witness NotAtPoint above is fault = fault.1 is.place
 no_fault rows points front witness SameAnswers above is fault = is.differs fault.2
 no_fault rows points front witness CountsDiffer above is fault = fault
 
-pub certificate_no_fault : (rows : List Row) (points : List ℕ) (witnesses : List Witness) (i : ℕ) (witness : Witness) (reason : NotShown) → i < length witnesses → witness ≡ get_or witnesses i witness → IsFault rows points (take i witnesses) witness reason → IsCertificate rows points witnesses → ⊥
+pub certificate_no_fault : (rows : List Row) (points : List ℕ) (witnesses : List Witness) (i : ℕ)
+    (witness : Witness) (reason : NotShown) → i < length witnesses → witness ≡ get_or witnesses i witness
+    → IsFault rows points (take i witnesses) witness reason → IsCertificate rows points witnesses → ⊥
 certificate_no_fault rows points witnesses i witness reason lt is fault certificate =
     no_fault rows points (take i witnesses) witness reason
     (front_below witnesses i witness certificate.witnesses_ascend lt is)
@@ -39,7 +47,10 @@ certificate_no_fault rows points witnesses i witness reason lt is fault certific
     fault
 
 -- the fault of a witness, where those before it have none
-pub first_fault : (rows : List Row) (points : List ℕ) (witnesses : List Witness) (i : ℕ) (witness : Witness) (reason : NotShown) → i < length witnesses → witness ≡ get_or witnesses i witness → ChangesAscend (take i witnesses) → All (IsChange rows points) (take i witnesses) → IsFault rows points (take i witnesses) witness reason → IsFirstFault rows points witnesses reason
+pub first_fault : (rows : List Row) (points : List ℕ) (witnesses : List Witness) (i : ℕ) (witness : Witness)
+    (reason : NotShown) → i < length witnesses → witness ≡ get_or witnesses i witness → ChangesAscend (take i witnesses)
+    → All (IsChange rows points) (take i witnesses) → IsFault rows points (take i witnesses) witness reason
+    → IsFirstFault rows points witnesses reason
 first_fault rows points witnesses i witness reason lt is up each fault = record {
   front = take i witnesses;
   witness = witness;
@@ -50,7 +61,9 @@ first_fault rows points witnesses i witness reason lt is up each fault = record 
   fault = fault;
 }
 
-pub first_reason : (rows : List Row) (points : List ℕ) (witnesses : List Witness) (front : List Witness) (witness : Witness) (reason : NotShown) → AreSorted rows points → IsFault rows points front witness reason → IsFirstFault rows points witnesses reason → IsFirstReason rows points witnesses reason
+pub first_reason : (rows : List Row) (points : List ℕ) (witnesses : List Witness) (front : List Witness)
+    (witness : Witness) (reason : NotShown) → AreSorted rows points → IsFault rows points front witness reason
+    → IsFirstFault rows points witnesses reason → IsFirstReason rows points witnesses reason
 first_reason rows points witnesses front witness PointsNotAscending sorted fault first = absurd fault
 first_reason rows points witnesses front witness RowsNotAscending sorted fault first = absurd fault
 first_reason rows points witnesses front witness RowAboveLastPoint sorted fault first = absurd fault
@@ -60,6 +73,10 @@ first_reason rows points witnesses front witness SameAnswers sorted fault first 
 first_reason rows points witnesses front witness CountsDiffer sorted fault first = absurd fault
 
 -- one more change
-pub each_more : (rows : List Row) (points : List ℕ) (witnesses : List Witness) (i : ℕ) (witness : Witness) → i < length witnesses → witness ≡ get_or witnesses i witness → All (IsChange rows points) (take i witnesses) → IsChange rows points witness → All (IsChange rows points) (take (i + 1) witnesses)
+pub each_more : (rows : List Row) (points : List ℕ) (witnesses : List Witness) (i : ℕ) (witness : Witness)
+    → i < length witnesses → witness ≡ get_or witnesses i witness → All (IsChange rows points) (take i witnesses)
+    → IsChange rows points witness → All (IsChange rows points) (take (i + 1) witnesses)
 each_more rows points witnesses i witness lt is each one =
-    subst (All (IsChange rows points)) (ap (λ w. take i witnesses ++ w ∷ []) is ∙ sym (take_more witnesses i witness lt)) (All-push (IsChange rows points) (take i witnesses) witness each one)
+    subst (All (IsChange rows points))
+    (ap (λ w. take i witnesses ++ w ∷ []) is ∙ sym (take_more witnesses i witness lt))
+    (All-push (IsChange rows points) (take i witnesses) witness each one)

@@ -1,6 +1,7 @@
--- Each change forces a row into whatever answers alike: the newest row there at the change's point is above the point before, else
--- the answer would have stayed. So it serves no other change, and rows are as many as changes at least.
-use Rattle.std.proofs.Common.{◌≡◌, ◌≢◌, ℕ, ◌<◌, ◌≤◌, List, [], ◌∷◌, Some, None, length, refl, sym, ap, ◌∙◌, inl, inr, arith, Contains, All, sum_by, nat_cmp, Less, Equal}
+-- Each change forces a row into whatever answers alike: the newest row there at the change's point is above the point
+-- before, else the answer would have stayed. So it serves no other change, and rows are as many as changes at least.
+use Rattle.std.proofs.Common.{◌≡◌, ◌≢◌, ℕ, ◌<◌, ◌≤◌, List, [], ◌∷◌, Some, None, length, refl, sym, ap, ◌∙◌, inl, inr}
+use Rattle.std.proofs.Common.{arith, Contains, All, sum_by, nat_cmp, Less, Equal}
 use Rattle.std.specs.Ordering.{ordering_then}
 use Rattle.std.specs.Cmp.Lexicographic.{slice_cmp}
 use Rattle.std.proofs.lemmas.Bool.{cases_lt}
@@ -26,19 +27,23 @@ pub record Serves (all : List Row) (points : List ℕ) (change : Witness) (row :
 
 module _ (laws : NewestLaws) where
   -- a change of all forces a row into others
-  pub forced : (all others : List Row) (points : List ℕ) (c : Witness) → IsChange all points c → Alike others all points → Served (Serves all points) others c
+  pub forced : (all others : List Row) (points : List ℕ) (c : Witness) → IsChange all points c → Alike others all points
+      → Served (Serves all points) others c
   forced all others points c change alike =
       elim (newest others c.key c.at) as (λ o. newest others c.key c.at ≡ o → Served (Serves all points) others c) [
         | None ↦ λ e.
-            elim c.before as (λ b. IsPointBefore points b c.at → (answer all c.key c.at ≢ answer_at all c.key b) → Served (Serves all points) others c) [
+            elim c.before as (λ b. IsPointBefore points b c.at → (answer all c.key c.at ≢ answer_at all c.key b)
+            → Served (Serves all points) others c) [
               | None ↦ λ n d. absurd (d (sym (alike c.key c.at change.place.point) ∙ answer_none others c.key c.at e))
               | Some q ↦ λ n d. absurd (d (sym (alike c.key c.at change.place.point)
-                  ∙ answer_same laws others c.key q c.at (omega (arith, n.1)) (λ w i a l. absurd (laws.none others c.key c.at w e i a l))
+                  ∙ answer_same laws others c.key q c.at (omega (arith, n.1))
+                  (λ w i a l. absurd (laws.none others c.key c.at w e i a l))
                   ∙ alike c.key q n.0))
             ] change.place.neighbour change.differs
         | Some v ↦ λ e.
             let is : IsNewest others c.key c.at v = laws.greatest others c.key c.at v e in
-            elim c.before as (λ b. IsPointBefore points b c.at → (answer all c.key c.at ≢ answer_at all c.key b) → Served (Serves all points) others c) [
+            elim c.before as (λ b. IsPointBefore points b c.at → (answer all c.key c.at ≢ answer_at all c.key b)
+            → Served (Serves all points) others c) [
               | None ↦ λ n d. (
                 v,
                 is.member,
@@ -55,7 +60,8 @@ module _ (laws : NewestLaws) where
                   elim (cases_lt b v.stamp) [
                     | inl l ↦ l
                     | inr m ↦ absurd (d (sym (alike c.key c.at change.place.point)
-                        ∙ answer_same laws others c.key b c.at (omega (arith, n.1)) (λ w i a l. let f = stamp_below w v (is.greatest w i a l) in omega arith)
+                        ∙ answer_same laws others c.key b c.at (omega (arith, n.1))
+                        (λ w i a l. let f = stamp_below w v (is.greatest w i a l) in omega arith)
                         ∙ alike c.key b n.0))
                   ] in (
                     v,
@@ -72,9 +78,11 @@ module _ (laws : NewestLaws) where
       ] refl
 
 -- no row serves two changes
-pub serves_once : (all : List Row) (points : List ℕ) (c d : Witness) (v : Row) → change_cmp c d ≡ Less → Serves all points c v → Serves all points d v → ⊥
+pub serves_once : (all : List Row) (points : List ℕ) (c d : Witness) (v : Row) → change_cmp c d ≡ Less
+    → Serves all points c v → Serves all points d v → ⊥
 serves_once all points c d v less s t =
-    let keys : slice_cmp nat_cmp c.key d.key ≡ Equal = ap (slice_cmp nat_cmp c.key) (sym t.key ∙ s.key) ∙ tied_itself nat_list_cmp_total c.key in
+    let keys : slice_cmp nat_cmp c.key d.key ≡ Equal = ap (slice_cmp nat_cmp c.key) (sym t.key ∙ s.key)
+    ∙ tied_itself nat_list_cmp_total c.key in
     let ats : nat_cmp c.at d.at ≡ Less = ap (λ o. ordering_then o (nat_cmp c.at d.at)) (sym keys) ∙ less in
     let lt : c.at < d.at = ranked c.at d.at Less (sym ats) in
     let h = t.above c.at s.point lt in
@@ -85,13 +93,17 @@ serves_once all points c d v less s t =
 pub apart : (changes : List Witness) → ChangesAscend changes → AreApart (λ c d. change_cmp c d ≡ Less) changes
 apart [] up = tt
 apart (c ∷ changes) up = (
-  λ d i. All-contains (λ e. change_cmp c e ≡ Less) changes d (All-from_recursion (λ e. change_cmp c e ≡ Less) changes (sorted_head change_cmp c changes up)) i,
+  λ d i. All-contains (λ e. change_cmp c e ≡ Less) changes d
+      (All-from_recursion (λ e. change_cmp c e ≡ Less) changes (sorted_head change_cmp c changes up)) i,
   apart changes (sorted_tail change_cmp c changes up),
 )
 
-pub changes_force_rows : NewestLaws → (all others : List Row) (points : List ℕ) (changes : List Witness) → ChangesAscend changes → All (IsChange all points) changes → Alike others all points → length changes ≤ length others
+pub changes_force_rows : NewestLaws → (all others : List Row) (points : List ℕ) (changes : List Witness)
+    → ChangesAscend changes → All (IsChange all points) changes → Alike others all points
+    → length changes ≤ length others
 changes_force_rows laws all others points changes up each alike =
-    let h : sum_by (λ _. 1) changes ≤ sum_by (λ _. 1) others = served (λ c d. change_cmp c d ≡ Less) (Serves all points) (λ _. 1) (λ _. 1)
+    let h : sum_by (λ _. 1) changes ≤ sum_by (λ _. 1) others =
+    served (λ c d. change_cmp c d ≡ Less) (Serves all points) (λ _. 1) (λ _. 1)
     (λ c v s. omega arith)
     (serves_once all points) changes others (apart changes up)
     (λ c i. forced laws all others points c (All-contains (IsChange all points) changes c each i) alike) in

@@ -1,6 +1,8 @@
--- The last row that does not come after a key and a stamp is the key's newest row there, if it is of that key: in ascending rows the
--- rows that do not come after them stand first, each candidate is one of them, and the last of them is the greatest.
-use Rattle.std.proofs.Common.{◌≡◌, ◌≢◌, ℕ, ◌-◌, ◌<◌, ◌≤◌, ◌⊎◌, List, Some, None, length, get_or, refl, sym, ap, ◌∙◌, subst, inl, inr, arith, Contains, Ordering, Less, Equal, Greater, nat_cmp, true, false}
+-- The last row that does not come after a key and a stamp is the key's newest row there, if it is of that key: in
+-- ascending rows the rows that do not come after them stand first, each candidate is one of them,
+-- and the last of them is the greatest.
+use Rattle.std.proofs.Common.{◌≡◌, ◌≢◌, ℕ, ◌-◌, ◌<◌, ◌≤◌, ◌⊎◌, List, Some, None, length, get_or, refl, sym, ap, ◌∙◌}
+use Rattle.std.proofs.Common.{subst, inl, inr, arith, Contains, Ordering, Less, Equal, Greater, nat_cmp, true, false}
 use Rattle.std.specs.Ordering.{ordering_then, ordering_reverse, is_le, is_gt}
 use Rattle.std.specs.Cmp.{IsTotalOrder}
 use Rattle.std.specs.Cmp.Lexicographic.{slice_cmp}
@@ -24,7 +26,8 @@ abbrev slot_cmp : Row → Row → Ordering
 slot_cmp a b = ordering_then (slice_cmp nat_cmp a.key b.key) (nat_cmp a.stamp b.stamp)
 
 slot_cmp_total : IsTotalOrder slot_cmp
-slot_cmp_total = then_total (on_total (λ (row : Row). row.key) nat_list_cmp_total) (on_total (λ (row : Row). row.stamp) nat_cmp_total)
+slot_cmp_total = then_total (on_total (λ (row : Row). row.key) nat_list_cmp_total)
+    (on_total (λ (row : Row). row.stamp) nat_cmp_total)
 
 abbrev slot : List ℕ → ℕ → Row
 slot key bound = record { key = key; stamp = bound; node = 0; value = None }
@@ -54,7 +57,8 @@ less-key_not_gt Equal s h = refl
 less-key_not_gt Greater s h = cc
 
 -- neither greater nor less
-pub partitioned : (rows : List Row) (key : List ℕ) (bound : ℕ) → RowsAscend rows → IsPartitionedBy (is_reached key bound) rows
+pub partitioned : (rows : List Row) (key : List ℕ) (bound : ℕ) → RowsAscend rows
+    → IsPartitionedBy (is_reached key bound) rows
 partitioned rows key bound up i j d le lt h =
     elim (cases_order i j) [
       | inl same ↦ ap (λ n. is_reached key bound (get_or rows n d)) same ∙ h
@@ -78,11 +82,16 @@ le-is_le x y le = grind (arith, nat_tests)
 is_le-le : (x y : ℕ) → is_le (nat_cmp x y) ≡ true → x ≤ y
 is_le-le x y h = grind (arith, nat_tests)
 
-candidate-reached : (row : Row) (key : List ℕ) (bound : ℕ) → row.key ≡ key → row.stamp ≤ bound → is_reached key bound row ≡ true
-candidate-reached row key bound same le = ap (λ o. is_le (ordering_then o (nat_cmp row.stamp bound))) (keys_tied row.key key same) ∙ le-is_le row.stamp bound le
+candidate-reached : (row : Row) (key : List ℕ) (bound : ℕ) → row.key ≡ key → row.stamp ≤ bound
+    → is_reached key bound row ≡ true
+candidate-reached row key bound same le =
+    ap (λ o. is_le (ordering_then o (nat_cmp row.stamp bound))) (keys_tied row.key key same)
+    ∙ le-is_le row.stamp bound le
 
-reached-below : (row : Row) (key : List ℕ) (bound : ℕ) → row.key ≡ key → is_reached key bound row ≡ true → row.stamp ≤ bound
-reached-below row key bound same h = is_le-le row.stamp bound (sym (ap (λ o. is_le (ordering_then o (nat_cmp row.stamp bound))) (keys_tied row.key key same)) ∙ h)
+reached-below : (row : Row) (key : List ℕ) (bound : ℕ) → row.key ≡ key → is_reached key bound row ≡ true
+    → row.stamp ≤ bound
+reached-below row key bound same h = is_le-le row.stamp bound
+    (sym (ap (λ o. is_le (ordering_then o (nat_cmp row.stamp bound))) (keys_tied row.key key same)) ∙ h)
 
 -- the keys of a row at or before one that is reached, where the first is of the key
 first_key : (o s : Ordering) → is_le (ordering_then o s) ≡ true → is_gt o ≡ false
@@ -99,11 +108,13 @@ no_gt_both Greater h k = cc
 first_no_later : (a b : Row) → a.key ≡ b.key → row_cmp a b ≡ Less → IsNoLater a b
 first_no_later a b same less =
     let rest : ordering_then (nat_cmp a.stamp b.stamp) (nat_cmp a.node b.node) ≡ Less =
-    ap (λ o. ordering_then o (ordering_then (nat_cmp a.stamp b.stamp) (nat_cmp a.node b.node))) (sym (keys_tied a.key b.key same)) ∙ less in
+    ap (λ o. ordering_then o (ordering_then (nat_cmp a.stamp b.stamp) (nat_cmp a.node b.node)))
+    (sym (keys_tied a.key b.key same)) ∙ less in
     elim (cases_order a.stamp b.stamp) [
       | inl tied ↦
           let nodes : nat_cmp a.node b.node ≡ Less =
-          ap (λ o. ordering_then o (nat_cmp a.node b.node)) (sym (ap (nat_cmp a.stamp) (sym tied) ∙ tied_itself nat_cmp_total a.stamp)) ∙ rest in
+          ap (λ o. ordering_then o (nat_cmp a.node b.node))
+          (sym (ap (nat_cmp a.stamp) (sym tied) ∙ tied_itself nat_cmp_total a.stamp)) ∙ rest in
           let lt : a.node < b.node = ranked a.node b.node Less (sym nodes) in
           inr (tied, omega arith)
       | inr (inl below) ↦ inl below
@@ -113,15 +124,18 @@ first_no_later a b same less =
           cc
     ]
 
-module _ (rows : List Row) (key : List ℕ) (bound : ℕ) (end : ℕ) (up : RowsAscend rows) (parted : IsPartitionPoint (λ row. is_reached key bound row ≡ true) (λ row. is_reached key bound row ≡ false) rows end) where
+module _ (rows : List Row) (key : List ℕ) (bound : ℕ) (end : ℕ) (up : RowsAscend rows) (parted : IsPartitionPoint
+    (λ row. is_reached key bound row ≡ true) (λ row. is_reached key bound row ≡ false) rows end) where
   -- each candidate stands before the end
-  candidate_before : (other : Row) → Contains rows other → other.key ≡ key → other.stamp ≤ bound → (j : ℕ) × (j < end) × (j < length rows) × (get_or rows j other ≡ other)
+  candidate_before : (other : Row) → Contains rows other → other.key ≡ key → other.stamp ≤ bound
+      → (j : ℕ) × (j < end) × (j < length rows) × (get_or rows j other ≡ other)
   candidate_before other (j, lt, is) same le =
       elim (cases_lt j end) [
         | inl below ↦ (j, below, lt, is)
         | inr after ↦
             let no : is_reached key bound (get_or rows j other) ≡ false = parted.1 j other after lt in
-            absurd (both_ways (is_reached key bound other) (ap (is_reached key bound) (sym is) ∙ no) (candidate-reached other key bound same le))
+            absurd (both_ways (is_reached key bound other) (ap (is_reached key bound) (sym is) ∙ no)
+            (candidate-reached other key bound same le))
       ]
 
   -- where the end is the start there is none
@@ -136,12 +150,14 @@ module _ (rows : List Row) (key : List ℕ) (bound : ℕ) (end : ℕ) (up : Rows
             absurd (omega arith)
       ] refl
 
-  module _ (last : Row) (some : 0 < end) (within : end - 1 < length rows) (at_end : last ≡ get_or rows (end - 1) last) where
+  module _ (last : Row) (some : 0 < end) (within : end - 1 < length rows)
+      (at_end : last ≡ get_or rows (end - 1) last) where
     last_reached : is_reached key bound last ≡ true
     last_reached = ap (is_reached key bound) at_end ∙ parted.0 (end - 1) last (omega arith) (omega arith)
 
     -- a candidate is the last row or comes before it
-    before_last : (other : Row) → Contains rows other → other.key ≡ key → other.stamp ≤ bound → (other ≡ last) ⊎ (row_cmp other last ≡ Less)
+    before_last : (other : Row) → Contains rows other → other.key ≡ key → other.stamp ≤ bound
+        → (other ≡ last) ⊎ (row_cmp other last ≡ Less)
     before_last other m same le =
         let place = candidate_before other m same le in
         let j : ℕ = place.0 in
@@ -149,10 +165,13 @@ module _ (rows : List Row) (key : List ℕ) (bound : ℕ) (end : ℕ) (up : Rows
         let lt : j < length rows = place.2 in
         let is : get_or rows j other ≡ other = place.3 in
         elim (cases_order j (end - 1)) [
-          | inl equal ↦ inl (sym is ∙ get_or_default rows j other last lt ∙ ap (λ n. get_or rows n last) equal ∙ sym at_end)
+          | inl equal ↦
+              inl (sym is ∙ get_or_default rows j other last lt ∙ ap (λ n. get_or rows n last) equal ∙ sym at_end)
           | inr (inl before) ↦
-              let less : row_cmp (get_or rows j last) (get_or rows (end - 1) last) ≡ Less = Less-from_sorted row_cmp rows j (end - 1) last up before within in
-              inr (ap (λ r. row_cmp r last) (sym is ∙ get_or_default rows j other last lt) ∙ ap (row_cmp (get_or rows j last)) at_end ∙ less)
+              let less : row_cmp (get_or rows j last) (get_or rows (end - 1) last) ≡ Less =
+              Less-from_sorted row_cmp rows j (end - 1) last up before within in
+              inr (ap (λ r. row_cmp r last) (sym is ∙ get_or_default rows j other last lt)
+              ∙ ap (row_cmp (get_or rows j last)) at_end ∙ less)
           | inr (inr after) ↦ absurd (omega arith)
         ]
 
@@ -181,8 +200,10 @@ module _ (rows : List Row) (key : List ℕ) (bound : ℕ) (end : ℕ) (up : Rows
                 | inl same ↦ differs (ap (λ (r : Row). r.key) (sym same) ∙ is.of_key)
                 | inr less ↦
                     let high : is_gt (slice_cmp nat_cmp row.key last.key) ≡ false =
-                    less-key_not_gt (slice_cmp nat_cmp row.key last.key) (ordering_then (nat_cmp row.stamp last.stamp) (nat_cmp row.node last.node)) less in
-                    let low : is_gt (slice_cmp nat_cmp last.key key) ≡ false = first_key (slice_cmp nat_cmp last.key key) (nat_cmp last.stamp bound) last_reached in
+                    less-key_not_gt (slice_cmp nat_cmp row.key last.key)
+                    (ordering_then (nat_cmp row.stamp last.stamp) (nat_cmp row.node last.node)) less in
+                    let low : is_gt (slice_cmp nat_cmp last.key key) ≡ false =
+                    first_key (slice_cmp nat_cmp last.key key) (nat_cmp last.stamp bound) last_reached in
                     let back : slice_cmp nat_cmp row.key last.key ≡ ordering_reverse (slice_cmp nat_cmp last.key key) =
                     ap (λ k. slice_cmp nat_cmp k last.key) is.of_key ∙ nat_list_cmp_total.antisymm key last.key in
                     differs (slice_cmp-IsAntisymmetric nat_cmp-IsAntisymmetric last.key key

@@ -1,5 +1,6 @@
 -- What is in a list: by its first member and its rest, after a filter, and after a member is taken out.
-use Rattle.std.proofs.Common.{◌≡◌, ◌≢◌, ℕ, zero, suc, ◌+◌, ◌-◌, ◌<◌, Bool, true, false, cond, List, [], ◌∷◌, length, get_or, refl, sym, ap, ◌∙◌, subst, ◌⊎◌, inl, inr, arith, Contains, filter}
+use Rattle.std.proofs.Common.{◌≡◌, ◌≢◌, ℕ, zero, suc, ◌+◌, ◌-◌, ◌<◌, Bool, true, false, cond, List, [], ◌∷◌, length}
+use Rattle.std.proofs.Common.{get_or, refl, sym, ap, ◌∙◌, subst, ◌⊎◌, inl, inr, arith, Contains, filter}
 use Rattle.std.specs.List.{remove}
 use Rattle.std.proofs.lemmas.List.Edits.{length-remove, get_or-remove_below, get_or-remove_above}
 use Rattle.std.proofs.lemmas.Bool.{cases_order, cases_Bool}
@@ -19,7 +20,8 @@ Contains-cons_cases y x xs (zero, l, e) = inl e
 Contains-cons_cases y x xs (suc k, l, e) = inr (k, omega (arith, l), e)
 
 -- what a filter keeps
-pub Contains-filter : {X : Type 0} (p : X → Bool) (xs : List X) (x : X) → Contains xs x → p x ≡ true → Contains (filter p xs) x
+pub Contains-filter : {X : Type 0} (p : X → Bool) (xs : List X) (x : X) → Contains xs x → p x ≡ true
+    → Contains (filter p xs) x
 Contains-filter p [] x i t = absurd (Contains-none x i)
 Contains-filter p (y ∷ ys) x i t =
     elim (Contains-cons_cases y x ys i) [
@@ -30,7 +32,8 @@ Contains-filter p (y ∷ ys) x i t =
       ]
     ]
 
-pub Contains-from_filter : {X : Type 0} (p : X → Bool) (xs : List X) (x : X) → Contains (filter p xs) x → Contains xs x × (p x ≡ true)
+pub Contains-from_filter : {X : Type 0} (p : X → Bool) (xs : List X) (x : X) → Contains (filter p xs) x
+    → Contains xs x × (p x ≡ true)
 Contains-from_filter p [] x i = absurd (Contains-none x i)
 Contains-from_filter {X} p (y ∷ ys) x i =
     elim (cases_Bool (p y)) [
@@ -46,11 +49,16 @@ Contains-from_filter {X} p (y ∷ ys) x i =
     ]
 
 -- what stays when one place is taken out
-pub Contains-remove : {X : Type 0} (xs : List X) (i : ℕ) (y x : X) → i < length xs → get_or xs i y ≡ y → Contains xs x → (y ≢ x) → Contains (remove xs i) x
+pub Contains-remove : {X : Type 0} (xs : List X) (i : ℕ) (y x : X) → i < length xs → get_or xs i y ≡ y → Contains xs x
+    → (y ≢ x) → Contains (remove xs i) x
 Contains-remove xs i y x l here (k, m, e) apart =
     elim (cases_order k i) [
       | inl same ↦ absurd (apart (sym here ∙ get_or_default xs i y x l ∙ ap (λ n. get_or xs n x) (sym same) ∙ e))
       | inr (inl below) ↦ (k, omega (arith, length-remove xs i l), get_or-remove_below xs i x k below l ∙ e)
-      | inr (inr above) ↦
-          (k - 1, omega (arith, length-remove xs i l), get_or-remove_above xs i x (k - 1) (omega arith) l ∙ ap (λ n. get_or xs n x) (let r : k - 1 + 1 ≡ k = omega arith in r) ∙ e)
+      | inr (inr above) ↦ (
+        k - 1,
+        omega (arith, length-remove xs i l),
+        get_or-remove_above xs i x (k - 1) (omega arith) l
+            ∙ ap (λ n. get_or xs n x) (let r : k - 1 + 1 ≡ k = omega arith in r) ∙ e,
+      )
     ]

@@ -1,7 +1,8 @@
--- Where each of some things is served by a member of a list, and no member serves two that are apart, what they weigh is no more
--- than what the list weighs: take the member that serves the first thing out of the list, and go on with the rest. With a weight of 1
--- for each it says that they are no more than the list's members.
-use Rattle.std.proofs.Common.{◌≡◌, ℕ, ◌+◌, ◌<◌, ◌≤◌, List, [], ◌∷◌, length, get_or, refl, sym, ap, subst, arith, Contains, sum_by}
+-- Where each of some things is served by a member of a list, and no member serves two that are apart, what they weigh
+-- is no more than what the list weighs: take the member that serves the first thing out of the list, and go on with the
+-- rest. With a weight of 1 for each it says that they are no more than the list's members.
+use Rattle.std.proofs.Common.{◌≡◌, ℕ, ◌+◌, ◌<◌, ◌≤◌, List, [], ◌∷◌, length, get_or, refl, sym, ap, subst, arith}
+use Rattle.std.proofs.Common.{Contains, sum_by}
 use Rattle.std.specs.List.{remove}
 use Rattle.std.proofs.lemmas.List.Sums.{sum_by-cons, sum_by-remove}
 use Rattle.hlc_witness.proofs.Members.{Contains-first, Contains-rest, Contains-remove}
@@ -18,7 +19,8 @@ Served {X} {Y} R ys x = (y : Y) × Contains ys y × R x y
 pub served : {X Y : Type 0} (D : X → X → Type 0) (R : X → Y → Type 0) (f : X → ℕ) (g : Y → ℕ)
     → ((x : X) (y : Y) → R x y → f x ≤ g y)
     → ((x z : X) (y : Y) → D x z → R x y → R z y → ⊥)
-    → (xs : List X) (ys : List Y) → AreApart D xs → ((x : X) → Contains xs x → Served R ys x) → sum_by f xs ≤ sum_by g ys
+    → (xs : List X) (ys : List Y) → AreApart D xs → ((x : X) → Contains xs x → Served R ys x)
+    → sum_by f xs ≤ sum_by g ys
 served D R f g le once [] ys apart each = omega arith
 served {X} {Y} D R f g le once (x ∷ xs) ys apart each =
     let s : Served R ys x = each x (Contains-first x xs) in
@@ -27,8 +29,11 @@ served {X} {Y} D R f g le once (x ∷ xs) ys apart each =
     let l : k < length ys = s.1.1 in
     let here : get_or ys k y ≡ y = s.1.2 in
     let rest : (z : X) → Contains xs z → Served R (remove ys k) z =
-    λ z i. let t : Served R ys z = each z (Contains-rest x z xs i) in
-    (t.0, Contains-remove ys k y t.0 l here t.1 (λ e. once x z y (apart.0 z i) s.2 (subst (λ w. R z w) (sym e) t.2)), t.2) in
+    λ z i. let t : Served R ys z = each z (Contains-rest x z xs i) in (
+      t.0,
+      Contains-remove ys k y t.0 l here t.1 (λ e. once x z y (apart.0 z i) s.2 (subst (λ w. R z w) (sym e) t.2)),
+      t.2,
+    ) in
     let h : sum_by f xs ≤ sum_by g (remove ys k) = served D R f g le once xs (remove ys k) apart.1 rest in
     let m : sum_by g (remove ys k) + g (get_or ys k y) ≡ sum_by g ys = sum_by-remove g ys k y l in
     let e : g (get_or ys k y) ≡ g y = ap g here in

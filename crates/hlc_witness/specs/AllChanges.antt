@@ -1,5 +1,6 @@
 -- The changes as a function, for definitions that compute with them: key by key, and of each key point by point.
-use Rattle.std.specs.Prelude.{ℕ, List, [], ◌∷◌, ◌++◌, Option, Some, None, Bool, true, false, bytes_eq, if◌then◌else◌, flat_map}
+use Rattle.std.specs.Prelude.{ℕ, List, [], ◌∷◌, ◌++◌, Option, Some, None, Bool, true, false, bytes_eq, if◌then◌else◌}
+use Rattle.std.specs.Prelude.{flat_map}
 use Rattle.std.specs.Ordering.{nat_cmp}
 use Rattle.std.specs.Cmp.Lexicographic.{slice_cmp}
 use Rattle.std.specs.declared.cmp.Ordering.{Ordering}
@@ -19,12 +20,14 @@ is_same_answer (Some x) (Some y) = bytes_eq x y
 -- the change of a key at a point after another, if there is one
 abbrev pub change_at : List Row → List ℕ → Option ℕ → ℕ → List Witness
 change_at rows key before at =
-    if is_same_answer (answer rows key at) (answer_at rows key before) then [] else record { key = key; before = before; at = at } ∷ []
+    if is_same_answer (answer rows key at) (answer_at rows key before) then []
+    else record { key = key; before = before; at = at } ∷ []
 
 -- the changes of a key at these points, the first of which comes after a point
 unfoldable pub key_changes : List Row → List ℕ → Option ℕ → List ℕ → List Witness
 key_changes rows key before [] = []
-key_changes rows key before (point ∷ points) = change_at rows key before point ++ key_changes rows key (Some point) points
+key_changes rows key before (point ∷ points) =
+    change_at rows key before point ++ key_changes rows key (Some point) points
 
 -- the keys from the first on, if a key comes before, at or after it
 abbrev pub placed : Ordering → List ℕ → List ℕ → List (List ℕ) → List (List ℕ) → List (List ℕ)

@@ -11,7 +11,8 @@ use Rattle.hlc_witness.specs.Changes.{IsChange, ChangesAscend}
 
 -- by key, byte by byte, then by stamp, and then by node
 abbrev pub row_cmp : Row → Row → Ordering
-row_cmp a b = ordering_then (slice_cmp nat_cmp a.key b.key) (ordering_then (nat_cmp a.stamp b.stamp) (nat_cmp a.node b.node))
+row_cmp a b =
+    ordering_then (slice_cmp nat_cmp a.key b.key) (ordering_then (nat_cmp a.stamp b.stamp) (nat_cmp a.node b.node))
 
 -- each row is above the one before it
 abbrev pub RowsAscend : List Row → Type 0

@@ -5,7 +5,8 @@ use Rattle.hlc_node.specs.Rows.{answer, IsRowSet}
 
 -- the same answer for each key at each point
 abbrev pub Alike : List Row → List Row → List ℕ → Type 0
-Alike rows others points = (key : List ℕ) (point : ℕ) → Contains points point → answer rows key point ≡ answer others key point
+Alike rows others points = (key : List ℕ) (point : ℕ) → Contains points point
+    → answer rows key point ≡ answer others key point
 
 -- the rows are alike to all, and every row set that is alike to all, written or invented, has at least as many
 pub record Fewest (rows all : List Row) (points : List ℕ) : Type 0 where

@@ -9,7 +9,8 @@ PointsAscend points = (0 < length points) × IsStrictlyIncreasing points
 -- the point before `at`: the greatest of those below it, and none before the first
 abbrev pub IsPointBefore : List ℕ → Option ℕ → ℕ → Type 0
 IsPointBefore points None at = All (λ point. at ≤ point) points
-IsPointBefore points (Some before) at = Contains points before × (before < at) × All (λ point. point < at → point ≤ before) points
+IsPointBefore points (Some before) at =
+    Contains points before × (before < at) × All (λ point. point < at → point ≤ before) points
 
 -- the last point, 0 where there is none
 abbrev pub last_point : List ℕ → ℕ

@@ -5,7 +5,9 @@ use Rattle.hlc_node.specs.declared.row.Row.{Row}
 use Rattle.hlc_node.specs.Rows.{answer}
 use Rattle.hlc_witness.specs.declared.witness.Witness.{Witness}
 use Rattle.hlc_witness.specs.declared.reason.NotShown.{NotShown}
-use Rattle.hlc_witness.specs.declared.reason.NotShown.TheVariants.{PointsNotAscending, RowsNotAscending, RowAboveLastPoint, WitnessNotAscending, NotAtPoint, SameAnswers, CountsDiffer}
+use Rattle.hlc_witness.specs.declared.reason.NotShown.TheVariants.{PointsNotAscending, RowsNotAscending}
+use Rattle.hlc_witness.specs.declared.reason.NotShown.TheVariants.{RowAboveLastPoint, WitnessNotAscending, NotAtPoint}
+use Rattle.hlc_witness.specs.declared.reason.NotShown.TheVariants.{SameAnswers, CountsDiffer}
 use Rattle.hlc_witness.specs.Points.{PointsAscend}
 use Rattle.hlc_witness.specs.Changes.{answer_at, IsAtPoint, IsChange, change_cmp, ChangesAscend}
 use Rattle.hlc_witness.specs.Certificate.{RowsAscend, NoneAbove}
@@ -19,14 +21,16 @@ abbrev pub IsFault : List Row → List ℕ → List Witness → Witness → NotS
 IsFault rows points front witness WitnessNotAscending = IsAbove front witness → ⊥
 IsFault rows points front witness NotAtPoint = IsAbove front witness × (IsAtPoint points witness → ⊥)
 IsFault rows points front witness SameAnswers =
-    IsAbove front witness × IsAtPoint points witness × (answer rows witness.key witness.at ≡ answer_at rows witness.key witness.before)
+    IsAbove front witness × IsAtPoint points witness
+    × (answer rows witness.key witness.at ≡ answer_at rows witness.key witness.before)
 IsFault rows points front witness PointsNotAscending = ⊥
 IsFault rows points front witness RowsNotAscending = ⊥
 IsFault rows points front witness RowAboveLastPoint = ⊥
 IsFault rows points front witness CountsDiffer = ⊥
 
 -- the first reason against the first witness that has one: those before it are changes, ascending
-pub record IsFirstFault (rows : List Row) (points : List ℕ) (witnesses : List Witness) (reason : NotShown) : Type 0 where
+pub record IsFirstFault (rows : List Row) (points : List ℕ) (witnesses : List Witness)
+    (reason : NotShown) : Type 0 where
   pub front : List Witness
   pub witness : Witness
   pub back : List Witness
@@ -43,9 +47,12 @@ AreSorted rows points = PointsAscend points × RowsAscend rows × NoneAbove poin
 abbrev pub IsFirstReason : List Row → List ℕ → List Witness → NotShown → Type 0
 IsFirstReason rows points witnesses PointsNotAscending = PointsAscend points → ⊥
 IsFirstReason rows points witnesses RowsNotAscending = PointsAscend points × (RowsAscend rows → ⊥)
-IsFirstReason rows points witnesses RowAboveLastPoint = PointsAscend points × RowsAscend rows × (NoneAbove points rows → ⊥)
-IsFirstReason rows points witnesses WitnessNotAscending = AreSorted rows points × IsFirstFault rows points witnesses WitnessNotAscending
+IsFirstReason rows points witnesses RowAboveLastPoint =
+    PointsAscend points × RowsAscend rows × (NoneAbove points rows → ⊥)
+IsFirstReason rows points witnesses WitnessNotAscending =
+    AreSorted rows points × IsFirstFault rows points witnesses WitnessNotAscending
 IsFirstReason rows points witnesses NotAtPoint = AreSorted rows points × IsFirstFault rows points witnesses NotAtPoint
 IsFirstReason rows points witnesses SameAnswers = AreSorted rows points × IsFirstFault rows points witnesses SameAnswers
 IsFirstReason rows points witnesses CountsDiffer =
-    AreSorted rows points × ChangesAscend witnesses × All (IsChange rows points) witnesses × (length witnesses ≢ length rows)
+    AreSorted rows points × ChangesAscend witnesses × All (IsChange rows points) witnesses
+    × (length witnesses ≢ length rows)

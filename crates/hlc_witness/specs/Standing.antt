@@ -7,8 +7,8 @@ use Rattle.hlc_witness.specs.Fewest.{Fewest}
 use Rattle.hlc_witness.specs.Changes.{AreChanges}
 use Rattle.hlc_witness.specs.Vacuumed.{rows_to}
 
--- The stored rows are among all, each above the horizon is stored, and a reader is told the same at each open stamp and at each
--- stamp from the horizon on.
+-- The stored rows are among all, each above the horizon is stored, and a reader is told the same at each open stamp and
+-- at each stamp from the horizon on.
 pub record RowsStandFor (stored all : List Row) (horizon : ℕ) (opened : List ℕ) : Type 0 where
   pub row_set : IsRowSet stored
   pub all_row_set : IsRowSet all
@@ -25,9 +25,10 @@ count_above bound rows = length (filter (λ row. nat_lt bound row.stamp) rows)
 abbrev pub count_between : ℕ → ℕ → List Row → ℕ
 count_between low high rows = length (filter (λ row. nat_lt low row.stamp && nat_le row.stamp high) rows)
 
--- Just after a vacuum at the floor: the rows stand for all, with the floor as the horizon, and those at or below it are the fewest
--- against all, as many as the changes of all.
-pub record StandsAfterVacuum (stored all : List Row) (floor : ℕ) (opened points : List ℕ) (changes : List Witness) : Type 0 where
+-- Just after a vacuum at the floor: the rows stand for all, with the floor as the horizon, and those at or below it are
+-- the fewest against all, as many as the changes of all.
+pub record StandsAfterVacuum (stored all : List Row) (floor : ℕ) (opened points : List ℕ)
+    (changes : List Witness) : Type 0 where
   pub stands : RowsStandFor stored all floor opened
   pub listed : AreChanges all points changes
   pub count : length (rows_to floor stored) ≡ length changes

@@ -11,8 +11,8 @@ use Rattle.hlc_witness.specs.Changes.{AreChanges}
 abbrev pub rows_to : ℕ → List Row → List Row
 rows_to bound rows = filter (λ row. nat_le row.stamp bound) rows
 
--- The rows kept are rows of these and a row set, all above the last point among them. They answer alike at the points, and at or
--- below the last point they are as many as the changes.
+-- The rows kept are rows of these and a row set, all above the last point among them. They answer alike at the points,
+-- and at or below the last point they are as many as the changes.
 pub record IsVacuumOf (rows : List Row) (points : List ℕ) (changes : List Witness) (kept : List Row) : Type 0 where
   pub listed : AreChanges rows points changes
   pub row_set : IsRowSet kept
@@ -26,5 +26,7 @@ pub record KeepsNewest (rows : List Row) (points : List ℕ) (changes : List Wit
   pub row_set : IsRowSet kept
   pub within : (row : Row) → Contains kept row → Contains rows row
   pub above : (row : Row) → Contains rows row → last_point points < row.stamp → Contains kept row
-  pub serves : (change : Witness) (row : Row) → Contains changes change → newest rows change.key change.at ≡ Some row → Contains kept row
-  pub needed : (row : Row) → Contains kept row → (last_point points < row.stamp) ⊎ ((change : Witness) × Contains changes change × (newest rows change.key change.at ≡ Some row))
+  pub serves : (change : Witness) (row : Row) → Contains changes change → newest rows change.key change.at ≡ Some row
+      → Contains kept row
+  pub needed : (row : Row) → Contains kept row → (last_point points < row.stamp)
+      ⊎ ((change : Witness) × Contains changes change × (newest rows change.key change.at ≡ Some row))

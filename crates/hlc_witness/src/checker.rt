@@ -90,7 +90,8 @@ fn is_at_point(points: &[Stamp], witness: &Witness) -> bool
 /// Whether the answers at `at` and at `before` are equal.
 fn has_same_answers(rows: &[Row], witness: &Witness) -> bool
     requires { RowsAscend rows.now }
-    ensures { IsTrue result ↔ (answer rows.now witness.now.key witness.now.at ≡ answer_at rows.now witness.now.key witness.now.before) }
+    ensures { IsTrue result
+        ↔ (answer rows.now witness.now.key witness.now.at ≡ answer_at rows.now witness.now.key witness.now.before) }
 {
     let at = value_in(rows, &witness.key, witness.at);
     let before = value_at(rows, &witness.key, witness.before);

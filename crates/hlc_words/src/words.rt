@@ -40,7 +40,8 @@ impl Exact for BadWords {
 
 /// The first word, and the others.
 fn next_word(words: &[String]) -> Option<(&[u8], &[String])>
-    ensures { MatchOption result (bytes_of words.now ≡ []) (λ parts. bytes_of words.now ≡ parts.0.now ∷ bytes_of parts.1.now) }
+    ensures { MatchOption result (bytes_of words.now ≡ [])
+        (λ parts. bytes_of words.now ≡ parts.0.now ∷ bytes_of parts.1.now) }
 {
     let (first, others) = words.split_first()?;
     Some((first.as_bytes(), others))

@@ -1,5 +1,7 @@
--- One look at the board more: seen values only rise, so the least of them does too, and no stamp is below the one before.
-use Rattle.std.proofs.Common.{◌≡◌, ℕ, ◌+◌, ◌-◌, ◌<◌, ◌≤◌, List, [], ◌∷◌, ◌++◌, length, zero, suc, refl, ◌∙◌, sym, ap, subst}
+-- One look at the board more: seen values only rise, so the least of them does too,
+-- and no stamp is below the one before.
+use Rattle.std.proofs.Common.{◌≡◌, ℕ, ◌+◌, ◌-◌, ◌<◌, ◌≤◌, List, [], ◌∷◌, ◌++◌, length, zero, suc, refl, ◌∙◌, sym, ap}
+use Rattle.std.proofs.Common.{subst}
 use Rattle.std.proofs.Common.{arith, length-append}
 use Rattle.std.specs.Prelude.{slice_index}
 use mathlib.Core.Logic.{dite}
@@ -41,7 +43,8 @@ never_more xs n h top i j le lt =
     omega arith)
     (λ (nb : ¬ (j < length xs)).
     let last : length xs ≡ j = omega arith in
-    let back : slice_index (xs ++ n ∷ []) j ≡ n = subst (λ (k : ℕ). slice_index (xs ++ n ∷ []) k ≡ n) last (at_back xs n) in
+    let back : slice_index (xs ++ n ∷ []) j ≡ n =
+    subst (λ (k : ℕ). slice_index (xs ++ n ∷ []) k ≡ n) last (at_back xs n) in
     dite (dec_lt i (length xs))
     (λ (b : i < length xs).
     let a = at_front xs n i b in

@@ -1,5 +1,5 @@
--- What the receipts tell after one call more, or one round more: the new receipts stand behind those before, and each fact
--- about a list of receipts is put together of those about its two parts.
+-- What the receipts tell after one call more, or one round more: the new receipts stand behind those before, and each
+-- fact about a list of receipts is put together of those about its two parts.
 use Rattle.std.proofs.Common.{◌≡◌, ℕ, List, [], ◌∷◌, ◌++◌, map, Option, Some, None, IfNone, sym, ap, ◌∙◌, arith}
 use Rattle.std.proofs.Common.{length-append, append_assoc, refl, subst, All}
 use Rattle.std.proofs.lemmas.List.{append-nil, map-append}
@@ -31,14 +31,16 @@ paid-append a b c xs ys p q = record {
 }
 
 -- the same, of a list that is the two
-pub paid_all : (a b c : Seat) (xs ys all : List Receipt) → all ≡ xs ++ ys → IsPaid a b xs → IsPaid b c ys → IsPaid a c all
+pub paid_all : (a b c : Seat) (xs ys all : List Receipt) → all ≡ xs ++ ys → IsPaid a b xs
+    → IsPaid b c ys → IsPaid a c all
 paid_all a b c xs ys all is p q = subst (λ (l : List Receipt). IsPaid a c l) (sym is) (paid-append a b c xs ys p q)
 
 unwrapped : (a b : WorkEnd) → Some a ≡ Some b → a ≡ b
 unwrapped a b e = cc
 
 -- where no call was made, none more were
-pub stopped : (old new : List Receipt) (before after : Seat) (end : WorkEnd) (Wanted : List Receipt → Type 0) (held : Type 0)
+pub stopped : (old new : List Receipt) (before after : Seat) (end : WorkEnd)
+    (Wanted : List Receipt → Type 0) (held : Type 0)
     → MadeNone old new before after end held → MadeSome old new before after (Some end) Wanted held
 stopped old new before after end Wanted held none = (
   [],
@@ -51,7 +53,8 @@ stopped old new before after end Wanted held none = (
 
 -- one item more was taken and handed in
 pub took_more : (before taken after : List Item) (receipts more : List Receipt) (r : Receipt) (item : Item)
-    → TookAll before taken receipts None → more ≡ receipts ++ r ∷ [] → r.event ≡ accept_of item → after ≡ taken ++ item ∷ []
+    → TookAll before taken receipts None → more ≡ receipts ++ r ∷ [] → r.event ≡ accept_of item
+    → after ≡ taken ++ item ∷ []
     → TookAll before after more None
 took_more before taken after receipts more r item took is event now = (
   took.0 ++ item ∷ [],
@@ -84,7 +87,8 @@ raised_more first was now receipts more r before is step =
     ∙ ap (λ (l : List Receipt). post first.board first.node (highest first.node first.raised l)) (sym is)
 
 -- one round more behind those before
-rounds-append : (keys : List (List ℕ)) (stamps : List ℕ) (stamp : ℕ) (before round : List Receipt) → AreRounds keys stamps before
+rounds-append : (keys : List (List ℕ)) (stamps : List ℕ) (stamp : ℕ) (before round : List Receipt)
+    → AreRounds keys stamps before
     → IsRound keys stamp round → AreRounds keys (stamps ++ stamp ∷ []) (before ++ round)
 rounds-append keys [] stamp before round had here =
     (round, [], ap (λ (l : List Receipt). l ++ round) had ∙ sym (append-nil round), here, refl)
@@ -97,19 +101,23 @@ rounds-append keys (s ∷ stamps) stamp before round had here = (
 )
 
 -- the same, of a list that is the two
-pub rounds_more : (keys : List (List ℕ)) (stamps : List ℕ) (stamp : ℕ) (before round all : List Receipt) → all ≡ before ++ round
+pub rounds_more : (keys : List (List ℕ)) (stamps : List ℕ) (stamp : ℕ) (before round all : List Receipt)
+    → all ≡ before ++ round
     → AreRounds keys stamps before → IsRound keys stamp round → AreRounds keys (stamps ++ stamp ∷ []) all
 rounds_more keys stamps stamp before round all is had here =
     subst (λ (l : List Receipt). AreRounds keys (stamps ++ stamp ∷ []) l) (sym is)
     (rounds-append keys stamps stamp before round had here)
 
 -- a receipt and then more behind the first ones
-pub pushed : (old mid new more : List Receipt) (r : Receipt) → mid ≡ old ++ r ∷ [] → new ≡ mid ++ more → new ≡ old ++ (r ∷ more)
+pub pushed : (old mid new more : List Receipt) (r : Receipt) → mid ≡ old ++ r ∷ [] → new ≡ mid ++ more
+    → new ≡ old ++ (r ∷ more)
 pushed old mid new more r one rest = rest ∙ ap (λ (l : List Receipt). l ++ more) one ∙ append_assoc old (r ∷ []) more
 
 -- an opening at the floor, and then the reads
-pub at_floor : (keys : List (List ℕ)) (r : Receipt) (id : ℕ) (more : List Receipt) (end : Option WorkEnd) → r.event ≡ OpenFloor
-    → opened id ≡ opening_of r.reply → IfNone end (map event_of more ≡ reads_of id keys) → IfNone end (AtFloor keys (r ∷ more))
+pub at_floor : (keys : List (List ℕ)) (r : Receipt) (id : ℕ) (more : List Receipt) (end : Option WorkEnd)
+    → r.event ≡ OpenFloor
+    → opened id ≡ opening_of r.reply → IfNone end (map event_of more ≡ reads_of id keys)
+    → IfNone end (AtFloor keys (r ∷ more))
 at_floor keys r id more None event is h = (event, subst (λ (o : Opening). GoesOn keys o more) is h)
 at_floor keys r id more (Some end) event is h = tt
 
@@ -121,7 +129,8 @@ at_board keys stamp r id more None event is h = (event, subst (λ (o : Opening).
 at_board keys stamp r id more (Some end) event is h = tt
 
 -- an opening below the horizon, and then one at the floor
-pub again : (keys : List (List ℕ)) (stamp : ℕ) (r : Receipt) (more : List Receipt) (end : Option WorkEnd) → r.event ≡ OpenAt stamp
+pub again : (keys : List (List ℕ)) (stamp : ℕ) (r : Receipt) (more : List Receipt) (end : Option WorkEnd)
+    → r.event ≡ OpenAt stamp
     → below ≡ opening_of r.reply → IfNone end (AtFloor keys more) → IfNone end (IsRound keys stamp (r ∷ more))
 again keys stamp r more None event is h = (event, subst (λ (o : Opening). GoesOnOrAgain keys o more) is h)
 again keys stamp r more (Some end) event is h = tt

@@ -21,10 +21,11 @@ accept_of item = Accept item
 -- some items were taken: the receipts are of handing them in, in order, and then comes the one that was left
 abbrev pub TookAll : List Item → List Item → List Receipt → Option Item → Type 0
 TookAll before after receipts left =
-    (items : List Item) × (after ≡ before ++ items ++ option_to_list left) × (map event_of receipts ≡ map accept_of items)
+    (items : List Item) × (after ≡ before ++ items ++ option_to_list left)
+    × (map event_of receipts ≡ map accept_of items)
 
--- what a node's feeder has raised after this reply: where it says that an item of the node was accepted, the greater of the
--- item's stamp and the one before
+-- what a node's feeder has raised after this reply: where it says that an item of the node was accepted, the greater of
+-- the item's stamp and the one before
 abbrev pub raised_by : ℕ → ℕ → CoreReply → ℕ
 raised_by node raised (Accepted accepted) = if (accepted.node == node) then (max raised accepted.stamp) else raised
 raised_by node raised _ = raised
@@ -38,15 +39,17 @@ highest node raised (receipt ∷ receipts) = highest node (raised_by node raised
 abbrev pub fed_by : Post → CoreReply → Post
 fed_by feeder reply = post feeder.board feeder.node (raised_by feeder.node feeder.raised reply)
 
--- One item was taken and handed in: the receipts were `old` and are `new`, the caller was `before` and is `after`, the items
--- taken were `had` and are `taken`, and the feeder was `one` and is `other`.
+-- One item was taken and handed in: the receipts were `old` and are `new`, the caller was `before` and is `after`, the
+-- items taken were `had` and are `taken`, and the feeder was `one` and is `other`.
 abbrev pub FedOne : List Receipt → List Receipt → Seat → Seat → List Item → List Item → Post → Post → Type 0
 FedOne old new before after had taken one other =
     (receipt : Receipt) × (item : Item) × (new ≡ old ++ receipt ∷ []) × (receipt.event ≡ accept_of item)
     × (taken ≡ had ++ item ∷ []) × IsPaid before after (receipt ∷ []) × (other ≡ fed_by one receipt.reply)
 
--- No item was handed in: this is left, and so the work ends. `held` is what the gate promises where it holds the next call.
-abbrev pub FedNone : List Receipt → List Receipt → Seat → Seat → List Item → Received → Post → Post → (Option Item × WorkEnd)
+-- No item was handed in: this is left, and so the work ends.
+-- `held` is what the gate promises where it holds the next call.
+abbrev pub FedNone : List Receipt → List Receipt → Seat → Seat → List Item → Received → Post → Post
+    → (Option Item × WorkEnd)
     → Type 0 → Type 0
 FedNone old new before after had link one other told held =
     (new ≡ old) × (after ≡ before) × (link.taken ≡ had ++ option_to_list told.0) × (other ≡ one)

@@ -29,7 +29,8 @@ abbrev pub MadeNone : List Receipt → List Receipt → Seat → Seat → WorkEn
 MadeNone old new before after end held = (new ≡ old) × (after ≡ before) × (end ≢ Done) × (end ≡ Held → held)
 
 -- some calls more were made; where the work goes on, they are the wanted ones
-abbrev pub MadeSome : List Receipt → List Receipt → Seat → Seat → Option WorkEnd → (List Receipt → Type 0) → Type 0 → Type 0
+abbrev pub MadeSome : List Receipt → List Receipt → Seat → Seat → Option WorkEnd
+    → (List Receipt → Type 0) → Type 0 → Type 0
 MadeSome old new before after end Wanted held =
     (more : List Receipt) × (new ≡ old ++ more) × IsPaid before after more × IfNone end (Wanted more)
     × (end ≢ Some Done) × (end ≡ Some Held → held)

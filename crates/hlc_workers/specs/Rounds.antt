@@ -8,7 +8,8 @@ use Rattle.hlc_core.specs.declared.reply.CoreReply.TheVariants.{Opened, Refused}
 use Rattle.hlc_server.specs.declared.entry.Receipt.{Receipt}
 use Rattle.hlc_board.specs.Views.{Sight, IsLeast}
 use Rattle.hlc_workers.specs.declared.opening.Opening.{Opening}
-use Rattle.hlc_workers.specs.declared.opening.Opening.TheVariants.{Opened as opened, Below as below, NotOpened as refused}
+use Rattle.hlc_workers.specs.declared.opening.Opening.TheVariants.{Opened as opened, Below as below}
+use Rattle.hlc_workers.specs.declared.opening.Opening.TheVariants.{NotOpened as refused}
 use Rattle.hlc_server.specs.Seats.{Seat}
 use Rattle.hlc_workers.specs.Paid.{event_of, IsPaid}
 
@@ -49,7 +50,8 @@ GoesOnOrAgain keys refused receipts = receipts ≡ []
 -- one round at a stamp
 abbrev pub IsRound : List (List ℕ) → ℕ → List Receipt → Type 0
 IsRound keys stamp [] = ⊥
-IsRound keys stamp (receipt ∷ receipts) = (receipt.event ≡ OpenAt stamp) × GoesOnOrAgain keys (opening_of receipt.reply) receipts
+IsRound keys stamp (receipt ∷ receipts) =
+    (receipt.event ≡ OpenAt stamp) × GoesOnOrAgain keys (opening_of receipt.reply) receipts
 
 -- a round at each of the stamps, one after another
 abbrev pub AreRounds : List (List ℕ) → List ℕ → List Receipt → Type 0
@@ -62,8 +64,8 @@ AreRounds keys (stamp ∷ stamps) receipts =
 abbrev pub NeverFalls : List ℕ → Type 0
 NeverFalls xs = (i j : ℕ) → i ≤ j → j < length xs → slice_index xs i ≤ slice_index xs j
 
--- For each of these stamps a pass has made one look at each word of its board. No seen value fell, nor do the stamps, and the
--- last of them is the least of the values seen at the end.
+-- For each of these stamps a pass has made one look at each word of its board. No seen value fell, nor do the stamps,
+-- and the last of them is the least of the values seen at the end.
 pub record HasLookedFor (before after : Sight) (stamps : List ℕ) : Type 0 where
   pub board : after.board ≡ before.board
   pub looks : (k : ℕ) → k < before.board.words → slice_index after.looks k ≡ slice_index before.looks k + length stamps

@@ -1,5 +1,6 @@
 -- A delivery is answered as is due: an issued item is refused by the store for its number alone, as the schedule says.
-use Rattle.std.proofs.Common.{◌≡◌, ℕ, ◌<◌, List, ◌∷◌, Some, None, Option, Ok, Err, Result, refl, ap, sym, ◌∙◌, subst, inl, inr}
+use Rattle.std.proofs.Common.{◌≡◌, ℕ, ◌<◌, List, ◌∷◌, Some, None, Option, Ok, Err, Result, refl, ap, sym, ◌∙◌, subst}
+use Rattle.std.proofs.Common.{inl, inr}
 use Rattle.std.proofs.Common.{arith}
 use Rattle.std.specs.Prelude.{not, MatchResult, slice_get}
 use Rattle.std.proofs.lemmas.Bool.{cond-true, cond-false, lt-leb, eq-eqb, ne_eqb, cases_eq}
@@ -18,7 +19,8 @@ use Rattle.hlc_world.specs.declared.reply.Reply.TheVariants.{Accepted, Refused}
 use Rattle.hlc_world.specs.declared.refusal.Refusal.TheVariants.{NoMemory}
 use Rattle.hlc_world.specs.Schedule.{item_at}
 use Rattle.hlc_world.specs.Store.{accepting, joined, store_history, core_past}
-use Rattle.hlc_world.specs.Due.{of_core, core_refusal, on_node, deliver_refusal, refusal_due, number_refusal, GoesByNumber}
+use Rattle.hlc_world.specs.Due.{of_core, core_refusal, on_node, deliver_refusal, refusal_due, number_refusal}
+use Rattle.hlc_world.specs.Due.{GoesByNumber}
 use Rattle.hlc_world.specs.Due.{IsOwed, StoreMayLack, IsLegal}
 use Rattle.hlc_world.specs.State.{KeptNode, State, world_nodes, IsMatched, StandsFor}
 use Rattle.hlc_world.proofs.Lists.{some-injective}
@@ -59,12 +61,14 @@ found-number n s p k (Some item) ordered at = by-number n s p k item ordered at
 
 -- so a delivery is refused for its number alone
 pub goes-by-number : (n : ℕ) (s : List (Event × Reply)) → IsLegal n s → GoesByNumber n s
-goes-by-number n s legal = λ p k. ap (λ rest. on_node n p rest) (found-number n s p k (item_at p k s) (orderly n s legal) refl)
+goes-by-number n s legal =
+    λ p k. ap (λ rest. on_node n p rest) (found-number n s p k (item_at p k s) (orderly n s legal) refl)
 
 -- why the world refuses to deliver an issued item is why the core does
 due : (n : ℕ) (s : List (Event × Reply)) (p k : ℕ) (item : Item) → IsOrderly n s → item_at p k s ≡ Some item
     → refusal_due n s (Deliver p k) ≡ core_refusal (item_refusal n (core_past s) item)
-due n s p k item o at = on_node-inside n p _ (o.each p k item at).inside ∙ ap (λ x. deliver_refusal n (core_past s) x) at
+due n s p k item o at = on_node-inside n p _ (o.each p k item at).inside
+    ∙ ap (λ x. deliver_refusal n (core_past s) x) at
 
 -- the item that the world finds is the issued one
 pub found : (state : State) (s : List (Event × Reply)) (p k : ℕ) (node : KeptNode) (item : Item) → StandsFor state s
@@ -96,10 +100,12 @@ no_memory state s p k item matched h at none takes =
     )) h
 
 -- the core accepts it
-taken : (state : State) (s : List (Event × Reply)) (p k : ℕ) (item : Item) (core : Kept) → IsMatched state → StandsFor state s
+taken : (state : State) (s : List (Event × Reply)) (p k : ℕ) (item : Item) (core : Kept) → IsMatched state
+    → StandsFor state s
     → item_at p k s ≡ Some item → item_refusal (nodes state.core) (core_past s) item ≡ None
     → CoreStandsFor core (Took item ∷ core_past s)
-    → StandsFor (record { core = core; nodes = state.nodes; messages = state.messages }) ((Deliver p k, Accepted item.stamp) ∷ s)
+    → StandsFor (record { core = core; nodes = state.nodes; messages = state.messages })
+    ((Deliver p k, Accepted item.stamp) ∷ s)
 taken state s p k item core matched h at none took =
     let ordered = orderly (world_nodes state) s h.legal in
     let acceptance : ℕ → Acceptance = λ j. record { node = j; stamp = item.stamp } in
@@ -108,7 +114,8 @@ taken state s p k item core matched h at none took =
         (
           due (world_nodes state) s p k item ordered at ∙ ap core_refusal
               (subst (λ n. item_refusal n (core_past s) item ≡ None) matched none),
-          subst (λ o. IsOwed (world_nodes state) (core_past s) (joined (Some (accepted (acceptance p))) (accepting o))) (sym at)
+          subst (λ o. IsOwed (world_nodes state) (core_past s) (joined (Some (accepted (acceptance p))) (accepting o)))
+              (sym at)
               (ap acceptance (sym (ordered.each p k item at).node)),
         ),
         h.legal,
@@ -124,13 +131,16 @@ reply_of (Ok stamp) = Accepted stamp
 reply_of (Err fault) = Refused (of_core fault)
 
 -- what the core answers to the item
-pub answered : (state : State) (s : List (Event × Reply)) (p k : ℕ) (item : Item) (core : Kept) (result : Result ℕ CoreFault)
+pub answered : (state : State) (s : List (Event × Reply)) (p k : ℕ) (item : Item) (core : Kept)
+    (result : Result ℕ CoreFault)
     → IsMatched state → StandsFor state s → item_at p k s ≡ Some item
     → MatchResult result
     (λ stamp. (stamp ≡ item.stamp) × (item_refusal (nodes state.core) (core_past s) item ≡ None) × CoreStandsFor core
     (Took item ∷ core_past s))
-    (λ fault. IsRefusal (item_refusal (nodes state.core) (core_past s) item) (IsWrite item.body) fault × (core ≡ state.core))
-    → StandsFor (record { core = core; nodes = state.nodes; messages = state.messages }) ((Deliver p k, reply_of result) ∷ s)
+    (λ fault. IsRefusal (item_refusal (nodes state.core) (core_past s) item) (IsWrite item.body) fault
+    × (core ≡ state.core))
+    → StandsFor (record { core = core; nodes = state.nodes; messages = state.messages })
+    ((Deliver p k, reply_of result) ∷ s)
 answered state s p k item core (Ok stamp) matched h at a =
     let t : StandsFor (record { core = core; nodes = state.nodes; messages = state.messages })
     ((Deliver p k, Accepted item.stamp) ∷ s) =

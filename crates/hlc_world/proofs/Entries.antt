@@ -7,7 +7,8 @@ use Rattle.hlc_world.specs.Before.{entry_at}
 use Rattle.hlc_world.proofs.Lists.{some-injective}
 
 -- an entry is the last one or an earlier one
-pub entry-cases : (entry : Event × Reply) (s : List (Event × Reply)) (i : ℕ) (x : Event × Reply) → entry_at (entry ∷ s) i ≡ Some x → ((i ≡ length s) × (entry ≡ x)) ⊎ ((i ≡ length s → ⊥) × (entry_at s i ≡ Some x))
+pub entry-cases : (entry : Event × Reply) (s : List (Event × Reply)) (i : ℕ) (x : Event × Reply)
+    → entry_at (entry ∷ s) i ≡ Some x → ((i ≡ length s) × (entry ≡ x)) ⊎ ((i ≡ length s → ⊥) × (entry_at s i ≡ Some x))
 entry-cases entry s i x h =
     elim (cases_eq i (length s)) [
       | inl same ↦ inl (same, some-injective entry x (sym (cond-true _ _ _ (eq-eqb _ _ same)) ∙ h))

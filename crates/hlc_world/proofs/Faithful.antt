@@ -1,7 +1,7 @@
--- What is promised of a whole schedule follows from the world's standing for it: the core stands for the store's history, which
--- is legal,
--- so the core is faithful to it; each moment of the schedule is one of that history; and each moment of a legal schedule is
--- legal, so
+-- What is promised of a whole schedule follows from the world's standing for it: the core stands for the store's
+-- history, which is legal,
+-- so the core is faithful to it; each moment of the schedule is one of that history; and each moment of a legal
+-- schedule is legal, so
 -- what can be read there is closed.
 use Rattle.std.proofs.Common.{ℕ, List, [], ◌∷◌, ◌++◌, Some, None, Option, refl, ap, sym, subst}
 use Rattle.hlc_core.specs.declared.event.CoreEvent.{CoreEvent}
@@ -20,14 +20,17 @@ use Rattle.hlc_world.proofs.Closure.{closed}
 
 -- a core is faithful to each history that it stands for
 abbrev pub StoreLaw : Type 0
-StoreLaw = (kept : Kept) (h : List (CoreEvent × CoreReply)) → StandsForHistory kept h → IsStoreFaithful (nodes kept) h kept.rows
+StoreLaw = (kept : Kept) (h : List (CoreEvent × CoreReply)) → StandsForHistory kept h
+    → IsStoreFaithful (nodes kept) h kept.rows
 
 moment-stays : (o : Option (CoreEvent × CoreReply)) (h before : List (CoreEvent × CoreReply)) → IsStoreMoment h before
     → IsStoreMoment (with_entry o h) before
 moment-stays None h before moment = moment
-moment-stays (Some entry) h before moment = record { later = entry ∷ moment.later; order = ap (λ x. entry ∷ x) moment.order }
+moment-stays (Some entry) h before moment =
+    record { later = entry ∷ moment.later; order = ap (λ x. entry ∷ x) moment.order }
 
-moment-told : (later before : List (Event × Reply)) → IsStoreMoment (store_history (later ++ before)) (store_history before)
+moment-told : (later before : List (Event × Reply))
+    → IsStoreMoment (store_history (later ++ before)) (store_history before)
 moment-told [] before = record { later = []; order = refl }
 moment-told (entry ∷ later) before =
     moment-stays (share (later ++ before) entry.0 entry.1) (store_history (later ++ before)) (store_history before)
@@ -39,7 +42,8 @@ moments-told s =
     λ before moment. subst (λ x. IsStoreMoment (store_history x) (store_history before)) (sym moment.order)
     (moment-told moment.later before)
 
-before-legal : (nodes : ℕ) (later before : List (Event × Reply)) → IsLegal nodes (later ++ before) → IsLegal nodes before
+before-legal : (nodes : ℕ) (later before : List (Event × Reply)) → IsLegal nodes (later ++ before)
+    → IsLegal nodes before
 before-legal nodes [] before legal = legal
 before-legal nodes (entry ∷ later) before legal = before-legal nodes later before legal.1
 

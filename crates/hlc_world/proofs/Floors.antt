@@ -1,6 +1,8 @@
--- The floor is complete: an issued item at or below the floor is not above its node's head, so it was accepted, since a node's items
--- are accepted in order and what was not yet accepted lies above the head. No head is above its node's clock, so the floor is not.
-use Rattle.std.proofs.Common.{◌≡◌, ℕ, ◌+◌, ◌<◌, ◌≤◌, List, [], ◌∷◌, ◌++◌, length, Some, None, Option, refl, ap, sym, ◌∙◌, subst, inl, inr, arith, length-append}
+-- The floor is complete: an issued item at or below the floor is not above its node's head, so it was accepted, since a
+-- node's items are accepted in order and what was not yet accepted lies above the head.
+-- No head is above its node's clock, so the floor is not.
+use Rattle.std.proofs.Common.{◌≡◌, ℕ, ◌+◌, ◌<◌, ◌≤◌, List, [], ◌∷◌, ◌++◌, length, Some, None, Option, refl, ap, sym}
+use Rattle.std.proofs.Common.{◌∙◌, subst, inl, inr, arith, length-append}
 use Rattle.std.specs.Prelude.{Contains, slice_get}
 use Rattle.std.proofs.lemmas.Option.{slice_get-get_or, slice_get_within}
 use Rattle.std.proofs.lemmas.Bool.{cases_lt, cases_eq}
@@ -10,32 +12,38 @@ use Rattle.hlc_floor.specs.Heads.{Acceptance}
 use Rattle.hlc_core.specs.Past.{Step, Took, Opened, Closed as ClosedOf, Vacuumed as VacuumedOf, count, head, floor}
 use Rattle.hlc_core.specs.PastLaws.{least-le}
 use Rattle.hlc_world.specs.declared.event.Event.{Event}
-use Rattle.hlc_world.specs.declared.event.Event.TheVariants.{Write, Delete, Report, Deliver, OpenAt, OpenFloor, Read, List as ListAll, Close, Vacuum}
+use Rattle.hlc_world.specs.declared.event.Event.TheVariants.{Write, Delete, Report, Deliver, OpenAt, OpenFloor, Read}
+use Rattle.hlc_world.specs.declared.event.Event.TheVariants.{List as ListAll, Close, Vacuum}
 use Rattle.hlc_world.specs.declared.reply.Reply.{Reply}
-use Rattle.hlc_world.specs.declared.reply.Reply.TheVariants.{Stamped, Accepted, Snapshot, Answer, Listing, Closed, Vacuumed}
+use Rattle.hlc_world.specs.declared.reply.Reply.TheVariants.{Stamped, Accepted, Snapshot, Answer, Listing, Closed}
+use Rattle.hlc_world.specs.declared.reply.Reply.TheVariants.{Vacuumed}
 use Rattle.hlc_world.specs.Schedule.{with_item, issued}
 use Rattle.hlc_world.specs.Store.{store_history, core_past}
 use Rattle.hlc_world.specs.Due.{IsGiven, IsLegal, deliver_refusal}
 use Rattle.hlc_world.specs.Floor.{IsComplete, IsBelowClocks}
 use Rattle.hlc_world.proofs.Lists.{some-injective}
 use Rattle.hlc_world.proofs.Nodes.{with_item-same, with_item-other}
-use Rattle.hlc_world.proofs.Orderly.{IsOrderly, orderly, get-with_item, count-same, count-other, delivered, past_taken, on_node-none}
+use Rattle.hlc_world.proofs.Orderly.{IsOrderly, orderly, get-with_item, count-same, count-other, delivered, past_taken}
+use Rattle.hlc_world.proofs.Orderly.{on_node-none}
 
 -- the first items of a node, as many as were accepted, are those that were
 record AreTaken (items : List Item) (number : ℕ) (past : List Step) : Type 0 where
   pub low : number ≤ length items
   pub each : (k : ℕ) (item : Item) → slice_get items k ≡ Some item → k < number → Contains past (Took item)
 
-taken-issue : (n : ℕ) (item : Item) (items : List Item) (number : ℕ) (past : List Step) → AreTaken items number past → AreTaken (with_item n (Some item) items) number past
+taken-issue : (n : ℕ) (item : Item) (items : List Item) (number : ℕ) (past : List Step) → AreTaken items number past
+    → AreTaken (with_item n (Some item) items) number past
 taken-issue n item items number past h =
     let low : number ≤ length items = h.low in
     record {
       low =
           elim (cases_eq item.node n) [
             | inl same ↦
-                (let e : length (with_item n (Some item) items) ≡ length (items ++ item ∷ []) = ap length (with_item-same n item items same) in
+                (let e : length (with_item n (Some item) items) ≡ length (items ++ item ∷ []) =
+                ap length (with_item-same n item items same) in
                 let l : length (items ++ item ∷ []) ≡ length items + 1 = length-append items (item ∷ []) in omega arith)
-            | inr other ↦ (let e : length (with_item n (Some item) items) ≡ length items = ap length (with_item-other n item items other) in omega arith)
+            | inr other ↦ (let e : length (with_item n (Some item) items) ≡ length items =
+                ap length (with_item-other n item items other) in omega arith)
           ];
       each = λ k x at lt.
           elim (get-with_item n k item x items at) [
@@ -44,13 +52,18 @@ taken-issue n item items number past h =
           ];
     }
 
-taken-more : (items : List Item) (number : ℕ) (past : List Step) (step : Step) → AreTaken items number past → AreTaken items number (step ∷ past)
-taken-more items number past step h = record { low = h.low; each = λ k x at lt. Contains-append_right (step ∷ []) past (Took x) (h.each k x at lt) }
+taken-more : (items : List Item) (number : ℕ) (past : List Step) (step : Step) → AreTaken items number past
+    → AreTaken items number (step ∷ past)
+taken-more items number past step h =
+    record { low = h.low; each = λ k x at lt. Contains-append_right (step ∷ []) past (Took x) (h.each k x at lt) }
 
-taken-took : (n p k : ℕ) (item : Item) (items : ℕ → List Item) (past : List Step) → item.node ≡ p → slice_get (items p) k ≡ Some item → k ≡ count p past → AreTaken (items n) (count n past) past → AreTaken (items n) (count n (Took item ∷ past)) (Took item ∷ past)
+taken-took : (n p k : ℕ) (item : Item) (items : ℕ → List Item) (past : List Step) → item.node ≡ p
+    → slice_get (items p) k ≡ Some item → k ≡ count p past → AreTaken (items n) (count n past) past
+    → AreTaken (items n) (count n (Took item ∷ past)) (Took item ∷ past)
 taken-took n p k item items past own at next h =
     elim (cases_eq item.node n) [
-      | inr other ↦ subst (λ j. AreTaken (items n) j (Took item ∷ past)) (sym (count-other n item past other)) (taken-more (items n) (count n past) past (Took item) h)
+      | inr other ↦ subst (λ j. AreTaken (items n) j (Took item ∷ past)) (sym (count-other n item past other))
+          (taken-more (items n) (count n past) past (Took item) h)
       | inl same ↦
           let pn : p ≡ n = sym own ∙ same in
           let at' : slice_get (items n) k ≡ Some item = subst (λ j. slice_get (items j) k ≡ Some item) pn at in
@@ -65,8 +78,10 @@ taken-took n p k item items past own at next h =
                   | inl before ↦ more.each j x there before
                   | inr last ↦
                       let e : j ≡ k = omega arith in
-                      let is : item ≡ x = some-injective item x (sym at' ∙ ap (λ i. slice_get (items n) i) (sym e) ∙ there) in
-                      subst (λ y. Contains (Took item ∷ past) (Took y)) is (Contains-append_left (Took item ∷ []) past (Took item) (0, omega arith, refl))
+                      let is : item ≡ x =
+                      some-injective item x (sym at' ∙ ap (λ i. slice_get (items n) i) (sym e) ∙ there) in
+                      subst (λ y. Contains (Took item ∷ past) (Took y)) is
+                      (Contains-append_left (Took item ∷ []) past (Took item) (0, omega arith, refl))
                 ];
           })
     ]
@@ -74,28 +89,42 @@ taken-took n p k item items past own at next h =
 abbrev AllTaken : List (Event × Reply) → Type 0
 AllTaken s = (n : ℕ) → AreTaken (issued n s) (count n (core_past s)) (core_past s)
 
-taken-delivered : (nodes : ℕ) (s : List (Event × Reply)) (p k : ℕ) (acceptance : Acceptance) (o : Option Item) → slice_get (issued p s) k ≡ o → deliver_refusal nodes (core_past s) o ≡ None → IsOrderly nodes s → AllTaken s → (n : ℕ) → AreTaken (issued n s) (count n (past_taken acceptance o (store_history s))) (past_taken acceptance o (store_history s))
+taken-delivered : (nodes : ℕ) (s : List (Event × Reply)) (p k : ℕ) (acceptance : Acceptance) (o : Option Item)
+    → slice_get (issued p s) k ≡ o → deliver_refusal nodes (core_past s) o ≡ None → IsOrderly nodes s
+    → AllTaken s → (n : ℕ) → AreTaken (issued n s) (count n (past_taken acceptance o (store_history s)))
+    (past_taken acceptance o (store_history s))
 taken-delivered nodes s p k acceptance None at none ordered h n = h n
 taken-delivered nodes s p k acceptance (Some item) at none ordered h n =
     let is = ordered.each p k item at in
-    taken-took n p k item (λ j. issued j s) (core_past s) is.node at (delivered nodes (core_past s) p k item is.node is.number none) (h n)
+    taken-took n p k item (λ j. issued j s) (core_past s) is.node at
+    (delivered nodes (core_past s) p k item is.node is.number none) (h n)
 
-taken-entry : (nodes : ℕ) (s : List (Event × Reply)) (event : Event) (reply : Reply) → IsGiven nodes s event reply → IsOrderly nodes s → AllTaken s → AllTaken ((event, reply) ∷ s)
-taken-entry nodes s (Write p reading key value) (Stamped st num) given ordered h = λ n. taken-issue n _ (issued n s) (count n (core_past s)) (core_past s) (h n)
-taken-entry nodes s (Delete p reading key) (Stamped st num) given ordered h = λ n. taken-issue n _ (issued n s) (count n (core_past s)) (core_past s) (h n)
-taken-entry nodes s (Report p reading) (Stamped st num) given ordered h = λ n. taken-issue n _ (issued n s) (count n (core_past s)) (core_past s) (h n)
-taken-entry nodes s (Deliver p k) (Accepted st) given ordered h = taken-delivered nodes s p k (record { node = p; stamp = st }) (slice_get (issued p s) k) refl (on_node-none nodes p _ given.0).1 ordered h
-taken-entry nodes s (OpenAt at) (Snapshot id st) given ordered h = λ n. taken-more (issued n s) (count n (core_past s)) (core_past s) (Opened st) (h n)
-taken-entry nodes s OpenFloor (Snapshot id st) given ordered h = λ n. taken-more (issued n s) (count n (core_past s)) (core_past s) (Opened st) (h n)
+taken-entry : (nodes : ℕ) (s : List (Event × Reply)) (event : Event) (reply : Reply) → IsGiven nodes s event reply
+    → IsOrderly nodes s → AllTaken s → AllTaken ((event, reply) ∷ s)
+taken-entry nodes s (Write p reading key value) (Stamped st num) given ordered h =
+    λ n. taken-issue n _ (issued n s) (count n (core_past s)) (core_past s) (h n)
+taken-entry nodes s (Delete p reading key) (Stamped st num) given ordered h =
+    λ n. taken-issue n _ (issued n s) (count n (core_past s)) (core_past s) (h n)
+taken-entry nodes s (Report p reading) (Stamped st num) given ordered h =
+    λ n. taken-issue n _ (issued n s) (count n (core_past s)) (core_past s) (h n)
+taken-entry nodes s (Deliver p k) (Accepted st) given ordered h = taken-delivered nodes s p k
+    (record { node = p; stamp = st }) (slice_get (issued p s) k) refl (on_node-none nodes p _ given.0).1 ordered h
+taken-entry nodes s (OpenAt at) (Snapshot id st) given ordered h =
+    λ n. taken-more (issued n s) (count n (core_past s)) (core_past s) (Opened st) (h n)
+taken-entry nodes s OpenFloor (Snapshot id st) given ordered h =
+    λ n. taken-more (issued n s) (count n (core_past s)) (core_past s) (Opened st) (h n)
 taken-entry nodes s (Read id key) (Answer value) given ordered h = h
 taken-entry nodes s (ListAll id) (Listing pairs) given ordered h = h
-taken-entry nodes s (Close id) (Closed st) given ordered h = λ n. taken-more (issued n s) (count n (core_past s)) (core_past s) (ClosedOf id) (h n)
-taken-entry nodes s Vacuum (Vacuumed report) given ordered h = λ n. taken-more (issued n s) (count n (core_past s)) (core_past s) VacuumedOf (h n)
+taken-entry nodes s (Close id) (Closed st) given ordered h =
+    λ n. taken-more (issued n s) (count n (core_past s)) (core_past s) (ClosedOf id) (h n)
+taken-entry nodes s Vacuum (Vacuumed report) given ordered h =
+    λ n. taken-more (issued n s) (count n (core_past s)) (core_past s) VacuumedOf (h n)
 taken-entry nodes s _ _ given ordered h = h
 
 taken : (nodes : ℕ) (s : List (Event × Reply)) → IsLegal nodes s → AllTaken s
 taken nodes [] legal = λ n. record { low = omega arith; each = λ k x at lt. absurd (omega arith) }
-taken nodes (entry ∷ s) legal = taken-entry nodes s entry.0 entry.1 legal.0 (orderly nodes s legal.1) (taken nodes s legal.1)
+taken nodes (entry ∷ s) legal =
+    taken-entry nodes s entry.0 entry.1 legal.0 (orderly nodes s legal.1) (taken nodes s legal.1)
 
 -- every issued item at or below the floor was accepted
 pub complete : (nodes : ℕ) (s : List (Event × Reply)) → IsLegal nodes s → IsComplete nodes s
@@ -105,15 +134,18 @@ complete nodes s legal = λ item from low.
     let within : k < length (issued n s) = from.1.1 in
     let at : slice_get (issued n s) k ≡ Some item = slice_get-get_or (issued n s) k item within ∙ ap Some from.1.2 in
     let is = (orderly nodes s legal).each n k item at in
-    let least : floor nodes (core_past s) ≤ head n (core_past s) = least-le (λ j. head j (core_past s)) nodes n is.inside in
+    let least : floor nodes (core_past s) ≤ head n (core_past s) =
+    least-le (λ j. head j (core_past s)) nodes n is.inside in
     (taken nodes s legal n).each k item at
     (elim (cases_lt k (count n (core_past s))) [
       | inl before ↦ before
-      | inr later ↦ absurd (let up : head n (core_past s) < item.stamp = is.ahead later in let low' : item.stamp ≤ floor nodes (core_past s) = low in omega arith)
+      | inr later ↦ absurd (let up : head n (core_past s) < item.stamp = is.ahead later in
+          let low' : item.stamp ≤ floor nodes (core_past s) = low in omega arith)
     ])
 
 -- no clock is below the floor
 pub below_clocks : (nodes : ℕ) (s : List (Event × Reply)) → IsLegal nodes s → IsBelowClocks nodes s
 below_clocks nodes s legal = λ n inside.
-    let least : floor nodes (core_past s) ≤ head n (core_past s) = least-le (λ j. head j (core_past s)) nodes n inside in
+    let least : floor nodes (core_past s) ≤ head n (core_past s) =
+    least-le (λ j. head j (core_past s)) nodes n inside in
     let low = (orderly nodes s legal).head_low n in omega (arith, low)

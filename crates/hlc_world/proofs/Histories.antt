@@ -1,5 +1,5 @@
--- The store's history of a legal schedule is legal, since what is due to an event that asks something of the store is what the
--- store
+-- The store's history of a legal schedule is legal, since what is due to an event that asks something of the store is
+-- what the store
 -- owes; and what took place in a legal history is a legal past.
 use Rattle.std.proofs.Common.{◌≡◌, ℕ, ◌≤◌, List, [], ◌∷◌, Some, None, Option, ◌∙◌, sym, subst, arith}
 use Rattle.hlc_node.specs.declared.item.Item.{Item}
@@ -13,7 +13,8 @@ use Rattle.hlc_core.specs.PastLaws.{open-room, horizon-low}
 use Rattle.hlc_core.specs.Calls.{list_refusal}
 use Rattle.hlc_core.specs.History.{step_of, with_step, past_of, IsDue, IsLegalHistory}
 use Rattle.hlc_world.specs.declared.event.Event.{Event}
-use Rattle.hlc_world.specs.declared.event.Event.TheVariants.{Deliver, OpenAt, OpenFloor, Read, List as ListAll, Close, Vacuum}
+use Rattle.hlc_world.specs.declared.event.Event.TheVariants.{Deliver, OpenAt, OpenFloor, Read, List as ListAll, Close}
+use Rattle.hlc_world.specs.declared.event.Event.TheVariants.{Vacuum}
 use Rattle.hlc_world.specs.declared.reply.Reply.{Reply}
 use Rattle.hlc_world.specs.declared.reply.Reply.TheVariants.{Accepted, Snapshot, Answer, Listing, Closed, Vacuumed}
 use Rattle.hlc_world.specs.Schedule.{item_at}
@@ -32,7 +33,8 @@ history-taken nodes h acceptance (Some item) none owed legal = ((no-core _ none,
 history-entry : (nodes : ℕ) (s : List (Event × Reply)) (event : Event) (reply : Reply) → IsGiven nodes s event reply
     → IsLegalHistory nodes (store_history s) → IsLegalHistory nodes (store_history ((event, reply) ∷ s))
 history-entry nodes s (Deliver p k) (Accepted st) given legal =
-    history-taken nodes (store_history s) (record { node = p; stamp = st }) (item_at p k s) (on_node-none nodes p _ given.0).1
+    history-taken nodes (store_history s) (record { node = p; stamp = st }) (item_at p k s)
+    (on_node-none nodes p _ given.0).1
     given.1 legal
 history-entry nodes s (OpenAt at) (Snapshot id st) given legal = ((no-core _ given.0, given.1), legal)
 history-entry nodes s OpenFloor (Snapshot id st) given legal = ((no-core _ given.0, given.1), legal)

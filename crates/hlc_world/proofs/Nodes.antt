@@ -1,5 +1,6 @@
 -- The world goes on standing for its schedule: new nodes, the events of nodes, and events that change nothing.
-use Rattle.std.proofs.Common.{◌≡◌, ℕ, zero, suc, ◌+◌, ◌<◌, List, [], ◌∷◌, ◌++◌, length, Some, None, Ok, Err, Option, refl, ap, sym, ◌∙◌, subst, inl, inr, arith, length-set, length-append}
+use Rattle.std.proofs.Common.{◌≡◌, ℕ, zero, suc, ◌+◌, ◌<◌, List, [], ◌∷◌, ◌++◌, length, Some, None, Ok, Err, Option}
+use Rattle.std.proofs.Common.{refl, ap, sym, ◌∙◌, subst, inl, inr, arith, length-set, length-append}
 use Rattle.std.specs.Prelude.{slice_get, slice_set}
 use Rattle.std.proofs.lemmas.Bool.{cond-true, cond-false, eq-eqb, ne_eqb, lt-leb, cases_eq}
 use Rattle.hlc_clock.specs.NextStamp.{stamp_due}
@@ -19,9 +20,11 @@ use Rattle.hlc_world.specs.declared.reply.Reply.{Reply}
 use Rattle.hlc_world.specs.declared.reply.Reply.TheVariants.{Stamped, Sent, Received, Observed, Refused}
 use Rattle.hlc_world.specs.declared.refusal.Refusal.{Refusal}
 use Rattle.hlc_world.specs.declared.refusal.Refusal.TheVariants.{NoMemory}
-use Rattle.hlc_world.specs.Schedule.{an_item, item_made, message_made, stamping_of, with_item, stamp_or, with_message, issued, last_stamp, sent, message_at, node_of}
+use Rattle.hlc_world.specs.Schedule.{an_item, item_made, message_made, stamping_of, with_item, stamp_or, with_message}
+use Rattle.hlc_world.specs.Schedule.{issued, last_stamp, sent, message_at, node_of}
 use Rattle.hlc_world.specs.Store.{asked, told, joined, with_entry, store_history, core_past}
-use Rattle.hlc_world.specs.Due.{of_clock, issue_refusal, stamp_refusal, receive_refusal, observe_refusal, on_node, refusal_due, IsReceived, IsObserved, MayLackMemory, IsGiven, IsLegal}
+use Rattle.hlc_world.specs.Due.{of_clock, issue_refusal, stamp_refusal, receive_refusal, observe_refusal, on_node}
+use Rattle.hlc_world.specs.Due.{refusal_due, IsReceived, IsObserved, MayLackMemory, IsGiven, IsLegal}
 use Rattle.hlc_world.specs.State.{KeptNode, State, world_nodes, StandsFor, fresh, Issues}
 use Rattle.hlc_world.proofs.Lists.{some-injective, get-set_at, get-set_other, set-same, get-append_left, get-push}
 
@@ -35,21 +38,27 @@ stamp_or-same p st last = cond-true _ _ _ (eq-eqb p p refl)
 pub stamp_or-other : (n p st last : ℕ) → (p ≡ n → ⊥) → stamp_or n (Some (p, st)) last ≡ last
 stamp_or-other n p st last other = cond-false _ _ _ (ne_eqb p n other)
 
-pub with_item-same : (p : ℕ) (item : Item) (items : List Item) → item.node ≡ p → with_item p (Some item) items ≡ items ++ item ∷ []
+pub with_item-same : (p : ℕ) (item : Item) (items : List Item) → item.node ≡ p
+    → with_item p (Some item) items ≡ items ++ item ∷ []
 with_item-same p item items e = cond-true _ _ _ (eq-eqb _ _ e)
 
-pub with_item-other : (n : ℕ) (item : Item) (items : List Item) → (item.node ≡ n → ⊥) → with_item n (Some item) items ≡ items
+pub with_item-other : (n : ℕ) (item : Item) (items : List Item) → (item.node ≡ n → ⊥)
+    → with_item n (Some item) items ≡ items
 with_item-other n item items e = cond-false _ _ _ (ne_eqb _ _ e)
 
 pub on_node-inside : (nodes p : ℕ) (rest : Option Refusal) → p < nodes → on_node nodes p rest ≡ rest
 on_node-inside nodes p rest h = cond-false _ _ _ (lt-leb nodes p h)
 
 -- one node issued an item, and the others are as they were
-nodes-issued : (nodes : List KeptNode) (lasts : ℕ → ℕ) (items : ℕ → List Item) (p st : ℕ) (item : Item) → item.node ≡ p → p < length nodes → ((n : ℕ) → n < length nodes → slice_get nodes n ≡ Some (a_node n (lasts n) (items n))) → (n : ℕ) → n < length nodes → slice_get (slice_set nodes p (a_node p st (items p ++ item ∷ []))) n ≡ Some (a_node n (stamp_or n (Some (p, st)) (lasts n)) (with_item n (Some item) (items n)))
+nodes-issued : (nodes : List KeptNode) (lasts : ℕ → ℕ) (items : ℕ → List Item) (p st : ℕ) (item : Item) → item.node ≡ p
+    → p < length nodes → ((n : ℕ) → n < length nodes → slice_get nodes n ≡ Some (a_node n (lasts n) (items n)))
+    → (n : ℕ) → n < length nodes → slice_get (slice_set nodes p (a_node p st (items p ++ item ∷ []))) n
+    ≡ Some (a_node n (stamp_or n (Some (p, st)) (lasts n)) (with_item n (Some item) (items n)))
 nodes-issued nodes lasts items p st item own inside h n lt =
     elim (cases_eq p n) [
       | inl same ↦
-          subst (λ k. slice_get (slice_set nodes p (a_node p st (items p ++ item ∷ []))) k ≡ Some (a_node k (stamp_or k (Some (p, st)) (lasts k)) (with_item k (Some item) (items k)))) same
+          subst (λ k. slice_get (slice_set nodes p (a_node p st (items p ++ item ∷ []))) k
+          ≡ Some (a_node k (stamp_or k (Some (p, st)) (lasts k)) (with_item k (Some item) (items k)))) same
           (get-set_at nodes p (a_node p st (items p ++ item ∷ [])) inside
           ∙ sym (ap (λ a. Some (a_node p a (with_item p (Some item) (items p)))) (stamp_or-same p st (lasts p))
           ∙ ap (λ xs. Some (a_node p st xs)) (with_item-same p item (items p) own)))
@@ -61,12 +70,17 @@ nodes-issued nodes lasts items p st item own inside h n lt =
     ]
 
 -- one node was stamped without an item, and the others are as they were
-nodes-stamped : (nodes : List KeptNode) (lasts : ℕ → ℕ) (items : ℕ → List Item) (p st : ℕ) → p < length nodes → ((n : ℕ) → n < length nodes → slice_get nodes n ≡ Some (a_node n (lasts n) (items n))) → (n : ℕ) → n < length nodes → slice_get (slice_set nodes p (a_node p st (items p))) n ≡ Some (a_node n (stamp_or n (Some (p, st)) (lasts n)) (items n))
+nodes-stamped : (nodes : List KeptNode) (lasts : ℕ → ℕ) (items : ℕ → List Item) (p st : ℕ) → p < length nodes
+    → ((n : ℕ) → n < length nodes → slice_get nodes n ≡ Some (a_node n (lasts n) (items n)))
+    → (n : ℕ) → n < length nodes → slice_get (slice_set nodes p (a_node p st (items p))) n
+    ≡ Some (a_node n (stamp_or n (Some (p, st)) (lasts n)) (items n))
 nodes-stamped nodes lasts items p st inside h n lt =
     elim (cases_eq p n) [
       | inl same ↦
-          subst (λ k. slice_get (slice_set nodes p (a_node p st (items p))) k ≡ Some (a_node k (stamp_or k (Some (p, st)) (lasts k)) (items k))) same
-          (get-set_at nodes p (a_node p st (items p)) inside ∙ sym (ap (λ a. Some (a_node p a (items p))) (stamp_or-same p st (lasts p))))
+          subst (λ k. slice_get (slice_set nodes p (a_node p st (items p))) k
+          ≡ Some (a_node k (stamp_or k (Some (p, st)) (lasts k)) (items k))) same
+          (get-set_at nodes p (a_node p st (items p)) inside
+          ∙ sym (ap (λ a. Some (a_node p a (items p))) (stamp_or-same p st (lasts p))))
       | inr other ↦
           get-set_other nodes p n (a_node p st (items p)) (λ e. other (sym e))
           ∙ h n lt
@@ -78,14 +92,19 @@ abbrev past_told : List (Event × Reply) → Event → Option CoreReply → List
 past_told s e reply = past_of (with_entry (joined reply (asked s e)) (store_history s))
 
 -- a refused event leaves all as it was
-pub stays : (state : State) (s : List (Event × Reply)) (e : Event) (refusal : Refusal) → item_made e (Refused refusal) ≡ None → stamping_of e (Refused refusal) ≡ None → message_made e (Refused refusal) ≡ None → told e (Refused refusal) ≡ None → IsGiven (world_nodes state) s e (Refused refusal) → StandsFor state s → StandsFor state ((e, Refused refusal) ∷ s)
+pub stays : (state : State) (s : List (Event × Reply)) (e : Event) (refusal : Refusal)
+    → item_made e (Refused refusal) ≡ None → stamping_of e (Refused refusal) ≡ None
+    → message_made e (Refused refusal) ≡ None → told e (Refused refusal) ≡ None
+    → IsGiven (world_nodes state) s e (Refused refusal) → StandsFor state s → StandsFor state ((e, Refused refusal) ∷ s)
 stays state s e refusal not_made not_marked not_sent not_told given h =
     record {
       legal = (given, h.legal);
       core = subst (λ o. CoreStandsFor state.core (past_told s e o)) (sym not_told) h.core;
       nodes = λ n lt.
-          subst (λ o. slice_get state.nodes n ≡ Some (a_node n (stamp_or n o (last_stamp n s)) (with_item n (item_made e (Refused refusal)) (issued n s)))) (sym not_marked)
-          (subst (λ o. slice_get state.nodes n ≡ Some (a_node n (last_stamp n s) (with_item n o (issued n s)))) (sym not_made) (h.nodes n lt));
+          subst (λ o. slice_get state.nodes n ≡ Some (a_node n (stamp_or n o (last_stamp n s))
+          (with_item n (item_made e (Refused refusal)) (issued n s)))) (sym not_marked)
+          (subst (λ o. slice_get state.nodes n ≡ Some (a_node n (last_stamp n s) (with_item n o (issued n s))))
+          (sym not_made) (h.nodes n lt));
       messages = subst (λ o. state.messages ≡ with_message o (sent s)) (sym not_sent) h.messages;
     }
 
@@ -101,105 +120,186 @@ pub record IsIssue (nodes : ℕ) (s : List (Event × Reply)) (e : Event) (p : �
   pub tells : (r : Reply) → told e r ≡ None
   pub not_made : (f : Refusal) → item_made e (Refused f) ≡ None
   pub not_marked : (f : Refusal) → stamping_of e (Refused f) ≡ None
-  pub given : (st num : ℕ) → refusal_due nodes s e ≡ None → issue_due (node_of p s) body reading ≡ Ok st → num ≡ length (issued p s) → IsGiven nodes s e (Stamped st num)
+  pub given : (st num : ℕ) → refusal_due nodes s e ≡ None → issue_due (node_of p s) body reading ≡ Ok st
+      → num ≡ length (issued p s) → IsGiven nodes s e (Stamped st num)
   pub may : MayLackMemory s e
 
-pub write-is : (nodes : ℕ) (s : List (Event × Reply)) (p reading : ℕ) (key value : List ℕ) → IsIssue nodes s (Write p reading key value) p (a_write key (Some value)) reading
+pub write-is : (nodes : ℕ) (s : List (Event × Reply)) (p reading : ℕ) (key value : List ℕ)
+    → IsIssue nodes s (Write p reading key value) p (a_write key (Some value)) reading
 write-is nodes s p reading key value =
-    record { refusal = refl; makes = λ st num. refl; marks = λ st num. refl; sends = λ r. refl; tells = λ r. refl; not_made = λ f. refl; not_marked = λ f. refl; given = λ st num a b c. (a, (b, c)); may = tt }
+    record {
+      refusal = refl;
+      makes = λ st num. refl;
+      marks = λ st num. refl;
+      sends = λ r. refl;
+      tells = λ r. refl;
+      not_made = λ f. refl;
+      not_marked = λ f. refl;
+      given = λ st num a b c. (a, (b, c));
+      may = tt;
+    }
 
-pub delete-is : (nodes : ℕ) (s : List (Event × Reply)) (p reading : ℕ) (key : List ℕ) → IsIssue nodes s (Delete p reading key) p (a_write key None) reading
+pub delete-is : (nodes : ℕ) (s : List (Event × Reply)) (p reading : ℕ) (key : List ℕ)
+    → IsIssue nodes s (Delete p reading key) p (a_write key None) reading
 delete-is nodes s p reading key =
-    record { refusal = refl; makes = λ st num. refl; marks = λ st num. refl; sends = λ r. refl; tells = λ r. refl; not_made = λ f. refl; not_marked = λ f. refl; given = λ st num a b c. (a, (b, c)); may = tt }
+    record {
+      refusal = refl;
+      makes = λ st num. refl;
+      marks = λ st num. refl;
+      sends = λ r. refl;
+      tells = λ r. refl;
+      not_made = λ f. refl;
+      not_marked = λ f. refl;
+      given = λ st num a b c. (a, (b, c));
+      may = tt;
+    }
 
-pub report-is : (nodes : ℕ) (s : List (Event × Reply)) (p reading : ℕ) → IsIssue nodes s (Report p reading) p a_report reading
+pub report-is : (nodes : ℕ) (s : List (Event × Reply)) (p reading : ℕ)
+    → IsIssue nodes s (Report p reading) p a_report reading
 report-is nodes s p reading =
-    record { refusal = refl; makes = λ st num. refl; marks = λ st num. refl; sends = λ r. refl; tells = λ r. refl; not_made = λ f. refl; not_marked = λ f. refl; given = λ st num a b c. (a, (b, c)); may = tt }
+    record {
+      refusal = refl;
+      makes = λ st num. refl;
+      marks = λ st num. refl;
+      sends = λ r. refl;
+      tells = λ r. refl;
+      not_made = λ f. refl;
+      not_marked = λ f. refl;
+      given = λ st num a b c. (a, (b, c));
+      may = tt;
+    }
 
 -- an item that a node issued
-pub issues : (state : State) (s : List (Event × Reply)) (e : Event) (p : ℕ) (body : Body) (reading : ℕ) (before after : KeptNode) (made : ℕ × ℕ) → IsIssue (world_nodes state) s e p body reading → StandsFor state s → p < world_nodes state → slice_get state.nodes p ≡ Some before → Issues before after body reading (Ok made) → StandsFor (with_node state p after) ((e, Stamped made.0 made.1) ∷ s)
+pub issues : (state : State) (s : List (Event × Reply)) (e : Event) (p : ℕ) (body : Body) (reading : ℕ)
+    (before after : KeptNode) (made : ℕ × ℕ) → IsIssue (world_nodes state) s e p body reading → StandsFor state s
+    → p < world_nodes state → slice_get state.nodes p ≡ Some before → Issues before after body reading (Ok made)
+    → StandsFor (with_node state p after) ((e, Stamped made.0 made.1) ∷ s)
 issues state s e p body reading before after made is h inside at taken =
     let st : ℕ = made.0 in
     let number : ℕ = length (issued p s) in
     let was : before ≡ a_node p (last_stamp p s) (issued p s) = some-injective _ _ (sym at ∙ h.nodes p inside) in
-    let due : issue_due (node_of p s) body reading ≡ Ok st = ap (λ node. issue_due node.core body reading) (sym was) ∙ taken.0 in
+    let due : issue_due (node_of p s) body reading ≡ Ok st =
+    ap (λ node. issue_due node.core body reading) (sym was) ∙ taken.0 in
     let numbered : made.1 ≡ number = taken.1 ∙ ap (λ node. node.core.next) was in
-    let longer : length (issued p s ++ an_item p number st body ∷ []) ≡ number + 1 = length-append (issued p s) (an_item p number st body ∷ []) in
+    let longer : length (issued p s ++ an_item p number st body ∷ []) ≡ number + 1 =
+    length-append (issued p s) (an_item p number st body ∷ []) in
     let came : after ≡ a_node p st (issued p s ++ an_item p number st body ∷ []) =
     taken.2
-    ∙ ap (λ node. record { core = after_issue node.core st; issued = node.issued ++ next_item node.core body st ∷ [] }) was
-    ∙ ap (λ k. record { core = record { id = p; last = st; next = k }; issued = issued p s ++ an_item p number st body ∷ [] }) (sym longer) in
-    let none : refusal_due (world_nodes state) s e ≡ None = is.refusal ∙ on_node-inside (world_nodes state) p _ inside ∙ ap issue_refusal due in
+    ∙ ap (λ node. record { core = after_issue node.core st; issued = node.issued ++ next_item node.core body st ∷ [] })
+    was
+    ∙ ap (λ k. record {
+      core = record { id = p; last = st; next = k };
+      issued = issued p s ++ an_item p number st body ∷ [];
+    }) (sym longer) in
+    let none : refusal_due (world_nodes state) s e ≡ None = is.refusal ∙ on_node-inside (world_nodes state) p _ inside
+    ∙ ap issue_refusal due in
     let same : length (slice_set state.nodes p after) ≡ length state.nodes = length-set state.nodes p after in
     subst (λ k. StandsFor (with_node state p after) ((e, Stamped st k) ∷ s)) (sym numbered)
     (record {
-      legal = subst (λ n. IsLegal n ((e, Stamped st number) ∷ s)) (sym same) (is.given st number none due refl, h.legal);
+      legal =
+          subst (λ n. IsLegal n ((e, Stamped st number) ∷ s)) (sym same) (is.given st number none due refl, h.legal);
       core = subst (λ o. CoreStandsFor state.core (past_told s e o)) (sym (is.tells _)) h.core;
       nodes = λ n lt.
-          subst (λ o. slice_get (slice_set state.nodes p after) n ≡ Some (a_node n (stamp_or n o (last_stamp n s)) (with_item n (item_made e (Stamped st number)) (issued n s)))) (sym (is.marks st number))
-          (subst (λ o. slice_get (slice_set state.nodes p after) n ≡ Some (a_node n (stamp_or n (Some (p, st)) (last_stamp n s)) (with_item n o (issued n s)))) (sym (is.makes st number))
-          (subst (λ x. slice_get (slice_set state.nodes p x) n ≡ Some (a_node n (stamp_or n (Some (p, st)) (last_stamp n s)) (with_item n (Some (an_item p number st body)) (issued n s)))) (sym came)
-          (nodes-issued state.nodes (λ k. last_stamp k s) (λ k. issued k s) p st (an_item p number st body) refl inside h.nodes n (rw same at lt))));
+          subst (λ o. slice_get (slice_set state.nodes p after) n ≡ Some (a_node n (stamp_or n o (last_stamp n s))
+          (with_item n (item_made e (Stamped st number)) (issued n s)))) (sym (is.marks st number))
+          (subst (λ o. slice_get (slice_set state.nodes p after) n ≡ Some (a_node n
+          (stamp_or n (Some (p, st)) (last_stamp n s)) (with_item n o (issued n s)))) (sym (is.makes st number))
+          (subst (λ x. slice_get (slice_set state.nodes p x) n ≡ Some (a_node n (stamp_or n (Some (p, st))
+          (last_stamp n s)) (with_item n (Some (an_item p number st body)) (issued n s)))) (sym came)
+          (nodes-issued state.nodes (λ k. last_stamp k s) (λ k. issued k s) p st
+          (an_item p number st body) refl inside h.nodes n (rw same at lt))));
       messages = subst (λ o. state.messages ≡ with_message o (sent s)) (sym (is.sends _)) h.messages;
     })
 
 -- an item that it did not issue
-pub issues_not : (state : State) (s : List (Event × Reply)) (e : Event) (p : ℕ) (body : Body) (reading : ℕ) (before after : KeptNode) (refusal : Refusal) → IsIssue (world_nodes state) s e p body reading → StandsFor state s → p < world_nodes state → slice_get state.nodes p ≡ Some before → Issues before after body reading (Err refusal) → StandsFor (with_node state p after) ((e, Refused refusal) ∷ s)
+pub issues_not : (state : State) (s : List (Event × Reply)) (e : Event) (p : ℕ) (body : Body) (reading : ℕ)
+    (before after : KeptNode) (refusal : Refusal) → IsIssue (world_nodes state) s e p body reading → StandsFor state s
+    → p < world_nodes state → slice_get state.nodes p ≡ Some before → Issues before after body reading (Err refusal)
+    → StandsFor (with_node state p after) ((e, Refused refusal) ∷ s)
 issues_not state s e p body reading before after refusal is h inside at left =
     let was : before ≡ a_node p (last_stamp p s) (issued p s) = some-injective _ _ (sym at ∙ h.nodes p inside) in
     let first : refusal_due (world_nodes state) s e ≡ issue_refusal (issue_due before.core body reading) =
-    is.refusal ∙ on_node-inside (world_nodes state) p _ inside ∙ ap (λ node. issue_refusal (issue_due node.core body reading)) (sym was) in
+    is.refusal ∙ on_node-inside (world_nodes state) p _ inside
+    ∙ ap (λ node. issue_refusal (issue_due node.core body reading)) (sym was) in
     let given : IsGiven (world_nodes state) s e (Refused refusal) =
     elim left.0 [ inl due ↦ inl (first ∙ due) | inr lost ↦ inr (first ∙ lost.0, lost.1, is.may) ] in
-    let unchanged : slice_set state.nodes p after ≡ state.nodes = ap (λ x. slice_set state.nodes p x) left.1 ∙ set-same state.nodes p before at in
-    subst (λ xs. StandsFor (record { core = state.core; nodes = xs; messages = state.messages }) ((e, Refused refusal) ∷ s)) (sym unchanged)
+    let unchanged : slice_set state.nodes p after ≡ state.nodes = ap (λ x. slice_set state.nodes p x) left.1
+    ∙ set-same state.nodes p before at in
+    subst (λ xs. StandsFor (record { core = state.core; nodes = xs; messages = state.messages })
+    ((e, Refused refusal) ∷ s)) (sym unchanged)
     (stays state s e refusal (is.not_made _) (is.not_marked _) (is.sends _) (is.tells _) given h)
 
 -- a message that a node sent
-pub sends : (state : State) (s : List (Event × Reply)) (p reading : ℕ) (before : KeptNode) (core : Node) (message : Message) (messages : List Message) → StandsFor state s → p < world_nodes state → slice_get state.nodes p ≡ Some before → stamp_due (before.core.last ∷ []) reading ≡ Ok message.stamp → message.from ≡ before.core.id → core ≡ stamped before.core message.stamp → messages ≡ state.messages ++ message ∷ [] → StandsFor (record { core = state.core; nodes = slice_set state.nodes p (record { core = core; issued = before.issued }); messages = messages }) ((Send p reading, Sent message.stamp (length state.messages)) ∷ s)
+pub sends : (state : State) (s : List (Event × Reply)) (p reading : ℕ) (before : KeptNode) (core : Node)
+    (message : Message) (messages : List Message) → StandsFor state s → p < world_nodes state
+    → slice_get state.nodes p ≡ Some before → stamp_due (before.core.last ∷ []) reading ≡ Ok message.stamp
+    → message.from ≡ before.core.id → core ≡ stamped before.core message.stamp
+    → messages ≡ state.messages ++ message ∷ [] → StandsFor (record {
+      core = state.core;
+      nodes = slice_set state.nodes p (record { core = core; issued = before.issued });
+      messages = messages;
+    }) ((Send p reading, Sent message.stamp (length state.messages)) ∷ s)
 sends state s p reading before core message messages h inside at due from core-is posted =
     let st : ℕ = message.stamp in
     let after : KeptNode = record { core = core; issued = before.issued } in
     let was : before ≡ a_node p (last_stamp p s) (issued p s) = some-injective _ _ (sym at ∙ h.nodes p inside) in
-    let due' : stamp_due (last_stamp p s ∷ []) reading ≡ Ok st = ap (λ node. stamp_due (node.core.last ∷ []) reading) (sym was) ∙ due in
+    let due' : stamp_due (last_stamp p s ∷ []) reading ≡ Ok st =
+    ap (λ node. stamp_due (node.core.last ∷ []) reading) (sym was) ∙ due in
     let came : after ≡ a_node p st (issued p s) =
-    ap (λ c. record { core = c; issued = before.issued }) core-is ∙ ap (λ node. record { core = stamped node.core st; issued = node.issued }) was in
-    let is : message ≡ record { from = p; stamp = st } = ap (λ n. record { from = n; stamp = st }) (from ∙ ap (λ node. node.core.id) was) in
+    ap (λ c. record { core = c; issued = before.issued }) core-is
+    ∙ ap (λ node. record { core = stamped node.core st; issued = node.issued }) was in
+    let is : message ≡ record { from = p; stamp = st } =
+    ap (λ n. record { from = n; stamp = st }) (from ∙ ap (λ node. node.core.id) was) in
     let same : length (slice_set state.nodes p after) ≡ length state.nodes = length-set state.nodes p after in
     record {
-      legal = subst (λ n. IsLegal n ((Send p reading, Sent st (length state.messages)) ∷ s)) (sym same)
-          ((on_node-inside (world_nodes state) p _ inside ∙ ap stamp_refusal due', (due', ap length h.messages)), h.legal);
+      legal = subst (λ n. IsLegal n ((Send p reading, Sent st (length state.messages)) ∷ s)) (sym same) (
+        (on_node-inside (world_nodes state) p _ inside ∙ ap stamp_refusal due', (due', ap length h.messages)),
+        h.legal,
+      );
       core = h.core;
       nodes = λ n lt.
-          subst (λ x. slice_get (slice_set state.nodes p x) n ≡ Some (a_node n (stamp_or n (Some (p, st)) (last_stamp n s)) (issued n s))) (sym came)
+          subst (λ x. slice_get (slice_set state.nodes p x) n
+          ≡ Some (a_node n (stamp_or n (Some (p, st)) (last_stamp n s)) (issued n s))) (sym came)
           (nodes-stamped state.nodes (λ k. last_stamp k s) (λ k. issued k s) p st inside h.nodes n (rw same at lt));
       messages = posted ∙ ap (λ xs. xs ++ message ∷ []) h.messages ∙ ap (λ x. sent s ++ x ∷ []) is;
     }
 
 -- a message that was not sent: the clock refuses, or there is no memory
-pub sends_not : (state : State) (s : List (Event × Reply)) (p reading : ℕ) (before : KeptNode) (fault : ClockFault) → StandsFor state s → p < world_nodes state → slice_get state.nodes p ≡ Some before → stamp_due (before.core.last ∷ []) reading ≡ Err fault → StandsFor state ((Send p reading, Refused (of_clock fault)) ∷ s)
+pub sends_not : (state : State) (s : List (Event × Reply)) (p reading : ℕ) (before : KeptNode) (fault : ClockFault)
+    → StandsFor state s → p < world_nodes state → slice_get state.nodes p ≡ Some before
+    → stamp_due (before.core.last ∷ []) reading ≡ Err fault
+    → StandsFor state ((Send p reading, Refused (of_clock fault)) ∷ s)
 sends_not state s p reading before fault h inside at due =
     let was : before ≡ a_node p (last_stamp p s) (issued p s) = some-injective _ _ (sym at ∙ h.nodes p inside) in
-    let due' : stamp_due (last_stamp p s ∷ []) reading ≡ Err fault = ap (λ node. stamp_due (node.core.last ∷ []) reading) (sym was) ∙ due in
-    stays state s (Send p reading) (of_clock fault) refl refl refl refl (inl (on_node-inside (world_nodes state) p _ inside ∙ ap stamp_refusal due')) h
+    let due' : stamp_due (last_stamp p s ∷ []) reading ≡ Err fault =
+    ap (λ node. stamp_due (node.core.last ∷ []) reading) (sym was) ∙ due in
+    stays state s (Send p reading) (of_clock fault) refl refl refl refl
+    (inl (on_node-inside (world_nodes state) p _ inside ∙ ap stamp_refusal due')) h
 
-pub sends_lost : (state : State) (s : List (Event × Reply)) (p reading st : ℕ) (before : KeptNode) → StandsFor state s → p < world_nodes state → slice_get state.nodes p ≡ Some before → stamp_due (before.core.last ∷ []) reading ≡ Ok st → StandsFor state ((Send p reading, Refused NoMemory) ∷ s)
+pub sends_lost : (state : State) (s : List (Event × Reply)) (p reading st : ℕ) (before : KeptNode) → StandsFor state s
+    → p < world_nodes state → slice_get state.nodes p ≡ Some before → stamp_due (before.core.last ∷ []) reading ≡ Ok st
+    → StandsFor state ((Send p reading, Refused NoMemory) ∷ s)
 sends_lost state s p reading st before h inside at due =
     let was : before ≡ a_node p (last_stamp p s) (issued p s) = some-injective _ _ (sym at ∙ h.nodes p inside) in
-    let due' : stamp_due (last_stamp p s ∷ []) reading ≡ Ok st = ap (λ node. stamp_due (node.core.last ∷ []) reading) (sym was) ∙ due in
-    stays state s (Send p reading) NoMemory refl refl refl refl (inr (on_node-inside (world_nodes state) p _ inside ∙ ap stamp_refusal due', refl, tt)) h
+    let due' : stamp_due (last_stamp p s ∷ []) reading ≡ Ok st =
+    ap (λ node. stamp_due (node.core.last ∷ []) reading) (sym was) ∙ due in
+    stays state s (Send p reading) NoMemory refl refl refl refl
+    (inr (on_node-inside (world_nodes state) p _ inside ∙ ap stamp_refusal due', refl, tt)) h
 
 -- an event by which a node sees a stamp
-pub record IsSight (nodes : ℕ) (s : List (Event × Reply)) (e : Event) (reply : ℕ → Reply) (p seen reading : ℕ) : Type 0 where
+pub record IsSight (nodes : ℕ) (s : List (Event × Reply)) (e : Event) (reply : ℕ → Reply)
+    (p seen reading : ℕ) : Type 0 where
   pub refusal : refusal_due nodes s e ≡ on_node nodes p (stamp_refusal (stamp_due (last_stamp p s ∷ seen ∷ []) reading))
   pub marks : (st : ℕ) → stamping_of e (reply st) ≡ Some (p, st)
   pub makes : (r : Reply) → item_made e r ≡ None
   pub sends : (r : Reply) → message_made e r ≡ None
   pub tells : (r : Reply) → told e r ≡ None
   pub not_marked : (f : Refusal) → stamping_of e (Refused f) ≡ None
-  pub given : (st : ℕ) → refusal_due nodes s e ≡ None → stamp_due (last_stamp p s ∷ seen ∷ []) reading ≡ Ok st → IsGiven nodes s e (reply st)
+  pub given : (st : ℕ) → refusal_due nodes s e ≡ None → stamp_due (last_stamp p s ∷ seen ∷ []) reading ≡ Ok st
+      → IsGiven nodes s e (reply st)
 
-pub receive-is : (nodes : ℕ) (s : List (Event × Reply)) (p reading number : ℕ) (message : Message) → message_at number s ≡ Some message → IsSight nodes s (Receive p reading number) Received p message.stamp reading
+pub receive-is : (nodes : ℕ) (s : List (Event × Reply)) (p reading number : ℕ) (message : Message)
+    → message_at number s ≡ Some message → IsSight nodes s (Receive p reading number) Received p message.stamp reading
 receive-is nodes s p reading number message there =
     record {
       refusal = ap (λ o. on_node nodes p (receive_refusal o (last_stamp p s) reading)) there;
@@ -211,7 +311,8 @@ receive-is nodes s p reading number message there =
       given = λ st none due. (none, subst (λ o. IsReceived o (last_stamp p s) reading st) (sym there) due);
     }
 
-pub observe-is : (nodes : ℕ) (s : List (Event × Reply)) (p reading id seen : ℕ) → stamp_of id (core_past s) ≡ Some seen → IsSight nodes s (Observe p reading id) Observed p seen reading
+pub observe-is : (nodes : ℕ) (s : List (Event × Reply)) (p reading id seen : ℕ) → stamp_of id (core_past s) ≡ Some seen
+    → IsSight nodes s (Observe p reading id) Observed p seen reading
 observe-is nodes s p reading id seen there =
     record {
       refusal = ap (λ o. on_node nodes p (observe_refusal o (last_stamp p s) reading)) there;
@@ -224,32 +325,48 @@ observe-is nodes s p reading id seen there =
     }
 
 -- a stamp that a node saw
-pub sees : (state : State) (s : List (Event × Reply)) (e : Event) (reply : ℕ → Reply) (p seen reading st : ℕ) (before : KeptNode) (core : Node) → IsSight (world_nodes state) s e reply p seen reading → StandsFor state s → p < world_nodes state → slice_get state.nodes p ≡ Some before → stamp_due (before.core.last ∷ seen ∷ []) reading ≡ Ok st → core ≡ stamped before.core st → StandsFor (with_node state p (record { core = core; issued = before.issued })) ((e, reply st) ∷ s)
+pub sees : (state : State) (s : List (Event × Reply)) (e : Event) (reply : ℕ → Reply) (p seen reading st : ℕ)
+    (before : KeptNode) (core : Node) → IsSight (world_nodes state) s e reply p seen reading
+    → StandsFor state s → p < world_nodes state → slice_get state.nodes p ≡ Some before
+    → stamp_due (before.core.last ∷ seen ∷ []) reading ≡ Ok st → core ≡ stamped before.core st
+    → StandsFor (with_node state p (record { core = core; issued = before.issued })) ((e, reply st) ∷ s)
 sees state s e reply p seen reading st before core is h inside at due core-is =
     let after : KeptNode = record { core = core; issued = before.issued } in
     let was : before ≡ a_node p (last_stamp p s) (issued p s) = some-injective _ _ (sym at ∙ h.nodes p inside) in
-    let due' : stamp_due (last_stamp p s ∷ seen ∷ []) reading ≡ Ok st = ap (λ node. stamp_due (node.core.last ∷ seen ∷ []) reading) (sym was) ∙ due in
+    let due' : stamp_due (last_stamp p s ∷ seen ∷ []) reading ≡ Ok st =
+    ap (λ node. stamp_due (node.core.last ∷ seen ∷ []) reading) (sym was) ∙ due in
     let came : after ≡ a_node p st (issued p s) =
-    ap (λ c. record { core = c; issued = before.issued }) core-is ∙ ap (λ node. record { core = stamped node.core st; issued = node.issued }) was in
-    let none : refusal_due (world_nodes state) s e ≡ None = is.refusal ∙ on_node-inside (world_nodes state) p _ inside ∙ ap stamp_refusal due' in
+    ap (λ c. record { core = c; issued = before.issued }) core-is
+    ∙ ap (λ node. record { core = stamped node.core st; issued = node.issued }) was in
+    let none : refusal_due (world_nodes state) s e ≡ None = is.refusal ∙ on_node-inside (world_nodes state) p _ inside
+    ∙ ap stamp_refusal due' in
     let same : length (slice_set state.nodes p after) ≡ length state.nodes = length-set state.nodes p after in
     record {
       legal = subst (λ n. IsLegal n ((e, reply st) ∷ s)) (sym same) (is.given st none due', h.legal);
       core = subst (λ o. CoreStandsFor state.core (past_told s e o)) (sym (is.tells (reply st))) h.core;
       nodes = λ n lt.
-          subst (λ o. slice_get (slice_set state.nodes p after) n ≡ Some (a_node n (stamp_or n o (last_stamp n s)) (with_item n (item_made e (reply st)) (issued n s)))) (sym (is.marks st))
-          (subst (λ o. slice_get (slice_set state.nodes p after) n ≡ Some (a_node n (stamp_or n (Some (p, st)) (last_stamp n s)) (with_item n o (issued n s)))) (sym (is.makes (reply st)))
-          (subst (λ x. slice_get (slice_set state.nodes p x) n ≡ Some (a_node n (stamp_or n (Some (p, st)) (last_stamp n s)) (issued n s))) (sym came)
+          subst (λ o. slice_get (slice_set state.nodes p after) n
+          ≡ Some (a_node n (stamp_or n o (last_stamp n s)) (with_item n (item_made e (reply st)) (issued n s))))
+          (sym (is.marks st))
+          (subst (λ o. slice_get (slice_set state.nodes p after) n ≡ Some (a_node n
+          (stamp_or n (Some (p, st)) (last_stamp n s)) (with_item n o (issued n s)))) (sym (is.makes (reply st)))
+          (subst (λ x. slice_get (slice_set state.nodes p x) n
+          ≡ Some (a_node n (stamp_or n (Some (p, st)) (last_stamp n s)) (issued n s))) (sym came)
           (nodes-stamped state.nodes (λ k. last_stamp k s) (λ k. issued k s) p st inside h.nodes n (rw same at lt))));
       messages = subst (λ o. state.messages ≡ with_message o (sent s)) (sym (is.sends (reply st))) h.messages;
     }
 
 -- one that it did not see
-pub sees_not : (state : State) (s : List (Event × Reply)) (e : Event) (reply : ℕ → Reply) (p seen reading : ℕ) (before : KeptNode) (fault : ClockFault) → IsSight (world_nodes state) s e reply p seen reading → StandsFor state s → p < world_nodes state → slice_get state.nodes p ≡ Some before → stamp_due (before.core.last ∷ seen ∷ []) reading ≡ Err fault → StandsFor state ((e, Refused (of_clock fault)) ∷ s)
+pub sees_not : (state : State) (s : List (Event × Reply)) (e : Event) (reply : ℕ → Reply) (p seen reading : ℕ)
+    (before : KeptNode) (fault : ClockFault) → IsSight (world_nodes state) s e reply p seen reading
+    → StandsFor state s → p < world_nodes state → slice_get state.nodes p ≡ Some before
+    → stamp_due (before.core.last ∷ seen ∷ []) reading ≡ Err fault → StandsFor state ((e, Refused (of_clock fault)) ∷ s)
 sees_not state s e reply p seen reading before fault is h inside at due =
     let was : before ≡ a_node p (last_stamp p s) (issued p s) = some-injective _ _ (sym at ∙ h.nodes p inside) in
-    let due' : stamp_due (last_stamp p s ∷ seen ∷ []) reading ≡ Err fault = ap (λ node. stamp_due (node.core.last ∷ seen ∷ []) reading) (sym was) ∙ due in
-    stays state s e (of_clock fault) (is.makes _) (is.not_marked _) (is.sends _) (is.tells _) (inl (is.refusal ∙ on_node-inside (world_nodes state) p _ inside ∙ ap stamp_refusal due')) h
+    let due' : stamp_due (last_stamp p s ∷ seen ∷ []) reading ≡ Err fault =
+    ap (λ node. stamp_due (node.core.last ∷ seen ∷ []) reading) (sym was) ∙ due in
+    stays state s e (of_clock fault) (is.makes _) (is.not_marked _) (is.sends _) (is.tells _)
+    (inl (is.refusal ∙ on_node-inside (world_nodes state) p _ inside ∙ ap stamp_refusal due')) h
 
 pub fresh-length : (n : ℕ) → length (fresh n) ≡ n
 fresh-length zero = refl
@@ -259,12 +376,15 @@ fresh-at : (n k : ℕ) → k < n → slice_get (fresh n) k ≡ Some (a_node k 0 
 fresh-at zero k h = absurd (omega arith)
 fresh-at (suc n) k h =
     elim (cases_eq k n) [
-      | inl same ↦ ap (λ j. slice_get (fresh (suc n)) j) (same ∙ sym (fresh-length n)) ∙ get-push (fresh n) (a_node n 0 []) ∙ ap (λ j. Some (a_node j 0 [])) (sym same)
-      | inr other ↦ get-append_left (fresh n) (a_node n 0 [] ∷ []) k (let e = fresh-length n in omega (arith, e)) ∙ fresh-at n k (omega arith)
+      | inl same ↦ ap (λ j. slice_get (fresh (suc n)) j) (same ∙ sym (fresh-length n))
+          ∙ get-push (fresh n) (a_node n 0 []) ∙ ap (λ j. Some (a_node j 0 [])) (sym same)
+      | inr other ↦ get-append_left (fresh n) (a_node n 0 [] ∷ []) k (let e = fresh-length n in omega (arith, e))
+          ∙ fresh-at n k (omega arith)
     ]
 
 -- a new world
-pub starts : (n : ℕ) (core : Kept) → CoreStandsFor core [] → StandsFor (record { core = core; nodes = fresh n; messages = [] }) []
+pub starts : (n : ℕ) (core : Kept) → CoreStandsFor core []
+    → StandsFor (record { core = core; nodes = fresh n; messages = [] }) []
 starts n core h = record {
   legal = tt;
   core = h;

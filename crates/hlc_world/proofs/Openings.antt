@@ -1,6 +1,7 @@
--- Snapshots keep their stamps: an id is one above the number of those opened before, so it is given once, and an observation sees the stamp
--- of the opening.
-use Rattle.std.proofs.Common.{◌≡◌, ℕ, ◌+◌, ◌<◌, ◌≤◌, List, [], ◌∷◌, Some, None, Option, refl, ap, sym, ◌∙◌, subst, inl, inr, arith}
+-- Snapshots keep their stamps: an id is one above the number of those opened before, so it is given once, and an
+-- observation sees the stamp of the opening.
+use Rattle.std.proofs.Common.{◌≡◌, ℕ, ◌+◌, ◌<◌, ◌≤◌, List, [], ◌∷◌, Some, None, Option, refl, ap, sym, ◌∙◌, subst, inl}
+use Rattle.std.proofs.Common.{inr, arith}
 use Rattle.std.specs.Prelude.{◌==◌, if◌then◌else◌}
 use Rattle.std.proofs.lemmas.Bool.{cond-true, cond-false, eq-eqb, ne_eqb, cases_eq}
 use Rattle.hlc_snapshot.specs.Register.{stamp_in}
@@ -8,7 +9,8 @@ use Rattle.hlc_snapshot.specs.RegisterLaws.{stamp_in-push_cases, stamp_in-withou
 use Rattle.hlc_core.specs.declared.event.CoreEvent.{CoreEvent}
 use Rattle.hlc_core.specs.declared.reply.CoreReply.{CoreReply}
 use Rattle.hlc_core.specs.History.{step_of, with_step, past_of}
-use Rattle.hlc_core.specs.Past.{Step, Took, Opened, Closed as ClosedOf, Vacuumed as VacuumedOf, opened, open_snapshots, stamp_of}
+use Rattle.hlc_core.specs.Past.{Step, Took, Opened, Closed as ClosedOf, Vacuumed as VacuumedOf, opened, open_snapshots}
+use Rattle.hlc_core.specs.Past.{stamp_of}
 use Rattle.hlc_world.specs.declared.event.Event.{Event}
 use Rattle.hlc_world.specs.declared.event.Event.TheVariants.{OpenAt, OpenFloor, Observe}
 use Rattle.hlc_world.specs.declared.reply.Reply.{Reply}
@@ -33,21 +35,27 @@ opening-low (VacuumedOf ∷ past) id stamp is = opening-low past id stamp is
 opening-low (Opened at ∷ past) id stamp is =
     elim (cases_eq (opened past + 1) id) [
       | inl same ↦ omega arith
-      | inr other ↦ (let low : id ≤ opened past = opening-low past id stamp (sym (cond-false _ _ _ (ne_eqb _ _ other)) ∙ is) in omega arith)
+      | inr other ↦
+          (let low : id ≤ opened past = opening-low past id stamp (sym (cond-false _ _ _ (ne_eqb _ _ other)) ∙ is) in
+          omega arith)
     ]
 
-opening-stays : (step : Step) (past : List Step) (id stamp : ℕ) → opening id past ≡ Some stamp → opening id (step ∷ past) ≡ Some stamp
+opening-stays : (step : Step) (past : List Step) (id stamp : ℕ) → opening id past ≡ Some stamp
+    → opening id (step ∷ past) ≡ Some stamp
 opening-stays (Took item) past id stamp is = is
 opening-stays (ClosedOf other) past id stamp is = is
 opening-stays VacuumedOf past id stamp is = is
 opening-stays (Opened at) past id stamp is =
-    cond-false _ _ _ (ne_eqb (opened past + 1) id (λ e. let low : id ≤ opened past = opening-low past id stamp is in omega arith)) ∙ is
+    cond-false _ _ _ (ne_eqb (opened past + 1) id
+    (λ e. let low : id ≤ opened past = opening-low past id stamp is in omega arith)) ∙ is
 
-opening-step : (o : Option Step) (past : List Step) (id stamp : ℕ) → opening id past ≡ Some stamp → opening id (with_step o past) ≡ Some stamp
+opening-step : (o : Option Step) (past : List Step) (id stamp : ℕ) → opening id past ≡ Some stamp
+    → opening id (with_step o past) ≡ Some stamp
 opening-step None past id stamp is = is
 opening-step (Some step) past id stamp is = opening-stays step past id stamp is
 
-opening-later : (o : Option (CoreEvent × CoreReply)) (h : List (CoreEvent × CoreReply)) (id stamp : ℕ) → opening id (past_of h) ≡ Some stamp → opening id (past_of (with_entry o h)) ≡ Some stamp
+opening-later : (o : Option (CoreEvent × CoreReply)) (h : List (CoreEvent × CoreReply)) (id stamp : ℕ)
+    → opening id (past_of h) ≡ Some stamp → opening id (past_of (with_entry o h)) ≡ Some stamp
 opening-later None h id stamp is = is
 opening-later (Some entry) h id stamp is = opening-step (step_of entry.0 entry.1) (past_of h) id stamp is
 
@@ -66,32 +74,42 @@ open-opening (Opened at ∷ past) id stamp is =
     ]
 open-opening (ClosedOf other ∷ past) id stamp is =
     elim (cases_eq id other) [
-      | inl same ↦ absurd (let e : None ≡ Some stamp = sym (stamp_in-without_gone id (open_snapshots past)) ∙ subst (λ k. stamp_in id (open_snapshots (ClosedOf k ∷ past)) ≡ Some stamp) (sym same) is in cc)
-      | inr differs ↦ open-opening past id stamp (sym (stamp_in-without_other other id (open_snapshots past) differs) ∙ is)
+      | inl same ↦ absurd (let e : None ≡ Some stamp = sym (stamp_in-without_gone id (open_snapshots past))
+          ∙ subst (λ k. stamp_in id (open_snapshots (ClosedOf k ∷ past)) ≡ Some stamp) (sym same) is in cc)
+      | inr differs ↦
+          open-opening past id stamp (sym (stamp_in-without_other other id (open_snapshots past) differs) ∙ is)
     ]
 
-opened-here : (nodes : ℕ) (s : List (Event × Reply)) (event : Event) (id stamp : ℕ) → IsGiven nodes s event (Snapshot id stamp) → opening id (past_of (with_entry (share s event (Snapshot id stamp)) (store_history s))) ≡ Some stamp
+opened-here : (nodes : ℕ) (s : List (Event × Reply)) (event : Event) (id stamp : ℕ)
+    → IsGiven nodes s event (Snapshot id stamp)
+    → opening id (past_of (with_entry (share s event (Snapshot id stamp)) (store_history s))) ≡ Some stamp
 opened-here nodes s (OpenAt at) id stamp given = opening-here (core_past s) id stamp given.1.0
 opened-here nodes s OpenFloor id stamp given = opening-here (core_past s) id stamp given.1.0
 opened-here nodes s _ id stamp given = absurd given.1
 
 -- the reply to an opening tells the snapshot's stamp
-pub opened-found : (nodes : ℕ) (s : List (Event × Reply)) (turn : ℕ) (event : Event) (id stamp : ℕ) → IsLegal nodes s → entry_at s turn ≡ Some (event, Snapshot id stamp) → opening id (core_past s) ≡ Some stamp
+pub opened-found : (nodes : ℕ) (s : List (Event × Reply)) (turn : ℕ) (event : Event) (id stamp : ℕ) → IsLegal nodes s
+    → entry_at s turn ≡ Some (event, Snapshot id stamp) → opening id (core_past s) ≡ Some stamp
 opened-found nodes [] turn event id stamp legal at = absurd (cc)
 opened-found nodes (entry ∷ s) turn event id stamp legal at =
     elim (entry-cases entry s turn _ at) [
-      | inr there ↦ opening-later (share s entry.0 entry.1) (store_history s) id stamp (opened-found nodes s turn event id stamp legal.1 there.1)
+      | inr there ↦ opening-later (share s entry.0 entry.1) (store_history s) id stamp
+          (opened-found nodes s turn event id stamp legal.1 there.1)
       | inl here ↦
           let given : IsGiven nodes s event (Snapshot id stamp) = subst (λ y. IsGiven nodes s y.0 y.1) here.1 legal.0 in
-          subst (λ y. opening id (past_of (with_entry (share s y.0 y.1) (store_history s))) ≡ Some stamp) (sym here.1) (opened-here nodes s event id stamp given)
+          subst (λ y. opening id (past_of (with_entry (share s y.0 y.1) (store_history s))) ≡ Some stamp) (sym here.1)
+          (opened-here nodes s event id stamp given)
     ]
 
-seen-below : (o : Option ℕ) (last reading t : ℕ) → IsObserved o last reading t → (seen : ℕ) × (o ≡ Some seen) × (seen < t)
+seen-below : (o : Option ℕ) (last reading t : ℕ) → IsObserved o last reading t
+    → (seen : ℕ) × (o ≡ Some seen) × (seen < t)
 seen-below None last reading t h = absurd h
 seen-below (Some seen) last reading t h = (seen, refl, (sight-rises last seen reading t h).1)
 
 -- an observation lies above its snapshot's stamp
-pub observed-above : (nodes : ℕ) (s : List (Event × Reply)) (turn n r id t : ℕ) → IsLegal nodes s → entry_at s turn ≡ Some (Observe n r id, Observed t) → (stamp : ℕ) × (opening id (core_past s) ≡ Some stamp) × (stamp < t)
+pub observed-above : (nodes : ℕ) (s : List (Event × Reply)) (turn n r id t : ℕ)
+    → IsLegal nodes s → entry_at s turn ≡ Some (Observe n r id, Observed t)
+    → (stamp : ℕ) × (opening id (core_past s) ≡ Some stamp) × (stamp < t)
 observed-above nodes [] turn n r id t legal at = absurd (cc)
 observed-above nodes (entry ∷ s) turn n r id t legal at =
     elim (entry-cases entry s turn _ at) [
@@ -99,7 +117,11 @@ observed-above nodes (entry ∷ s) turn n r id t legal at =
           let x = observed-above nodes s turn n r id t legal.1 there.1 in
           (x.0, opening-later (share s entry.0 entry.1) (store_history s) id x.0 x.1, x.2)
       | inl here ↦
-          let given : IsGiven nodes s (Observe n r id) (Observed t) = subst (λ y. IsGiven nodes s y.0 y.1) here.1 legal.0 in
-          let x = seen-below _ _ r t given.1 in
-          (x.0, opening-later (share s entry.0 entry.1) (store_history s) id x.0 (open-opening (core_past s) id x.0 x.1), x.2)
+          let given : IsGiven nodes s (Observe n r id) (Observed t) =
+          subst (λ y. IsGiven nodes s y.0 y.1) here.1 legal.0 in
+          let x = seen-below _ _ r t given.1 in (
+            x.0,
+            opening-later (share s entry.0 entry.1) (store_history s) id x.0 (open-opening (core_past s) id x.0 x.1),
+            x.2,
+          )
     ]

@@ -1,9 +1,12 @@
--- What is true of the items of every legal schedule: they bear their numbers, their stamps rise, none is above its node's clock,
--- and those that were not yet accepted lie above the node's head. So the store refuses an issued item for its number alone.
-use Rattle.std.proofs.Common.{◌≡◌, ℕ, ◌+◌, ◌*◌, ◌<◌, ◌≤◌, ◌⊎◌, List, [], ◌∷◌, ◌++◌, length, max, Some, None, Ok, Err, Option, Result, refl, ap, sym, ◌∙◌, subst, inl, inr, arith, length-append}
+-- What is true of the items of every legal schedule: they bear their numbers, their stamps rise, none is above its
+-- node's clock, and those that were not yet accepted lie above the node's head.
+-- So the store refuses an issued item for its number alone.
+use Rattle.std.proofs.Common.{◌≡◌, ℕ, ◌+◌, ◌*◌, ◌<◌, ◌≤◌, ◌⊎◌, List, [], ◌∷◌, ◌++◌, length, max, Some, None, Ok, Err}
+use Rattle.std.proofs.Common.{Option, Result, refl, ap, sym, ◌∙◌, subst, inl, inr, arith, length-append}
 use Rattle.std.specs.Prelude.{◌==◌, nat_le, slice_get, if◌then◌else◌}
 use Rattle.std.proofs.lemmas.Option.{slice_get_within}
-use Rattle.std.proofs.lemmas.Bool.{cond-true, cond-false, le-leb, lt-leb, eq-eqb, ne_eqb, cases_lt, cases_eq, cases_Bool}
+use Rattle.std.proofs.lemmas.Bool.{cond-true, cond-false, le-leb, lt-leb, eq-eqb, ne_eqb, cases_lt, cases_eq}
+use Rattle.std.proofs.lemmas.Bool.{cases_Bool}
 use Rattle.hlc_clock.specs.NextStamp.{stamp_due, next_stamp, greatest, is_carried}
 use Rattle.hlc_clock.specs.declared.clock.ClockFault.{ClockFault}
 use Rattle.hlc_clock.specs.declared.clock.ClockFault.TheVariants as clock_fault
@@ -25,9 +28,11 @@ use Rattle.hlc_core.specs.Past.{Step, Took, count, head, item_refusal}
 use Rattle.hlc_core.specs.PastLaws.{inside, on_link, admissible}
 use Rattle.hlc_core.specs.History.{past_of}
 use Rattle.hlc_world.specs.declared.event.Event.{Event}
-use Rattle.hlc_world.specs.declared.event.Event.TheVariants.{Write, Delete, Report, Send, Receive, Observe, Deliver, OpenAt, OpenFloor, Read, List as ListAll, Close, Vacuum}
+use Rattle.hlc_world.specs.declared.event.Event.TheVariants.{Write, Delete, Report, Send, Receive, Observe, Deliver}
+use Rattle.hlc_world.specs.declared.event.Event.TheVariants.{OpenAt, OpenFloor, Read, List as ListAll, Close, Vacuum}
 use Rattle.hlc_world.specs.declared.reply.Reply.{Reply}
-use Rattle.hlc_world.specs.declared.reply.Reply.TheVariants.{Stamped, Sent, Received, Observed, Accepted, Snapshot, Answer, Listing, Closed, Vacuumed}
+use Rattle.hlc_world.specs.declared.reply.Reply.TheVariants.{Stamped, Sent, Received, Observed, Accepted, Snapshot}
+use Rattle.hlc_world.specs.declared.reply.Reply.TheVariants.{Answer, Listing, Closed, Vacuumed}
 use Rattle.hlc_world.specs.declared.refusal.Refusal.{Refusal}
 use Rattle.hlc_world.specs.declared.refusal.Refusal.TheVariants.{NoNode}
 use Rattle.hlc_world.specs.Schedule.{an_item, with_item, stamp_or, issued, last_stamp, node_of}
@@ -48,48 +53,71 @@ pub record IsIssued (nodes last next top n k : ℕ) (item : Item) : Type 0 where
 
 -- the issued items and what was accepted fit together
 pub record Orderly (nodes : ℕ) (items : ℕ → List Item) (lasts counts heads : ℕ → ℕ) : Type 0 where
-  pub each : (n k : ℕ) (item : Item) → slice_get (items n) k ≡ Some item → IsIssued nodes (lasts n) (counts n) (heads n) n k item
-  pub rising : (n j k : ℕ) (a b : Item) → j < k → slice_get (items n) j ≡ Some a → slice_get (items n) k ≡ Some b → a.stamp < b.stamp
+  pub each : (n k : ℕ) (item : Item) → slice_get (items n) k ≡ Some item
+      → IsIssued nodes (lasts n) (counts n) (heads n) n k item
+  pub rising : (n j k : ℕ) (a b : Item) → j < k → slice_get (items n) j ≡ Some a → slice_get (items n) k ≡ Some b
+      → a.stamp < b.stamp
   pub head_low : (n : ℕ) → heads n ≤ lasts n
 
 -- an item after one more was issued is an old one or that one
-pub get-with_item : (n k : ℕ) (item x : Item) (xs : List Item) → slice_get (with_item n (Some item) xs) k ≡ Some x → (slice_get xs k ≡ Some x) ⊎ ((item.node ≡ n) × (k ≡ length xs) × (item ≡ x))
+pub get-with_item : (n k : ℕ) (item x : Item) (xs : List Item) → slice_get (with_item n (Some item) xs) k ≡ Some x
+    → (slice_get xs k ≡ Some x) ⊎ ((item.node ≡ n) × (k ≡ length xs) × (item ≡ x))
 get-with_item n k item x xs h =
     elim (cases_eq item.node n) [
       | inr other ↦ inl (ap (λ ys. slice_get ys k) (sym (with_item-other n item xs other)) ∙ h)
       | inl same ↦
-          let h' : slice_get (xs ++ item ∷ []) k ≡ Some x = ap (λ ys. slice_get ys k) (sym (with_item-same n item xs same)) ∙ h in
+          let h' : slice_get (xs ++ item ∷ []) k ≡ Some x =
+          ap (λ ys. slice_get ys k) (sym (with_item-same n item xs same)) ∙ h in
           let lt : k < length (xs ++ item ∷ []) = slice_get_within (xs ++ item ∷ []) k x h' in
           let l : length (xs ++ item ∷ []) ≡ length xs + 1 = length-append xs (item ∷ []) in
           elim (cases_lt k (length xs)) [
             | inl old ↦ inl (sym (get-append_left xs (item ∷ []) k old) ∙ h')
             | inr fresh ↦
                 let e : k ≡ length xs = omega arith in
-                inr (same, e, some-injective item x (sym (get-push xs item) ∙ ap (λ j. slice_get (xs ++ item ∷ []) j) (sym e) ∙ h'))
+                inr (
+                  same,
+                  e,
+                  some-injective item x (sym (get-push xs item) ∙ ap (λ j. slice_get (xs ++ item ∷ []) j) (sym e) ∙ h'),
+                )
           ]
     ]
 
 pub stamp_or-grows : (n p st last : ℕ) → (p ≡ n → last < st) → last ≤ stamp_or n (Some (p, st)) last
 stamp_or-grows n p st last up =
     elim (cases_eq p n) [
-      | inl same ↦ (let e : stamp_or n (Some (p, st)) last ≡ st = cond-true _ _ _ (eq-eqb p n same) in let u : last < st = up same in omega arith)
+      | inl same ↦ (let e : stamp_or n (Some (p, st)) last ≡ st = cond-true _ _ _ (eq-eqb p n same) in
+          let u : last < st = up same in omega arith)
       | inr other ↦ (let e : stamp_or n (Some (p, st)) last ≡ last = stamp_or-other n p st last other in omega arith)
     ]
 
 -- an event with a higher stamp keeps the order
-orderly-mark : (nodes : ℕ) (items : ℕ → List Item) (lasts counts heads : ℕ → ℕ) (p st : ℕ) → Orderly nodes items lasts counts heads → lasts p < st → Orderly nodes items (λ n. stamp_or n (Some (p, st)) (lasts n)) counts heads
+orderly-mark : (nodes : ℕ) (items : ℕ → List Item) (lasts counts heads : ℕ → ℕ) (p st : ℕ)
+    → Orderly nodes items lasts counts heads → lasts p < st
+    → Orderly nodes items (λ n. stamp_or n (Some (p, st)) (lasts n)) counts heads
 orderly-mark nodes items lasts counts heads p st h up =
-    let grows : (n : ℕ) → lasts n ≤ stamp_or n (Some (p, st)) (lasts n) = λ n. stamp_or-grows n p st (lasts n) (λ e. subst (λ j. lasts j < st) e up) in
+    let grows : (n : ℕ) → lasts n ≤ stamp_or n (Some (p, st)) (lasts n) =
+    λ n. stamp_or-grows n p st (lasts n) (λ e. subst (λ j. lasts j < st) e up) in
     record {
       each = λ n k item m.
           (let i = h.each n k item m in
-          record { inside = i.inside; node = i.node; number = i.number; left = i.left; body = i.body; low = (let g = grows n in let l : item.stamp ≤ lasts n = i.low in omega (arith, g)); ahead = i.ahead });
+          record {
+            inside = i.inside;
+            node = i.node;
+            number = i.number;
+            left = i.left;
+            body = i.body;
+            low = (let g = grows n in let l : item.stamp ≤ lasts n = i.low in omega (arith, g));
+            ahead = i.ahead;
+          });
       rising = h.rising;
       head_low = λ n. (let g = grows n in let l : heads n ≤ lasts n = h.head_low n in omega (arith, g));
     }
 
 -- so does an item that a node issues
-orderly-issue : (nodes : ℕ) (items : ℕ → List Item) (lasts counts heads : ℕ → ℕ) (p st num : ℕ) (body : Body) → Orderly nodes items lasts counts heads → p < nodes → num ≡ length (items p) → (length (items p) ≡ 18446744073709551615 → ⊥) → body_refusal body ≡ None → lasts p < st → Orderly nodes (λ n. with_item n (Some (an_item p num st body)) (items n)) (λ n. stamp_or n (Some (p, st)) (lasts n)) counts heads
+orderly-issue : (nodes : ℕ) (items : ℕ → List Item) (lasts counts heads : ℕ → ℕ) (p st num : ℕ) (body : Body)
+    → Orderly nodes items lasts counts heads → p < nodes → num ≡ length (items p)
+    → (length (items p) ≡ 18446744073709551615 → ⊥) → body_refusal body ≡ None → lasts p < st → Orderly nodes
+    (λ n. with_item n (Some (an_item p num st body)) (items n)) (λ n. stamp_or n (Some (p, st)) (lasts n)) counts heads
 orderly-issue nodes items lasts counts heads p st num body h inside is left ok up =
     let item = an_item p num st body in
     let m = orderly-mark nodes items lasts counts heads p st h up in
@@ -108,8 +136,11 @@ orderly-issue nodes items lasts counts heads p st num body h inside is left ok u
                   number = is ∙ f ∙ sym e;
                   left = λ q. left (f ∙ sym e ∙ q);
                   body = ok;
-                  low = (let g : stamp_or n (Some (p, st)) (lasts n) ≡ st = cond-true _ _ _ (eq-eqb p n same) in omega arith);
-                  ahead = λ c. (let a : heads n ≤ lasts n = h.head_low n in let b : lasts n < st = subst (λ j. lasts j < st) same up in omega arith);
+                  low =
+                      (let g : stamp_or n (Some (p, st)) (lasts n) ≡ st = cond-true _ _ _ (eq-eqb p n same) in
+                      omega arith);
+                  ahead = λ c. (let a : heads n ≤ lasts n = h.head_low n in
+                      let b : lasts n < st = subst (λ j. lasts j < st) same up in omega arith);
                 })
           ];
       rising = λ n j k a b lt at_a at_b.
@@ -125,17 +156,21 @@ orderly-issue nodes items lasts counts heads p st num body h inside is left ok u
             | inr new_a ↦
                 absurd
                 (elim (get-with_item n k item b (items n) at_b) [
-                  | inl old_b ↦ (let w : k < length (items n) = slice_get_within (items n) k b old_b in let e : j ≡ length (items n) = new_a.1 in omega arith)
-                  | inr new_b ↦ (let e : j ≡ length (items n) = new_a.1 in let f : k ≡ length (items n) = new_b.1 in omega arith)
+                  | inl old_b ↦ (let w : k < length (items n) = slice_get_within (items n) k b old_b in
+                      let e : j ≡ length (items n) = new_a.1 in omega arith)
+                  | inr new_b ↦
+                      (let e : j ≡ length (items n) = new_a.1 in let f : k ≡ length (items n) = new_b.1 in omega arith)
                 ])
           ];
       head_low = m.head_low;
     }
 
-pub count-same : (n : ℕ) (item : Item) (past : List Step) → item.node ≡ n → count n (Took item ∷ past) ≡ count n past + 1
+pub count-same : (n : ℕ) (item : Item) (past : List Step) → item.node ≡ n
+    → count n (Took item ∷ past) ≡ count n past + 1
 count-same n item past e = cond-true _ _ _ (eq-eqb _ _ e)
 
-pub count-other : (n : ℕ) (item : Item) (past : List Step) → (item.node ≡ n → ⊥) → count n (Took item ∷ past) ≡ count n past
+pub count-other : (n : ℕ) (item : Item) (past : List Step) → (item.node ≡ n → ⊥)
+    → count n (Took item ∷ past) ≡ count n past
 count-other n item past e = cond-false _ _ _ (ne_eqb _ _ e)
 
 head-same : (n : ℕ) (item : Item) (past : List Step) → item.node ≡ n → head n (Took item ∷ past) ≡ item.stamp
@@ -145,7 +180,9 @@ head-other : (n : ℕ) (item : Item) (past : List Step) → (item.node ≡ n →
 head-other n item past e = cond-false _ _ _ (ne_eqb _ _ e)
 
 -- and so does the next item when it is accepted
-orderly-took : (nodes : ℕ) (items : ℕ → List Item) (lasts : ℕ → ℕ) (past : List Step) (p k : ℕ) (item : Item) → Orderly nodes items lasts (λ n. count n past) (λ n. head n past) → slice_get (items p) k ≡ Some item → k ≡ count p past → Orderly nodes items lasts (λ n. count n (Took item ∷ past)) (λ n. head n (Took item ∷ past))
+orderly-took : (nodes : ℕ) (items : ℕ → List Item) (lasts : ℕ → ℕ) (past : List Step) (p k : ℕ) (item : Item)
+    → Orderly nodes items lasts (λ n. count n past) (λ n. head n past) → slice_get (items p) k ≡ Some item
+    → k ≡ count p past → Orderly nodes items lasts (λ n. count n (Took item ∷ past)) (λ n. head n (Took item ∷ past))
 orderly-took nodes items lasts past p k item h at next =
     let own : item.node ≡ p = (h.each p k item at).node in
     record {
@@ -166,7 +203,8 @@ orderly-took nodes items lasts past p k item h at next =
                       let b : head n (Took item ∷ past) ≡ item.stamp = head-same n item past same in
                       let pn : p ≡ n = sym own ∙ same in
                       let d : count p past ≡ count n past = ap (λ q. count q past) pn in
-                      let r : item.stamp < x.stamp = h.rising n k j item x (omega arith) (subst (λ q. slice_get (items q) k ≡ Some item) pn at) m in omega arith)
+                      let r : item.stamp < x.stamp = h.rising n k j item x (omega arith)
+                      (subst (λ q. slice_get (items q) k ≡ Some item) pn at) m in omega arith)
                   | inr other ↦
                       (let c' : count n (Took item ∷ past) ≤ j = c in
                       let a : count n (Took item ∷ past) ≡ count n past = count-other n item past other in
@@ -181,7 +219,8 @@ orderly-took nodes items lasts past p k item h at next =
                 (let b : head n (Took item ∷ past) ≡ item.stamp = head-same n item past same in
                 let l : item.stamp ≤ lasts p = (h.each p k item at).low in
                 let e : lasts p ≡ lasts n = ap lasts (sym own ∙ same) in omega arith)
-            | inr other ↦ (let b : head n (Took item ∷ past) ≡ head n past = head-other n item past other in let l : head n past ≤ lasts n = h.head_low n in omega arith)
+            | inr other ↦ (let b : head n (Took item ∷ past) ≡ head n past = head-other n item past other in
+                let l : head n past ≤ lasts n = h.head_low n in omega arith)
           ];
     }
 
@@ -201,23 +240,29 @@ clocked-ok (Err fault) st h = absurd (cc)
 due-next : (earlier : List ℕ) (reading st : ℕ) → stamp_due earlier reading ≡ Ok st → next_stamp earlier reading ≡ st
 due-next earlier reading st h =
     elim (cases_Bool (nat_le 281474976710656 reading)) [
-      | inl large ↦ absurd (let e : ◌≡◌ {A = Result ℕ ClockFault} (Err clock_fault.ReadingTooLarge) (Ok st) = sym (cond-true _ _ _ large) ∙ h in cc)
+      | inl large ↦ absurd (let e : ◌≡◌ {A = Result ℕ ClockFault} (Err clock_fault.ReadingTooLarge) (Ok st) =
+          sym (cond-true _ _ _ large) ∙ h in cc)
       | inr small ↦
           let h1 = sym (cond-false _ _ _ small) ∙ h in
           elim (cases_Bool (is_carried earlier reading)) [
-            | inl carried ↦ absurd (let e : ◌≡◌ {A = Result ℕ ClockFault} (Err (clock_fault.CounterFull (greatest earlier))) (Ok st) = sym (cond-true _ _ _ carried) ∙ h1 in cc)
-            | inr not_carried ↦ (let e : ◌≡◌ {A = Result ℕ ClockFault} (Ok (next_stamp earlier reading)) (Ok st) = sym (cond-false _ _ _ not_carried) ∙ h1 in cc)
+            | inl carried ↦ absurd
+                (let e : ◌≡◌ {A = Result ℕ ClockFault} (Err (clock_fault.CounterFull (greatest earlier))) (Ok st) =
+                sym (cond-true _ _ _ carried) ∙ h1 in cc)
+            | inr not_carried ↦ (let e : ◌≡◌ {A = Result ℕ ClockFault} (Ok (next_stamp earlier reading)) (Ok st) =
+                sym (cond-false _ _ _ not_carried) ∙ h1 in cc)
           ]
     ]
 
 -- it lies above the last one
 pub stamp-rises : (last reading st : ℕ) → stamp_due (last ∷ []) reading ≡ Ok st → last < st
-stamp-rises last reading st h = (let is : max (max (last + 1) 0) (65536 * reading) ≡ st = due-next (last ∷ []) reading st h in omega arith)
+stamp-rises last reading st h =
+    (let is : max (max (last + 1) 0) (65536 * reading) ≡ st = due-next (last ∷ []) reading st h in omega arith)
 
 -- and above one that was seen
 pub sight-rises : (last seen reading st : ℕ) → stamp_due (last ∷ seen ∷ []) reading ≡ Ok st → (last < st) × (seen < st)
 sight-rises last seen reading st h =
-    let is : max (max (last + 1) (max (seen + 1) 0)) (65536 * reading) ≡ st = due-next (last ∷ seen ∷ []) reading st h in
+    let is : max (max (last + 1) (max (seen + 1) 0)) (65536 * reading) ≡ st =
+    due-next (last ∷ seen ∷ []) reading st h in
     (omega arith, omega arith)
 
 pub received-rises : (o : Option Message) (last reading st : ℕ) → IsReceived o last reading st → last < st
@@ -229,15 +274,20 @@ observed-rises None last reading st h = absurd h
 observed-rises (Some seen) last reading st h = (sight-rises last seen reading st h).0
 
 -- what it says of an item that a stamp is due to it
-issue-by : (body : Option BodyFault) (last next reading st : ℕ) → unless_bad body (if next == 18446744073709551615 then Err NumbersSpent else clocked (stamp_due (last ∷ []) reading)) ≡ Ok st → (body ≡ None) × (next ≡ 18446744073709551615 → ⊥) × (last < st)
+issue-by : (body : Option BodyFault) (last next reading st : ℕ) → unless_bad body
+    (if next == 18446744073709551615 then Err NumbersSpent else clocked (stamp_due (last ∷ []) reading)) ≡ Ok st
+    → (body ≡ None) × (next ≡ 18446744073709551615 → ⊥) × (last < st)
 issue-by (Some fault) last next reading st h = absurd (cc)
 issue-by None last next reading st h =
     elim (cases_eq next 18446744073709551615) [
-      | inl spent ↦ absurd (let e : ◌≡◌ {A = Result ℕ NodeFault} (Err NumbersSpent) (Ok st) = sym (cond-true _ _ _ (eq-eqb _ _ spent)) ∙ h in cc)
-      | inr left ↦ (refl, left, stamp-rises last reading st (clocked-ok _ st (sym (cond-false _ _ _ (ne_eqb _ _ left)) ∙ h)))
+      | inl spent ↦ absurd (let e : ◌≡◌ {A = Result ℕ NodeFault} (Err NumbersSpent) (Ok st) =
+          sym (cond-true _ _ _ (eq-eqb _ _ spent)) ∙ h in cc)
+      | inr left ↦
+          (refl, left, stamp-rises last reading st (clocked-ok _ st (sym (cond-false _ _ _ (ne_eqb _ _ left)) ∙ h)))
     ]
 
-pub issue-ok : (node : Node) (body : Body) (reading st : ℕ) → issue_due node body reading ≡ Ok st → (body_refusal body ≡ None) × (node.next ≡ 18446744073709551615 → ⊥) × (node.last < st)
+pub issue-ok : (node : Node) (body : Body) (reading st : ℕ) → issue_due node body reading ≡ Ok st
+    → (body_refusal body ≡ None) × (node.next ≡ 18446744073709551615 → ⊥) × (node.last < st)
 issue-ok node body reading st h = issue-by (body_refusal body) node.last node.next reading st h
 
 -- where the world refuses nothing for the core, the core does not refuse
@@ -246,7 +296,8 @@ no-core None h = refl
 no-core (Some fault) h = absurd (cc)
 
 -- an item that nothing refuses to deliver is the next one
-pub delivered : (nodes : ℕ) (past : List Step) (p k : ℕ) (item : Item) → item.node ≡ p → item.number ≡ k → deliver_refusal nodes past (Some item) ≡ None → k ≡ count p past
+pub delivered : (nodes : ℕ) (past : List Step) (p k : ℕ) (item : Item) → item.node ≡ p → item.number ≡ k
+    → deliver_refusal nodes past (Some item) ≡ None → k ≡ count p past
 delivered nodes past p k item own number none =
     let accepts : item_refusal nodes past item ≡ None = no-core (item_refusal nodes past item) none in
     let link = sym (on_link nodes past item (inside nodes past item accepts)) ∙ accepts in
@@ -257,34 +308,48 @@ abbrev pub past_taken : Acceptance → Option Item → List (CoreEvent × CoreRe
 past_taken acceptance o history = past_of (with_entry (joined (Some (accepted acceptance)) (accepting o)) history)
 
 abbrev pub IsOrderly : ℕ → List (Event × Reply) → Type 0
-IsOrderly nodes s = Orderly nodes (λ n. issued n s) (λ n. last_stamp n s) (λ n. count n (core_past s)) (λ n. head n (core_past s))
+IsOrderly nodes s =
+    Orderly nodes (λ n. issued n s) (λ n. last_stamp n s) (λ n. count n (core_past s)) (λ n. head n (core_past s))
 
-orderly-issued : (nodes : ℕ) (s : List (Event × Reply)) (p reading st num : ℕ) (body : Body) (rest : Option Refusal) → on_node nodes p rest ≡ None → issue_due (node_of p s) body reading ≡ Ok st → num ≡ length (issued p s) → IsOrderly nodes s → Orderly nodes (λ n. with_item n (Some (an_item p num st body)) (issued n s)) (λ n. stamp_or n (Some (p, st)) (last_stamp n s)) (λ n. count n (core_past s)) (λ n. head n (core_past s))
+orderly-issued : (nodes : ℕ) (s : List (Event × Reply)) (p reading st num : ℕ) (body : Body) (rest : Option Refusal)
+    → on_node nodes p rest ≡ None → issue_due (node_of p s) body reading ≡ Ok st → num ≡ length (issued p s)
+    → IsOrderly nodes s → Orderly nodes (λ n. with_item n (Some (an_item p num st body)) (issued n s))
+    (λ n. stamp_or n (Some (p, st)) (last_stamp n s)) (λ n. count n (core_past s)) (λ n. head n (core_past s))
 orderly-issued nodes s p reading st num body rest none due is h =
     let f = issue-ok (node_of p s) body reading st due in
-    orderly-issue nodes (λ n. issued n s) (λ n. last_stamp n s) (λ n. count n (core_past s)) (λ n. head n (core_past s)) p st num body h (on_node-none nodes p rest none).0 is f.1 f.0 f.2
+    orderly-issue nodes (λ n. issued n s) (λ n. last_stamp n s) (λ n. count n (core_past s))
+    (λ n. head n (core_past s)) p st num body h (on_node-none nodes p rest none).0 is f.1 f.0 f.2
 
-orderly-taken : (nodes : ℕ) (s : List (Event × Reply)) (p k : ℕ) (acceptance : Acceptance) (o : Option Item) → slice_get (issued p s) k ≡ o → deliver_refusal nodes (core_past s) o ≡ None → IsOrderly nodes s → Orderly nodes (λ n. issued n s) (λ n. last_stamp n s) (λ n. count n (past_taken acceptance o (store_history s))) (λ n. head n (past_taken acceptance o (store_history s)))
+orderly-taken : (nodes : ℕ) (s : List (Event × Reply)) (p k : ℕ) (acceptance : Acceptance) (o : Option Item)
+    → slice_get (issued p s) k ≡ o → deliver_refusal nodes (core_past s) o ≡ None → IsOrderly nodes s
+    → Orderly nodes (λ n. issued n s) (λ n. last_stamp n s) (λ n. count n (past_taken acceptance o (store_history s)))
+    (λ n. head n (past_taken acceptance o (store_history s)))
 orderly-taken nodes s p k acceptance None at none h = h
 orderly-taken nodes s p k acceptance (Some item) at none h =
     let is = h.each p k item at in
     orderly-took nodes (λ n. issued n s) (λ n. last_stamp n s) (core_past s) p k item h at
     (delivered nodes (core_past s) p k item is.node is.number none)
 
-orderly-entry : (nodes : ℕ) (s : List (Event × Reply)) (event : Event) (reply : Reply) → IsGiven nodes s event reply → IsOrderly nodes s → IsOrderly nodes ((event, reply) ∷ s)
+orderly-entry : (nodes : ℕ) (s : List (Event × Reply)) (event : Event) (reply : Reply) → IsGiven nodes s event reply
+    → IsOrderly nodes s → IsOrderly nodes ((event, reply) ∷ s)
 orderly-entry nodes s (Write p reading key value) (Stamped st num) given h =
     orderly-issued nodes s p reading st num (a_write key (Some value)) _ given.0 given.1.0 given.1.1 h
 orderly-entry nodes s (Delete p reading key) (Stamped st num) given h =
     orderly-issued nodes s p reading st num (a_write key None) _ given.0 given.1.0 given.1.1 h
-orderly-entry nodes s (Report p reading) (Stamped st num) given h = orderly-issued nodes s p reading st num a_report _ given.0 given.1.0 given.1.1 h
+orderly-entry nodes s (Report p reading) (Stamped st num) given h =
+    orderly-issued nodes s p reading st num a_report _ given.0 given.1.0 given.1.1 h
 orderly-entry nodes s (Send p reading) (Sent st num) given h =
-    orderly-mark nodes (λ n. issued n s) (λ n. last_stamp n s) (λ n. count n (core_past s)) (λ n. head n (core_past s)) p st h (stamp-rises _ reading st given.1.0)
+    orderly-mark nodes (λ n. issued n s) (λ n. last_stamp n s) (λ n. count n (core_past s))
+    (λ n. head n (core_past s)) p st h (stamp-rises _ reading st given.1.0)
 orderly-entry nodes s (Receive p reading number) (Received st) given h =
-    orderly-mark nodes (λ n. issued n s) (λ n. last_stamp n s) (λ n. count n (core_past s)) (λ n. head n (core_past s)) p st h (received-rises _ _ reading st given.1)
+    orderly-mark nodes (λ n. issued n s) (λ n. last_stamp n s) (λ n. count n (core_past s))
+    (λ n. head n (core_past s)) p st h (received-rises _ _ reading st given.1)
 orderly-entry nodes s (Observe p reading id) (Observed st) given h =
-    orderly-mark nodes (λ n. issued n s) (λ n. last_stamp n s) (λ n. count n (core_past s)) (λ n. head n (core_past s)) p st h (observed-rises _ _ reading st given.1)
+    orderly-mark nodes (λ n. issued n s) (λ n. last_stamp n s) (λ n. count n (core_past s))
+    (λ n. head n (core_past s)) p st h (observed-rises _ _ reading st given.1)
 orderly-entry nodes s (Deliver p k) (Accepted st) given h =
-    orderly-taken nodes s p k (record { node = p; stamp = st }) (slice_get (issued p s) k) refl (on_node-none nodes p _ given.0).1 h
+    orderly-taken nodes s p k (record { node = p; stamp = st }) (slice_get (issued p s) k) refl
+    (on_node-none nodes p _ given.0).1 h
 orderly-entry nodes s (OpenAt at) (Snapshot id st) given h = h
 orderly-entry nodes s OpenFloor (Snapshot id st) given h = h
 orderly-entry nodes s (Read id key) (Answer value) given h = h

@@ -1,6 +1,7 @@
--- No world answers that a stamp does not rise: no due refusal says it, since a delivery is of an issued item, and is refused for its
--- number alone.
-use Rattle.std.proofs.Common.{◌≡◌, ℕ, List, [], ◌∷◌, length, Some, None, Option, Ok, Err, Result, ap, sym, ◌∙◌, subst, inl, inr}
+-- No world answers that a stamp does not rise: no due refusal says it, since a delivery is of an issued item, and is
+-- refused for its number alone.
+use Rattle.std.proofs.Common.{◌≡◌, ℕ, List, [], ◌∷◌, length, Some, None, Option, Ok, Err, Result, ap, sym, ◌∙◌, subst}
+use Rattle.std.proofs.Common.{inl, inr}
 use Rattle.std.specs.Prelude.{nat_le, nat_lt}
 use Rattle.std.proofs.lemmas.Bool.{cond-true, cond-false, eq-eqb, ne_eqb, cases_eq, cases_Bool}
 use Rattle.hlc_clock.specs.NextStamp.{stamp_due}
@@ -19,14 +20,18 @@ use Rattle.hlc_snapshot.specs.declared.fault.SnapshotFault.{SnapshotFault}
 use Rattle.hlc_snapshot.specs.declared.fault.SnapshotFault.TheVariants as snapshot_fault
 use Rattle.hlc_snapshot.specs.Register.{room_refusal as room_in}
 use Rattle.hlc_world.specs.declared.event.Event.{Event}
-use Rattle.hlc_world.specs.declared.event.Event.TheVariants.{Write, Delete, Report, Send, Receive, Observe, Deliver, OpenAt, OpenFloor, Read, List as ListAll, Close, Floor, Vacuum, Rows}
+use Rattle.hlc_world.specs.declared.event.Event.TheVariants.{Write, Delete, Report, Send, Receive, Observe, Deliver}
+use Rattle.hlc_world.specs.declared.event.Event.TheVariants.{OpenAt, OpenFloor, Read, List as ListAll, Close, Floor}
+use Rattle.hlc_world.specs.declared.event.Event.TheVariants.{Vacuum, Rows}
 use Rattle.hlc_world.specs.declared.reply.Reply.{Reply}
 use Rattle.hlc_world.specs.declared.reply.Reply.TheVariants.{Refused}
 use Rattle.hlc_world.specs.declared.refusal.Refusal.{Refusal}
-use Rattle.hlc_world.specs.declared.refusal.Refusal.TheVariants.{NoNode, NotNext, StampNotRising, AboveFloor, BelowHorizon, NoMemory}
+use Rattle.hlc_world.specs.declared.refusal.Refusal.TheVariants.{NoNode, NotNext, StampNotRising, AboveFloor}
+use Rattle.hlc_world.specs.declared.refusal.Refusal.TheVariants.{BelowHorizon, NoMemory}
 use Rattle.hlc_world.specs.Schedule.{item_at, last_stamp, message_at, node_of}
 use Rattle.hlc_world.specs.Store.{core_past}
-use Rattle.hlc_world.specs.Due.{issue_refusal, stamp_refusal, receive_refusal, observe_refusal, core_refusal, on_node, refusal_due, number_refusal, GoesByNumber, IsGiven, IsLegal}
+use Rattle.hlc_world.specs.Due.{issue_refusal, stamp_refusal, receive_refusal, observe_refusal, core_refusal, on_node}
+use Rattle.hlc_world.specs.Due.{refusal_due, number_refusal, GoesByNumber, IsGiven, IsLegal}
 use Rattle.hlc_world.proofs.Delivery.{goes-by-number}
 
 -- the refusal is not that a stamp does not rise
@@ -57,8 +62,10 @@ number-rise : (o : Option Item) (number next : ℕ) → IsRise (number_refusal o
 number-rise None number next head e = absurd (cc)
 number-rise (Some item) number next head e =
     elim (cases_eq number next) [
-      | inl same ↦ absurd (let g : None ≡ Some (StampNotRising head) = sym (cond-true _ _ _ (eq-eqb _ _ same)) ∙ e in cc)
-      | inr other ↦ absurd (let g : Some (NotNext next) ≡ Some (StampNotRising head) = sym (cond-false _ _ _ (ne_eqb _ _ other)) ∙ e in cc)
+      | inl same ↦
+          absurd (let g : None ≡ Some (StampNotRising head) = sym (cond-true _ _ _ (eq-eqb _ _ same)) ∙ e in cc)
+      | inr other ↦ absurd (let g : Some (NotNext next) ≡ Some (StampNotRising head) =
+          sym (cond-false _ _ _ (ne_eqb _ _ other)) ∙ e in cc)
     ]
 
 room-rise : (o : Option SnapshotFault) → IsRise (core_refusal (of_room o))
@@ -70,12 +77,15 @@ room-rise (Some snapshot_fault.NoMemory) head e = absurd (cc)
 open-rise : (nodes : ℕ) (past : List Step) (stamp : ℕ) → IsRise (core_refusal (open_refusal nodes past stamp))
 open-rise nodes past stamp head e =
     elim (cases_Bool (nat_lt (floor nodes past) stamp)) [
-      | inl above ↦ absurd (let g : Some (AboveFloor (floor nodes past)) ≡ Some (StampNotRising head) = ap core_refusal (sym (cond-true _ _ _ above)) ∙ e in cc)
+      | inl above ↦ absurd (let g : Some (AboveFloor (floor nodes past)) ≡ Some (StampNotRising head) =
+          ap core_refusal (sym (cond-true _ _ _ above)) ∙ e in cc)
       | inr low ↦
           let e1 = ap core_refusal (sym (cond-false _ _ _ low)) ∙ e in
           elim (cases_Bool (nat_lt stamp (horizon nodes past))) [
-            | inl below ↦ absurd (let g : Some (BelowHorizon (horizon nodes past)) ≡ Some (StampNotRising head) = ap core_refusal (sym (cond-true _ _ _ below)) ∙ e1 in cc)
-            | inr high ↦ room-rise (room_in (length (open_snapshots past)) (opened past)) head (ap core_refusal (sym (cond-false _ _ _ high)) ∙ e1)
+            | inl below ↦ absurd (let g : Some (BelowHorizon (horizon nodes past)) ≡ Some (StampNotRising head) =
+                ap core_refusal (sym (cond-true _ _ _ below)) ∙ e1 in cc)
+            | inr high ↦ room-rise (room_in (length (open_snapshots past)) (opened past)) head
+                (ap core_refusal (sym (cond-false _ _ _ high)) ∙ e1)
           ]
     ]
 
@@ -86,18 +96,26 @@ snapshot-rise (Some stamp) head e = absurd (cc)
 inside-rise : (nodes p : ℕ) (rest : Option Refusal) → IsRise rest → IsRise (on_node nodes p rest)
 inside-rise nodes p rest h head e =
     elim (cases_Bool (nat_le nodes p)) [
-      | inl outside ↦ absurd (let g : Some NoNode ≡ Some (StampNotRising head) = sym (cond-true _ _ _ outside) ∙ e in cc)
+      | inl outside ↦
+          absurd (let g : Some NoNode ≡ Some (StampNotRising head) = sym (cond-true _ _ _ outside) ∙ e in cc)
       | inr inside ↦ h head (sym (cond-false _ _ _ inside) ∙ e)
     ]
 
-due-rise : (nodes : ℕ) (s : List (Event × Reply)) (event : Event) → GoesByNumber nodes s → IsRise (refusal_due nodes s event)
-due-rise nodes s (Write p reading key value) numbers = inside-rise nodes p _ (issue-rise (issue_due (node_of p s) (a_write key (Some value)) reading))
-due-rise nodes s (Delete p reading key) numbers = inside-rise nodes p _ (issue-rise (issue_due (node_of p s) (a_write key None) reading))
-due-rise nodes s (Report p reading) numbers = inside-rise nodes p _ (issue-rise (issue_due (node_of p s) a_report reading))
+due-rise : (nodes : ℕ) (s : List (Event × Reply)) (event : Event) → GoesByNumber nodes s
+    → IsRise (refusal_due nodes s event)
+due-rise nodes s (Write p reading key value) numbers =
+    inside-rise nodes p _ (issue-rise (issue_due (node_of p s) (a_write key (Some value)) reading))
+due-rise nodes s (Delete p reading key) numbers =
+    inside-rise nodes p _ (issue-rise (issue_due (node_of p s) (a_write key None) reading))
+due-rise nodes s (Report p reading) numbers =
+    inside-rise nodes p _ (issue-rise (issue_due (node_of p s) a_report reading))
 due-rise nodes s (Send p reading) numbers = inside-rise nodes p _ (stamp-rise (stamp_due (last_stamp p s ∷ []) reading))
-due-rise nodes s (Receive p reading k) numbers = inside-rise nodes p _ (receive-rise (message_at k s) (last_stamp p s) reading)
-due-rise nodes s (Deliver p k) numbers = subst IsRise (sym (numbers p k)) (inside-rise nodes p _ (number-rise (item_at p k s) k (count p (core_past s))))
-due-rise nodes s (Observe p reading id) numbers = inside-rise nodes p _ (observe-rise (stamp_of id (core_past s)) (last_stamp p s) reading)
+due-rise nodes s (Receive p reading k) numbers =
+    inside-rise nodes p _ (receive-rise (message_at k s) (last_stamp p s) reading)
+due-rise nodes s (Deliver p k) numbers =
+    subst IsRise (sym (numbers p k)) (inside-rise nodes p _ (number-rise (item_at p k s) k (count p (core_past s))))
+due-rise nodes s (Observe p reading id) numbers =
+    inside-rise nodes p _ (observe-rise (stamp_of id (core_past s)) (last_stamp p s) reading)
 due-rise nodes s (OpenAt stamp) numbers = open-rise nodes (core_past s) stamp
 due-rise nodes s OpenFloor numbers = room-rise (room_in (length (open_snapshots (core_past s))) (opened (core_past s)))
 due-rise nodes s (Read id key) numbers = snapshot-rise (stamp_of id (core_past s))
@@ -108,9 +126,11 @@ due-rise nodes s Vacuum numbers = λ head e. absurd (cc)
 due-rise nodes s Rows numbers = λ head e. absurd (cc)
 
 -- so no world answers that a stamp does not rise
-pub rising : (nodes : ℕ) (s : List (Event × Reply)) (event : Event) (head : ℕ) (reply : Reply) → IsLegal nodes ((event, reply) ∷ s) → reply ≡ Refused (StampNotRising head) → ⊥
+pub rising : (nodes : ℕ) (s : List (Event × Reply)) (event : Event) (head : ℕ) (reply : Reply)
+    → IsLegal nodes ((event, reply) ∷ s) → reply ≡ Refused (StampNotRising head) → ⊥
 rising nodes s event head reply legal is =
-    let given' : IsGiven nodes s event (Refused (StampNotRising head)) = subst (λ r. IsGiven nodes s event r) is legal.0 in
+    let given' : IsGiven nodes s event (Refused (StampNotRising head)) =
+    subst (λ r. IsGiven nodes s event r) is legal.0 in
     elim given' [
       | inl due ↦ due-rise nodes s event (goes-by-number nodes s legal.1) head due
       | inr lost ↦ (let g : StampNotRising head ≡ NoMemory = lost.1 in absurd (cc))

@@ -4,7 +4,9 @@ use Rattle.hlc_world.specs.declared.event.Event.{Event}
 use Rattle.hlc_world.specs.declared.reply.Reply.{Reply}
 use Rattle.hlc_world.specs.Schedule.{after}
 
-pub after-push : (events : List Event) (replies : List Reply) (s : List (Event × Reply)) (event : Event) (reply : Reply) → length events ≡ length replies → after (events ++ event ∷ []) (replies ++ reply ∷ []) s ≡ (event, reply) ∷ after events replies s
+pub after-push : (events : List Event) (replies : List Reply) (s : List (Event × Reply)) (event : Event) (reply : Reply)
+    → length events ≡ length replies
+    → after (events ++ event ∷ []) (replies ++ reply ∷ []) s ≡ (event, reply) ∷ after events replies s
 after-push [] [] s event reply h = refl
 after-push [] (r ∷ replies) s event reply h = absurd (omega arith)
 after-push (e ∷ events) [] s event reply h = absurd (omega arith)

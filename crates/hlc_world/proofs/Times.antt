@@ -1,6 +1,7 @@
--- Stamps follow events: each stamp of a node lies above its last one, each receipt above its message's, which is its sending's, and each
--- observation above its snapshot's, which is that of its opening.
-use Rattle.std.proofs.Common.{◌≡◌, ℕ, ◌<◌, ◌≤◌, List, [], ◌∷◌, ◌++◌, length, Some, None, Option, refl, ap, sym, ◌∙◌, subst, inl, inr, arith}
+-- Stamps follow events: each stamp of a node lies above its last one, each receipt above its message's, which is its
+-- sending's, and each observation above its snapshot's, which is that of its opening.
+use Rattle.std.proofs.Common.{◌≡◌, ℕ, ◌<◌, ◌≤◌, List, [], ◌∷◌, ◌++◌, length, Some, None, Option, refl, ap, sym, ◌∙◌}
+use Rattle.std.proofs.Common.{subst, inl, inr, arith}
 use Rattle.std.specs.Prelude.{slice_get}
 use Rattle.std.proofs.lemmas.Option.{slice_get_within}
 use Rattle.hlc_node.specs.declared.item.Message.{Message}
@@ -9,9 +10,11 @@ use Rattle.hlc_world.specs.declared.event.Event.{Event}
 use Rattle.hlc_world.specs.declared.event.Event.TheVariants.{Write, Delete, Report, Send, Receive, Observe}
 use Rattle.hlc_world.specs.declared.reply.Reply.{Reply}
 use Rattle.hlc_world.specs.declared.reply.Reply.TheVariants.{Stamped, Sent, Received, Observed}
-use Rattle.hlc_world.specs.Schedule.{stamping_of, stamp_or, message_made, with_message, last_stamp, sent, message_at, node_of}
+use Rattle.hlc_world.specs.Schedule.{stamping_of, stamp_or, message_made, with_message, last_stamp, sent, message_at}
+use Rattle.hlc_world.specs.Schedule.{node_of}
 use Rattle.hlc_world.specs.Due.{IsReceived, IsGiven, IsLegal}
-use Rattle.hlc_world.specs.Before.{entry_at, write_stamp, IsStamped, HappenedBefore, on_node, on_message, on_observation, through}
+use Rattle.hlc_world.specs.Before.{entry_at, write_stamp, IsStamped, HappenedBefore, on_node, on_message}
+use Rattle.hlc_world.specs.Before.{on_observation, through}
 use Rattle.hlc_world.proofs.Lists.{some-injective, get-append_left, get-push}
 use Rattle.hlc_world.proofs.Nodes.{stamp_or-same}
 use Rattle.hlc_world.proofs.Orderly.{issue-ok, stamp-rises, sight-rises, received-rises, observed-rises, stamp_or-grows}
@@ -19,37 +22,51 @@ use Rattle.hlc_world.proofs.Entries.{entry-cases, entry-inside}
 use Rattle.hlc_world.proofs.Openings.{opened-found, observed-above}
 
 -- a new stamp of a node lies above its last one
-stamp-new : (nodes : ℕ) (s : List (Event × Reply)) (event : Event) (reply : Reply) (p : ℕ × ℕ) → IsGiven nodes s event reply → stamping_of event reply ≡ Some p → last_stamp p.0 s < p.1
-stamp-new nodes s (Write n reading key value) (Stamped st num) p given h = subst (λ q. last_stamp q.0 s < q.1) (some-injective (n, st) p h) (issue-ok (node_of n s) (a_write key (Some value)) reading st given.1.0).2
-stamp-new nodes s (Delete n reading key) (Stamped st num) p given h = subst (λ q. last_stamp q.0 s < q.1) (some-injective (n, st) p h) (issue-ok (node_of n s) (a_write key None) reading st given.1.0).2
-stamp-new nodes s (Report n reading) (Stamped st num) p given h = subst (λ q. last_stamp q.0 s < q.1) (some-injective (n, st) p h) (issue-ok (node_of n s) a_report reading st given.1.0).2
-stamp-new nodes s (Send n reading) (Sent st num) p given h = subst (λ q. last_stamp q.0 s < q.1) (some-injective (n, st) p h) (stamp-rises _ reading st given.1.0)
-stamp-new nodes s (Receive n reading k) (Received st) p given h = subst (λ q. last_stamp q.0 s < q.1) (some-injective (n, st) p h) (received-rises _ _ reading st given.1)
-stamp-new nodes s (Observe n reading id) (Observed st) p given h = subst (λ q. last_stamp q.0 s < q.1) (some-injective (n, st) p h) (observed-rises _ _ reading st given.1)
+stamp-new : (nodes : ℕ) (s : List (Event × Reply)) (event : Event) (reply : Reply) (p : ℕ × ℕ)
+    → IsGiven nodes s event reply → stamping_of event reply ≡ Some p → last_stamp p.0 s < p.1
+stamp-new nodes s (Write n reading key value) (Stamped st num) p given h = subst (λ q. last_stamp q.0 s < q.1)
+    (some-injective (n, st) p h) (issue-ok (node_of n s) (a_write key (Some value)) reading st given.1.0).2
+stamp-new nodes s (Delete n reading key) (Stamped st num) p given h = subst (λ q. last_stamp q.0 s < q.1)
+    (some-injective (n, st) p h) (issue-ok (node_of n s) (a_write key None) reading st given.1.0).2
+stamp-new nodes s (Report n reading) (Stamped st num) p given h = subst (λ q. last_stamp q.0 s < q.1)
+    (some-injective (n, st) p h) (issue-ok (node_of n s) a_report reading st given.1.0).2
+stamp-new nodes s (Send n reading) (Sent st num) p given h =
+    subst (λ q. last_stamp q.0 s < q.1) (some-injective (n, st) p h) (stamp-rises _ reading st given.1.0)
+stamp-new nodes s (Receive n reading k) (Received st) p given h =
+    subst (λ q. last_stamp q.0 s < q.1) (some-injective (n, st) p h) (received-rises _ _ reading st given.1)
+stamp-new nodes s (Observe n reading id) (Observed st) p given h =
+    subst (λ q. last_stamp q.0 s < q.1) (some-injective (n, st) p h) (observed-rises _ _ reading st given.1)
 stamp-new nodes s _ _ p given h = absurd (cc)
 
-last-grows : (n last : ℕ) (o : Option (ℕ × ℕ)) → ((p : ℕ × ℕ) → o ≡ Some p → p.0 ≡ n → last < p.1) → last ≤ stamp_or n o last
+last-grows : (n last : ℕ) (o : Option (ℕ × ℕ)) → ((p : ℕ × ℕ) → o ≡ Some p → p.0 ≡ n → last < p.1)
+    → last ≤ stamp_or n o last
 last-grows n last None up = omega arith
 last-grows n last (Some p) up = stamp_or-grows n p.0 p.1 last (λ e. up p refl e)
 
-step-grows : (nodes : ℕ) (s : List (Event × Reply)) (entry : Event × Reply) (n : ℕ) → IsGiven nodes s entry.0 entry.1 → last_stamp n s ≤ last_stamp n (entry ∷ s)
+step-grows : (nodes : ℕ) (s : List (Event × Reply)) (entry : Event × Reply) (n : ℕ) → IsGiven nodes s entry.0 entry.1
+    → last_stamp n s ≤ last_stamp n (entry ∷ s)
 step-grows nodes s entry n given =
-    last-grows n (last_stamp n s) (stamping_of entry.0 entry.1) (λ p e own. subst (λ k. last_stamp k s < p.1) own (stamp-new nodes s entry.0 entry.1 p given e))
+    last-grows n (last_stamp n s) (stamping_of entry.0 entry.1)
+    (λ p e own. subst (λ k. last_stamp k s < p.1) own (stamp-new nodes s entry.0 entry.1 p given e))
 
 -- no stamp of a node lies above its last one
-stamp-low : (nodes : ℕ) (s : List (Event × Reply)) (i n a : ℕ) (x : Event × Reply) → IsLegal nodes s → entry_at s i ≡ Some x → stamping_of x.0 x.1 ≡ Some (n, a) → a ≤ last_stamp n s
+stamp-low : (nodes : ℕ) (s : List (Event × Reply)) (i n a : ℕ) (x : Event × Reply) → IsLegal nodes s
+    → entry_at s i ≡ Some x → stamping_of x.0 x.1 ≡ Some (n, a) → a ≤ last_stamp n s
 stamp-low nodes [] i n a x legal at m = absurd (cc)
 stamp-low nodes (entry ∷ s) i n a x legal at m =
     elim (entry-cases entry s i x at) [
       | inl here ↦
           (let e : stamping_of entry.0 entry.1 ≡ Some (n, a) = ap (λ y. stamping_of y.0 y.1) here.1 ∙ m in
-          let f : last_stamp n (entry ∷ s) ≡ a = ap (λ o. stamp_or n o (last_stamp n s)) e ∙ stamp_or-same n a (last_stamp n s) in omega (arith, f))
+          let f : last_stamp n (entry ∷ s) ≡ a = ap (λ o. stamp_or n o (last_stamp n s)) e
+          ∙ stamp_or-same n a (last_stamp n s) in omega (arith, f))
       | inr there ↦
           (let l : a ≤ last_stamp n s = stamp-low nodes s i n a x legal.1 there.1 m in
           let g = step-grows nodes s entry n legal.0 in omega (arith, g))
     ]
 
-on_node-less : (nodes : ℕ) (s : List (Event × Reply)) (i j n a b : ℕ) (x y : Event × Reply) → IsLegal nodes s → i < j → entry_at s i ≡ Some x → stamping_of x.0 x.1 ≡ Some (n, a) → entry_at s j ≡ Some y → stamping_of y.0 y.1 ≡ Some (n, b) → a < b
+on_node-less : (nodes : ℕ) (s : List (Event × Reply)) (i j n a b : ℕ) (x y : Event × Reply) → IsLegal nodes s
+    → i < j → entry_at s i ≡ Some x → stamping_of x.0 x.1 ≡ Some (n, a) → entry_at s j ≡ Some y
+    → stamping_of y.0 y.1 ≡ Some (n, b) → a < b
 on_node-less nodes [] i j n a b x y legal lt at_i m at_j k = absurd (cc)
 on_node-less nodes (entry ∷ s) i j n a b x y legal lt at_i m at_j k =
     let in_j : j < length (entry ∷ s) = entry-inside (entry ∷ s) j y at_j in
@@ -65,28 +82,38 @@ on_node-less nodes (entry ∷ s) i j n a b x y legal lt at_i m at_j k =
     ]
 
 -- a message that was sent stays where it is
-with_message-keeps : (o : Option Message) (messages : List Message) (k : ℕ) (message : Message) → slice_get messages k ≡ Some message → slice_get (with_message o messages) k ≡ Some message
+with_message-keeps : (o : Option Message) (messages : List Message) (k : ℕ) (message : Message)
+    → slice_get messages k ≡ Some message → slice_get (with_message o messages) k ≡ Some message
 with_message-keeps None messages k message h = h
-with_message-keeps (Some m) messages k message h = get-append_left messages (m ∷ []) k (slice_get_within messages k message h) ∙ h
+with_message-keeps (Some m) messages k message h =
+    get-append_left messages (m ∷ []) k (slice_get_within messages k message h) ∙ h
 
 -- a message bears its sending's stamp
-sent-found : (nodes : ℕ) (s : List (Event × Reply)) (i n r st k : ℕ) → IsLegal nodes s → entry_at s i ≡ Some (Send n r, Sent st k) → message_at k s ≡ Some (record { from = n; stamp = st })
+sent-found : (nodes : ℕ) (s : List (Event × Reply)) (i n r st k : ℕ) → IsLegal nodes s
+    → entry_at s i ≡ Some (Send n r, Sent st k) → message_at k s ≡ Some (record { from = n; stamp = st })
 sent-found nodes [] i n r st k legal at = absurd (cc)
 sent-found nodes (entry ∷ s) i n r st k legal at =
     elim (entry-cases entry s i _ at) [
-      | inr there ↦ with_message-keeps (message_made entry.0 entry.1) (sent s) k _ (sent-found nodes s i n r st k legal.1 there.1)
+      | inr there ↦
+          with_message-keeps (message_made entry.0 entry.1) (sent s) k _ (sent-found nodes s i n r st k legal.1 there.1)
       | inl here ↦
           let given : IsGiven nodes s (Send n r) (Sent st k) = subst (λ y. IsGiven nodes s y.0 y.1) here.1 legal.0 in
-          subst (λ y. slice_get (with_message (message_made y.0 y.1) (sent s)) k ≡ Some (record { from = n; stamp = st })) (sym here.1)
-          (ap (λ j. slice_get (sent s ++ record { from = n; stamp = st } ∷ []) j) given.1.1 ∙ get-push (sent s) (record { from = n; stamp = st }))
+          subst
+          (λ y. slice_get (with_message (message_made y.0 y.1) (sent s)) k ≡ Some (record { from = n; stamp = st }))
+          (sym here.1)
+          (ap (λ j. slice_get (sent s ++ record { from = n; stamp = st } ∷ []) j) given.1.1
+          ∙ get-push (sent s) (record { from = n; stamp = st }))
     ]
 
-seen-below : (o : Option Message) (last reading t : ℕ) → IsReceived o last reading t → (message : Message) × (o ≡ Some message) × (message.stamp < t)
+seen-below : (o : Option Message) (last reading t : ℕ) → IsReceived o last reading t
+    → (message : Message) × (o ≡ Some message) × (message.stamp < t)
 seen-below None last reading t h = absurd h
 seen-below (Some message) last reading t h = (message, refl, (sight-rises last message.stamp reading t h).1)
 
 -- a receipt lies above its message's stamp
-received-above : (nodes : ℕ) (s : List (Event × Reply)) (j m q k t : ℕ) → IsLegal nodes s → entry_at s j ≡ Some (Receive m q k, Received t) → (message : Message) × (message_at k s ≡ Some message) × (message.stamp < t)
+received-above : (nodes : ℕ) (s : List (Event × Reply)) (j m q k t : ℕ)
+    → IsLegal nodes s → entry_at s j ≡ Some (Receive m q k, Received t)
+    → (message : Message) × (message_at k s ≡ Some message) × (message.stamp < t)
 received-above nodes [] j m q k t legal at = absurd (cc)
 received-above nodes (entry ∷ s) j m q k t legal at =
     elim (entry-cases entry s j _ at) [
@@ -94,48 +121,72 @@ received-above nodes (entry ∷ s) j m q k t legal at =
           let r = received-above nodes s j m q k t legal.1 there.1 in
           (r.0, with_message-keeps (message_made entry.0 entry.1) (sent s) k r.0 r.1, r.2)
       | inl here ↦
-          let given : IsGiven nodes s (Receive m q k) (Received t) = subst (λ y. IsGiven nodes s y.0 y.1) here.1 legal.0 in
+          let given : IsGiven nodes s (Receive m q k) (Received t) =
+          subst (λ y. IsGiven nodes s y.0 y.1) here.1 legal.0 in
           let r = seen-below _ _ q t given.1 in
           (r.0, with_message-keeps (message_made entry.0 entry.1) (sent s) k r.0 r.1, r.2)
     ]
 
 -- a write or a deletion is stamped
-written-stamped : (event : Event) (reply : Reply) (a : ℕ) → write_stamp event reply ≡ Some a → (n : ℕ) × (stamping_of event reply ≡ Some (n, a))
+written-stamped : (event : Event) (reply : Reply) (a : ℕ) → write_stamp event reply ≡ Some a
+    → (n : ℕ) × (stamping_of event reply ≡ Some (n, a))
 written-stamped (Write n r key value) (Stamped st k) a is = (n, (let e : st ≡ a = cc in ap (λ x. Some (n, x)) e))
 written-stamped (Delete n r key) (Stamped st k) a is = (n, (let e : st ≡ a = cc in ap (λ x. Some (n, x)) e))
 written-stamped _ _ a is = absurd (cc)
 
 -- both events have stamps, which rise
-ends : (nodes : ℕ) (s : List (Event × Reply)) → IsLegal nodes s → {i j : ℕ} → HappenedBefore s i j → (n : ℕ) × (a : ℕ) × (m : ℕ) × (b : ℕ) × IsStamped s i n a × IsStamped s j m b × (a < b)
-ends nodes s legal (on_node {first} {later} n a b lt h k) = (n, a, n, b, h, k, on_node-less nodes s first later n a b h.entry k.entry legal lt h.at h.mark k.at k.mark)
+ends : (nodes : ℕ) (s : List (Event × Reply)) → IsLegal nodes s → {i j : ℕ} → HappenedBefore s i j
+    → (n : ℕ) × (a : ℕ) × (m : ℕ) × (b : ℕ) × IsStamped s i n a × IsStamped s j m b × (a < b)
+ends nodes s legal (on_node {first} {later} n a b lt h k) =
+    (n, a, n, b, h, k, on_node-less nodes s first later n a b h.entry k.entry legal lt h.at h.mark k.at k.mark)
 ends nodes s legal (on_message {first} {later} n r a k m q b h g) =
     let x = received-above nodes s later m q k b legal g in
-    let same : record { from = n; stamp = a } ≡ x.0 = some-injective (record { from = n; stamp = a }) x.0 (sym (sent-found nodes s first n r a k legal h) ∙ x.1) in
-    let e : a ≡ x.0.stamp = ap (λ y. y.stamp) same in
-    (n, a, m, b, record { entry = (Send n r, Sent a k); at = h; mark = refl }, record { entry = (Receive m q k, Received b); at = g; mark = refl }, (let u : x.0.stamp < b = x.2 in omega arith))
+    let same : record { from = n; stamp = a } ≡ x.0 =
+    some-injective (record { from = n; stamp = a }) x.0 (sym (sent-found nodes s first n r a k legal h) ∙ x.1) in
+    let e : a ≡ x.0.stamp = ap (λ y. y.stamp) same in (
+      n,
+      a,
+      m,
+      b,
+      record { entry = (Send n r, Sent a k); at = h; mark = refl },
+      record { entry = (Receive m q k, Received b); at = g; mark = refl },
+      (let u : x.0.stamp < b = x.2 in omega arith),
+    )
 ends nodes s legal (on_observation {first} {later} a n r id at b written opened low h) =
     let w = written-stamped written.entry.0 written.entry.1 a written.written in
     let seen = observed-above nodes s later n r id b legal h in
-    let same : Some at ≡ Some seen.0 = sym (opened-found nodes s opened.turn opened.event id at legal opened.at) ∙ seen.1 in
+    let same : Some at ≡ Some seen.0 =
+    sym (opened-found nodes s opened.turn opened.event id at legal opened.at) ∙ seen.1 in
     let e : at ≡ seen.0 = some-injective at seen.0 same in
     let up : seen.0 < b = seen.2 in
-    let low' : a ≤ at = low in
-    (w.0, a, n, b, record { entry = written.entry; at = written.at; mark = w.1 }, record { entry = (Observe n r id, Observed b); at = h; mark = refl }, omega arith)
+    let low' : a ≤ at = low in (
+      w.0,
+      a,
+      n,
+      b,
+      record { entry = written.entry; at = written.at; mark = w.1 },
+      record { entry = (Observe n r id, Observed b); at = h; mark = refl },
+      omega arith,
+    )
 ends nodes s legal (through x y) =
     let first = ends nodes s legal x in
     let second = ends nodes s legal y in
     let e : Some first.5.entry ≡ Some second.4.entry = sym first.5.at ∙ second.4.at in
-    let f : ◌≡◌ {A = ℕ × ℕ} (first.2, first.3) (second.0, second.1) = some-injective (first.2, first.3) (second.0, second.1) (sym first.5.mark ∙ ap (λ z. stamping_of z.0 z.1) (some-injective _ _ e) ∙ second.4.mark) in
+    let f : ◌≡◌ {A = ℕ × ℕ} (first.2, first.3) (second.0, second.1) =
+    some-injective (first.2, first.3) (second.0, second.1)
+    (sym first.5.mark ∙ ap (λ z. stamping_of z.0 z.1) (some-injective _ _ e) ∙ second.4.mark) in
     let g : first.3 ≡ second.1 = ap (λ z. z.1) f in
     (first.0, first.1, second.2, second.3, first.4, second.5, omega (arith, first.6, second.6))
 
 stamp-unique : (s : List (Event × Reply)) (i n a m b : ℕ) → IsStamped s i n a → IsStamped s i m b → a ≡ b
 stamp-unique s i n a m b h k =
     let e : Some h.entry ≡ Some k.entry = sym h.at ∙ k.at in
-    let f : ◌≡◌ {A = ℕ × ℕ} (n, a) (m, b) = some-injective (n, a) (m, b) (sym h.mark ∙ ap (λ z. stamping_of z.0 z.1) (some-injective _ _ e) ∙ k.mark) in
+    let f : ◌≡◌ {A = ℕ × ℕ} (n, a) (m, b) =
+    some-injective (n, a) (m, b) (sym h.mark ∙ ap (λ z. stamping_of z.0 z.1) (some-injective _ _ e) ∙ k.mark) in
     ap (λ z. z.1) f
 
-pub less : (nodes : ℕ) (s : List (Event × Reply)) (i j n a m b : ℕ) → IsLegal nodes s → HappenedBefore s i j → IsStamped s i n a → IsStamped s j m b → a < b
+pub less : (nodes : ℕ) (s : List (Event × Reply)) (i j n a m b : ℕ) → IsLegal nodes s → HappenedBefore s i j
+    → IsStamped s i n a → IsStamped s j m b → a < b
 less nodes s i j n a m b legal before h k =
     let both = ends nodes s legal before in
     let x : both.1 ≡ a = stamp-unique s i _ _ n a both.4 h in

@@ -35,10 +35,15 @@ pub record IsOpenedAt (schedule : List (Event × Reply)) (id stamp : ℕ) : Type
   pub event : Event
   pub at : entry_at schedule turn ≡ Some (event, Snapshot id stamp)
 
--- the least transitive relation that holds from an event of a node to each later one of that node, from a send to each receipt of
--- its message, and from a write or deletion at or below a stamp to each observation of a snapshot at that stamp
+-- the least transitive relation that holds from an event of a node to each later one of that node, from a send to each
+-- receipt of its message, and from a write or deletion at or below a stamp to each observation of a snapshot at that
+-- stamp
 pub data HappenedBefore (schedule : List (Event × Reply)) : ℕ → ℕ → Type 0 where
-  on_node : {first later : ℕ} (n a b : ℕ) → first < later → IsStamped schedule first n a → IsStamped schedule later n b → HappenedBefore schedule first later
-  on_message : {first later : ℕ} (n r a number m q b : ℕ) → entry_at schedule first ≡ Some (Send n r, Sent a number) → entry_at schedule later ≡ Some (Receive m q number, Received b) → HappenedBefore schedule first later
-  on_observation : {first later : ℕ} (a n r id at b : ℕ) → IsWritten schedule first a → IsOpenedAt schedule id at → a ≤ at → entry_at schedule later ≡ Some (Observe n r id, Observed b) → HappenedBefore schedule first later
-  through : {first middle last : ℕ} → HappenedBefore schedule first middle → HappenedBefore schedule middle last → HappenedBefore schedule first last
+  on_node : {first later : ℕ} (n a b : ℕ) → first < later → IsStamped schedule first n a → IsStamped schedule later n b
+      → HappenedBefore schedule first later
+  on_message : {first later : ℕ} (n r a number m q b : ℕ) → entry_at schedule first ≡ Some (Send n r, Sent a number)
+      → entry_at schedule later ≡ Some (Receive m q number, Received b) → HappenedBefore schedule first later
+  on_observation : {first later : ℕ} (a n r id at b : ℕ) → IsWritten schedule first a → IsOpenedAt schedule id at
+      → a ≤ at → entry_at schedule later ≡ Some (Observe n r id, Observed b) → HappenedBefore schedule first later
+  through : {first middle last : ℕ} → HappenedBefore schedule first middle → HappenedBefore schedule middle last
+      → HappenedBefore schedule first last

@@ -1,5 +1,6 @@
 -- The reply that is due to an event after a schedule.
-use Rattle.std.specs.Prelude.{◌≡◌, ℕ, List, [], ◌∷◌, length, Option, Some, None, Result, Ok, Err, ◌==◌, ◌⊎◌, nat_le, if◌then◌else◌, ⊤}
+use Rattle.std.specs.Prelude.{◌≡◌, ℕ, List, [], ◌∷◌, length, Option, Some, None, Result, Ok, Err, ◌==◌, ◌⊎◌, nat_le}
+use Rattle.std.specs.Prelude.{if◌then◌else◌, ⊤}
 use Rattle.hlc_clock.specs.NextStamp.{stamp_due}
 use Rattle.hlc_clock.specs.declared.clock.ClockFault.{ClockFault}
 use Rattle.hlc_clock.specs.declared.clock.ClockFault.TheVariants as clock_fault
@@ -20,11 +21,16 @@ use Rattle.hlc_core.specs.Past.{Step, count, floor, stamp_of}
 use Rattle.hlc_core.specs.Stored.{IsStoredCount}
 use Rattle.hlc_core.specs.History.{refusal_due as refusal_owed, IsDueReply as IsOwedReply, MayLackMemory as CoreMayLack}
 use Rattle.hlc_world.specs.declared.event.Event.{Event}
-use Rattle.hlc_world.specs.declared.event.Event.TheVariants.{Write, Delete, Report, Send, Receive, Observe, Deliver, Floor, Rows}
+use Rattle.hlc_world.specs.declared.event.Event.TheVariants.{Write, Delete, Report, Send, Receive, Observe, Deliver}
+use Rattle.hlc_world.specs.declared.event.Event.TheVariants.{Floor, Rows}
 use Rattle.hlc_world.specs.declared.reply.Reply.{Reply}
-use Rattle.hlc_world.specs.declared.reply.Reply.TheVariants.{Stamped, Sent, Received, Observed, Floor as FloorIs, Rows as RowsAre, Refused}
+use Rattle.hlc_world.specs.declared.reply.Reply.TheVariants.{Stamped, Sent, Received, Observed, Floor as FloorIs}
+use Rattle.hlc_world.specs.declared.reply.Reply.TheVariants.{Rows as RowsAre, Refused}
 use Rattle.hlc_world.specs.declared.refusal.Refusal.{Refusal}
-use Rattle.hlc_world.specs.declared.refusal.Refusal.TheVariants.{NoNode, ReadingTooLarge, CounterFull, NoMessage, NoItem, NotNext, StampNotRising, AboveFloor, BelowHorizon, NoSnapshot, TooManySnapshots, BadKey, ValueTooLong, NumbersSpent, NoMemory}
+use Rattle.hlc_world.specs.declared.refusal.Refusal.TheVariants.{NoNode, ReadingTooLarge, CounterFull, NoMessage}
+use Rattle.hlc_world.specs.declared.refusal.Refusal.TheVariants.{NoItem, NotNext, StampNotRising, AboveFloor}
+use Rattle.hlc_world.specs.declared.refusal.Refusal.TheVariants.{BelowHorizon, NoSnapshot, TooManySnapshots, BadKey}
+use Rattle.hlc_world.specs.declared.refusal.Refusal.TheVariants.{ValueTooLong, NumbersSpent, NoMemory}
 use Rattle.hlc_world.specs.Schedule.{issued, item_at, last_stamp, sent, message_at, node_of}
 use Rattle.hlc_world.specs.Store.{asked, share, core_past}
 
@@ -72,7 +78,8 @@ abbrev pub receive_refusal : Option Message → ℕ → ℕ → Option Refusal
 receive_refusal None last reading = Some NoMessage
 receive_refusal (Some message) last reading = stamp_refusal (stamp_due (last ∷ message.stamp ∷ []) reading)
 
--- why a snapshot is not observed: there is none, or the clock gives no stamp above the node's last one and the snapshot's
+-- why a snapshot is not observed: there is none, or the clock gives no stamp above the node's last one and the
+-- snapshot's
 abbrev pub observe_refusal : Option ℕ → ℕ → ℕ → Option Refusal
 observe_refusal None last reading = Some NoSnapshot
 observe_refusal (Some seen) last reading = stamp_refusal (stamp_due (last ∷ seen ∷ []) reading)
@@ -96,14 +103,17 @@ abbrev pub deliver_refusal : ℕ → List Step → Option Item → Option Refusa
 deliver_refusal nodes past None = Some NoItem
 deliver_refusal nodes past (Some item) = store_refusal nodes past (Some (Accept item))
 
--- the first refusal that is due, memory aside; to an event that asks something of the store, the one that the store owes
+-- the first refusal that is due, memory aside; to an event that asks something of the store,
+-- the one that the store owes
 abbrev pub refusal_due : ℕ → List (Event × Reply) → Event → Option Refusal
 refusal_due nodes schedule (Write node reading key value) =
     on_node nodes node (issue_refusal (issue_due (node_of node schedule) (a_write key (Some value)) reading))
 refusal_due nodes schedule (Delete node reading key) =
     on_node nodes node (issue_refusal (issue_due (node_of node schedule) (a_write key None) reading))
-refusal_due nodes schedule (Report node reading) = on_node nodes node (issue_refusal (issue_due (node_of node schedule) a_report reading))
-refusal_due nodes schedule (Send node reading) = on_node nodes node (stamp_refusal (stamp_due (last_stamp node schedule ∷ []) reading))
+refusal_due nodes schedule (Report node reading) =
+    on_node nodes node (issue_refusal (issue_due (node_of node schedule) a_report reading))
+refusal_due nodes schedule (Send node reading) =
+    on_node nodes node (stamp_refusal (stamp_due (last_stamp node schedule ∷ []) reading))
 refusal_due nodes schedule (Receive node reading message) =
     on_node nodes node (receive_refusal (message_at message schedule) (last_stamp node schedule) reading)
 refusal_due nodes schedule (Observe node reading id) =
@@ -127,10 +137,12 @@ abbrev pub IsOwed : ℕ → List Step → Option (CoreEvent × CoreReply) → Ty
 IsOwed nodes past None = ⊥
 IsOwed nodes past (Some entry) = IsOwedReply nodes past entry.0 entry.1
 
--- the reply that is due where no refusal is; to an event that asks something of the store, one that tells what the store owes
+-- the reply that is due where no refusal is; to an event that asks something of the store,
+-- one that tells what the store owes
 abbrev pub IsDueReply : ℕ → List (Event × Reply) → Event → Reply → Type 0
 IsDueReply nodes schedule (Write node reading key value) (Stamped stamp number) =
-    (issue_due (node_of node schedule) (a_write key (Some value)) reading ≡ Ok stamp) × (number ≡ length (issued node schedule))
+    (issue_due (node_of node schedule) (a_write key (Some value)) reading ≡ Ok stamp)
+    × (number ≡ length (issued node schedule))
 IsDueReply nodes schedule (Delete node reading key) (Stamped stamp number) =
     (issue_due (node_of node schedule) (a_write key None) reading ≡ Ok stamp) × (number ≡ length (issued node schedule))
 IsDueReply nodes schedule (Report node reading) (Stamped stamp number) =

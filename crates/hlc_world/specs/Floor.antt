@@ -18,7 +18,8 @@ IsAccepted item schedule = Contains (core_past schedule) (Took item)
 
 -- every issued item at or below the floor was accepted, so what is read there is final
 abbrev pub IsComplete : ℕ → List (Event × Reply) → Type 0
-IsComplete nodes schedule = (item : Item) → IsIssued item schedule → item.stamp ≤ floor nodes (core_past schedule) → IsAccepted item schedule
+IsComplete nodes schedule = (item : Item) → IsIssued item schedule → item.stamp ≤ floor nodes (core_past schedule)
+    → IsAccepted item schedule
 
 -- no clock is below the floor
 abbrev pub IsBelowClocks : ℕ → List (Event × Reply) → Type 0
@@ -30,8 +31,8 @@ pub record IsIssuedAt (schedule : List (Event × Reply)) (turn : ℕ) (item : It
   pub at : entry_at schedule turn ≡ Some entry
   pub made : item_made entry.0 entry.1 ≡ Some item
 
--- The past of an open snapshot is whole: where an item is accepted and at or below the snapshot's stamp, every issued item that
--- happened before it is accepted and at or below that stamp as well.
+-- The past of an open snapshot is whole: where an item is accepted and at or below the snapshot's stamp, every issued
+-- item that happened before it is accepted and at or below that stamp as well.
 abbrev pub IsClosed : List (Event × Reply) → Type 0
 IsClosed schedule =
     (id stamp first later : ℕ) (item earlier : Item)

@@ -10,8 +10,8 @@ use Rattle.hlc_world.specs.declared.event.Event.TheVariants.{Write, Delete, Repo
 use Rattle.hlc_world.specs.declared.reply.Reply.{Reply}
 use Rattle.hlc_world.specs.declared.reply.Reply.TheVariants.{Stamped, Sent, Received, Observed}
 
--- Below, a schedule is the list of the events with their replies, the last one first. An event whose reply is a refusal did not
--- take place.
+-- Below, a schedule is the list of the events with their replies, the last one first. An event whose reply is a refusal
+-- did not take place.
 
 -- an item with these parts
 abbrev pub an_item : ℕ → ℕ → ℕ → Body → Item
@@ -19,7 +19,8 @@ an_item node number stamp body = record { node = node; number = number; stamp = 
 
 -- the item that an event issued
 abbrev pub item_made : Event → Reply → Option Item
-item_made (Write node reading key value) (Stamped stamp number) = Some (an_item node number stamp (a_write key (Some value)))
+item_made (Write node reading key value) (Stamped stamp number) =
+    Some (an_item node number stamp (a_write key (Some value)))
 item_made (Delete node reading key) (Stamped stamp number) = Some (an_item node number stamp (a_write key None))
 item_made (Report node reading) (Stamped stamp number) = Some (an_item node number stamp a_report)
 item_made _ _ = None

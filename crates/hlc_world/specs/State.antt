@@ -1,5 +1,6 @@
 -- What a world keeps, and which schedule it stands for.
-use Rattle.std.specs.Prelude.{◌≡◌, ℕ, zero, suc, ◌<◌, ◌⊎◌, List, [], ◌∷◌, ◌++◌, length, Some, None, slice_get, MatchOption, Result, Ok, Err}
+use Rattle.std.specs.Prelude.{◌≡◌, ℕ, zero, suc, ◌<◌, ◌⊎◌, List, [], ◌∷◌, ◌++◌, length, Some, None, slice_get}
+use Rattle.std.specs.Prelude.{MatchOption, Result, Ok, Err}
 use Rattle.hlc_node.specs.declared.item.Item.{Item}
 use Rattle.hlc_node.specs.declared.item.Body.{Body}
 use Rattle.hlc_node.specs.declared.item.Message.{Message}
@@ -37,7 +38,8 @@ IsMatched state = length state.core.links ≡ length state.nodes
 pub record StandsFor (state : State) (schedule : List (Event × Reply)) : Type 0 where
   pub legal : IsLegal (world_nodes state) schedule
   pub core : CoreStandsFor state.core (core_past schedule)
-  pub nodes : (n : ℕ) → n < world_nodes state → slice_get state.nodes n ≡ Some (record { core = node_of n schedule; issued = issued n schedule })
+  pub nodes : (n : ℕ) → n < world_nodes state
+      → slice_get state.nodes n ≡ Some (record { core = node_of n schedule; issued = issued n schedule })
   pub messages : state.messages ≡ sent schedule
 
 -- so many nodes, on which nothing took place
@@ -45,13 +47,14 @@ abbrev pub fresh : ℕ → List KeptNode
 fresh zero = []
 fresh (suc n) = fresh n ++ record { core = record { id = n; last = 0; next = 0 }; issued = [] } ∷ []
 
--- a new world has these nodes and stands for the empty schedule; or the number of nodes is refused, or there is no memory
+-- a new world has these nodes and stands for the empty schedule; or the number of nodes is refused,
+-- or there is no memory
 abbrev pub Makes : ℕ → Result State Refusal → Type 0
 Makes count (Ok world) = (new_refusal count ≡ None) × (world_nodes world ≡ count) × StandsFor world []
 Makes count (Err refusal) = MatchOption (new_refusal count) (refusal ≡ NoMemory) (λ fault. refusal ≡ of_core fault)
 
--- a node issued an item that says this, which bears the node's next number; or the node is unchanged, and the refusal is the due
--- one, or want of memory where none is due
+-- a node issued an item that says this, which bears the node's next number; or the node is unchanged, and the refusal
+-- is the due one, or want of memory where none is due
 abbrev pub Issues : KeptNode → KeptNode → Body → ℕ → Result (ℕ × ℕ) Refusal → Type 0
 Issues old new body reading (Ok made) =
     (issue_due old.core body reading ≡ Ok made.0)
@@ -64,5 +67,6 @@ Issues old new body reading (Err refusal) =
 
 -- an item is kept, and its node is this one then; or there is no memory, and all is as it was
 abbrev pub Keeps : KeptNode → KeptNode → Node → Item → Result (ℕ × ℕ) Refusal → Type 0
-Keeps old new core item (Ok made) = (made ≡ (item.stamp, item.number)) × (new ≡ record { core = core; issued = old.issued ++ item ∷ [] })
+Keeps old new core item (Ok made) =
+    (made ≡ (item.stamp, item.number)) × (new ≡ record { core = core; issued = old.issued ++ item ∷ [] })
 Keeps old new core item (Err refusal) = (refusal ≡ NoMemory) × (new ≡ old)

@@ -8,7 +8,8 @@ use Rattle.hlc_core.specs.declared.reply.CoreReply.TheVariants as core_reply
 use Rattle.hlc_core.specs.Past.{Step}
 use Rattle.hlc_core.specs.History.{past_of}
 use Rattle.hlc_world.specs.declared.event.Event.{Event}
-use Rattle.hlc_world.specs.declared.event.Event.TheVariants.{Deliver, OpenAt, OpenFloor, Read, List as ListAll, Close, Vacuum}
+use Rattle.hlc_world.specs.declared.event.Event.TheVariants.{Deliver, OpenAt, OpenFloor, Read, List as ListAll, Close}
+use Rattle.hlc_world.specs.declared.event.Event.TheVariants.{Vacuum}
 use Rattle.hlc_world.specs.declared.reply.Reply.{Reply}
 use Rattle.hlc_world.specs.declared.reply.Reply.TheVariants.{Accepted, Snapshot, Answer, Listing, Closed, Vacuumed}
 use Rattle.hlc_world.specs.Schedule.{item_at}
@@ -18,8 +19,8 @@ abbrev pub accepting : Option Item → Option CoreEvent
 accepting None = None
 accepting (Some item) = Some (core_event.Accept item)
 
--- What an event asks of the store: a delivery asks it to accept the item of that number. The events of nodes ask nothing of it, and the
--- questions for the floor and the rows are the world's own.
+-- What an event asks of the store: a delivery asks it to accept the item of that number. The events of nodes ask
+-- nothing of it, and the questions for the floor and the rows are the world's own.
 abbrev pub asked : List (Event × Reply) → Event → Option CoreEvent
 asked schedule (Deliver node number) = accepting (item_at node number schedule)
 asked schedule (OpenAt stamp) = Some (core_event.OpenAt stamp)
@@ -56,7 +57,8 @@ abbrev pub with_entry : Option (CoreEvent × CoreReply) → List (CoreEvent × C
 with_entry None history = history
 with_entry (Some entry) history = entry ∷ history
 
--- the store's history: each event of the schedule that asked something of the store and took place, in order, the last one first
+-- the store's history: each event of the schedule that asked something of the store and took place, in order,
+-- the last one first
 abbrev pub store_history : List (Event × Reply) → List (CoreEvent × CoreReply)
 store_history [] = []
 store_history (entry ∷ schedule) = with_entry (share schedule entry.0 entry.1) (store_history schedule)

@@ -13,7 +13,8 @@ use hlc_core::histories_are_faithful;
 /// In a schedule whose events were each given their due, as in each that a world stands for, if an
 /// event happened before another (Lamport 1978), its stamp is the lesser.
 pub fn stamps_follow_events()
-    ensures { (nodes : ℕ) (schedule : List (AnEvent × AReply)) (first later : ℕ) (n a m b : ℕ) → IsLegal nodes schedule → HappenedBefore schedule first later → IsStamped schedule first n a → IsStamped schedule later m b → a < b }
+    ensures { (nodes : ℕ) (schedule : List (AnEvent × AReply)) (first later : ℕ) (n a m b : ℕ) → IsLegal nodes schedule
+        → HappenedBefore schedule first later → IsStamped schedule first n a → IsStamped schedule later m b → a < b }
 {}
 
 /// In such a schedule an issued item is refused for its number alone, memory aside: its stamp is
@@ -43,7 +44,8 @@ pub fn open_snapshots_are_closed()
 /// reads gave the newest accepted values, vacuums were the least and left the fewest rows; that
 /// history has each moment of the schedule; and what can be read is closed.
 pub fn worlds_are_faithful()
-    ensures { (state : State) (schedule : List (AnEvent × AReply)) → IsMatched state → StandsFor state schedule → IsFaithful (world_nodes state) schedule state.core.rows }
+    ensures { (state : State) (schedule : List (AnEvent × AReply)) → IsMatched state → StandsFor state schedule
+        → IsFaithful (world_nodes state) schedule state.core.rows }
 {
     histories_are_faithful();
 }

@@ -1,5 +1,6 @@
 //! The world and its events.
-ghost use Rattle.std.specs.Prelude.{◌≡◌, ◌≢◌, ◌<◌, ℕ, [], ◌∷◌, ◌++◌, List, MatchBool, MatchResult, IfOk, IfErr, OnErr, length};
+ghost use Rattle.std.specs.Prelude.{◌≡◌, ◌≢◌, ◌<◌, ℕ, [], ◌∷◌, ◌++◌, List, MatchBool, MatchResult, IfOk, IfErr, OnErr};
+ghost use Rattle.std.specs.Prelude.{length};
 ghost use Rattle.hlc_core.specs.Past.{Step, Took, item_refusal};
 ghost use Rattle.hlc_core.specs.Kept.{nodes, StandsFor as CoreStandsFor};
 ghost use Rattle.hlc_core.specs.Calls.{IsRefusal, IsWrite};
@@ -43,7 +44,8 @@ impl Model for World {
 
     ghost view = { λ world. record { core = world.core; nodes = world.nodes.items; messages = world.messages.items } };
 
-    ghost invariant = { λ world. IsMatched (record { core = world.core; nodes = world.nodes.items; messages = world.messages.items }) };
+    ghost invariant = { λ world.
+        IsMatched (record { core = world.core; nodes = world.nodes.items; messages = world.messages.items }) };
 }
 
 impl World {
@@ -79,15 +81,26 @@ impl World {
     /// item, a message, a snapshot or a listing, stores a row, gives a value or is a Vacuum, want of
     /// memory. A Vacuum is refused for nothing else, and Floor and Rows are never refused.
     pub fn step(&mut self, event: Event) -> Reply
-        ensures stands { (schedule : List (AnEvent × AReply)) → StandsFor self.old schedule → StandsFor self.new ((event, result) ∷ schedule) }
-        ensures given { (schedule : List (AnEvent × AReply)) → StandsFor self.old schedule → IsGiven (world_nodes self.old) schedule event result }
-        ensures ordered { (schedule : List (AnEvent × AReply)) (first later : ℕ) (n a m b : ℕ) → StandsFor self.old schedule → HappenedBefore ((event, result) ∷ schedule) first later → IsStamped ((event, result) ∷ schedule) first n a → IsStamped ((event, result) ∷ schedule) later m b → a < b }
-        ensures complete { (schedule : List (AnEvent × AReply)) → StandsFor self.old schedule → IsComplete (world_nodes self.old) ((event, result) ∷ schedule) }
-        ensures clocks { (schedule : List (AnEvent × AReply)) → StandsFor self.old schedule → IsBelowClocks (world_nodes self.old) ((event, result) ∷ schedule) }
-        ensures closed { (schedule : List (AnEvent × AReply)) → StandsFor self.old schedule → IsClosed ((event, result) ∷ schedule) }
-        ensures faithful { (schedule : List (AnEvent × AReply)) → StandsFor self.old schedule → IsFaithful (world_nodes self.old) ((event, result) ∷ schedule) self.new.core.rows }
-        ensures rising { (schedule : List (AnEvent × AReply)) (head : ℕ) → StandsFor self.old schedule → result ≢ Reply.Refused (Refusal.StampNotRising head) }
-        ensures numbered { (schedule : List (AnEvent × AReply)) → StandsFor self.old schedule → GoesByNumber (world_nodes self.old) schedule }
+        ensures stands { (schedule : List (AnEvent × AReply)) → StandsFor self.old schedule
+            → StandsFor self.new ((event, result) ∷ schedule) }
+        ensures given { (schedule : List (AnEvent × AReply)) → StandsFor self.old schedule
+            → IsGiven (world_nodes self.old) schedule event result }
+        ensures ordered { (schedule : List (AnEvent × AReply)) (first later : ℕ) (n a m b : ℕ)
+            → StandsFor self.old schedule → HappenedBefore ((event, result) ∷ schedule) first later
+            → IsStamped ((event, result) ∷ schedule) first n a
+            → IsStamped ((event, result) ∷ schedule) later m b → a < b }
+        ensures complete { (schedule : List (AnEvent × AReply)) → StandsFor self.old schedule
+            → IsComplete (world_nodes self.old) ((event, result) ∷ schedule) }
+        ensures clocks { (schedule : List (AnEvent × AReply)) → StandsFor self.old schedule
+            → IsBelowClocks (world_nodes self.old) ((event, result) ∷ schedule) }
+        ensures closed { (schedule : List (AnEvent × AReply)) → StandsFor self.old schedule
+            → IsClosed ((event, result) ∷ schedule) }
+        ensures faithful { (schedule : List (AnEvent × AReply)) → StandsFor self.old schedule
+            → IsFaithful (world_nodes self.old) ((event, result) ∷ schedule) self.new.core.rows }
+        ensures rising { (schedule : List (AnEvent × AReply)) (head : ℕ) → StandsFor self.old schedule
+            → result ≢ Reply.Refused (Refusal.StampNotRising head) }
+        ensures numbered { (schedule : List (AnEvent × AReply)) → StandsFor self.old schedule
+            → GoesByNumber (world_nodes self.old) schedule }
         ensures unchanged { IsRefused result → self.new ≡ self.old }
         ensures nodes { world_nodes self.new ≡ world_nodes self.old }
     {
@@ -101,8 +114,11 @@ impl World {
     /// The events in turn. Room for all replies is made first: where that is refused, no event took
     /// place and the events come back.
     pub fn run(&mut self, events: Vec<Event>) -> Result<Vec<Reply>, (NoMemory, Vec<Event>)>
-        ensures ok { IfOk result (λ replies. (length replies.items ≡ length events.items) × ((schedule : List (AnEvent × AReply)) → StandsFor self.old schedule → StandsFor self.new (after events.items replies.items schedule))) }
-        ensures faithful { IfOk result (λ replies. (schedule : List (AnEvent × AReply)) → StandsFor self.old schedule → IsFaithful (world_nodes self.old) (after events.items replies.items schedule) self.new.core.rows) }
+        ensures ok { IfOk result
+            (λ replies. (length replies.items ≡ length events.items) × ((schedule : List (AnEvent × AReply))
+            → StandsFor self.old schedule → StandsFor self.new (after events.items replies.items schedule))) }
+        ensures faithful { IfOk result (λ replies. (schedule : List (AnEvent × AReply)) → StandsFor self.old schedule
+            → IsFaithful (world_nodes self.old) (after events.items replies.items schedule) self.new.core.rows) }
         ensures err { IfErr result (λ refused. (refused.1.items ≡ events.items) × (self.new ≡ self.old)) }
         ensures nodes { world_nodes self.new ≡ world_nodes self.old }
     {
@@ -129,7 +145,8 @@ impl World {
     }
 
     fn take_place(&mut self, event: Event) -> Reply
-        ensures stands { (schedule : List (AnEvent × AReply)) → StandsFor self.old schedule → StandsFor self.new ((event, result) ∷ schedule) }
+        ensures stands { (schedule : List (AnEvent × AReply)) → StandsFor self.old schedule
+            → StandsFor self.new ((event, result) ∷ schedule) }
         ensures unchanged { IsRefused result → self.new ≡ self.old }
         ensures nodes { world_nodes self.new ≡ world_nodes self.old }
     {
@@ -162,7 +179,8 @@ impl World {
     }
 
     fn write(&mut self, node: u16, reading: u64, key: Bytes, value: Bytes) -> Reply
-        ensures stands { (schedule : List (AnEvent × AReply)) → StandsFor self.old schedule → StandsFor self.new ((AnEvent.Write node reading key value, result) ∷ schedule) }
+        ensures stands { (schedule : List (AnEvent × AReply)) → StandsFor self.old schedule
+            → StandsFor self.new ((AnEvent.Write node reading key value, result) ∷ schedule) }
         ensures unchanged { IsRefused result → self.new ≡ self.old }
         ensures nodes { world_nodes self.new ≡ world_nodes self.old }
     {
@@ -177,7 +195,8 @@ impl World {
     }
 
     fn delete(&mut self, node: u16, reading: u64, key: Bytes) -> Reply
-        ensures stands { (schedule : List (AnEvent × AReply)) → StandsFor self.old schedule → StandsFor self.new ((AnEvent.Delete node reading key, result) ∷ schedule) }
+        ensures stands { (schedule : List (AnEvent × AReply)) → StandsFor self.old schedule
+            → StandsFor self.new ((AnEvent.Delete node reading key, result) ∷ schedule) }
         ensures unchanged { IsRefused result → self.new ≡ self.old }
         ensures nodes { world_nodes self.new ≡ world_nodes self.old }
     {
@@ -192,7 +211,8 @@ impl World {
     }
 
     fn report(&mut self, node: u16, reading: u64) -> Reply
-        ensures stands { (schedule : List (AnEvent × AReply)) → StandsFor self.old schedule → StandsFor self.new ((AnEvent.Report node reading, result) ∷ schedule) }
+        ensures stands { (schedule : List (AnEvent × AReply)) → StandsFor self.old schedule
+            → StandsFor self.new ((AnEvent.Report node reading, result) ∷ schedule) }
         ensures unchanged { IsRefused result → self.new ≡ self.old }
         ensures nodes { world_nodes self.new ≡ world_nodes self.old }
     {
@@ -207,7 +227,8 @@ impl World {
     }
 
     fn send(&mut self, node: u16, reading: u64) -> Reply
-        ensures stands { (schedule : List (AnEvent × AReply)) → StandsFor self.old schedule → StandsFor self.new ((AnEvent.Send node reading, result) ∷ schedule) }
+        ensures stands { (schedule : List (AnEvent × AReply)) → StandsFor self.old schedule
+            → StandsFor self.new ((AnEvent.Send node reading, result) ∷ schedule) }
         ensures unchanged { IsRefused result → self.new ≡ self.old }
         ensures nodes { world_nodes self.new ≡ world_nodes self.old }
     {
@@ -231,7 +252,8 @@ impl World {
     }
 
     fn receive(&mut self, node: u16, reading: u64, message: u64) -> Reply
-        ensures stands { (schedule : List (AnEvent × AReply)) → StandsFor self.old schedule → StandsFor self.new ((AnEvent.Receive node reading message, result) ∷ schedule) }
+        ensures stands { (schedule : List (AnEvent × AReply)) → StandsFor self.old schedule
+            → StandsFor self.new ((AnEvent.Receive node reading message, result) ∷ schedule) }
         ensures unchanged { IsRefused result → self.new ≡ self.old }
         ensures nodes { world_nodes self.new ≡ world_nodes self.old }
     {
@@ -253,7 +275,8 @@ impl World {
     }
 
     fn observe(&mut self, node: u16, reading: u64, id: u64) -> Reply
-        ensures stands { (schedule : List (AnEvent × AReply)) → StandsFor self.old schedule → StandsFor self.new ((AnEvent.Observe node reading id, result) ∷ schedule) }
+        ensures stands { (schedule : List (AnEvent × AReply)) → StandsFor self.old schedule
+            → StandsFor self.new ((AnEvent.Observe node reading id, result) ∷ schedule) }
         ensures unchanged { IsRefused result → self.new ≡ self.old }
         ensures nodes { world_nodes self.new ≡ world_nodes self.old }
     {
@@ -275,7 +298,8 @@ impl World {
     }
 
     fn deliver(&mut self, node: u16, number: u64) -> Reply
-        ensures stands { (schedule : List (AnEvent × AReply)) → StandsFor self.old schedule → StandsFor self.new ((AnEvent.Deliver node number, result) ∷ schedule) }
+        ensures stands { (schedule : List (AnEvent × AReply)) → StandsFor self.old schedule
+            → StandsFor self.new ((AnEvent.Deliver node number, result) ∷ schedule) }
         ensures unchanged { IsRefused result → self.new ≡ self.old }
         ensures nodes { world_nodes self.new ≡ world_nodes self.old }
     {
@@ -293,7 +317,8 @@ impl World {
     }
 
     fn open_at(&mut self, stamp: Stamp) -> Reply
-        ensures stands { (schedule : List (AnEvent × AReply)) → StandsFor self.old schedule → StandsFor self.new ((AnEvent.OpenAt stamp, result) ∷ schedule) }
+        ensures stands { (schedule : List (AnEvent × AReply)) → StandsFor self.old schedule
+            → StandsFor self.new ((AnEvent.OpenAt stamp, result) ∷ schedule) }
         ensures unchanged { IsRefused result → self.new ≡ self.old }
         ensures nodes { world_nodes self.new ≡ world_nodes self.old }
     {
@@ -304,7 +329,8 @@ impl World {
     }
 
     fn open_floor(&mut self) -> Reply
-        ensures stands { (schedule : List (AnEvent × AReply)) → StandsFor self.old schedule → StandsFor self.new ((AnEvent.OpenFloor, result) ∷ schedule) }
+        ensures stands { (schedule : List (AnEvent × AReply)) → StandsFor self.old schedule
+            → StandsFor self.new ((AnEvent.OpenFloor, result) ∷ schedule) }
         ensures unchanged { IsRefused result → self.new ≡ self.old }
         ensures nodes { world_nodes self.new ≡ world_nodes self.old }
     {
@@ -315,7 +341,8 @@ impl World {
     }
 
     fn read(&mut self, id: u64, key: Bytes) -> Reply
-        ensures stands { (schedule : List (AnEvent × AReply)) → StandsFor self.old schedule → StandsFor self.new ((AnEvent.Read id key, result) ∷ schedule) }
+        ensures stands { (schedule : List (AnEvent × AReply)) → StandsFor self.old schedule
+            → StandsFor self.new ((AnEvent.Read id key, result) ∷ schedule) }
         ensures unchanged { self.new ≡ self.old }
     {
         match self.core.read(id, key.as_slice()) {
@@ -331,7 +358,8 @@ impl World {
     }
 
     fn list(&mut self, id: u64) -> Reply
-        ensures stands { (schedule : List (AnEvent × AReply)) → StandsFor self.old schedule → StandsFor self.new ((AnEvent.List id, result) ∷ schedule) }
+        ensures stands { (schedule : List (AnEvent × AReply)) → StandsFor self.old schedule
+            → StandsFor self.new ((AnEvent.List id, result) ∷ schedule) }
         ensures unchanged { self.new ≡ self.old }
     {
         match self.core.list(id) {
@@ -341,7 +369,8 @@ impl World {
     }
 
     fn close(&mut self, id: u64) -> Reply
-        ensures stands { (schedule : List (AnEvent × AReply)) → StandsFor self.old schedule → StandsFor self.new ((AnEvent.Close id, result) ∷ schedule) }
+        ensures stands { (schedule : List (AnEvent × AReply)) → StandsFor self.old schedule
+            → StandsFor self.new ((AnEvent.Close id, result) ∷ schedule) }
         ensures unchanged { IsRefused result → self.new ≡ self.old }
         ensures nodes { world_nodes self.new ≡ world_nodes self.old }
     {
@@ -352,7 +381,8 @@ impl World {
     }
 
     fn floor(&mut self) -> Reply
-        ensures stands { (schedule : List (AnEvent × AReply)) → StandsFor self.old schedule → StandsFor self.new ((AnEvent.Floor, result) ∷ schedule) }
+        ensures stands { (schedule : List (AnEvent × AReply)) → StandsFor self.old schedule
+            → StandsFor self.new ((AnEvent.Floor, result) ∷ schedule) }
         ensures unchanged { self.new ≡ self.old }
     {
         Reply::Floor {
@@ -361,7 +391,8 @@ impl World {
     }
 
     fn vacuum(&mut self) -> Reply
-        ensures stands { (schedule : List (AnEvent × AReply)) → StandsFor self.old schedule → StandsFor self.new ((AnEvent.Vacuum, result) ∷ schedule) }
+        ensures stands { (schedule : List (AnEvent × AReply)) → StandsFor self.old schedule
+            → StandsFor self.new ((AnEvent.Vacuum, result) ∷ schedule) }
         ensures unchanged { IsRefused result → self.new ≡ self.old }
         ensures nodes { world_nodes self.new ≡ world_nodes self.old }
     {
@@ -372,7 +403,8 @@ impl World {
     }
 
     fn rows(&mut self) -> Reply
-        ensures stands { (schedule : List (AnEvent × AReply)) → StandsFor self.old schedule → StandsFor self.new ((AnEvent.Rows, result) ∷ schedule) }
+        ensures stands { (schedule : List (AnEvent × AReply)) → StandsFor self.old schedule
+            → StandsFor self.new ((AnEvent.Rows, result) ∷ schedule) }
         ensures unchanged { self.new ≡ self.old }
     {
         Reply::Rows {
@@ -394,14 +426,18 @@ fn fresh_nodes(alloc: Global, count: u16) -> Result<Vec<Node>, AllocError>
 
 /// Adds a message to those that were sent, if there is memory.
 fn post(messages: &mut Vec<Message>, message: Message) -> bool
-    ensures { MatchBool result (messages.new.items ≡ messages.old.items ++ message ∷ []) (messages.new.items ≡ messages.old.items) }
+    ensures { MatchBool result (messages.new.items ≡ messages.old.items ++ message ∷ [])
+        (messages.new.items ≡ messages.old.items) }
 {
     messages.push(message).is_ok()
 }
 
 /// Hands an item to the store, which takes a copy, and gives its stamp.
 fn accept(core: &mut Core, item: &Item) -> Result<Stamp, CoreFault>
-    ensures stands { (past : List Step) → CoreStandsFor core.old past → MatchResult result (λ stamp. (stamp ≡ item.now.stamp) × (item_refusal (nodes core.old) past item.now ≡ None) × CoreStandsFor core.new (Took item.now ∷ past)) (λ fault. IsRefusal (item_refusal (nodes core.old) past item.now) (IsWrite item.now.body) fault × (core.new ≡ core.old)) }
+    ensures stands { (past : List Step) → CoreStandsFor core.old past
+        → MatchResult result (λ stamp. (stamp ≡ item.now.stamp) × (item_refusal (nodes core.old) past item.now ≡ None)
+        × CoreStandsFor core.new (Took item.now ∷ past)) (λ fault.
+        IsRefusal (item_refusal (nodes core.old) past item.now) (IsWrite item.now.body) fault × (core.new ≡ core.old)) }
     ensures err { OnErr result (core.new ≡ core.old) }
     ensures nodes { nodes core.new ≡ nodes core.old }
 {

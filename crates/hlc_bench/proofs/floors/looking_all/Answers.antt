@@ -6,10 +6,12 @@ use Rattle.hlc_bench.proofs.floors.looking_all.Goals as goal
 
 pub invariant_of-push : goal.invariant_of-push
 invariant_of-push c =
-    let h = passes_last c.args.board.now c.pop.new.self.items c.in-Some.pass (subst (λ (l : List Sight). PassesOf c.args.board.now l) c.in-Some.ensures.items c.loop.invariant) in
+    let h = passes_last c.args.board.now c.pop.new.self.items c.in-Some.pass
+    (subst (λ (l : List Sight). PassesOf c.args.board.now l) c.in-Some.ensures.items c.loop.invariant) in
     record { of_board = h.1 }
 
 pub loop-preserved : goal.loop-preserved
 loop-preserved c =
-    let h = passes_last c.args.board.now c.pop.new.self.items c.in-Some.pass (subst (λ (l : List Sight). PassesOf c.args.board.now l) c.in-Some.ensures.items c.loop.invariant) in
+    let h = passes_last c.args.board.now c.pop.new.self.items c.in-Some.pass
+    (subst (λ (l : List Sight). PassesOf c.args.board.now l) c.in-Some.ensures.items c.loop.invariant) in
     h.0

@@ -1,4 +1,5 @@
--- A cut keeps the rule: the first seat still holds the number that is cut off, since the loop has not come to the last node.
+-- A cut keeps the rule: the first seat still holds the number that is cut off,
+-- since the loop has not come to the last node.
 use Rattle.std.proofs.Common.{◌≡◌, ◌<◌, arith, ap}
 use Rattle.hlc_board.proofs.Fresh.{cuts_feeder}
 use Rattle.hlc_board.proofs.board.cut_feeders.Goals as goal

@@ -17,6 +17,10 @@ returns c =
     let long = all.1 in
     let cut = ap length c.truncate.ensures.items in
     let few = length-take (length ss) c.args.order.now.items in
-    sorted_index ss ns xs c.sort_unstable_by.new.self.items c.sort_unstable_by.ensures.permutation (omega (arith, long, cut, few))
-    (numbered_below [] xs _ all (omega arith) (λ k d lt. absurd (omega (arith, lt)))) (numbered_every [] xs _ all (λ p lt. absurd (omega (arith, lt))))
-    (c.sort_unstable_by.ensures.sorted (λ p q. is_lt (place_cmp ss ns p q)) (ranks_by (place_order ss ns) (λ (p : ℕ). p)) (always_returns_same _ (λ a r. is_lt r ≡ is_lt (place_cmp ss ns a.0.now a.1.0.now)) _ (λ a r f k. search rules)))
+    sorted_index ss ns xs c.sort_unstable_by.new.self.items c.sort_unstable_by.ensures.permutation
+    (omega (arith, long, cut, few))
+    (numbered_below [] xs _ all (omega arith) (λ k d lt. absurd (omega (arith, lt))))
+    (numbered_every [] xs _ all (λ p lt. absurd (omega (arith, lt))))
+    (c.sort_unstable_by.ensures.sorted (λ p q. is_lt (place_cmp ss ns p q))
+    (ranks_by (place_order ss ns) (λ (p : ℕ). p)) (always_returns_same _
+    (λ a r. is_lt r ≡ is_lt (place_cmp ss ns a.0.now a.1.0.now)) _ (λ a r f k. search rules)))

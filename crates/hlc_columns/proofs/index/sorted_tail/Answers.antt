@@ -12,4 +12,6 @@ returns-clause-rises c =
     let ss = c.args.stamps.now in
     let ns = c.args.nodes.now in
     sorted_rises ss ns c.sort_by.new.self.items
-    (c.in_ok-sort_by.ensures.sorted (λ p q. is_lt (place_cmp ss ns p q)) (ranks_by (place_order ss ns) (λ (p : ℕ). p)) (always_returns_same _ (λ a r. is_lt r ≡ is_lt (place_cmp ss ns a.0.now a.1.0.now)) _ (λ a r f k. search rules)))
+    (c.in_ok-sort_by.ensures.sorted (λ p q. is_lt (place_cmp ss ns p q)) (ranks_by (place_order ss ns) (λ (p : ℕ). p))
+    (always_returns_same _ (λ a r. is_lt r ≡ is_lt (place_cmp ss ns a.0.now a.1.0.now)) _
+    (λ a r f k. search rules)))

@@ -9,5 +9,7 @@ use Rattle.hlc_core.proofs.sorted.sort.Goals as goal
 
 pub returns-clause-ascend : goal.returns-clause-ascend
 returns-clause-ascend c =
-    sorted-ascend c.args.rows.now.items c.sort_unstable_by.new.self.items c.requires c.sort_unstable_by.ensures.permutation
-    (c.sort_unstable_by.ensures.sorted (λ x y. is_lt (row_cmp x y)) (ranks_by row_cmp_total (λ (row : Row). row)) (always_returns_same _ _ _ (λ a r f k. search rules)))
+    sorted-ascend c.args.rows.now.items c.sort_unstable_by.new.self.items c.requires
+    c.sort_unstable_by.ensures.permutation
+    (c.sort_unstable_by.ensures.sorted (λ x y. is_lt (row_cmp x y)) (ranks_by row_cmp_total (λ (row : Row). row))
+    (always_returns_same _ _ _ (λ a r f k. search rules)))

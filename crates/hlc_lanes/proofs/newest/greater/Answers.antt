@@ -11,7 +11,8 @@ returns-clause-long c =
     let a = c.args.best in
     let b = c.args.lanes in
     let long = length-zip2 ltb a b (omega arith) in
-    ap (λ ms. length (sel_l ms b a)) (tops_compared w64 ltb a b) ∙ omega (arith, length-sel_l (zip2 ltb a b) b a (omega arith) (omega arith))
+    ap (λ ms. length (sel_l ms b a)) (tops_compared w64 ltb a b)
+    ∙ omega (arith, length-sel_l (zip2 ltb a b) b a (omega arith) (omega arith))
 
 pub returns-clause-top : goal.returns-clause-top
 returns-clause-top c =

@@ -10,4 +10,5 @@ pub returns : goal.returns
 returns c =
     let v = chunk c.args.at 8 c.args.stamps.now in
     let long : length v ≡ 8 = length-chunk c.args.at 8 c.args.stamps.now c.requires in
-    ap (λ ms. sel_l ms v (replicate 8 0)) (tops_compared w64 leb v (replicate 8 c.args.bound) ∙ zip2_splat leb v 8 c.args.bound long) ∙ at_length v 8 c.args.bound long
+    ap (λ ms. sel_l ms v (replicate 8 0)) (tops_compared w64 leb v (replicate 8 c.args.bound)
+    ∙ zip2_splat leb v 8 c.args.bound long) ∙ at_length v 8 c.args.bound long

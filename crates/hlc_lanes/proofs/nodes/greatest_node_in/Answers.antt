@@ -7,6 +7,8 @@ use Rattle.hlc_lanes.proofs.nodes.greatest_node_in.Goals.{then-stamps-i, else-st
 pub loop-i-preserved : goal.loop-i-preserved
 loop-i-preserved c =
     elim c.if-stamps-i.branch [
-      | then-stamps-i w ↦ node_yes c.args.stamps.now c.args.nodes.now c.args.stamp c.loop-i.i c.loop-i.best c.if-stamps-i.best c.loop-i.invariant w.if-stamps-i.true (w.best-is ∙ w.greater_node-best.ensures)
-      | else-stamps-i w ↦ node_no c.args.stamps.now c.args.nodes.now c.args.stamp c.loop-i.i c.loop-i.best c.if-stamps-i.best c.loop-i.invariant w.if-stamps-i.false w.best-is
+      | then-stamps-i w ↦ node_yes c.args.stamps.now c.args.nodes.now c.args.stamp c.loop-i.i c.loop-i.best
+          c.if-stamps-i.best c.loop-i.invariant w.if-stamps-i.true (w.best-is ∙ w.greater_node-best.ensures)
+      | else-stamps-i w ↦ node_no c.args.stamps.now c.args.nodes.now c.args.stamp c.loop-i.i c.loop-i.best
+          c.if-stamps-i.best c.loop-i.invariant w.if-stamps-i.false w.best-is
     ]

@@ -11,5 +11,6 @@ returns c none k low high is =
     let long = length-chunk c.args.at 8 c.args.stamps.now c.requires in
     let hits = bitmask_splat w64 eqb v 8 c.args.stamp long (omega arith) in
     let empty = eqb-true _ 0 (not-false _ none) in
-    let differs = none_from_empty_mask (λ x. eqb x c.args.stamp) c.args.stamps.now c.args.at 8 0 c.requires (sym hits ∙ empty) k low high in
+    let differs = none_from_empty_mask (λ x. eqb x c.args.stamp) c.args.stamps.now c.args.at 8 0 c.requires
+    (sym hits ∙ empty) k low high in
     false≢true (sym differs ∙ eq-eqb (get_or c.args.stamps.now k 0) c.args.stamp is)

@@ -10,5 +10,9 @@ loop-number-preserved g c =
     let seats = map fresh (range_with_len 0 n) in (
       omega (arith, c.split_off-share.ensures.parts_left, c.loop-number.invariant.0),
       omega (arith, c.split_off-share.ensures.amount_left, c.loop-number.invariant.1),
-      c.in_ok-push.ensures.items ∙ ap (λ (all : List Seat). all ++ record { number = n; share = c.split_off-share.result.amount } ∷ []) c.loop-number.invariant.2 ∙ ap (λ (share : ℕ). seats ++ record { number = n; share = share } ∷ []) c.split_off-share.ensures.amount ∙ sym (map-range_with_len_more fresh 0 n n (omega arith)),
+      c.in_ok-push.ensures.items
+          ∙ ap (λ (all : List Seat). all ++ record { number = n; share = c.split_off-share.result.amount } ∷ [])
+          c.loop-number.invariant.2
+          ∙ ap (λ (share : ℕ). seats ++ record { number = n; share = share } ∷ []) c.split_off-share.ensures.amount
+          ∙ sym (map-range_with_len_more fresh 0 n n (omega arith)),
     )

@@ -4,4 +4,5 @@ use Rattle.hlc_server.specs.Seats.{fresh}
 use Rattle.hlc_server.proofs.guarded.callers_of.Given as goal
 
 abbrev pub invariant-loop-number : goal.invariant-loop-number
-invariant-loop-number g l = (l.rest.parts + l.number ≡ l.callers) × (l.rest.amount ≡ 0) × (l.made.items ≡ map fresh (range_with_len 0 l.number))
+invariant-loop-number g l =
+    (l.rest.parts + l.number ≡ l.callers) × (l.rest.amount ≡ 0) × (l.made.items ≡ map fresh (range_with_len 0 l.number))

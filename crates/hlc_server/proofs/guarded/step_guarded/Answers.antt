@@ -1,4 +1,5 @@
--- The invariant holds again after a call: the call's entry is the last event of the history, and book and number count it.
+-- The invariant holds again after a call: the call's entry is the last event of the history,
+-- and book and number count it.
 use Rattle.std.proofs.Common.{◌≡◌, ◌+◌, arith}
 use Rattle.hlc_server.specs.Trails.{entries_of}
 use Rattle.hlc_server.proofs.Histories.{audited_more}
@@ -6,9 +7,12 @@ use Rattle.hlc_server.proofs.guarded.step_guarded.Goals as goal
 
 pub invariant_of-guarded : goal.invariant_of-guarded
 invariant_of-guarded g c =
-    let total : c.count_call-caller.new.book.total ≡ c.guarded.inside.book.total + 1 = c.count_call-caller.ensures.total in (
+    let total : c.count_call-caller.new.book.total ≡ c.guarded.inside.book.total + 1 =
+    c.count_call-caller.ensures.total in (
       omega (arith, total, c.count_call-caller.ensures.calls, c.guarded.invariant.0),
-      audited_more c.guarded.inside.core c.make_call.new.core (entries_of c.guarded.inside.trail) (entries_of c.make_call.new.trail)
-          c.caller.inside.number c.args.event c.in-Ok.reply c.guarded.inside.book.total c.count_call-caller.new.book.total
+      audited_more c.guarded.inside.core c.make_call.new.core (entries_of c.guarded.inside.trail)
+          (entries_of c.make_call.new.trail)
+          c.caller.inside.number c.args.event c.in-Ok.reply c.guarded.inside.book.total
+          c.count_call-caller.new.book.total
           c.guarded.invariant.1 c.in-Ok.ensures.trail c.in-Ok.ensures.step total,
     )

@@ -1,5 +1,5 @@
--- Where no receipt is bad and as many as entries were handed in, all settles: the invariant of what was under the lock says that the
--- trail is a legal history for which the core stands.
+-- Where no receipt is bad and as many as entries were handed in, all settles: the invariant of what was under the lock
+-- says that the trail is a legal history for which the core stands.
 use Rattle.std.proofs.Common.{◌≡◌, List, Some, sym, ap, ◌∙◌, subst}
 use Rattle.hlc_server.specs.declared.entry.Entry.{Entry}
 use Rattle.hlc_server.specs.Trails.{entries_of, history_of}
@@ -10,10 +10,12 @@ use Rattle.hlc_server.proofs.settle.settle_guarded.Goals as goal
 pub returns : goal.returns
 returns g c =
     let trail = c.in-Some.trail.entries.items in
-    let is : c.args.guarded.trail ≡ Some trail = ap (λ v. v.trail) (sym c.guarded.view_is) ∙ ap entries_of c.in-Some.is in
+    let is : c.args.guarded.trail ≡ Some trail = ap (λ v. v.trail) (sym c.guarded.view_is)
+    ∙ ap entries_of c.in-Some.is in
     let settled : IsSettled trail (claims_of c.args.lists.items) =
     subst (λ (t : List Entry). IsSettled t (claims_of c.args.lists.items)) c.as_slice.ensures.value
-    (subst (λ l. IsSettled c.as_slice.result.now (claims_of l)) c.as_slice-2.ensures.value c.in_default-first_bad.ensures.settled) in
+    (subst (λ l. IsSettled c.as_slice.result.now (claims_of l)) c.as_slice-2.ensures.value
+    c.in_default-first_bad.ensures.settled) in
     let audited = c.guarded.invariant.1 trail (ap entries_of c.in-Some.is) in
     record {
       trail = trail;

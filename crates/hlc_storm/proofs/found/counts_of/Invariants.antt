@@ -7,4 +7,5 @@ use Rattle.hlc_storm.proofs.found.counts_of.Given as goal
 
 abbrev pub invariant-loop-node : goal.invariant-loop-node
 invariant-loop-node l =
-    (past : List Step) → StandsFor l.core past → l.counts.items ≡ map (λ node. count node past) (range_with_len 0 l.node)
+    (past : List Step) → StandsFor l.core past
+    → l.counts.items ≡ map (λ node. count node past) (range_with_len 0 l.node)

@@ -1,4 +1,5 @@
--- Each call says what it did to the past that the core stood for before it: the snapshot is opened at the floor, listed and closed.
+-- Each call says what it did to the past that the core stood for before it: the snapshot is opened at the floor,
+-- listed and closed.
 use Rattle.std.proofs.Common.{◌≡◌, ℕ, ◌+◌, ◌∷◌, ◌∙◌, ap, subst, sym, refl}
 use Rattle.hlc_core.specs.Past.{Opened, Closed, floor, opened, stamp_of, writes}
 use Rattle.hlc_core.specs.Calls.{IsListed, IsListing}
@@ -15,7 +16,8 @@ returns c past stands =
     let id = ap (λ p. p.0) opening.1 in
     let at = ap (λ p. p.1) opening.1 in
     let open_now = ap (λ i. stamp_of i then) id ∙ just_opened past (floor n past) in
-    let listed = subst (λ s. IsListed s (writes past) c.in-Ok-list.pairs) open_now (c.in-Ok-list.ensures then opening.2) in
+    let listed =
+    subst (λ s. IsListed s (writes past) c.in-Ok-list.pairs) open_now (c.in-Ok-list.ensures then opening.2) in
     let closed = c.in-Ok-close.ensures.stands then opening.2 in
     let made = c.in-Ok-vacuum.ensures.ok (Closed c.in-Ok.opening.0 ∷ then) closed.1 in
     let same = c.in-Ok-close.ensures.nodes ∙ c.in-Ok.ensures.nodes in

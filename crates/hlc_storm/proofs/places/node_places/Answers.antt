@@ -6,10 +6,12 @@ use Rattle.hlc_storm.proofs.places.node_places.Goals as goal
 
 pub invariant_of-push : goal.invariant_of-push
 invariant_of-push g c =
-    let h = feeders_last c.args.board.now c.pop.new.self.items c.in-Some.feeder (subst (λ (l : List Post). FeedersOf c.args.board.now l) c.in-Some.ensures.items c.loop.invariant) in
+    let h = feeders_last c.args.board.now c.pop.new.self.items c.in-Some.feeder
+    (subst (λ (l : List Post). FeedersOf c.args.board.now l) c.in-Some.ensures.items c.loop.invariant) in
     record { of_board = h.1 }
 
 pub loop-preserved : goal.loop-preserved
 loop-preserved g c =
-    let h = feeders_last c.args.board.now c.pop.new.self.items c.in-Some.feeder (subst (λ (l : List Post). FeedersOf c.args.board.now l) c.in-Some.ensures.items c.loop.invariant) in
+    let h = feeders_last c.args.board.now c.pop.new.self.items c.in-Some.feeder
+    (subst (λ (l : List Post). FeedersOf c.args.board.now l) c.in-Some.ensures.items c.loop.invariant) in
     h.0

@@ -8,4 +8,5 @@ use Rattle.hlc_storm.proofs.printing.put_counts.Given as goal
 
 abbrev pub invariant-loop-node : goal.invariant-loop-node
 invariant-loop-node g l =
-    Prints g.W.Write.contents l.fn.writer l.writer l.fn.waiting l.waiting (flat_map printed (accepted_lines 0 (take l.node l.counts)))
+    Prints g.W.Write.contents l.fn.writer l.writer l.fn.waiting l.waiting
+    (flat_map printed (accepted_lines 0 (take l.node l.counts)))

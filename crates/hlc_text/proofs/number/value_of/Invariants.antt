@@ -5,4 +5,5 @@ use Rattle.std.specs.Int.{IsInRange}
 use Rattle.hlc_text.proofs.number.value_of.Given as goal
 
 abbrev pub invariant-loop-at : goal.invariant-loop-at
-invariant-loop-at l = ((k : ℕ) → k < l.at → IsInRange 48 57 (get_or l.digits k 0)) × (l.value ≡ digits_value 10 (take l.at l.digits))
+invariant-loop-at l =
+    ((k : ℕ) → k < l.at → IsInRange 48 57 (get_or l.digits k 0)) × (l.value ≡ digits_value 10 (take l.at l.digits))

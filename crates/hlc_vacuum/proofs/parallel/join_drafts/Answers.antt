@@ -11,7 +11,8 @@ use Rattle.hlc_vacuum.proofs.parallel.join_drafts.Goals as goal
 pub loop-one-init : goal.loop-one-init
 loop-one-init c = record {
   all' = search rules;
-  joined = λ points pieces up each. rw (c.new-whole.ensures.keep, c.new-whole.ensures.witnesses) (pieces_none pieces points each);
+  joined = λ points pieces up each.
+      rw (c.new-whole.ensures.keep, c.new-whole.ensures.witnesses) (pieces_none pieces points each);
 }
 
 pub loop-one-preserved : goal.loop-one-preserved
@@ -22,7 +23,8 @@ loop-one-preserved c =
       all' = rw append_assoc (ap (λ xs. c.loop-one.yielded ++ xs) (sym c.in-Some.ensures.steps.0) ∙ inv.all');
       joined =
           subst (λ one. JoinsPieces (c.loop-one.yielded ++ one ∷ []) c.append.new.self) (sym c.in_ok-one.was)
-          (pieces_on law.before law.behind c.loop-one.yielded c.loop-one.whole c.in_ok-one.field-0 c.append.new.self inv.joined c.in_ok-append.ensures.witnesses c.in_ok-append.ensures.keep);
+          (pieces_on law.before law.behind c.loop-one.yielded c.loop-one.whole c.in_ok-one.field-0 c.append.new.self
+          inv.joined c.in_ok-append.ensures.witnesses c.in_ok-append.ensures.keep);
     }
 
 pub returns : goal.returns
@@ -30,4 +32,5 @@ returns c = λ points columns up drafts.
     let all' = c.loop-one.invariant.all' in
     let end : c.loop-one.yielded ≡ c.args.drafts.items = grind (arith, common_steps) in
     subst (λ xs. IsJoined xs points c.loop-one.whole.witnesses.items c.loop-one.whole.keep.items) drafts.1
-    (c.loop-one.invariant.joined points drafts.0 (subst KeysAscend (sym drafts.1) up) (subst (AllZip (DraftsPiece points) drafts.0) (sym end) drafts.2))
+    (c.loop-one.invariant.joined points drafts.0 (subst KeysAscend (sym drafts.1) up)
+    (subst (AllZip (DraftsPiece points) drafts.0) (sym end) drafts.2))

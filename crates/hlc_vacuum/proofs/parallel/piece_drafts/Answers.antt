@@ -13,18 +13,29 @@ use Rattle.hlc_vacuum.proofs.parallel.piece_drafts.Goals as goal
 pub collect-requires-clause-ready : goal.collect-requires-clause-ready
 collect-requires-clause-ready g c κs within =
     let base = c.map.result.base.base in
-    let slice : base.slice.now ≡ c.args.columns.now = ap (λ it. it.slice.now) (ap (λ it. it.base) c.map.ensures.base ∙ c.with_min_len.ensures.base) ∙ c.par_chunks.ensures.slice in
+    let slice : base.slice.now ≡ c.args.columns.now =
+    ap (λ it. it.slice.now) (ap (λ it. it.base) c.map.ensures.base ∙ c.with_min_len.ensures.base)
+    ∙ c.par_chunks.ensures.slice in
     let pieces = chunks_of (max base.size 1) base.slice.now in
-    let whole : columns_of pieces ≡ c.args.columns.now = chunks_of-concat (max base.size 1) base.slice.now (omega arith) ∙ slice in
-    λ k d lt x is.
-    ((subst (λ f. PointsAscend f.1.now) (sym c.map.ensures.f) c.requires.points, subst KeysAscend (sym is) (piece_ascends pieces k d (subst KeysAscend (sym whole) c.requires.ascend) lt)), λ y p. tt)
+    let whole : columns_of pieces ≡ c.args.columns.now =
+    chunks_of-concat (max base.size 1) base.slice.now (omega arith) ∙ slice in
+    λ k d lt x is. (
+      (
+        subst (λ f. PointsAscend f.1.now) (sym c.map.ensures.f) c.requires.points,
+        subst KeysAscend (sym is) (piece_ascends pieces k d (subst KeysAscend (sym whole) c.requires.ascend) lt),
+      ),
+      λ y p. tt,
+    )
 
 pub returns : goal.returns
 returns g c =
     let base = c.map.result.base.base in
-    let slice : base.slice.now ≡ c.args.columns.now = ap (λ it. it.slice.now) (ap (λ it. it.base) c.map.ensures.base ∙ c.with_min_len.ensures.base) ∙ c.par_chunks.ensures.slice in
+    let slice : base.slice.now ≡ c.args.columns.now =
+    ap (λ it. it.slice.now) (ap (λ it. it.base) c.map.ensures.base ∙ c.with_min_len.ensures.base)
+    ∙ c.par_chunks.ensures.slice in
     let pieces = chunks_of (max base.size 1) base.slice.now in
-    let whole : columns_of pieces ≡ c.args.columns.now = chunks_of-concat (max base.size 1) base.slice.now (omega arith) ∙ slice in
+    let whole : columns_of pieces ≡ c.args.columns.now =
+    chunks_of-concat (max base.size 1) base.slice.now (omega arith) ∙ slice in
     IfOk-then c.collect.result _ _ c.collect.ensures (λ v h.
     let chain = h.1 in (
       pieces,

@@ -8,5 +8,9 @@ returns-clause-alike c = certified
 
 pub returns-clause-sorted : goal.returns-clause-sorted
 returns-clause-sorted c =
-    sorted_certified (record { greatest = c.newest_is_greatest.ensures; none = c.no_newest_no_row.ensures; stays = c.newest_stays.ensures })
+    sorted_certified (record {
+      greatest = c.newest_is_greatest.ensures;
+      none = c.no_newest_no_row.ensures;
+      stays = c.newest_stays.ensures;
+    })
     c.newest_is_unique.ensures

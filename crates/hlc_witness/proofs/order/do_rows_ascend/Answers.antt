@@ -7,7 +7,9 @@ pub returns-then-not-is_row_before : goal.returns-then-not-is_row_before
 returns-then-not-is_row_before c = (
   λ h. absurd (true≢false (sym h)),
   λ up.
-      absurd (true≢false (sym (c.if-not-is_row_before.ensures ∙ ap is_lt (neighbours c.args.rows.now c.loop-i.i c.index-rows-i.result c.index-rows-i-in-loop-i.result (omega arith) c.loop-i-test.true c.index-rows-i.is c.index-rows-i-in-loop-i.is up)))),
+      absurd (true≢false (sym (c.if-not-is_row_before.ensures
+      ∙ ap is_lt (neighbours c.args.rows.now c.loop-i.i c.index-rows-i.result c.index-rows-i-in-loop-i.result
+      (omega arith) c.loop-i-test.true c.index-rows-i.is c.index-rows-i-in-loop-i.is up)))),
 )
 
 pub returns : goal.returns

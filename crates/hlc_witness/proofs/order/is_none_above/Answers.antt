@@ -10,10 +10,13 @@ pub returns-then-gt : goal.returns-then-gt
 returns-then-gt c = (
   λ h. absurd (true≢false (sym h)),
   λ all.
-      let below : (get_or c.args.rows.now c.loop-row.row-index c.row-item.result).stamp ≤ last_point c.args.points.now = all c.loop-row.row-index c.row-item.result c.loop-row-test.true in
-      let own : c.row-item.result.stamp ≡ (get_or c.args.rows.now c.loop-row.row-index c.row-item.result).stamp = ap (λ (row : Row). row.stamp) c.row-item.is in
+      let below : (get_or c.args.rows.now c.loop-row.row-index c.row-item.result).stamp ≤ last_point c.args.points.now =
+      all c.loop-row.row-index c.row-item.result c.loop-row-test.true in
+      let own : c.row-item.result.stamp ≡ (get_or c.args.rows.now c.loop-row.row-index c.row-item.result).stamp =
+      ap (λ (row : Row). row.stamp) c.row-item.is in
       let last = last_point-is c.args.points.now c.index-points-points.result c.requires c.index-points-points.is in
-      let above : c.index-points-points.result < c.row-item.result.stamp = is_gt-above c.row-item.result.stamp c.index-points-points.result (sym c.if-gt.ensures) in
+      let above : c.index-points-points.result < c.row-item.result.stamp =
+      is_gt-above c.row-item.result.stamp c.index-points-points.result (sym c.if-gt.ensures) in
       absurd (omega arith),
 )
 

@@ -9,5 +9,6 @@ abbrev pub invariant-loop : goal.invariant-loop
 invariant-loop g l = record {
   paid : IsPaid l.fn.caller l.caller l.receipts.items;
   took : TookAll l.fn.link.taken l.link.taken l.receipts.items None;
-  raised : l.feeder ≡ post l.fn.feeder.board l.fn.feeder.node (highest l.fn.feeder.node l.fn.feeder.raised l.receipts.items);
+  raised : l.feeder
+      ≡ post l.fn.feeder.board l.fn.feeder.node (highest l.fn.feeder.node l.fn.feeder.raised l.receipts.items);
 }

@@ -1,4 +1,5 @@
--- A raise keeps the rule: the feeder holds the node's number, and its stamp is above the word, which is the stamp raised last.
+-- A raise keeps the rule: the feeder holds the node's number, and its stamp is above the word,
+-- which is the stamp raised last.
 use Rattle.std.proofs.Common.{◌≡◌, sym, ap, ◌∙◌, subst, ◌<◌, arith}
 use mathlib.Core.Option.{none}
 use Rattle.atomic_table.specs.Table.{step}

@@ -15,25 +15,29 @@ pub returns-in-Err-store_copy-clause-stands : goal.returns-in-Err-store_copy-cla
 returns-in-Err-store_copy-clause-stands c = λ past h.
     let h' = rw (← c.self.view_is) at h in
     let looked = rw c.as_slice.ensures.value at c.in-Ok.ensures in
-    rw (← c.self.view_is) (inr (admitted-due _ past c.args.item.now c.in-Ok.next h' looked, refl, c.in-Err-store_copy.ensures.err.0))
+    rw (← c.self.view_is)
+    (inr (admitted-due _ past c.args.item.now c.in-Ok.next h' looked, refl, c.in-Err-store_copy.ensures.err.0))
 
 pub store_copy-requires : goal.store_copy-requires
 store_copy-requires c =
     let looked = rw c.as_slice.ensures.value at c.in-Ok.ensures in
     let is = admitted _ c.args.item.now c.in-Ok.next looked in
-    let up : get_or c.self.inside.heads c.args.item.now.node 0 < c.args.item.now.stamp = rw (head-of _ _ c.args.item.now.node c.self.invariant.0 is.within) is.rising in
+    let up : get_or c.self.inside.heads c.args.item.now.node 0 < c.args.item.now.stamp =
+    rw (head-of _ _ c.args.item.now.node c.self.invariant.0 is.within) is.rising in
     fresh _ _ _ c.args.item.now.node c.args.item.now.stamp c.args.item.now.body c.self.invariant.1 up
 
 pub index_mut-requires : goal.index_mut-requires
 index_mut-requires c =
     let looked = rw c.as_slice.ensures.value at c.in-Ok.ensures in
-    let within : c.args.item.now.node < length c.self.inside.intakes.items = (admitted _ c.args.item.now c.in-Ok.next looked).within in
+    let within : c.args.item.now.node < length c.self.inside.intakes.items =
+    (admitted _ c.args.item.now c.in-Ok.next looked).within in
     omega (arith, c.self.inside.intakes.ok.0)
 
 pub raise-requires-clause-node : goal.raise-requires-clause-node
 raise-requires-clause-node c =
     let looked = rw c.as_slice.ensures.value at c.in-Ok.ensures in
-    let within : c.args.item.now.node < length c.self.inside.intakes.items = (admitted _ c.args.item.now c.in-Ok.next looked).within in
+    let within : c.args.item.now.node < length c.self.inside.intakes.items =
+    (admitted _ c.args.item.now c.in-Ok.next looked).within in
     let len : length c.self.inside.heads ≡ length c.self.inside.intakes.items = heads-length _ _ c.self.invariant.0 in
     omega arith
 
@@ -47,10 +51,17 @@ pub invariant_of-self-2 : goal.invariant_of-self-2
 invariant_of-self-2 c =
     let looked = rw c.as_slice.ensures.value at c.in-Ok.ensures in
     let is = admitted _ c.args.item.now c.in-Ok.next looked in
-    let within : c.args.item.now.node < length c.self.inside.heads = (let len : length c.self.inside.heads ≡ length c.self.inside.intakes.items = heads-length _ _ c.self.invariant.0 in let w : c.args.item.now.node < length c.self.inside.intakes.items = is.within in omega arith) in
-    let up : get_or c.self.inside.heads c.args.item.now.node 0 < c.args.item.now.stamp = rw (head-of _ _ c.args.item.now.node c.self.invariant.0 is.within) is.rising in
-    rw (c.raise.ensures.raised, is.is)
-    (matched _ _ c.args.item.now.node _ c.self.invariant.0, held-moved _ _ _ _ (held-accept _ _ _ c.args.item.now.node c.args.item.now.stamp c.args.item.now.body c.self.invariant.1 within up) c.in_default.ensures.ok)
+    let within : c.args.item.now.node < length c.self.inside.heads =
+    (let len : length c.self.inside.heads ≡ length c.self.inside.intakes.items =
+    heads-length _ _ c.self.invariant.0 in
+    let w : c.args.item.now.node < length c.self.inside.intakes.items = is.within in omega arith) in
+    let up : get_or c.self.inside.heads c.args.item.now.node 0 < c.args.item.now.stamp =
+    rw (head-of _ _ c.args.item.now.node c.self.invariant.0 is.within) is.rising in
+    rw (c.raise.ensures.raised, is.is) (
+      matched _ _ c.args.item.now.node _ c.self.invariant.0,
+      held-moved _ _ _ _ (held-accept _ _ _ c.args.item.now.node c.args.item.now.stamp c.args.item.now.body
+          c.self.invariant.1 within up) c.in_default.ensures.ok,
+    )
 
 pub returns-clause-stands : goal.returns-clause-stands
 returns-clause-stands c = λ past h.
@@ -58,4 +69,8 @@ returns-clause-stands c = λ past h.
     let looked = rw c.as_slice.ensures.value at c.in-Ok.ensures in
     let is = admitted _ c.args.item.now c.in-Ok.next looked in
     let none = admitted-due _ past c.args.item.now c.in-Ok.next h' looked in
-    rw (← c.self.view_is, is.is) (none, stands-moved c.stored_rows_may_be_moved.ensures _ _ _ (took c.writes_keep_standing.ensures.stands c.writes_keep_standing.ensures.count _ past c.args.item.now h' none) c.in_default.ensures.ok)
+    rw (← c.self.view_is, is.is) (
+      none,
+      stands-moved c.stored_rows_may_be_moved.ensures _ _ _ (took c.writes_keep_standing.ensures.stands
+          c.writes_keep_standing.ensures.count _ past c.args.item.now h' none) c.in_default.ensures.ok,
+    )

@@ -10,7 +10,10 @@ use Rattle.hlc_core.proofs.Held.{held-fewer}
 use Rattle.hlc_core.proofs.store.Core.carry_out.Goals as goal
 
 pub invariant_of-self : goal.invariant_of-self
-invariant_of-self c = (c.self.invariant.0, held-fewer _ _ _ _ c.self.invariant.1 c.apply-report.ensures.vacuumed.row_set c.apply-report.ensures.vacuumed.within)
+invariant_of-self c = (
+  c.self.invariant.0,
+  held-fewer _ _ _ _ c.self.invariant.1 c.apply-report.ensures.vacuumed.row_set c.apply-report.ensures.vacuumed.within,
+)
 
 pub returns-clause-vacuums : goal.returns-clause-vacuums
 returns-clause-vacuums c = λ past h.
@@ -20,9 +23,12 @@ returns-clause-vacuums c = λ past h.
     let points = ap (λ (report : Report). report.points) c.apply-report.ensures.report in
     let are = subst (ArePoints (stamps c.self.inside.registry.snapshots) c.args.at) (sym points) planned.points in
     let at = subst (λ xs. ArePoints (stamps xs) c.args.at c.apply-report.result.points) h'.snapshots are in
-    let at_floor = ap (λ (report : Report). report.floor) c.apply-report.ensures.report ∙ points-last _ _ _ planned.points ∙ top in
+    let at_floor = ap (λ (report : Report). report.floor) c.apply-report.ensures.report
+    ∙ points-last _ _ _ planned.points ∙ top in
     let kept = ap (λ (report : Report). report.kept) c.apply-report.ensures.report in
     rw (← c.self.view_is, top)
     (c.vacuums_keep_standing.ensures _ past c.apply-report.new.table c.apply-report.result h'
-    (subst (λ f. ArePoints (stamps (open_snapshots past)) f c.apply-report.result.points) top at) c.apply-report.ensures.vacuumed at_floor
-    (kept ∙ sym (ap (λ (report : Report). length report.witnesses) c.apply-report.ensures.report)) c.apply-report.ensures.dropped)
+    (subst (λ f. ArePoints (stamps (open_snapshots past)) f c.apply-report.result.points) top at)
+    c.apply-report.ensures.vacuumed at_floor
+    (kept ∙ sym (ap (λ (report : Report). length report.witnesses) c.apply-report.ensures.report))
+    c.apply-report.ensures.dropped)

@@ -3,7 +3,10 @@ use Rattle.hlc_core.proofs.Held.{held-close_result}
 use Rattle.hlc_core.proofs.store.Core.close.Goals as goal
 
 pub invariant_of-self : goal.invariant_of-self
-invariant_of-self c = (c.self.invariant.0, held-close_result _ _ _ _ c.args.id c.close.result c.self.invariant.1 c.close.ensures.ok c.close.ensures.err)
+invariant_of-self c = (
+  c.self.invariant.0,
+  held-close_result _ _ _ _ c.args.id c.close.result c.self.invariant.1 c.close.ensures.ok c.close.ensures.err,
+)
 
 pub returns-clause-stands : goal.returns-clause-stands
 returns-clause-stands c = λ past h.

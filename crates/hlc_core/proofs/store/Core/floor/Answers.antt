@@ -9,4 +9,5 @@ returns-clause-stands c = λ past h.
     rw (← c.self.view_is) (floor-from _ past _ _ c.self.invariant.0 h' c.floor.ensures)
 
 pub returns-clause-least : goal.returns-clause-least
-returns-clause-least c = rw (← c.self.view_is) (subst (λ heads. IsFloor heads c.floor.result) c.self.invariant.0.same c.floor.ensures)
+returns-clause-least c =
+    rw (← c.self.view_is) (subst (λ heads. IsFloor heads c.floor.result) c.self.invariant.0.same c.floor.ensures)

@@ -11,10 +11,12 @@ use Rattle.hlc_core.proofs.store.Core.open.Goals.{in-Ok, in-Err}
 
 pub invariant_of-self : goal.invariant_of-self
 invariant_of-self c =
-    let low : c.args.stamp ≤ c.floor-floor.result = not_gt-le c.args.stamp c.floor-floor.result (sym c.gt.ensures ∙ c.if-gt.false) in
+    let low : c.args.stamp ≤ c.floor-floor.result =
+    not_gt-le c.args.stamp c.floor-floor.result (sym c.gt.ensures ∙ c.if-gt.false) in
     let is = floor-of _ _ _ c.self.invariant.0 (rw (← c.self.view_is) at c.floor-floor.ensures.least) in
     elim c.match-open.branch [
-      | in-Ok w ↦ rw w.in-Ok.ensures.ok.2 (c.self.invariant.0, held-open _ _ _ _ c.args.stamp c.floor-floor.result c.self.invariant.1 is low)
+      | in-Ok w ↦ rw w.in-Ok.ensures.ok.2
+          (c.self.invariant.0, held-open _ _ _ _ c.args.stamp c.floor-floor.result c.self.invariant.1 is low)
       | in-Err w ↦ rw w.in-Err.ensures.err.1 c.self.invariant
     ]
 
@@ -23,14 +25,20 @@ returns-clause-stands c = λ past h.
     let h' = rw (← c.self.view_is) at h in
     let top = rw (← c.self.view_is) at (c.floor-floor.ensures.stands past h) in
     let bottom = rw (← c.self.view_is) at (c.horizon-horizon.ensures past h) in
-    let low : c.args.stamp ≤ c.floor-floor.result = not_gt-le c.args.stamp c.floor-floor.result (sym c.gt.ensures ∙ c.if-gt.false) in
-    let high : c.horizon-horizon.result ≤ c.args.stamp = ge_from_not_lt c.args.stamp c.horizon-horizon.result (sym c.lt.ensures ∙ c.if-lt.false) in
+    let low : c.args.stamp ≤ c.floor-floor.result =
+    not_gt-le c.args.stamp c.floor-floor.result (sym c.gt.ensures ∙ c.if-gt.false) in
+    let high : c.horizon-horizon.result ≤ c.args.stamp =
+    ge_from_not_lt c.args.stamp c.horizon-horizon.result (sym c.lt.ensures ∙ c.if-lt.false) in
     elim c.match-open.branch [
       | in-Ok w ↦
           let ok = w.in-Ok.ensures.ok in
-          let none = open-room _ past c.args.stamp (rw (← top) low) (rw (← bottom) high) ∙ sym (room-due _ past h') ∙ ap of_room ok.0 in
-          rw (w.result-is, ← c.self.view_is, ok.2) (none, ok.1 ∙ ap (λ n. n + 1) h'.opened, opens c.opens_keep_standing.ensures _ past c.args.stamp h' none)
+          let none = open-room _ past c.args.stamp (rw (← top) low) (rw (← bottom) high) ∙ sym (room-due _ past h')
+          ∙ ap of_room ok.0 in
+          rw (w.result-is, ← c.self.view_is, ok.2)
+          (none, ok.1 ∙ ap (λ n. n + 1) h'.opened, opens c.opens_keep_standing.ensures _ past c.args.stamp h' none)
       | in-Err w ↦
           let room = open-room _ past c.args.stamp (rw (← top) low) (rw (← bottom) high) in
-          rw (w.result-is, w.of_registry.ensures, ← c.self.view_is) (subst (λ due. IsRefusal due ⊤ (of_registry w.in-Err.fault)) (sym room) (room-fault _ past _ h' w.in-Err.ensures.err.0))
+          rw (w.result-is, w.of_registry.ensures, ← c.self.view_is)
+          (subst (λ due. IsRefusal due ⊤ (of_registry w.in-Err.fault)) (sym room)
+          (room-fault _ past _ h' w.in-Err.ensures.err.0))
     ]

@@ -10,7 +10,10 @@ pub invariant_of-self : goal.invariant_of-self
 invariant_of-self c =
     let is = floor-of _ _ _ c.self.invariant.0 (rw (← c.self.view_is) at c.floor-stamp.ensures.least) in
     elim c.match-open.branch [
-      | in-Ok w ↦ rw w.in-Ok.ensures.ok.2 (c.self.invariant.0, held-open _ _ _ _ c.floor-stamp.result c.floor-stamp.result c.self.invariant.1 is (omega arith))
+      | in-Ok w ↦ rw w.in-Ok.ensures.ok.2 (
+        c.self.invariant.0,
+        held-open _ _ _ _ c.floor-stamp.result c.floor-stamp.result c.self.invariant.1 is (omega arith),
+      )
       | in-Err w ↦ rw w.in-Err.ensures.err.1 c.self.invariant
     ]
 
@@ -23,8 +26,13 @@ returns-clause-stands c = λ past h.
           let ok = w.in-Ok.ensures.ok in
           let none = sym (room-due _ past h') ∙ ap of_room ok.0 in
           let low : c.floor-stamp.result ≤ floor _ past = omega (arith, at) in
-          let high : horizon _ past ≤ c.floor-stamp.result = (let le = horizon-low _ past h'.legal in omega (arith, at, le)) in
-          rw (w.result-is, ← c.self.view_is, ok.2, ← at)
-          (none, ap (λ n. (n, c.floor-stamp.result)) (ok.1 ∙ ap (λ n. n + 1) h'.opened), opens c.opens_keep_standing.ensures _ past c.floor-stamp.result h' (open-room _ past c.floor-stamp.result low high ∙ none))
+          let high : horizon _ past ≤ c.floor-stamp.result =
+          (let le = horizon-low _ past h'.legal in omega (arith, at, le)) in
+          rw (w.result-is, ← c.self.view_is, ok.2, ← at) (
+            none,
+            ap (λ n. (n, c.floor-stamp.result)) (ok.1 ∙ ap (λ n. n + 1) h'.opened),
+            opens c.opens_keep_standing.ensures _ past c.floor-stamp.result h'
+                (open-room _ past c.floor-stamp.result low high ∙ none),
+          )
       | in-Err w ↦ rw (w.result-is, w.of_registry.ensures) (room-fault _ past _ h' w.in-Err.ensures.err.0)
     ]

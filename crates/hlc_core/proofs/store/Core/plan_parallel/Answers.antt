@@ -12,7 +12,9 @@ returns-in-Ok g c =
     record {
       made = subst (λ (kept : Kept). IsPlanOf c.in-Ok.plan kept.rows) c.self.view_is c.in-Ok.ensures.made;
       points =
-          subst (λ (kept : Kept). ArePoints (stamps kept.snapshots) c.floor-floor.result c.in-Ok.plan.points) c.self.view_is
-          (subst (ArePoints (stamps c.self.inside.registry.snapshots) c.floor-floor.result) (sym points) c.in_ok-points.ensures);
+          subst (λ (kept : Kept). ArePoints (stamps kept.snapshots) c.floor-floor.result c.in-Ok.plan.points)
+          c.self.view_is
+          (subst (ArePoints (stamps c.self.inside.registry.snapshots) c.floor-floor.result)
+          (sym points) c.in_ok-points.ensures);
       floor = c.floor-floor.ensures.stands;
     }

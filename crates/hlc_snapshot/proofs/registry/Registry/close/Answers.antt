@@ -7,7 +7,8 @@ use Rattle.hlc_snapshot.specs.RegisterLaws.{closed-map, closed-is_register}
 use Rattle.hlc_snapshot.proofs.registry.Registry.close.Goals as goal
 
 kept : (c : goal.After-retain) → c.retain.new.self.items ≡ without c.args.id c.self.inside.snapshots.items
-kept c = filter_same _ (λ snapshot. not (snapshot.id == c.args.id)) _ (λ x b f' k. search rules) _ _ c.retain.ensures.filtered
+kept c = filter_same _ (λ snapshot. not (snapshot.id == c.args.id)) _
+    (λ x b f' k. search rules) _ _ c.retain.ensures.filtered
 
 pub invariant_of-self : goal.invariant_of-self
 invariant_of-self c = rw (kept c) (closed-is_register _ c.args.id c.self.invariant)
@@ -16,7 +17,8 @@ pub returns-clause-ok : goal.returns-clause-ok
 returns-clause-ok c = (sym c.stamp_of.ensures.value ∙ c.in-Some.is, rw (← c.self.view_is, kept c) refl)
 
 pub returns-clause-map : goal.returns-clause-map
-returns-clause-map c = λ other. rw (← c.self.view_is, kept c) (closed-map (record { snapshots = c.self.inside.snapshots.items; opened = c.self.inside.opened }) c.args.id other)
+returns-clause-map c = λ other. rw (← c.self.view_is, kept c)
+    (closed-map (record { snapshots = c.self.inside.snapshots.items; opened = c.self.inside.opened }) c.args.id other)
 
 pub returns-clause-register : goal.returns-clause-register
 returns-clause-register c = rw (kept c) (closed-is_register _ c.args.id c.self.invariant)

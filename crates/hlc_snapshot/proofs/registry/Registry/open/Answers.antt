@@ -8,4 +8,5 @@ returns-clause-fresh c = rw (← c.self.view_is) (next_id-fresh _ c.self.invaria
 
 pub returns-clause-map : goal.returns-clause-map
 returns-clause-map c = λ other.
-    rw (← c.self.view_is, c.push.ensures.items ∙ cond-true _ _ _ c.if-is_err.ensures.negation) (opened-map _ c.args.stamp other c.self.invariant)
+    rw (← c.self.view_is, c.push.ensures.items ∙ cond-true _ _ _ c.if-is_err.ensures.negation)
+    (opened-map _ c.args.stamp other c.self.invariant)

@@ -9,9 +9,12 @@ pub returns-clause-stands : goal.returns-clause-stands
 returns-clause-stands c = λ s h.
     let h' = rw (← c.self.view_is) at h in
     let inside : c.args.node < length c.self.inside.nodes.items = omega (arith, c.self.inside.nodes.ok.0) in
-    let at = slice_get_read c.self.inside.nodes.items (length c.self.inside.nodes.items) c.args.node c.index_mut.result.now refl inside c.index_mut.ensures.value in
+    let at = slice_get_read c.self.inside.nodes.items
+    (length c.self.inside.nodes.items) c.args.node c.index_mut.result.now refl inside c.index_mut.ensures.value in
     let is = delete-is _ s c.args.node c.args.reading c.args.key in
     elim c.match-write.branch [
-      | in-Ok w ↦ rw w.result-is (issues _ s _ c.args.node (a_write c.args.key None) c.args.reading c.index_mut.result.now c.write.new.self _ is h' inside at w.in-Ok.ensures)
-      | in-Err w ↦ rw w.result-is (issues_not _ s _ c.args.node (a_write c.args.key None) c.args.reading c.index_mut.result.now c.write.new.self _ is h' inside at w.in-Err.ensures)
+      | in-Ok w ↦ rw w.result-is (issues _ s _ c.args.node (a_write c.args.key None) c.args.reading
+          c.index_mut.result.now c.write.new.self _ is h' inside at w.in-Ok.ensures)
+      | in-Err w ↦ rw w.result-is (issues_not _ s _ c.args.node (a_write c.args.key None) c.args.reading
+          c.index_mut.result.now c.write.new.self _ is h' inside at w.in-Err.ensures)
     ]

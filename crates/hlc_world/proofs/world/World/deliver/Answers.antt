@@ -11,9 +11,12 @@ pub returns-clause-stands : goal.returns-clause-stands
 returns-clause-stands c = λ s h.
     let h' = rw (← c.self.view_is) at h in
     let inside : c.args.node < length c.self.inside.nodes.items = omega (arith, c.self.inside.nodes.ok.0) in
-    let node = slice_get_read c.self.inside.nodes.items (length c.self.inside.nodes.items) c.args.node c.index.result.now refl inside c.index.ensures in
-    let at = found _ s c.args.node c.args.number c.index.result.now c.in-Some.item.now h' inside node c.in-Some.ensures in
-    let all' = answered _ s c.args.node c.args.number c.in-Some.item.now c.accept.new.core c.accept.result c.self.invariant h' at
+    let node = slice_get_read c.self.inside.nodes.items
+    (length c.self.inside.nodes.items) c.args.node c.index.result.now refl inside c.index.ensures in
+    let at =
+    found _ s c.args.node c.args.number c.index.result.now c.in-Some.item.now h' inside node c.in-Some.ensures in
+    let all' = answered _ s c.args.node c.args.number c.in-Some.item.now c.accept.new.core c.accept.result
+    c.self.invariant h' at
     (c.accept.ensures.stands (core_past s) h'.core) in
     elim c.match-accept.branch [
       | in-Ok w ↦ rw (w.result-is ∙ sym (ap reply_of w.in-Ok.is)) all'

@@ -12,5 +12,6 @@ invariant-loop-event l = record {
   all' : l.yielded ++ into_iter_items l.event-iterator ≡ l.fn.events.items;
   same : world_nodes l.self ≡ world_nodes l.initial.self;
   room : vec_capacity l.replies ≡ length l.fn.events.items;
-  stands : (s : List (Event × Reply)) → StandsFor l.initial.self s → StandsFor l.self (after l.yielded l.replies.items s);
+  stands : (s : List (Event × Reply)) → StandsFor l.initial.self s
+      → StandsFor l.self (after l.yielded l.replies.items s);
 }
