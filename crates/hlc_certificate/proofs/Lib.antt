@@ -1,0 +1,5 @@
+pub mod Taken
+pub mod CheckLines
+pub mod CheckGoing
+pub mod OneCertificate
+pub mod OneAnswer

@@ -1,0 +1,14 @@
+//! What holds of every certificate as it is written.
+ghost use Rattle.hlc_certificate.specs.CheckLaws.{OneAnswer, OneCertificate};
+
+/// Lines say one list of points, one of rows and one of witnesses, so whether they show that the
+/// rows are the fewest is a question of the input alone.
+pub fn one_certificate_for_lines()
+    ensures { OneCertificate }
+{}
+
+/// What may be answered for an input is one line, and the check ends in one way, where no end tells
+/// of want of memory and no read failed.
+pub fn one_answer_for_an_input()
+    ensures { OneAnswer }
+{}
