@@ -17,15 +17,20 @@ before_is_word : (before : Option ℕ) → HasBeforeToken before → IsWord (bef
 before_is_word None has = refl
 before_is_word (Some stamp) has = stamp_is_word stamp has
 
+-- each word of a line is one
+pub are_words : (x : CheckLine) → HasCheckLine x → AllByRecursion IsWord (check_words x)
+are_words (Point stamp) has = (refl, (stamp_is_word stamp has, tt))
+are_words (Row key stamp node value) has =
+    (refl, (bytes_are_word key, (stamp_is_word stamp has.1, (number_is_word node (omega arith), value_is_words value))))
+are_words (Witness key before at) has = (refl, (bytes_are_word key, (before_is_word before has.1, (stamp_is_word at has.2, tt))))
+
 -- the words of a line are the words that it was put together from
 pub words_of_check_line : (x : CheckLine) → HasCheckLine x → slice_split (λ b. eqb b 32) (check_line x) ≡ check_words x
-words_of_check_line (Point stamp) has = split_words (codes "point") (stamp_text stamp ∷ []) (refl, (stamp_is_word stamp has, tt))
+words_of_check_line (Point stamp) has = split_words (codes "point") (stamp_text stamp ∷ []) (are_words (Point stamp) has)
 words_of_check_line (Row key stamp node value) has =
-    split_words (codes "row") (bytes_token key ∷ stamp_text stamp ∷ decimal node ∷ value_words value)
-    (refl, (bytes_are_word key, (stamp_is_word stamp has.1, (number_is_word node (omega arith), value_is_words value))))
+    split_words (codes "row") (bytes_token key ∷ stamp_text stamp ∷ decimal node ∷ value_words value) (are_words (Row key stamp node value) has)
 words_of_check_line (Witness key before at) has =
-    split_words (codes "witness") (bytes_token key ∷ before_token before ∷ stamp_text at ∷ [])
-    (refl, (bytes_are_word key, (before_is_word before has.1, (stamp_is_word at has.2, tt))))
+    split_words (codes "witness") (bytes_token key ∷ before_token before ∷ stamp_text at ∷ []) (are_words (Witness key before at) has)
 
 -- the first byte of the first word
 abbrev pub initial : List (List ℕ) → ℕ

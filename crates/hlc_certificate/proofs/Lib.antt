@@ -3,3 +3,5 @@ pub mod CheckLines
 pub mod CheckGoing
 pub mod OneCertificate
 pub mod OneAnswer
+pub mod PrintedLines
+pub mod PrintedAnswer

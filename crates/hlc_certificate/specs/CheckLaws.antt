@@ -1,11 +1,15 @@
 -- Laws of certificates as they are written.
-use Rattle.std.specs.Prelude.{◌≡◌, ◌≢◌, ◌⊎◌, ℕ, List, codes}
+use Rattle.std.specs.Prelude.{◌≡◌, ◌≢◌, ◌≤◌, ◌⊎◌, ℕ, List, length, codes}
+use Rattle.std.specs.List.{AllByRecursion}
 use Rattle.hlc_text.specs.Text.{printed}
+use Rattle.hlc_text.specs.Lines.{lines_of}
 use Rattle.hlc_node.specs.declared.row.Row.{Row as ARow}
 use Rattle.hlc_witness.specs.declared.witness.Witness.{Witness as AWitness}
+use Rattle.hlc_witness.specs.Certificate.{IsCertificate}
 use Rattle.hlc_certificate.specs.declared.check.CheckEnd.{CheckEnd}
-use Rattle.hlc_certificate.specs.declared.check.CheckEnd.TheVariants.{ReadFault}
-use Rattle.hlc_certificate.specs.CheckLine.{AreLinesOf}
+use Rattle.hlc_certificate.specs.declared.check.CheckEnd.TheVariants.{Fewest, ReadFault}
+use Rattle.hlc_certificate.specs.CheckLine.{HasCheckLine, all_said, AreLinesOf}
+use Rattle.hlc_certificate.specs.CertificateText.{certificate_text}
 use Rattle.hlc_certificate.specs.Check.{MayAnswer, answer_output}
 
 -- lines are those of one list of points, one of rows and one of witnesses
@@ -23,3 +27,19 @@ abbrev pub OneAnswer : Type 0
 OneAnswer = (input : List ℕ) (end finish : CheckEnd)
     → MayAnswer input end → MayAnswer input finish → end ≢ ReadFault → finish ≢ ReadFault
     → (end ≡ finish) ⊎ (TellsNoMemory end ⊎ TellsNoMemory finish)
+
+-- what has lines is printed as just these lines, so it is read back as what it was
+abbrev pub PrintedIsRead : Type 0
+PrintedIsRead = (points : List ℕ) (rows : List ARow) (witnesses : List AWitness)
+    → AllByRecursion HasCheckLine (all_said points rows witnesses)
+    → AreLinesOf points rows witnesses (lines_of (certificate_text points rows witnesses))
+
+-- Where the witnesses show it, what may be answered for the printed text, unless it is too long or a read failed, is that the rows,
+-- so many, are the fewest; or want of memory.
+abbrev pub PrintedShowsFewest : Type 0
+PrintedShowsFewest = (points : List ℕ) (rows : List ARow) (witnesses : List AWitness) (end : CheckEnd)
+    → AreLinesOf points rows witnesses (lines_of (certificate_text points rows witnesses))
+    → IsCertificate rows points witnesses
+    → length (certificate_text points rows witnesses) ≤ 16777216
+    → MayAnswer (certificate_text points rows witnesses) end → end ≢ ReadFault
+    → (end ≡ Fewest (length rows)) ⊎ TellsNoMemory end

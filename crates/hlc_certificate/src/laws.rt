@@ -1,5 +1,8 @@
-//! What holds of every certificate as it is written.
+//! What holds of every certificate as it is written. A law that calls another follows from it.
 ghost use Rattle.hlc_certificate.specs.CheckLaws.{OneAnswer, OneCertificate};
+ghost use Rattle.hlc_certificate.specs.CheckLaws.{PrintedIsRead, PrintedShowsFewest};
+
+use hlc_witness::certificates_show_fewest;
 
 /// Lines say one list of points, one of rows and one of witnesses, so whether they show that the
 /// rows are the fewest is a question of the input alone.
@@ -12,3 +15,16 @@ pub fn one_certificate_for_lines()
 pub fn one_answer_for_an_input()
     ensures { OneAnswer }
 {}
+
+/// What is printed of points, rows and witnesses is read back as just these.
+pub fn printed_certificates_are_read()
+    ensures { PrintedIsRead }
+{}
+
+/// A check of what is printed answers that the rows are the fewest, where the witnesses show it and
+/// there is memory.
+pub fn printed_certificates_show_fewest()
+    ensures { PrintedShowsFewest }
+{
+    certificates_show_fewest();
+}

@@ -10,5 +10,8 @@ mod print;
 
 pub use check::{CheckEnd, check_input, run_check};
 pub use check_line::{CheckLine, read_check_line};
-pub use laws::{one_answer_for_an_input, one_certificate_for_lines};
-pub use print::put_witnesses;
+pub use laws::{
+    one_answer_for_an_input, one_certificate_for_lines, printed_certificates_are_read,
+    printed_certificates_show_fewest,
+};
+pub use print::{put_certificate, put_witnesses};

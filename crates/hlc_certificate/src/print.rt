@@ -1,17 +1,78 @@
-//! The lines of a certificate, printed.
+//! Certificates, printed.
 ghost use Rattle.std.specs.Prelude.{map, ◌++◌, codes};
 ghost use Rattle.std.specs.List.{flat_map};
+ghost use Rattle.hlc_text.specs.Lines.{lines_of, spaced};
 ghost use Rattle.hlc_text.specs.Printing.{Prints};
 ghost use Rattle.hlc_text.specs.Text.{printed};
-ghost use Rattle.hlc_certificate.specs.CheckLine.{before_token};
-ghost use Rattle.hlc_certificate.specs.CertificateText.{witness_line};
+ghost use Rattle.hlc_certificate.specs.CheckLine.{before_token, value_words};
+ghost use Rattle.hlc_certificate.specs.CertificateText.{certificate_text, point_line, row_line, witness_line};
 
 use hlc_clock::Stamp;
-use hlc_text::print::{put, put_named_bytes, put_named_stamp};
+use hlc_node::{Bytes, Row};
+use hlc_text::print::{put, put_named_bytes, put_named_number, put_named_stamp};
 use hlc_text::waiting::Waiting;
 use hlc_text::watched::Watched;
 use hlc_witness::Witness;
 use std::io::Write;
+
+/// Prints a certificate: the lines of its points, then of its rows, and then of its witnesses. What
+/// they say is not looked at.
+pub fn put_certificate<W: Write>(
+    writer: &mut Watched<W>,
+    waiting: &mut Waiting,
+    points: &[Stamp],
+    rows: &[Row],
+    witnesses: &[Witness],
+)
+    ensures { Prints W.contents writer.old writer.new waiting.old waiting.new (certificate_text points.now rows.now witnesses.now) }
+{
+    put_points(writer, waiting, points);
+    put_rows(writer, waiting, rows);
+    put_witnesses(writer, waiting, witnesses);
+}
+
+fn put_points<W: Write>(writer: &mut Watched<W>, waiting: &mut Waiting, points: &[Stamp])
+    ensures { Prints W.contents writer.old writer.new waiting.old waiting.new (flat_map printed (map point_line points.now)) }
+{
+    for point in points {
+        put_point(writer, waiting, *point);
+    }
+}
+
+fn put_point<W: Write>(writer: &mut Watched<W>, waiting: &mut Waiting, point: Stamp)
+    ensures { Prints W.contents writer.old writer.new waiting.old waiting.new (printed (point_line point)) }
+{
+    put_named_stamp(writer, waiting, b"point ", point);
+    put(writer, waiting, b"\n");
+}
+
+fn put_rows<W: Write>(writer: &mut Watched<W>, waiting: &mut Waiting, rows: &[Row])
+    ensures { Prints W.contents writer.old writer.new waiting.old waiting.new (flat_map printed (map row_line rows.now)) }
+{
+    for row in rows {
+        put_row(writer, waiting, row);
+    }
+}
+
+fn put_row<W: Write>(writer: &mut Watched<W>, waiting: &mut Waiting, row: &Row)
+    ensures { Prints W.contents writer.old writer.new waiting.old waiting.new (printed (row_line row.now)) }
+{
+    put_named_bytes(writer, waiting, b"row ", row.key.as_slice());
+    put_named_stamp(writer, waiting, b" ", row.stamp);
+    put_named_number(writer, waiting, b" ", row.node as u64);
+    put_value(writer, waiting, &row.value);
+    put(writer, waiting, b"\n");
+}
+
+/// Prints the words of a value, or of a deletion mark, behind a space.
+fn put_value<W: Write>(writer: &mut Watched<W>, waiting: &mut Waiting, value: &Option<Bytes>)
+    ensures { Prints W.contents writer.old writer.new waiting.old waiting.new (codes " " ++ spaced (value_words value.now)) }
+{
+    match value {
+        None => put(writer, waiting, b" delete"),
+        Some(bytes) => put_named_bytes(writer, waiting, b" value ", bytes.as_slice()),
+    }
+}
 
 /// Prints the lines of some changes, as a certificate has them.
 pub fn put_witnesses<W: Write>(

@@ -1,4 +1,4 @@
--- The lines of the changes so far are printed.
+-- The lines so far are printed.
 use Rattle.std.proofs.Common.{map, take}
 use Rattle.std.specs.List.{flat_map}
 use Rattle.hlc_text.specs.Printing.{Prints}

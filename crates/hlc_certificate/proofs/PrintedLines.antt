@@ -1,0 +1,68 @@
+-- The text of a certificate is that of its points, of its rows and of its witnesses, one after another; and its lines are those that
+-- were printed, since none of them holds a line feed.
+use Rattle.std.proofs.Common.{◌≡◌, ℕ, ◌+◌, ◌<◌, ◌∙◌, sym, ap, refl, subst, Bool, List, [], ◌∷◌, ◌++◌, map, take, length, get_or, Option, Some, None, append_assoc, arith, eqb}
+use Rattle.std.specs.List.{flat_map, slice_split, AllByRecursion}
+use Rattle.std.proofs.lemmas.List.{map-append}
+use Rattle.std.proofs.lemmas.List.Concat.{flat_map-append}
+use Rattle.hlc_text.specs.Text.{printed}
+use Rattle.hlc_text.specs.Lines.{spaced, lines_of}
+use Rattle.hlc_text.specs.Printing.{Printed}
+use Rattle.hlc_text.specs.PrintingLaws.{printed_line, printed_then}
+use Rattle.hlc_text.specs.TokenLaws.{line_has_no_feed, split_line}
+use Rattle.hlc_text.specs.LineLaws.{first_of_lines}
+use Rattle.hlc_node.specs.declared.row.Row.{Row as ARow}
+use Rattle.hlc_witness.specs.declared.witness.Witness.{Witness as AWitness}
+use Rattle.hlc_certificate.specs.declared.check_line.CheckLine.{CheckLine}
+use Rattle.hlc_certificate.specs.CheckLine.{check_words, check_line, HasCheckLine, value_words, says_point, says_row, says_witness, all_said}
+use Rattle.hlc_certificate.specs.CertificateText.{point_line, row_line, witness_line, certificate_text}
+use Rattle.hlc_certificate.proofs.CheckLines.{are_words}
+
+-- one line more of a list that is printed line by line
+pub printed_next : {X : Type 0} {f g h : Bool} {a b c : Option (List ℕ)} {u v w : List ℕ} (text : X → List ℕ) (xs : List X) (i : ℕ) (d : X) → i < length xs → d ≡ get_or xs i d → Printed f g a b u v (flat_map printed (map text (take i xs))) → Printed g h b c v w (printed (text d)) → Printed f h a c u w (flat_map printed (map text (take (i + 1) xs)))
+printed_next {X} {f} {g} {h} {a} {b} {c} {u} {v} {w} text xs i d within is first second =
+    printed_line printed text xs i d within first (subst (λ (x : X). Printed g h b c v w (printed (text x))) is second)
+
+-- the line of a row, by its value
+pub printed_row : {f h : Bool} {a c : Option (List ℕ)} {u w : List ℕ} (key stamp node : List ℕ) (value : Option (List ℕ)) → Printed f h a c u w (printed ((114 ∷ 111 ∷ 119 ∷ 32 ∷ key) ++ ((32 ∷ stamp) ++ ((32 ∷ node) ++ (32 ∷ spaced (value_words value)))))) → Printed f h a c u w (printed (spaced ((114 ∷ 111 ∷ 119 ∷ []) ∷ key ∷ stamp ∷ node ∷ value_words value)))
+printed_row key stamp node None text = text
+printed_row key stamp node (Some value) text = text
+
+lines_map : {X : Type 0} (says : X → CheckLine) (xs : List X) → map check_line (map says xs) ≡ map (λ x. check_line (says x)) xs
+lines_map says [] = refl
+lines_map says (x ∷ xs) = ap (λ lines. check_line (says x) ∷ lines) (lines_map says xs)
+
+text_map : {X : Type 0} (says : X → CheckLine) (xs : List X) → flat_map printed (map check_line (map says xs)) ≡ flat_map printed (map (λ x. check_line (says x)) xs)
+text_map says xs = ap (flat_map printed) (lines_map says xs)
+
+text_append : (xs ys : List CheckLine) → flat_map printed (map check_line (xs ++ ys)) ≡ flat_map printed (map check_line xs) ++ flat_map printed (map check_line ys)
+text_append xs ys = ap (flat_map printed) (map-append check_line xs ys) ∙ flat_map-append printed (map check_line xs) (map check_line ys)
+
+-- the text of the three lists is that of all that is said
+pub all_printed : (points : List ℕ) (rows : List ARow) (witnesses : List AWitness) → (flat_map printed (map point_line points) ++ flat_map printed (map row_line rows)) ++ flat_map printed (map witness_line witnesses) ≡ certificate_text points rows witnesses
+all_printed points rows witnesses =
+    let p = map says_point points in
+    let r = map says_row rows in
+    let w = map says_witness witnesses in
+    let tp = text_map says_point points in
+    let tr = text_map says_row rows in
+    let tw = text_map says_witness witnesses in
+    ap (λ (t : List ℕ). (t ++ flat_map printed (map row_line rows)) ++ flat_map printed (map witness_line witnesses)) (sym tp)
+    ∙ ap (λ (t : List ℕ). (flat_map printed (map check_line p) ++ t) ++ flat_map printed (map witness_line witnesses)) (sym tr)
+    ∙ ap (λ (t : List ℕ). (flat_map printed (map check_line p) ++ flat_map printed (map check_line r)) ++ t) (sym tw)
+    ∙ ap (λ (t : List ℕ). t ++ flat_map printed (map check_line w)) (sym (text_append p r))
+    ∙ sym (text_append (p ++ r) w)
+
+-- the three lists are printed one after another
+pub printed_lists : {f g h k : Bool} {a b c d : Option (List ℕ)} {u v w x : List ℕ} (points : List ℕ) (rows : List ARow) (witnesses : List AWitness) → Printed f g a b u v (flat_map printed (map point_line points)) → Printed g h b c v w (flat_map printed (map row_line rows)) → Printed h k c d w x (flat_map printed (map witness_line witnesses)) → Printed f k a d u x (certificate_text points rows witnesses)
+printed_lists {f} {g} {h} {k} {a} {b} {c} {d} {u} {v} {w} {x} points rows witnesses first second third =
+    subst (λ (t : List ℕ). Printed f k a d u x t) (all_printed points rows witnesses) (printed_then (printed_then first second) third)
+
+-- the lines of some lines that were printed
+pub lines_again : (xs : List CheckLine) → AllByRecursion HasCheckLine xs → lines_of (flat_map printed (map check_line xs)) ≡ map check_line xs
+lines_again [] has = refl
+lines_again (x ∷ xs) has =
+    let rest = flat_map printed (map check_line xs) in
+    let joined : printed (check_line x) ++ rest ≡ check_line x ++ 10 ∷ rest = append_assoc (check_line x) (10 ∷ []) rest in
+    first_of_lines (check_line x) (printed (check_line x) ++ rest) rest
+    (ap (λ text. slice_split (λ b. eqb b 10) text) joined ∙ split_line (check_line x) rest (line_has_no_feed (check_words x) (are_words x has.0)))
+    ∙ ap (λ lines. check_line x ∷ lines) (lines_again xs has.1)

@@ -1,0 +1,7 @@
+-- One line more is printed.
+use Rattle.hlc_certificate.specs.CertificateText.{point_line}
+use Rattle.hlc_certificate.proofs.PrintedLines.{printed_next}
+use Rattle.hlc_certificate.proofs.print.put_points.Goals as goal
+
+pub loop-point-preserved : goal.loop-point-preserved
+loop-point-preserved g c = printed_next point_line c.args.points.now c.loop-point.point-index c.point-item.result c.loop-point-test.true c.point-item.is c.loop-point.invariant c.put_point.ensures

@@ -1,0 +1,9 @@
+-- The words of the line are printed one after another, each but the first behind a space.
+use Rattle.hlc_text.specs.PrintingLaws.{printed_then}
+use Rattle.hlc_certificate.proofs.PrintedLines.{printed_row}
+use Rattle.hlc_certificate.proofs.print.put_row.Goals as goal
+
+pub returns : goal.returns
+returns g c =
+    rw (← c.as_slice.ensures) (printed_row _ _ _ c.args.row.now.value
+    (printed_then (printed_then c.put_named_bytes.ensures (printed_then c.put_named_stamp.ensures (printed_then c.put_named_number.ensures c.put_value.ensures))) c.put.ensures))
