@@ -2,7 +2,7 @@
 -- were printed, since none of them holds a line feed.
 use Rattle.std.proofs.Common.{◌≡◌, ℕ, ◌+◌, ◌<◌, ◌∙◌, sym, ap, refl, subst, Bool, List, [], ◌∷◌, ◌++◌, map, take, length, get_or, Option, Some, None, append_assoc, arith, eqb}
 use Rattle.std.specs.List.{flat_map, slice_split, AllByRecursion}
-use Rattle.std.proofs.lemmas.List.{map-append}
+use Rattle.std.proofs.lemmas.List.{map-append, take_more}
 use Rattle.std.proofs.lemmas.List.Concat.{flat_map-append}
 use Rattle.hlc_text.specs.Text.{printed}
 use Rattle.hlc_text.specs.Lines.{spaced, lines_of}
@@ -21,6 +21,21 @@ use Rattle.hlc_certificate.proofs.CheckLines.{are_words}
 pub printed_next : {X : Type 0} {f g h : Bool} {a b c : Option (List ℕ)} {u v w : List ℕ} (text : X → List ℕ) (xs : List X) (i : ℕ) (d : X) → i < length xs → d ≡ get_or xs i d → Printed f g a b u v (flat_map printed (map text (take i xs))) → Printed g h b c v w (printed (text d)) → Printed f h a c u w (flat_map printed (map text (take (i + 1) xs)))
 printed_next {X} {f} {g} {h} {a} {b} {c} {u} {v} {w} text xs i d within is first second =
     printed_line printed text xs i d within first (subst (λ (x : X). Printed g h b c v w (printed (text x))) is second)
+
+all_both : {X : Type 0} (P : X → Type 0) (xs ys : List X) → AllByRecursion P xs → AllByRecursion P ys → AllByRecursion P (xs ++ ys)
+all_both P [] ys first second = second
+all_both P (x ∷ xs) ys first second = (first.0, all_both P xs ys first.1 second)
+
+-- one item more has a line
+pub fits_next : {X : Type 0} (says : X → CheckLine) (xs : List X) (i : ℕ) (d : X) → i < length xs → d ≡ get_or xs i d → AllByRecursion HasCheckLine (map says (take i xs)) → HasCheckLine (says d) → AllByRecursion HasCheckLine (map says (take (i + 1) xs))
+fits_next {X} says xs i d within is first second =
+    let more : take (i + 1) xs ≡ take i xs ++ d ∷ [] = take_more xs i d within ∙ ap (λ (x : X). take i xs ++ x ∷ []) (sym is) in
+    subst (AllByRecursion HasCheckLine) (sym (ap (map says) more ∙ map-append says (take i xs) (d ∷ []))) (all_both HasCheckLine (map says (take i xs)) (says d ∷ []) first (second, tt))
+
+-- all that is said has lines
+pub all_fit : (points : List ℕ) (rows : List ARow) (witnesses : List AWitness) → AllByRecursion HasCheckLine (map says_point points) → AllByRecursion HasCheckLine (map says_row rows) → AllByRecursion HasCheckLine (map says_witness witnesses) → AllByRecursion HasCheckLine (all_said points rows witnesses)
+all_fit points rows witnesses first second third =
+    all_both HasCheckLine (map says_point points ++ map says_row rows) (map says_witness witnesses) (all_both HasCheckLine (map says_point points) (map says_row rows) first second) third
 
 -- the line of a row, by its value
 pub printed_row : {f h : Bool} {a c : Option (List ℕ)} {u w : List ℕ} (key stamp node : List ℕ) (value : Option (List ℕ)) → Printed f h a c u w (printed ((114 ∷ 111 ∷ 119 ∷ 32 ∷ key) ++ ((32 ∷ stamp) ++ ((32 ∷ node) ++ (32 ∷ spaced (value_words value)))))) → Printed f h a c u w (printed (spaced ((114 ∷ 111 ∷ 119 ∷ []) ∷ key ∷ stamp ∷ node ∷ value_words value)))

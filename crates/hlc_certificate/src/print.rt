@@ -1,10 +1,11 @@
 //! Certificates, printed.
-ghost use Rattle.std.specs.Prelude.{map, ◌++◌, codes};
-ghost use Rattle.std.specs.List.{flat_map};
+ghost use Rattle.std.specs.Prelude.{map, ◌<◌, ◌^◌, ◌++◌, codes};
+ghost use Rattle.std.specs.List.{flat_map, AllByRecursion};
 ghost use Rattle.hlc_text.specs.Lines.{lines_of, spaced};
 ghost use Rattle.hlc_text.specs.Printing.{Prints};
-ghost use Rattle.hlc_text.specs.Text.{printed};
-ghost use Rattle.hlc_certificate.specs.CheckLine.{before_token, value_words};
+ghost use Rattle.hlc_text.specs.Text.{printed, bytes_token, AreBytes};
+ghost use Rattle.hlc_clock.specs.Stamp.{stamp_text};
+ghost use Rattle.hlc_certificate.specs.CheckLine.{before_token, HasBeforeToken, value_words, HasValueWords, HasCheckLine, AreLinesOf, says_point, says_row, says_witness};
 ghost use Rattle.hlc_certificate.specs.CertificateText.{certificate_text, point_line, row_line, witness_line};
 
 use hlc_clock::Stamp;
@@ -24,7 +25,8 @@ pub fn put_certificate<W: Write>(
     rows: &[Row],
     witnesses: &[Witness],
 )
-    ensures { Prints W.contents writer.old writer.new waiting.old waiting.new (certificate_text points.now rows.now witnesses.now) }
+    ensures text { Prints W.contents writer.old writer.new waiting.old waiting.new (certificate_text points.now rows.now witnesses.now) }
+    ensures lines { AreLinesOf points.now rows.now witnesses.now (lines_of (certificate_text points.now rows.now witnesses.now)) }
 {
     put_points(writer, waiting, points);
     put_rows(writer, waiting, rows);
@@ -32,7 +34,8 @@ pub fn put_certificate<W: Write>(
 }
 
 fn put_points<W: Write>(writer: &mut Watched<W>, waiting: &mut Waiting, points: &[Stamp])
-    ensures { Prints W.contents writer.old writer.new waiting.old waiting.new (flat_map printed (map point_line points.now)) }
+    ensures text { Prints W.contents writer.old writer.new waiting.old waiting.new (flat_map printed (map point_line points.now)) }
+    ensures fits { AllByRecursion HasCheckLine (map says_point points.now) }
 {
     for point in points {
         put_point(writer, waiting, *point);
@@ -40,14 +43,16 @@ fn put_points<W: Write>(writer: &mut Watched<W>, waiting: &mut Waiting, points: 
 }
 
 fn put_point<W: Write>(writer: &mut Watched<W>, waiting: &mut Waiting, point: Stamp)
-    ensures { Prints W.contents writer.old writer.new waiting.old waiting.new (printed (point_line point)) }
+    ensures text { Prints W.contents writer.old writer.new waiting.old waiting.new (printed (point_line point)) }
+    ensures fits { HasCheckLine (says_point point) }
 {
-    put_named_stamp(writer, waiting, b"point ", point);
+    put_stamp_behind(writer, waiting, b"point ", point);
     put(writer, waiting, b"\n");
 }
 
 fn put_rows<W: Write>(writer: &mut Watched<W>, waiting: &mut Waiting, rows: &[Row])
-    ensures { Prints W.contents writer.old writer.new waiting.old waiting.new (flat_map printed (map row_line rows.now)) }
+    ensures text { Prints W.contents writer.old writer.new waiting.old waiting.new (flat_map printed (map row_line rows.now)) }
+    ensures fits { AllByRecursion HasCheckLine (map says_row rows.now) }
 {
     for row in rows {
         put_row(writer, waiting, row);
@@ -55,10 +60,11 @@ fn put_rows<W: Write>(writer: &mut Watched<W>, waiting: &mut Waiting, rows: &[Ro
 }
 
 fn put_row<W: Write>(writer: &mut Watched<W>, waiting: &mut Waiting, row: &Row)
-    ensures { Prints W.contents writer.old writer.new waiting.old waiting.new (printed (row_line row.now)) }
+    ensures text { Prints W.contents writer.old writer.new waiting.old waiting.new (printed (row_line row.now)) }
+    ensures fits { HasCheckLine (says_row row.now) }
 {
-    put_named_bytes(writer, waiting, b"row ", row.key.as_slice());
-    put_named_stamp(writer, waiting, b" ", row.stamp);
+    put_bytes_behind(writer, waiting, b"row ", row.key.as_slice());
+    put_stamp_behind(writer, waiting, b" ", row.stamp);
     put_named_number(writer, waiting, b" ", row.node as u64);
     put_value(writer, waiting, &row.value);
     put(writer, waiting, b"\n");
@@ -66,11 +72,12 @@ fn put_row<W: Write>(writer: &mut Watched<W>, waiting: &mut Waiting, row: &Row)
 
 /// Prints the words of a value, or of a deletion mark, behind a space.
 fn put_value<W: Write>(writer: &mut Watched<W>, waiting: &mut Waiting, value: &Option<Bytes>)
-    ensures { Prints W.contents writer.old writer.new waiting.old waiting.new (codes " " ++ spaced (value_words value.now)) }
+    ensures text { Prints W.contents writer.old writer.new waiting.old waiting.new (codes " " ++ spaced (value_words value.now)) }
+    ensures fits { HasValueWords value.now }
 {
     match value {
         None => put(writer, waiting, b" delete"),
-        Some(bytes) => put_named_bytes(writer, waiting, b" value ", bytes.as_slice()),
+        Some(bytes) => put_bytes_behind(writer, waiting, b" value ", bytes.as_slice()),
     }
 }
 
@@ -80,7 +87,8 @@ pub fn put_witnesses<W: Write>(
     waiting: &mut Waiting,
     witnesses: &[Witness],
 )
-    ensures { Prints W.contents writer.old writer.new waiting.old waiting.new (flat_map printed (map witness_line witnesses.now)) }
+    ensures text { Prints W.contents writer.old writer.new waiting.old waiting.new (flat_map printed (map witness_line witnesses.now)) }
+    ensures fits { AllByRecursion HasCheckLine (map says_witness witnesses.now) }
 {
     for witness in witnesses {
         put_witness(writer, waiting, witness);
@@ -89,19 +97,50 @@ pub fn put_witnesses<W: Write>(
 
 /// Prints the line of a change, as a certificate has it.
 fn put_witness<W: Write>(writer: &mut Watched<W>, waiting: &mut Waiting, witness: &Witness)
-    ensures { Prints W.contents writer.old writer.new waiting.old waiting.new (printed (witness_line witness.now)) }
+    ensures text { Prints W.contents writer.old writer.new waiting.old waiting.new (printed (witness_line witness.now)) }
+    ensures fits { HasCheckLine (says_witness witness.now) }
 {
-    put_named_bytes(writer, waiting, b"witness ", witness.key.as_slice());
+    put_bytes_behind(writer, waiting, b"witness ", witness.key.as_slice());
     put_before(writer, waiting, witness.before);
-    put_named_stamp(writer, waiting, b" ", witness.at);
+    put_stamp_behind(writer, waiting, b" ", witness.at);
     put(writer, waiting, b"\n");
 }
 
 fn put_before<W: Write>(writer: &mut Watched<W>, waiting: &mut Waiting, before: Option<Stamp>)
-    ensures { Prints W.contents writer.old writer.new waiting.old waiting.new (codes " " ++ before_token before) }
+    ensures text { Prints W.contents writer.old writer.new waiting.old waiting.new (codes " " ++ before_token before) }
+    ensures fits { HasBeforeToken before }
 {
     match before {
         None => put(writer, waiting, b" none"),
-        Some(stamp) => put_named_stamp(writer, waiting, b" ", stamp),
+        Some(stamp) => put_stamp_behind(writer, waiting, b" ", stamp),
     }
+}
+
+// The words of stamps and bytes. What is printed of them fits, as their types say.
+
+/// Prints some words, and the stamp behind them.
+fn put_stamp_behind<W: Write>(
+    writer: &mut Watched<W>,
+    waiting: &mut Waiting,
+    name: &[u8],
+    stamp: Stamp,
+)
+    ensures text { Prints W.contents writer.old writer.new waiting.old waiting.new (name.now ++ stamp_text stamp) }
+    ensures fits { stamp < 2 ^ 64 }
+{
+    prove!(stamp.bits() <= u64::MAX);
+    put_named_stamp(writer, waiting, name, stamp);
+}
+
+/// Prints some words, and the word that spells the bytes behind them.
+fn put_bytes_behind<W: Write>(
+    writer: &mut Watched<W>,
+    waiting: &mut Waiting,
+    name: &[u8],
+    bytes: &[u8],
+)
+    ensures text { Prints W.contents writer.old writer.new waiting.old waiting.new (name.now ++ bytes_token bytes.now) }
+    ensures fits { AreBytes bytes.now }
+{
+    put_named_bytes(writer, waiting, name, bytes);
 }

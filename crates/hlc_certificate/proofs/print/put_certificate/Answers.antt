@@ -1,6 +1,14 @@
--- One list is printed after another.
-use Rattle.hlc_certificate.proofs.PrintedLines.{printed_lists}
+-- One list is printed after another, and each is of what has lines.
+use Rattle.hlc_certificate.proofs.PrintedLines.{printed_lists, all_fit}
+use Rattle.hlc_certificate.proofs.PrintedAnswer.{printed_is_read}
 use Rattle.hlc_certificate.proofs.print.put_certificate.Goals as goal
 
-pub returns : goal.returns
-returns g c = printed_lists c.args.points.now c.args.rows.now c.args.witnesses.now c.put_points.ensures c.put_rows.ensures c.put_witnesses.ensures
+pub returns-clause-text : goal.returns-clause-text
+returns-clause-text g c = printed_lists c.args.points.now c.args.rows.now c.args.witnesses.now c.put_points.ensures.text c.put_rows.ensures.text c.put_witnesses.ensures.text
+
+pub returns-clause-lines : goal.returns-clause-lines
+returns-clause-lines g c =
+    let points = c.args.points.now in
+    let rows = c.args.rows.now in
+    let witnesses = c.args.witnesses.now in
+    printed_is_read points rows witnesses (all_fit points rows witnesses c.put_points.ensures.fits c.put_rows.ensures.fits c.put_witnesses.ensures.fits)

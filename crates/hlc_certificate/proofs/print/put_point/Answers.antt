@@ -2,5 +2,5 @@
 use Rattle.hlc_text.specs.PrintingLaws.{printed_then}
 use Rattle.hlc_certificate.proofs.print.put_point.Goals as goal
 
-pub returns : goal.returns
-returns g c = printed_then c.put_named_stamp.ensures c.put.ensures
+pub returns-clause-text : goal.returns-clause-text
+returns-clause-text g c = printed_then c.put_stamp_behind.ensures.text c.put.ensures

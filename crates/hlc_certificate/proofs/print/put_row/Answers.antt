@@ -3,7 +3,7 @@ use Rattle.hlc_text.specs.PrintingLaws.{printed_then}
 use Rattle.hlc_certificate.proofs.PrintedLines.{printed_row}
 use Rattle.hlc_certificate.proofs.print.put_row.Goals as goal
 
-pub returns : goal.returns
-returns g c =
+pub returns-clause-text : goal.returns-clause-text
+returns-clause-text g c =
     rw (← c.as_slice.ensures) (printed_row _ _ _ c.args.row.now.value
-    (printed_then (printed_then c.put_named_bytes.ensures (printed_then c.put_named_stamp.ensures (printed_then c.put_named_number.ensures c.put_value.ensures))) c.put.ensures))
+    (printed_then (printed_then c.put_bytes_behind.ensures.text (printed_then c.put_stamp_behind.ensures.text (printed_then c.put_named_number.ensures c.put_value.ensures.text))) c.put.ensures))
