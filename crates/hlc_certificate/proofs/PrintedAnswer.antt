@@ -23,8 +23,12 @@ read_well count same = cc
 tells_more : (count : ℕ) → TellsNoMemory (Fewest count) → ⊥
 tells_more count tells = absurd (omega (arith, ap (λ (text : List ℕ). get_or text 0 0) tells))
 
-pub printed_shows_fewest : ((rows : List ARow) (points : List ℕ) (witnesses : List AWitness) → IsCertificate rows points witnesses → AreFewest rows rows points) → PrintedShowsFewest
-printed_shows_fewest shows points rows witnesses end lines certificate fits may well =
+abbrev ShowFewest : Type 0
+ShowFewest = (rows : List ARow) (points : List ℕ) (witnesses : List AWitness)
+    → IsCertificate rows points witnesses → AreFewest rows rows points
+
+pub printed_shows_fewest : ShowFewest → PrintedShowsFewest
+printed_shows_fewest shows points rows witnesses lines certificate fits end may well =
     let text = certificate_text points rows witnesses in
     let due : MayAnswer text (Fewest (length rows)) = (
       fits,

@@ -34,12 +34,16 @@ PrintedIsRead = (points : List ℕ) (rows : List ARow) (witnesses : List AWitnes
     → AllByRecursion HasCheckLine (all_said points rows witnesses)
     → AreLinesOf points rows witnesses (lines_of (certificate_text points rows witnesses))
 
--- Where the witnesses show it, what may be answered for the printed text, unless it is too long or a read failed, is that the rows,
--- so many, are the fewest; or want of memory.
+-- A check of the text, where it is not too long and no read failed, answers that so many rows are the fewest; or it tells of
+-- want of memory.
+abbrev pub IsAnsweredFewest : List ℕ → ℕ → Type 0
+IsAnsweredFewest text count =
+    length text ≤ 16777216 → (end : CheckEnd) → MayAnswer text end → end ≢ ReadFault
+    → (end ≡ Fewest count) ⊎ TellsNoMemory end
+
+-- where the witnesses show that the rows are the fewest, a check of what is printed answers how many they are
 abbrev pub PrintedShowsFewest : Type 0
-PrintedShowsFewest = (points : List ℕ) (rows : List ARow) (witnesses : List AWitness) (end : CheckEnd)
+PrintedShowsFewest = (points : List ℕ) (rows : List ARow) (witnesses : List AWitness)
     → AreLinesOf points rows witnesses (lines_of (certificate_text points rows witnesses))
     → IsCertificate rows points witnesses
-    → length (certificate_text points rows witnesses) ≤ 16777216
-    → MayAnswer (certificate_text points rows witnesses) end → end ≢ ReadFault
-    → (end ≡ Fewest (length rows)) ⊎ TellsNoMemory end
+    → IsAnsweredFewest (certificate_text points rows witnesses) (length rows)

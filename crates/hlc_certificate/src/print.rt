@@ -5,8 +5,11 @@ ghost use Rattle.hlc_text.specs.Lines.{lines_of, spaced};
 ghost use Rattle.hlc_text.specs.Printing.{Prints};
 ghost use Rattle.hlc_text.specs.Text.{printed, bytes_token, AreBytes};
 ghost use Rattle.hlc_clock.specs.Stamp.{stamp_text};
-ghost use Rattle.hlc_certificate.specs.CheckLine.{before_token, HasBeforeToken, value_words, HasValueWords, HasCheckLine, AreLinesOf, says_point, says_row, says_witness};
-ghost use Rattle.hlc_certificate.specs.CertificateText.{certificate_text, point_line, row_line, witness_line};
+ghost use Rattle.hlc_certificate.specs.CheckLine.{before_token, HasBeforeToken, value_words};
+ghost use Rattle.hlc_certificate.specs.CheckLine.{HasValueWords, HasCheckLine, AreLinesOf};
+ghost use Rattle.hlc_certificate.specs.CheckLine.{says_point, says_row, says_witness};
+ghost use Rattle.hlc_certificate.specs.CertificateText.{certificate_text};
+ghost use Rattle.hlc_certificate.specs.CertificateText.{point_line, row_line, witness_line};
 
 use hlc_clock::Stamp;
 use hlc_node::{Bytes, Row};
@@ -25,8 +28,10 @@ pub fn put_certificate<W: Write>(
     rows: &[Row],
     witnesses: &[Witness],
 )
-    ensures text { Prints W.contents writer.old writer.new waiting.old waiting.new (certificate_text points.now rows.now witnesses.now) }
-    ensures lines { AreLinesOf points.now rows.now witnesses.now (lines_of (certificate_text points.now rows.now witnesses.now)) }
+    ensures text { Prints W.contents writer.old writer.new waiting.old waiting.new
+        (certificate_text points.now rows.now witnesses.now) }
+    ensures lines { AreLinesOf points.now rows.now witnesses.now
+        (lines_of (certificate_text points.now rows.now witnesses.now)) }
 {
     put_points(writer, waiting, points);
     put_rows(writer, waiting, rows);
@@ -34,7 +39,8 @@ pub fn put_certificate<W: Write>(
 }
 
 fn put_points<W: Write>(writer: &mut Watched<W>, waiting: &mut Waiting, points: &[Stamp])
-    ensures text { Prints W.contents writer.old writer.new waiting.old waiting.new (flat_map printed (map point_line points.now)) }
+    ensures text { Prints W.contents writer.old writer.new waiting.old waiting.new
+        (flat_map printed (map point_line points.now)) }
     ensures fits { AllByRecursion HasCheckLine (map says_point points.now) }
 {
     for point in points {
@@ -43,7 +49,8 @@ fn put_points<W: Write>(writer: &mut Watched<W>, waiting: &mut Waiting, points: 
 }
 
 fn put_point<W: Write>(writer: &mut Watched<W>, waiting: &mut Waiting, point: Stamp)
-    ensures text { Prints W.contents writer.old writer.new waiting.old waiting.new (printed (point_line point)) }
+    ensures text { Prints W.contents writer.old writer.new waiting.old waiting.new
+        (printed (point_line point)) }
     ensures fits { HasCheckLine (says_point point) }
 {
     put_stamp_behind(writer, waiting, b"point ", point);
@@ -51,7 +58,8 @@ fn put_point<W: Write>(writer: &mut Watched<W>, waiting: &mut Waiting, point: St
 }
 
 fn put_rows<W: Write>(writer: &mut Watched<W>, waiting: &mut Waiting, rows: &[Row])
-    ensures text { Prints W.contents writer.old writer.new waiting.old waiting.new (flat_map printed (map row_line rows.now)) }
+    ensures text { Prints W.contents writer.old writer.new waiting.old waiting.new
+        (flat_map printed (map row_line rows.now)) }
     ensures fits { AllByRecursion HasCheckLine (map says_row rows.now) }
 {
     for row in rows {
@@ -60,7 +68,8 @@ fn put_rows<W: Write>(writer: &mut Watched<W>, waiting: &mut Waiting, rows: &[Ro
 }
 
 fn put_row<W: Write>(writer: &mut Watched<W>, waiting: &mut Waiting, row: &Row)
-    ensures text { Prints W.contents writer.old writer.new waiting.old waiting.new (printed (row_line row.now)) }
+    ensures text { Prints W.contents writer.old writer.new waiting.old waiting.new
+        (printed (row_line row.now)) }
     ensures fits { HasCheckLine (says_row row.now) }
 {
     put_bytes_behind(writer, waiting, b"row ", row.key.as_slice());
@@ -72,7 +81,8 @@ fn put_row<W: Write>(writer: &mut Watched<W>, waiting: &mut Waiting, row: &Row)
 
 /// Prints the words of a value, or of a deletion mark, behind a space.
 fn put_value<W: Write>(writer: &mut Watched<W>, waiting: &mut Waiting, value: &Option<Bytes>)
-    ensures text { Prints W.contents writer.old writer.new waiting.old waiting.new (codes " " ++ spaced (value_words value.now)) }
+    ensures text { Prints W.contents writer.old writer.new waiting.old waiting.new
+        (codes " " ++ spaced (value_words value.now)) }
     ensures fits { HasValueWords value.now }
 {
     match value {
@@ -87,7 +97,8 @@ pub fn put_witnesses<W: Write>(
     waiting: &mut Waiting,
     witnesses: &[Witness],
 )
-    ensures text { Prints W.contents writer.old writer.new waiting.old waiting.new (flat_map printed (map witness_line witnesses.now)) }
+    ensures text { Prints W.contents writer.old writer.new waiting.old waiting.new
+        (flat_map printed (map witness_line witnesses.now)) }
     ensures fits { AllByRecursion HasCheckLine (map says_witness witnesses.now) }
 {
     for witness in witnesses {
@@ -97,7 +108,8 @@ pub fn put_witnesses<W: Write>(
 
 /// Prints the line of a change, as a certificate has it.
 fn put_witness<W: Write>(writer: &mut Watched<W>, waiting: &mut Waiting, witness: &Witness)
-    ensures text { Prints W.contents writer.old writer.new waiting.old waiting.new (printed (witness_line witness.now)) }
+    ensures text { Prints W.contents writer.old writer.new waiting.old waiting.new
+        (printed (witness_line witness.now)) }
     ensures fits { HasCheckLine (says_witness witness.now) }
 {
     put_bytes_behind(writer, waiting, b"witness ", witness.key.as_slice());
@@ -107,7 +119,8 @@ fn put_witness<W: Write>(writer: &mut Watched<W>, waiting: &mut Waiting, witness
 }
 
 fn put_before<W: Write>(writer: &mut Watched<W>, waiting: &mut Waiting, before: Option<Stamp>)
-    ensures text { Prints W.contents writer.old writer.new waiting.old waiting.new (codes " " ++ before_token before) }
+    ensures text { Prints W.contents writer.old writer.new waiting.old waiting.new
+        (codes " " ++ before_token before) }
     ensures fits { HasBeforeToken before }
 {
     match before {
@@ -125,7 +138,8 @@ fn put_stamp_behind<W: Write>(
     name: &[u8],
     stamp: Stamp,
 )
-    ensures text { Prints W.contents writer.old writer.new waiting.old waiting.new (name.now ++ stamp_text stamp) }
+    ensures text { Prints W.contents writer.old writer.new waiting.old waiting.new
+        (name.now ++ stamp_text stamp) }
     ensures fits { stamp < 2 ^ 64 }
 {
     prove!(stamp.bits() <= u64::MAX);
@@ -139,7 +153,8 @@ fn put_bytes_behind<W: Write>(
     name: &[u8],
     bytes: &[u8],
 )
-    ensures text { Prints W.contents writer.old writer.new waiting.old waiting.new (name.now ++ bytes_token bytes.now) }
+    ensures text { Prints W.contents writer.old writer.new waiting.old waiting.new
+        (name.now ++ bytes_token bytes.now) }
     ensures fits { AreBytes bytes.now }
 {
     put_named_bytes(writer, waiting, name, bytes);

@@ -5,7 +5,12 @@ use Rattle.hlc_certificate.proofs.PrintedLines.{printed_next, fits_next}
 use Rattle.hlc_certificate.proofs.print.put_witnesses.Goals as goal
 
 pub loop-witness-preserved : goal.loop-witness-preserved
-loop-witness-preserved g c = record {
-  text = printed_next witness_line c.args.witnesses.now c.loop-witness.witness-index c.witness-item.result c.loop-witness-test.true c.witness-item.is c.loop-witness.invariant.text c.put_witness.ensures.text;
-  fits = fits_next says_witness c.args.witnesses.now c.loop-witness.witness-index c.witness-item.result c.loop-witness-test.true c.witness-item.is c.loop-witness.invariant.fits c.put_witness.ensures.fits;
-}
+loop-witness-preserved g c =
+    let xs = c.args.witnesses.now in
+    let i = c.loop-witness.witness-index in
+    let x = c.witness-item.result in
+    let within = c.loop-witness-test.true in
+    let so_far = c.loop-witness.invariant in record {
+      text = printed_next witness_line xs i x within c.witness-item.is so_far.text c.put_witness.ensures.text;
+      fits = fits_next says_witness xs i x within c.witness-item.is so_far.fits c.put_witness.ensures.fits;
+    }
