@@ -1,18 +1,15 @@
 -- In the midst of a script: the lines so far are answered by what was printed, and the world stands for a schedule of them.
 use Rattle.std.proofs.Common.{◌≡◌, ℕ, ◌+◌, ◌∙◌, sym, ap, refl, subst, Bool, List, [], ◌∷◌, ◌++◌, length, Option, Some, None, append_assoc, inl, inr, arith, eqb, ◌<◌, ◌≤◌, length-append}
-use Rattle.std.specs.List.{slice_split}
-use Rattle.std.proofs.lemmas.List.Splits.{length-slice_split}
-use Rattle.std.specs.Io.KnownBytes.{Consumes}
 use Rattle.std.specs.Prelude.{◌≢◌}
 use Rattle.hlc_text.specs.Printing.{Printed}
 use Rattle.hlc_text.specs.PrintingLaws.{printed_then, printed_none, append-nil}
 use Rattle.hlc_text.specs.Text.{printed}
+use Rattle.hlc_text.specs.Lines.{lines_of, bad_line}
 use Rattle.hlc_world.specs.declared.event.Event.{Event}
 use Rattle.hlc_world.specs.declared.reply.Reply.{Reply}
 use Rattle.hlc_world.specs.State.{State, world_nodes, StandsFor}
-use Rattle.hlc_script.specs.Line.{event_line, HasLine, lines_of_parts, lines_of, HasHeader, header_line}
-use Rattle.hlc_script.specs.Reply.{reply_text, bad_line}
-use Rattle.hlc_script.specs.Input.{IsInput}
+use Rattle.hlc_script.specs.Line.{event_line, HasLine, HasHeader, header_line}
+use Rattle.hlc_script.specs.Reply.{reply_text}
 use Rattle.hlc_script.specs.Run.{AnswersLine, Answers, AnswersScript}
 
 -- whatever answers the lines that are left completes an answer to all of them
@@ -58,21 +55,6 @@ going_end nodes world text [] number f g a b u v going none =
     (going.so_far ++ [], going.completes [] None (refl, refl), subst (λ (zs : List ℕ). Printed f g a b u v zs) (sym (append-nil going.so_far)) going.wrote)
 going_end nodes world text (x ∷ rest) number f g a b u v going none = absurd (omega (arith, none))
 
--- a line that is cut off is the first line
-pub first_of_lines : (line text rest : List ℕ) → slice_split (λ b. eqb b 10) text ≡ line ∷ slice_split (λ b. eqb b 10) rest → lines_of text ≡ line ∷ lines_of rest
-first_of_lines line text rest e = ap lines_of_parts e ∙ not_last (slice_split (λ b. eqb b 10) rest) (omega (arith, length-slice_split (λ b. eqb b 10) rest))
-  where
-    not_last : (parts : List (List ℕ)) → 0 < length parts → lines_of_parts (line ∷ parts) ≡ line ∷ lines_of_parts parts
-    not_last [] some = absurd (omega arith)
-    not_last (part ∷ parts) some = refl
-
--- what was taken, and then more
-pub taken_more : (before now after : Option (List ℕ)) (taken more : List ℕ) → Consumes before now taken → Consumes now after more → Consumes before after (taken ++ more)
-taken_more None now after taken more first second = tt
-taken_more (Some xs) None after taken more first second = absurd first
-taken_more (Some xs) (Some ys) None taken more first second = absurd second
-taken_more (Some xs) (Some ys) (Some zs) taken more first second = first ∙ ap (λ l. taken ++ l) second ∙ sym (append_assoc taken more zs)
-
 -- a header and the answers behind it
 pub script_answered : (input : List ℕ) (rest : List ℕ) (nodes made : ℕ) (bad : Option ℕ) (f g h : Bool) (a b c : Option (List ℕ)) (u v w : List ℕ) → length input ≤ 16777216 → lines_of input ≡ header_line nodes ∷ lines_of rest → HasHeader nodes → made ≡ nodes → Printed f g a b u v (printed (header_line nodes)) → (output : List ℕ) × Answers made [] 2 (lines_of rest) output bad × Printed g h b c v w output → (output : List ℕ) × ((length input ≤ 16777216) × AnswersScript input output bad) × Printed f h a c u w output
 script_answered input rest nodes made bad f g h a b c u v w fits first has same wrote (output, answers, more) = (
@@ -80,9 +62,3 @@ script_answered input rest nodes made bad f g h a b c u v w fits first has same 
   (fits, (nodes, lines_of rest, output, has, first, refl, subst (λ (n : ℕ). Answers n [] 2 (lines_of rest) output bad) same answers)),
   printed_then wrote more,
 )
-
--- what was taken is the beginning of an input
-pub input_taken : (before after : Option (List ℕ)) (taken : List ℕ) → Consumes before after taken → (input : List ℕ) × IsInput before input × (length taken ≤ length input)
-input_taken None after taken is = (taken, tt, omega arith)
-input_taken (Some xs) None taken is = absurd is
-input_taken (Some xs) (Some ys) taken is = (xs, refl, omega (arith, ap length is, length-append taken ys))

@@ -4,14 +4,13 @@ use Rattle.std.proofs.Common.{◌≡◌, ℕ, ◌+◌, ◌*◌, ◌<◌, ◌^◌
 use Rattle.std.specs.Prelude.{decimal, codes, ◌≢◌}
 use Rattle.std.specs.List.{slice_split}
 use Rattle.std.proofs.lemmas.Fmt.{decimal_injective}
-use Rattle.std.proofs.lemmas.List.Splits.{join_with_byte-slice_split}
 use Rattle.hlc_clock.specs.Stamp.{stamp_text}
-use Rattle.hlc_text.specs.Text.{Reads, bytes_token, AreBytes}
+use Rattle.hlc_text.specs.Text.{bytes_token, AreBytes}
 use Rattle.hlc_text.specs.TokenLaws.{number_is_word, stamp_is_word, bytes_are_word, split_words, no_stamp, one_stamp}
 use Rattle.hlc_text.specs.SpellingLaws.{one_token}
 use Rattle.hlc_world.specs.declared.event.Event.{Event}
 use Rattle.hlc_world.specs.declared.event.Event.TheVariants.{Write, Delete, Report, Send, Receive, Observe, Deliver, OpenAt, OpenFloor, Read, List as ListAll, Close, Floor, Vacuum, Rows}
-use Rattle.hlc_script.specs.Line.{spaced, event_words, event_line, HasLine, header_words, header_line, HasHeader}
+use Rattle.hlc_script.specs.Line.{event_words, event_line, HasLine, header_words, header_line, HasHeader}
 use Rattle.hlc_script.specs.Laws.{OneEvent}
 
 -- the words of an event's line are the event's words
@@ -47,11 +46,6 @@ words_of_line Rows has = split_words (codes "rows") [] (refl, tt)
 -- the words of a header are the header's words
 pub words_of_header : (nodes : ℕ) → HasHeader nodes → slice_split (λ b. eqb b 32) (header_line nodes) ≡ header_words nodes
 words_of_header nodes has = split_words (codes "nodes") (decimal nodes ∷ []) (refl, (number_is_word nodes (omega arith), tt))
-
--- what is read from the words is read from the line
-pub read_from_words : {X : Type 0} (words_of : X → List (List ℕ)) (Fits : X → Type 0) → ((x : X) → Fits x → slice_split (λ b. eqb b 32) (spaced (words_of x)) ≡ words_of x) → (line : List ℕ) (words : List (List ℕ)) (read : Option X) → words ≡ slice_split (λ b. eqb b 32) line → Reads words_of Fits words read → Reads (λ x. spaced (words_of x)) Fits line read
-read_from_words words_of Fits law line words (Some x) is found = (found.0, sym (join_with_byte-slice_split 32 line) ∙ ap spaced (sym is ∙ found.1))
-read_from_words words_of Fits law line words None is none = λ x fits spelled. none x fits (is ∙ ap (slice_split (λ b. eqb b 32)) spelled ∙ law x fits)
 
 -- a number that no two kinds of events share, of the first word
 abbrev mark : List (List ℕ) → ℕ

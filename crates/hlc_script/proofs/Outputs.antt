@@ -3,6 +3,7 @@ use Rattle.std.proofs.Common.{◌≡◌, ℕ, ◌+◌, ◌∙◌, sym, ap, refl,
 use Rattle.std.specs.Prelude.{codes, ◌≢◌}
 use Rattle.std.specs.List.{flat_map}
 use Rattle.hlc_text.specs.Text.{printed}
+use Rattle.hlc_text.specs.Lines.{lines_of}
 use Rattle.hlc_clock.specs.declared.clock.ClockFault.{ClockFault}
 use Rattle.hlc_node.specs.declared.item.Item.{Item}
 use Rattle.hlc_node.specs.declared.item.Message.{Message}
@@ -26,7 +27,7 @@ use Rattle.hlc_world.specs.Store.{accepting, told, joined, core_past}
 use Rattle.hlc_world.specs.Due.{refusal_due, IsReceived, IsObserved, IsOwed, IsDueReply, IsGiven}
 use Rattle.hlc_script.specs.declared.run.RunEnd.{RunEnd}
 use Rattle.hlc_script.specs.declared.run.RunEnd.TheVariants.{Answered, BadLine, BadHeader, NotHeld, NoMemory, ReadFault, TooLong, WriteFault}
-use Rattle.hlc_script.specs.Line.{lines_of, HasHeader, header_line}
+use Rattle.hlc_script.specs.Line.{HasHeader, header_line}
 use Rattle.hlc_script.specs.Reply.{reply_lines, reply_text}
 use Rattle.hlc_script.specs.Run.{AnswersLine, Answers, AnswersScript}
 use Rattle.hlc_script.specs.Laws.{TellsNoMemory, OneOutput}

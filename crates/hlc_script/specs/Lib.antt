@@ -1,10 +1,5 @@
 pub mod Line
 pub mod Spelled
 pub mod Reply
-pub mod Input
 pub mod Run
 pub mod Laws
-pub mod CheckLine
-pub mod CheckLists
-pub mod Check
-pub mod CheckLaws

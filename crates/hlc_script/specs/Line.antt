@@ -1,14 +1,10 @@
 -- The lines of a script, and the events that they spell.
-use Rattle.std.specs.Prelude.{ℕ, ◌<◌, ◌≤◌, ◌^◌, ◌==◌, List, [], ◌∷◌, length, codes, decimal, if◌then◌else◌, ⊤}
-use Rattle.std.specs.List.{slice_split, join_with_byte}
+use Rattle.std.specs.Prelude.{ℕ, ◌<◌, ◌≤◌, ◌^◌, List, [], ◌∷◌, codes, decimal, ⊤}
 use Rattle.hlc_clock.specs.Stamp.{stamp_text}
 use Rattle.hlc_text.specs.Text.{bytes_token, AreBytes}
+use Rattle.hlc_text.specs.Lines.{spaced}
 use Rattle.hlc_world.specs.declared.event.Event.{Event}
 use Rattle.hlc_world.specs.declared.event.Event.TheVariants.{Write, Delete, Report, Send, Receive, Observe, Deliver, OpenAt, OpenFloor, Read, List as ListAll, Close, Floor, Vacuum, Rows}
-
--- words with one space between each two
-abbrev pub spaced : List (List ℕ) → List ℕ
-spaced words = join_with_byte 32 words
 
 -- the words of an event
 abbrev pub event_words : Event → List (List ℕ)
@@ -68,13 +64,3 @@ header_line nodes = spaced (header_words nodes)
 -- a script is of 1 to 64 nodes
 abbrev pub HasHeader : ℕ → Type 0
 HasHeader nodes = (0 < nodes) × (nodes ≤ 64)
-
--- the parts between line feeds, without an empty last one
-abbrev pub lines_of_parts : List (List ℕ) → List (List ℕ)
-lines_of_parts [] = []
-lines_of_parts (line ∷ []) = if length line == 0 then [] else line ∷ []
-lines_of_parts (line ∷ next ∷ lines) = line ∷ lines_of_parts (next ∷ lines)
-
--- the lines of a text: a line feed ends each, and the last one may lack it
-abbrev pub lines_of : List ℕ → List (List ℕ)
-lines_of text = lines_of_parts (slice_split (λ byte. byte == 10) text)

@@ -4,13 +4,12 @@ use Rattle.std.specs.List.{flat_map}
 use Rattle.hlc_clock.specs.Stamp.{stamp_text}
 use Rattle.hlc_text.specs.Text.{bytes_token, printed}
 use Rattle.hlc_core.specs.declared.listing.Pair.{Pair}
-use Rattle.hlc_witness.specs.declared.witness.Witness.{Witness}
 use Rattle.hlc_vacuum.specs.declared.report.Report.{Report}
 use Rattle.hlc_world.specs.declared.reply.Reply.{Reply}
 use Rattle.hlc_world.specs.declared.reply.Reply.TheVariants.{Stamped, Sent, Received, Observed, Accepted, Snapshot, Answer, Listing, Closed, Floor, Vacuumed, Rows, Refused}
 use Rattle.hlc_world.specs.declared.refusal.Refusal.{Refusal}
 use Rattle.hlc_world.specs.declared.refusal.Refusal.TheVariants.{NoNode, ReadingTooLarge, CounterFull, NoMessage, NoItem, NotNext, StampNotRising, AboveFloor, BelowHorizon, NoSnapshot, TooManySnapshots, BadKey, ValueTooLong, NumbersSpent, NoMemory}
-use Rattle.hlc_script.specs.CheckLine.{check_line, says_witness}
+use Rattle.hlc_certificate.specs.CertificateText.{witness_line}
 
 -- a refusal's number, and what it tells behind it
 abbrev pub refusal_line : Refusal → List ℕ
@@ -44,10 +43,6 @@ abbrev pub report_line : Report → List ℕ
 report_line report =
     (codes "vacuum " ++ stamp_text report.floor) ++ ((codes " kept " ++ decimal report.kept) ++ (codes " dropped " ++ decimal report.dropped))
 
--- the line of a change, as a certificate has it
-abbrev pub witness_line : Witness → List ℕ
-witness_line witness = check_line (says_witness witness)
-
 -- the first line of a reply
 abbrev pub reply_line : Reply → List ℕ
 reply_line (Stamped stamp item) = (codes "stamp " ++ stamp_text stamp) ++ (codes " item " ++ decimal item)
@@ -63,10 +58,6 @@ reply_line (Floor stamp) = codes "floor " ++ stamp_text stamp
 reply_line (Vacuumed report) = report_line report
 reply_line (Rows count) = codes "rows " ++ decimal count
 reply_line (Refused refusal) = refusal_line refusal
-
--- the line that refuses the line of this number
-abbrev pub bad_line : ℕ → List ℕ
-bad_line number = codes "refused 16 line " ++ decimal number
 
 -- the lines behind it: those of a listing's pairs, or of a vacuum's changes
 abbrev pub more_lines : Reply → List (List ℕ)

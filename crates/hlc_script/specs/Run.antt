@@ -5,6 +5,8 @@ use Rattle.hlc_text.specs.declared.watched.Watched.{Watched}
 use Rattle.hlc_text.specs.Watched.{inner_of, has_failed}
 use Rattle.hlc_text.specs.Printing.{Writes}
 use Rattle.hlc_text.specs.Text.{printed}
+use Rattle.hlc_text.specs.Lines.{lines_of, bad_line}
+use Rattle.hlc_text.specs.Input.{IsInput}
 use Rattle.hlc_world.specs.declared.event.Event.{Event}
 use Rattle.hlc_world.specs.declared.reply.Reply.{Reply}
 use Rattle.hlc_world.specs.declared.reply.Reply.TheVariants.{Refused}
@@ -12,9 +14,8 @@ use Rattle.hlc_world.specs.declared.refusal.Refusal.TheVariants.{NoMemory as no_
 use Rattle.hlc_world.specs.Due.{IsGiven}
 use Rattle.hlc_script.specs.declared.run.RunEnd.{RunEnd}
 use Rattle.hlc_script.specs.declared.run.RunEnd.TheVariants.{Answered, BadLine, BadHeader, NotHeld, NoMemory, ReadFault, TooLong, WriteFault}
-use Rattle.hlc_script.specs.Input.{IsInput}
-use Rattle.hlc_script.specs.Line.{event_line, HasLine, BearsBytes, header_line, HasHeader, lines_of}
-use Rattle.hlc_script.specs.Reply.{reply_text, bad_line}
+use Rattle.hlc_script.specs.Line.{event_line, HasLine, BearsBytes, header_line, HasHeader}
+use Rattle.hlc_script.specs.Reply.{reply_text}
 
 -- A good line was answered, and the schedule came to be `after`. Its event got the reply that a world gives; or there was no
 -- memory for the event's bytes, and it did not take place.

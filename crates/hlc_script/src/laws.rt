@@ -1,5 +1,4 @@
-//! What holds of every script and every certificate. A law that calls another follows from it.
-ghost use Rattle.hlc_script.specs.CheckLaws.{OneAnswer, OneCertificate};
+//! What holds of every script. A law that calls another follows from it.
 ghost use Rattle.hlc_script.specs.Laws.{OneEvent, OneOutput};
 
 use hlc_core::there_is_one_report;
@@ -16,15 +15,3 @@ pub fn one_output_for_an_input()
 {
     there_is_one_report();
 }
-
-/// Lines say one list of points, one of rows and one of witnesses, so whether they show that the
-/// rows are the fewest is a question of the input alone.
-pub fn one_certificate_for_lines()
-    ensures { OneCertificate }
-{}
-
-/// What may be answered for an input is one line, and the check ends in one way, where no end tells
-/// of want of memory and no read failed.
-pub fn one_answer_for_an_input()
-    ensures { OneAnswer }
-{}

@@ -3,13 +3,13 @@ ghost use Rattle.std.specs.Prelude.{map, ◌++◌, codes};
 ghost use Rattle.std.specs.List.{flat_map};
 ghost use Rattle.hlc_text.specs.Printing.{Prints};
 ghost use Rattle.hlc_text.specs.Text.{printed};
-ghost use Rattle.hlc_script.specs.CheckLine.{before_token};
-ghost use Rattle.hlc_script.specs.Reply.{reply_line, more_lines, pair_line, witness_line, report_line, reply_text, refusal_line, answer_line};
+ghost use Rattle.hlc_script.specs.Reply.{reply_line, more_lines, pair_line, report_line, reply_text, refusal_line, answer_line};
 
+use hlc_certificate::put_witnesses;
 use hlc_text::print::{put, put_named_bytes, put_named_count, put_named_number, put_named_stamp};
 use hlc_text::waiting::Waiting;
 use hlc_text::watched::Watched;
-use hlc_world::{Bytes, Pair, Refusal, Reply, Report, Stamp, Witness};
+use hlc_world::{Bytes, Pair, Refusal, Reply, Report};
 use std::io::Write;
 
 /// Prints the lines of a reply: one, and behind that of a listing one for each pair, behind that of
@@ -47,33 +47,6 @@ fn put_pair<W: Write>(writer: &mut Watched<W>, waiting: &mut Waiting, pair: &Pai
     put_named_bytes(writer, waiting, b"row ", pair.key.as_slice());
     put_named_bytes(writer, waiting, b" ", pair.value.as_slice());
     put(writer, waiting, b"\n");
-}
-
-fn put_witnesses<W: Write>(writer: &mut Watched<W>, waiting: &mut Waiting, witnesses: &[Witness])
-    ensures { Prints W.contents writer.old writer.new waiting.old waiting.new (flat_map printed (map witness_line witnesses.now)) }
-{
-    for witness in witnesses {
-        put_witness(writer, waiting, witness);
-    }
-}
-
-/// Prints the line of a change, as a certificate has it.
-fn put_witness<W: Write>(writer: &mut Watched<W>, waiting: &mut Waiting, witness: &Witness)
-    ensures { Prints W.contents writer.old writer.new waiting.old waiting.new (printed (witness_line witness.now)) }
-{
-    put_named_bytes(writer, waiting, b"witness ", witness.key.as_slice());
-    put_before(writer, waiting, witness.before);
-    put_named_stamp(writer, waiting, b" ", witness.at);
-    put(writer, waiting, b"\n");
-}
-
-fn put_before<W: Write>(writer: &mut Watched<W>, waiting: &mut Waiting, before: Option<Stamp>)
-    ensures { Prints W.contents writer.old writer.new waiting.old waiting.new (codes " " ++ before_token before) }
-{
-    match before {
-        None => put(writer, waiting, b" none"),
-        Some(stamp) => put_named_stamp(writer, waiting, b" ", stamp),
-    }
 }
 
 fn put_reply_text<W: Write>(writer: &mut Watched<W>, waiting: &mut Waiting, reply: &Reply)

@@ -8,9 +8,9 @@ use Rattle.hlc_words.specs.declared.words.Words.{Words}
 use Rattle.hlc_words.specs.declared.words.Words.TheVariants.{Run, Check, Storm}
 use Rattle.hlc_words.specs.Words.{words_of}
 use Rattle.hlc_script.specs.declared.run.RunEnd.{RunEnd}
-use Rattle.hlc_script.specs.declared.check.CheckEnd.{CheckEnd}
+use Rattle.hlc_certificate.specs.declared.check.CheckEnd.{CheckEnd}
 use Rattle.hlc_script.specs.Run.{RunsScript, status_of}
-use Rattle.hlc_script.specs.Check.{RunsCheck, check_status}
+use Rattle.hlc_certificate.specs.Check.{RunsCheck, check_status}
 use Rattle.hlc_storm.specs.declared.report.StormReport.{StormReport}
 use Rattle.hlc_storm.specs.declared.report.StormFault.{StormFault}
 use Rattle.hlc_storm.specs.Found.{MayTell}

@@ -7,7 +7,8 @@ ghost use Rattle.hlc_text.specs.Printing.{Writes};
 ghost use Rattle.hlc_words.specs.Words.{bytes_of};
 ghost use Rattle.hlcstore.specs.Program.{Asks, Does};
 
-use hlc_script::{run_check, run_script};
+use hlc_certificate::run_check;
+use hlc_script::run_script;
 use hlc_storm::{print_storm, storm};
 use hlc_text::print::{finish, put};
 use hlc_text::waiting::Waiting;

@@ -1,7 +1,8 @@
 use Rattle.std.specs.Option.{option_map}
 use Rattle.hlc_script.specs.Line.{event_words, HasLine}
 use Rattle.hlc_script.specs.Spelled.{event_of}
-use Rattle.hlc_script.proofs.Lines.{read_from_words, words_of_line}
+use Rattle.hlc_text.specs.LineLaws.{read_from_words}
+use Rattle.hlc_script.proofs.Lines.{words_of_line}
 use Rattle.hlc_script.proofs.line.read_line.Goals as goal
 
 pub returns : goal.returns

@@ -1,6 +1,6 @@
 -- An input that is held was taken whole. Of one that is not held, what was taken is a beginning, whose length tells why.
 use Rattle.std.proofs.Common.{refl, arith}
-use Rattle.hlc_script.proofs.Going.{input_taken}
+use Rattle.hlc_text.specs.LineLaws.{input_taken}
 use Rattle.hlc_script.proofs.Taken.{run_takes_all}
 use Rattle.hlc_script.proofs.run.read_and_answer.Goals as goal
 

@@ -1,5 +1,6 @@
 use Rattle.hlc_script.specs.Line.{header_words, HasHeader}
-use Rattle.hlc_script.proofs.Lines.{read_from_words, words_of_header}
+use Rattle.hlc_text.specs.LineLaws.{read_from_words}
+use Rattle.hlc_script.proofs.Lines.{words_of_header}
 use Rattle.hlc_script.proofs.run.read_header.Goals as goal
 
 pub returns : goal.returns

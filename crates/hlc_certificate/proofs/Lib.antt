@@ -1,0 +1,7 @@
+pub mod Taken
+pub mod CheckLines
+pub mod CheckGoing
+pub mod OneCertificate
+pub mod OneAnswer
+pub mod PrintedLines
+pub mod PrintedAnswer

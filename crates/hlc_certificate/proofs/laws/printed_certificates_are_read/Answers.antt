@@ -1,0 +1,6 @@
+-- No line holds a line feed, so the text is parted into the lines that were printed.
+use Rattle.hlc_certificate.proofs.PrintedAnswer.{printed_is_read}
+use Rattle.hlc_certificate.proofs.laws.printed_certificates_are_read.Goals as goal
+
+pub returns : goal.returns
+returns c = printed_is_read

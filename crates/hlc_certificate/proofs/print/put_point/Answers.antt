@@ -1,0 +1,6 @@
+-- The words and the stamp are printed, and then the line feed.
+use Rattle.hlc_text.specs.PrintingLaws.{printed_then}
+use Rattle.hlc_certificate.proofs.print.put_point.Goals as goal
+
+pub returns-clause-text : goal.returns-clause-text
+returns-clause-text g c = printed_then c.put_stamp_behind.ensures.text c.put.ensures

@@ -1,0 +1,16 @@
+-- One line more is printed, of what has one.
+use Rattle.hlc_certificate.specs.CheckLine.{says_witness}
+use Rattle.hlc_certificate.specs.CertificateText.{witness_line}
+use Rattle.hlc_certificate.proofs.PrintedLines.{printed_next, fits_next}
+use Rattle.hlc_certificate.proofs.print.put_witnesses.Goals as goal
+
+pub loop-witness-preserved : goal.loop-witness-preserved
+loop-witness-preserved g c =
+    let xs = c.args.witnesses.now in
+    let i = c.loop-witness.witness-index in
+    let x = c.witness-item.result in
+    let within = c.loop-witness-test.true in
+    let so_far = c.loop-witness.invariant in record {
+      text = printed_next witness_line xs i x within c.witness-item.is so_far.text c.put_witness.ensures.text;
+      fits = fits_next says_witness xs i x within c.witness-item.is so_far.fits c.put_witness.ensures.fits;
+    }

@@ -1,0 +1,125 @@
+-- What a check may answer for an input, and how it ends.
+use Rattle.std.specs.Prelude.{◌≡◌, ◌↔◌, ℕ, ◌<◌, ◌≤◌, List, [], ◌++◌, length, codes, decimal, Option, true, false, ⊤}
+use Rattle.std.specs.Io.KnownBytes.{Consumes}
+use Rattle.hlc_text.specs.declared.watched.Watched.{Watched}
+use Rattle.hlc_text.specs.Watched.{inner_of, has_failed}
+use Rattle.hlc_text.specs.Printing.{Writes}
+use Rattle.hlc_text.specs.Text.{printed}
+use Rattle.hlc_node.specs.declared.row.Row.{Row as ARow}
+use Rattle.hlc_witness.specs.declared.witness.Witness.{Witness as AWitness}
+use Rattle.hlc_witness.specs.declared.reason.NotShown.{NotShown as AReason}
+use Rattle.hlc_witness.specs.declared.reason.NotShown.TheVariants.{PointsNotAscending, RowsNotAscending, RowAboveLastPoint, WitnessNotAscending, NotAtPoint, SameAnswers, CountsDiffer}
+use Rattle.hlc_witness.specs.Fewest.{Fewest as AreFewest}
+use Rattle.hlc_witness.specs.Certificate.{IsCertificate}
+use Rattle.hlc_witness.specs.Reasons.{IsFirstReason}
+use Rattle.hlc_certificate.specs.declared.check.CheckEnd.{CheckEnd}
+use Rattle.hlc_certificate.specs.declared.check.CheckEnd.TheVariants.{Fewest, NotShown, BadLine, NotHeld, NoMemory, ReadFault, TooLong, WriteFault}
+use Rattle.hlc_text.specs.Input.{IsInput}
+use Rattle.hlc_text.specs.Lines.{lines_of}
+use Rattle.hlc_certificate.specs.CheckLine.{AreLinesOf, AreGood, IsFirstBad}
+use Rattle.hlc_text.specs.Lines.{bad_line}
+
+-- the rows of a certificate are the fewest of all that answer as they do at its points
+pub record ShowsFewest (lines : List (List ℕ)) (count : ℕ) : Type 0 where
+  pub points : List ℕ
+  pub rows : List ARow
+  pub witnesses : List AWitness
+  pub lines_are : AreLinesOf points rows witnesses lines
+  pub certificate : IsCertificate rows points witnesses
+  pub fewest : AreFewest rows rows points
+  pub count_is : count ≡ length rows
+
+-- the lines are no certificate, and this is the first reason that holds
+pub record ShowsReason (lines : List (List ℕ)) (reason : AReason) : Type 0 where
+  pub points : List ℕ
+  pub rows : List ARow
+  pub witnesses : List AWitness
+  pub lines_are : AreLinesOf points rows witnesses lines
+  pub refused : IsCertificate rows points witnesses → ⊥
+  pub first : IsFirstReason rows points witnesses reason
+
+-- what may be the end for an input: a bad line comes before all that the lines say, and also where there is no memory for that
+abbrev pub MayAnswer : List ℕ → CheckEnd → Type 0
+MayAnswer input (Fewest count) = (length input ≤ 16777216) × ShowsFewest (lines_of input) count
+MayAnswer input (NotShown reason) = (length input ≤ 16777216) × ShowsReason (lines_of input) reason
+MayAnswer input (BadLine number) = (length input ≤ 16777216) × IsFirstBad (lines_of input) number
+-- memory is asked for only where there is a byte to hold
+MayAnswer input NotHeld = 0 < length input
+MayAnswer input NoMemory = (length input ≤ 16777216) × (0 < length (lines_of input)) × AreGood (lines_of input)
+MayAnswer input ReadFault = ⊤
+MayAnswer input TooLong = 16777216 < length input
+-- a failed write is no answer: it cuts that off
+MayAnswer input WriteFault = ⊥
+
+-- the input was read whole and held, and then it came to this end
+abbrev pub IsOfHeld : CheckEnd → Type 0
+IsOfHeld (Fewest count) = ⊤
+IsOfHeld (NotShown reason) = ⊤
+IsOfHeld (BadLine number) = ⊤
+IsOfHeld NoMemory = ⊤
+IsOfHeld NotHeld = ⊥
+IsOfHeld ReadFault = ⊥
+IsOfHeld TooLong = ⊥
+IsOfHeld WriteFault = ⊥
+
+-- What may have been taken from the reader when a check came to its end, as of a run.
+abbrev pub MayTake : List ℕ → List ℕ → CheckEnd → Type 0
+MayTake input taken NotHeld = (0 < length taken) × (length taken ≤ 16777216)
+MayTake input taken ReadFault = length taken ≤ 16777216
+MayTake input taken TooLong = 16777216 < length taken
+MayTake input taken (Fewest count) = taken ≡ input
+MayTake input taken (NotShown reason) = taken ≡ input
+MayTake input taken (BadLine number) = taken ≡ input
+MayTake input taken NoMemory = taken ≡ input
+MayTake input taken WriteFault = ⊥
+
+-- the number of a reason
+abbrev pub reason_number : AReason → ℕ
+reason_number PointsNotAscending = 1
+reason_number RowsNotAscending = 2
+reason_number RowAboveLastPoint = 3
+reason_number WitnessNotAscending = 4
+reason_number NotAtPoint = 5
+reason_number SameAnswers = 6
+reason_number CountsDiffer = 7
+
+-- the one line of an end; a failed write prints nothing more
+abbrev pub answer_output : CheckEnd → List ℕ
+answer_output (Fewest count) = printed (codes "fewest " ++ decimal count)
+answer_output (NotShown reason) = printed (codes "refused 22 reason " ++ decimal (reason_number reason))
+answer_output (BadLine number) = printed (bad_line number)
+answer_output NotHeld = printed (codes "refused 15")
+answer_output NoMemory = printed (codes "refused 15")
+answer_output ReadFault = printed (codes "refused 18")
+answer_output TooLong = printed (codes "refused 20")
+answer_output WriteFault = []
+
+-- A certificate was read and answered: there are an input, and an end that it may have, whose line was printed.
+-- `remaining` and `contents` tell what the reader has left and what the writer holds, where that is known.
+pub record RunsCheck {R W : Type 0} (remaining : R → Option (List ℕ)) (contents : W → Option (List ℕ))
+    (reader reader_after : Watched R) (writer writer_after : Watched W) (result : CheckEnd) : Type 0 where
+  pub input : List ℕ
+  pub taken : List ℕ
+  pub end : CheckEnd
+  -- the input is what the reader had left, and some of it was taken
+  pub is_input : IsInput (remaining (inner_of reader)) input
+  pub consumed : Consumes (remaining (inner_of reader)) (remaining (inner_of reader_after)) taken
+  pub may_take : MayTake input taken end
+  pub may_answer : MayAnswer input end
+  -- the end's line was written, or a beginning of it where the writer failed
+  pub wrote : Writes contents writer writer_after (answer_output end)
+  pub read_fault : (end ≡ ReadFault) ↔ (has_failed reader_after ≡ true)
+  -- a failed write cuts the end off
+  pub end_is : has_failed writer_after ≡ false → result ≡ end
+  pub write_fault : (result ≡ WriteFault) ↔ (has_failed writer_after ≡ true)
+
+-- the exit status
+abbrev pub check_status : CheckEnd → ℕ
+check_status (Fewest count) = 0
+check_status (NotShown reason) = 2
+check_status (BadLine number) = 2
+check_status NotHeld = 2
+check_status NoMemory = 2
+check_status ReadFault = 2
+check_status TooLong = 2
+check_status WriteFault = 3

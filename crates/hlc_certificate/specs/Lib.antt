@@ -1,0 +1,5 @@
+pub mod CheckLine
+pub mod CheckLists
+pub mod CertificateText
+pub mod Check
+pub mod CheckLaws

@@ -1,0 +1,128 @@
+//! The points, rows and witnesses that an input hands in.
+ghost use Rattle.std.specs.Prelude.{◌≡◌, ◌≤◌, [], length, IfOk, IfErr, IfSome, OnOk, IsSomeAnd};
+ghost use Rattle.hlc_text.specs.Text.{Reads};
+ghost use Rattle.hlc_text.specs.Lines.{lines_of};
+ghost use Rattle.hlc_certificate.specs.CheckLine.{check_line, HasCheckLine, section_of, AreLinesOf};
+ghost use Rattle.hlc_certificate.specs.CheckLists.{Holds, AddsLine, IsNoCertificate};
+
+use crate::check_line::{CheckLine, read_check_line};
+use hlc_clock::Stamp;
+use hlc_node::{Bytes, Row};
+use hlc_text::bytes::Spelled;
+use hlc_text::input::first_line;
+use hlc_witness::Witness;
+use std::alloc::{AllocError, Global};
+
+/// What the lines of an input say, in their order.
+#[derive(Drop)]
+pub(crate) struct Certificate {
+    pub(crate) points: Vec<Stamp>,
+    pub(crate) rows: Vec<Row>,
+    pub(crate) witnesses: Vec<Witness>,
+}
+
+/// Why an input hands in no lists.
+#[derive(Clone, Copy, Debug, PartialEq, Eq)]
+pub(crate) enum NoCertificate {
+    /// The line of this number is the first bad one.
+    BadLine(u64),
+    /// No line is bad, and the lists could not be made.
+    NoMemory,
+}
+
+impl Certificate {
+    /// No line says anything yet.
+    fn new(alloc: Global) -> Certificate
+        ensures { Holds result [] [] [] }
+    {
+        Certificate {
+            points: Vec::new(alloc),
+            rows: Vec::new(alloc),
+            witnesses: Vec::new(alloc),
+        }
+    }
+
+    /// Adds what a line says, with its bytes in memory of their own.
+    fn add(&mut self, alloc: Global, line: &CheckLine<'_>) -> Result<(), AllocError>
+        ensures { OnOk result (AddsLine self.old self.new line.now) }
+    {
+        match line {
+            CheckLine::Point(stamp) => self.points.push(*stamp)?,
+            CheckLine::Row {
+                key,
+                stamp,
+                node,
+                value,
+            } => self.rows.push(Row {
+                key: Bytes::from_vec(key.to_vec(alloc)?),
+                stamp: *stamp,
+                node: *node,
+                value: to_value(alloc, value)?,
+            })?,
+            CheckLine::Witness { key, before, at } => self.witnesses.push(Witness {
+                key: Bytes::from_vec(key.to_vec(alloc)?),
+                before: *before,
+                at: *at,
+            })?,
+        }
+        Ok(())
+    }
+}
+
+/// The value, in memory of its own.
+fn to_value(alloc: Global, value: &Option<Spelled<'_>>) -> Result<Option<Bytes>, AllocError>
+    ensures { IfOk result (λ copy. copy ≡ value.now) }
+{
+    match value {
+        None => Ok(None),
+        Some(bytes) => Ok(Some(Bytes::from_vec(bytes.to_vec(alloc)?))),
+    }
+}
+
+/// What the lines say, or why not. A bad line is found also where memory was refused before it.
+pub(crate) fn read_certificate(alloc: Global, text: &[u8]) -> Result<Certificate, NoCertificate>
+    requires { length text.now ≤ 16777216 }
+    ensures ok { IfOk result (λ certificate. AreLinesOf certificate.points.items certificate.rows.items certificate.witnesses.items (lines_of text.now)) }
+    ensures err { IfErr result (IsNoCertificate (lines_of text.now)) }
+{
+    let mut kept = Some(Certificate::new(alloc));
+    let mut rest = text;
+    let mut number = 1u64;
+    let mut section = 0u8;
+    while !rest.is_empty() {
+        let (line, after) = first_line(rest);
+        let Some(says) = read_from(section, line) else {
+            return Err(NoCertificate::BadLine(number));
+        };
+        kept = with_line(alloc, kept, &says);
+        section = says.section();
+        rest = after;
+        number += 1;
+    }
+    match kept {
+        Some(certificate) => Ok(certificate),
+        None => Err(NoCertificate::NoMemory),
+    }
+}
+
+/// What a line says, or none where it is no line of this section or a later one.
+fn read_from(section: u8, line: &[u8]) -> Option<CheckLine<'_>>
+    ensures { Reads check_line (λ says. HasCheckLine says × (section ≤ section_of says)) line.now result }
+{
+    let says = read_check_line(line)?;
+    if says.section() < section {
+        return None;
+    }
+    Some(says)
+}
+
+/// The lists with what one line more says, or none where memory was refused for it or before.
+fn with_line(alloc: Global, kept: Option<Certificate>, line: &CheckLine<'_>) -> Option<Certificate>
+    ensures { IfSome result (λ new. IsSomeAnd kept (λ old. AddsLine old new line.now)) }
+{
+    let mut certificate = kept?;
+    match certificate.add(alloc, line) {
+        Ok(()) => Some(certificate),
+        Err(_) => None,
+    }
+}

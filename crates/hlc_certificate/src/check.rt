@@ -1,0 +1,169 @@
+//! A whole check: the bytes of a certificate in, one line out.
+ghost use Rattle.std.specs.Prelude.{◌≡◌, ◌≤◌, ◌↔◌, ◌++◌, ℕ, List, false, true, length, decimal};
+ghost use Rattle.std.specs.Io.KnownBytes.{Consumes};
+ghost use Rattle.std.proofs.Common.{rules};
+ghost use Rattle.std.proofs.lemmas.Grind.{common_steps};
+ghost use Rattle.hlc_text.specs.Watched.{inner_of, has_failed};
+ghost use Rattle.hlc_text.specs.Printing.{Prints};
+ghost use Rattle.hlc_text.specs.Text.{printed};
+ghost use Rattle.hlc_text.specs.Input.{IsInput};
+ghost use Rattle.hlc_certificate.specs.Check.{MayAnswer, MayTake, IsOfHeld, RunsCheck};
+ghost use Rattle.hlc_certificate.specs.Check.{answer_output, reason_number, check_status};
+
+use crate::certificate::{NoCertificate, read_certificate};
+use hlc_text::input::{InputFault, read_input};
+use hlc_text::print::{finish, put, put_named_number};
+use hlc_text::waiting::Waiting;
+use hlc_text::watched::Watched;
+use hlc_values::Exact;
+use hlc_witness::{NotShown, check};
+use std::alloc::Global;
+use std::io::{Read, Write};
+
+/// How a check ended.
+#[derive(Clone, Copy, Debug, PartialEq, Eq)]
+pub enum CheckEnd {
+    /// The rows, so many, are the fewest that answer as they do at the points.
+    Fewest(u64),
+    /// The witnesses do not show it.
+    NotShown(NotShown),
+    /// The line of this number is the first bad one. The first line has number 1.
+    BadLine(u64),
+    /// The input could not be held.
+    NotHeld,
+    /// No line is bad, and the points, rows and witnesses could not be held.
+    NoMemory,
+    /// A read failed.
+    ReadFault,
+    /// The input has more than 16,777,216 bytes.
+    TooLong,
+    /// A write failed.
+    WriteFault,
+}
+
+impl Exact for CheckEnd {
+    ghost equal = { Prim.search (rules, common_steps) };
+
+    ghost copied = { Prim.search rules };
+}
+
+impl CheckEnd {
+    /// The exit status of the program: 0 where the rows are the fewest, 3 where a write failed,
+    /// else 2.
+    pub fn status(self) -> u8
+        ensures { result ≡ check_status self }
+    {
+        match self {
+            CheckEnd::Fewest(_) => 0,
+            CheckEnd::WriteFault => 3,
+            _ => 2,
+        }
+    }
+}
+
+/// Reads a whole certificate, and then writes one line: whether its rows are shown to be the fewest.
+/// Bad lines are found before the certificate is looked at.
+pub fn run_check<R: Read, W: Write>(
+    alloc: Global,
+    reader: &mut Watched<R>,
+    writer: &mut Watched<W>,
+) -> CheckEnd
+    requires reader_well { has_failed reader.old ≡ false }
+    requires writer_well { has_failed writer.old ≡ false }
+    ensures { RunsCheck R.remaining W.contents reader.old reader.new writer.old writer.new result }
+{
+    let end = check_reader(alloc, reader);
+    let mut waiting = Waiting::new();
+    put_end(writer, &mut waiting, end);
+    finish(writer, &mut waiting);
+    if writer.failed() {
+        CheckEnd::WriteFault
+    } else {
+        end
+    }
+}
+
+/// Checks all that the reader has left.
+fn check_reader<R: Read>(alloc: Global, reader: &mut Watched<R>) -> CheckEnd
+    requires { has_failed reader.old ≡ false }
+    ensures answer { (input : List ℕ) × (taken : List ℕ)
+        × IsInput (R.remaining (inner_of reader.old)) input
+        × Consumes (R.remaining (inner_of reader.old)) (R.remaining (inner_of reader.new)) taken
+        × MayTake input taken result × MayAnswer input result }
+    ensures read_fault { (result ≡ CheckEnd.ReadFault) ↔ (has_failed reader.new ≡ true) }
+{
+    match read_input(alloc, reader) {
+        Ok(input) => check_input(alloc, input.as_slice()),
+        Err(InputFault::NoMemory) => CheckEnd::NotHeld,
+        Err(InputFault::ReadFault) => CheckEnd::ReadFault,
+        Err(InputFault::TooLong) => CheckEnd::TooLong,
+    }
+}
+
+/// Checks an input that is held, as `run_check` does once it has read one. The first bad line is
+/// looked for to the end, so want of memory before it never hides it.
+pub fn check_input(alloc: Global, input: &[u8]) -> CheckEnd
+    requires { length input.now ≤ 16777216 }
+    ensures held { IsOfHeld result }
+    ensures answer { MayAnswer input.now result }
+{
+    let certificate = match read_certificate(alloc, input) {
+        Ok(certificate) => certificate,
+        Err(NoCertificate::BadLine(number)) => return CheckEnd::BadLine(number),
+        Err(NoCertificate::NoMemory) => return CheckEnd::NoMemory,
+    };
+    let rows = certificate.rows.as_slice();
+    let points = certificate.points.as_slice();
+    match check(rows, points, certificate.witnesses.as_slice()) {
+        Ok(shown) => CheckEnd::Fewest(shown.count()),
+        Err(reason) => CheckEnd::NotShown(reason),
+    }
+}
+
+/// Prints the line of an end.
+fn put_end<W: Write>(writer: &mut Watched<W>, waiting: &mut Waiting, end: CheckEnd)
+    ensures { Prints W.contents writer.old writer.new waiting.old waiting.new (answer_output end) }
+{
+    match end {
+        CheckEnd::Fewest(count) => put_number_line(writer, waiting, b"fewest ", count),
+        CheckEnd::NotShown(reason) => {
+            put_number_line(writer, waiting, b"refused 22 reason ", number_of(reason))
+        }
+        CheckEnd::BadLine(number) => {
+            put_number_line(writer, waiting, b"refused 16 line ", number)
+        }
+        CheckEnd::NotHeld => put(writer, waiting, b"refused 15\n"),
+        CheckEnd::NoMemory => put(writer, waiting, b"refused 15\n"),
+        CheckEnd::ReadFault => put(writer, waiting, b"refused 18\n"),
+        CheckEnd::TooLong => put(writer, waiting, b"refused 20\n"),
+        CheckEnd::WriteFault => {}
+    }
+}
+
+/// Prints a line of some words and a number.
+fn put_number_line<W: Write>(
+    writer: &mut Watched<W>,
+    waiting: &mut Waiting,
+    name: &[u8],
+    number: u64,
+)
+    ensures { Prints W.contents writer.old writer.new waiting.old waiting.new (printed (name.now ++ decimal number)) }
+{
+    put_named_number(writer, waiting, name, number);
+    put(writer, waiting, b"\n");
+}
+
+/// The number of a reason.
+fn number_of(reason: NotShown) -> u64
+    ensures { result ≡ reason_number reason }
+{
+    match reason {
+        NotShown::PointsNotAscending => 1,
+        NotShown::RowsNotAscending => 2,
+        NotShown::RowAboveLastPoint => 3,
+        NotShown::WitnessNotAscending => 4,
+        NotShown::NotAtPoint => 5,
+        NotShown::SameAnswers => 6,
+        NotShown::CountsDiffer => 7,
+    }
+}

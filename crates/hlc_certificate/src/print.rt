@@ -1,0 +1,161 @@
+//! Certificates, printed.
+ghost use Rattle.std.specs.Prelude.{map, ◌<◌, ◌^◌, ◌++◌, codes};
+ghost use Rattle.std.specs.List.{flat_map, AllByRecursion};
+ghost use Rattle.hlc_text.specs.Lines.{lines_of, spaced};
+ghost use Rattle.hlc_text.specs.Printing.{Prints};
+ghost use Rattle.hlc_text.specs.Text.{printed, bytes_token, AreBytes};
+ghost use Rattle.hlc_clock.specs.Stamp.{stamp_text};
+ghost use Rattle.hlc_certificate.specs.CheckLine.{before_token, HasBeforeToken, value_words};
+ghost use Rattle.hlc_certificate.specs.CheckLine.{HasValueWords, HasCheckLine, AreLinesOf};
+ghost use Rattle.hlc_certificate.specs.CheckLine.{says_point, says_row, says_witness};
+ghost use Rattle.hlc_certificate.specs.CertificateText.{certificate_text};
+ghost use Rattle.hlc_certificate.specs.CertificateText.{point_line, row_line, witness_line};
+
+use hlc_clock::Stamp;
+use hlc_node::{Bytes, Row};
+use hlc_text::print::{put, put_named_bytes, put_named_number, put_named_stamp};
+use hlc_text::waiting::Waiting;
+use hlc_text::watched::Watched;
+use hlc_witness::Witness;
+use std::io::Write;
+
+/// Prints a certificate: the lines of its points, then of its rows, and then of its witnesses. What
+/// they say is not looked at.
+pub fn put_certificate<W: Write>(
+    writer: &mut Watched<W>,
+    waiting: &mut Waiting,
+    points: &[Stamp],
+    rows: &[Row],
+    witnesses: &[Witness],
+)
+    ensures text { Prints W.contents writer.old writer.new waiting.old waiting.new
+        (certificate_text points.now rows.now witnesses.now) }
+    ensures lines { AreLinesOf points.now rows.now witnesses.now
+        (lines_of (certificate_text points.now rows.now witnesses.now)) }
+{
+    put_points(writer, waiting, points);
+    put_rows(writer, waiting, rows);
+    put_witnesses(writer, waiting, witnesses);
+}
+
+fn put_points<W: Write>(writer: &mut Watched<W>, waiting: &mut Waiting, points: &[Stamp])
+    ensures text { Prints W.contents writer.old writer.new waiting.old waiting.new
+        (flat_map printed (map point_line points.now)) }
+    ensures fits { AllByRecursion HasCheckLine (map says_point points.now) }
+{
+    for point in points {
+        put_point(writer, waiting, *point);
+    }
+}
+
+fn put_point<W: Write>(writer: &mut Watched<W>, waiting: &mut Waiting, point: Stamp)
+    ensures text { Prints W.contents writer.old writer.new waiting.old waiting.new
+        (printed (point_line point)) }
+    ensures fits { HasCheckLine (says_point point) }
+{
+    put_stamp_behind(writer, waiting, b"point ", point);
+    put(writer, waiting, b"\n");
+}
+
+fn put_rows<W: Write>(writer: &mut Watched<W>, waiting: &mut Waiting, rows: &[Row])
+    ensures text { Prints W.contents writer.old writer.new waiting.old waiting.new
+        (flat_map printed (map row_line rows.now)) }
+    ensures fits { AllByRecursion HasCheckLine (map says_row rows.now) }
+{
+    for row in rows {
+        put_row(writer, waiting, row);
+    }
+}
+
+fn put_row<W: Write>(writer: &mut Watched<W>, waiting: &mut Waiting, row: &Row)
+    ensures text { Prints W.contents writer.old writer.new waiting.old waiting.new
+        (printed (row_line row.now)) }
+    ensures fits { HasCheckLine (says_row row.now) }
+{
+    put_bytes_behind(writer, waiting, b"row ", row.key.as_slice());
+    put_stamp_behind(writer, waiting, b" ", row.stamp);
+    put_named_number(writer, waiting, b" ", row.node as u64);
+    put_value(writer, waiting, &row.value);
+    put(writer, waiting, b"\n");
+}
+
+/// Prints the words of a value, or of a deletion mark, behind a space.
+fn put_value<W: Write>(writer: &mut Watched<W>, waiting: &mut Waiting, value: &Option<Bytes>)
+    ensures text { Prints W.contents writer.old writer.new waiting.old waiting.new
+        (codes " " ++ spaced (value_words value.now)) }
+    ensures fits { HasValueWords value.now }
+{
+    match value {
+        None => put(writer, waiting, b" delete"),
+        Some(bytes) => put_bytes_behind(writer, waiting, b" value ", bytes.as_slice()),
+    }
+}
+
+/// Prints the lines of some changes, as a certificate has them.
+pub fn put_witnesses<W: Write>(
+    writer: &mut Watched<W>,
+    waiting: &mut Waiting,
+    witnesses: &[Witness],
+)
+    ensures text { Prints W.contents writer.old writer.new waiting.old waiting.new
+        (flat_map printed (map witness_line witnesses.now)) }
+    ensures fits { AllByRecursion HasCheckLine (map says_witness witnesses.now) }
+{
+    for witness in witnesses {
+        put_witness(writer, waiting, witness);
+    }
+}
+
+/// Prints the line of a change, as a certificate has it.
+fn put_witness<W: Write>(writer: &mut Watched<W>, waiting: &mut Waiting, witness: &Witness)
+    ensures text { Prints W.contents writer.old writer.new waiting.old waiting.new
+        (printed (witness_line witness.now)) }
+    ensures fits { HasCheckLine (says_witness witness.now) }
+{
+    put_bytes_behind(writer, waiting, b"witness ", witness.key.as_slice());
+    put_before(writer, waiting, witness.before);
+    put_stamp_behind(writer, waiting, b" ", witness.at);
+    put(writer, waiting, b"\n");
+}
+
+fn put_before<W: Write>(writer: &mut Watched<W>, waiting: &mut Waiting, before: Option<Stamp>)
+    ensures text { Prints W.contents writer.old writer.new waiting.old waiting.new
+        (codes " " ++ before_token before) }
+    ensures fits { HasBeforeToken before }
+{
+    match before {
+        None => put(writer, waiting, b" none"),
+        Some(stamp) => put_stamp_behind(writer, waiting, b" ", stamp),
+    }
+}
+
+// The words of stamps and bytes. What is printed of them fits, as their types say.
+
+/// Prints some words, and the stamp behind them.
+fn put_stamp_behind<W: Write>(
+    writer: &mut Watched<W>,
+    waiting: &mut Waiting,
+    name: &[u8],
+    stamp: Stamp,
+)
+    ensures text { Prints W.contents writer.old writer.new waiting.old waiting.new
+        (name.now ++ stamp_text stamp) }
+    ensures fits { stamp < 2 ^ 64 }
+{
+    prove!(stamp.bits() <= u64::MAX);
+    put_named_stamp(writer, waiting, name, stamp);
+}
+
+/// Prints some words, and the word that spells the bytes behind them.
+fn put_bytes_behind<W: Write>(
+    writer: &mut Watched<W>,
+    waiting: &mut Waiting,
+    name: &[u8],
+    bytes: &[u8],
+)
+    ensures text { Prints W.contents writer.old writer.new waiting.old waiting.new
+        (name.now ++ bytes_token bytes.now) }
+    ensures fits { AreBytes bytes.now }
+{
+    put_named_bytes(writer, waiting, name, bytes);
+}

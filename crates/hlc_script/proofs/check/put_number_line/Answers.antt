@@ -1,6 +1,0 @@
--- The words and the number are printed, and then the line feed.
-use Rattle.hlc_text.specs.PrintingLaws.{printed_then}
-use Rattle.hlc_script.proofs.check.put_number_line.Goals as goal
-
-pub returns : goal.returns
-returns g c = printed_then c.put_named_number.ensures c.put.ensures

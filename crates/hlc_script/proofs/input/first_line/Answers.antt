@@ -1,5 +1,0 @@
-use Rattle.hlc_script.proofs.Going.{first_of_lines}
-use Rattle.hlc_script.proofs.input.first_line.Goals as goal
-
-pub returns-in-Some-clause-line : goal.returns-in-Some-clause-line
-returns-in-Some-clause-line c = first_of_lines c.in-Some.line.now c.args.text.now c.in-Some.rest.now c.in-Some.ensures.parts

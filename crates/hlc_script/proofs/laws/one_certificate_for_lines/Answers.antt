@@ -1,6 +1,0 @@
--- Each line says one thing, and what the lines say is parted into points, rows and witnesses.
-use Rattle.hlc_script.proofs.OneCertificate.{one_certificate}
-use Rattle.hlc_script.proofs.laws.one_certificate_for_lines.Goals as goal
-
-pub returns : goal.returns
-returns c = one_certificate

@@ -1,0 +1,74 @@
+//! The whole input of a run or a check, and its first line.
+ghost use Rattle.std.specs.Prelude.{◌≡◌, ◌<◌, ◌≤◌, ◌∷◌, ◌↔◌, ℕ, List, Err, false, true, length, vec_len, IfOk};
+ghost use Rattle.std.specs.Io.KnownBytes.{Consumes};
+ghost use Rattle.hlc_text.specs.Watched.{inner_of, has_failed};
+ghost use Rattle.hlc_text.specs.Lines.{lines_of};
+ghost use Rattle.hlc_text.specs.Input.{IsInput};
+
+use crate::watched::Watched;
+use crate::words::cut;
+use std::alloc::Global;
+use std::io::Read;
+
+/// The most bytes that an input may have.
+pub const LIMIT: usize = 16_777_216;
+
+/// Why there is no input.
+#[derive(Clone, Copy, Debug, PartialEq, Eq)]
+pub enum InputFault {
+    /// It can't be held.
+    NoMemory,
+    /// A read failed.
+    ReadFault,
+    /// It has more bytes than may be.
+    TooLong,
+}
+
+/// Reads all that the reader has left. The fault is the one that is met first.
+pub fn read_input<R: Read>(alloc: Global, reader: &mut Watched<R>) -> Result<Vec<u8>, InputFault>
+    requires { has_failed reader.old ≡ false }
+    ensures ok { IfOk result (λ input. IsInput (R.remaining (inner_of reader.old)) input.items
+        × Consumes (R.remaining (inner_of reader.old)) (R.remaining (inner_of reader.new)) input.items
+        × (vec_len input ≤ 16777216)) }
+    ensures failed { (result ≡ Err InputFault.ReadFault) ↔ (has_failed reader.new ≡ true) }
+
+    // What was taken till then, by the fault.
+    ensures memory { result ≡ Err InputFault.NoMemory → (taken : List ℕ)
+        × Consumes (R.remaining (inner_of reader.old)) (R.remaining (inner_of reader.new)) taken
+        × (0 < length taken) × (length taken ≤ 16777216) }
+    ensures fault { result ≡ Err InputFault.ReadFault → (taken : List ℕ)
+        × Consumes (R.remaining (inner_of reader.old)) (R.remaining (inner_of reader.new)) taken
+        × (length taken ≤ 16777216) }
+    ensures long { result ≡ Err InputFault.TooLong → (taken : List ℕ)
+        × Consumes (R.remaining (inner_of reader.old)) (R.remaining (inner_of reader.new)) taken
+        × (16777216 < length taken) }
+{
+    let mut input = Vec::new(alloc);
+    let mut block = [0u8; 32768];
+    'reading: loop {
+        let Ok(taken) = reader.read(&mut block) else {
+            return Err(InputFault::ReadFault);
+        };
+        if taken == 0 {
+            return Ok(input);
+        }
+        if taken > LIMIT - input.len() {
+            return Err(InputFault::TooLong);
+        }
+        if input.extend_from_slice(&block[..taken]).is_err() {
+            return Err(InputFault::NoMemory);
+        }
+    }
+}
+
+/// The first line, and the text behind it. The last line may lack its line feed.
+pub fn first_line(text: &[u8]) -> (&[u8], &[u8])
+    requires { 0 < length text.now }
+    ensures line { lines_of text.now ≡ result.0.now ∷ lines_of result.1.now }
+    ensures shorter { length result.1.now < length text.now }
+{
+    match cut(text, b'\n') {
+        Some((line, rest)) => (line, rest),
+        None => (text, &text[text.len()..]),
+    }
+}
