@@ -6,19 +6,29 @@
 //! are missing, and then the call.
 #![tactic(auto)]
 
+mod asking;
+mod board;
 mod calls;
 mod event;
+mod guarded;
 mod held;
+mod points;
 mod registry;
 mod store;
 mod subject;
+mod table;
+mod texts;
+mod threads;
 mod turn;
+mod workers;
 
 use hlc_text::number::number;
 use hlc_text::words::cut;
 use std::alloc::{AllocError, Global};
 use std::io::Read;
 use std::process::ExitCode;
+use std::sync::Wait;
+use std::thread::Threads;
 use subject::{Seen, tried};
 use turn::{Met, Turn};
 
@@ -31,8 +41,9 @@ fn parts(text: &[u8], byte: u8) -> (&[u8], &[u8]) {
 }
 
 /// Tries the call of this name. Behind the name of an event stands its line.
-fn seen(
+fn seen<R: Wait + Threads + Sync>(
     rt: &HostRuntime,
+    threads: &R,
     alloc: Global,
     name: &[u8],
     line: &[u8],
@@ -42,18 +53,31 @@ fn seen(
         b"registry" => tried::<registry::Opening>(alloc, line, turn),
         b"accept" => tried::<calls::Accepting>(alloc, line, turn),
         b"open" => tried::<calls::Opening>(alloc, line, turn),
+        b"core" => tried::<asking::Asking>(alloc, line, turn),
+        b"table" => tried::<table::Inserting>(alloc, line, turn),
+        b"plan" => tried::<table::Planning>(alloc, line, turn),
+        b"threads" => threads::vacuum(threads, alloc, turn),
+        b"points" => points::points(alloc, turn),
+        b"board" => board::board(alloc, turn),
         b"event" => tried::<event::Happening>(alloc, line, turn),
+        b"guarded" => guarded::guarded(alloc, false, line, turn),
+        b"audited" => guarded::guarded(alloc, true, line, turn),
+        b"feed" => workers::feeding(threads, alloc, turn),
+        b"reader" => workers::reading(threads, alloc, turn),
+        b"vacuums" => workers::vacuuming(threads, alloc, turn),
+        b"script" => Ok(texts::script(rt, alloc, turn)),
+        b"check" => Ok(texts::check(rt, alloc, turn)),
         b"held" => Ok(held::held(rt, alloc, turn)),
         _ => Ok(Seen::NotMade),
     }
 }
 
 /// Tries what a line of standard input says: `NAME NUM` or `event NUM LINE`.
-fn answer(rt: &HostRuntime, line: &[u8]) -> ExitCode {
+fn answer<R: Wait + Threads + Sync>(rt: &HostRuntime, threads: &R, line: &[u8]) -> ExitCode {
     let (name, rest) = parts(line, b' ');
     let (word, line) = parts(rest, b' ');
     let mut turn = Turn::new(rt.alloc(), number(word).unwrap_or(0));
-    let said = match seen(rt, rt.alloc(), name, line, &mut turn) {
+    let said = match seen(rt, threads, rt.alloc(), name, line, &mut turn) {
         Err(_) => rt.println("no memory"),
         Ok(seen) => match turn.met() {
             Met::After(requests) => println!(rt; "{seen:?} {requests}"),
@@ -69,5 +93,5 @@ fn main(rt: HostRuntime) -> ExitCode {
         return ExitCode::from(2);
     };
     let (line, _) = parts(&text[..count.min(128)], b'\n');
-    answer(&rt, line)
+    answer(&rt, &rt, line)
 }

@@ -99,6 +99,7 @@ fn go_on_alike<S: Subject>(alloc: Global, tried: &mut S, twin: &mut S) -> Result
     Ok(tried.ask(alloc)? == twin.ask(alloc)? && tried.go_on(alloc)? == twin.go_on(alloc)?)
 }
 
-fn seen_if(alike: bool, seen: Seen, place: Place) -> Seen {
+/// What was seen, where all was alike.
+pub fn seen_if(alike: bool, seen: Seen, place: Place) -> Seen {
     if alike { seen } else { Seen::Wrong(place) }
 }
