@@ -1,5 +1,5 @@
 //! Events of a world.
-use crate::subject::Subject;
+use hlc_refused::subject::Subject;
 use hlc_script::read_line;
 use hlc_world::{Event, Refusal, Reply, World};
 use std::alloc::{AllocError, Global};

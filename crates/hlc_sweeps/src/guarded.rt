@@ -1,10 +1,10 @@
 //! Calls of what lies under the lock of a shared store, with a trail and without.
 ghost use Rattle.std.specs.Prelude.{◌≡◌};
 
-use crate::store::{Answers, ask, write};
-use crate::subject::{Place, Seen, seen_if};
-use crate::turn::{REFUSED, Turn};
 use hlc_core::{Bytes, CoreEvent};
+use hlc_refused::store::{Answers, ask, write};
+use hlc_refused::subject::{Place, Seen, seen_if};
+use hlc_refused::turn::{REFUSED, Turn};
 use hlc_server::{Caller, Guarded, NotDone, Receipt, SettleFault, settle_guarded, step_guarded};
 use std::alloc::{AllocError, Global};
 use std::marker::Brand;

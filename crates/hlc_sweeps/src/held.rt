@@ -1,6 +1,6 @@
 //! A whole run of a script that can't be read to its end.
-use crate::subject::Seen;
-use crate::turn::Turn;
+use hlc_refused::subject::Seen;
+use hlc_refused::turn::Turn;
 use hlc_script::run_script;
 use hlc_text::watched::Watched;
 use std::alloc::Global;

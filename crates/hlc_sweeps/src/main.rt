@@ -6,22 +6,16 @@
 //! are missing, and then the call.
 #![tactic(auto)]
 
-mod asking;
-mod board;
-mod calls;
 mod event;
 mod guarded;
 mod held;
-mod points;
-mod registry;
-mod store;
-mod subject;
-mod table;
 mod texts;
 mod threads;
-mod turn;
 mod workers;
 
+use hlc_refused::subject::{Seen, tried};
+use hlc_refused::turn::{Met, Turn};
+use hlc_refused::{asking, board, calls, points, registry, table};
 use hlc_text::number::number;
 use hlc_text::words::cut;
 use std::alloc::{AllocError, Global};
@@ -29,8 +23,6 @@ use std::io::Read;
 use std::process::ExitCode;
 use std::sync::Wait;
 use std::thread::Threads;
-use subject::{Seen, tried};
-use turn::{Met, Turn};
 
 /// The part before the first such byte and the part behind it, or all and nothing.
 fn parts(text: &[u8], byte: u8) -> (&[u8], &[u8]) {

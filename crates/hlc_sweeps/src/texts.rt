@@ -1,7 +1,7 @@
 //! Whole runs of a script and of a certificate.
-use crate::subject::Seen;
-use crate::turn::Turn;
 use hlc_certificate::run_check;
+use hlc_refused::subject::Seen;
+use hlc_refused::turn::Turn;
 use hlc_script::run_script;
 use hlc_text::watched::Watched;
 use std::alloc::Global;

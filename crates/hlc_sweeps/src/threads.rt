@@ -1,8 +1,8 @@
 //! The vacuum of a store whose columns threads plan.
-use crate::store::{STOCKED, ask, stocked, vacuum_and_ask};
-use crate::subject::{Place, Seen, seen_if};
-use crate::turn::Turn;
 use hlc_core::{Core, Report};
+use hlc_refused::store::{STOCKED, ask, stocked, vacuum_and_ask};
+use hlc_refused::subject::{Place, Seen, seen_if};
+use hlc_refused::turn::Turn;
 use std::alloc::{AllocError, Global};
 use std::thread::Threads;
 

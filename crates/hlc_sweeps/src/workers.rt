@@ -1,12 +1,12 @@
 //! The workers round a shared store, one at a time and in one thread.
 ghost use Rattle.std.specs.Prelude.{◌≡◌};
 
-use crate::store::write;
-use crate::subject::{Place, Seen};
-use crate::turn::Turn;
 use hlc_board::Board;
 use hlc_channel::{LinkReceiver, link};
 use hlc_core::{Bytes, Item};
+use hlc_refused::store::write;
+use hlc_refused::subject::{Place, Seen};
+use hlc_refused::turn::Turn;
 use hlc_server::{Caller, NotDone, Receipt, Shared};
 use hlc_workers::{Fed, FreeGate, WorkEnd, feed, serve_reader, serve_vacuum};
 use std::alloc::{AllocError, Global};

@@ -3,7 +3,7 @@ use Rattle.std.proofs.Common.{◌≡◌, ◌∙◌, ◌<◌, ◌≤◌, ℕ, zer
 use Rattle.std.specs.Prelude.{Contains, filter}
 use Rattle.std.proofs.lemmas.Bool.{cases_Bool, le-leb}
 use Rattle.hlc_node.specs.declared.row.Row.{Row}
-use Rattle.hlc_sweeps.proofs.table.add_lowest.Goals as goal
+use Rattle.hlc_refused.proofs.table.add_lowest.Goals as goal
 
 no_row_at : (bound : ℕ) (rows : List Row) → length (filter (λ (row : Row). nat_le row.stamp bound) rows) ≡ 0 → (other : Row) → Contains rows other → bound ≡ other.stamp → ⊥
 no_row_at bound [] none other (k, lt, e) same = omega (arith, lt)
