@@ -81,7 +81,7 @@ fn told_in<L: Ledger>(
     let Some(event) = event_of(alloc, name)? else {
         return Ok(None);
     };
-    if !turn.begin(MADE + requests_of(name, audit)) {
+    if !turn.begin(MADE.saturating_add(requests_of(name, audit))) {
         return Ok(None);
     }
     let answer = desk.step(event);
