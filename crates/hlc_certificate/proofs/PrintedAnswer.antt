@@ -1,5 +1,5 @@
 -- What is printed is read back, and where witnesses show that the rows are the fewest, this is its one answer.
-use Rattle.std.proofs.Common.{◌≡◌, ℕ, ◌≤◌, ap, refl, List, length, get_or, arith, inl, inr}
+use Rattle.std.proofs.Common.{ℕ, ap, refl, List, length, get_or, arith, inl, inr}
 use Rattle.std.specs.Prelude.{◌≢◌}
 use Rattle.hlc_node.specs.declared.row.Row.{Row as ARow}
 use Rattle.hlc_witness.specs.declared.witness.Witness.{Witness as AWitness}

@@ -1,5 +1,5 @@
 -- In the midst of a script: the lines so far are answered by what was printed, and the world stands for a schedule of them.
-use Rattle.std.proofs.Common.{◌≡◌, ℕ, ◌+◌, ◌∙◌, sym, ap, refl, subst, Bool, List, [], ◌∷◌, ◌++◌, length, Option, Some, None, append_assoc, inl, inr, arith, eqb, ◌<◌, ◌≤◌, length-append}
+use Rattle.std.proofs.Common.{◌≡◌, ℕ, ◌+◌, sym, refl, subst, Bool, List, [], ◌∷◌, ◌++◌, length, Option, Some, None, append_assoc, inl, inr, arith, ◌≤◌}
 use Rattle.std.specs.Prelude.{◌≢◌}
 use Rattle.hlc_text.specs.Printing.{Printed}
 use Rattle.hlc_text.specs.PrintingLaws.{printed_then, printed_none, append-nil}

@@ -1,6 +1,6 @@
 -- A line is the line of one event: it is parted into the words that it was put together from, the first word tells the kind of
 -- event, and each other word spells one value.
-use Rattle.std.proofs.Common.{◌≡◌, ℕ, ◌+◌, ◌*◌, ◌<◌, ◌^◌, ◌∙◌, sym, ap, refl, List, [], ◌∷◌, get_or, length, Option, Some, None, arith, eqb}
+use Rattle.std.proofs.Common.{◌≡◌, ℕ, ◌+◌, ◌*◌, ◌<◌, ◌^◌, ◌∙◌, sym, ap, refl, List, [], ◌∷◌, get_or, length, arith, eqb}
 use Rattle.std.specs.Prelude.{decimal, codes, ◌≢◌}
 use Rattle.std.specs.List.{slice_split}
 use Rattle.std.proofs.lemmas.Fmt.{decimal_injective}
