@@ -2,7 +2,7 @@
 ghost use Rattle.std.specs.Prelude.{◌≡◌};
 
 use crate::makers::write;
-use hlc_core::CoreReply;
+use hlc_core::{CoreEvent, CoreReply};
 use hlc_server::{Receipt, SettleFault, Shared};
 use std::alloc::{AllocError, Global};
 use std::marker::Brand;
@@ -17,6 +17,8 @@ enum Forged {
     No,
     OtherReply,
     OtherNumber,
+    OtherEvent,
+    OtherCaller,
     SecondMissing,
     BothByFirst,
     FirstTwice,
@@ -69,6 +71,14 @@ fn handed_in(
             ones.push(a)?;
             others.push(with_number(b, 2))?;
         }
+        Forged::OtherEvent => {
+            ones.push(a)?;
+            others.push(with_event(b))?;
+        }
+        Forged::OtherCaller => {
+            ones.push(a)?;
+            others.push(with_caller(b, 0))?;
+        }
         Forged::SecondMissing => {
             ones.push(a)?;
             drop(b);
@@ -105,6 +115,36 @@ fn with_reply(receipt: Receipt) -> Receipt {
     }
 }
 
+fn with_event(receipt: Receipt) -> Receipt {
+    let Receipt {
+        caller,
+        number,
+        event: _,
+        reply,
+    } = receipt;
+    Receipt {
+        caller,
+        number,
+        event: CoreEvent::OpenFloor,
+        reply,
+    }
+}
+
+fn with_caller(receipt: Receipt, caller: u16) -> Receipt {
+    let Receipt {
+        caller: _,
+        number,
+        event,
+        reply,
+    } = receipt;
+    Receipt {
+        caller,
+        number,
+        event,
+        reply,
+    }
+}
+
 fn with_number(receipt: Receipt, number: u64) -> Receipt {
     let Receipt {
         caller,
@@ -127,6 +167,8 @@ fn forged_receipts(rt: HostRuntime) -> Result<(), Fail> {
         (Forged::No, true, Ok(2)),
         (Forged::OtherReply, true, mismatch),
         (Forged::OtherNumber, true, mismatch),
+        (Forged::OtherEvent, true, mismatch),
+        (Forged::OtherCaller, true, mismatch),
         (Forged::SecondMissing, true, mismatch),
         (Forged::BothByFirst, true, mismatch),
         (Forged::FirstTwice, true, mismatch),
