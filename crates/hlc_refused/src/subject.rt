@@ -1,4 +1,6 @@
 //! What is tried: a call of a value with a past.
+ghost use Rattle.std.specs.Prelude.{◌≡◌, if◌then◌else◌};
+
 use crate::turn::Turn;
 use std::alloc::{AllocError, Global};
 
@@ -100,6 +102,8 @@ fn go_on_alike<S: Subject>(alloc: Global, tried: &mut S, twin: &mut S) -> Result
 }
 
 /// What was seen, where all was alike.
-pub fn seen_if(alike: bool, seen: Seen, place: Place) -> Seen {
+pub fn seen_if(alike: bool, seen: Seen, place: Place) -> Seen
+    ensures { result ≡ (if alike then seen else Seen.Wrong place) }
+{
     if alike { seen } else { Seen::Wrong(place) }
 }
