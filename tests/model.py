@@ -54,10 +54,29 @@ def lines_of(text):
     return lines[:-1] if lines[-1] == b"" else lines
 
 
-def newest(writes, key, bound):
-    """The value of the newest write of the key, by stamp and node, at or below the bound; None where there is none."""
+def newest_write(writes, key, bound):
+    """The newest write of the key, by stamp and node, at or below the bound; None where there is none."""
     below = [write for write in writes if write[0] == key and write[1] <= bound]
-    return max(below, key=lambda write: write[1:3])[3] if below else None
+    return max(below, key=lambda write: write[1:3]) if below else None
+
+
+def newest(writes, key, bound):
+    """The value of that write; None where there is none."""
+    write = newest_write(writes, key, bound)
+    return write[3] if write else None
+
+
+def key_fits(key):
+    return 1 <= len(key) <= 255
+
+
+def value_fits(value):
+    return value is None or len(value) <= 65_535
+
+
+def cost(writes):
+    """What rows of these writes cost: of each the bytes of its key and of its value, none of a deletion, and 10."""
+    return sum(len(key) + len(value or b"") + 10 for key, _, _, value in writes)
 
 
 def changes(writes, points):
@@ -148,9 +167,9 @@ class World:
 
     def issue(self, node, reading, key, value, is_write):
         self.known(node)
-        if is_write and not 1 <= len(key) <= 255:
+        if is_write and not key_fits(key):
             raise Refused(b"refused 12")
-        if value is not None and len(value) > 65_535:
+        if not value_fits(value):
             raise Refused(b"refused 13")
         at = self.tick(node, reading)
         self.items[node].append((at, (key, at, node, value) if is_write else None))
@@ -235,7 +254,8 @@ class World:
         found = changes(self.writes, sorted({floor, *self.snapshots.values()}))
         before = self.kept + self.above(self.horizon) - self.above(floor)
         self.horizon, self.kept = floor, len(found)
-        first = b"vacuum %s kept %d dropped %d" % (put(floor), len(found), before - len(found))
+        stays = cost(newest_write(self.writes, key, at) for key, _, at in found)
+        first = b"vacuum %s kept %d dropped %d bytes %d" % (put(floor), len(found), before - len(found), stays)
         return [first] + [witness_line(change) for change in found]
 
     def rows(self):
@@ -296,7 +316,9 @@ def reason(points, rows, witnesses):
             return 5
         if newest(rows, key, at) == (newest(rows, key, before) if before else None):
             return 6
-    return 0 if len(rows) == len(witnesses) else 7
+    if len(rows) != len(witnesses):
+        return 7
+    return 0 if all(key_fits(key) and value_fits(value) for key, _, _, value in rows) else 8
 
 
 def check(text):
@@ -315,7 +337,8 @@ def check(text):
         last = kinds.index(kind)
         parts[kind].append(said)
     why = reason(*parts.values())
-    return (b"refused 22 reason %d\n" % why, 2) if why else (b"fewest %d\n" % len(parts[b"row"]), 0)
+    rows = parts[b"row"]
+    return (b"refused 22 reason %d\n" % why, 2) if why else (b"fewest %d bytes %d\n" % (len(rows), cost(rows)), 0)
 
 
 def storm(nodes, writes, keys):

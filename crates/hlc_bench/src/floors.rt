@@ -1,7 +1,7 @@
 //! Looks at a floor, timed: on a board, through a shared store, and in a core behind a lock alone, while
 //! one writer hands in reports of all nodes in turn.
 ghost use Rattle.std.specs.Prelude.{◌≡◌, ◌<◌, ◌≤◌, ◌+◌};
-ghost use Rattle.hlc_bench.specs.Places.{FeedersOf, PassesOf};
+ghost use Rattle.hlc_board.specs.Views.{FeedersOf, PassesOf};
 
 use hlc_board::{Board, Feeder, FloorPass};
 use hlc_core::{Body, Core, CoreFault, CoreReply, Item, Stamp};
@@ -157,7 +157,7 @@ fn stopped<R: Clock>(rt: &R, start: Instant, stop: &AtomicBool) -> io::Result<u1
 
 /// What looks by so many readers at the floor of a board of so many nodes take. The writer hands in at a
 /// shared store, which keeps no trail.
-#[tactic(auto, using(crate::proofs::Placed::feeders_new, crate::proofs::Placed::passes_new))]
+#[tactic(auto, using(hlc_board::proofs::PlaceLemmas::feeders_new, hlc_board::proofs::PlaceLemmas::passes_new))]
 pub(crate) fn on_a_board<L: Ledger + Send + Sync, R: Threads + Wait + Sync + Clock>(
     rt: &R,
     alloc: Global,
@@ -228,7 +228,7 @@ fn ask_often<L: Ledger, R: Wait>(
 
 /// What looks by so many readers at the floor of a shared store of so many nodes take. It keeps no trail,
 /// and its writer raises a board too.
-#[tactic(auto, using(crate::proofs::Placed::feeders_new))]
+#[tactic(auto, using(hlc_board::proofs::PlaceLemmas::feeders_new))]
 pub(crate) fn in_a_shared_store<L: Ledger + Send + Sync, R: Threads + Wait + Sync + Clock>(
     rt: &R,
     alloc: Global,

@@ -262,9 +262,9 @@ zeros_taken (suc n) zero k = refl
 zeros_taken (suc n) (suc m) zero = refl
 zeros_taken (suc n) (suc m) (suc k) = zeros_taken n m k
 
-pub begins_as : {S : Type 0} (nodes key : ℕ) → key ≡ nodes → nodes ≤ 64
-    → IsFresh key (opening {S = S} (take nodes (replicate 64 0)) [] (uncut key 0))
-begins_as {S} nodes key is most =
-    begins {S = S} key (take nodes (replicate 64 0))
-    (length-take-le nodes (replicate 64 0) (omega (arith, length-replicate {A = ℕ} 64 0)) ∙ sym is)
-    (zeros_taken nodes 64)
+pub begins_as : {S : Type 0} (most nodes key : ℕ) → key ≡ nodes → nodes ≤ most
+    → IsFresh key (opening {S = S} (take nodes (replicate most 0)) [] (uncut key 0))
+begins_as {S} most nodes key is low =
+    begins {S = S} key (take nodes (replicate most 0))
+    (length-take-le nodes (replicate most 0) (omega (arith, low, length-replicate {A = ℕ} most 0)) ∙ sym is)
+    (zeros_taken nodes most)

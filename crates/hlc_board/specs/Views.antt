@@ -1,5 +1,5 @@
 -- What a caller sees of a board's feeders and passes.
-use Rattle.std.specs.Prelude.{◌≡◌, ◌≢◌, ℕ, zero, suc, ◌+◌, ◌<◌, ◌≤◌, List, [], ◌∷◌, ◌++◌, replicate, slice_index}
+use Rattle.std.specs.Prelude.{◌≡◌, ◌≢◌, ℕ, zero, suc, ◌+◌, ◌<◌, ◌≤◌, List, [], ◌∷◌, ◌++◌, ⊤, replicate, slice_index}
 use Rattle.atomic_table.specs.Seated.{TableId}
 
 -- a feeder of a board: its node, and the stamp that it raised last
@@ -30,6 +30,16 @@ blind board = sight board (replicate board.words 0) (replicate board.words 0)
 abbrev pub posts : TableId → ℕ → List Post
 posts board zero = []
 posts board (suc n) = posts board n ++ post board n 0 ∷ []
+
+-- the feeders are of this board
+abbrev pub FeedersOf : TableId → List Post → Type 0
+FeedersOf board [] = ⊤
+FeedersOf board (feeder ∷ feeders) = (feeder.board ≡ board) × FeedersOf board feeders
+
+-- the passes are of this board
+abbrev pub PassesOf : TableId → List Sight → Type 0
+PassesOf board [] = ⊤
+PassesOf board (pass ∷ passes) = (pass.board ≡ board) × PassesOf board passes
 
 -- one look at the word of a node found n there. Nothing else of what was seen changed
 pub record LooksAt (node n : ℕ) (before after : Sight) : Type 0 where

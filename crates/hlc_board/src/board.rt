@@ -2,16 +2,20 @@
 ghost use Rattle.std.specs.Prelude.{◌≡◌, ℕ, ◌+◌, ◌<◌, ◌≤◌, ◌↔◌, [], slice_index, replicate, IfOk, IfErr};
 ghost use Rattle.std.proofs.Common.{rules};
 ghost use Rattle.std.proofs.lemmas.Grind.{common_steps};
+ghost use Rattle.hlc_floor.specs.declared.heads.TheConstants.{MOST_NODES};
 ghost use Rattle.hlc_board.specs.Views.{post, posts, blind, LooksAt, IsLeast};
 ghost use Rattle.hlc_board.specs.Board.{uncut};
 
 use crate::rule::{CutFeeder, CutPass, Fresh, Look, Place, Raise};
 use atomic_table::{Seat, Table};
 use hlc_clock::Stamp;
-use hlc_floor::Accepted;
+use hlc_floor::{Accepted, MOST_NODES};
 use hlc_values::Exact;
 use std::alloc::{AllocError, Global};
 use std::marker::Model;
+
+/// As many words as there may be nodes.
+const WORDS: usize = MOST_NODES as usize;
 
 /// A board: for each node one word, the stamp of an item of that node that was accepted, 0.0 at first.
 /// Threads share it. Contracts see which board it is; `words` is the number of its nodes.
@@ -26,6 +30,7 @@ pub struct Board {
 impl Model for Board {
     ghost use Rattle.std.specs.Prelude.{◌≡◌, ◌<◌, ◌≤◌};
     ghost use Rattle.atomic_table.specs.Seated.{TableId, table_id_coded};
+    ghost use Rattle.hlc_floor.specs.declared.heads.TheConstants.{MOST_NODES};
 
     ghost Value = { TableId };
 
@@ -34,7 +39,7 @@ impl Model for Board {
     ghost view = { λ board. board.table.shared.table_id };
 
     ghost invariant = { λ board. (board.table.shared.key ≡ board.nodes)
-        × (board.table.shared.table_id.words ≡ board.nodes) × (0 < board.nodes) × (board.nodes ≤ 64) };
+        × (board.table.shared.table_id.words ≡ board.nodes) × (0 < board.nodes) × (board.nodes ≤ MOST_NODES) };
 }
 
 /// Raises the word of one node; there is one for each node of a board. Contracts see its board, its
@@ -184,12 +189,12 @@ impl Board {
         ensures board { IfOk result (λ made. made.0.words ≡ nodes) }
         ensures feeders { IfOk result (λ made. made.1.items ≡ posts made.0 nodes) }
         ensures passes { IfOk result (λ made. made.2.items ≡ replicate passes (blind made.0)) }
-        ensures err { IfErr result (λ fault. fault ≡ BoardFault.NoNode ↔ ((1 ≤ nodes) × (nodes ≤ 64) → ⊥)) }
+        ensures err { IfErr result (λ fault. fault ≡ BoardFault.NoNode ↔ ((1 ≤ nodes) × (nodes ≤ MOST_NODES) → ⊥)) }
     {
-        if nodes == 0 || nodes > 64 {
+        if nodes == 0 || nodes > MOST_NODES {
             return Err(BoardFault::NoNode);
         }
-        let words = [0; 64];
+        let words = [0; WORDS];
         let about = u64::from(nodes);
         let (table, mut first) = Table::of_words(alloc, &words[..nodes as usize], &about)?;
         let feeders = cut_feeders(alloc, &table, &mut first, nodes)?;

@@ -4,4 +4,4 @@ pub mod CheckGoing
 pub mod OneCertificate
 pub mod OneAnswer
 pub mod PrintedLines
-pub mod PrintedAnswer
+pub mod ReadBackLemmas

@@ -8,9 +8,9 @@ use Rattle.std.proofs.lemmas.List.Concat.{flat_map-append}
 use Rattle.hlc_text.specs.Text.{printed}
 use Rattle.hlc_text.specs.Lines.{spaced, lines_of}
 use Rattle.hlc_text.specs.Printing.{Printed}
-use Rattle.hlc_text.specs.PrintingLaws.{printed_line, printed_then}
-use Rattle.hlc_text.specs.TokenLaws.{line_has_no_feed, split_line}
-use Rattle.hlc_text.specs.LineLaws.{first_of_lines}
+use Rattle.hlc_text.proofs.PrintLemmas.{printed_line, printed_then}
+use Rattle.hlc_text.proofs.TokenLemmas.{line_has_no_feed, split_line}
+use Rattle.hlc_text.proofs.LineLemmas.{first_of_lines}
 use Rattle.hlc_node.specs.declared.row.Row.{Row as ARow}
 use Rattle.hlc_witness.specs.declared.witness.Witness.{Witness as AWitness}
 use Rattle.hlc_certificate.specs.declared.check_line.CheckLine.{CheckLine}
@@ -29,10 +29,12 @@ AllHaveLines says xs = AllByRecursion HasCheckLine (map says xs)
 
 -- one line more of a list that is printed line by line
 pub printed_next : {X : Type 0} {f g h : Bool} {a b c : Option (List ℕ)} {u v w : List ℕ} (line : X → List ℕ)
-    (xs : List X) (i : ℕ) (d : X) → i < length xs → d ≡ get_or xs i d → Printed f g a b u v (all_lines line (take i xs))
+    (xs : List X) (i : ℕ) (d : X) → i < length xs → d ≡ get_or xs i d
+    → Printed f g a b u v (all_lines line (take i xs))
     → Printed g h b c v w (printed (line d)) → Printed f h a c u w (all_lines line (take (i + 1) xs))
 printed_next {X} {f} {g} {h} {a} {b} {c} {u} {v} {w} line xs i d within is first second =
-    printed_line printed line xs i d within first (subst (λ (x : X). Printed g h b c v w (printed (line x))) is second)
+    printed_line printed line xs i d within first
+    (subst (λ (x : X). Printed g h b c v w (printed (line x))) is second)
 
 all_both : {X : Type 0} (P : X → Type 0) (xs ys : List X) → AllByRecursion P xs → AllByRecursion P ys
     → AllByRecursion P (xs ++ ys)

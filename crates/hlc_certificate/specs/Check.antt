@@ -8,19 +8,23 @@ use Rattle.hlc_text.specs.Text.{printed}
 use Rattle.hlc_node.specs.declared.row.Row.{Row as ARow}
 use Rattle.hlc_witness.specs.declared.witness.Witness.{Witness as AWitness}
 use Rattle.hlc_witness.specs.declared.reason.NotShown.{NotShown as AReason}
-use Rattle.hlc_witness.specs.declared.reason.NotShown.TheVariants.{PointsNotAscending, RowsNotAscending, RowAboveLastPoint, WitnessNotAscending, NotAtPoint, SameAnswers, CountsDiffer}
+use Rattle.hlc_witness.specs.declared.reason.NotShown.TheVariants.{PointsNotAscending, RowsNotAscending}
+use Rattle.hlc_witness.specs.declared.reason.NotShown.TheVariants.{RowAboveLastPoint, WitnessNotAscending, NotAtPoint}
+use Rattle.hlc_witness.specs.declared.reason.NotShown.TheVariants.{SameAnswers, CountsDiffer, RowOutOfLimits}
 use Rattle.hlc_witness.specs.Fewest.{Fewest as AreFewest}
+use Rattle.hlc_witness.specs.Cost.{Cheapest as AreCheapest, rows_cost}
 use Rattle.hlc_witness.specs.Certificate.{IsCertificate}
 use Rattle.hlc_witness.specs.Reasons.{IsFirstReason}
 use Rattle.hlc_certificate.specs.declared.check.CheckEnd.{CheckEnd}
-use Rattle.hlc_certificate.specs.declared.check.CheckEnd.TheVariants.{Fewest, NotShown, BadLine, NotHeld, NoMemory, ReadFault, TooLong, WriteFault}
+use Rattle.hlc_certificate.specs.declared.check.CheckEnd.TheVariants.{Fewest, NotShown, BadLine, NotHeld, NoMemory}
+use Rattle.hlc_certificate.specs.declared.check.CheckEnd.TheVariants.{ReadFault, TooLong, WriteFault}
 use Rattle.hlc_text.specs.Input.{IsInput}
 use Rattle.hlc_text.specs.Lines.{lines_of}
 use Rattle.hlc_certificate.specs.CheckLine.{AreLinesOf, AreGood, IsFirstBad}
 use Rattle.hlc_text.specs.Lines.{bad_line}
 
--- the rows of a certificate are the fewest of all that answer as they do at its points
-pub record ShowsFewest (lines : List (List ℕ)) (count : ℕ) : Type 0 where
+-- the rows of a certificate are the fewest and the cheapest of all that answer as they do at its points
+pub record ShowsFewest (lines : List (List ℕ)) (count bytes : ℕ) : Type 0 where
   pub points : List ℕ
   pub rows : List ARow
   pub witnesses : List AWitness
@@ -28,6 +32,8 @@ pub record ShowsFewest (lines : List (List ℕ)) (count : ℕ) : Type 0 where
   pub certificate : IsCertificate rows points witnesses
   pub fewest : AreFewest rows rows points
   pub count_is : count ≡ length rows
+  pub cheapest : AreCheapest rows rows points
+  pub bytes_is : bytes ≡ rows_cost rows
 
 -- the lines are no certificate, and this is the first reason that holds
 pub record ShowsReason (lines : List (List ℕ)) (reason : AReason) : Type 0 where
@@ -38,9 +44,10 @@ pub record ShowsReason (lines : List (List ℕ)) (reason : AReason) : Type 0 whe
   pub refused : IsCertificate rows points witnesses → ⊥
   pub first : IsFirstReason rows points witnesses reason
 
--- what may be the end for an input: a bad line comes before all that the lines say, and also where there is no memory for that
+-- what may be the end for an input: a bad line comes before all that the lines say, and also where there is no memory
+-- for that
 abbrev pub MayAnswer : List ℕ → CheckEnd → Type 0
-MayAnswer input (Fewest count) = (length input ≤ 16777216) × ShowsFewest (lines_of input) count
+MayAnswer input (Fewest count bytes) = (length input ≤ 16777216) × ShowsFewest (lines_of input) count bytes
 MayAnswer input (NotShown reason) = (length input ≤ 16777216) × ShowsReason (lines_of input) reason
 MayAnswer input (BadLine number) = (length input ≤ 16777216) × IsFirstBad (lines_of input) number
 -- memory is asked for only where there is a byte to hold
@@ -53,7 +60,7 @@ MayAnswer input WriteFault = ⊥
 
 -- the input was read whole and held, and then it came to this end
 abbrev pub IsOfHeld : CheckEnd → Type 0
-IsOfHeld (Fewest count) = ⊤
+IsOfHeld (Fewest count bytes) = ⊤
 IsOfHeld (NotShown reason) = ⊤
 IsOfHeld (BadLine number) = ⊤
 IsOfHeld NoMemory = ⊤
@@ -67,7 +74,7 @@ abbrev pub MayTake : List ℕ → List ℕ → CheckEnd → Type 0
 MayTake input taken NotHeld = (0 < length taken) × (length taken ≤ 16777216)
 MayTake input taken ReadFault = length taken ≤ 16777216
 MayTake input taken TooLong = 16777216 < length taken
-MayTake input taken (Fewest count) = taken ≡ input
+MayTake input taken (Fewest count bytes) = taken ≡ input
 MayTake input taken (NotShown reason) = taken ≡ input
 MayTake input taken (BadLine number) = taken ≡ input
 MayTake input taken NoMemory = taken ≡ input
@@ -82,10 +89,15 @@ reason_number WitnessNotAscending = 4
 reason_number NotAtPoint = 5
 reason_number SameAnswers = 6
 reason_number CountsDiffer = 7
+reason_number RowOutOfLimits = 8
+
+-- how many rows are the fewest, and what they cost
+abbrev pub fewest_line : ℕ → ℕ → List ℕ
+fewest_line count bytes = (codes "fewest " ++ decimal count) ++ (codes " bytes " ++ decimal bytes)
 
 -- the one line of an end; a failed write prints nothing more
 abbrev pub answer_output : CheckEnd → List ℕ
-answer_output (Fewest count) = printed (codes "fewest " ++ decimal count)
+answer_output (Fewest count bytes) = printed (fewest_line count bytes)
 answer_output (NotShown reason) = printed (codes "refused 22 reason " ++ decimal (reason_number reason))
 answer_output (BadLine number) = printed (bad_line number)
 answer_output NotHeld = printed (codes "refused 15")
@@ -115,7 +127,7 @@ pub record RunsCheck {R W : Type 0} (remaining : R → Option (List ℕ)) (conte
 
 -- the exit status
 abbrev pub check_status : CheckEnd → ℕ
-check_status (Fewest count) = 0
+check_status (Fewest count bytes) = 0
 check_status (NotShown reason) = 2
 check_status (BadLine number) = 2
 check_status NotHeld = 2

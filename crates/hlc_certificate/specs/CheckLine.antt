@@ -1,5 +1,6 @@
 -- The lines of a certificate: what each of them says, its one spelling, and which line is the first bad one.
-use Rattle.std.specs.Prelude.{◌≡◌, ℕ, ◌+◌, ◌<◌, ◌^◌, List, [], ◌∷◌, ◌++◌, length, map, codes, decimal, Option, Some, None, ⊤}
+use Rattle.std.specs.Prelude.{◌≡◌, ℕ, ◌+◌, ◌<◌, ◌^◌, List, [], ◌∷◌, ◌++◌, length, map, codes, decimal, Option, Some}
+use Rattle.std.specs.Prelude.{None, ⊤}
 use Rattle.std.specs.List.{AllByRecursion}
 use Rattle.hlc_clock.specs.Stamp.{stamp_text}
 use Rattle.hlc_text.specs.Text.{bytes_token, AreBytes}
@@ -22,7 +23,8 @@ before_token (Some stamp) = stamp_text stamp
 -- the words of a line
 abbrev pub check_words : CheckLine → List (List ℕ)
 check_words (Point stamp) = codes "point" ∷ stamp_text stamp ∷ []
-check_words (Row key stamp node value) = codes "row" ∷ bytes_token key ∷ stamp_text stamp ∷ decimal node ∷ value_words value
+check_words (Row key stamp node value) =
+    codes "row" ∷ bytes_token key ∷ stamp_text stamp ∷ decimal node ∷ value_words value
 check_words (Witness key before at) = codes "witness" ∷ bytes_token key ∷ before_token before ∷ stamp_text at ∷ []
 
 -- the one line that says this
@@ -70,11 +72,13 @@ all_said points rows witnesses = map says_point points ++ map says_row rows ++ m
 -- the lines are those of these points, rows and witnesses
 abbrev pub AreLinesOf : List ℕ → List ARow → List AWitness → List (List ℕ) → Type 0
 AreLinesOf points rows witnesses lines =
-    AllByRecursion HasCheckLine (all_said points rows witnesses) × (lines ≡ map check_line (all_said points rows witnesses))
+    AllByRecursion HasCheckLine (all_said points rows witnesses)
+    × (lines ≡ map check_line (all_said points rows witnesses))
 
 -- no line is bad
 abbrev pub AreGood : List (List ℕ) → Type 0
-AreGood lines = (points : List ℕ) × (rows : List ARow) × (witnesses : List AWitness) × AreLinesOf points rows witnesses lines
+AreGood lines = (points : List ℕ) × (rows : List ARow) × (witnesses : List AWitness)
+    × AreLinesOf points rows witnesses lines
 
 -- the line of this number is the first bad one: those before it are good, and with it they are not
 pub record IsFirstBad (lines : List (List ℕ)) (number : ℕ) : Type 0 where

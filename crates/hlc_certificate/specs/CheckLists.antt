@@ -10,18 +10,21 @@ use Rattle.hlc_certificate.specs.declared.certificate.NoCertificate.TheVariants.
 use Rattle.hlc_certificate.specs.CheckLine.{AreGood, IsFirstBad}
 
 -- these are the lists
-pub record Holds (certificate : Certificate) (points : List ℕ) (rows : List ARow) (witnesses : List AWitness) : Type 0 where
-  pub points_are : certificate.points.items ≡ points
-  pub rows_are : certificate.rows.items ≡ rows
-  pub witnesses_are : certificate.witnesses.items ≡ witnesses
+pub record Holds (certificate : Certificate) (points : List ℕ) (rows : List ARow) (witnesses : List AWitness) : Type 0
+  where
+    pub points_are : certificate.points.items ≡ points
+    pub rows_are : certificate.rows.items ≡ rows
+    pub witnesses_are : certificate.witnesses.items ≡ witnesses
 
 -- the lists are the old ones, with what a line says at the end of one of them
 abbrev pub AddsLine : Certificate → Certificate → CheckLine → Type 0
 AddsLine old new (Point stamp) = Holds new (old.points.items ++ stamp ∷ []) old.rows.items old.witnesses.items
 AddsLine old new (Row key stamp node value) =
-    Holds new old.points.items (old.rows.items ++ record { key = key; stamp = stamp; node = node; value = value } ∷ []) old.witnesses.items
+    Holds new old.points.items
+    (old.rows.items ++ record { key = key; stamp = stamp; node = node; value = value } ∷ []) old.witnesses.items
 AddsLine old new (Witness key before at) =
-    Holds new old.points.items old.rows.items (old.witnesses.items ++ record { key = key; before = before; at = at } ∷ [])
+    Holds new old.points.items old.rows.items
+    (old.witnesses.items ++ record { key = key; before = before; at = at } ∷ [])
 
 -- why the lines give no lists: the line of this number is the first bad one; or there are lines, none of them bad,
 -- and there was no memory for what they say

@@ -2,4 +2,5 @@ pub mod CheckLine
 pub mod CheckLists
 pub mod CertificateText
 pub mod Check
-pub mod CheckLaws
+pub mod OneAnswer
+pub mod ReadBack

@@ -82,7 +82,9 @@ fn to_value(alloc: Global, value: &Option<Spelled<'_>>) -> Result<Option<Bytes>,
 /// What the lines say, or why not. A bad line is found also where memory was refused before it.
 pub(crate) fn read_certificate(alloc: Global, text: &[u8]) -> Result<Certificate, NoCertificate>
     requires { length text.now ≤ 16777216 }
-    ensures ok { IfOk result (λ certificate. AreLinesOf certificate.points.items certificate.rows.items certificate.witnesses.items (lines_of text.now)) }
+    ensures ok { IfOk result
+        (λ certificate. AreLinesOf certificate.points.items certificate.rows.items
+        certificate.witnesses.items (lines_of text.now)) }
     ensures err { IfErr result (IsNoCertificate (lines_of text.now)) }
 {
     let mut kept = Some(Certificate::new(alloc));
@@ -107,7 +109,8 @@ pub(crate) fn read_certificate(alloc: Global, text: &[u8]) -> Result<Certificate
 
 /// What a line says, or none where it is no line of this section or a later one.
 fn read_from(section: u8, line: &[u8]) -> Option<CheckLine<'_>>
-    ensures { Reads check_line (λ says. HasCheckLine says × (section ≤ section_of says)) line.now result }
+    ensures { Reads check_line (λ says. HasCheckLine says × (section ≤ section_of says)) line.now
+        result }
 {
     let says = read_check_line(line)?;
     if says.section() < section {

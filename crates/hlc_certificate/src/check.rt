@@ -8,11 +8,11 @@ ghost use Rattle.hlc_text.specs.Printing.{Prints};
 ghost use Rattle.hlc_text.specs.Text.{printed};
 ghost use Rattle.hlc_text.specs.Input.{IsInput};
 ghost use Rattle.hlc_certificate.specs.Check.{MayAnswer, MayTake, IsOfHeld, RunsCheck};
-ghost use Rattle.hlc_certificate.specs.Check.{answer_output, reason_number, check_status};
+ghost use Rattle.hlc_certificate.specs.Check.{answer_output, fewest_line, reason_number, check_status};
 
 use crate::certificate::{NoCertificate, read_certificate};
 use hlc_text::input::{InputFault, read_input};
-use hlc_text::print::{finish, put, put_named_number};
+use hlc_text::print::{finish, put, put_named_count, put_named_number};
 use hlc_text::waiting::Waiting;
 use hlc_text::watched::Watched;
 use hlc_values::Exact;
@@ -23,8 +23,9 @@ use std::io::{Read, Write};
 /// How a check ended.
 #[derive(Clone, Copy, Debug, PartialEq, Eq)]
 pub enum CheckEnd {
-    /// The rows, so many, are the fewest that answer as they do at the points.
-    Fewest(u64),
+    /// The rows, so many, are the fewest that answer as they do at the points, and their bytes, so
+    /// many, the least.
+    Fewest { count: u64, bytes: u128 },
     /// The witnesses do not show it.
     NotShown(NotShown),
     /// The line of this number is the first bad one. The first line has number 1.
@@ -54,7 +55,7 @@ impl CheckEnd {
         ensures { result ≡ check_status self }
     {
         match self {
-            CheckEnd::Fewest(_) => 0,
+            CheckEnd::Fewest { .. } => 0,
             CheckEnd::WriteFault => 3,
             _ => 2,
         }
@@ -115,7 +116,10 @@ pub fn check_input(alloc: Global, input: &[u8]) -> CheckEnd
     let rows = certificate.rows.as_slice();
     let points = certificate.points.as_slice();
     match check(rows, points, certificate.witnesses.as_slice()) {
-        Ok(shown) => CheckEnd::Fewest(shown.count()),
+        Ok(shown) => CheckEnd::Fewest {
+            count: shown.count(),
+            bytes: shown.cost(),
+        },
         Err(reason) => CheckEnd::NotShown(reason),
     }
 }
@@ -125,7 +129,7 @@ fn put_end<W: Write>(writer: &mut Watched<W>, waiting: &mut Waiting, end: CheckE
     ensures { Prints W.contents writer.old writer.new waiting.old waiting.new (answer_output end) }
 {
     match end {
-        CheckEnd::Fewest(count) => put_number_line(writer, waiting, b"fewest ", count),
+        CheckEnd::Fewest { count, bytes } => put_fewest(writer, waiting, count, bytes),
         CheckEnd::NotShown(reason) => {
             put_number_line(writer, waiting, b"refused 22 reason ", number_of(reason))
         }
@@ -140,6 +144,16 @@ fn put_end<W: Write>(writer: &mut Watched<W>, waiting: &mut Waiting, end: CheckE
     }
 }
 
+/// Prints how many rows are the fewest, and what they cost.
+fn put_fewest<W: Write>(writer: &mut Watched<W>, waiting: &mut Waiting, count: u64, bytes: u128)
+    ensures { Prints W.contents writer.old writer.new waiting.old waiting.new
+        (printed (fewest_line count bytes)) }
+{
+    put_named_number(writer, waiting, b"fewest ", count);
+    put_named_count(writer, waiting, b" bytes ", bytes);
+    put(writer, waiting, b"\n");
+}
+
 /// Prints a line of some words and a number.
 fn put_number_line<W: Write>(
     writer: &mut Watched<W>,
@@ -147,7 +161,8 @@ fn put_number_line<W: Write>(
     name: &[u8],
     number: u64,
 )
-    ensures { Prints W.contents writer.old writer.new waiting.old waiting.new (printed (name.now ++ decimal number)) }
+    ensures { Prints W.contents writer.old writer.new waiting.old waiting.new
+        (printed (name.now ++ decimal number)) }
 {
     put_named_number(writer, waiting, name, number);
     put(writer, waiting, b"\n");
@@ -165,5 +180,6 @@ fn number_of(reason: NotShown) -> u64
         NotShown::NotAtPoint => 5,
         NotShown::SameAnswers => 6,
         NotShown::CountsDiffer => 7,
+        NotShown::RowOutOfLimits => 8,
     }
 }

@@ -1,8 +1,8 @@
 //! What holds of every certificate as it is written. A law that calls another follows from it.
-ghost use Rattle.hlc_certificate.specs.CheckLaws.{OneAnswer, OneCertificate};
-ghost use Rattle.hlc_certificate.specs.CheckLaws.{PrintedIsRead, PrintedShowsFewest};
+ghost use Rattle.hlc_certificate.specs.OneAnswer.{OneAnswer, OneCertificate};
+ghost use Rattle.hlc_certificate.specs.ReadBack.{PrintedIsRead, PrintedShowsFewest};
 
-use hlc_witness::certificates_show_fewest;
+use hlc_witness::{certificates_show_cheapest, certificates_show_fewest};
 
 /// Lines say one list of points, one of rows and one of witnesses, so whether they show that the
 /// rows are the fewest is a question of the input alone.
@@ -21,10 +21,11 @@ pub fn printed_certificates_are_read()
     ensures { PrintedIsRead }
 {}
 
-/// A check of what is printed answers that the rows are the fewest, where the witnesses show it and
-/// there is memory.
+/// A check of what is printed answers that the rows are the fewest, and what they cost, where the
+/// witnesses show it and there is memory.
 pub fn printed_certificates_show_fewest()
     ensures { PrintedShowsFewest }
 {
     certificates_show_fewest();
+    certificates_show_cheapest();
 }

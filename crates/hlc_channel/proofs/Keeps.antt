@@ -3,7 +3,8 @@
 -- stays; and no step makes a second sender or receiver.
 use Rattle.std.proofs.Common.{◌≡◌, ◌≢◌, ℕ, zero, suc, Bool, true, false, true≢false, List, [], ◌∷◌, ◌++◌, map, length}
 use Rattle.std.proofs.Common.{set, sym}
-use Rattle.std.proofs.Common.{refl, ap, ◌∙◌, subst, ⊎_elim, append_assoc}
+use Rattle.std.proofs.Common.{refl, ap, ◌∙◌, subst, ⊎_elim, append_assoc, append-nil}
+use Rattle.std.proofs.lemmas.List.{map-append}
 use mathlib.Core.Option.{some, some-ne-none}
 use lib.ListN.{get_elem?}
 use Rattle.crossbeam_channel.specs.Fifo.{Pushes, Pops, Forks}
@@ -20,27 +21,18 @@ use Rattle.hlc_channel.specs.Link.{after_put, after_take}
 off : false ≡ true → ⊥
 off e = true≢false (sym e)
 
--- the parcels of items, and one item more
-map_snoc : (xs : List Item) (x : Item) → map parcel.Item (xs ++ x ∷ []) ≡ map parcel.Item xs ++ parcel.Item x ∷ []
-map_snoc [] x = refl
-map_snoc (y ∷ ys) x = ap (λ (l : List Parcel). parcel.Item y ∷ l) (map_snoc ys x)
-
-append_none : (xs : List Parcel) → xs ++ [] ≡ xs
-append_none [] = refl
-append_none (x ∷ xs) = ap (λ (l : List Parcel). x ∷ l) (append_none xs)
-
 -- a stream without its end, and one parcel more
 item_more : (xs : List Item) (x : Item) (ended : Bool) → ended ≡ false
     → stream (xs ++ x ∷ []) ended ≡ stream xs ended ++ parcel.Item x ∷ []
 item_more xs x true e = absurd (true≢false e)
 item_more xs x false e =
-    append_none (map parcel.Item (xs ++ x ∷ []))
-    ∙ map_snoc xs x
-    ∙ ap (λ (l : List Parcel). l ++ parcel.Item x ∷ []) (sym (append_none (map parcel.Item xs)))
+    append-nil (map parcel.Item (xs ++ x ∷ []))
+    ∙ map-append parcel.Item xs (x ∷ [])
+    ∙ ap (λ (l : List Parcel). l ++ parcel.Item x ∷ []) (sym (append-nil (map parcel.Item xs)))
 
 end_more : (xs : List Item) (ended : Bool) → ended ≡ false → stream xs true ≡ stream xs ended ++ parcel.End ∷ []
 end_more xs true e = absurd (true≢false e)
-end_more xs false e = ap (λ (l : List Parcel). l ++ parcel.End ∷ []) (sym (append_none (map parcel.Item xs)))
+end_more xs false e = ap (λ (l : List Parcel). l ++ parcel.End ∷ []) (sym (append-nil (map parcel.Item xs)))
 
 put_more : (v : Hand) (x : Parcel) → v.end_put ≡ false
     → stream (after_put v x).put (after_put v x).end_put ≡ stream v.put v.end_put ++ x ∷ []
@@ -93,6 +85,23 @@ receiver_was views seat v w r a at same is =
     (λ (t : (r ≢ seat) × (get_elem? views r ≡ some a)). (a, (t.1, is.1)))
     (at_set views seat r w a is.0)
 
+-- so where there was one of either at most, there is
+one_sender : (views : List Hand) (seat : ℕ) (v w : Hand) → get_elem? views seat ≡ some v → w.puts ≡ v.puts
+    → ((s t : ℕ) (a b : Hand) → IsSender views s a → IsSender views t b → s ≡ t)
+    → (s t : ℕ) (a b : Hand) → IsSender (set views seat w) s a → IsSender (set views seat w) t b → s ≡ t
+one_sender views seat v w at same one s t a b p q =
+    let p' = sender_was views seat v w s a at same p in
+    let q' = sender_was views seat v w t b at same q in
+    one s t p'.0 q'.0 p'.1 q'.1
+
+one_receiver : (views : List Hand) (seat : ℕ) (v w : Hand) → get_elem? views seat ≡ some v → w.takes ≡ v.takes
+    → ((r t : ℕ) (a b : Hand) → IsReceiver views r a → IsReceiver views t b → r ≡ t)
+    → (r t : ℕ) (a b : Hand) → IsReceiver (set views seat w) r a → IsReceiver (set views seat w) t b → r ≡ t
+one_receiver views seat v w at same one r t a b p q =
+    let p' = receiver_was views seat v w r a at same p in
+    let q' = receiver_was views seat v w t b at same q in
+    one r t p'.0 q'.0 p'.1 q'.1
+
 -- and where the change left what was put, it had put the same
 sender_kept : (views : List Hand) (seat : ℕ) (v w : Hand) (s : ℕ) (a : Hand)
     → get_elem? views seat ≡ some v → SamePut v w
@@ -140,14 +149,8 @@ puts n seat v x may going items views room h at =
     let same = put_same v x in (
       w,
       (
-        (λ s t a b p q.
-            let p' = sender_was views seat v w s a at same.0 p in
-            let q' = sender_was views seat v w t b at same.0 q in
-            h.0 s t p'.0 q'.0 p'.1 q'.1),
-        (λ r t a b p q.
-            let p' = receiver_was views seat v w r a at same.1.0 p in
-            let q' = receiver_was views seat v w t b at same.1.0 q in
-            h.1 r t p'.0 q'.0 p'.1 q'.1),
+        one_sender views seat v w at same.0 h.0,
+        one_receiver views seat v w at same.1.0 h.1,
         (λ s r a b p q.
             let p' = sender_was views seat v w s a at same.0 p in
             let here : s ≡ seat = h.0 s seat p'.0 v p'.1 (at, may) in
@@ -174,14 +177,8 @@ takes seat v may going x items views h at =
     let same = take_same v x in (
       w,
       (
-        (λ s t a b p q.
-            let p' = sender_was views seat v w s a at same.1.0 p in
-            let q' = sender_was views seat v w t b at same.1.0 q in
-            h.0 s t p'.0 q'.0 p'.1 q'.1),
-        (λ r t a b p q.
-            let p' = receiver_was views seat v w r a at same.0 p in
-            let q' = receiver_was views seat v w t b at same.0 q in
-            h.1 r t p'.0 q'.0 p'.1 q'.1),
+        one_sender views seat v w at same.1.0 h.0,
+        one_receiver views seat v w at same.0 h.1,
         (λ s r a b p q.
             let q' = receiver_was views seat v w r b at same.0 q in
             let here : r ≡ seat = h.1 r seat q'.0 v q'.1 (at, may) in
@@ -229,10 +226,7 @@ cuts seat v may can items views h at =
     (at_snoc vs r a j p.0) in
     let receiver_at : (j : ℕ) (a : Hand) → IsReceiver (vs ++ r ∷ []) j a → j ≡ length vs =
     λ j a p. at_end vs r a j (λ e. no_receiver j a e p.1) p.0 in (
-      (λ s t a b p q.
-          let p' = sender_was views seat v l s a at refl (old_sender s a p) in
-          let q' = sender_was views seat v l t b at refl (old_sender t b q) in
-          h.0 s t p'.0 q'.0 p'.1 q'.1),
+      (λ s t a b p q. one_sender views seat v l at refl h.0 s t a b (old_sender s a p) (old_sender t b q)),
       (λ j t a b p q. receiver_at j a p ∙ sym (receiver_at t b q)),
       (λ s j a b p q.
           let p' = sender_kept views seat v l s a at (refl, refl, refl) (old_sender s a p) in

@@ -1,6 +1,7 @@
 -- The rule of a link as one equation: the parcels put, the end last, are those taken and then those held. The two say
 -- the same, since the items of a stream are those that it was made of, and its end stands last.
 use Rattle.std.proofs.Common.{◌≡◌, ℕ, Bool, true, false, true≢false, List, [], ◌∷◌, ◌++◌, sym, refl, ap, ◌∙◌}
+use Rattle.std.proofs.Common.{append-nil}
 use Rattle.hlc_node.specs.declared.item.Item.{Item}
 use Rattle.hlc_channel.specs.declared.rule.Parcel.{Parcel}
 use Rattle.hlc_channel.specs.declared.rule.Parcel.TheVariants as parcel
@@ -12,10 +13,6 @@ items_of_stream : (xs : List Item) (e : Bool) → items_in (stream xs e) ≡ xs
 items_of_stream [] true = refl
 items_of_stream [] false = refl
 items_of_stream (x ∷ xs) e = ap (λ (l : List Item). x ∷ l) (items_of_stream xs e)
-
-append_none : (xs : List Parcel) → xs ++ [] ≡ xs
-append_none [] = refl
-append_none (x ∷ xs) = ap (λ (l : List Parcel). x ∷ l) (append_none xs)
 
 -- after the end was taken, nothing is left
 ended : (taken put : List Item) (e : Bool) (held : List Parcel) → stream put e ≡ stream taken true ++ held
@@ -44,17 +41,13 @@ going (t ∷ ts) (p ∷ ps) e held is =
     let first : p ≡ t = cc in
     ((λ i. first i ∷ rest.0 i), rest.1)
 
-append_no_items : (xs : List Item) → xs ++ [] ≡ xs
-append_no_items [] = refl
-append_no_items (x ∷ xs) = ap (λ (l : List Item). x ∷ l) (append_no_items xs)
-
 after_end : (held : List Parcel) (v w : Hand) → w.end_taken ≡ true
     → stream v.put v.end_put ≡ stream w.taken true ++ held
     → Carries held v w
 after_end held v w e is =
     let all = ended w.taken v.put v.end_put held is in
     record {
-      items = all.0 ∙ sym (append_no_items w.taken) ∙ ap (λ l. w.taken ++ items_in l) (sym all.2);
+      items = all.0 ∙ sym (append-nil w.taken) ∙ ap (λ l. w.taken ++ items_in l) (sym all.2);
       end_last = rw (e, all.2) refl;
       all_taken = λ _. (all.1, all.2);
     }
@@ -87,8 +80,8 @@ to_stream held v w true is c =
     let all = c.all_taken is in
     (λ i. stream (c.items i) (all.0 i))
     ∙ ap (λ (l : List Parcel). stream (w.taken ++ items_in l) true) all.1
-    ∙ ap (λ (l : List Item). stream l true) (append_no_items w.taken)
-    ∙ sym (append_none (stream w.taken true))
+    ∙ ap (λ (l : List Item). stream l true) (append-nil w.taken)
+    ∙ sym (append-nil (stream w.taken true))
     ∙ ap (λ (l : List Parcel). stream w.taken true ++ l) (sym all.1)
 to_stream held v w false is c =
     ap (λ (l : List Item). stream l v.end_put) c.items

@@ -7,6 +7,7 @@ use Rattle.std.proofs.lemmas.Bool.Decides.{Decides-by_and, Decides-ltb}
 use Rattle.std.proofs.lemmas.Bool.{cases_lt, cases_Bool, and_parts, and_from, ltb-true, lt-ltb, leb-true, leb-false}
 use Rattle.std.proofs.lemmas.Bool.{both_ways}
 use Rattle.std.specs.Bool.{Decides}
+use Rattle.hlc_clock.specs.declared.stamp.TheConstants.{READING_BOUND, COUNTER_BOUND}
 use Rattle.hlc_clock.specs.Stamp.{physical}
 use Rattle.hlc_clock.specs.NextStamp.{IsNext, IsCarried, above, greatest, next_stamp, all_below, is_carried, stamp_due}
 use Rattle.hlc_clock.specs.NextStamp.{IsClockAnswer}
@@ -54,11 +55,13 @@ all_below-Decides es l =
 pub next_stamp-is_next : (es : List ℕ) (p : ℕ) → IsNext es p (next_stamp es p)
 next_stamp-is_next es p = record {
   after = record {
-    above = All-weaker (λ x. x < above es) (λ x. x < max (above es) (65536 * p)) (λ x h. omega arith) es (above-all es);
+    above =
+        All-weaker (λ x. x < above es) (λ x. x < max (above es) (COUNTER_BOUND * p)) (λ x h. omega arith) es
+        (above-all es);
     not_below = omega arith;
   };
   least = λ other h. (let a : above es ≤ other = above-least es other h.above in
-      let b : 65536 * p ≤ other = h.not_below in omega arith);
+      let b : COUNTER_BOUND * p ≤ other = h.not_below in omega arith);
 }
 
 -- there is one next stamp at most
@@ -82,10 +85,10 @@ carried-from es p h =
 -- the answer by the function is the answer by the rule
 pub due_is_answer : (e : ℕ) (es : List ℕ) (p : ℕ) → IsClockAnswer (e ∷ es) p (stamp_due (e ∷ es) p)
 due_is_answer e es p =
-    elim (cases_Bool (nat_le 281474976710656 p)) [
-      | inl large ↦ rw large (leb-true 281474976710656 p large)
+    elim (cases_Bool (nat_le READING_BOUND p)) [
+      | inl large ↦ rw large (leb-true READING_BOUND p large)
       | inr small ↦
-          let below : p < 281474976710656 = leb-false 281474976710656 p small in
+          let below : p < READING_BOUND = leb-false READING_BOUND p small in
           elim (cases_Bool (is_carried (e ∷ es) p)) [
             | inl carried ↦
                 rw (small, carried) (

@@ -1,2 +1,3 @@
 pub mod Stamp
 pub mod NextStamp
+pub mod Points

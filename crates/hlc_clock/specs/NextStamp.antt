@@ -1,6 +1,7 @@
 -- The rule of the clock: the stamp of an event, by the stamps of earlier events and a reading.
-use Rattle.std.specs.Prelude.{ℕ, ◌+◌, ◌*◌, ◌^◌, ◌<◌, ◌≤◌, List, [], ◌∷◌, All, max, Contains, Bool, true, ◌&&◌, nat_lt}
+use Rattle.std.specs.Prelude.{ℕ, ◌+◌, ◌*◌, ◌<◌, ◌≤◌, List, [], ◌∷◌, All, max, Contains, Bool, true, ◌&&◌, nat_lt}
 use Rattle.std.specs.Prelude.{nat_le, if◌then◌else◌, Result, Ok, Err}
+use Rattle.hlc_clock.specs.declared.stamp.TheConstants.{READING_BOUND, COUNTER_BOUND}
 use Rattle.hlc_clock.specs.Stamp.{physical}
 use Rattle.hlc_clock.specs.declared.clock.ClockFault.{ClockFault}
 use Rattle.hlc_clock.specs.declared.clock.ClockFault.TheVariants.{ReadingTooLarge, CounterFull}
@@ -8,7 +9,7 @@ use Rattle.hlc_clock.specs.declared.clock.ClockFault.TheVariants.{ReadingTooLarg
 -- the stamp lies above every earlier one, and not below the reading
 pub record IsAfter (earlier : List ℕ) (reading stamp : ℕ) : Type 0 where
   pub above : All (λ other. other < stamp) earlier
-  pub not_below : 65536 * reading ≤ stamp
+  pub not_below : COUNTER_BOUND * reading ≤ stamp
 
 -- it is the least such stamp
 pub record IsNext (earlier : List ℕ) (reading stamp : ℕ) : Type 0 where
@@ -28,12 +29,12 @@ pub record IsGreatest (stamps : List ℕ) (stamp : ℕ) : Type 0 where
 -- What a clock answers. The reading is refused where it is too large. Else the counter is full where the next stamp
 -- would be carried, and the greatest earlier stamp is named. Else it is the next stamp.
 abbrev pub IsClockAnswer : List ℕ → ℕ → Result ℕ ClockFault → Type 0
-IsClockAnswer earlier reading (Err ReadingTooLarge) = 2 ^ 48 ≤ reading
+IsClockAnswer earlier reading (Err ReadingTooLarge) = READING_BOUND ≤ reading
 IsClockAnswer earlier reading (Err (CounterFull at)) =
-    (reading < 2 ^ 48) × IsGreatest earlier at
+    (reading < READING_BOUND) × IsGreatest earlier at
     × ((stamp : ℕ) → IsNext earlier reading stamp → IsCarried earlier reading stamp)
 IsClockAnswer earlier reading (Ok stamp) =
-    (reading < 2 ^ 48) × IsNext earlier reading stamp × (IsCarried earlier reading stamp → ⊥)
+    (reading < READING_BOUND) × IsNext earlier reading stamp × (IsCarried earlier reading stamp → ⊥)
 
 -- The same as a function, for definitions that compute with stamps.
 
@@ -49,7 +50,7 @@ greatest (stamp ∷ stamps) = max stamp (greatest stamps)
 
 -- the least stamp above each earlier one and not below the reading
 abbrev pub next_stamp : List ℕ → ℕ → ℕ
-next_stamp earlier reading = max (above earlier) (65536 * reading)
+next_stamp earlier reading = max (above earlier) (COUNTER_BOUND * reading)
 
 -- each stamp's physical part is below this one
 abbrev pub all_below : List ℕ → ℕ → Bool
@@ -64,6 +65,6 @@ is_carried earlier reading =
 -- the one answer of a clock
 abbrev pub stamp_due : List ℕ → ℕ → Result ℕ ClockFault
 stamp_due earlier reading =
-    if nat_le 281474976710656 reading then Err ReadingTooLarge
+    if nat_le READING_BOUND reading then Err ReadingTooLarge
     else if is_carried earlier reading then Err (CounterFull (greatest earlier))
     else Ok (next_stamp earlier reading)

@@ -4,7 +4,7 @@ ghost use Rattle.std.proofs.Common.{rules};
 ghost use Rattle.std.proofs.lemmas.Grind.{common_steps};
 ghost use Rattle.hlc_clock.specs.NextStamp.{stamp_due, IsClockAnswer};
 
-use crate::stamp::Stamp;
+use crate::stamp::{COUNTER_BOUND, READING_BOUND, Stamp};
 use hlc_values::Exact;
 use std::marker::Model;
 
@@ -105,7 +105,7 @@ impl Clock {
 fn stamp_after_both(last: Stamp, seen: Stamp, reading: u64) -> Result<Stamp, ClockFault>
     ensures { result ≡ stamp_due (last ∷ seen ∷ []) reading }
 {
-    if reading >= 281_474_976_710_656 {
+    if reading >= READING_BOUND {
         return Err(ClockFault::ReadingTooLarge);
     }
     let l = last.l().max(seen.l()).max(reading);
@@ -118,24 +118,24 @@ fn stamp_after_both(last: Stamp, seen: Stamp, reading: u64) -> Result<Stamp, Clo
         seen.c()
     } else {
         // The physical clock has gone on past both: the counter starts anew.
-        return Ok(Stamp::from_bits(l * 65536));
+        return Ok(Stamp::from_bits(l * COUNTER_BOUND));
     };
     if counter == u16::MAX {
         return Err(ClockFault::CounterFull { at: last.max(seen) });
     }
-    Ok(Stamp::from_bits(l * 65536 + counter as u64 + 1))
+    Ok(Stamp::from_bits(l * COUNTER_BOUND + counter as u64 + 1))
 }
 
 /// The stamp of an event after the one that had this stamp.
 fn stamp_after(last: Stamp, reading: u64) -> Result<Stamp, ClockFault>
     ensures { result ≡ stamp_due (last ∷ []) reading }
 {
-    if reading >= 281_474_976_710_656 {
+    if reading >= READING_BOUND {
         return Err(ClockFault::ReadingTooLarge);
     }
     // The physical clock has gone on: the counter starts anew.
     if reading > last.l() {
-        return Ok(Stamp::from_bits(reading * 65536));
+        return Ok(Stamp::from_bits(reading * COUNTER_BOUND));
     }
     // It has not, so the counter tells the events apart.
     if last.c() == u16::MAX {

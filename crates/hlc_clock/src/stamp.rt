@@ -9,6 +9,7 @@ ghost use Rattle.std.specs.Hash as fed;
 ghost use Rattle.std.specs.Ordering.{nat_cmp, as_partial_cmp};
 ghost use Rattle.std.proofs.Common.{rules};
 ghost use Rattle.std.proofs.lemmas.Cmp.{nat_cmp_total, nat_eq_equiv};
+ghost use Rattle.hlc_clock.specs.declared.stamp.TheConstants.{READING_BOUND, COUNTER_BOUND};
 ghost use Rattle.hlc_clock.specs.Stamp.{physical, counter, stamp_text};
 
 use hlc_values::Exact;
@@ -17,6 +18,18 @@ use std::cmp::Ordering;
 use std::fmt::{self, InlineText, Write};
 use std::hash::{Hash, Hasher};
 use std::marker::Model;
+
+/// Each reading, and each physical part of a stamp, is below this.
+pub const READING_BOUND: u64 = 281_474_976_710_656;
+
+/// Each counter of a stamp is below this.
+pub const COUNTER_BOUND: u64 = 65536;
+
+/// The physical part has 48 bits, and the counter 16.
+pub fn stamps_have_48_and_16_bits()
+    ensures reading { READING_BOUND ≡ 2 ^ 48 }
+    ensures counter { COUNTER_BOUND ≡ 2 ^ 16 }
+{}
 
 /// A reading, or the physical part of a stamp, is 2^48 or more.
 #[derive(Clone, Copy, PartialEq, Eq, Debug)]
@@ -50,13 +63,14 @@ impl Model for Stamp {
 impl Stamp {
     /// The stamp of these parts, refused where the physical part has more than 48 bits.
     pub fn new(l: u64, c: u16) -> Result<Stamp, ReadingTooLarge>
-        ensures { MatchResult result (λ stamp. (l < 2 ^ 48) × (stamp ≡ 65536 * l + c)) (λ _. 2 ^ 48 ≤ l) }
+        ensures { MatchResult result (λ stamp. (l < READING_BOUND) × (stamp ≡ COUNTER_BOUND * l + c))
+            (λ _. READING_BOUND ≤ l) }
     {
-        if l >= 281_474_976_710_656 {
+        if l >= READING_BOUND {
             return Err(ReadingTooLarge);
         }
         Ok(Stamp {
-            bits: l * 65536 + c as u64,
+            bits: l * COUNTER_BOUND + c as u64,
         })
     }
 
@@ -79,14 +93,14 @@ impl Stamp {
     pub fn l(self) -> u64
         ensures { result ≡ physical self }
     {
-        self.bits / 65536
+        self.bits / COUNTER_BOUND
     }
 
     /// The counter.
     pub fn c(self) -> u16
         ensures { result ≡ counter self }
     {
-        (self.bits % 65536) as u16
+        (self.bits % COUNTER_BOUND) as u16
     }
 }
 

@@ -1,7 +1,7 @@
 //! The small callers of the pages of `hlc_lanes`, `hlc_columns` and `hlc_vacuum`, each with what it may rely on.
 ghost use Rattle.std.specs.Prelude.{◌≡◌, ◌+◌, ◌++◌, ◌∷◌, [], IfOk, OnOk, IsTrue, count_by, length, nat_le, false};
 ghost use Rattle.std.specs.List.Sorted.{IsPermutation};
-ghost use Rattle.hlc_witness.specs.Points.{PointsAscend};
+ghost use Rattle.hlc_clock.specs.Points.{PointsAscend};
 ghost use Rattle.hlc_witness.specs.Fewest.{Alike};
 
 use hlc_columns::{Row, Stamp, Table};

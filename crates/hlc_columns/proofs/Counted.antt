@@ -1,19 +1,15 @@
 -- An index has each of the first places once, so what it counts is what a pass over the first rows counts.
 use Rattle.std.proofs.Common.{◌≡◌, ℕ, zero, suc, ◌+◌, ◌-◌, ◌<◌, ◌≤◌, true, false, Bool, List, [], ◌∷◌, ◌++◌, length}
 use Rattle.std.proofs.Common.{get_or}
-use Rattle.std.proofs.Common.{take, drop, refl, sym, ap, ◌∙◌, subst, inl, inr, ◌⊎◌, arith, Contains, leb, cond}
+use Rattle.std.proofs.Common.{take, drop, refl, sym, ap, ◌∙◌, subst, inl, inr, arith, Contains, leb, cond}
 use Rattle.std.specs.List.{count_by, sum_by}
 use Rattle.std.specs.List.Sorted.{IsPartitionPoint}
 use Rattle.std.proofs.lemmas.List.{take_more, drop_more, take_all, take-append-drop, length-append, length-take-le}
 use Rattle.std.proofs.lemmas.List.{length-drop}
 use Rattle.std.proofs.lemmas.List.Sums.{count_by_more_yes, count_by_more_no, sum_by-append, sum_by-take-drop}
 use Rattle.std.proofs.lemmas.List.Elements.{Contains-append_cases, Contains-append_left, Contains-append_right}
+use Rattle.hlc_values.proofs.MemberLemmas.{Contains-cons_cases}
 use Rattle.hlc_columns.specs.Order.{IsIndex}
-
--- the first or one of the others
-first_or_other : (x : ℕ) (xs : List ℕ) (y : ℕ) → Contains (x ∷ xs) y → (x ≡ y) ⊎ Contains xs y
-first_or_other x xs y (zero, lt, e) = inl e
-first_or_other x xs y (suc k, lt, e) = inr (k, omega (arith, lt), e)
 
 -- a sum over the places below n, in any order, is the sum over the first n
 summed : (ss : List ℕ) (g : ℕ → ℕ) (n : ℕ) (xs : List ℕ) → n ≤ length ss → length xs ≡ n
@@ -38,7 +34,7 @@ summed ss g (suc n) xs le long every =
     λ p lt. elim (Contains-append_cases front (n ∷ back) p
     (subst (λ l. Contains l p) split (every p (omega (arith, lt))))) [
       | inl here ↦ Contains-append_left front back p here
-      | inr there ↦ elim (first_or_other n back p there) [
+      | inr there ↦ elim (Contains-cons_cases n p back there) [
         | inl is ↦ absurd (omega (arith, is, lt))
         | inr rest ↦ Contains-append_right front back p rest
       ]

@@ -22,7 +22,8 @@ use Rattle.hlc_columns.specs.Cells.{Cell}
 use Rattle.hlc_columns.specs.Rows.{row_of, rows_of, rows_with, KeyCells, rows_in_one}
 use Rattle.hlc_columns.specs.Table.{table_rows}
 use Rattle.std.specs.Str.{bytes_eq}
-use Rattle.hlc_columns.proofs.Keys.{keyed, Contains-cons_cases}
+use Rattle.hlc_values.proofs.MemberLemmas.{Contains-none, Contains-cons_cases}
+use Rattle.hlc_columns.proofs.Keys.{keyed}
 
 pub same_key : (a b : List ℕ) → is_eq (slice_cmp nat_cmp a b) ≡ true → a ≡ b
 same_key a b e = (bytes_eq-Decides a b).0 (texts_ties a b ∙ e)
@@ -52,9 +53,6 @@ no_row_on k key (x ∷ xs) ys apart keys none zero w at same =
     apart (sym same ∙ ap (λ (r : Row). r.key) (sym (same_Some x w at)) ∙ keys 0 x refl)
 no_row_on k key (x ∷ xs) ys apart keys none (suc j) w at same =
     no_row_on k key xs ys apart (λ i v. keys (suc i) v) none j w at same
-
-Contains-none : {X : Type 0} (x : X) → Contains [] x → ⊥
-Contains-none x (k, lt, e) = omega (arith, lt)
 
 -- of a column's rows, all have its key and none another
 own_rows : (key : List ℕ) (cells : List Cell) → rows_with key (rows_of key cells) ≡ rows_of key cells
@@ -138,7 +136,7 @@ module _ {K : Type 0} (f : K → List ℕ) where
       → slice_cmp nat_cmp k one.key ≡ Less
   column_later k [] one h i = absurd (Contains-none one i)
   column_later k (e ∷ es) one h i =
-      elim (Contains-cons_cases (record { key = f e.0; cells = e.1 }) (keyed f es) one i) [
+      elim (Contains-cons_cases (record { key = f e.0; cells = e.1 }) one (keyed f es) i) [
         | inl is ↦ subst (λ (x : KeyCells). slice_cmp nat_cmp k x.key ≡ Less) is h.0
         | inr there ↦ column_later k es one h.1 there
       ]
@@ -151,7 +149,7 @@ module _ {K : Type 0} (f : K → List ℕ) where
   newest_alone [] up one i bound = absurd (Contains-none one i)
   newest_alone (e ∷ es) up one i bound =
       let later = sorted_head (λ a b. slice_cmp nat_cmp (f a) (f b)) e.0 (keys_of es) up in
-      elim (Contains-cons_cases (record { key = f e.0; cells = e.1 }) (keyed f es) one i) [
+      elim (Contains-cons_cases (record { key = f e.0; cells = e.1 }) one (keyed f es) i) [
         | inl is ↦
             subst (λ (x : KeyCells). newest (table_rows f (e ∷ es)) x.key bound ≡ newest (rows_in_one x) x.key bound) is
             (newest_only (rows_of (f e.0) e.1) (table_rows f es) (f e.0) bound

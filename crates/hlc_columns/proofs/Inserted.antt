@@ -21,7 +21,7 @@ use Rattle.std.proofs.lemmas.List.Sorted.{IsPermutation-append_right, IsPermutat
 use Rattle.std.proofs.lemmas.List.Elements.{Contains-append_cases, Contains-append_left, Contains-append_right}
 use Rattle.hlc_columns.specs.Table.{table_rows, HasNoVersion}
 use Rattle.hlc_columns.proofs.Found.{test, same_key, none_here}
-use Rattle.hlc_columns.proofs.Keys.{Contains-cons_cases, Contains-rest}
+use Rattle.hlc_values.proofs.MemberLemmas.{Contains-rest, Contains-cons_cases}
 
 -- new is old with one more row at some place
 abbrev pub Inserted : List Row → Row → List Row → Type 0
@@ -185,7 +185,7 @@ inserted-IsRowSet old row new (front, back, was, is) none apart =
     go (x ∷ xs) none apart = (
       λ other m same. elim (Contains-append_cases xs (row ∷ back) other m) [
         | inl left ↦ apart.0 other (Contains-append_left xs back other left) same
-        | inr right ↦ elim (Contains-cons_cases row back other right) [
+        | inr right ↦ elim (Contains-cons_cases row other back right) [
           | inl e ↦ none x (0, omega arith, refl) (record {
             key = ap (λ (r : Row). r.key) e ∙ sym same.key;
             stamp = ap (λ (r : Row). r.stamp) e ∙ sym same.stamp;
@@ -194,7 +194,7 @@ inserted-IsRowSet old row new (front, back, was, is) none apart =
           | inr r ↦ apart.0 other (Contains-append_right xs back other r) same
         ]
       ],
-      go xs (λ other m same. none other (Contains-rest x (xs ++ back) other m) same) apart.1,
+      go xs (λ other m same. none other (Contains-rest x other (xs ++ back) m) same) apart.1,
     )
 
 -- whether it was put there or not, the rows are a row set

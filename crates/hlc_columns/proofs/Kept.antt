@@ -1,55 +1,17 @@
 -- Keeping flagged rows, column by column: each column takes as many flags off the front as it has rows,
 -- and goes where none is kept.
 use Rattle.std.proofs.Common.{◌≡◌, ℕ, ◌+◌, ◌<◌, ◌≤◌, Bool, true, false, cond, List, [], ◌∷◌, ◌++◌, length, refl, sym}
-use Rattle.std.proofs.Common.{ap, ap₂, ◌∙◌, subst, inl, inr, arith, Contains, map, true≢false, take, drop, ltb}
+use Rattle.std.proofs.Common.{ap, ap₂, ◌∙◌, subst, arith, true≢false, take, drop, ltb}
 use Rattle.std.specs.List.{items_where_true}
 use Rattle.std.specs.Map.Calls.{RetainsPairs}
 use Rattle.std.specs.List.{AllByRecursion}
 use Rattle.std.proofs.lemmas.Bool.{ltb-true, lt-ltb}
 use Rattle.std.proofs.lemmas.List.{length-map, length-append, length-drop}
 use Rattle.hlc_node.specs.declared.row.Row.{Row}
-use Rattle.hlc_node.specs.Rows.{IsRowSet}
 use Rattle.hlc_columns.specs.Cells.{Cell}
 use Rattle.hlc_columns.specs.Rows.{row_of, rows_of}
 use Rattle.hlc_columns.specs.Table.{table_rows}
-use Rattle.hlc_columns.proofs.Keys.{Contains-cons_cases, Contains-rest}
-
-flagged-none : {X : Type 0} (flags : List Bool) → items_where_true {X = X} flags [] ≡ []
-flagged-none [] = refl
-flagged-none (b ∷ flags) = refl
-
--- flags of some rows, and those of the others
-pub flagged-append : {X : Type 0} (xs ys : List X) (flags : List Bool)
-    → length flags ≡ length (xs ++ ys) → items_where_true flags (xs ++ ys)
-    ≡ items_where_true (take (length xs) flags) xs ++ items_where_true (drop (length xs) flags) ys
-flagged-append [] ys flags e = refl
-flagged-append (x ∷ xs) ys [] e = absurd (omega (arith, e))
-flagged-append (x ∷ xs) ys (true ∷ flags) e = ap (λ zs. x ∷ zs) (flagged-append xs ys flags (omega (arith, e)))
-flagged-append (x ∷ xs) ys (false ∷ flags) e = flagged-append xs ys flags (omega (arith, e))
-
-pub flagged-map : {X Y : Type 0} (f : X → Y) (flags : List Bool) (xs : List X)
-    → map f (items_where_true flags xs) ≡ items_where_true flags (map f xs)
-flagged-map f [] xs = refl
-flagged-map f (b ∷ flags) [] = refl
-flagged-map f (true ∷ flags) (x ∷ xs) = ap (λ ys. f x ∷ ys) (flagged-map f flags xs)
-flagged-map f (false ∷ flags) (x ∷ xs) = flagged-map f flags xs
-
-pub flagged-Contains : {X : Type 0} (flags : List Bool) (xs : List X) (x : X)
-    → Contains (items_where_true flags xs) x → Contains xs x
-flagged-Contains [] xs x (k, lt, e) = absurd (omega (arith, lt))
-flagged-Contains (b ∷ flags) [] x (k, lt, e) = absurd (omega (arith, lt))
-flagged-Contains (true ∷ flags) (y ∷ ys) x i = elim (Contains-cons_cases y (items_where_true flags ys) x i) [
-  | inl e ↦ (0, omega arith, e)
-  | inr r ↦ Contains-rest y ys x (flagged-Contains flags ys x r)
-]
-flagged-Contains (false ∷ flags) (y ∷ ys) x i = Contains-rest y ys x (flagged-Contains flags ys x i)
-
-pub flagged-IsRowSet : (flags : List Bool) (rows : List Row) → IsRowSet rows → IsRowSet (items_where_true flags rows)
-flagged-IsRowSet [] rows apart = tt
-flagged-IsRowSet (b ∷ flags) [] apart = tt
-flagged-IsRowSet (true ∷ flags) (row ∷ rows) apart =
-    (λ other i. apart.0 other (flagged-Contains flags rows other i), flagged-IsRowSet flags rows apart.1)
-flagged-IsRowSet (false ∷ flags) (row ∷ rows) apart = flagged-IsRowSet flags rows apart.1
+use Rattle.hlc_columns.proofs.FlagLemmas.{flagged-none, flagged-append, flagged-map}
 
 -- what `retain` leaves, where each call takes the flags of its column off the front
 module _ {F K : Type 0} (f : K → List ℕ) (T : F → K → List Cell → Bool → List Cell → F → Type 0)

@@ -1,5 +1,5 @@
 -- Walks over the columns: they are listed, named and counted one after another.
-use Rattle.std.proofs.Common.{◌≡◌, ℕ, zero, suc, ◌+◌, ◌<◌, Bool, List, [], ◌∷◌, ◌++◌, length, refl, sym, ap, ◌∙◌, ◌⊎◌}
+use Rattle.std.proofs.Common.{◌≡◌, ℕ, ◌+◌, ◌<◌, Bool, List, [], ◌∷◌, ◌++◌, length, refl, sym, ap, ◌∙◌}
 use Rattle.std.proofs.Common.{inl, inr, arith, Contains, filter, map, Less, nat_cmp, leb}
 use Rattle.std.specs.Cmp.Lexicographic.{slice_cmp}
 use Rattle.std.specs.List.{AllByRecursion}
@@ -7,18 +7,13 @@ use Rattle.std.specs.List.Sorted.{IsStrictlySortedBy}
 use Rattle.std.specs.Map.{keys_of}
 use Rattle.std.proofs.lemmas.List.{append_assoc, length-map, length-append}
 use Rattle.std.proofs.lemmas.List.Elements.{filter-append}
+use Rattle.hlc_values.proofs.MemberLemmas.{Contains-rest, Contains-cons_cases}
 use Rattle.hlc_node.specs.declared.row.Row.{Row}
 use Rattle.hlc_columns.specs.Cells.{Cell}
 use Rattle.hlc_columns.specs.Rows.{row_of, rows_of, KeyCells, rows_in, keys_in, KeysAscend}
 use Rattle.std.proofs.lemmas.List.Elements.{Contains-append_cases, Contains-append_left, Contains-append_right}
 use Rattle.hlc_columns.specs.Table.{table_rows}
-
-pub Contains-rest : {X : Type 0} (x : X) (xs : List X) (y : X) → Contains xs y → Contains (x ∷ xs) y
-Contains-rest x xs y (k, lt, e) = (suc k, omega arith, e)
-
-pub Contains-cons_cases : {X : Type 0} (x : X) (xs : List X) (y : X) → Contains (x ∷ xs) y → (x ≡ y) ⊎ Contains xs y
-Contains-cons_cases x xs y (zero, lt, e) = inl e
-Contains-cons_cases x xs y (suc k, lt, e) = inr (k, (let l : suc k < length (x ∷ xs) = lt in omega arith), e)
+use Rattle.hlc_columns.proofs.RowLemmas.{row_key}
 
 -- the columns with their keys
 abbrev pub keyed : {K : Type 0} → (K → List ℕ) → List (K × List Cell) → List KeyCells
@@ -79,28 +74,20 @@ one_more_name f listed more e left es all name left_is told is same =
     ap (λ xs. xs ++ names f es) (is ∙ ap (λ x. listed ++ x ∷ []) same) ∙ append_assoc listed (f e.0 ∷ []) (names f es)
     ∙ ap (λ es. listed ++ names f es) (sym left_is) ∙ told
 
--- a row of a column has its key
-row_key : (key : List ℕ) (cells : List Cell) (row : Row) → Contains (rows_of key cells) row → row.key ≡ key
-row_key key [] row (k, lt, e) = absurd (omega (arith, lt))
-row_key key (c ∷ cs) row i = elim (Contains-cons_cases (row_of key c) (rows_of key cs) row i) [
-  | inl is ↦ ap (λ (r : Row). r.key) (sym is)
-  | inr r ↦ row_key key cs row r
-]
-
 -- each key that has rows is named, and no other
 pub name_of_row : {K : Type 0} (f : K → List ℕ) (es : List (K × List Cell)) (row : Row) → Contains (table_rows f es) row
     → Contains (names f es) row.key
 name_of_row f [] row (k, lt, e) = absurd (omega (arith, lt))
 name_of_row f (e ∷ es) row i = elim (Contains-append_cases (rows_of (f e.0) e.1) (table_rows f es) row i) [
   | inl here ↦ (0, omega arith, sym (row_key (f e.0) e.1 row here))
-  | inr there ↦ Contains-rest (f e.0) (names f es) row.key (name_of_row f es row there)
+  | inr there ↦ Contains-rest (f e.0) row.key (names f es) (name_of_row f es row there)
 ]
 
 pub row_of_name : {K : Type 0} (f : K → List ℕ) (es : List (K × List Cell)) (key : List ℕ)
     → AllByRecursion (λ e. 0 < length e.1) es → Contains (names f es) key
     → (row : Row) × Contains (table_rows f es) row × (row.key ≡ key)
 row_of_name f [] key some (k, lt, e) = absurd (omega (arith, lt))
-row_of_name f (e ∷ es) key some i = elim (Contains-cons_cases (f e.0) (names f es) key i) [
+row_of_name f (e ∷ es) key some i = elim (Contains-cons_cases (f e.0) key (names f es) i) [
   | inl is ↦ let row = first e.1 some.0 in (
     row.0,
     Contains-append_left (rows_of (f e.0) e.1) (table_rows f es) row.0 row.1,

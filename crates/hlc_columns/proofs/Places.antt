@@ -2,7 +2,7 @@
 -- is a total one, so what is sorted rises.
 use Rattle.std.proofs.Common.{◌≡◌, ℕ, ◌+◌, ◌-◌, ◌<◌, ◌≤◌, true, false, List, [], ◌∷◌, ◌++◌, Some, None, length, get_or}
 use Rattle.std.proofs.Common.{take, drop, refl, sym, ap, ◌∙◌, subst, inl, inr, arith, Contains, All, true≢false, leb}
-use Rattle.std.proofs.Common.{ltb}
+use Rattle.std.proofs.Common.{ltb, Bool}
 use Rattle.std.specs.List.Sorted.{IsPartitionedBy, IsPartitionPoint, IsPermutation, IsSortedBy}
 use Rattle.std.specs.Cmp.{IsTotalOrder}
 use Rattle.std.specs.Ordering.{nat_cmp, ordering_then, is_lt, MatchOrdering}
@@ -19,26 +19,25 @@ use Rattle.hlc_columns.specs.Newest.{NotAbove, IsNewestBelow}
 use Rattle.hlc_columns.specs.Order.{Rises, IsIndex, IsNumbered, place_cmp}
 use Rattle.hlc_columns.proofs.Best.{not_above_itself, not_above_trans}
 
--- the stamps rise along an index
-pub stamps_partitioned : (ss ns order : List ℕ) (bound : ℕ) → IsIndex ss ns order
-    → IsPartitionedBy (λ p. leb (get_or ss p 0) bound) order
-stamps_partitioned ss ns order bound (long, below, every, rises) i j d le lt passes =
+-- the stamps rise along an index, so those that pass a test, which each lesser one passes too, stand in front
+partitioned_by : (passes : ℕ → Bool) → ((x y : ℕ) → x ≤ y → passes y ≡ true → passes x ≡ true)
+    → (ss ns order : List ℕ) → IsIndex ss ns order → IsPartitionedBy (λ p. passes (get_or ss p 0)) order
+partitioned_by passes lesser ss ns order (long, below, every, rises) i j d le lt pass =
     let e = get_or_default order i 0 d (omega (arith, le, lt)) in
     let f = get_or_default order j 0 d lt in
-    let h = (rises i j le lt).0 in
-    subst (λ p. leb (get_or ss p 0) bound ≡ true) e
-    (let y = subst (λ p. leb (get_or ss p 0) bound ≡ true) (sym f) passes in
-    grind (arith, nat_tests))
+    subst (λ p. passes (get_or ss p 0) ≡ true) e
+    (lesser (get_or ss (get_or order i 0) 0) (get_or ss (get_or order j 0) 0) (rises i j le lt).0
+    (subst (λ p. passes (get_or ss p 0) ≡ true) (sym f) pass))
+
+pub stamps_partitioned : (ss ns order : List ℕ) (bound : ℕ) → IsIndex ss ns order
+    → IsPartitionedBy (λ p. leb (get_or ss p 0) bound) order
+stamps_partitioned ss ns order bound =
+    partitioned_by (λ s. leb s bound) (λ x y le pass. grind (arith, nat_tests)) ss ns order
 
 pub stamps_partitioned_below : (ss ns order : List ℕ) (stamp : ℕ) → IsIndex ss ns order
     → IsPartitionedBy (λ p. ltb (get_or ss p 0) stamp) order
-stamps_partitioned_below ss ns order stamp (long, below, every, rises) i j d le lt passes =
-    let e = get_or_default order i 0 d (omega (arith, le, lt)) in
-    let f = get_or_default order j 0 d lt in
-    let h = (rises i j le lt).0 in
-    subst (λ p. ltb (get_or ss p 0) stamp ≡ true) e
-    (let y = subst (λ p. ltb (get_or ss p 0) stamp ≡ true) (sym f) passes in
-    grind (arith, nat_tests))
+stamps_partitioned_below ss ns order stamp =
+    partitioned_by (λ s. ltb s stamp) (λ x y le pass. grind (arith, nat_tests)) ss ns order
 
 -- none is at or below the bound
 pub none_indexed : (ss ns order : List ℕ) (bound : ℕ) → IsIndex ss ns order

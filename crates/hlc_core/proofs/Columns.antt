@@ -10,7 +10,7 @@ use Rattle.hlc_columns.specs.Cells.{Cell}
 use Rattle.hlc_columns.specs.Rows.{KeyCells, row_of, rows_of, rows_in_one, rows_in, keys_in, AreAlone}
 use Rattle.hlc_core.specs.declared.listing.Pair.{Pair}
 use Rattle.hlc_core.specs.Listing.{pair_of, pairs_of}
-use Rattle.hlc_core.specs.PastLaws.{none-contained, contained-first, contained-rest, contained-cases}
+use Rattle.hlc_core.proofs.PastLemmas.{none-contained, contained-first, contained-rest, contained-cases}
 use Rattle.hlc_core.proofs.Listed.{pairs-rest}
 
 -- a row of a column has its key

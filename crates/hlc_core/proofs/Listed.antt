@@ -14,7 +14,7 @@ use Rattle.hlc_node.specs.Rows.{is_candidate, is_before, later, newest, answer}
 use Rattle.hlc_core.specs.declared.listing.Pair.{Pair}
 use Rattle.hlc_core.specs.Listing.{pair_of, pairs_of}
 use Rattle.hlc_core.specs.Calls.{IsListing}
-use Rattle.hlc_core.specs.PastLaws.{none-contained, contained-first, contained-rest, contained-cases}
+use Rattle.hlc_core.proofs.PastLemmas.{none-contained, contained-first, contained-rest, contained-cases}
 
 abbrev key_cmp : List ℕ → List ℕ → Ordering
 key_cmp = slice_cmp nat_cmp

@@ -25,16 +25,17 @@ use Rattle.hlc_core.specs.Stored.{IsStoredCount}
 use Rattle.hlc_core.specs.Kept.{Kept, nodes, IsMatched, StandsFor}
 use Rattle.hlc_snapshot.specs.declared.fault.SnapshotFault.{SnapshotFault}
 use Rattle.hlc_snapshot.specs.declared.snapshot.Snapshot.{Snapshot}
-use Rattle.hlc_witness.specs.Standing.{RowsStandFor, count_above}
-use Rattle.hlc_snapshot.specs.RegisterLaws.{stamp_in-all}
+use Rattle.hlc_vacuum.specs.Standing.{RowsStandFor, count_above}
+use Rattle.hlc_snapshot.proofs.RegisterLemmas.{stamp_in-all}
+use Rattle.hlc_vacuum.proofs.StandingLemmas.{writes_keep_standing, writes_are_counted, opens_keep_standing}
 use Rattle.hlc_snapshot.specs.declared.fault.NoSnapshot.{NoSnapshot}
 use Rattle.hlc_core.specs.declared.listing.Pair.{Pair}
 use Rattle.hlc_core.proofs.Mapped.{in_map}
 use Rattle.hlc_snapshot.specs.Register.{Register, closed, stamps, stamp_in, without, room_refusal as room_in}
 use Rattle.hlc_snapshot.specs.Register.{IsRefusal as IsRoomRefusal}
 use Rattle.hlc_core.specs.Calls.{new_refusal, IsRefusal, IsListing, Closes}
-use Rattle.hlc_core.specs.PastLaws.{admissible, on_link, inside, least-some, least-le, above-horizon, open-above}
-use Rattle.hlc_core.specs.PastLaws.{writes-row_set, contained-cases, contained-first, contained-rest}
+use Rattle.hlc_core.proofs.PastLemmas.{admissible, on_link, inside, least-some, least-le, above-horizon, open-above}
+use Rattle.hlc_core.proofs.PastLemmas.{writes-row_set, contained-cases, contained-first, contained-rest}
 
 abbrev a_link : ℕ → ℕ → Progress
 a_link next head = record { next = next; head = head }
@@ -165,36 +166,27 @@ with_item kept item = record {
   rows = kept.rows ++ item_rows item;
 }
 
--- a row that is written above the horizon is stored with the others, and counts as one more
-abbrev pub WritesStand : Type 0
-WritesStand = (stored all : List Row) (horizon : ℕ) (opened : List ℕ) (row : Row)
-    → RowsStandFor stored all horizon opened → horizon < row.stamp → IsRowSet (all ++ row ∷ [])
-    → RowsStandFor (stored ++ row ∷ []) (all ++ row ∷ []) horizon opened
-
-abbrev pub WritesCount : Type 0
-WritesCount = (stored all : List Row) (horizon changes : ℕ) (row : Row)
-    → length stored ≡ changes + count_above horizon all → horizon < row.stamp
-    → length (stored ++ row ∷ []) ≡ changes + count_above horizon (all ++ row ∷ [])
-
--- and so is the row of an item, if it has one
-rows-body : WritesStand → (stored all : List Row) (horizon : ℕ) (opened : List ℕ) (node stamp : ℕ) (body : Body)
+-- the row of an item, if it has one, is stored with the others, and counts as one more
+rows-body : (stored all : List Row) (horizon : ℕ) (opened : List ℕ) (node stamp : ℕ) (body : Body)
     → RowsStandFor stored all horizon opened → horizon < stamp → IsRowSet (all ++ body_rows node stamp body)
     → RowsStandFor (stored ++ body_rows node stamp body) (all ++ body_rows node stamp body) horizon opened
-rows-body law stored all horizon opened node stamp Report stand up apart = rw (append-nil, append-nil) stand
-rows-body law stored all horizon opened node stamp (Write key value) stand up apart =
-    law stored all horizon opened (record { key = key; stamp = stamp; node = node; value = value }) stand up apart
+rows-body stored all horizon opened node stamp Report stand up apart = rw (append-nil, append-nil) stand
+rows-body stored all horizon opened node stamp (Write key value) stand up apart =
+    writes_keep_standing stored all horizon opened (record { key = key; stamp = stamp; node = node; value = value })
+    stand up apart
 
-count-body : WritesCount → (stored all : List Row) (horizon changes : ℕ) (node stamp : ℕ) (body : Body)
+count-body : (stored all : List Row) (horizon changes : ℕ) (node stamp : ℕ) (body : Body)
     → length stored ≡ changes + count_above horizon all → horizon < stamp
     → length (stored ++ body_rows node stamp body) ≡ changes + count_above horizon (all ++ body_rows node stamp body)
-count-body law stored all horizon changes node stamp Report is up = rw (append-nil, append-nil) is
-count-body law stored all horizon changes node stamp (Write key value) is up =
-    law stored all horizon changes (record { key = key; stamp = stamp; node = node; value = value }) is up
+count-body stored all horizon changes node stamp Report is up = rw (append-nil, append-nil) is
+count-body stored all horizon changes node stamp (Write key value) is up =
+    writes_are_counted stored all horizon changes (record { key = key; stamp = stamp; node = node; value = value })
+    is up
 
 -- an item that nothing refuses is taken
-pub took : WritesStand → WritesCount → (kept : Kept) (past : List Step) (item : Item) → StandsFor kept past
+pub took : (kept : Kept) (past : List Step) (item : Item) → StandsFor kept past
     → item_refusal (nodes kept) past item ≡ None → StandsFor (with_item kept item) (Took item ∷ past)
-took stand count' kept past item h none =
+took kept past item h none =
     let within : item.node < nodes kept = inside (nodes kept) past item none in
     let next : item.number ≡ count item.node past = (admissible (count item.node past) (head item.node past) item
     (sym (on_link (nodes kept) past item within) ∙ none)).number in
@@ -204,12 +196,12 @@ took stand count' kept past item h none =
     let up : horizon (nodes kept) past < item.stamp = above-horizon (nodes kept) past item h.legal none in
     let rows : RowsStandFor (kept.rows ++ item_rows item) (writes past ++ item_rows item)
     (horizon (nodes kept) past) (stamps (open_snapshots past)) =
-    rows-body stand kept.rows (writes past) (horizon (nodes kept) past) (stamps (open_snapshots past)) item.node
+    rows-body kept.rows (writes past) (horizon (nodes kept) past) (stamps (open_snapshots past)) item.node
     item.stamp item.body h.rows up (writes-row_set (nodes kept) (Took item ∷ past) legal) in
     let stored : IsStoredCount (nodes kept) (Took item ∷ past) (length (kept.rows ++ item_rows item)) = (
       h.stored.0,
       h.stored.1,
-      count-body count' kept.rows (writes past) (horizon (nodes kept) past)
+      count-body kept.rows (writes past) (horizon (nodes kept) past)
           (length h.stored.0) item.node item.stamp item.body h.stored.2 up,
     ) in
     record {
@@ -270,15 +262,10 @@ with_snapshot kept stamp = record {
   rows = kept.rows;
 }
 
--- a snapshot that opens at or above the horizon is told the same
-abbrev pub OpensStand : Type 0
-OpensStand = (stored all : List Row) (horizon stamp : ℕ) (opened : List ℕ) → RowsStandFor stored all horizon opened
-    → horizon ≤ stamp → RowsStandFor stored all horizon (opened ++ stamp ∷ [])
-
 -- a snapshot that nothing refuses is opened
-pub opens : OpensStand → (kept : Kept) (past : List Step) (stamp : ℕ) → StandsFor kept past
+pub opens : (kept : Kept) (past : List Step) (stamp : ℕ) → StandsFor kept past
     → open_refusal (nodes kept) past stamp ≡ None → StandsFor (with_snapshot kept stamp) (Opened stamp ∷ past)
-opens stand kept past stamp h none =
+opens kept past stamp h none =
     record {
       legal = (none, h.legal);
       links = h.links;
@@ -288,8 +275,8 @@ opens stand kept past stamp h none =
       rows = subst (λ opened. RowsStandFor kept.rows (writes past) (horizon (nodes kept) past) opened)
           (sym (map-append (λ (snapshot : Snapshot). snapshot.stamp) (open_snapshots past)
           (record { id = opened past + 1; stamp = stamp } ∷ [])))
-          (stand kept.rows (writes past) (horizon (nodes kept) past) stamp (stamps (open_snapshots past)) h.rows
-          (open-above (nodes kept) past stamp none));
+          (opens_keep_standing kept.rows (writes past) (horizon (nodes kept) past) stamp
+          (stamps (open_snapshots past)) h.rows (open-above (nodes kept) past stamp none));
       stored = h.stored;
       horizon = h.horizon;
     }

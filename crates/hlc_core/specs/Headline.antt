@@ -4,6 +4,7 @@ use Rattle.std.specs.Prelude.{◌≡◌, ℕ, ◌≤◌, List, ◌∷◌, ◌++�
 use Rattle.hlc_node.specs.declared.row.Row.{Row}
 use Rattle.hlc_node.specs.Rows.{answer, IsRowSet}
 use Rattle.hlc_witness.specs.Fewest.{Alike}
+use Rattle.hlc_witness.specs.Cost.{rows_cost}
 use Rattle.hlc_vacuum.specs.declared.report.Report.{Report}
 use Rattle.hlc_core.specs.declared.event.CoreEvent.{CoreEvent}
 use Rattle.hlc_core.specs.declared.event.CoreEvent.TheVariants.{Read, Vacuum}
@@ -36,8 +37,16 @@ VacuumsAreLeast nodes history =
     × ((others : List Row) → IsRowSet others → Alike others (writes (past_of before)) report.points
     → report.kept ≤ length others)
 
--- just after a vacuum the stored rows at or below its floor answer alike at its points, are as many as it kept,
--- and are the fewest
+-- and no row set that answers alike at the points costs less than what it kept
+abbrev pub VacuumsAreCheapest : List (CoreEvent × CoreReply) → Type 0
+VacuumsAreCheapest history =
+    (before : List (CoreEvent × CoreReply)) (report : Report)
+    → IsMoment history ((Vacuum, Vacuumed report) ∷ before)
+    → (others : List Row) → IsRowSet others → Alike others (writes (past_of before)) report.points
+    → report.bytes ≤ rows_cost others
+
+-- just after a vacuum the stored rows at or below its floor answer alike at its points, are as many as it kept and cost
+-- what it reported, and are the fewest and the cheapest
 abbrev pub FewestAreLeft : List (CoreEvent × CoreReply) → List Row → Type 0
 FewestAreLeft history rows =
     (before : List (CoreEvent × CoreReply)) (report : Report)
@@ -48,4 +57,5 @@ FewestAreLeft history rows =
 pub record IsFaithful (nodes : ℕ) (history : List (CoreEvent × CoreReply)) (rows : List Row) : Type 0 where
   pub reads : ReadsAreNewest history
   pub vacuums : VacuumsAreLeast nodes history
+  pub bytes : VacuumsAreCheapest history
   pub fewest : FewestAreLeft history rows

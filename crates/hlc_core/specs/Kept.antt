@@ -5,7 +5,7 @@ use Rattle.hlc_link.specs.Progress.{Progress}
 use Rattle.hlc_snapshot.specs.declared.snapshot.Snapshot.{Snapshot}
 use Rattle.hlc_node.specs.Rows.{IsRowSet}
 use Rattle.hlc_snapshot.specs.Register.{stamps}
-use Rattle.hlc_witness.specs.Standing.{RowsStandFor}
+use Rattle.hlc_vacuum.specs.Standing.{RowsStandFor}
 use Rattle.hlc_core.specs.Past.{Step, count, head, horizon, opened, open_snapshots, writes, IsLegal}
 use Rattle.hlc_core.specs.Stored.{IsStoredCount}
 

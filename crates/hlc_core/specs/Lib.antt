@@ -1,10 +1,8 @@
 pub mod Listing
 pub mod Past
-pub mod PastLaws
 pub mod Stored
 pub mod Kept
 pub mod Calls
 pub mod PlanAt
 pub mod History
 pub mod Headline
-pub mod ListingLaws

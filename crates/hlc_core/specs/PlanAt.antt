@@ -1,7 +1,7 @@
 -- A plan of what is kept.
 use Rattle.std.specs.Prelude.{◌≡◌, ℕ, List}
 use Rattle.hlc_snapshot.specs.Register.{stamps}
-use Rattle.hlc_snapshot.specs.Points.{ArePoints}
+use Rattle.hlc_clock.specs.Points.{ArePoints}
 use Rattle.hlc_vacuum.specs.Plan.{Planned, IsPlanOf}
 use Rattle.hlc_core.specs.Past.{Step, floor}
 use Rattle.hlc_core.specs.Kept.{Kept, nodes, StandsFor}

@@ -4,12 +4,13 @@ use Rattle.std.specs.List.Sorted.{IsPermutation}
 use Rattle.hlc_node.specs.declared.row.Row.{Row}
 use Rattle.hlc_node.specs.Rows.{IsRowSet}
 use Rattle.hlc_snapshot.specs.Register.{stamps}
-use Rattle.hlc_snapshot.specs.Points.{ArePoints}
+use Rattle.hlc_clock.specs.Points.{ArePoints}
 use Rattle.hlc_witness.specs.declared.witness.Witness.{Witness}
 use Rattle.hlc_witness.specs.Changes.{AreChanges}
 use Rattle.hlc_witness.specs.Fewest.{Fewest}
-use Rattle.hlc_witness.specs.Vacuumed.{rows_to}
-use Rattle.hlc_witness.specs.Standing.{count_above, count_between}
+use Rattle.hlc_witness.specs.Cost.{Cheapest, changes_cost, rows_cost}
+use Rattle.hlc_vacuum.specs.Vacuumed.{rows_to}
+use Rattle.hlc_vacuum.specs.Standing.{count_above, count_between}
 use Rattle.hlc_witness.specs.Certificate.{RowsAscend, IsCertificate}
 use Rattle.hlc_vacuum.specs.declared.report.Report.{Report}
 use Rattle.hlc_core.specs.Past.{Step, Vacuumed, floor, horizon, open_snapshots, writes}
@@ -35,21 +36,26 @@ IsStoredCount nodes past number =
     (changes : List Witness) × AreLastChanges nodes past changes
     × (number ≡ length changes + count_above (horizon nodes past) (writes past))
 
--- What a vacuum after this past reports. It drops the rows of the changes at the vacuum before and those of the
--- accepted writes between the horizons, but for as many as its own changes.
+-- What a vacuum after this past reports. What it keeps costs just what its changes force. It drops the rows of the
+-- changes at the vacuum before and those of the accepted writes between the horizons, but for as many as its own
+-- changes.
 pub record IsReport (nodes : ℕ) (past : List Step) (report : Report) : Type 0 where
   pub at_floor : report.floor ≡ floor nodes past
   pub points : AreVacuumPoints nodes past report.points
   pub witnesses : AreChanges (writes past) report.points report.witnesses
   pub kept : report.kept ≡ length report.witnesses
+  pub bytes : report.bytes ≡ changes_cost (writes past) report.witnesses
   pub dropped : (before : List Witness) × AreLastChanges nodes past before × (report.dropped + report.kept
       ≡ length before + count_between (horizon nodes past) (floor nodes past) (writes past))
 
 -- What the vacuum of this report left: at or below its floor a row set, the fewest rows that answer as all do at its
--- points, as many as it reports. In the order of key, stamp and node its witnesses certify them.
+-- points, and the cheapest, as many and as dear as it reports. In the order of key, stamp and node its witnesses
+-- certify them.
 pub record LeavesFewest (rows all : List Row) (report : Report) : Type 0 where
   pub row_set : IsRowSet (rows_to report.floor rows)
   pub fewest : Fewest (rows_to report.floor rows) all report.points
+  pub cheapest : Cheapest (rows_to report.floor rows) all report.points
   pub count : length (rows_to report.floor rows) ≡ report.kept
+  pub cost : rows_cost (rows_to report.floor rows) ≡ report.bytes
   pub certified : (listed : List Row) → IsPermutation (rows_to report.floor rows) listed → RowsAscend listed
       → IsCertificate listed report.points report.witnesses

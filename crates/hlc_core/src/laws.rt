@@ -1,9 +1,9 @@
-//! What holds of every legal past, and of cores that stand for one. A law that calls others follows
-//! from them.
+//! What holds of every legal past, and of cores that stand for one.
 ghost use Rattle.std.specs.Prelude.{◌≡◌, ◌+◌, ◌<◌, ◌≤◌, ℕ, List, ◌∷◌, None, All, length};
 ghost use Rattle.hlc_node.specs.Rows.{IsRowSet};
 ghost use Rattle.hlc_core.specs.Past.{Step, Vacuumed, IsLegal, writes, head, floor, open_snapshots, item_refusal};
-ghost use Rattle.hlc_witness.specs.Vacuumed.{IsVacuumOf};
+ghost use Rattle.hlc_vacuum.specs.Vacuumed.{IsVacuumOf, rows_to};
+ghost use Rattle.hlc_witness.specs.Cost.{rows_cost};
 ghost use Rattle.hlc_vacuum.specs.declared.report.Report.{Report as AReport};
 ghost use Rattle.hlc_core.specs.Stored.{AreVacuumPoints, IsReport, IsStoredCount, LeavesFewest};
 ghost use Rattle.hlc_core.specs.Kept.{Kept, nodes, with_rows_left, StandsFor};
@@ -15,12 +15,6 @@ ghost use Rattle.hlc_core.specs.declared.reply.CoreReply.{CoreReply as AReply};
 ghost use Rattle.hlc_core.specs.declared.listing.Pair.{Pair as APair};
 ghost use Rattle.hlc_node.specs.declared.item.Item.{Item as AnItem};
 ghost use Rattle.hlc_node.specs.declared.row.Row.{Row as ARow};
-
-use hlc_snapshot::points_are_unique;
-use hlc_witness::{
-    changes_are_computed, changes_force_rows, rows_above_are_counted, standing_rows_are_fewest,
-    vacuums_are_certified, vacuums_compose,
-};
 
 /// No two accepted writes are alike in key, stamp and node, so a read has one answer.
 pub fn accepted_writes_are_a_row_set()
@@ -55,32 +49,22 @@ pub fn there_is_one_listing()
 {}
 
 /// A vacuum of the stored rows at the points of the past keeps the core standing, reports what is
-/// due, and leaves the fewest.
+/// due, and leaves the fewest, which are the cheapest.
 pub fn vacuums_keep_standing()
     ensures { (kept : Kept) (past : List Step) (rows : List ARow) (report : AReport)
         → StandsFor kept past → AreVacuumPoints (nodes kept) past report.points
         → IsVacuumOf kept.rows report.points report.witnesses rows → report.floor ≡ floor (nodes kept) past
         → report.kept ≡ length report.witnesses → report.dropped + length rows ≡ length kept.rows
+        → report.bytes ≡ rows_cost (rows_to report.floor rows)
         → Vacuums kept (with_rows_left kept rows (floor (nodes kept) past)) past report }
-{
-    points_are_unique();
-    changes_are_computed();
-    vacuums_compose();
-    standing_rows_are_fewest();
-    vacuums_are_certified();
-    rows_above_are_counted();
-}
+{}
 
-/// Just after a vacuum the rows at or below its floor are the fewest, against all accepted writes.
+/// Just after a vacuum the rows at or below its floor are the fewest, and the cheapest, against all
+/// accepted writes.
 pub fn vacuums_leave_the_fewest()
     ensures { (kept : Kept) (past : List Step) (report : AReport) → StandsFor kept (Vacuumed ∷ past)
         → IsReport (nodes kept) past report → LeavesFewest kept.rows (writes past) report }
-{
-    points_are_unique();
-    changes_are_computed();
-    standing_rows_are_fewest();
-    vacuums_are_certified();
-}
+{}
 
 /// After a past one report of a vacuum is due at most, and one number of stored rows.
 pub fn there_is_one_report()
@@ -88,17 +72,11 @@ pub fn there_is_one_report()
         → IsReport nodes past other → report ≡ other }
     ensures count { (nodes : ℕ) (past : List Step) (count other : ℕ) → IsStoredCount nodes past count
         → IsStoredCount nodes past other → count ≡ other }
-{
-    points_are_unique();
-    changes_are_computed();
-}
+{}
 
 /// A core is faithful to each history that it stands for: its reads gave the newest accepted values,
-/// its vacuums were the least, and left the fewest rows.
+/// its vacuums were the least and the cheapest, and left the fewest rows.
 pub fn histories_are_faithful()
     ensures { (kept : Kept) (history : List (AnEvent × AReply)) → StandsForHistory kept history
         → IsFaithful (nodes kept) history kept.rows }
-{
-    changes_force_rows();
-    vacuums_leave_the_fewest();
-}
+{}

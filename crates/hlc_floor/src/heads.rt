@@ -2,6 +2,7 @@
 ghost use Rattle.std.specs.Prelude.{◌≡◌, ◌<◌, Some, length, slice_get, slice_set, slice_index_or};
 ghost use Rattle.std.proofs.Common.{rules};
 ghost use Rattle.std.proofs.lemmas.Grind.{common_steps};
+ghost use Rattle.hlc_floor.specs.declared.heads.TheConstants.{MOST_NODES};
 ghost use Rattle.hlc_floor.specs.Heads.{Makes, IsFloor};
 
 use crate::accepted::Accepted;
@@ -9,6 +10,14 @@ use hlc_clock::Stamp;
 use hlc_values::Exact;
 use std::alloc::Global;
 use std::marker::Model;
+
+/// The most nodes that there may be.
+pub const MOST_NODES: u16 = 64;
+
+/// There are at most 64 nodes.
+pub fn most_nodes_are_64()
+    ensures { MOST_NODES ≡ 64 }
+{}
 
 /// Why no heads are made.
 #[derive(Clone, Copy, PartialEq, Eq, Debug)]
@@ -48,7 +57,7 @@ impl Heads {
     pub fn new(alloc: Global, nodes: u16) -> Result<Heads, HeadsFault>
         ensures { Makes nodes result }
     {
-        if nodes == 0 || nodes > 64 {
+        if nodes == 0 || nodes > MOST_NODES {
             return Err(HeadsFault::NoNode);
         }
         match vec![in alloc; Stamp::from_bits(0); nodes as usize] {
@@ -91,11 +100,6 @@ fn least(stamps: &[Stamp]) -> Stamp
     requires { 0 < length stamps.now }
     ensures { IsFloor stamps.now result }
 {
-    let mut least = stamps[0];
-    for stamp in stamps {
-        if *stamp < least {
-            least = *stamp;
-        }
-    }
-    least
+    // There is one, so nothing stands in for it.
+    stamps.iter().copied().min().unwrap_or(Stamp::from_bits(0))
 }

@@ -5,5 +5,5 @@ mod accepted;
 mod heads;
 
 pub use accepted::Accepted;
-pub use heads::{Heads, HeadsFault};
+pub use heads::{Heads, HeadsFault, MOST_NODES, most_nodes_are_64};
 pub use hlc_clock::Stamp;

@@ -443,6 +443,7 @@ fn report_of_them(alloc: Global, floor: Stamp) -> Result<Report, AllocError> {
         floor,
         points: Points::from_vec(vec![in alloc; floor]?),
         kept: 1,
+        bytes: 12,
         dropped: 1,
         witnesses: Witnesses::from_vec(vec![in alloc; witness]?),
     })

@@ -1,40 +1,26 @@
 -- The newest row is the greatest one. It is found by going down the list: a row that is no candidate changes nothing,
 -- and one that is a candidate is the later of itself and the newest of the rest. Two greatest rows are one version,
 -- so in a row set one row.
-use Rattle.std.proofs.Common.{◌≡◌, ◌≢◌, ℕ, zero, suc, ◌<◌, ◌≤◌, ◌⊎◌, List, [], ◌∷◌, ◌++◌, length, true, false, Some}
+use Rattle.std.proofs.Common.{◌≡◌, ◌≢◌, ℕ, ◌<◌, ◌≤◌, List, [], ◌∷◌, true, false, Some}
 use Rattle.std.proofs.Common.{None, Option, refl, ap, sym, ◌∙◌, subst, inl, inr, arith}
-use Rattle.std.specs.Prelude.{Contains, ◌==◌, nat_lt, nat_le, if◌then◌else◌}
+use Rattle.std.specs.Prelude.{Contains, ◌==◌, nat_lt, nat_le}
 use Rattle.std.specs.Str.{bytes_eq}
 use Rattle.std.proofs.lemmas.Bool.{cases_Bool, cond-true, cond-false, and_parts, and_from, or_cases, leb-true, le-leb}
 use Rattle.std.proofs.lemmas.Bool.{ltb-true, lt-ltb, eqb-true, eq-eqb, both_ways, cases_lt, cases_order, or_left}
 use Rattle.std.proofs.lemmas.Bool.{or_right}
-use Rattle.std.proofs.lemmas.List.{append-nil}
 use Rattle.std.proofs.lemmas.Slice.Eq.{bytes_eq-Decides}
+use Rattle.hlc_values.proofs.MemberLemmas.{Contains-none, Contains-first, Contains-rest, Contains-cons_cases}
 use Rattle.hlc_node.specs.declared.row.Row.{Row}
 use Rattle.hlc_node.specs.Rows.{is_candidate, is_before, later, newest, IsNoLater, IsNewest, IsSameVersion, IsRowSet}
 
--- the first or one of the rest
-pub Contains-cons_cases : {X : Type 0} (x : X) (xs : List X) (y : X) → Contains (x ∷ xs) y → (x ≡ y) ⊎ Contains xs y
-Contains-cons_cases x xs y (zero, lt, e) = inl e
-Contains-cons_cases x xs y (suc k, lt, e) = inr (k, (let l : suc k < length (x ∷ xs) = lt in omega arith), e)
-
-pub Contains-first : {X : Type 0} (x : X) (xs : List X) → Contains (x ∷ xs) x
-Contains-first x xs = (0, omega arith, refl)
-
-pub Contains-rest : {X : Type 0} (x : X) (xs : List X) (y : X) → Contains xs y → Contains (x ∷ xs) y
-Contains-rest x xs y (k, lt, e) = (suc k, omega arith, e)
-
-pub Contains-none : {X : Type 0} (y : X) → Contains [] y → ⊥
-Contains-none y (k, lt, e) = omega (arith, lt)
-
 -- the test of a candidate says what it should
-pub candidate-true : (key : List ℕ) (bound : ℕ) (row : Row) → is_candidate key bound row ≡ true
+candidate-true : (key : List ℕ) (bound : ℕ) (row : Row) → is_candidate key bound row ≡ true
     → (row.key ≡ key) × (row.stamp ≤ bound)
 candidate-true key bound row h =
     let both : (bytes_eq row.key key ≡ true) × (nat_le row.stamp bound ≡ true) = and_parts _ _ h in
     ((bytes_eq-Decides row.key key).0 both.0, leb-true _ _ both.1)
 
-pub candidate-from : (key : List ℕ) (bound : ℕ) (row : Row) → row.key ≡ key → row.stamp ≤ bound
+candidate-from : (key : List ℕ) (bound : ℕ) (row : Row) → row.key ≡ key → row.stamp ≤ bound
     → is_candidate key bound row ≡ true
 candidate-from key bound row k s = and_from _ _ ((bytes_eq-Decides row.key key).1 k) (le-leb _ _ s)
 
@@ -83,7 +69,7 @@ greatest-of_two : (first row : Row) (rows : List Row) (key : List ℕ) (bound : 
     → ((other : Row) → Contains rows other → other.key ≡ key → other.stamp ≤ bound → IsNoLater other row)
     → (other : Row) → Contains (first ∷ rows) other → other.key ≡ key → other.stamp ≤ bound → IsNoLater other row
 greatest-of_two first row rows key bound h rest other m k s =
-    elim (Contains-cons_cases first rows other m) [
+    elim (Contains-cons_cases first other rows m) [
       | inl same ↦ subst (λ x. IsNoLater x row) same h
       | inr later' ↦ rest other later' k s
     ]
@@ -104,7 +90,7 @@ newest-hit first rows key bound (Some q) hit h =
       | inl before ↦
           rw (cond-true (is_before first q) q first before)
           (record {
-            member = Contains-rest first rows q h.member;
+            member = Contains-rest first q rows h.member;
             of_key = h.of_key;
             in_bound = h.in_bound;
             greatest = greatest-of_two first q rows key bound (before-true first q before) h.greatest;
@@ -125,18 +111,18 @@ newest-hit first rows key bound (Some q) hit h =
 newest-miss : (first : Row) (rows : List Row) (key : List ℕ) (bound : ℕ) (o : Option Row)
     → is_candidate key bound first ≡ false → NewestSays rows key bound o → NewestSays (first ∷ rows) key bound o
 newest-miss first rows key bound None miss h = λ row m k s.
-    elim (Contains-cons_cases first rows row m) [
+    elim (Contains-cons_cases first row rows m) [
       | inl same ↦ both_ways (is_candidate key bound first) miss (candidate-from key bound first
           (ap (λ r. r.key) same ∙ k) (let e : first.stamp ≡ row.stamp = ap (λ r. r.stamp) same in omega arith))
       | inr later' ↦ h row later' k s
     ]
 newest-miss first rows key bound (Some q) miss h =
     record {
-      member = Contains-rest first rows q h.member;
+      member = Contains-rest first q rows h.member;
       of_key = h.of_key;
       in_bound = h.in_bound;
       greatest = λ other m k s.
-          elim (Contains-cons_cases first rows other m) [
+          elim (Contains-cons_cases first other rows m) [
             | inl same ↦ absurd (both_ways (is_candidate key bound first) miss (candidate-from key bound first
                 (ap (λ r. r.key) same ∙ k) (let e : first.stamp ≡ other.stamp = ap (λ r. r.stamp) same in omega arith)))
             | inr later' ↦ h.greatest other later' k s
@@ -158,29 +144,19 @@ newest-says (first ∷ rows) key bound =
           (newest-miss first rows key bound (newest rows key bound) miss (newest-says rows key bound))
     ]
 
--- the newest row of a list is the greatest one
-pub newest-is : (rows : List Row) (key : List ℕ) (bound : ℕ) (row : Row) → newest rows key bound ≡ Some row
-    → IsNewest rows key bound row
-newest-is rows key bound row h = rw h at (newest-says rows key bound)
-
--- with no newest row there is no candidate
-pub newest-none : (rows : List Row) (key : List ℕ) (bound : ℕ) (row : Row) → newest rows key bound ≡ None
-    → Contains rows row → row.key ≡ key → row.stamp ≤ bound → ⊥
-newest-none rows key bound row h = rw h at (newest-says rows key bound) row
-
 -- two members of a row set that are one version are the same row
 same_version-same : (rows : List Row) (a b : Row) → IsRowSet rows → Contains rows a → Contains rows b
     → IsSameVersion a b → a ≡ b
 same_version-same [] a b set' m n v = absurd (Contains-none a m)
 same_version-same (first ∷ rows) a b set' m n v =
-    elim (Contains-cons_cases first rows a m) [
+    elim (Contains-cons_cases first a rows m) [
       | inl at_a ↦
-          elim (Contains-cons_cases first rows b n) [
+          elim (Contains-cons_cases first b rows n) [
             | inl at_b ↦ sym at_a ∙ at_b
             | inr in_b ↦ absurd (set'.0 b in_b (subst (λ x. IsSameVersion x b) (sym at_a) v))
           ]
       | inr in_a ↦
-          elim (Contains-cons_cases first rows b n) [
+          elim (Contains-cons_cases first b rows n) [
             | inl at_b ↦ absurd (set'.0 a in_a (record {
               key = ap (λ r. r.key) at_b ∙ sym v.key;
               stamp = ap (λ r. r.stamp) at_b ∙ sym v.stamp;
@@ -197,26 +173,20 @@ both_no_later a b k (inr l) (inl m) = absurd (omega (arith, l.0))
 both_no_later a b k (inr l) (inr m) = record { key = k; stamp = l.0; node = omega (arith, l.1, m.1) }
 
 -- a row set has one newest row at most
-pub IsNewest-unique : (rows : List Row) (key : List ℕ) (bound : ℕ) (a b : Row) → IsRowSet rows
+IsNewest-unique : (rows : List Row) (key : List ℕ) (bound : ℕ) (a b : Row) → IsRowSet rows
     → IsNewest rows key bound a → IsNewest rows key bound b → a ≡ b
 IsNewest-unique rows key bound a b set' ha hb =
     same_version-same rows a b set' ha.member hb.member
     (both_no_later a b (ha.of_key ∙ sym hb.of_key) (hb.greatest a ha.member ha.of_key ha.in_bound)
     (ha.greatest b hb.member hb.of_key hb.in_bound))
 
-newest-from_says : (rows : List Row) (key : List ℕ) (bound : ℕ) (row : Row) (o : Option Row) → IsRowSet rows
+pub newest-from_says : (rows : List Row) (key : List ℕ) (bound : ℕ) (row : Row) (o : Option Row) → IsRowSet rows
     → IsNewest rows key bound row → NewestSays rows key bound o → o ≡ Some row
 newest-from_says rows key bound row None set' h says = absurd (says row h.member h.of_key h.in_bound)
 newest-from_says rows key bound row (Some q) set' h says = ap Some (IsNewest-unique rows key bound q row set' says h)
 
--- in a row set, the greatest row is the newest
-pub newest-from : (rows : List Row) (key : List ℕ) (bound : ℕ) (row : Row) → IsRowSet rows → IsNewest rows key bound row
-    → newest rows key bound ≡ Some row
-newest-from rows key bound row set' h =
-    newest-from_says rows key bound row (newest rows key bound) set' h (newest-says rows key bound)
-
 -- a row above the one stamp and at or below the other is a candidate at neither, so the test is the same
-candidate-same : (key : List ℕ) (low high : ℕ) (row : Row) → low ≤ high
+pub candidate-same : (key : List ℕ) (low high : ℕ) (row : Row) → low ≤ high
     → (row.key ≡ key → row.stamp ≤ high → row.stamp ≤ low) → is_candidate key high row ≡ is_candidate key low row
 candidate-same key low high row le none =
     elim (cases_Bool (is_candidate key high row)) [
@@ -229,40 +199,9 @@ candidate-same key low high row le none =
       ]
     ]
 
--- where no row of the key lies between, the newest row is the same
-pub newest-stays : (rows : List Row) (key : List ℕ) (low high : ℕ) → low ≤ high
-    → ((row : Row) → Contains rows row → row.key ≡ key → row.stamp ≤ high → row.stamp ≤ low)
-    → newest rows key high ≡ newest rows key low
-unfolding newest
-newest-stays [] key low high le none = refl
-newest-stays (first ∷ rows) key low high le none =
-    rw (
-      candidate-same key low high first le (none first (Contains-first first rows)),
-      newest-stays rows key low high le (λ row m. none row (Contains-rest first rows row m)),
-    ) refl
-
-other-misses : (key : List ℕ) (bound : ℕ) (row : Row) → row.key ≢ key → is_candidate key bound row ≡ false
+pub other-misses : (key : List ℕ) (bound : ℕ) (row : Row) → row.key ≢ key → is_candidate key bound row ≡ false
 other-misses key bound row apart =
     elim (cases_Bool (is_candidate key bound row)) [
       | inl hit ↦ absurd (apart (candidate-true key bound row hit).0)
       | inr miss ↦ miss
     ]
-
--- rows of other keys in front change nothing
-pub newest-after_others : (others rows : List Row) (key : List ℕ) (bound : ℕ)
-    → ((row : Row) → Contains others row → row.key ≢ key) → newest (others ++ rows) key bound ≡ newest rows key bound
-unfolding newest
-newest-after_others [] rows key bound apart = refl
-newest-after_others (first ∷ others) rows key bound apart =
-    cond-false _ _ _ (other-misses key bound first (apart first (Contains-first first others)))
-    ∙ newest-after_others others rows key bound (λ row m. apart row (Contains-rest first others row m))
-
--- nor do rows of other keys behind
-pub newest-before_others : (rows others : List Row) (key : List ℕ) (bound : ℕ)
-    → ((row : Row) → Contains others row → row.key ≢ key) → newest (rows ++ others) key bound ≡ newest rows key bound
-unfolding newest
-newest-before_others [] others key bound apart = ap (λ xs. newest xs key bound) (sym (append-nil others))
-    ∙ newest-after_others others [] key bound apart
-newest-before_others (first ∷ rows) others key bound apart =
-    ap (λ o. if is_candidate key bound first then Some (later first o) else o)
-    (newest-before_others rows others key bound apart)

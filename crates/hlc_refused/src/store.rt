@@ -1,4 +1,9 @@
 //! A store with a past, and what it tells.
+ghost use Rattle.std.specs.Prelude.{◌≡◌, ◌≢◌, ◌^◌, ◌-◌, ◌∷◌, [], None, Some, IfOk, length, map};
+ghost use Rattle.hlc_node.specs.declared.item.Body.TheVariants.{Write as a_write};
+ghost use Rattle.hlc_floor.specs.Heads.{IsFloor};
+ghost use Rattle.hlc_core.specs.Calls.{AreRowsTo};
+
 use hlc_core::{Body, Bytes, Core, CoreFault, Item, Listing, Report, Row, Stamp};
 use std::alloc::{AllocError, Global};
 
@@ -19,7 +24,10 @@ pub fn write(
     at: (u16, u64, u64),
     key: &[u8],
     value: &[u8],
-) -> Result<Item, AllocError> {
+) -> Result<Item, AllocError>
+    ensures { IfOk result (λ item. (item.node ≡ at.0) × (item.number ≡ at.1) × (item.stamp ≡ at.2)
+        × (item.body ≡ a_write key.now (Some value.now))) }
+{
     let (node, number, bits) = at;
     let key = Bytes::from_vec(Vec::from_slice(alloc, key)?);
     let value = Some(Bytes::from_vec(Vec::from_slice(alloc, value)?));
@@ -64,7 +72,12 @@ pub struct Answers {
 }
 
 /// Asks a store all that can be asked.
-pub fn ask(alloc: Global, core: &Core) -> Result<Answers, AllocError> {
+pub fn ask(alloc: Global, core: &Core) -> Result<Answers, AllocError>
+    ensures floor { IfOk result (λ answers. IsFloor (map (λ link. link.head) core.now.links) answers.floor) }
+    ensures rows { IfOk result (λ answers. answers.rows ≡ length core.now.rows) }
+    ensures stored { IfOk result (λ answers. AreRowsTo core.now.rows (2 ^ 64 - 1) answers.stored.items) }
+    ensures report { IfOk result (λ answers. answers.report ≡ None) }
+{
     let Ok(stored) = core.rows_to(Stamp::from_bits(u64::MAX)) else {
         return Err(AllocError);
     };
@@ -82,7 +95,11 @@ pub fn ask(alloc: Global, core: &Core) -> Result<Answers, AllocError> {
 }
 
 /// Vacuums a store, and asks it again.
-pub fn vacuum_and_ask(alloc: Global, core: &mut Core) -> Result<Answers, AllocError> {
+pub fn vacuum_and_ask(alloc: Global, core: &mut Core) -> Result<Answers, AllocError>
+    ensures rows { IfOk result (λ answers. answers.rows ≡ length core.new.rows) }
+    ensures stored { IfOk result (λ answers. AreRowsTo core.new.rows (2 ^ 64 - 1) answers.stored.items) }
+    ensures report { IfOk result (λ answers. answers.report ≢ None) }
+{
     let Ok(report) = core.vacuum() else {
         return Err(AllocError);
     };

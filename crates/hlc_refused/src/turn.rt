@@ -1,4 +1,7 @@
 //! When the refused request comes.
+ghost use Rattle.std.specs.Prelude.{◌≡◌, ◌≢◌, false};
+ghost use Rattle.hlc_refused.specs.declared.turn.Met.TheVariants.{NotYet};
+
 use std::alloc::Global;
 
 /// The number of the request that the run refuses, counted from its start.
@@ -25,7 +28,9 @@ pub struct Turn {
 
 impl Turn {
     /// The request of this number, from 1. Number 0 asks how many requests are made before the call.
-    pub fn new(alloc: Global, number: u64) -> Turn {
+    pub fn new(alloc: Global, number: u64) -> Turn
+        ensures { (result.number ≡ number) × (result.met ≡ NotYet) }
+    {
         Turn {
             alloc,
             number,
@@ -35,7 +40,11 @@ impl Turn {
 
     /// Makes the requests that are missing where so many were made, and says whether the call is to
     /// be made now.
-    pub fn begin(&mut self, made: u64) -> bool {
+    pub fn begin(&mut self, made: u64) -> bool
+        ensures number { self.new.number ≡ self.old.number }
+        ensures counts { self.old.number ≡ 0 → result ≡ false }
+        ensures waits { self.old.number ≢ 0 → self.new ≡ self.old }
+    {
         if self.number == 0 {
             self.met = match left(self.alloc) {
                 Some(left) => Met::After(REFUSED.wrapping_sub(1).wrapping_sub(left)),
@@ -50,7 +59,9 @@ impl Turn {
     }
 
     /// The call has ended. The refused request is spent from here on.
-    pub fn end(&mut self) {
+    pub fn end(&mut self)
+        ensures { (self.new.number ≡ self.old.number) × (self.new.met ≢ NotYet) }
+    {
         self.met = match left(self.alloc) {
             Some(left) => Met::After(self.number.wrapping_sub(1).wrapping_sub(left)),
             None => Met::ByCall,
@@ -58,7 +69,9 @@ impl Turn {
     }
 
     /// How the refused request was met.
-    pub fn met(&self) -> Met {
+    pub fn met(&self) -> Met
+        ensures { result ≡ self.now.met }
+    {
         self.met
     }
 }

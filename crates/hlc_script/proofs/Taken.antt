@@ -1,7 +1,8 @@
 -- An input that is held was taken whole, and no end of a run is a failed write.
 use Rattle.std.proofs.Common.{◌≡◌, ℕ, List, refl, subst}
 use Rattle.hlc_script.specs.declared.run.RunEnd.{RunEnd}
-use Rattle.hlc_script.specs.declared.run.RunEnd.TheVariants.{Answered, BadLine, BadHeader, NotHeld, NoMemory, ReadFault, TooLong, WriteFault}
+use Rattle.hlc_script.specs.declared.run.RunEnd.TheVariants.{Answered, BadLine, BadHeader, NotHeld, NoMemory}
+use Rattle.hlc_script.specs.declared.run.RunEnd.TheVariants.{ReadFault, TooLong, WriteFault}
 use Rattle.hlc_script.specs.Run.{MayTake, IsOfHeld, MayWrite}
 
 pub run_takes_all : (input : List ℕ) (end : RunEnd) → IsOfHeld end → MayTake input input end

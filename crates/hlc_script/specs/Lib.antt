@@ -2,4 +2,4 @@ pub mod Line
 pub mod Spelled
 pub mod Reply
 pub mod Run
-pub mod Laws
+pub mod OneOutput

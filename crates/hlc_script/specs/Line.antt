@@ -4,11 +4,14 @@ use Rattle.hlc_clock.specs.Stamp.{stamp_text}
 use Rattle.hlc_text.specs.Text.{bytes_token, AreBytes}
 use Rattle.hlc_text.specs.Lines.{spaced}
 use Rattle.hlc_world.specs.declared.event.Event.{Event}
-use Rattle.hlc_world.specs.declared.event.Event.TheVariants.{Write, Delete, Report, Send, Receive, Observe, Deliver, OpenAt, OpenFloor, Read, List as ListAll, Close, Floor, Vacuum, Rows}
+use Rattle.hlc_world.specs.declared.event.Event.TheVariants.{Write, Delete, Report, Send, Receive, Observe, Deliver}
+use Rattle.hlc_world.specs.declared.event.Event.TheVariants.{OpenAt, OpenFloor, Read, List as ListAll, Close, Floor}
+use Rattle.hlc_world.specs.declared.event.Event.TheVariants.{Vacuum, Rows}
 
 -- the words of an event
 abbrev pub event_words : Event → List (List ℕ)
-event_words (Write node reading key value) = codes "write" ∷ decimal node ∷ decimal reading ∷ bytes_token key ∷ bytes_token value ∷ []
+event_words (Write node reading key value) =
+    codes "write" ∷ decimal node ∷ decimal reading ∷ bytes_token key ∷ bytes_token value ∷ []
 event_words (Delete node reading key) = codes "delete" ∷ decimal node ∷ decimal reading ∷ bytes_token key ∷ []
 event_words (Report node reading) = codes "report" ∷ decimal node ∷ decimal reading ∷ []
 event_words (Send node reading) = codes "send" ∷ decimal node ∷ decimal reading ∷ []

@@ -6,9 +6,13 @@ use Rattle.hlc_text.specs.Text.{bytes_token, printed}
 use Rattle.hlc_core.specs.declared.listing.Pair.{Pair}
 use Rattle.hlc_vacuum.specs.declared.report.Report.{Report}
 use Rattle.hlc_world.specs.declared.reply.Reply.{Reply}
-use Rattle.hlc_world.specs.declared.reply.Reply.TheVariants.{Stamped, Sent, Received, Observed, Accepted, Snapshot, Answer, Listing, Closed, Floor, Vacuumed, Rows, Refused}
+use Rattle.hlc_world.specs.declared.reply.Reply.TheVariants.{Stamped, Sent, Received, Observed, Accepted, Snapshot}
+use Rattle.hlc_world.specs.declared.reply.Reply.TheVariants.{Answer, Listing, Closed, Floor, Vacuumed, Rows, Refused}
 use Rattle.hlc_world.specs.declared.refusal.Refusal.{Refusal}
-use Rattle.hlc_world.specs.declared.refusal.Refusal.TheVariants.{NoNode, ReadingTooLarge, CounterFull, NoMessage, NoItem, NotNext, StampNotRising, AboveFloor, BelowHorizon, NoSnapshot, TooManySnapshots, BadKey, ValueTooLong, NumbersSpent, NoMemory}
+use Rattle.hlc_world.specs.declared.refusal.Refusal.TheVariants.{NoNode, ReadingTooLarge, CounterFull, NoMessage}
+use Rattle.hlc_world.specs.declared.refusal.Refusal.TheVariants.{NoItem, NotNext, StampNotRising, AboveFloor}
+use Rattle.hlc_world.specs.declared.refusal.Refusal.TheVariants.{BelowHorizon, NoSnapshot, TooManySnapshots, BadKey}
+use Rattle.hlc_world.specs.declared.refusal.Refusal.TheVariants.{ValueTooLong, NumbersSpent, NoMemory}
 use Rattle.hlc_certificate.specs.CertificateText.{witness_line}
 
 -- a refusal's number, and what it tells behind it
@@ -41,7 +45,9 @@ pair_line pair = (codes "row " ++ bytes_token pair.key) ++ (codes " " ++ bytes_t
 -- the first line of a vacuum's report
 abbrev pub report_line : Report → List ℕ
 report_line report =
-    (codes "vacuum " ++ stamp_text report.floor) ++ ((codes " kept " ++ decimal report.kept) ++ (codes " dropped " ++ decimal report.dropped))
+    (codes "vacuum " ++ stamp_text report.floor)
+    ++ ((codes " kept " ++ decimal report.kept)
+    ++ ((codes " dropped " ++ decimal report.dropped) ++ (codes " bytes " ++ decimal report.bytes)))
 
 -- the first line of a reply
 abbrev pub reply_line : Reply → List ℕ

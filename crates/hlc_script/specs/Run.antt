@@ -1,9 +1,10 @@
 -- What a run may write for an input, and how it ends.
-use Rattle.std.specs.Prelude.{◌≡◌, ◌≢◌, ◌↔◌, ℕ, ◌+◌, ◌<◌, ◌≤◌, ◌⊎◌, List, [], ◌∷◌, ◌++◌, length, codes, Option, Some, None, true, false, ⊤}
+use Rattle.std.specs.Prelude.{◌≡◌, ◌≢◌, ◌↔◌, ℕ, ◌+◌, ◌<◌, ◌≤◌, ◌⊎◌, List, [], ◌∷◌, ◌++◌, length, codes, Option, Some}
+use Rattle.std.specs.Prelude.{None, true, false, ⊤}
 use Rattle.std.specs.Io.KnownBytes.{Consumes}
 use Rattle.hlc_text.specs.declared.watched.Watched.{Watched}
 use Rattle.hlc_text.specs.Watched.{inner_of, has_failed}
-use Rattle.hlc_text.specs.Printing.{Writes}
+use Rattle.hlc_text.specs.Printing.{Printed, Writes}
 use Rattle.hlc_text.specs.Text.{printed}
 use Rattle.hlc_text.specs.Lines.{lines_of, bad_line}
 use Rattle.hlc_text.specs.Input.{IsInput}
@@ -13,19 +14,20 @@ use Rattle.hlc_world.specs.declared.reply.Reply.TheVariants.{Refused}
 use Rattle.hlc_world.specs.declared.refusal.Refusal.TheVariants.{NoMemory as no_memory}
 use Rattle.hlc_world.specs.Due.{IsGiven}
 use Rattle.hlc_script.specs.declared.run.RunEnd.{RunEnd}
-use Rattle.hlc_script.specs.declared.run.RunEnd.TheVariants.{Answered, BadLine, BadHeader, NotHeld, NoMemory, ReadFault, TooLong, WriteFault}
+use Rattle.hlc_script.specs.declared.run.RunEnd.TheVariants.{Answered, BadLine, BadHeader, NotHeld, NoMemory}
+use Rattle.hlc_script.specs.declared.run.RunEnd.TheVariants.{ReadFault, TooLong, WriteFault}
 use Rattle.hlc_script.specs.Line.{event_line, HasLine, BearsBytes, header_line, HasHeader}
 use Rattle.hlc_script.specs.Reply.{reply_text}
 
--- A good line was answered, and the schedule came to be `after`. Its event got the reply that a world gives; or there was no
--- memory for the event's bytes, and it did not take place.
+-- A good line was answered, and the schedule came to be `after`. Its event got the reply that a world gives; or there
+-- was no memory for the event's bytes, and it did not take place.
 abbrev pub AnswersLine : ℕ → List (Event × Reply) → Event → Reply → List (Event × Reply) → Type 0
 AnswersLine nodes schedule event reply after =
     (IsGiven nodes schedule event reply × (after ≡ (event, reply) ∷ schedule))
     ⊎ (BearsBytes event × (reply ≡ Refused no_memory) × (after ≡ schedule))
 
--- What may be written for the lines from one number on, after a schedule: the reply to each, to the end or to the refusal of the
--- first bad line, whose number comes last.
+-- What may be written for the lines from one number on, after a schedule: the reply to each, to the end or to the
+-- refusal of the first bad line, whose number comes last.
 abbrev pub Answers : ℕ → List (Event × Reply) → ℕ → List (List ℕ) → List ℕ → Option ℕ → Type 0
 Answers nodes schedule number [] output bad = (output ≡ []) × (bad ≡ None)
 Answers nodes schedule number (line ∷ lines) output bad =
@@ -88,6 +90,20 @@ MayTake input taken (BadLine number) = taken ≡ input
 MayTake input taken BadHeader = taken ≡ input
 MayTake input taken NoMemory = taken ≡ input
 MayTake input taken WriteFault = ⊥
+
+-- What the reader had left was read as an input, and what may be written for it at this end was printed.
+pub record ReadsScript {R W : Type 0} (remaining : R → Option (List ℕ)) (contents : W → Option (List ℕ))
+    (reader reader_after : Watched R) (writer writer_after : Watched W) (waited waits : List ℕ)
+    (end : RunEnd) : Type 0 where
+  pub input : List ℕ
+  pub taken : List ℕ
+  pub output : List ℕ
+  pub is_input : IsInput (remaining (inner_of reader)) input
+  pub consumed : Consumes (remaining (inner_of reader)) (remaining (inner_of reader_after)) taken
+  pub may_take : MayTake input taken end
+  pub may_write : MayWrite input output end
+  pub prints : Printed (has_failed writer) (has_failed writer_after) (contents (inner_of writer))
+      (contents (inner_of writer_after)) waited waits output
 
 -- A script was read and answered: there are an input, an output that it may have, and the end of such a run.
 -- `remaining` and `contents` tell what the reader has left and what the writer holds, where that is known.

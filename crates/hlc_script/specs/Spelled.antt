@@ -2,7 +2,8 @@
 use Rattle.hlc_world.specs.declared.event.Event.{Event}
 use Rattle.hlc_world.specs.declared.event.Event.TheVariants as event
 use Rattle.hlc_script.specs.declared.line.Line.{Line}
-use Rattle.hlc_script.specs.declared.line.Line.TheVariants.{Write, Delete, Report, Send, Receive, Observe, Deliver, OpenAt, OpenFloor, Read, List, Close, Floor, Vacuum, Rows}
+use Rattle.hlc_script.specs.declared.line.Line.TheVariants.{Write, Delete, Report, Send, Receive, Observe, Deliver}
+use Rattle.hlc_script.specs.declared.line.Line.TheVariants.{OpenAt, OpenFloor, Read, List, Close, Floor, Vacuum, Rows}
 
 -- its fields are the event's, with the bytes as they are spelled
 abbrev pub event_of : Line → Event

@@ -1,5 +1,5 @@
 //! What holds of every script. A law that calls another follows from it.
-ghost use Rattle.hlc_script.specs.Laws.{OneEvent, OneOutput};
+ghost use Rattle.hlc_script.specs.OneOutput.{OneEvent, OneOutput};
 
 use hlc_core::there_is_one_report;
 

@@ -331,7 +331,8 @@ fn one_number(words: &mut Words<'_>) -> Option<u64>
 
 /// A node and a number.
 fn node_number(words: &mut Words<'_>) -> Option<(u16, u64)>
-    ensures { Reads (λ x. decimal x.0 ∷ decimal x.1 ∷ []) (λ x. (x.0 < 2 ^ 16) × (x.1 < 2 ^ 64)) words.old result }
+    ensures { Reads (λ x. decimal x.0 ∷ decimal x.1 ∷ []) (λ x. (x.0 < 2 ^ 16) × (x.1 < 2 ^ 64))
+        words.old result }
 {
     let first = words.next()?;
     let second = words.last()?;
@@ -342,7 +343,8 @@ fn node_number(words: &mut Words<'_>) -> Option<(u16, u64)>
 
 /// A node and two numbers.
 fn node_two_numbers(words: &mut Words<'_>) -> Option<(u16, u64, u64)>
-    ensures { Reads (λ x. decimal x.0 ∷ decimal x.1 ∷ decimal x.2 ∷ []) (λ x. (x.0 < 2 ^ 16) × (x.1 < 2 ^ 64) × (x.2 < 2 ^ 64)) words.old result }
+    ensures { Reads (λ x. decimal x.0 ∷ decimal x.1 ∷ decimal x.2 ∷ [])
+        (λ x. (x.0 < 2 ^ 16) × (x.1 < 2 ^ 64) × (x.2 < 2 ^ 64)) words.old result }
 {
     let first = words.next()?;
     let second = words.next()?;
@@ -355,7 +357,8 @@ fn node_two_numbers(words: &mut Words<'_>) -> Option<(u16, u64, u64)>
 
 /// A node, a number and a key.
 fn node_number_key<'a>(words: &mut Words<'a>) -> Option<(u16, u64, Spelled<'a>)>
-    ensures { Reads (λ x. decimal x.0 ∷ decimal x.1 ∷ bytes_token x.2 ∷ []) (λ x. (x.0 < 2 ^ 16) × (x.1 < 2 ^ 64) × AreBytes x.2) words.old result }
+    ensures { Reads (λ x. decimal x.0 ∷ decimal x.1 ∷ bytes_token x.2 ∷ [])
+        (λ x. (x.0 < 2 ^ 16) × (x.1 < 2 ^ 64) × AreBytes x.2) words.old result }
 {
     let first = words.next()?;
     let second = words.next()?;
@@ -368,7 +371,8 @@ fn node_number_key<'a>(words: &mut Words<'a>) -> Option<(u16, u64, Spelled<'a>)>
 
 /// A node, a number, a key and a value.
 fn node_number_pair<'a>(words: &mut Words<'a>) -> Option<(u16, u64, Spelled<'a>, Spelled<'a>)>
-    ensures { Reads (λ x. decimal x.0 ∷ decimal x.1 ∷ bytes_token x.2 ∷ bytes_token x.3 ∷ []) (λ x. (x.0 < 2 ^ 16) × (x.1 < 2 ^ 64) × AreBytes x.2 × AreBytes x.3) words.old result }
+    ensures { Reads (λ x. decimal x.0 ∷ decimal x.1 ∷ bytes_token x.2 ∷ bytes_token x.3 ∷ [])
+        (λ x. (x.0 < 2 ^ 16) × (x.1 < 2 ^ 64) × AreBytes x.2 × AreBytes x.3) words.old result }
 {
     let first = words.next()?;
     let second = words.next()?;
@@ -383,7 +387,8 @@ fn node_number_pair<'a>(words: &mut Words<'a>) -> Option<(u16, u64, Spelled<'a>,
 
 /// A number and a key.
 fn number_key<'a>(words: &mut Words<'a>) -> Option<(u64, Spelled<'a>)>
-    ensures { Reads (λ x. decimal x.0 ∷ bytes_token x.1 ∷ []) (λ x. (x.0 < 2 ^ 64) × AreBytes x.1) words.old result }
+    ensures { Reads (λ x. decimal x.0 ∷ bytes_token x.1 ∷ []) (λ x. (x.0 < 2 ^ 64) × AreBytes x.1)
+        words.old result }
 {
     let first = words.next()?;
     let second = words.last()?;

@@ -3,7 +3,8 @@ ghost use Rattle.std.specs.Prelude.{map, ◌++◌, codes};
 ghost use Rattle.std.specs.List.{flat_map};
 ghost use Rattle.hlc_text.specs.Printing.{Prints};
 ghost use Rattle.hlc_text.specs.Text.{printed};
-ghost use Rattle.hlc_script.specs.Reply.{reply_line, more_lines, pair_line, report_line, reply_text, refusal_line, answer_line};
+ghost use Rattle.hlc_script.specs.Reply.{reply_line, more_lines, pair_line, report_line, reply_text, refusal_line};
+ghost use Rattle.hlc_script.specs.Reply.{answer_line};
 
 use hlc_certificate::put_witnesses;
 use hlc_text::print::{put, put_named_bytes, put_named_count, put_named_number, put_named_stamp};
@@ -24,7 +25,8 @@ pub fn put_reply<W: Write>(writer: &mut Watched<W>, waiting: &mut Waiting, reply
 
 /// Prints the lines behind the first one of a reply.
 fn put_more<W: Write>(writer: &mut Watched<W>, waiting: &mut Waiting, reply: &Reply)
-    ensures { Prints W.contents writer.old writer.new waiting.old waiting.new (flat_map printed (more_lines reply.now)) }
+    ensures { Prints W.contents writer.old writer.new waiting.old waiting.new
+        (flat_map printed (more_lines reply.now)) }
 {
     match reply {
         Reply::Listing { pairs } => put_pairs(writer, waiting, pairs.as_slice()),
@@ -34,7 +36,8 @@ fn put_more<W: Write>(writer: &mut Watched<W>, waiting: &mut Waiting, reply: &Re
 }
 
 fn put_pairs<W: Write>(writer: &mut Watched<W>, waiting: &mut Waiting, pairs: &[Pair])
-    ensures { Prints W.contents writer.old writer.new waiting.old waiting.new (flat_map printed (map pair_line pairs.now)) }
+    ensures { Prints W.contents writer.old writer.new waiting.old waiting.new
+        (flat_map printed (map pair_line pairs.now)) }
 {
     for pair in pairs {
         put_pair(writer, waiting, pair);
@@ -42,7 +45,8 @@ fn put_pairs<W: Write>(writer: &mut Watched<W>, waiting: &mut Waiting, pairs: &[
 }
 
 fn put_pair<W: Write>(writer: &mut Watched<W>, waiting: &mut Waiting, pair: &Pair)
-    ensures { Prints W.contents writer.old writer.new waiting.old waiting.new (printed (pair_line pair.now)) }
+    ensures { Prints W.contents writer.old writer.new waiting.old waiting.new
+        (printed (pair_line pair.now)) }
 {
     put_named_bytes(writer, waiting, b"row ", pair.key.as_slice());
     put_named_bytes(writer, waiting, b" ", pair.value.as_slice());
@@ -81,15 +85,18 @@ fn put_reply_text<W: Write>(writer: &mut Watched<W>, waiting: &mut Waiting, repl
 }
 
 fn put_report<W: Write>(writer: &mut Watched<W>, waiting: &mut Waiting, report: &Report)
-    ensures { Prints W.contents writer.old writer.new waiting.old waiting.new (report_line report.now) }
+    ensures { Prints W.contents writer.old writer.new waiting.old waiting.new
+        (report_line report.now) }
 {
     put_named_stamp(writer, waiting, b"vacuum ", report.floor);
     put_named_number(writer, waiting, b" kept ", report.kept);
     put_named_count(writer, waiting, b" dropped ", report.dropped);
+    put_named_count(writer, waiting, b" bytes ", report.bytes);
 }
 
 fn put_answer<W: Write>(writer: &mut Watched<W>, waiting: &mut Waiting, value: &Option<Bytes>)
-    ensures { Prints W.contents writer.old writer.new waiting.old waiting.new (answer_line value.now) }
+    ensures { Prints W.contents writer.old writer.new waiting.old waiting.new
+        (answer_line value.now) }
 {
     match value {
         None => put(writer, waiting, b"none"),

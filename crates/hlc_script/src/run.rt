@@ -1,19 +1,17 @@
 //! A whole run: the bytes of a script in, the bytes of its replies out.
 ghost use Rattle.std.specs.Prelude.{◌≡◌, ◌≢◌, ◌≤◌, ◌↔◌, ◌∷◌, [], ℕ, List, MatchOption, false, true, length};
-ghost use Rattle.std.specs.Io.KnownBytes.{Consumes};
 ghost use Rattle.std.proofs.Common.{rules};
 ghost use Rattle.std.proofs.lemmas.Grind.{common_steps};
 ghost use Rattle.hlc_text.specs.Text.{Reads, printed};
 ghost use Rattle.hlc_text.specs.Lines.{lines_of, bad_line};
-ghost use Rattle.hlc_text.specs.Input.{IsInput};
-ghost use Rattle.hlc_text.specs.Watched.{inner_of, has_failed};
+ghost use Rattle.hlc_text.specs.Watched.{has_failed};
 ghost use Rattle.hlc_text.specs.Printing.{Prints};
 ghost use Rattle.hlc_world.specs.declared.event.Event.{Event as AnEvent};
 ghost use Rattle.hlc_world.specs.declared.reply.Reply.{Reply as AReply};
 ghost use Rattle.hlc_world.specs.State.{StandsFor, world_nodes};
 ghost use Rattle.hlc_script.specs.Line.{header_line, header_words, HasHeader};
 ghost use Rattle.hlc_script.specs.Spelled.{event_of};
-ghost use Rattle.hlc_script.specs.Run.{Answers, AnswersLine, MayWrite, MayTake, IsOfHeld, RunsScript, status_of};
+ghost use Rattle.hlc_script.specs.Run.{Answers, AnswersLine, MayWrite, IsOfHeld, ReadsScript, RunsScript, status_of};
 
 use crate::line::{Line, read_line};
 use crate::reply::put_reply;
@@ -99,11 +97,8 @@ fn read_and_answer<R: Read, W: Write>(
     waiting: &mut Waiting,
 ) -> RunEnd
     requires { has_failed reader.old ≡ false }
-    ensures written { (input : List ℕ) × (taken : List ℕ) × (output : List ℕ)
-        × IsInput (R.remaining (inner_of reader.old)) input
-        × Consumes (R.remaining (inner_of reader.old)) (R.remaining (inner_of reader.new)) taken
-        × MayTake input taken result × MayWrite input output result
-        × Prints W.contents writer.old writer.new waiting.old waiting.new output }
+    ensures written { ReadsScript R.remaining W.contents reader.old reader.new
+        writer.old writer.new waiting.old.items waiting.new.items result }
     ensures read_fault { (result ≡ RunEnd.ReadFault) ↔ (has_failed reader.new ≡ true) }
 {
     match read_input(alloc, reader) {
@@ -189,7 +184,8 @@ fn header_of_words(words: &mut Words<'_>) -> Option<u16>
 }
 
 fn put_header<W: Write>(writer: &mut Watched<W>, waiting: &mut Waiting, nodes: u16)
-    ensures { Prints W.contents writer.old writer.new waiting.old waiting.new (printed (header_line nodes)) }
+    ensures { Prints W.contents writer.old writer.new waiting.old waiting.new
+        (printed (header_line nodes)) }
 {
     put_named_number(writer, waiting, b"nodes ", nodes as u64);
     put(writer, waiting, b"\n");
@@ -206,7 +202,8 @@ fn answer_lines<W: Write>(
 ) -> Option<u64>
     requires fits { length text.now ≤ 16777216 }
     requires fresh { StandsFor world.old [] }
-    ensures { (output : List ℕ) × Answers (world_nodes world.old) [] 2 (lines_of text.now) output result
+    ensures { (output : List ℕ)
+        × Answers (world_nodes world.old) [] 2 (lines_of text.now) output result
         × Prints W.contents writer.old writer.new waiting.old waiting.new output }
 {
     let mut rest = text;
@@ -229,7 +226,10 @@ fn answer_lines<W: Write>(
 /// was none for the event's bytes.
 fn answer_line(alloc: Global, world: &mut World, line: &Line<'_>) -> Reply
     ensures nodes { world_nodes world.new ≡ world_nodes world.old }
-    ensures answers { (schedule : List (AnEvent × AReply)) → StandsFor world.old schedule → (after : List (AnEvent × AReply)) × AnswersLine (world_nodes world.old) schedule (event_of line.now) result after × StandsFor world.new after }
+    ensures answers { (schedule : List (AnEvent × AReply)) → StandsFor world.old schedule
+        → (after : List (AnEvent × AReply))
+        × AnswersLine (world_nodes world.old) schedule (event_of line.now) result after
+        × StandsFor world.new after }
 {
     match line.to_event(alloc) {
         Ok(event) => world.step(event),
@@ -238,7 +238,8 @@ fn answer_line(alloc: Global, world: &mut World, line: &Line<'_>) -> Reply
 }
 
 fn put_bad_line<W: Write>(writer: &mut Watched<W>, waiting: &mut Waiting, number: u64)
-    ensures { Prints W.contents writer.old writer.new waiting.old waiting.new (printed (bad_line number)) }
+    ensures { Prints W.contents writer.old writer.new waiting.old waiting.new
+        (printed (bad_line number)) }
 {
     put_named_number(writer, waiting, b"refused 16 line ", number);
     put(writer, waiting, b"\n");

@@ -47,6 +47,19 @@ impl<L: Ledger> Shared<L> {
         Ok((Shared { lock }, callers))
     }
 
+    /// Makes the call that an event asks for. A vacuum is planned by this thread alone; `vacuum` plans
+    /// it by several.
+    pub fn step<R: Wait>(
+        &self,
+        rt: &R,
+        caller: Caller<L>,
+        event: CoreEvent,
+    ) -> (Caller<L>, Result<Receipt, (NotDone, CoreEvent)>)
+        ensures { IsToldFor caller event result }
+    {
+        step_guarded(&mut self.lock.lock(rt), caller, event)
+    }
+
     /// Takes the next item of a link.
     pub fn accept<R: Wait>(
         &self,
@@ -56,7 +69,7 @@ impl<L: Ledger> Shared<L> {
     ) -> (Caller<L>, Result<Receipt, (NotDone, CoreEvent)>)
         ensures { IsToldFor caller (AnEvent.Accept item) result }
     {
-        step_guarded(&mut self.lock.lock(rt), caller, CoreEvent::Accept(item))
+        self.step(rt, caller, CoreEvent::Accept(item))
     }
 
     /// Opens a snapshot at a stamp.
@@ -68,7 +81,7 @@ impl<L: Ledger> Shared<L> {
     ) -> (Caller<L>, Result<Receipt, (NotDone, CoreEvent)>)
         ensures { IsToldFor caller (AnEvent.OpenAt stamp) result }
     {
-        step_guarded(&mut self.lock.lock(rt), caller, CoreEvent::OpenAt(stamp))
+        self.step(rt, caller, CoreEvent::OpenAt(stamp))
     }
 
     /// Opens a snapshot at the floor.
@@ -79,7 +92,7 @@ impl<L: Ledger> Shared<L> {
     ) -> (Caller<L>, Result<Receipt, (NotDone, CoreEvent)>)
         ensures { IsToldFor caller AnEvent.OpenFloor result }
     {
-        step_guarded(&mut self.lock.lock(rt), caller, CoreEvent::OpenFloor)
+        self.step(rt, caller, CoreEvent::OpenFloor)
     }
 
     /// Reads a key in an open snapshot.
@@ -92,7 +105,7 @@ impl<L: Ledger> Shared<L> {
     ) -> (Caller<L>, Result<Receipt, (NotDone, CoreEvent)>)
         ensures { IsToldFor caller (AnEvent.Read id key) result }
     {
-        step_guarded(&mut self.lock.lock(rt), caller, CoreEvent::Read { id, key })
+        self.step(rt, caller, CoreEvent::Read { id, key })
     }
 
     /// Lists an open snapshot.
@@ -104,7 +117,7 @@ impl<L: Ledger> Shared<L> {
     ) -> (Caller<L>, Result<Receipt, (NotDone, CoreEvent)>)
         ensures { IsToldFor caller (AnEvent.List id) result }
     {
-        step_guarded(&mut self.lock.lock(rt), caller, CoreEvent::List(id))
+        self.step(rt, caller, CoreEvent::List(id))
     }
 
     /// Closes an open snapshot.
@@ -116,7 +129,7 @@ impl<L: Ledger> Shared<L> {
     ) -> (Caller<L>, Result<Receipt, (NotDone, CoreEvent)>)
         ensures { IsToldFor caller (AnEvent.Close id) result }
     {
-        step_guarded(&mut self.lock.lock(rt), caller, CoreEvent::Close(id))
+        self.step(rt, caller, CoreEvent::Close(id))
     }
 
     /// Drops the rows that no reader needs, by a plan of several threads. The lock is held all the

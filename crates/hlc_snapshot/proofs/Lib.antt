@@ -1,1 +1,1 @@
-pub mod PointLists
+pub mod RegisterLemmas

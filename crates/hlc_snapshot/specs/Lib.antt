@@ -1,3 +1,1 @@
 pub mod Register
-pub mod RegisterLaws
-pub mod Points

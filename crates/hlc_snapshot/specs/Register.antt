@@ -4,6 +4,7 @@ use Rattle.std.specs.Prelude.{not, nat_le, Option, Some, None, if◌then◌else�
 use Rattle.std.specs.List.{AllPairs}
 use Rattle.std.specs.Option.{option_map}
 use Rattle.hlc_snapshot.specs.declared.snapshot.Snapshot.{Snapshot}
+use Rattle.hlc_snapshot.specs.declared.registry.TheConstants.{MOST_OPEN}
 use Rattle.hlc_snapshot.specs.declared.fault.SnapshotFault.{SnapshotFault}
 use Rattle.hlc_snapshot.specs.declared.fault.SnapshotFault.TheVariants.{TooManySnapshots, NumbersSpent, NoMemory}
 
@@ -27,7 +28,7 @@ without id snapshots = filter (λ snapshot. not (snapshot.id == id)) snapshots
 -- the first reason to open no snapshot, memory aside, where so many are open and so many were ever opened
 abbrev pub room_refusal : (open_now opened : ℕ) → Option SnapshotFault
 room_refusal open_now opened =
-    if nat_le 1024 open_now then Some TooManySnapshots
+    if nat_le MOST_OPEN open_now then Some TooManySnapshots
     else if nat_le 18446744073709551614 opened then Some NumbersSpent
     else None
 
@@ -47,11 +48,11 @@ abbrev pub closed : ℕ → Register → Register
 closed id register = record { snapshots = without id register.snapshots; opened = register.opened }
 
 -- the ids of the open snapshots rise, from the oldest to the newest, and lie from 1 to the number of those ever opened;
--- no more than 1,024 are open, and no more were ever opened than there are ids
+-- no more are open than may be, and no more were ever opened than there are ids
 pub record IsRegister (register : Register) : Type 0 where
   pub rising : AllPairs (λ older newer. older.id < newer.id) register.snapshots
   pub given : All (λ snapshot. (0 < snapshot.id) × (snapshot.id ≤ register.opened)) register.snapshots
-  pub few : length register.snapshots ≤ 1024
+  pub few : length register.snapshots ≤ MOST_OPEN
   pub in_range : register.opened ≤ 18446744073709551614
 
 -- the newer register was reached from the older one by opening and closing snapshots

@@ -1,7 +1,13 @@
 //! What holds of every register, and of the points.
 ghost use Rattle.std.specs.Prelude.{◌≡◌, ◌≢◌, ◌<◌, ◌≤◌, ◌+◌, ℕ, List, [], All, length};
+ghost use Rattle.hlc_snapshot.specs.declared.registry.TheConstants.{MOST_OPEN};
 ghost use Rattle.hlc_snapshot.specs.Register.{Register, IsRegister, Follows, closed, opened_at, room_refusal, stamp_in};
-ghost use Rattle.hlc_snapshot.specs.Points.{ArePoints};
+ghost use Rattle.hlc_clock.specs.Points.{ArePoints};
+
+/// At most 1,024 snapshots are open.
+pub fn most_open_are_1024()
+    ensures { MOST_OPEN ≡ 1024 }
+{}
 
 /// A new snapshot has an id that is above all others, and its stamp; the others keep theirs.
 pub fn opening_adds_one_snapshot()

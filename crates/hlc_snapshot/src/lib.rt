@@ -9,8 +9,8 @@ mod snapshot;
 pub use fault::{NoMemory, NoSnapshot, SnapshotFault};
 pub use hlc_clock::Stamp;
 pub use laws::{
-    closing_takes_out_one_snapshot, ids_are_never_used_again, opening_adds_one_snapshot,
-    points_are_unique, registers_stay_registers,
+    closing_takes_out_one_snapshot, ids_are_never_used_again, most_open_are_1024,
+    opening_adds_one_snapshot, points_are_unique, registers_stay_registers,
 };
-pub use registry::Registry;
+pub use registry::{MOST_OPEN, Registry};
 pub use snapshot::Snapshot;

@@ -2,7 +2,7 @@
 ghost use Rattle.std.specs.Prelude.{◌≡◌, ℕ, ◌+◌, ◌<◌, ◌≤◌, ◌==◌, [], ◌∷◌, ◌++◌, length, All, IfOk, IfErr, OnErr};
 ghost use Rattle.std.specs.Prelude.{if◌then◌else◌};
 ghost use Rattle.hlc_snapshot.specs.Register.{IsRegister, IsRefusal, closed, opened_at, room_refusal, stamp_in, stamps};
-ghost use Rattle.hlc_snapshot.specs.Points.{ArePoints};
+ghost use Rattle.hlc_clock.specs.Points.{ArePoints};
 
 use crate::fault::{NoMemory, NoSnapshot, SnapshotFault};
 use crate::snapshot::Snapshot;
@@ -11,7 +11,7 @@ use std::alloc::{AllocError, Global};
 use std::marker::Model;
 
 /// The most snapshots that may be open at once.
-const LIMIT: usize = 1024;
+pub const MOST_OPEN: usize = 1024;
 
 /// The open snapshots of a table. Contracts see them in the order in which they were opened, and
 /// how many were ever opened.
@@ -135,7 +135,7 @@ impl Registry {
 fn room_fault(open_now: usize, opened: u64) -> Option<SnapshotFault>
     ensures { result ≡ room_refusal open_now opened }
 {
-    if open_now >= LIMIT {
+    if open_now >= MOST_OPEN {
         return Some(SnapshotFault::TooManySnapshots);
     }
     if opened >= u64::MAX - 1 {

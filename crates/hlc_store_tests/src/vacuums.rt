@@ -32,16 +32,24 @@ fn witness(alloc: Global, before: Option<u64>, at: u64) -> Result<Witness, Alloc
     })
 }
 
-/// The report of a vacuum, if it has this floor and these numbers of rows kept and dropped, and if
-/// its certificate shows that number.
-fn certified_report(core: &mut Core, floor: u64, kept: u64, dropped: u128) -> Option<Report> {
+/// The report of a vacuum, if it has this floor, this number of rows kept with what they cost, and
+/// this number of rows dropped, and if its certificate shows that number and that cost.
+fn certified_report(
+    core: &mut Core,
+    floor: u64,
+    kept: (u64, u128),
+    dropped: u128,
+) -> Option<Report> {
+    let (kept, bytes) = kept;
     let report = core.vacuum().ok()?;
     let rows = core.rows_to(report.floor).ok()?;
     let points = report.points.as_slice();
     let shown = check(rows.as_slice(), points, report.witnesses.as_slice()).ok()?;
-    let told = report.floor == stamp(floor) && report.kept == kept && report.dropped == dropped;
-    if told
+    let counted = report.kept == kept && report.bytes == bytes && report.dropped == dropped;
+    if counted
+        && report.floor == stamp(floor)
         && shown.count() == kept
+        && shown.cost() == bytes
         && rows.len() as u64 == kept
         && core.horizon() == stamp(floor)
     {
@@ -70,12 +78,12 @@ fn a_value_written_twice_is_kept_once(rt: HostRuntime) -> Result<(), Fail> {
     let mut core = three_versions(alloc, Some(b"x"), b"y")?;
     assert_eq!(rt; core.open(stamp(1)), Ok(1));
     assert_eq!(rt; core.open(stamp(2)), Ok(2));
-    let report = certified_report(&mut core, 3, 2, 1).ok_or("kept 2, dropped 1")?;
+    let report = certified_report(&mut core, 3, (2, 24), 1).ok_or("kept 2, dropped 1")?;
     let due = vec![in alloc; witness(alloc, None, 1)?, witness(alloc, Some(2), 3)?]?;
     assert!(rt; report.witnesses.as_slice() == due.as_slice());
     assert!(rt; report.points.as_slice() == [stamp(1), stamp(2), stamp(3)].as_slice());
     assert_eq!(rt; core.rows(), 2);
-    let again = certified_report(&mut core, 3, 2, 0).ok_or("kept 2, dropped 0")?;
+    let again = certified_report(&mut core, 3, (2, 24), 0).ok_or("kept 2, dropped 0")?;
     assert!(rt; again.witnesses == report.witnesses);
     Ok(())
 }
@@ -86,7 +94,7 @@ fn a_leading_deletion_mark_is_dropped(rt: HostRuntime) -> Result<(), Fail> {
     let mut core = Core::new(alloc, 2).ok().ok_or("a store")?;
     assert!(rt; is_accepted(&mut core, alloc, (0, 0, 1), None)?);
     assert!(rt; is_accepted(&mut core, alloc, (1, 0, 9), Some(b"y"))?);
-    certified_report(&mut core, 1, 0, 1).ok_or("kept 0, dropped 1")?;
+    certified_report(&mut core, 1, (0, 0), 1).ok_or("kept 0, dropped 1")?;
     assert_eq!(rt; core.rows(), 1);
     // The row above the floor is no part of the rows up to it, and all rows are those up to 9.0.
     let below = core.rows_to(stamp(8))?;
@@ -101,7 +109,7 @@ fn snapshots_hold_what_they_see(rt: HostRuntime) -> Result<(), Fail> {
     let mut core = three_versions(alloc, None, b"x")?;
     assert_eq!(rt; core.open(stamp(1)), Ok(1));
     assert_eq!(rt; core.open(stamp(2)), Ok(2));
-    let report = certified_report(&mut core, 3, 3, 0).ok_or("kept 3, dropped 0")?;
+    let report = certified_report(&mut core, 3, (3, 35), 0).ok_or("kept 3, dropped 0")?;
     let due = vec![in alloc;
         witness(alloc, None, 1)?,
         witness(alloc, Some(1), 2)?,
@@ -109,7 +117,7 @@ fn snapshots_hold_what_they_see(rt: HostRuntime) -> Result<(), Fail> {
     ]?;
     assert!(rt; report.witnesses.as_slice() == due.as_slice());
     assert_eq!(rt; core.close(2), Ok(stamp(2)));
-    certified_report(&mut core, 3, 1, 2).ok_or("kept 1, dropped 2")?;
+    certified_report(&mut core, 3, (1, 12), 2).ok_or("kept 1, dropped 2")?;
     assert_eq!(rt; core.read(1, b"a"), Ok(Some(b"x".as_slice())));
     let shown = vacuum_and_check(&mut core)?;
     assert_eq!(rt; shown.map(|shown| shown.count()), Ok(1));
@@ -119,7 +127,7 @@ fn snapshots_hold_what_they_see(rt: HostRuntime) -> Result<(), Fail> {
 #[test]
 fn a_store_without_rows(rt: HostRuntime) -> Result<(), Fail> {
     let mut core = Core::new(rt.alloc(), 3).ok().ok_or("a store")?;
-    certified_report(&mut core, 0, 0, 0).ok_or("kept 0, dropped 0")?;
+    certified_report(&mut core, 0, (0, 0), 0).ok_or("kept 0, dropped 0")?;
     let shown = vacuum_and_check(&mut core)?;
     assert_eq!(rt; shown.map(|shown| shown.count()), Ok(0));
     Ok(())
@@ -155,7 +163,7 @@ fn the_longest_keys_and_values(rt: HostRuntime) -> Result<(), Fail> {
         assert!(rt; core.accept(write_of(alloc, number, pair)?).is_ok());
     }
     assert_eq!(rt; core.open(stamp(2)), Ok(1));
-    certified_report(&mut core, 3, 2, 1).ok_or("kept 2, dropped 1")?;
+    certified_report(&mut core, 3, (2, 131_600), 1).ok_or("kept 2, dropped 1")?;
     let listing = core.list(1).ok().ok_or("a listing")?;
     assert!(rt; listing.as_slice() == pairs.as_slice());
     let value = core.read(1, pairs[0].key.as_slice());
@@ -186,7 +194,9 @@ fn twenty_thousand_rows(rt: HostRuntime) -> Result<(), Fail> {
             assert!(rt; core.open_floor().is_ok());
         }
     }
-    certified_report(&mut core, 20_000, 10_000, 10_000).ok_or("kept 10000, dropped 10000")?;
+    certified_report(&mut core, 20_000, (10_000, 130_000), 10_000).ok_or(
+        "kept 10000, dropped 10000",
+    )?;
     assert_eq!(rt; core.rows(), 10_000);
     Ok(())
 }

@@ -6,7 +6,8 @@ use Rattle.std.proofs.lemmas.List.{take_more, length-take-le}
 use Rattle.std.proofs.lemmas.List.Concat.{flat_map-append}
 use Rattle.hlc_text.specs.Text.{printed}
 use Rattle.hlc_text.specs.Printing.{Printed}
-use Rattle.hlc_text.specs.PrintingLaws.{printed_then, append-nil}
+use Rattle.hlc_text.proofs.PrintLemmas.{printed_then}
+use Rattle.std.proofs.Common.{append-nil}
 use Rattle.hlc_storm.specs.Printed.{accepted_line, accepted_lines}
 
 lines_more : (node : ℕ) (xs : List ℕ) (x : ℕ)

@@ -1,6 +1,6 @@
 //! The places of a storm's workers: what each of them starts with.
 ghost use Rattle.std.specs.Prelude.{◌≡◌};
-ghost use Rattle.hlc_storm.specs.Places.{FeedersOf, PassesOf};
+ghost use Rattle.hlc_board.specs.Views.{FeedersOf, PassesOf};
 
 use hlc_board::{Board, Feeder, FloorPass};
 use hlc_channel::{LinkReceiver, LinkSender, link};

@@ -84,7 +84,7 @@ fn storm_in<
 }
 
 /// The work of a storm: a new store after it, and the receipts by caller.
-#[tactic(auto, using(crate::proofs::Placed::feeders_new, crate::proofs::Placed::passes_new))]
+#[tactic(auto, using(hlc_board::proofs::PlaceLemmas::feeders_new, hlc_board::proofs::PlaceLemmas::passes_new))]
 pub(crate) fn work<
     L: Ledger + Send + Sync,
     F: Gate + Sync,

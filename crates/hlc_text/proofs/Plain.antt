@@ -1,26 +1,18 @@
--- Bytes that each stand as themselves are their own spelling: what is printed for them, and what they are read as.
+-- Bytes that each stand as themselves are read as themselves, since the first does and the rest are such bytes.
 use Rattle.std.proofs.Common.{◌<◌, ◌∙◌, if◌then◌else◌, length, arith, nat_eq, ne_eqb, sym, ◌≡◌, ℕ, List, [], ◌∷◌, Bool}
 use Rattle.std.proofs.Common.{true, false, ◌&&◌, Some, ap, refl}
 use Rattle.std.specs.Prelude.{unwrap_or}
-use Rattle.std.proofs.lemmas.Bool.{false≢true}
-use Rattle.std.specs.List.{list_all, flat_map}
-use Rattle.hlc_text.specs.Text.{stands_as_itself, byte_token}
+use Rattle.std.proofs.lemmas.Bool.{and_parts, false≢true}
+use Rattle.std.specs.List.{list_all}
+use Rattle.hlc_text.specs.Text.{stands_as_itself}
 use Rattle.hlc_text.specs.Spelling.{spelled_bytes, token_bytes, bytes_in, with_byte}
-
-both : (s t : Bool) → (s && t) ≡ true → (s ≡ true) × (t ≡ true)
-both true t h = (refl, h)
-both false t h = absurd (cc)
 
 first_stands : (b : ℕ) (bs : List ℕ) → list_all stands_as_itself (b ∷ bs) ≡ true
     → (stands_as_itself b ≡ true) × (list_all stands_as_itself bs ≡ true)
-first_stands b bs h = both (stands_as_itself b) (list_all stands_as_itself bs) h
+first_stands b bs h = and_parts (stands_as_itself b) (list_all stands_as_itself bs) h
 
 not_percent : (b : ℕ) → stands_as_itself b ≡ true → nat_eq b 37 ≡ false
 not_percent b h = ne_eqb b 37 (λ percent. false≢true (sym (ap stands_as_itself percent) ∙ h))
-
-pub printed_plain : (bs : List ℕ) → list_all stands_as_itself bs ≡ true → flat_map byte_token bs ≡ bs
-printed_plain [] h = refl
-printed_plain (b ∷ bs) h = let p = first_stands b bs h in rw p.0 (ap (λ l. b ∷ l) (printed_plain bs p.1))
 
 pub read_plain : (bs : List ℕ) → list_all stands_as_itself bs ≡ true → spelled_bytes bs ≡ Some bs
 read_plain [] h = refl

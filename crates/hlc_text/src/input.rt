@@ -1,9 +1,10 @@
 //! The whole input of a run or a check, and its first line.
-ghost use Rattle.std.specs.Prelude.{◌≡◌, ◌<◌, ◌≤◌, ◌∷◌, ◌↔◌, ℕ, List, Err, false, true, length, vec_len, IfOk};
+ghost use Rattle.std.specs.Prelude.{◌≡◌, ◌<◌, ◌≤◌, ◌∷◌, ◌↔◌, ◌^◌, ℕ, List, Err, false, true, length, vec_len, IfOk};
 ghost use Rattle.std.specs.Io.KnownBytes.{Consumes};
 ghost use Rattle.hlc_text.specs.Watched.{inner_of, has_failed};
 ghost use Rattle.hlc_text.specs.Lines.{lines_of};
 ghost use Rattle.hlc_text.specs.Input.{IsInput};
+ghost use Rattle.hlc_text.specs.declared.input.TheConstants.{INPUT_LIMIT};
 
 use crate::watched::Watched;
 use crate::words::cut;
@@ -11,7 +12,12 @@ use std::alloc::Global;
 use std::io::Read;
 
 /// The most bytes that an input may have.
-pub const LIMIT: usize = 16_777_216;
+pub const INPUT_LIMIT: usize = 16_777_216;
+
+/// An input has at most 16,777,216 bytes.
+pub fn inputs_have_a_limit()
+    ensures { INPUT_LIMIT ≡ 2 ^ 24 }
+{}
 
 /// Why there is no input.
 #[derive(Clone, Copy, Debug, PartialEq, Eq)]
@@ -29,19 +35,19 @@ pub fn read_input<R: Read>(alloc: Global, reader: &mut Watched<R>) -> Result<Vec
     requires { has_failed reader.old ≡ false }
     ensures ok { IfOk result (λ input. IsInput (R.remaining (inner_of reader.old)) input.items
         × Consumes (R.remaining (inner_of reader.old)) (R.remaining (inner_of reader.new)) input.items
-        × (vec_len input ≤ 16777216)) }
+        × (vec_len input ≤ INPUT_LIMIT)) }
     ensures failed { (result ≡ Err InputFault.ReadFault) ↔ (has_failed reader.new ≡ true) }
 
     // What was taken till then, by the fault.
     ensures memory { result ≡ Err InputFault.NoMemory → (taken : List ℕ)
         × Consumes (R.remaining (inner_of reader.old)) (R.remaining (inner_of reader.new)) taken
-        × (0 < length taken) × (length taken ≤ 16777216) }
+        × (0 < length taken) × (length taken ≤ INPUT_LIMIT) }
     ensures fault { result ≡ Err InputFault.ReadFault → (taken : List ℕ)
         × Consumes (R.remaining (inner_of reader.old)) (R.remaining (inner_of reader.new)) taken
-        × (length taken ≤ 16777216) }
+        × (length taken ≤ INPUT_LIMIT) }
     ensures long { result ≡ Err InputFault.TooLong → (taken : List ℕ)
         × Consumes (R.remaining (inner_of reader.old)) (R.remaining (inner_of reader.new)) taken
-        × (16777216 < length taken) }
+        × (INPUT_LIMIT < length taken) }
 {
     let mut input = Vec::new(alloc);
     let mut block = [0u8; 32768];
@@ -52,7 +58,7 @@ pub fn read_input<R: Read>(alloc: Global, reader: &mut Watched<R>) -> Result<Vec
         if taken == 0 {
             return Ok(input);
         }
-        if taken > LIMIT - input.len() {
+        if taken > INPUT_LIMIT - input.len() {
             return Err(InputFault::TooLong);
         }
         if input.extend_from_slice(&block[..taken]).is_err() {

@@ -11,7 +11,7 @@ use Rattle.hlc_columns.specs.Rows.{KeyCells, KeysAscend}
 use Rattle.hlc_vacuum.specs.declared.draft.Draft.{Draft}
 use Rattle.hlc_vacuum.specs.KeyPlan.{IsJoined}
 use Rattle.hlc_vacuum.specs.Parallel.{DraftsPiece, columns_of}
-use Rattle.hlc_vacuum.proofs.Joined.{OthersBefore, OthersBehind, ascend_front, ascend_back, joined_append, joined_none}
+use Rattle.hlc_vacuum.proofs.Joined.{ascend_front, ascend_back, joined_append, joined_none}
 
 -- the pieces of columns whose keys ascend
 pub piece_ascends : (pieces : List (List KeyCells)) (k : ℕ) (d : List KeyCells) → KeysAscend (columns_of pieces)
@@ -53,12 +53,12 @@ JoinsPieces drafts whole =
     drafts → IsJoined (columns_of pieces) points whole.witnesses.items whole.keep.items
 
 -- one piece on
-pub pieces_on : OthersBefore → OthersBehind → (drafts : List (Result Draft AllocError)) (whole more new : Draft)
+pub pieces_on : (drafts : List (Result Draft AllocError)) (whole more new : Draft)
     → JoinsPieces drafts whole
     → new.witnesses.items ≡ whole.witnesses.items ++ more.witnesses.items
     → new.keep.items ≡ whole.keep.items ++ more.keep.items
     → JoinsPieces (drafts ++ Ok more ∷ []) new
-pieces_on before behind drafts whole more new so news keeps = λ points pieces up each.
+pieces_on drafts whole more new so news keeps = λ points pieces up each.
     let parts = last_of_zip (DraftsPiece points) pieces drafts (Ok more) each in
     let both : columns_of pieces ≡ columns_of parts.front ++ parts.last =
     ap columns_of parts.is ∙ flat_map-append (λ piece. piece) parts.front (parts.last ∷ []) ∙ ap
@@ -70,7 +70,7 @@ pieces_on before behind drafts whole more new so news keeps = λ points pieces u
     (subst (λ fs. IsJoined (columns_of parts.front ++ parts.last) points
     (whole.witnesses.items ++ more.witnesses.items) fs)
     (sym keeps)
-    (joined_append before behind points
+    (joined_append points
     (columns_of parts.front) parts.last ascend whole.witnesses.items more.witnesses.items
     whole.keep.items more.keep.items front parts.lasts)))
 

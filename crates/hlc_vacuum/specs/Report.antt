@@ -1,15 +1,17 @@
 -- What a plan reports.
 use Rattle.std.specs.Prelude.{length, count_by, not}
-use Rattle.hlc_witness.specs.Points.{last_point}
+use Rattle.hlc_clock.specs.Points.{last_point}
 use Rattle.hlc_vacuum.specs.declared.report.Report.{Report}
 use Rattle.hlc_vacuum.specs.Plan.{Planned}
 
--- its last point is the floor; a row is kept for each change; and those that it does not keep are dropped
+-- its last point is the floor; a row is kept for each change, and they cost what it says; and those that it does not
+-- keep are dropped
 abbrev pub report_of : Planned → Report
 report_of plan = record {
   floor = last_point plan.points;
   points = plan.points;
   kept = length plan.witnesses;
+  bytes = plan.bytes;
   dropped = count_by not plan.keep;
   witnesses = plan.witnesses;
 }

@@ -1,6 +1,6 @@
 //! The points of a vacuum.
 ghost use Rattle.std.specs.Prelude.{◌≡◌, ◌<◌, length};
-ghost use Rattle.hlc_witness.specs.Points.{last_point};
+ghost use Rattle.hlc_clock.specs.Points.{last_point};
 
 use hlc_clock::Stamp;
 use hlc_values::Listed;

@@ -20,6 +20,8 @@ pub struct Report {
     pub points: Points,
     /// How many rows were kept: one for each change.
     pub kept: u64,
+    /// What those rows cost in bytes: of each the length of its key and of its value, and 10.
+    pub bytes: u128,
     /// How many rows were dropped, all of them at or below the floor.
     pub dropped: u128,
     /// The changes, ascending by key and point.

@@ -1,28 +1,24 @@
 -- Ascending rows and witnesses by their places: an order is total, so neighbours in order are a list in order, and what
--- is above the last of an ascending list is above all of it. Ascending rows differ in key, stamp or node,
--- so they are a row set.
-use Rattle.std.proofs.Common.{◌≡◌, ℕ, ◌+◌, ◌-◌, ◌<◌, List, [], ◌∷◌, ◌++◌, Some, length, get_or, refl, sym, ap, ap₂, ◌∙◌}
-use Rattle.std.proofs.Common.{subst, inl, inr, arith, Ordering, Less, Equal, Greater, nat_cmp, true, is_lt, take, drop}
-use Rattle.std.proofs.Common.{slice_get}
-use Rattle.std.specs.Ordering.{ordering_then, is_gt}
-use Rattle.std.specs.Cmp.Lexicographic.{slice_cmp}
+-- is above the last of an ascending list is above all of it.
+use Rattle.std.proofs.Common.{nat_cmp, Less, Equal, Ordering, Some, length, get_or, drop, refl, sym, ap, ◌∙◌, subst}
+use Rattle.std.proofs.Common.{inl, inr, arith, true, slice_get, Greater, is_lt, take, ◌≡◌, ℕ, List, [], ◌∷◌, ◌-◌, ◌<◌}
+use Rattle.std.proofs.Common.{◌+◌, ◌++◌, ap₂}
 use Rattle.std.specs.List.Sorted.{IsStrictlySortedBy}
+use Rattle.std.specs.Ordering.{is_gt}
 use Rattle.std.proofs.lemmas.Bool.{cases_order}
 use Rattle.std.proofs.lemmas.Bool.Decides.{nat_tests}
-use Rattle.std.proofs.lemmas.Cmp.{nat_cmp_total, nat_list_cmp_total, tied_itself}
+use Rattle.std.proofs.lemmas.List.{drop_more, take_more, get_or_read, take-append-drop}
+use Rattle.std.proofs.lemmas.List.Elements.{All-contains}
+use Rattle.std.proofs.lemmas.Map.Keys.{Less-from_sorted, sorted_from_all_adjacent}
 use Rattle.std.proofs.lemmas.Option.{slice_get_within, get_or_from_slice_get}
-use Rattle.std.proofs.lemmas.List.{get_or_read, take_more, drop_more, take-append-drop}
-use Rattle.std.proofs.lemmas.List.Elements.{All-contains, All-from_recursion}
-use Rattle.std.proofs.lemmas.Map.Keys.{sorted_from_all_adjacent, Less-from_sorted, sorted_head, sorted_tail}
+use Rattle.hlc_values.proofs.MemberLemmas.{Contains-none, Contains-cons_cases}
 use Rattle.hlc_node.specs.declared.row.Row.{Row}
-use Rattle.hlc_node.specs.Rows.{IsRowSet, IsSameVersion}
-use Rattle.hlc_witness.specs.declared.witness.Witness.{Witness}
-use Rattle.hlc_witness.specs.Changes.{ChangesAscend, change_cmp}
 use Rattle.hlc_witness.specs.Certificate.{RowsAscend, row_cmp}
+use Rattle.hlc_witness.specs.Changes.{ChangesAscend, change_cmp}
 use Rattle.hlc_witness.specs.Reasons.{IsAbove}
-use Rattle.hlc_witness.proofs.Certified.{change_cmp_total, row_cmp_total}
-use Rattle.hlc_witness.proofs.Members.{Contains-none, Contains-cons_cases}
+use Rattle.hlc_witness.specs.declared.witness.Witness.{Witness}
 use Rattle.hlc_witness.proofs.Listed.{sorted_append}
+use Rattle.hlc_witness.proofs.Orders.{change_cmp_total, row_cmp_total}
 
 pub rows_from_neighbours : (rows : List Row)
     → ((k : ℕ) (d : Row) → k + 1 < length rows → row_cmp (get_or rows k d) (get_or rows (k + 1) d) ≡ Less)
@@ -91,22 +87,3 @@ pub around : (witnesses : List Witness) (i : ℕ) (witness : Witness) → i < le
 around witnesses i witness lt is =
     sym (take-append-drop i witnesses) ∙ ap (λ ws. take i witnesses ++ ws)
     (drop_more witnesses i witness lt ∙ ap (λ w. w ∷ drop (i + 1) witnesses) (sym is))
-
-same_version-tied : (a b : Row) → IsSameVersion a b → row_cmp a b ≡ Equal
-same_version-tied a b same =
-    ap (λ o. ordering_then o (ordering_then (nat_cmp a.stamp b.stamp) (nat_cmp a.node b.node)))
-    (ap (slice_cmp nat_cmp a.key) (sym same.key) ∙ tied_itself nat_list_cmp_total a.key)
-    ∙ ap (λ o. ordering_then o (nat_cmp a.node b.node))
-    (ap (nat_cmp a.stamp) (sym same.stamp) ∙ tied_itself nat_cmp_total a.stamp)
-    ∙ ap (nat_cmp a.node) (sym same.node) ∙ tied_itself nat_cmp_total a.node
-
-pub ascend-IsRowSet : (rows : List Row) → RowsAscend rows → IsRowSet rows
-ascend-IsRowSet [] up = tt
-ascend-IsRowSet (row ∷ rows) up = (
-  λ other i same.
-      let less : row_cmp row other ≡ Less = All-contains (λ y. row_cmp row y ≡ Less) rows other
-      (All-from_recursion (λ y. row_cmp row y ≡ Less) rows (sorted_head row_cmp row rows up)) i in
-      let wrong : Less ≡ Equal = sym less ∙ same_version-tied row other same in
-      cc,
-  ascend-IsRowSet rows (sorted_tail row_cmp row rows up),
-)

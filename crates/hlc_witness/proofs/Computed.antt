@@ -1,22 +1,16 @@
--- The changes as they are computed: the keys that have rows come each once and in byte order, so the list of each key's
--- changes is the list of all.
-use Rattle.std.proofs.Common.{◌≡◌, ℕ, List, [], ◌∷◌, refl, ap, ◌∙◌, subst, All, Contains, Less, Equal, Greater, nat_cmp}
-use Rattle.std.proofs.Common.{inl, inr}
+-- The keys of the rows, each once and in byte order: setting a key into its place keeps them so.
+use Rattle.std.proofs.Common.{Contains, All, nat_cmp, Less, Equal, refl, ap, ◌∙◌, subst, inl, inr, Greater, ◌≡◌, ℕ}
+use Rattle.std.proofs.Common.{List, [], ◌∷◌}
 use Rattle.std.specs.Cmp.Lexicographic.{slice_cmp}
-use Rattle.std.specs.Ordering.{ordering_reverse}
-use Rattle.std.specs.List.Sorted.{IsStrictlySortedBy}
 use Rattle.std.specs.FinMap.{slice_cmp-IsAntisymmetric, nat_cmp-IsAntisymmetric}
+use Rattle.std.specs.List.Sorted.{IsStrictlySortedBy}
+use Rattle.std.specs.Ordering.{ordering_reverse}
 use Rattle.std.proofs.lemmas.Cmp.{nat_list_cmp_total}
-use Rattle.std.proofs.lemmas.List.Elements.{All-head, All-tail, All-cons, All-weaker, All-from_recursion}
+use Rattle.std.proofs.lemmas.List.Elements.{All-from_recursion, All-weaker, All-head, All-tail, All-cons}
 use Rattle.std.proofs.lemmas.List.Elements.{recursion_from_All}
+use Rattle.hlc_values.proofs.MemberLemmas.{Contains-none, Contains-cons_cases, Contains-first, Contains-rest}
 use Rattle.hlc_node.specs.declared.row.Row.{Row}
-use Rattle.hlc_witness.specs.declared.witness.Witness.{Witness}
-use Rattle.hlc_witness.specs.Points.{PointsAscend}
-use Rattle.hlc_witness.specs.Changes.{AreChanges}
-use Rattle.hlc_witness.specs.AllChanges.{placed, with_key, keys_of, all_changes}
-use Rattle.hlc_witness.proofs.Members.{Contains-none, Contains-first, Contains-rest, Contains-cons_cases}
-use Rattle.hlc_witness.proofs.Newest.{NewestLaws}
-use Rattle.hlc_witness.proofs.Listed.{changes_listed, changes_once}
+use Rattle.hlc_witness.specs.AllChanges.{placed, with_key, keys_of}
 
 below_with : (j key : List ℕ) (ks : List (List ℕ)) → slice_cmp nat_cmp j key ≡ Less
     → All (λ l. slice_cmp nat_cmp j l ≡ Less) ks → All (λ l. slice_cmp nat_cmp j l ≡ Less) (with_key key ks)
@@ -80,12 +74,12 @@ with_new key (k ∷ ks) =
       | Greater ↦ λ e. Contains-rest k key (with_key key ks) (with_new key ks)
     ] refl
 
-keys_sorted : (rows : List Row) → IsStrictlySortedBy (slice_cmp nat_cmp) (keys_of rows)
+pub keys_sorted : (rows : List Row) → IsStrictlySortedBy (slice_cmp nat_cmp) (keys_of rows)
 unfolding keys_of IsStrictlySortedBy
 keys_sorted [] = tt
 keys_sorted (v ∷ rows) = with_sorted v.key (keys_of rows) (keys_sorted rows)
 
-keys_every : (rows : List Row) (v : Row) → Contains rows v → Contains (keys_of rows) v.key
+pub keys_every : (rows : List Row) (v : Row) → Contains rows v → Contains (keys_of rows) v.key
 unfolding keys_of
 keys_every [] v i = absurd (Contains-none v i)
 keys_every (w ∷ ws) v i =
@@ -93,14 +87,3 @@ keys_every (w ∷ ws) v i =
       | inl e ↦ subst (λ (x : Row). Contains (with_key w.key (keys_of ws)) x.key) e (with_new w.key (keys_of ws))
       | inr r ↦ with_old w.key v.key (keys_of ws) (keys_every ws v r)
     ]
-
-pub computed : NewestLaws → (rows : List Row) (points : List ℕ) → PointsAscend points
-    → AreChanges rows points (all_changes rows points)
-unfolding all_changes
-computed laws rows points rise =
-    changes_listed laws rows points (keys_of rows) rise (keys_sorted rows) (keys_every rows)
-
-pub only_computed : NewestLaws → (rows : List Row) (points : List ℕ) (cs : List Witness) → PointsAscend points
-    → AreChanges rows points cs → cs ≡ all_changes rows points
-only_computed laws rows points cs rise are =
-    changes_once rows points cs (all_changes rows points) are (computed laws rows points rise)

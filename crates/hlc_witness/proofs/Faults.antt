@@ -1,19 +1,19 @@
 -- The first fault of a witness, with those before it changes and ascending, is the first reason of all;
 -- and a certificate has none.
-use Rattle.std.proofs.Common.{◌≡◌, ℕ, ◌+◌, ◌<◌, List, [], ◌∷◌, ◌++◌, length, get_or, take, drop, sym, ap, ◌∙◌, subst}
-use Rattle.std.proofs.Common.{arith, All}
+use Rattle.std.proofs.Common.{All, length, get_or, drop, sym, ap, ◌∙◌, subst, arith, take, ◌≡◌, ℕ, List, [], ◌∷◌}
+use Rattle.std.proofs.Common.{◌<◌, ◌+◌, ◌++◌}
 use Rattle.std.proofs.lemmas.List.{get_or-take, length-take-le, get_or_default, take_more}
 use Rattle.std.proofs.lemmas.List.Elements.{All-contains, All-push}
 use Rattle.std.proofs.lemmas.Map.Keys.{Less-from_sorted}
 use Rattle.hlc_node.specs.declared.row.Row.{Row}
-use Rattle.hlc_witness.specs.declared.witness.Witness.{Witness}
+use Rattle.hlc_witness.specs.Certificate.{IsCertificate}
+use Rattle.hlc_witness.specs.Changes.{ChangesAscend, IsChange, change_cmp}
+use Rattle.hlc_witness.specs.Reasons.{IsAbove, IsFault, IsFirstFault, IsFirstReason, AreSorted}
 use Rattle.hlc_witness.specs.declared.reason.NotShown.{NotShown}
 use Rattle.hlc_witness.specs.declared.reason.NotShown.TheVariants.{PointsNotAscending, RowsNotAscending}
 use Rattle.hlc_witness.specs.declared.reason.NotShown.TheVariants.{RowAboveLastPoint, WitnessNotAscending, NotAtPoint}
-use Rattle.hlc_witness.specs.declared.reason.NotShown.TheVariants.{SameAnswers, CountsDiffer}
-use Rattle.hlc_witness.specs.Changes.{ChangesAscend, IsChange, change_cmp}
-use Rattle.hlc_witness.specs.Certificate.{IsCertificate}
-use Rattle.hlc_witness.specs.Reasons.{IsAbove, IsFault, IsFirstFault, IsFirstReason, AreSorted}
+use Rattle.hlc_witness.specs.declared.reason.NotShown.TheVariants.{SameAnswers, CountsDiffer, RowOutOfLimits}
+use Rattle.hlc_witness.specs.declared.witness.Witness.{Witness}
 use Rattle.hlc_witness.proofs.Ascending.{around}
 
 -- in an ascending list each is above those before it
@@ -36,6 +36,7 @@ no_fault rows points front witness WitnessNotAscending above is fault = fault ab
 no_fault rows points front witness NotAtPoint above is fault = fault.1 is.place
 no_fault rows points front witness SameAnswers above is fault = is.differs fault.2
 no_fault rows points front witness CountsDiffer above is fault = fault
+no_fault rows points front witness RowOutOfLimits above is fault = fault
 
 pub certificate_no_fault : (rows : List Row) (points : List ℕ) (witnesses : List Witness) (i : ℕ)
     (witness : Witness) (reason : NotShown) → i < length witnesses → witness ≡ get_or witnesses i witness
@@ -71,6 +72,7 @@ first_reason rows points witnesses front witness WitnessNotAscending sorted faul
 first_reason rows points witnesses front witness NotAtPoint sorted fault first = (sorted, first)
 first_reason rows points witnesses front witness SameAnswers sorted fault first = (sorted, first)
 first_reason rows points witnesses front witness CountsDiffer sorted fault first = absurd fault
+first_reason rows points witnesses front witness RowOutOfLimits sorted fault first = absurd fault
 
 -- one more change
 pub each_more : (rows : List Row) (points : List ℕ) (witnesses : List Witness) (i : ℕ) (witness : Witness)

@@ -1,21 +1,22 @@
 -- Each change forces a row into whatever answers alike: the newest row there at the change's point is above the point
--- before, else the answer would have stayed. So it serves no other change, and rows are as many as changes at least.
-use Rattle.std.proofs.Common.{◌≡◌, ◌≢◌, ℕ, ◌<◌, ◌≤◌, List, [], ◌∷◌, Some, None, length, refl, sym, ap, ◌∙◌, inl, inr}
-use Rattle.std.proofs.Common.{arith, Contains, All, sum_by, nat_cmp, Less, Equal}
-use Rattle.std.specs.Ordering.{ordering_then}
+-- before, else the answer would have stayed. So it serves no other change.
+use Rattle.std.proofs.Common.{Contains, nat_cmp, Less, Equal, Some, None, refl, sym, ap, ◌∙◌, inl, inr, arith, ◌≡◌}
+use Rattle.std.proofs.Common.{◌≢◌, ℕ, ◌≤◌, List, [], ◌∷◌, ◌<◌}
 use Rattle.std.specs.Cmp.Lexicographic.{slice_cmp}
+use Rattle.std.specs.Ordering.{ordering_then}
 use Rattle.std.proofs.lemmas.Bool.{cases_lt}
 use Rattle.std.proofs.lemmas.Cmp.{nat_list_cmp_total, tied_itself, ranked}
 use Rattle.std.proofs.lemmas.List.Elements.{All-contains, All-from_recursion}
 use Rattle.std.proofs.lemmas.Map.Keys.{sorted_head, sorted_tail}
-use Rattle.hlc_node.specs.declared.row.Row.{Row}
+use Rattle.hlc_values.proofs.PigeonLemmas.{AreApart, Served}
+use Rattle.hlc_clock.specs.Points.{IsPointBefore}
 use Rattle.hlc_node.specs.Rows.{newest, answer, IsNewest}
-use Rattle.hlc_witness.specs.declared.witness.Witness.{Witness}
-use Rattle.hlc_witness.specs.Points.{IsPointBefore}
+use Rattle.hlc_node.specs.declared.row.Row.{Row}
+use Rattle.hlc_node.proofs.NewestLemmas.{newest_is_greatest, no_newest_no_row, no_later_stamp, answer_none}
+use Rattle.hlc_node.proofs.NewestLemmas.{answer_some, answer_stays}
+use Rattle.hlc_witness.specs.Changes.{ChangesAscend, IsChange, change_cmp, answer_at}
 use Rattle.hlc_witness.specs.Fewest.{Alike}
-use Rattle.hlc_witness.specs.Changes.{IsChange, ChangesAscend, answer_at, change_cmp}
-use Rattle.hlc_witness.proofs.Newest.{NewestLaws, stamp_below, answer_none, answer_some, answer_same}
-use Rattle.hlc_witness.proofs.Pigeons.{AreApart, Served, served, sum_by_one}
+use Rattle.hlc_witness.specs.declared.witness.Witness.{Witness}
 
 -- the row is of the change's key, above each earlier point and at or below its own, and has the changed value
 pub record Serves (all : List Row) (points : List ℕ) (change : Witness) (row : Row) : Type 0 where
@@ -25,57 +26,56 @@ pub record Serves (all : List Row) (points : List ℕ) (change : Witness) (row :
   pub upto : row.stamp ≤ change.at
   pub above : (q : ℕ) → Contains points q → q < change.at → q < row.stamp
 
-module _ (laws : NewestLaws) where
-  -- a change of all forces a row into others
-  pub forced : (all others : List Row) (points : List ℕ) (c : Witness) → IsChange all points c → Alike others all points
-      → Served (Serves all points) others c
-  forced all others points c change alike =
-      elim (newest others c.key c.at) as (λ o. newest others c.key c.at ≡ o → Served (Serves all points) others c) [
-        | None ↦ λ e.
-            elim c.before as (λ b. IsPointBefore points b c.at → (answer all c.key c.at ≢ answer_at all c.key b)
-            → Served (Serves all points) others c) [
-              | None ↦ λ n d. absurd (d (sym (alike c.key c.at change.place.point) ∙ answer_none others c.key c.at e))
-              | Some q ↦ λ n d. absurd (d (sym (alike c.key c.at change.place.point)
-                  ∙ answer_same laws others c.key q c.at (omega (arith, n.1))
-                  (λ w i a l. absurd (laws.none others c.key c.at w e i a l))
-                  ∙ alike c.key q n.0))
-            ] change.place.neighbour change.differs
-        | Some v ↦ λ e.
-            let is : IsNewest others c.key c.at v = laws.greatest others c.key c.at v e in
-            elim c.before as (λ b. IsPointBefore points b c.at → (answer all c.key c.at ≢ answer_at all c.key b)
-            → Served (Serves all points) others c) [
-              | None ↦ λ n d. (
-                v,
-                is.member,
-                record {
-                  key = is.of_key;
-                  value = sym (answer_some others c.key c.at v e) ∙ alike c.key c.at change.place.point;
-                  point = change.place.point;
-                  upto = is.in_bound;
-                  above = λ q i l. let h = All-contains (λ r. c.at ≤ r) points q n i in absurd (omega arith);
-                },
-              )
-              | Some b ↦ λ n d.
-                  let between : b < v.stamp =
-                  elim (cases_lt b v.stamp) [
-                    | inl l ↦ l
-                    | inr m ↦ absurd (d (sym (alike c.key c.at change.place.point)
-                        ∙ answer_same laws others c.key b c.at (omega (arith, n.1))
-                        (λ w i a l. let f = stamp_below w v (is.greatest w i a l) in omega arith)
-                        ∙ alike c.key b n.0))
-                  ] in (
-                    v,
-                    is.member,
-                    record {
-                      key = is.of_key;
-                      value = sym (answer_some others c.key c.at v e) ∙ alike c.key c.at change.place.point;
-                      point = change.place.point;
-                      upto = is.in_bound;
-                      above = λ q i l. let h = All-contains (λ r. r < c.at → r ≤ b) points q n.2 i l in omega arith;
-                    },
-                  )
-            ] change.place.neighbour change.differs
-      ] refl
+-- a change of all forces a row into others
+pub forced : (all others : List Row) (points : List ℕ) (c : Witness) → IsChange all points c → Alike others all points
+    → Served (Serves all points) others c
+forced all others points c change alike =
+    elim (newest others c.key c.at) as (λ o. newest others c.key c.at ≡ o → Served (Serves all points) others c) [
+      | None ↦ λ e.
+          elim c.before as (λ b. IsPointBefore points b c.at → (answer all c.key c.at ≢ answer_at all c.key b)
+          → Served (Serves all points) others c) [
+            | None ↦ λ n d. absurd (d (sym (alike c.key c.at change.place.point) ∙ answer_none others c.key c.at e))
+            | Some q ↦ λ n d. absurd (d (sym (alike c.key c.at change.place.point)
+                ∙ answer_stays others c.key q c.at (omega (arith, n.1))
+                (λ w i a l. absurd (no_newest_no_row others c.key c.at w e i a l))
+                ∙ alike c.key q n.0))
+          ] change.place.neighbour change.differs
+      | Some v ↦ λ e.
+          let is : IsNewest others c.key c.at v = newest_is_greatest others c.key c.at v e in
+          elim c.before as (λ b. IsPointBefore points b c.at → (answer all c.key c.at ≢ answer_at all c.key b)
+          → Served (Serves all points) others c) [
+            | None ↦ λ n d. (
+              v,
+              is.member,
+              record {
+                key = is.of_key;
+                value = sym (answer_some others c.key c.at v e) ∙ alike c.key c.at change.place.point;
+                point = change.place.point;
+                upto = is.in_bound;
+                above = λ q i l. let h = All-contains (λ r. c.at ≤ r) points q n i in absurd (omega arith);
+              },
+            )
+            | Some b ↦ λ n d.
+                let between : b < v.stamp =
+                elim (cases_lt b v.stamp) [
+                  | inl l ↦ l
+                  | inr m ↦ absurd (d (sym (alike c.key c.at change.place.point)
+                      ∙ answer_stays others c.key b c.at (omega (arith, n.1))
+                      (λ w i a l. let f = no_later_stamp w v (is.greatest w i a l) in omega arith)
+                      ∙ alike c.key b n.0))
+                ] in (
+                  v,
+                  is.member,
+                  record {
+                    key = is.of_key;
+                    value = sym (answer_some others c.key c.at v e) ∙ alike c.key c.at change.place.point;
+                    point = change.place.point;
+                    upto = is.in_bound;
+                    above = λ q i l. let h = All-contains (λ r. r < c.at → r ≤ b) points q n.2 i l in omega arith;
+                  },
+                )
+          ] change.place.neighbour change.differs
+    ] refl
 
 -- no row serves two changes
 pub serves_once : (all : List Row) (points : List ℕ) (c d : Witness) (v : Row) → change_cmp c d ≡ Less
@@ -97,16 +97,3 @@ apart (c ∷ changes) up = (
       (All-from_recursion (λ e. change_cmp c e ≡ Less) changes (sorted_head change_cmp c changes up)) i,
   apart changes (sorted_tail change_cmp c changes up),
 )
-
-pub changes_force_rows : NewestLaws → (all others : List Row) (points : List ℕ) (changes : List Witness)
-    → ChangesAscend changes → All (IsChange all points) changes → Alike others all points
-    → length changes ≤ length others
-changes_force_rows laws all others points changes up each alike =
-    let h : sum_by (λ _. 1) changes ≤ sum_by (λ _. 1) others =
-    served (λ c d. change_cmp c d ≡ Less) (Serves all points) (λ _. 1) (λ _. 1)
-    (λ c v s. omega arith)
-    (serves_once all points) changes others (apart changes up)
-    (λ c i. forced laws all others points c (All-contains (IsChange all points) changes c each i) alike) in
-    let a = sum_by_one changes in
-    let b = sum_by_one others in
-    omega arith

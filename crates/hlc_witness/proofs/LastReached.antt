@@ -1,25 +1,26 @@
 -- The last row that does not come after a key and a stamp is the key's newest row there, if it is of that key: in
 -- ascending rows the rows that do not come after them stand first, each candidate is one of them,
 -- and the last of them is the greatest.
-use Rattle.std.proofs.Common.{◌≡◌, ◌≢◌, ℕ, ◌-◌, ◌<◌, ◌≤◌, ◌⊎◌, List, Some, None, length, get_or, refl, sym, ap, ◌∙◌}
-use Rattle.std.proofs.Common.{subst, inl, inr, arith, Contains, Ordering, Less, Equal, Greater, nat_cmp, true, false}
-use Rattle.std.specs.Ordering.{ordering_then, ordering_reverse, is_le, is_gt}
+use Rattle.std.proofs.Common.{Contains, nat_cmp, Less, Equal, Ordering, Some, None, length, get_or, refl, sym, ap}
+use Rattle.std.proofs.Common.{◌∙◌, subst, ◌⊎◌, inl, inr, arith, true, false, Greater, ◌≡◌, ◌≢◌, ℕ, ◌≤◌, List, ◌-◌}
+use Rattle.std.proofs.Common.{◌<◌}
 use Rattle.std.specs.Cmp.{IsTotalOrder}
 use Rattle.std.specs.Cmp.Lexicographic.{slice_cmp}
 use Rattle.std.specs.FinMap.{slice_cmp-IsAntisymmetric, nat_cmp-IsAntisymmetric}
 use Rattle.std.specs.List.Sorted.{IsPartitionedBy, IsPartitionPoint}
-use Rattle.std.proofs.lemmas.Bool.{cases_order, cases_lt, both_ways}
+use Rattle.std.specs.Ordering.{ordering_reverse, ordering_then, is_gt, is_le}
+use Rattle.std.proofs.lemmas.Bool.{cases_lt, cases_order, both_ways}
 use Rattle.std.proofs.lemmas.Bool.Decides.{nat_tests}
 use Rattle.std.proofs.lemmas.Cmp.{nat_cmp_total, nat_list_cmp_total, on_total, then_total, tied_itself, upto, ranked}
 use Rattle.std.proofs.lemmas.List.{get_or_default}
 use Rattle.std.proofs.lemmas.List.Elements.{Contains-get_or}
 use Rattle.std.proofs.lemmas.Map.Keys.{Less-from_sorted}
-use Rattle.hlc_node.specs.declared.row.Row.{Row}
 use Rattle.hlc_node.specs.Rows.{newest, IsNoLater}
+use Rattle.hlc_node.specs.declared.row.Row.{Row}
+use Rattle.hlc_node.proofs.NewestLemmas.{newest_is_greatest, newest_is_unique}
 use Rattle.hlc_witness.specs.Certificate.{RowsAscend, row_cmp}
 use Rattle.hlc_witness.specs.Reached.{is_reached}
-use Rattle.hlc_witness.proofs.Newest.{IsUniqueLaw, IsGreatestLaw}
-use Rattle.hlc_witness.proofs.Ascending.{ascend-IsRowSet}
+use Rattle.hlc_witness.proofs.CertificateLemmas.{ascending_rows_are_a_row_set}
 
 -- rows by key and stamp
 abbrev slot_cmp : Row → Row → Ordering
@@ -139,12 +140,12 @@ module _ (rows : List Row) (key : List ℕ) (bound : ℕ) (end : ℕ) (up : Rows
       ]
 
   -- where the end is the start there is none
-  pub none_at_start : IsGreatestLaw → end ≡ 0 → None ≡ newest rows key bound
-  none_at_start greatest at_start =
+  pub none_at_start : end ≡ 0 → None ≡ newest rows key bound
+  none_at_start at_start =
       elim (newest rows key bound) as (λ o. newest rows key bound ≡ o → None ≡ o) [
         | None ↦ λ _. refl
         | Some row ↦ λ e.
-            let is = greatest rows key bound row e in
+            let is = newest_is_greatest rows key bound row e in
             let place = candidate_before row is.member is.of_key is.in_bound in
             let below = place.1 in
             absurd (omega arith)
@@ -176,9 +177,9 @@ module _ (rows : List Row) (key : List ℕ) (bound : ℕ) (end : ℕ) (up : Rows
         ]
 
     -- if it is of the key, it is the newest
-    pub last_newest : IsUniqueLaw → last.key ≡ key → Some last ≡ newest rows key bound
-    last_newest unique same =
-        sym (unique rows key bound last (ascend-IsRowSet rows up) (record {
+    pub last_newest : last.key ≡ key → Some last ≡ newest rows key bound
+    last_newest same =
+        sym (newest_is_unique rows key bound last (ascending_rows_are_a_row_set rows up) (record {
           member = subst (Contains rows) (sym at_end) (Contains-get_or rows (end - 1) last within);
           of_key = same;
           in_bound = reached-below last key bound same last_reached;
@@ -190,12 +191,12 @@ module _ (rows : List Row) (key : List ℕ) (bound : ℕ) (end : ℕ) (up : Rows
         }))
 
     -- if it is not, the key has no candidate
-    pub last_other : IsGreatestLaw → last.key ≢ key → None ≡ newest rows key bound
-    last_other greatest differs =
+    pub last_other : last.key ≢ key → None ≡ newest rows key bound
+    last_other differs =
         elim (newest rows key bound) as (λ o. newest rows key bound ≡ o → None ≡ o) [
           | None ↦ λ _. refl
           | Some row ↦ λ e.
-              let is = greatest rows key bound row e in
+              let is = newest_is_greatest rows key bound row e in
               absurd (elim (before_last row is.member is.of_key is.in_bound) [
                 | inl same ↦ differs (ap (λ (r : Row). r.key) (sym same) ∙ is.of_key)
                 | inr less ↦

@@ -1,30 +1,29 @@
 -- The changes found key by key and point by point are all of them, in order: those of one key ascend with the points,
--- and each key is above the ones before it. Two ascending lists with the same members are one.
-use Rattle.std.proofs.Common.{◌≡◌, ◌≢◌, ℕ, zero, suc, ◌+◌, ◌-◌, ◌<◌, Bool, true, false, cond, List, [], ◌∷◌, ◌++◌}
-use Rattle.std.proofs.Common.{Option, Some, None, length, get_or, drop, refl, sym, ap, ◌∙◌, subst, ◌⊎◌, inl, inr, arith}
-use Rattle.std.proofs.Common.{Contains, All, true≢false, nat_cmp, Less, Equal, Ordering}
-use Rattle.std.specs.Ordering.{ordering_then}
+-- and each key is above the ones before it.
+use Rattle.std.proofs.Common.{Contains, All, true≢false, nat_cmp, Less, Ordering, Option, Some, None, length}
+use Rattle.std.proofs.Common.{get_or, drop, refl, sym, ap, ◌∙◌, subst, ◌⊎◌, inl, inr, arith, cond, true, false, ◌≡◌}
+use Rattle.std.proofs.Common.{Bool, ◌≢◌, ℕ, List, [], ◌∷◌, suc, ◌-◌, ◌<◌, ◌+◌, ◌++◌, zero}
 use Rattle.std.specs.Cmp.Lexicographic.{slice_cmp}
 use Rattle.std.specs.List.Sorted.{IsStrictlySortedBy}
+use Rattle.std.specs.Ordering.{ordering_then}
 use Rattle.std.proofs.lemmas.Bool.{cases_Bool}
 use Rattle.std.proofs.lemmas.Cmp.{nat_list_cmp_total, tied_itself}
-use Rattle.std.proofs.lemmas.Slice.Eq.{bytes_eq-Decides}
-use Rattle.std.proofs.lemmas.Option.{none-some, same_Some}
 use Rattle.std.proofs.lemmas.List.{drop_more, drop_all}
-use Rattle.std.proofs.lemmas.List.Elements.{All-nil, All-cons, All-contains, All-append, All-from_recursion}
-use Rattle.std.proofs.lemmas.List.Elements.{recursion_from_All, Contains-append_left, Contains-append_right}
-use Rattle.std.proofs.lemmas.List.Elements.{Contains-append_cases, Contains-get_or}
-use Rattle.std.proofs.lemmas.Map.Keys.{sorted_head, sorted_tail, sorted_from_strictly_increasing}
-use Rattle.hlc_node.specs.declared.row.Row.{Row}
+use Rattle.std.proofs.lemmas.List.Elements.{All-contains, All-from_recursion, Contains-get_or, All-cons, All-nil}
+use Rattle.std.proofs.lemmas.List.Elements.{All-append, Contains-append_cases, Contains-append_left}
+use Rattle.std.proofs.lemmas.List.Elements.{recursion_from_All, Contains-append_right}
+use Rattle.std.proofs.lemmas.Map.Keys.{sorted_from_strictly_increasing}
+use Rattle.std.proofs.lemmas.Option.{none-some, same_Some}
+use Rattle.std.proofs.lemmas.Slice.Eq.{bytes_eq-Decides}
+use Rattle.hlc_values.proofs.MemberLemmas.{Contains-none, Contains-cons_cases, Contains-first, Contains-rest}
+use Rattle.hlc_clock.specs.Points.{IsPointBefore, PointsAscend}
 use Rattle.hlc_node.specs.Rows.{newest, answer}
-use Rattle.hlc_witness.specs.declared.witness.Witness.{Witness}
-use Rattle.hlc_witness.specs.Points.{PointsAscend, IsPointBefore}
-use Rattle.hlc_witness.specs.Changes.{IsChange, AreChanges, answer_at, change_cmp}
+use Rattle.hlc_node.specs.declared.row.Row.{Row}
+use Rattle.hlc_node.proofs.NewestLemmas.{newest_is_greatest, no_newest_no_row, answer_none, answer_stays}
 use Rattle.hlc_witness.specs.AllChanges.{is_same_answer, key_changes, changes_of}
-use Rattle.hlc_witness.proofs.Members.{Contains-none, Contains-first, Contains-rest, Contains-cons_cases}
-use Rattle.hlc_witness.proofs.Newest.{NewestLaws, answer_none, answer_same}
-use Rattle.hlc_witness.proofs.Places.{first_point, next_point, before_one}
-use Rattle.hlc_witness.proofs.Certified.{change_cmp_total}
+use Rattle.hlc_witness.specs.Changes.{IsChange, change_cmp, answer_at}
+use Rattle.hlc_witness.specs.declared.witness.Witness.{Witness}
+use Rattle.hlc_witness.proofs.PlaceLemmas.{first_point, next_point, before_one}
 
 pub is_same_answer-true : (a b : Option (List ℕ)) → is_same_answer a b ≡ true → a ≡ b
 is_same_answer-true None None h = refl
@@ -65,7 +64,7 @@ change_same : (k l : List ℕ) (b d : Option ℕ) (p q : ℕ) → k ≡ l → b 
     → ◌≡◌ {A = Witness} (record { key = k; before = b; at = p }) (record { key = l; before = d; at = q })
 change_same k l b d p q e f g = cc
 
-all_from : {X : Type 0} (P : X → Type 0) (xs : List X) → ((x : X) → Contains xs x → P x) → All P xs
+pub all_from : {X : Type 0} (P : X → Type 0) (xs : List X) → ((x : X) → Contains xs x → P x) → All P xs
 all_from P [] h = All-nil P
 all_from P (x ∷ xs) h =
     All-cons P x xs (h x (Contains-first x xs)) (all_from P xs (λ y i. h y (Contains-rest x y xs i)))
@@ -183,23 +182,23 @@ key_sorted rows points key before (p ∷ ps) f up =
     (ap (slice_cmp nat_cmp key) h.1 ∙ tied_itself nat_list_cmp_total key) ∙ less))
 
 -- a change is of a key that has a row
-pub change_has_row : NewestLaws → (rows : List Row) (points : List ℕ) (c : Witness) → IsChange rows points c
+pub change_has_row : (rows : List Row) (points : List ℕ) (c : Witness) → IsChange rows points c
     → (row : Row) × Contains rows row × (row.key ≡ c.key)
-change_has_row laws rows points c is =
+change_has_row rows points c is =
     elim (newest rows c.key c.at) as (λ o. newest rows c.key c.at ≡ o
     → (row : Row) × Contains rows row × (row.key ≡ c.key)) [
-      | Some row ↦ λ e. let n = laws.greatest rows c.key c.at row e in (row, n.member, n.of_key)
+      | Some row ↦ λ e. let n = newest_is_greatest rows c.key c.at row e in (row, n.member, n.of_key)
       | None ↦ λ e.
           elim c.before as (λ b. IsPointBefore points b c.at → (answer rows c.key c.at ≢ answer_at rows c.key b)
           → (row : Row) × Contains rows row × (row.key ≡ c.key)) [
             | None ↦ λ n d. absurd (d (answer_none rows c.key c.at e))
-            | Some q ↦ λ n d. absurd (d (answer_same laws rows c.key q c.at (omega (arith, n.1))
-                (λ w i a l. absurd (laws.none rows c.key c.at w e i a l))))
+            | Some q ↦ λ n d. absurd (d (answer_stays rows c.key q c.at (omega (arith, n.1))
+                (λ w i a l. absurd (no_newest_no_row rows c.key c.at w e i a l))))
           ] is.place.neighbour is.differs
     ] refl
 
 -- those of all keys
-changes_each : (rows : List Row) (points : List ℕ) → PointsAscend points → (ks : List (List ℕ)) (c : Witness)
+pub changes_each : (rows : List Row) (points : List ℕ) → PointsAscend points → (ks : List (List ℕ)) (c : Witness)
     → Contains (changes_of rows points ks) c → IsChange rows points c × Contains ks c.key
 changes_each rows points rise [] c i = absurd (Contains-none c i)
 changes_each rows points rise (k ∷ ks) c i =
@@ -209,7 +208,7 @@ changes_each rows points rise (k ∷ ks) c i =
       | inr b ↦ let h = changes_each rows points rise ks c b in (h.0, Contains-rest k c.key ks h.1)
     ]
 
-changes_every : (rows : List Row) (points : List ℕ) → PointsAscend points → (ks : List (List ℕ)) (c : Witness)
+pub changes_every : (rows : List Row) (points : List ℕ) → PointsAscend points → (ks : List (List ℕ)) (c : Witness)
     → IsChange rows points c → Contains ks c.key → Contains (changes_of rows points ks) c
 changes_every rows points rise [] c is i = absurd (Contains-none c.key i)
 changes_every rows points rise (k ∷ ks) c is i =
@@ -220,7 +219,7 @@ changes_every rows points rise (k ∷ ks) c is i =
           (changes_every rows points rise ks c is r)
     ]
 
-changes_sorted : (rows : List Row) (points : List ℕ) → PointsAscend points → (ks : List (List ℕ))
+pub changes_sorted : (rows : List Row) (points : List ℕ) → PointsAscend points → (ks : List (List ℕ))
     → IsStrictlySortedBy (slice_cmp nat_cmp) ks → IsStrictlySortedBy change_cmp (changes_of rows points ks)
 unfolding IsStrictlySortedBy
 changes_sorted rows points rise [] up = tt
@@ -234,54 +233,3 @@ changes_sorted rows points rise (k ∷ ks) up =
     let less : slice_cmp nat_cmp k y.key ≡ Less = All-contains (λ l. slice_cmp nat_cmp k l ≡ Less) ks y.key
     (All-from_recursion (λ l. slice_cmp nat_cmp k l ≡ Less) ks up.0) b.1 in
     ap (λ o. ordering_then o (nat_cmp x.at y.at)) (ap (λ l. slice_cmp nat_cmp l y.key) a.1 ∙ less))
-
-pub changes_listed : NewestLaws → (rows : List Row) (points : List ℕ) (ks : List (List ℕ)) → PointsAscend points
-    → IsStrictlySortedBy (slice_cmp nat_cmp) ks → ((v : Row) → Contains rows v → Contains ks v.key)
-    → AreChanges rows points (changes_of rows points ks)
-changes_listed laws rows points ks rise up all = record {
-  ascend = changes_sorted rows points rise ks up;
-  each = all_from (IsChange rows points) (changes_of rows points ks) (λ c i. (changes_each rows points rise ks c i).0);
-  every = λ c is. let v = change_has_row laws rows points c is in
-      changes_every rows points rise ks c is (subst (Contains ks) v.2 (all v.0 v.1));
-}
-
--- lists that rise and have the same members are one
-never_less : (c : Witness) → change_cmp c c ≡ Less → ⊥
-never_less c h = let e : Equal ≡ Less = sym (tied_itself change_cmp_total c) ∙ h in cc
-
-sorted_once : (cs ds : List Witness) → IsStrictlySortedBy change_cmp cs → IsStrictlySortedBy change_cmp ds
-    → ((c : Witness) → Contains cs c → Contains ds c) → ((c : Witness) → Contains ds c → Contains cs c) → cs ≡ ds
-sorted_once [] [] up vp f g = refl
-sorted_once [] (d ∷ ds) up vp f g = absurd (Contains-none d (g d (Contains-first d ds)))
-sorted_once (c ∷ cs) [] up vp f g = absurd (Contains-none c (f c (Contains-first c cs)))
-sorted_once (c ∷ cs) (d ∷ ds) up vp f g =
-    let c_less : (x : Witness) → Contains cs x → change_cmp c x ≡ Less =
-    λ x i. All-contains (λ y. change_cmp c y ≡ Less) cs x
-    (All-from_recursion (λ y. change_cmp c y ≡ Less) cs (sorted_head change_cmp c cs up)) i in
-    let d_less : (x : Witness) → Contains ds x → change_cmp d x ≡ Less =
-    λ x i. All-contains (λ y. change_cmp d y ≡ Less) ds x
-    (All-from_recursion (λ y. change_cmp d y ≡ Less) ds (sorted_head change_cmp d ds vp)) i in
-    let same : c ≡ d =
-    elim (Contains-cons_cases d c ds (f c (Contains-first c cs))) [
-      | inl e ↦ sym e
-      | inr i ↦ elim (Contains-cons_cases c d cs (g d (Contains-first d ds))) [
-        | inl e ↦ e
-        | inr j ↦ absurd (never_less c (change_cmp_total.trans c d c (c_less d j) (d_less c i)))
-      ]
-    ] in
-    let rest : cs ≡ ds = sorted_once cs ds (sorted_tail change_cmp c cs up) (sorted_tail change_cmp d ds vp)
-    (λ x i. elim (Contains-cons_cases d x ds (f x (Contains-rest c x cs i))) [
-      | inl e ↦ absurd (never_less c (c_less c (subst (Contains cs) (sym (same ∙ e)) i)))
-      | inr j ↦ j
-    ])
-    (λ x i. elim (Contains-cons_cases c x cs (g x (Contains-rest d x ds i))) [
-      | inl e ↦ absurd (never_less d (d_less d (subst (Contains ds) (sym (sym same ∙ e)) i)))
-      | inr j ↦ j
-    ]) in
-    ap (λ x. x ∷ cs) same ∙ ap (λ xs. d ∷ xs) rest
-
-pub changes_once : (rows : List Row) (points : List ℕ) (cs ds : List Witness) → AreChanges rows points cs
-    → AreChanges rows points ds → cs ≡ ds
-changes_once rows points cs ds a b = sorted_once cs ds a.ascend b.ascend
-    (λ c i. b.every c (All-contains (IsChange rows points) cs c a.each i))
-    (λ c i. a.every c (All-contains (IsChange rows points) ds c b.each i))

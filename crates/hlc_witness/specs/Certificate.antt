@@ -6,7 +6,8 @@ use Rattle.std.specs.List.Sorted.{IsStrictlySortedBy}
 use Rattle.std.specs.declared.cmp.Ordering.{Ordering}
 use Rattle.hlc_node.specs.declared.row.Row.{Row}
 use Rattle.hlc_witness.specs.declared.witness.Witness.{Witness}
-use Rattle.hlc_witness.specs.Points.{PointsAscend, last_point}
+use Rattle.hlc_clock.specs.Points.{PointsAscend, last_point}
+use Rattle.hlc_witness.specs.Cost.{AreInLimits}
 use Rattle.hlc_witness.specs.Changes.{IsChange, ChangesAscend}
 
 -- by key, byte by byte, then by stamp, and then by node
@@ -22,7 +23,7 @@ RowsAscend rows = IsStrictlySortedBy row_cmp rows
 abbrev pub NoneAbove : List ℕ → List Row → Type 0
 NoneAbove points rows = All (λ row. row.stamp ≤ last_point points) rows
 
--- as many changes as rows
+-- as many changes as rows, each of which an item may write
 pub record IsCertificate (rows : List Row) (points : List ℕ) (witnesses : List Witness) : Type 0 where
   pub points_ascend : PointsAscend points
   pub rows_ascend : RowsAscend rows
@@ -30,3 +31,4 @@ pub record IsCertificate (rows : List Row) (points : List ℕ) (witnesses : List
   pub witnesses_ascend : ChangesAscend witnesses
   pub each : All (IsChange rows points) witnesses
   pub count : length witnesses ≡ length rows
+  pub limits : AreInLimits rows

@@ -7,7 +7,7 @@ use Rattle.std.specs.declared.cmp.Ordering.{Ordering}
 use Rattle.hlc_node.specs.declared.row.Row.{Row}
 use Rattle.hlc_node.specs.Rows.{answer}
 use Rattle.hlc_witness.specs.declared.witness.Witness.{Witness}
-use Rattle.hlc_witness.specs.Points.{IsPointBefore}
+use Rattle.hlc_clock.specs.Points.{IsPointBefore}
 
 -- the answer at a point, and none where there is no point
 abbrev pub answer_at : List Row → List ℕ → Option ℕ → Option (List ℕ)

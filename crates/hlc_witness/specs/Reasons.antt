@@ -7,10 +7,11 @@ use Rattle.hlc_witness.specs.declared.witness.Witness.{Witness}
 use Rattle.hlc_witness.specs.declared.reason.NotShown.{NotShown}
 use Rattle.hlc_witness.specs.declared.reason.NotShown.TheVariants.{PointsNotAscending, RowsNotAscending}
 use Rattle.hlc_witness.specs.declared.reason.NotShown.TheVariants.{RowAboveLastPoint, WitnessNotAscending, NotAtPoint}
-use Rattle.hlc_witness.specs.declared.reason.NotShown.TheVariants.{SameAnswers, CountsDiffer}
-use Rattle.hlc_witness.specs.Points.{PointsAscend}
+use Rattle.hlc_witness.specs.declared.reason.NotShown.TheVariants.{SameAnswers, CountsDiffer, RowOutOfLimits}
+use Rattle.hlc_clock.specs.Points.{PointsAscend}
 use Rattle.hlc_witness.specs.Changes.{answer_at, IsAtPoint, IsChange, change_cmp, ChangesAscend}
 use Rattle.hlc_witness.specs.Certificate.{RowsAscend, NoneAbove}
+use Rattle.hlc_witness.specs.Cost.{AreInLimits}
 
 -- the witness is above those before it
 abbrev pub IsAbove : List Witness → Witness → Type 0
@@ -27,6 +28,7 @@ IsFault rows points front witness PointsNotAscending = ⊥
 IsFault rows points front witness RowsNotAscending = ⊥
 IsFault rows points front witness RowAboveLastPoint = ⊥
 IsFault rows points front witness CountsDiffer = ⊥
+IsFault rows points front witness RowOutOfLimits = ⊥
 
 -- the first reason against the first witness that has one: those before it are changes, ascending
 pub record IsFirstFault (rows : List Row) (points : List ℕ) (witnesses : List Witness)
@@ -56,3 +58,5 @@ IsFirstReason rows points witnesses SameAnswers = AreSorted rows points × IsFir
 IsFirstReason rows points witnesses CountsDiffer =
     AreSorted rows points × ChangesAscend witnesses × All (IsChange rows points) witnesses
     × (length witnesses ≢ length rows)
+IsFirstReason rows points witnesses RowOutOfLimits = AreSorted rows points × ChangesAscend witnesses
+    × All (IsChange rows points) witnesses × (length witnesses ≡ length rows) × (AreInLimits rows → ⊥)

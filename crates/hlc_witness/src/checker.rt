@@ -1,13 +1,14 @@
 //! The checker of certificates.
-ghost use Rattle.std.specs.Prelude.{◌≡◌, ◌↔◌, IsTrue, IsOk, IfOk, IfErr, MatchOption, length};
+ghost use Rattle.std.specs.Prelude.{◌≡◌, ◌↔◌, IsTrue, IsOk, IfOk, IfErr, IsNone, MatchOption, length};
 ghost use Rattle.hlc_node.specs.Rows.{answer};
-ghost use Rattle.hlc_witness.specs.Points.{PointsAscend};
+ghost use Rattle.hlc_clock.specs.Points.{PointsAscend};
 ghost use Rattle.hlc_witness.specs.Fewest.{Fewest};
+ghost use Rattle.hlc_witness.specs.Cost.{Cheapest, rows_cost};
 ghost use Rattle.hlc_witness.specs.Changes.{ChangesAscend, IsAtPoint, IsChange, answer_at};
 ghost use Rattle.hlc_witness.specs.Certificate.{IsCertificate, RowsAscend};
 ghost use Rattle.hlc_witness.specs.Reasons.{IsAbove, IsFault, IsFirstReason};
 
-use crate::laws::certificates_show_fewest;
+use crate::cost::{are_in_limits, rows_cost};
 use crate::order::{do_points_ascend, do_rows_ascend, is_above, is_none_above};
 use crate::reason::NotShown;
 use crate::search::{value_at, value_in};
@@ -16,35 +17,52 @@ use crate::witness::Witness;
 use hlc_clock::Stamp;
 use hlc_node::Row;
 
-/// Checks that as many changes as rows are shown, so that the rows are the fewest that answer as
-/// they do at the points. It takes no memory, and believes nothing of who made the witnesses.
+/// Checks that as many changes as rows are shown, so that the rows are the fewest and the cheapest
+/// that answer as they do at the points. It takes no memory, and believes nothing of who made the
+/// witnesses.
 pub fn check(rows: &[Row], points: &[Stamp], witnesses: &[Witness]) -> Result<Shown, NotShown>
     ensures certificate { IfOk result (λ _. IsCertificate rows.now points.now witnesses.now) }
-    ensures count { IfOk result (λ shown. shown ≡ length rows.now) }
+    ensures count { IfOk result (λ shown. shown.rows ≡ length rows.now) }
+    ensures cost { IfOk result (λ shown. shown.cost ≡ rows_cost rows.now) }
     ensures fewest { IfOk result (λ _. Fewest rows.now rows.now points.now) }
+    ensures cheapest { IfOk result (λ _. Cheapest rows.now rows.now points.now) }
     ensures reason { IfErr result (λ reason. IsFirstReason rows.now points.now witnesses.now reason) }
     ensures only { IsCertificate rows.now points.now witnesses.now → IsOk result }
 {
-    // What the proof cites.
-    certificates_show_fewest();
+    match reason_against(rows, points, witnesses) {
+        Some(reason) => Err(reason),
+        None => Ok(Shown::of(rows.len() as u64, rows_cost(rows))),
+    }
+}
+
+/// The first reason why the witnesses do not show that the rows are the fewest and the cheapest.
+fn reason_against(rows: &[Row], points: &[Stamp], witnesses: &[Witness]) -> Option<NotShown>
+    ensures reason { MatchOption result
+        (IsCertificate rows.now points.now witnesses.now)
+        (IsFirstReason rows.now points.now witnesses.now) }
+    ensures only { IsCertificate rows.now points.now witnesses.now → IsNone result }
+{
     if !do_points_ascend(points) {
-        return Err(NotShown::PointsNotAscending);
+        return Some(NotShown::PointsNotAscending);
     }
     if !do_rows_ascend(rows) {
-        return Err(NotShown::RowsNotAscending);
+        return Some(NotShown::RowsNotAscending);
     }
     if !is_none_above(rows, points) {
-        return Err(NotShown::RowAboveLastPoint);
+        return Some(NotShown::RowAboveLastPoint);
     }
     for i in 0..witnesses.len() {
         if let Some(reason) = fault_of(rows, points, &witnesses[..i], &witnesses[i]) {
-            return Err(reason);
+            return Some(reason);
         }
     }
     if witnesses.len() != rows.len() {
-        return Err(NotShown::CountsDiffer);
+        return Some(NotShown::CountsDiffer);
     }
-    Ok(Shown::of(rows.len() as u64))
+    if !are_in_limits(rows) {
+        return Some(NotShown::RowOutOfLimits);
+    }
+    None
 }
 
 /// The first reason against a witness, by those before it, which ascend.

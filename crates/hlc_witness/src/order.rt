@@ -1,7 +1,7 @@
 //! Whether points, rows and witnesses ascend.
 ghost use Rattle.std.specs.Prelude.{◌≡◌, ◌↔◌, ◌<◌, IsTrue, length};
 ghost use Rattle.std.specs.Ordering.{is_lt};
-ghost use Rattle.hlc_witness.specs.Points.{PointsAscend};
+ghost use Rattle.hlc_clock.specs.Points.{PointsAscend};
 ghost use Rattle.hlc_witness.specs.Changes.{ChangesAscend, change_cmp};
 ghost use Rattle.hlc_witness.specs.Certificate.{RowsAscend, NoneAbove, row_cmp};
 ghost use Rattle.hlc_witness.specs.Reasons.{IsAbove};

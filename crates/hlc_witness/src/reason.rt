@@ -22,6 +22,8 @@ pub enum NotShown {
     SameAnswers,
     /// There are not as many witnesses as rows.
     CountsDiffer,
+    /// No item may write a row: its key or its value is out of the limits.
+    RowOutOfLimits,
 }
 
 impl Exact for NotShown {

@@ -6,7 +6,7 @@ ghost use Rattle.hlc_witness.specs.Certificate.{RowsAscend};
 ghost use Rattle.hlc_witness.specs.Reached.{is_reached};
 
 use hlc_clock::Stamp;
-use hlc_node::{Bytes, Row, newest_is_greatest, newest_is_unique};
+use hlc_node::{Bytes, Row};
 
 /// The newest value of a key at a point, and none where there is no point.
 pub(crate) fn value_at<'a>(rows: &'a [Row], key: &Bytes, point: Option<Stamp>) -> Option<&'a [u8]>
@@ -36,9 +36,6 @@ fn newest_in<'a>(rows: &'a [Row], key: &Bytes, bound: Stamp) -> Option<&'a Row>
     requires { RowsAscend rows.now }
     ensures { option_copied result ≡ newest rows.now key.now bound }
 {
-    // What the proof cites: the newest row is the greatest of the key's rows there, and no other is.
-    newest_is_greatest();
-    newest_is_unique();
     let end = rows.partition_point(|row| is_reached(row, key, bound));
     if end == 0 {
         return None;

@@ -6,20 +6,22 @@ ghost use Rattle.std.proofs.lemmas.Grind.{common_steps};
 use hlc_values::Exact;
 use std::marker::Model;
 
-/// Some rows are the fewest. Contracts see how many they are. Only `check` makes one.
+/// Some rows are the fewest and the cheapest. Contracts see how many they are, and what they cost.
+/// Only `check` makes one.
 #[derive(Clone, Copy, PartialEq, Eq, Debug)]
 pub struct Shown {
     rows: u64,
+    cost: u128,
 }
 
 impl Model for Shown {
-    ghost use Rattle.std.specs.Prelude.{ℕ};
+    ghost use Rattle.hlc_witness.specs.Shown.{Least};
 
-    ghost Value = { ℕ };
+    ghost Value = { Least };
 
-    ghost view = { λ shown. shown.rows };
+    ghost view = { λ shown. record { rows = shown.rows; cost = shown.cost } };
 
-    ghost inverse = { λ rows. record { rows = rows } };
+    ghost inverse = { λ least. record { rows = least.rows; cost = least.cost } };
 }
 
 impl Exact for Shown {
@@ -29,17 +31,24 @@ impl Exact for Shown {
 }
 
 impl Shown {
-    /// So many rows are the fewest.
-    pub(crate) fn of(rows: u64) -> Shown
-        ensures { result ≡ rows }
+    /// So many rows are the fewest, at this cost.
+    pub(crate) fn of(rows: u64, cost: u128) -> Shown
+        ensures { result ≡ record { rows = rows; cost = cost } }
     {
-        Shown { rows }
+        Shown { rows, cost }
     }
 
     /// How many rows are the fewest.
     pub fn count(&self) -> u64
-        ensures { result ≡ self.now }
+        ensures { result ≡ self.now.rows }
     {
         self.rows
+    }
+
+    /// How many bytes they cost, which is the least.
+    pub fn cost(&self) -> u128
+        ensures { result ≡ self.now.cost }
+    {
+        self.cost
     }
 }

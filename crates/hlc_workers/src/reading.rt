@@ -1,15 +1,14 @@
 //! The worker of a reader.
-ghost use Rattle.std.specs.Prelude.{◌≡◌, map, false, vec_len, MatchOption, MatchResult};
-ghost use Rattle.hlc_core.specs.declared.event.CoreEvent.{CoreEvent as AnEvent};
+ghost use Rattle.std.specs.Prelude.{◌≡◌, map, false, vec_len};
 ghost use Rattle.hlc_core.specs.declared.event.CoreEvent.TheVariants.{Read as ARead};
-ghost use Rattle.hlc_workers.specs.Paid.{IsPaid, MadeOne, MadeNone, MadeSome, event_of};
-ghost use Rattle.hlc_workers.specs.Rounds.{MadeOpening, reads_of, IsRound, AtFloor, HasServed};
+ghost use Rattle.hlc_workers.specs.Paid.{IsPaid, MadeSome, event_of};
+ghost use Rattle.hlc_workers.specs.Rounds.{reads_of, IsRound, AtFloor, HasServed};
 
 use crate::gate::Gate;
-use crate::opening::{Opening, opening_in};
-use crate::room::{WorkEnd, make_room};
+use crate::opening::{Opening, make_call};
+use crate::room::WorkEnd;
 use hlc_board::{Board, FloorPass};
-use hlc_core::{Bytes, Stamp};
+use hlc_core::{Bytes, CoreEvent, Stamp};
 use hlc_server::{Caller, NotDone, Receipt, Shared};
 use std::alloc::Global;
 use std::sync::Wait;
@@ -23,115 +22,6 @@ pub struct Reader<L: Ledger> {
     pub pass: FloorPass,
     pub receipts: Vec<Receipt>,
     pub end: WorkEnd,
-}
-
-/// Opens a snapshot at a stamp.
-fn open_at<L: Ledger, G: Gate, R: Wait>(
-    rt: &R,
-    shared: &Shared<L>,
-    caller: Caller<L>,
-    stamp: Stamp,
-    receipts: &mut Vec<Receipt>,
-    gate: &G,
-) -> (Caller<L>, Result<Opening, WorkEnd>)
-    ensures told { MatchResult result.1
-        (λ opening. MadeOpening receipts.old.items receipts.new.items caller result.0 (AnEvent.OpenAt stamp) opening)
-        (λ end. MadeNone receipts.old.items receipts.new.items caller result.0 end
-        (G.may_answer gate.now (vec_len receipts.new) false)) }
-{
-    if let Err(end) = make_room(rt, gate, receipts) {
-        return (caller, Err(end));
-    }
-    match shared.open(rt, caller, stamp) {
-        (caller, Ok(receipt)) => {
-            let opening = opening_in(&receipt.reply);
-            receipts.push_reserved(receipt);
-            (caller, Ok(opening))
-        }
-        (caller, Err((why, _))) => (caller, Err(WorkEnd::Spent(why))),
-    }
-}
-
-/// Opens a snapshot at the floor.
-fn open_at_floor<L: Ledger, G: Gate, R: Wait>(
-    rt: &R,
-    shared: &Shared<L>,
-    caller: Caller<L>,
-    receipts: &mut Vec<Receipt>,
-    gate: &G,
-) -> (Caller<L>, Result<Opening, WorkEnd>)
-    ensures told { MatchResult result.1
-        (λ opening. MadeOpening receipts.old.items receipts.new.items caller result.0 AnEvent.OpenFloor opening)
-        (λ end. MadeNone receipts.old.items receipts.new.items caller result.0 end
-        (G.may_answer gate.now (vec_len receipts.new) false)) }
-{
-    if let Err(end) = make_room(rt, gate, receipts) {
-        return (caller, Err(end));
-    }
-    match shared.open_floor(rt, caller) {
-        (caller, Ok(receipt)) => {
-            let opening = opening_in(&receipt.reply);
-            receipts.push_reserved(receipt);
-            (caller, Ok(opening))
-        }
-        (caller, Err((why, _))) => (caller, Err(WorkEnd::Spent(why))),
-    }
-}
-
-/// Reads a key in an open snapshot.
-fn read_one<L: Ledger, G: Gate, R: Wait>(
-    rt: &R,
-    shared: &Shared<L>,
-    caller: Caller<L>,
-    id: u64,
-    key: &Bytes,
-    receipts: &mut Vec<Receipt>,
-    gate: &G,
-) -> (Caller<L>, Option<WorkEnd>)
-    ensures told { MatchOption result.1
-        (MadeOne receipts.old.items receipts.new.items caller result.0 (AnEvent.Read id key.now))
-        (λ end. MadeNone receipts.old.items receipts.new.items caller result.0 end
-        (G.may_answer gate.now (vec_len receipts.new) false)) }
-{
-    if let Err(end) = make_room(rt, gate, receipts) {
-        return (caller, Some(end));
-    }
-    let Ok(key) = key.clone() else {
-        return (caller, Some(WorkEnd::Spent(NotDone::NoMemory)));
-    };
-    match shared.read(rt, caller, id, key) {
-        (caller, Ok(receipt)) => {
-            receipts.push_reserved(receipt);
-            (caller, None)
-        }
-        (caller, Err((why, _))) => (caller, Some(WorkEnd::Spent(why))),
-    }
-}
-
-/// Closes a snapshot.
-fn close_one<L: Ledger, G: Gate, R: Wait>(
-    rt: &R,
-    shared: &Shared<L>,
-    caller: Caller<L>,
-    id: u64,
-    receipts: &mut Vec<Receipt>,
-    gate: &G,
-) -> (Caller<L>, Option<WorkEnd>)
-    ensures told { MatchOption result.1
-        (MadeOne receipts.old.items receipts.new.items caller result.0 (AnEvent.Close id))
-        (λ end. MadeNone receipts.old.items receipts.new.items caller result.0 end
-        (G.may_answer gate.now (vec_len receipts.new) false)) }
-{
-    if let Err(end) = make_room(rt, gate, receipts) {
-        return (caller, Some(end));
-    }
-    match shared.close(rt, caller, id) {
-        (caller, Ok(receipt)) => {
-            receipts.push_reserved(receipt);
-            (caller, None)
-        }
-        (caller, Err((why, _))) => (caller, Some(WorkEnd::Spent(why))),
-    }
 }
 
 /// Reads each key in turn in an open snapshot.
@@ -149,9 +39,13 @@ fn read_each<L: Ledger, G: Gate, R: Wait>(
 {
     let mut caller = caller;
     for key in keys {
-        let (back, end) = read_one(rt, shared, caller, id, key, receipts, gate);
+        let Ok(key) = key.clone() else {
+            return (caller, Some(WorkEnd::Spent(NotDone::NoMemory)));
+        };
+        let event = CoreEvent::Read { id, key };
+        let (back, told) = make_call(rt, shared, caller, event, receipts, gate);
         caller = back;
-        if let Some(end) = end {
+        if let Err(end) = told {
             return (caller, Some(end));
         }
     }
@@ -175,7 +69,8 @@ fn read_and_close<L: Ledger, G: Gate, R: Wait>(
     if let Some(end) = end {
         return (caller, Some(end));
     }
-    close_one(rt, shared, caller, id, receipts, gate)
+    let (caller, told) = make_call(rt, shared, caller, CoreEvent::Close(id), receipts, gate);
+    (caller, told.err())
 }
 
 /// The part of a round that opens at the floor of the store, where the board's was below the horizon.
@@ -190,7 +85,7 @@ fn read_at_floor<L: Ledger, G: Gate, R: Wait>(
     ensures { MadeSome receipts.old.items receipts.new.items caller result.0 result.1 (AtFloor keys.now)
         (G.may_answer gate.now (vec_len receipts.new) false) }
 {
-    let (caller, told) = open_at_floor(rt, shared, caller, receipts, gate);
+    let (caller, told) = make_call(rt, shared, caller, CoreEvent::OpenFloor, receipts, gate);
     match told {
         Err(end) => (caller, Some(end)),
         Ok(opening) => match opening {
@@ -214,7 +109,7 @@ fn make_round<L: Ledger, G: Gate, R: Wait>(
     ensures { MadeSome receipts.old.items receipts.new.items caller result.0 result.1 (IsRound keys.now stamp)
         (G.may_answer gate.now (vec_len receipts.new) false) }
 {
-    let (caller, told) = open_at(rt, shared, caller, stamp, receipts, gate);
+    let (caller, told) = make_call(rt, shared, caller, CoreEvent::OpenAt(stamp), receipts, gate);
     match told {
         Err(end) => (caller, Some(end)),
         Ok(opening) => match opening {

@@ -8,9 +8,9 @@ use Rattle.std.proofs.lemmas.Bool.{cases_eq}
 use Rattle.std.proofs.lemmas.List.Elements.{Contains-append_left, Contains-push}
 use Rattle.hlc_node.specs.declared.item.Item.{Item}
 use Rattle.hlc_node.specs.declared.item.Body.TheVariants.{Write as a_write, Report as a_report}
-use Rattle.hlc_snapshot.specs.RegisterLaws.{stamp_in-all}
+use Rattle.hlc_snapshot.proofs.RegisterLemmas.{stamp_in-all}
 use Rattle.hlc_core.specs.Past.{floor, open_snapshots}
-use Rattle.hlc_core.specs.PastLaws.{open-low}
+use Rattle.hlc_core.proofs.PastLemmas.{open-low}
 use Rattle.hlc_world.specs.declared.event.Event.{Event}
 use Rattle.hlc_world.specs.declared.event.Event.TheVariants.{Write, Delete, Report}
 use Rattle.hlc_world.specs.declared.reply.Reply.{Reply}

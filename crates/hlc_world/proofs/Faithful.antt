@@ -6,9 +6,10 @@
 use Rattle.std.proofs.Common.{ℕ, List, [], ◌∷◌, ◌++◌, Some, None, Option, refl, ap, sym, subst}
 use Rattle.hlc_core.specs.declared.event.CoreEvent.{CoreEvent}
 use Rattle.hlc_core.specs.declared.reply.CoreReply.{CoreReply}
-use Rattle.hlc_core.specs.Kept.{Kept, nodes}
+use Rattle.hlc_core.specs.Kept.{nodes}
 use Rattle.hlc_core.specs.History.{IsLegalHistory, StandsForHistory}
 use Rattle.hlc_core.specs.Headline.{IsMoment as IsStoreMoment, IsFaithful as IsStoreFaithful}
+use Rattle.hlc_core.proofs.FaithfulLemmas.{histories_are_faithful}
 use Rattle.hlc_world.specs.declared.event.Event.{Event}
 use Rattle.hlc_world.specs.declared.reply.Reply.{Reply}
 use Rattle.hlc_world.specs.Store.{share, with_entry, store_history}
@@ -17,11 +18,6 @@ use Rattle.hlc_world.specs.State.{State, world_nodes, IsMatched, StandsFor}
 use Rattle.hlc_world.specs.Headline.{MomentsAreTold, ReadsAreClosed, IsFaithful}
 use Rattle.hlc_world.proofs.Histories.{history-legal}
 use Rattle.hlc_world.proofs.Closure.{closed}
-
--- a core is faithful to each history that it stands for
-abbrev pub StoreLaw : Type 0
-StoreLaw = (kept : Kept) (h : List (CoreEvent × CoreReply)) → StandsForHistory kept h
-    → IsStoreFaithful (nodes kept) h kept.rows
 
 moment-stays : (o : Option (CoreEvent × CoreReply)) (h before : List (CoreEvent × CoreReply)) → IsStoreMoment h before
     → IsStoreMoment (with_entry o h) before
@@ -62,12 +58,12 @@ stands state s matched h = record {
 }
 
 -- a world is faithful to each schedule that it stands for
-pub faithful : StoreLaw → (state : State) (s : List (Event × Reply)) → IsMatched state → StandsFor state s
+pub faithful : (state : State) (s : List (Event × Reply)) → IsMatched state → StandsFor state s
     → IsFaithful (world_nodes state) s state.core.rows
-faithful law state s matched h = record {
+faithful state s matched h = record {
   store =
       subst (λ n. IsStoreFaithful n (store_history s) state.core.rows) matched
-      (law state.core (store_history s) (stands state s matched h));
+      (histories_are_faithful state.core (store_history s) (stands state s matched h));
   moments = moments-told s;
   closed = reads-closed (world_nodes state) s h.legal;
 }

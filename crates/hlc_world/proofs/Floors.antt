@@ -10,7 +10,7 @@ use Rattle.std.proofs.lemmas.List.Elements.{Contains-append_left, Contains-appen
 use Rattle.hlc_node.specs.declared.item.Item.{Item}
 use Rattle.hlc_floor.specs.Heads.{Acceptance}
 use Rattle.hlc_core.specs.Past.{Step, Took, Opened, Closed as ClosedOf, Vacuumed as VacuumedOf, count, head, floor}
-use Rattle.hlc_core.specs.PastLaws.{least-le}
+use Rattle.hlc_core.proofs.PastLemmas.{least-le}
 use Rattle.hlc_world.specs.declared.event.Event.{Event}
 use Rattle.hlc_world.specs.declared.event.Event.TheVariants.{Write, Delete, Report, Deliver, OpenAt, OpenFloor, Read}
 use Rattle.hlc_world.specs.declared.event.Event.TheVariants.{List as ListAll, Close, Vacuum}

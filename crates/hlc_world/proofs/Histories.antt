@@ -9,7 +9,7 @@ use Rattle.hlc_core.specs.declared.event.CoreEvent.TheVariants as core_event
 use Rattle.hlc_core.specs.declared.reply.CoreReply.{CoreReply}
 use Rattle.hlc_core.specs.declared.reply.CoreReply.TheVariants as core_reply
 use Rattle.hlc_core.specs.Past.{Step, floor, horizon, stamp_of, open_refusal, IsLegal as IsLegalPast}
-use Rattle.hlc_core.specs.PastLaws.{open-room, horizon-low}
+use Rattle.hlc_core.proofs.PastLemmas.{open-room, horizon-low}
 use Rattle.hlc_core.specs.Calls.{list_refusal}
 use Rattle.hlc_core.specs.History.{step_of, with_step, past_of, IsDue, IsLegalHistory}
 use Rattle.hlc_world.specs.declared.event.Event.{Event}

@@ -25,7 +25,7 @@ use Rattle.hlc_core.specs.declared.event.CoreEvent.{CoreEvent}
 use Rattle.hlc_core.specs.declared.reply.CoreReply.{CoreReply}
 use Rattle.hlc_core.specs.declared.reply.CoreReply.TheVariants.{Accepted as accepted}
 use Rattle.hlc_core.specs.Past.{Step, Took, count, head, item_refusal}
-use Rattle.hlc_core.specs.PastLaws.{inside, on_link, admissible}
+use Rattle.hlc_core.proofs.PastLemmas.{inside, on_link, admissible}
 use Rattle.hlc_core.specs.History.{past_of}
 use Rattle.hlc_world.specs.declared.event.Event.{Event}
 use Rattle.hlc_world.specs.declared.event.Event.TheVariants.{Write, Delete, Report, Send, Receive, Observe, Deliver}

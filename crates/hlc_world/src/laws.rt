@@ -1,4 +1,4 @@
-//! What holds of every schedule that a world can stand for. A law that calls others follows from them.
+//! What holds of every schedule that a world can stand for.
 ghost use Rattle.std.specs.Prelude.{◌<◌, ℕ, List};
 ghost use Rattle.hlc_world.specs.declared.event.Event.{Event as AnEvent};
 ghost use Rattle.hlc_world.specs.declared.reply.Reply.{Reply as AReply};
@@ -7,8 +7,6 @@ ghost use Rattle.hlc_world.specs.Before.{HappenedBefore, IsStamped};
 ghost use Rattle.hlc_world.specs.Floor.{IsComplete, IsBelowClocks, IsClosed};
 ghost use Rattle.hlc_world.specs.Headline.{IsFaithful};
 ghost use Rattle.hlc_world.specs.State.{State, IsMatched, StandsFor, world_nodes};
-
-use hlc_core::histories_are_faithful;
 
 /// In a schedule whose events were each given their due, as in each that a world stands for, if an
 /// event happened before another (Lamport 1978), its stamp is the lesser.
@@ -41,11 +39,9 @@ pub fn open_snapshots_are_closed()
 {}
 
 /// A world is faithful to each schedule that it stands for: its store is faithful to its history, so
-/// reads gave the newest accepted values, vacuums were the least and left the fewest rows; that
-/// history has each moment of the schedule; and what can be read is closed.
+/// reads gave the newest accepted values, vacuums were the least and the cheapest, and left the
+/// fewest rows; that history has each moment of the schedule; and what can be read is closed.
 pub fn worlds_are_faithful()
     ensures { (state : State) (schedule : List (AnEvent × AReply)) → IsMatched state → StandsFor state schedule
         → IsFaithful (world_nodes state) schedule state.core.rows }
-{
-    histories_are_faithful();
-}
+{}

@@ -14,7 +14,6 @@ ghost use Rattle.hlc_world.specs.declared.event.Event.{Event as AnEvent};
 ghost use Rattle.hlc_world.specs.declared.reply.Reply.{Reply as AReply};
 
 use crate::event::Event;
-use crate::laws::worlds_are_faithful;
 use crate::node::Node;
 use crate::refusal::{self, NoMemory, Refusal};
 use crate::reply::Reply;
@@ -104,11 +103,7 @@ impl World {
         ensures unchanged { IsRefused result → self.new ≡ self.old }
         ensures nodes { world_nodes self.new ≡ world_nodes self.old }
     {
-        // What the proof cites.
-        worlds_are_faithful();
-        let reply = self.take_place(event);
-        self.has_a_link_for_each_node();
-        reply
+        self.take_place(event)
     }
 
     /// The events in turn. Room for all replies is made first: where that is refused, no event took
@@ -122,8 +117,6 @@ impl World {
         ensures err { IfErr result (λ refused. (refused.1.items ≡ events.items) × (self.new ≡ self.old)) }
         ensures nodes { world_nodes self.new ≡ world_nodes self.old }
     {
-        // What the proof cites.
-        worlds_are_faithful();
         let mut replies = match Vec::with_capacity(self.alloc, events.len()) {
             Ok(replies) => replies,
             Err(_) => return Err((NoMemory, events)),
@@ -132,21 +125,13 @@ impl World {
             let reply = self.step(event);
             replies.push_reserved(reply);
         }
-        self.has_a_link_for_each_node();
         Ok(replies)
-    }
-
-    /// The core has a link for each node, as the invariant says: it is known where a field is looked
-    /// at.
-    fn has_a_link_for_each_node(&self)
-        ensures { IsMatched self.now }
-    {
-        let _ = &self.core;
     }
 
     fn take_place(&mut self, event: Event) -> Reply
         ensures stands { (schedule : List (AnEvent × AReply)) → StandsFor self.old schedule
             → StandsFor self.new ((event, result) ∷ schedule) }
+        ensures matched { IsMatched self.new }
         ensures unchanged { IsRefused result → self.new ≡ self.old }
         ensures nodes { world_nodes self.new ≡ world_nodes self.old }
     {
@@ -181,6 +166,7 @@ impl World {
     fn write(&mut self, node: u16, reading: u64, key: Bytes, value: Bytes) -> Reply
         ensures stands { (schedule : List (AnEvent × AReply)) → StandsFor self.old schedule
             → StandsFor self.new ((AnEvent.Write node reading key value, result) ∷ schedule) }
+        ensures matched { IsMatched self.new }
         ensures unchanged { IsRefused result → self.new ≡ self.old }
         ensures nodes { world_nodes self.new ≡ world_nodes self.old }
     {
@@ -197,6 +183,7 @@ impl World {
     fn delete(&mut self, node: u16, reading: u64, key: Bytes) -> Reply
         ensures stands { (schedule : List (AnEvent × AReply)) → StandsFor self.old schedule
             → StandsFor self.new ((AnEvent.Delete node reading key, result) ∷ schedule) }
+        ensures matched { IsMatched self.new }
         ensures unchanged { IsRefused result → self.new ≡ self.old }
         ensures nodes { world_nodes self.new ≡ world_nodes self.old }
     {
@@ -213,6 +200,7 @@ impl World {
     fn report(&mut self, node: u16, reading: u64) -> Reply
         ensures stands { (schedule : List (AnEvent × AReply)) → StandsFor self.old schedule
             → StandsFor self.new ((AnEvent.Report node reading, result) ∷ schedule) }
+        ensures matched { IsMatched self.new }
         ensures unchanged { IsRefused result → self.new ≡ self.old }
         ensures nodes { world_nodes self.new ≡ world_nodes self.old }
     {
@@ -229,6 +217,7 @@ impl World {
     fn send(&mut self, node: u16, reading: u64) -> Reply
         ensures stands { (schedule : List (AnEvent × AReply)) → StandsFor self.old schedule
             → StandsFor self.new ((AnEvent.Send node reading, result) ∷ schedule) }
+        ensures matched { IsMatched self.new }
         ensures unchanged { IsRefused result → self.new ≡ self.old }
         ensures nodes { world_nodes self.new ≡ world_nodes self.old }
     {
@@ -254,6 +243,7 @@ impl World {
     fn receive(&mut self, node: u16, reading: u64, message: u64) -> Reply
         ensures stands { (schedule : List (AnEvent × AReply)) → StandsFor self.old schedule
             → StandsFor self.new ((AnEvent.Receive node reading message, result) ∷ schedule) }
+        ensures matched { IsMatched self.new }
         ensures unchanged { IsRefused result → self.new ≡ self.old }
         ensures nodes { world_nodes self.new ≡ world_nodes self.old }
     {
@@ -277,6 +267,7 @@ impl World {
     fn observe(&mut self, node: u16, reading: u64, id: u64) -> Reply
         ensures stands { (schedule : List (AnEvent × AReply)) → StandsFor self.old schedule
             → StandsFor self.new ((AnEvent.Observe node reading id, result) ∷ schedule) }
+        ensures matched { IsMatched self.new }
         ensures unchanged { IsRefused result → self.new ≡ self.old }
         ensures nodes { world_nodes self.new ≡ world_nodes self.old }
     {
@@ -300,6 +291,7 @@ impl World {
     fn deliver(&mut self, node: u16, number: u64) -> Reply
         ensures stands { (schedule : List (AnEvent × AReply)) → StandsFor self.old schedule
             → StandsFor self.new ((AnEvent.Deliver node number, result) ∷ schedule) }
+        ensures matched { IsMatched self.new }
         ensures unchanged { IsRefused result → self.new ≡ self.old }
         ensures nodes { world_nodes self.new ≡ world_nodes self.old }
     {
@@ -319,6 +311,7 @@ impl World {
     fn open_at(&mut self, stamp: Stamp) -> Reply
         ensures stands { (schedule : List (AnEvent × AReply)) → StandsFor self.old schedule
             → StandsFor self.new ((AnEvent.OpenAt stamp, result) ∷ schedule) }
+        ensures matched { IsMatched self.new }
         ensures unchanged { IsRefused result → self.new ≡ self.old }
         ensures nodes { world_nodes self.new ≡ world_nodes self.old }
     {
@@ -331,6 +324,7 @@ impl World {
     fn open_floor(&mut self) -> Reply
         ensures stands { (schedule : List (AnEvent × AReply)) → StandsFor self.old schedule
             → StandsFor self.new ((AnEvent.OpenFloor, result) ∷ schedule) }
+        ensures matched { IsMatched self.new }
         ensures unchanged { IsRefused result → self.new ≡ self.old }
         ensures nodes { world_nodes self.new ≡ world_nodes self.old }
     {
@@ -343,6 +337,7 @@ impl World {
     fn read(&mut self, id: u64, key: Bytes) -> Reply
         ensures stands { (schedule : List (AnEvent × AReply)) → StandsFor self.old schedule
             → StandsFor self.new ((AnEvent.Read id key, result) ∷ schedule) }
+        ensures matched { IsMatched self.new }
         ensures unchanged { self.new ≡ self.old }
     {
         match self.core.read(id, key.as_slice()) {
@@ -360,6 +355,7 @@ impl World {
     fn list(&mut self, id: u64) -> Reply
         ensures stands { (schedule : List (AnEvent × AReply)) → StandsFor self.old schedule
             → StandsFor self.new ((AnEvent.List id, result) ∷ schedule) }
+        ensures matched { IsMatched self.new }
         ensures unchanged { self.new ≡ self.old }
     {
         match self.core.list(id) {
@@ -371,6 +367,7 @@ impl World {
     fn close(&mut self, id: u64) -> Reply
         ensures stands { (schedule : List (AnEvent × AReply)) → StandsFor self.old schedule
             → StandsFor self.new ((AnEvent.Close id, result) ∷ schedule) }
+        ensures matched { IsMatched self.new }
         ensures unchanged { IsRefused result → self.new ≡ self.old }
         ensures nodes { world_nodes self.new ≡ world_nodes self.old }
     {
@@ -383,6 +380,7 @@ impl World {
     fn floor(&mut self) -> Reply
         ensures stands { (schedule : List (AnEvent × AReply)) → StandsFor self.old schedule
             → StandsFor self.new ((AnEvent.Floor, result) ∷ schedule) }
+        ensures matched { IsMatched self.new }
         ensures unchanged { self.new ≡ self.old }
     {
         Reply::Floor {
@@ -393,6 +391,7 @@ impl World {
     fn vacuum(&mut self) -> Reply
         ensures stands { (schedule : List (AnEvent × AReply)) → StandsFor self.old schedule
             → StandsFor self.new ((AnEvent.Vacuum, result) ∷ schedule) }
+        ensures matched { IsMatched self.new }
         ensures unchanged { IsRefused result → self.new ≡ self.old }
         ensures nodes { world_nodes self.new ≡ world_nodes self.old }
     {
@@ -405,6 +404,7 @@ impl World {
     fn rows(&mut self) -> Reply
         ensures stands { (schedule : List (AnEvent × AReply)) → StandsFor self.old schedule
             → StandsFor self.new ((AnEvent.Rows, result) ∷ schedule) }
+        ensures matched { IsMatched self.new }
         ensures unchanged { self.new ≡ self.old }
     {
         Reply::Rows {

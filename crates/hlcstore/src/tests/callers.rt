@@ -4,7 +4,7 @@ ghost use Rattle.std.specs.Prelude.{◌≡◌, ℕ, true, List, IfOk, IsOk, IfSo
 ghost use Rattle.hlc_text.specs.Printing.{Writes};
 ghost use Rattle.hlc_witness.specs.Certificate.{IsCertificate};
 ghost use Rattle.hlc_certificate.specs.CertificateText.{certificate_text};
-ghost use Rattle.hlc_certificate.specs.CheckLaws.{IsAnsweredFewest};
+ghost use Rattle.hlc_certificate.specs.ReadBack.{IsAnsweredFewest};
 ghost use Rattle.hlc_core.specs.Past.{Step};
 ghost use Rattle.hlc_core.specs.Kept.{StandsFor};
 ghost use Rattle.hlc_world.specs.declared.event.Event.{Event as AnEvent};
@@ -24,7 +24,7 @@ use std::io::Write;
 use std::test::*;
 
 /// Prints the number that the word spells, and gives it.
-#[tactic(auto, using(hlc_text::specs::PrintingLaws::printed_finished))]
+#[tactic(auto, using(hlc_text::proofs::PrintLemmas::printed_finished))]
 pub fn echo<W: Write>(writer: &mut Watched<W>, word: &[u8]) -> Option<u64>
     ensures { IfSome result (λ _. Writes W.contents writer.old writer.new word.now) }
 {
@@ -42,7 +42,7 @@ pub fn is_bad(line: &[u8]) -> bool
 }
 
 /// Writes a certificate, unless its witnesses do not show that the rows are the fewest. A check of
-/// what is written answers their number.
+/// what is written answers their number and their cost.
 pub fn write_certificate<W: Write>(
     writer: &mut Watched<W>,
     points: &[Stamp],
@@ -52,7 +52,8 @@ pub fn write_certificate<W: Write>(
     ensures written { IfOk result (λ _. Writes W.contents writer.old writer.new
         (certificate_text points.now rows.now witnesses.now)) }
     ensures answered { IfOk result (λ shown.
-        IsAnsweredFewest (certificate_text points.now rows.now witnesses.now) shown) }
+        IsAnsweredFewest (certificate_text points.now rows.now witnesses.now)
+        shown.rows shown.cost) }
     ensures only { IsCertificate rows.now points.now witnesses.now → IsOk result }
 {
     let (shown, mut waiting) = (check(rows, points, witnesses)?, Waiting::new());
@@ -69,8 +70,9 @@ pub fn write_vacuum<W: Write>(
     writer: &mut Watched<W>,
 ) -> Result<Result<Shown, NotShown>, NoMemory>
     ensures { (past : List Step) → StandsFor core.old past
-        → IfOk result (λ shown. IsOkAnd shown (λ count. (text : List ℕ)
-        × Writes W.contents writer.old writer.new text × IsAnsweredFewest text count)) }
+        → IfOk result (λ shown. IsOkAnd shown (λ least. (text : List ℕ)
+        × Writes W.contents writer.old writer.new text
+        × IsAnsweredFewest text least.rows least.cost)) }
 {
     let report = core.vacuum()?;
     let rows = core.rows_to(report.floor)?;
@@ -109,10 +111,17 @@ fn a_vacuum_is_certified_in_text(rt: HostRuntime) -> Result<(), Fail> {
     let mut core = one_write(alloc).ok_or("a store")?;
     let mut writer = Watched::new(Taking::whole(alloc));
     let shown = write_vacuum(&mut core, &mut writer)?;
-    assert_eq!(rt; shown.map(|shown| shown.count()), Ok(1));
+    let seen = shown.map(|shown| (shown.count(), shown.cost()));
+    assert_eq!(rt; seen, Ok((1, 12)));
     let text = writer.into_inner().taken;
     let due = b"point 1.0\nrow a 1.0 0 value x\nwitness a none 1.0\n";
     assert!(rt; text.as_slice() == due.as_slice());
-    assert_eq!(rt; check_input(alloc, due), CheckEnd::Fewest(1));
+    assert_eq!(rt;
+        check_input(alloc, due),
+        CheckEnd::Fewest {
+            count: 1,
+            bytes: 12,
+        }
+    );
     Ok(())
 }

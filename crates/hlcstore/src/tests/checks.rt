@@ -6,32 +6,36 @@ use std::test::*;
 type Case = (&'static [u8], &'static [u8], u8);
 
 /// What each of the reasons refuses, and what is shown.
-const CASES: [Case; 13] = [
+const CASES: [Case; 15] = [
     (
-        b"point 1.0\npoint 2.0\npoint 3.0\nrow a 1.0 0 value x\nrow a 3.0 0 value y\nwitness a none 1.0\nwitness a 2.0 3.0\n",
-        b"fewest 2\n",
+        b"point 1.0\npoint 2.0\npoint 3.0\nrow a 1.0 0 value x\nrow a 3.0 0 value y\nwitness a none 1.0\n\
+            witness a 2.0 3.0\n",
+        b"fewest 2 bytes 24\n",
         0,
     ),
     // The first witness twice.
     (
-        b"point 1.0\npoint 2.0\npoint 3.0\nrow a 1.0 0 value x\nrow a 3.0 0 value y\nwitness a none 1.0\nwitness a none 1.0\nwitness a 2.0 3.0\n",
+        b"point 1.0\npoint 2.0\npoint 3.0\nrow a 1.0 0 value x\nrow a 3.0 0 value y\nwitness a none 1.0\n\
+            witness a none 1.0\nwitness a 2.0 3.0\n",
         b"refused 22 reason 4\n",
         2,
     ),
     // A row more than there are changes.
     (
-        b"point 1.0\npoint 2.0\npoint 3.0\nrow a 1.0 0 value x\nrow a 2.0 0 value x\nrow a 3.0 0 value y\nwitness a none 1.0\nwitness a 2.0 3.0\n",
+        b"point 1.0\npoint 2.0\npoint 3.0\nrow a 1.0 0 value x\nrow a 2.0 0 value x\nrow a 3.0 0 value y\n\
+            witness a none 1.0\nwitness a 2.0 3.0\n",
         b"refused 22 reason 7\n",
         2,
     ),
     // Points that are no neighbours.
     (
-        b"point 1.0\npoint 2.0\npoint 3.0\nrow a 1.0 0 value x\nrow a 3.0 0 value y\nwitness a none 1.0\nwitness a 1.0 3.0\n",
+        b"point 1.0\npoint 2.0\npoint 3.0\nrow a 1.0 0 value x\nrow a 3.0 0 value y\nwitness a none 1.0\n\
+            witness a 1.0 3.0\n",
         b"refused 22 reason 5\n",
         2,
     ),
     (b"", b"refused 22 reason 1\n", 2),
-    (b"point 3.0\n", b"fewest 0\n", 0),
+    (b"point 3.0\n", b"fewest 0 bytes 0\n", 0),
     (
         b"point 1.0\nrow a 1.0 0 delete\n",
         b"refused 22 reason 7\n",
@@ -56,8 +60,19 @@ const CASES: [Case; 13] = [
     // The empty value differs from none.
     (
         b"point 1.0\nrow a 1.0 0 value %\nwitness a none 1.0\n",
-        b"fewest 1\n",
+        b"fewest 1 bytes 11\n",
         0,
+    ),
+    // An empty key, which no item may write. It is looked at last.
+    (
+        b"point 1.0\nrow % 1.0 0 value x\nwitness % none 1.0\n",
+        b"refused 22 reason 8\n",
+        2,
+    ),
+    (
+        b"point 1.0\nrow % 1.0 0 value x\n",
+        b"refused 22 reason 7\n",
+        2,
     ),
     (
         b"row a 1.0 0 value x\npoint 1.0\n",
@@ -68,7 +83,7 @@ const CASES: [Case; 13] = [
 
 /// The last line may lack its line feed. A bad line is found before the certificate is looked at.
 const LINES: [Case; 16] = [
-    (b"point 3.0", b"fewest 0\n", 0),
+    (b"point 3.0", b"fewest 0 bytes 0\n", 0),
     // The points fall and the rows fall, and yet the bad line is what is refused.
     (b"point 2.0\npoint 1.0\npoint\n", b"refused 16 line 3\n", 2),
     (

@@ -188,7 +188,7 @@ pub const CERTIFICATE: &[u8] = b"point 1.0\nrow a 1.0 0 value x\nwitness a none 
 /// A word, an input, and what is written for it.
 pub const SUBJECTS: [(&str, &[u8], &[u8]); 2] = [
     ("run", SCRIPT, REPLIES),
-    ("check", CERTIFICATE, b"fewest 1\n"),
+    ("check", CERTIFICATE, b"fewest 1 bytes 12\n"),
 ];
 
 #[test]

@@ -106,7 +106,7 @@ const GOOD_LINES: [(&[u8], &[u8]); 24] = [
     (b"close 0\n", b"refused 10\n"),
     (b"observe 0 5 1\n", b"refused 10\n"),
     (b"observe 65535 5 1\n", b"refused 1\n"),
-    (b"vacuum\n", b"vacuum 0.0 kept 0 dropped 0\n"),
+    (b"vacuum\n", b"vacuum 0.0 kept 0 dropped 0 bytes 0\n"),
     (b"rows\n", b"rows 0\n"),
 ];
 

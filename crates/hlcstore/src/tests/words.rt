@@ -22,7 +22,7 @@ const CASES: [Case; 14] = [
         b"nodes 1\nrefused 16 line 2\n",
         2,
     ),
-    (Some("check"), CERTIFICATE, b"fewest 1\n", 0),
+    (Some("check"), CERTIFICATE, b"fewest 1 bytes 12\n", 0),
     (Some("check"), SCRIPT, b"refused 16 line 1\n", 2),
     (
         Some("check"),

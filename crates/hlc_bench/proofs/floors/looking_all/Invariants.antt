@@ -1,4 +1,4 @@
-use Rattle.hlc_bench.specs.Places.{PassesOf}
+use Rattle.hlc_board.specs.Views.{PassesOf}
 use Rattle.hlc_bench.proofs.floors.looking_all.Given as goal
 
 abbrev pub invariant-loop : goal.invariant-loop

@@ -1,4 +1,4 @@
-use Rattle.hlc_bench.specs.Places.{FeedersOf}
+use Rattle.hlc_board.specs.Views.{FeedersOf}
 use Rattle.hlc_bench.proofs.floors.raising_all.Given as goal
 
 abbrev pub invariant-loop : goal.invariant-loop

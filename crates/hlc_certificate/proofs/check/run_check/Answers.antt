@@ -1,7 +1,7 @@
 -- What is printed is written when all is finished, and cut off where the writer failed.
 use Rattle.std.proofs.Common.{◌≡◌, refl, true, false, arith}
 use Rattle.std.proofs.lemmas.Grind.{common_steps}
-use Rattle.hlc_text.specs.PrintingLaws.{printed_finished}
+use Rattle.hlc_text.proofs.PrintLemmas.{printed_finished}
 use Rattle.hlc_text.specs.Watched.{has_failed}
 use Rattle.hlc_certificate.proofs.Taken.{check_not_cut}
 use Rattle.hlc_certificate.proofs.check.run_check.Goals as goal
@@ -37,5 +37,8 @@ returns-else-failed g c =
       wrote = printed_finished c.new-waiting.ensures c.put_end.ensures c.finish.ensures.written;
       read_fault = c.check_reader-end.ensures.read_fault;
       end_is = λ _. refl;
-      write_fault = (λ e. absurd (check_not_cut answer.0 c.check_reader-end.result answer.5 e), λ e. absurd (grind (arith, e, well)));
+      write_fault = (
+        λ e. absurd (check_not_cut answer.0 c.check_reader-end.result answer.5 e),
+        λ e. absurd (grind (arith, e, well)),
+      );
     }

@@ -1,6 +1,6 @@
 -- An input has one answer, and this one it may have.
-use Rattle.hlc_certificate.proofs.PrintedAnswer.{printed_shows_fewest}
+use Rattle.hlc_certificate.proofs.ReadBackLemmas.{printed_shows_fewest}
 use Rattle.hlc_certificate.proofs.laws.printed_certificates_show_fewest.Goals as goal
 
 pub returns : goal.returns
-returns c = printed_shows_fewest c.certificates_show_fewest.ensures
+returns c = printed_shows_fewest c.certificates_show_fewest.ensures c.certificates_show_cheapest.ensures

@@ -1,5 +1,5 @@
 -- The words and the stamp are printed, and then the line feed.
-use Rattle.hlc_text.specs.PrintingLaws.{printed_then}
+use Rattle.hlc_text.proofs.PrintLemmas.{printed_then}
 use Rattle.hlc_certificate.proofs.print.put_point.Goals as goal
 
 pub returns-clause-text : goal.returns-clause-text

@@ -1,5 +1,5 @@
 -- The words of the line are printed one after another, each but the first behind a space.
-use Rattle.hlc_text.specs.PrintingLaws.{printed_then}
+use Rattle.hlc_text.proofs.PrintLemmas.{printed_then}
 use Rattle.hlc_certificate.proofs.PrintedLines.{printed_row}
 use Rattle.hlc_certificate.proofs.print.put_row.Goals as goal
 

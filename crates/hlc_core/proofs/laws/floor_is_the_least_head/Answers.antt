@@ -1,5 +1,5 @@
 use Rattle.hlc_core.specs.Past.{head}
-use Rattle.hlc_core.specs.PastLaws.{least-some, least-le}
+use Rattle.hlc_core.proofs.PastLemmas.{least-some, least-le}
 use Rattle.hlc_core.proofs.laws.floor_is_the_least_head.Goals as goal
 
 pub returns-clause-some : goal.returns-clause-some

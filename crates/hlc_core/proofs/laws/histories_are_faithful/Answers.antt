@@ -1,5 +1,6 @@
-use Rattle.hlc_core.proofs.Faithful.{faithful}
+-- Each moment of a legal history is legal.
+use Rattle.hlc_core.proofs.FaithfulLemmas.{histories_are_faithful}
 use Rattle.hlc_core.proofs.laws.histories_are_faithful.Goals as goal
 
 pub returns : goal.returns
-returns c = faithful c.changes_force_rows.ensures.listed c.vacuums_leave_the_fewest.ensures
+returns c = histories_are_faithful

@@ -1,4 +1,4 @@
-use Rattle.hlc_core.specs.PastLaws.{above_floor}
+use Rattle.hlc_core.proofs.PastLemmas.{above_floor}
 use Rattle.hlc_core.proofs.laws.later_items_are_above_the_floor.Goals as goal
 
 pub returns : goal.returns

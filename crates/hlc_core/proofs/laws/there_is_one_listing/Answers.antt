@@ -1,4 +1,4 @@
-use Rattle.hlc_core.specs.ListingLaws.{one-listing}
+use Rattle.hlc_core.proofs.ListingLemmas.{one-listing}
 use Rattle.hlc_core.proofs.laws.there_is_one_listing.Goals as goal
 
 pub returns : goal.returns

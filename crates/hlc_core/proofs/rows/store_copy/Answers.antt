@@ -4,7 +4,7 @@ use Rattle.hlc_node.specs.declared.row.Row.{Row}
 use Rattle.hlc_node.specs.declared.item.Body.{Body}
 use Rattle.hlc_columns.specs.Table.{HasNoVersion}
 use Rattle.hlc_core.specs.Past.{body_rows}
-use Rattle.hlc_core.specs.PastLaws.{contained-first}
+use Rattle.hlc_core.proofs.PastLemmas.{contained-first}
 use Rattle.hlc_core.proofs.rows.store_copy.Goals as goal
 
 pub insert_copy-requires : goal.insert_copy-requires

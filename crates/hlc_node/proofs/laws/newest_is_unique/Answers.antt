@@ -1,5 +1,6 @@
-use Rattle.hlc_node.proofs.Newest.{newest-from}
+-- Two greatest rows of a row set are one row.
+use Rattle.hlc_node.proofs.NewestLemmas.{newest_is_unique}
 use Rattle.hlc_node.proofs.laws.newest_is_unique.Goals as goal
 
 pub returns : goal.returns
-returns c = newest-from
+returns c = newest_is_unique

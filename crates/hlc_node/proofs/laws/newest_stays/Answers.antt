@@ -1,5 +1,6 @@
-use Rattle.hlc_node.proofs.Newest.{newest-stays}
+-- A row that is a candidate at the one stamp is one at the other.
+use Rattle.hlc_node.proofs.NewestLemmas.{newest_stays}
 use Rattle.hlc_node.proofs.laws.newest_stays.Goals as goal
 
 pub returns : goal.returns
-returns c = newest-stays
+returns c = newest_stays

@@ -1,5 +1,6 @@
-use Rattle.hlc_node.proofs.Newest.{newest-none}
+-- A candidate would be found.
+use Rattle.hlc_node.proofs.NewestLemmas.{no_newest_no_row}
 use Rattle.hlc_node.proofs.laws.no_newest_no_row.Goals as goal
 
 pub returns : goal.returns
-returns c = newest-none
+returns c = no_newest_no_row

@@ -1,5 +1,6 @@
-use Rattle.hlc_node.proofs.Newest.{newest-after_others, newest-before_others}
+-- A row of another key is no candidate.
+use Rattle.hlc_node.proofs.NewestLemmas.{newest_after_others, newest_before_others}
 use Rattle.hlc_node.proofs.laws.other_keys_do_not_count.Goals as goal
 
 pub returns : goal.returns
-returns c = record { before = newest-after_others; behind = newest-before_others }
+returns c = record { before = newest_after_others; behind = newest_before_others }

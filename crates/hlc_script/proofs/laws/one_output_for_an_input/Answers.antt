@@ -1,5 +1,7 @@
+-- The header, each line's event and each event's reply are one, unless memory was wanting.
 use Rattle.hlc_script.proofs.Outputs.{one_output}
 use Rattle.hlc_script.proofs.laws.one_output_for_an_input.Goals as goal
 
 pub returns : goal.returns
-returns c = one_output (record { report = c.there_is_one_report.ensures.report; count = c.there_is_one_report.ensures.count })
+returns c =
+    one_output (record { report = c.there_is_one_report.ensures.report; count = c.there_is_one_report.ensures.count })

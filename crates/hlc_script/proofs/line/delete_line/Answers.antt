@@ -1,3 +1,4 @@
+-- Where the words behind `delete` do not fit, no event has the words.
 use Rattle.hlc_script.proofs.Lines.{no_delete}
 use Rattle.hlc_script.proofs.line.delete_line.Goals as goal
 

@@ -1,3 +1,4 @@
+-- Where the words behind `deliver` do not fit, no event has the words.
 use Rattle.hlc_script.proofs.Lines.{no_deliver}
 use Rattle.hlc_script.proofs.line.deliver_line.Goals as goal
 

@@ -1,3 +1,4 @@
+-- Where the words behind `observe` do not fit, no event has the words.
 use Rattle.hlc_script.proofs.Lines.{no_observe}
 use Rattle.hlc_script.proofs.line.observe_line.Goals as goal
 

@@ -1,3 +1,4 @@
+-- Where the words behind `read` do not fit, no event has the words.
 use Rattle.hlc_script.proofs.Lines.{no_read}
 use Rattle.hlc_script.proofs.line.read_verb_line.Goals as goal
 

@@ -1,3 +1,4 @@
+-- Where the words behind `receive` do not fit, no event has the words.
 use Rattle.hlc_script.proofs.Lines.{no_receive}
 use Rattle.hlc_script.proofs.line.receive_line.Goals as goal
 

@@ -1,3 +1,4 @@
+-- Where the words behind `report` do not fit, no event has the words.
 use Rattle.hlc_script.proofs.Lines.{no_report}
 use Rattle.hlc_script.proofs.line.report_line.Goals as goal
 

@@ -1,3 +1,4 @@
+-- Where the words behind `send` do not fit, no event has the words.
 use Rattle.hlc_script.proofs.Lines.{no_send}
 use Rattle.hlc_script.proofs.line.send_line.Goals as goal
 

@@ -1,3 +1,4 @@
+-- Where the words behind `write` do not fit, no event has the words.
 use Rattle.hlc_script.proofs.Lines.{no_write}
 use Rattle.hlc_script.proofs.line.write_line.Goals as goal
 

@@ -7,4 +7,6 @@ use Rattle.hlc_script.specs.Reply.{pair_line}
 use Rattle.hlc_script.proofs.reply.put_pairs.Given as goal
 
 abbrev pub invariant-loop-pair : goal.invariant-loop-pair
-invariant-loop-pair g l = Prints g.W.Write.contents l.fn.writer l.writer l.fn.waiting l.waiting (flat_map printed (map pair_line (take l.pair-index l.pairs)))
+invariant-loop-pair g l =
+    Prints g.W.Write.contents l.fn.writer l.writer l.fn.waiting l.waiting
+    (flat_map printed (map pair_line (take l.pair-index l.pairs)))

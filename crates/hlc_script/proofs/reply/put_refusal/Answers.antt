@@ -1,3 +1,4 @@
+-- What a refusal tells behind its number is printed with it, by the refusal at hand.
 use Rattle.hlc_script.proofs.reply.put_refusal.Goals as goal
 
 pub returns-in-CounterFull : goal.returns-in-CounterFull

@@ -1,4 +1,5 @@
-use Rattle.hlc_text.specs.PrintingLaws.{printed_then}
+-- The first line is printed, its line feed, and then the lines behind it.
+use Rattle.hlc_text.proofs.PrintLemmas.{printed_then}
 use Rattle.hlc_script.proofs.reply.put_reply.Goals as goal
 
 pub returns : goal.returns

@@ -6,10 +6,13 @@ use Rattle.hlc_script.proofs.run.answer_input.Goals as goal
 
 pub returns-in-None-clause-written : goal.returns-in-None-clause-written
 returns-in-None-clause-written g c =
-    script_answered c.args.input.now c.in-Some.rest.now c.in-Some.nodes (world_nodes c.in-Ok.world) None _ _ _ _ _ _ _ _ _
+    script_answered c.args.input.now c.in-Some.rest.now c.in-Some.nodes (world_nodes c.in-Ok.world) None _ _ _ _ _ _ _
+    _ _
     c.requires c.in-Some.ensures.1 c.in-Some.ensures.0 c.in-Ok.ensures.1 c.put_header.ensures c.in-None.ensures
 
 pub returns-clause-written : goal.returns-clause-written
 returns-clause-written g c =
-    script_answered c.args.input.now c.in-Some.rest.now c.in-Some.nodes (world_nodes c.in-Ok.world) (Some c.in-Some-answer_lines.number) _ _ _ _ _ _ _ _ _
-    c.requires c.in-Some.ensures.1 c.in-Some.ensures.0 c.in-Ok.ensures.1 c.put_header.ensures c.in-Some-answer_lines.ensures
+    script_answered c.args.input.now c.in-Some.rest.now c.in-Some.nodes (world_nodes c.in-Ok.world)
+    (Some c.in-Some-answer_lines.number) _ _ _ _ _ _ _ _ _
+    c.requires c.in-Some.ensures.1 c.in-Some.ensures.0 c.in-Ok.ensures.1 c.put_header.ensures
+    c.in-Some-answer_lines.ensures

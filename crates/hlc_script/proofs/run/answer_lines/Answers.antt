@@ -1,3 +1,4 @@
+-- Each line is answered as its event, or is the first bad one; at the end no line is left.
 use Rattle.std.proofs.Common.{arith, ◌≡◌, length, ◌∙◌, refl}
 use Rattle.std.proofs.lemmas.Grind.{common_steps}
 use Rattle.hlc_script.proofs.Going.{going_first, going_more, going_bad, going_end}
@@ -9,16 +10,20 @@ loop-rest-init g c = record { nodes = refl; bound = omega arith; going = going_f
 
 pub returns-in_default : goal.returns-in_default
 returns-in_default g c =
-    going_bad _ _ _ _ c.first_line.result.1.now _ _ _ _ _ _ _ _ _ _ _ c.loop-rest.invariant.going c.first_line.ensures.line c.in_default.ensures c.put_bad_line.ensures
+    going_bad _ _ _ _ c.first_line.result.1.now _ _ _ _ _ _ _ _ _ _ _ c.loop-rest.invariant.going
+    c.first_line.ensures.line c.in_default.ensures c.put_bad_line.ensures
 
 pub loop-rest-preserved : goal.loop-rest-preserved
 loop-rest-preserved g c = record {
   nodes = c.answer_line-reply.ensures.nodes ∙ c.loop-rest.invariant.nodes;
   bound = omega (arith, c.loop-rest.invariant.bound, c.first_line.ensures.shorter);
   going =
-      going_more _ _ _ _ _ c.first_line.result.1.now _ _ _ _ _ _ _ _ _ _ _ (event_of c.in-Some.line) _ c.loop-rest.invariant.going c.first_line.ensures.line
-      c.in-Some.ensures.0 c.in-Some.ensures.1 c.loop-rest.invariant.nodes c.answer_line-reply.ensures.answers c.put_reply.ensures;
+      going_more _ _ _ _ _ c.first_line.result.1.now _ _ _ _ _ _ _ _ _ _ _ (event_of c.in-Some.line) _
+      c.loop-rest.invariant.going c.first_line.ensures.line
+      c.in-Some.ensures.0 c.in-Some.ensures.1 c.loop-rest.invariant.nodes c.answer_line-reply.ensures.answers
+      c.put_reply.ensures;
 }
 
 pub returns : goal.returns
-returns g c = let none : length c.loop-rest.rest.now ≡ 0 = grind (arith, common_steps) in going_end _ _ _ _ _ _ _ _ _ _ _ c.loop-rest.invariant.going none
+returns g c = let none : length c.loop-rest.rest.now ≡ 0 = grind (arith, common_steps) in
+    going_end _ _ _ _ _ _ _ _ _ _ _ c.loop-rest.invariant.going none

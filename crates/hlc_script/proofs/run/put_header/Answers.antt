@@ -1,4 +1,5 @@
-use Rattle.hlc_text.specs.PrintingLaws.{printed_then}
+-- The word and the number of nodes are printed, and then the line feed.
+use Rattle.hlc_text.proofs.PrintLemmas.{printed_then}
 use Rattle.hlc_script.proofs.run.put_header.Goals as goal
 
 pub returns : goal.returns

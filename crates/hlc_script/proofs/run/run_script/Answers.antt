@@ -1,7 +1,7 @@
 -- What is printed is written when all is finished, and cut off where the writer failed.
 use Rattle.std.proofs.Common.{◌≡◌, refl, true, false, arith}
 use Rattle.std.proofs.lemmas.Grind.{common_steps}
-use Rattle.hlc_text.specs.PrintingLaws.{printed_finished}
+use Rattle.hlc_text.proofs.PrintLemmas.{printed_finished}
 use Rattle.hlc_text.specs.Watched.{has_failed}
 use Rattle.hlc_script.proofs.Taken.{run_not_cut}
 use Rattle.hlc_script.proofs.run.run_script.Goals as goal
@@ -10,15 +10,15 @@ pub returns-then-failed : goal.returns-then-failed
 returns-then-failed g c =
     let w = c.read_and_answer-end.ensures.written in
     let failed : has_failed c.finish.new.writer ≡ true = grind (arith, common_steps) in record {
-      input = w.0;
-      taken = w.1;
-      output = w.2;
+      input = w.input;
+      taken = w.taken;
+      output = w.output;
       end = c.read_and_answer-end.result;
-      is_input = w.3;
-      consumed = w.4;
-      may_take = w.5;
-      may_write = w.6;
-      wrote = printed_finished c.new-waiting.ensures w.7 c.finish.ensures.written;
+      is_input = w.is_input;
+      consumed = w.consumed;
+      may_take = w.may_take;
+      may_write = w.may_write;
+      wrote = printed_finished c.new-waiting.ensures w.prints c.finish.ensures.written;
       read_fault = c.read_and_answer-end.ensures.read_fault;
       end_is = λ e. absurd (grind (arith, e, failed));
       write_fault = (λ _. failed, λ _. refl);
@@ -28,16 +28,19 @@ pub returns-else-failed : goal.returns-else-failed
 returns-else-failed g c =
     let w = c.read_and_answer-end.ensures.written in
     let well : has_failed c.finish.new.writer ≡ false = grind (arith, common_steps) in record {
-      input = w.0;
-      taken = w.1;
-      output = w.2;
+      input = w.input;
+      taken = w.taken;
+      output = w.output;
       end = c.read_and_answer-end.result;
-      is_input = w.3;
-      consumed = w.4;
-      may_take = w.5;
-      may_write = w.6;
-      wrote = printed_finished c.new-waiting.ensures w.7 c.finish.ensures.written;
+      is_input = w.is_input;
+      consumed = w.consumed;
+      may_take = w.may_take;
+      may_write = w.may_write;
+      wrote = printed_finished c.new-waiting.ensures w.prints c.finish.ensures.written;
       read_fault = c.read_and_answer-end.ensures.read_fault;
       end_is = λ _. refl;
-      write_fault = (λ e. absurd (run_not_cut w.0 w.2 c.read_and_answer-end.result w.6 e), λ e. absurd (grind (arith, e, well)));
+      write_fault = (
+        λ e. absurd (run_not_cut w.input w.output c.read_and_answer-end.result w.may_write e),
+        λ e. absurd (grind (arith, e, well)),
+      );
     }

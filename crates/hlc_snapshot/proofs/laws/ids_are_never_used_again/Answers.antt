@@ -1,4 +1,5 @@
-use Rattle.hlc_snapshot.specs.RegisterLaws.{open_before}
+-- Each opening takes an id above all before it, and no closing adds one: step by step back.
+use Rattle.hlc_snapshot.proofs.RegisterLemmas.{open_before}
 use Rattle.hlc_snapshot.proofs.laws.ids_are_never_used_again.Goals as goal
 
 pub returns : goal.returns

@@ -1,4 +1,5 @@
-use Rattle.hlc_snapshot.specs.RegisterLaws.{next_id-fresh, opened-here, opened-other}
+-- The new id is above all others, so its look-up finds the new snapshot, and the others find what they found.
+use Rattle.hlc_snapshot.proofs.RegisterLemmas.{next_id-fresh, opened-here, opened-other}
 use Rattle.hlc_snapshot.proofs.laws.opening_adds_one_snapshot.Goals as goal
 
 pub returns-clause-fresh : goal.returns-clause-fresh

@@ -1,4 +1,5 @@
-use Rattle.hlc_snapshot.specs.RegisterLaws.{closed-is_register}
+-- A closing leaves fewer snapshots, and they are a register still.
+use Rattle.hlc_snapshot.proofs.RegisterLemmas.{closed-is_register}
 use Rattle.hlc_snapshot.proofs.laws.registers_stay_registers.Goals as goal
 
 pub returns-clause-closing : goal.returns-clause-closing

@@ -1,7 +1,7 @@
 use Rattle.std.proofs.Common.{List, subst}
 use Rattle.hlc_board.specs.Views.{Post}
-use Rattle.hlc_storm.specs.Places.{FeedersOf}
-use Rattle.hlc_storm.proofs.Placed.{feeders_last}
+use Rattle.hlc_board.specs.Views.{FeedersOf}
+use Rattle.hlc_board.proofs.PlaceLemmas.{feeders_last}
 use Rattle.hlc_storm.proofs.places.node_places.Goals as goal
 
 pub invariant_of-push : goal.invariant_of-push

@@ -1,4 +1,4 @@
-use Rattle.hlc_storm.specs.Places.{FeedersOf}
+use Rattle.hlc_board.specs.Views.{FeedersOf}
 use Rattle.hlc_storm.proofs.places.node_places.Given as goal
 
 abbrev pub invariant-loop : goal.invariant-loop

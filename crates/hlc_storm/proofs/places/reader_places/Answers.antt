@@ -1,7 +1,7 @@
 use Rattle.std.proofs.Common.{List, subst}
 use Rattle.hlc_board.specs.Views.{Sight}
-use Rattle.hlc_storm.specs.Places.{PassesOf}
-use Rattle.hlc_storm.proofs.Placed.{passes_last}
+use Rattle.hlc_board.specs.Views.{PassesOf}
+use Rattle.hlc_board.proofs.PlaceLemmas.{passes_last}
 use Rattle.hlc_storm.proofs.places.reader_places.Goals as goal
 
 pub invariant_of-push : goal.invariant_of-push

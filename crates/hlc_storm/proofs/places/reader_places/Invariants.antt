@@ -1,4 +1,4 @@
-use Rattle.hlc_storm.specs.Places.{PassesOf}
+use Rattle.hlc_board.specs.Views.{PassesOf}
 use Rattle.hlc_storm.proofs.places.reader_places.Given as goal
 
 abbrev pub invariant-loop : goal.invariant-loop

@@ -1,5 +1,5 @@
 -- What was printed from nothing on is written when all is finished.
-use Rattle.hlc_text.specs.PrintingLaws.{printed_finished}
+use Rattle.hlc_text.proofs.PrintLemmas.{printed_finished}
 use Rattle.hlc_storm.proofs.printing.print_told.Goals as goal
 
 pub returns : goal.returns

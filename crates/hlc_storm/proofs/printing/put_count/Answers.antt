@@ -1,5 +1,5 @@
 -- The node and its count are printed, and then the line feed.
-use Rattle.hlc_text.specs.PrintingLaws.{printed_then}
+use Rattle.hlc_text.proofs.PrintLemmas.{printed_then}
 use Rattle.hlc_storm.proofs.printing.put_count.Goals as goal
 
 pub returns : goal.returns

@@ -1,5 +1,5 @@
 -- One pair's line more is printed.
-use Rattle.hlc_text.specs.PrintingLaws.{printed_line}
+use Rattle.hlc_text.proofs.PrintLemmas.{printed_line}
 use Rattle.hlc_text.specs.Text.{printed}
 use Rattle.hlc_storm.specs.Printed.{pair_line}
 use Rattle.hlc_storm.proofs.printing.put_pairs.Goals as goal

@@ -1,5 +1,5 @@
 -- The lines of the nodes, the floor, the keys with values, and the last two are printed one after another.
-use Rattle.hlc_text.specs.PrintingLaws.{printed_then}
+use Rattle.hlc_text.proofs.PrintLemmas.{printed_then}
 use Rattle.hlc_storm.proofs.printing.put_report.Goals as goal
 
 pub returns : goal.returns

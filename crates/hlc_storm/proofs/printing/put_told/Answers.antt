@@ -1,5 +1,5 @@
 -- The refusal is printed, and then the line feed.
-use Rattle.hlc_text.specs.PrintingLaws.{printed_then}
+use Rattle.hlc_text.proofs.PrintLemmas.{printed_then}
 use Rattle.hlc_storm.proofs.printing.put_told.Goals as goal
 
 pub returns-in-Err : goal.returns-in-Err

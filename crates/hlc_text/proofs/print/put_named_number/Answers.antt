@@ -1,5 +1,5 @@
 -- One text is printed after another.
-use Rattle.hlc_text.specs.PrintingLaws.{printed_then}
+use Rattle.hlc_text.proofs.PrintLemmas.{printed_then}
 use Rattle.hlc_text.proofs.print.put_named_number.Goals as goal
 
 pub returns : goal.returns

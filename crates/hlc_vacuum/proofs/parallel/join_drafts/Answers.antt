@@ -18,12 +18,11 @@ loop-one-init c = record {
 pub loop-one-preserved : goal.loop-one-preserved
 loop-one-preserved c =
     let inv = c.loop-one.invariant in
-    let law = c.other_keys_do_not_count.ensures in
     record {
       all' = rw append_assoc (ap (λ xs. c.loop-one.yielded ++ xs) (sym c.in-Some.ensures.steps.0) ∙ inv.all');
       joined =
           subst (λ one. JoinsPieces (c.loop-one.yielded ++ one ∷ []) c.append.new.self) (sym c.in_ok-one.was)
-          (pieces_on law.before law.behind c.loop-one.yielded c.loop-one.whole c.in_ok-one.field-0 c.append.new.self
+          (pieces_on c.loop-one.yielded c.loop-one.whole c.in_ok-one.field-0 c.append.new.self
           inv.joined c.in_ok-append.ensures.witnesses c.in_ok-append.ensures.keep);
     }
 

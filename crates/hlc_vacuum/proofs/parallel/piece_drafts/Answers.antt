@@ -4,7 +4,7 @@ use Rattle.std.specs.List.{AllZip}
 use Rattle.rayon.specs.Lists.{chunks_of}
 use Rattle.rayon.proofs.ListFacts.{IfOk-then}
 use Rattle.rayon.proofs.ToStd.{slice-AllZip, chunks_of-concat}
-use Rattle.hlc_witness.specs.Points.{PointsAscend}
+use Rattle.hlc_clock.specs.Points.{PointsAscend}
 use Rattle.hlc_columns.specs.Rows.{KeysAscend}
 use Rattle.hlc_vacuum.specs.Parallel.{DraftsPiece, columns_of}
 use Rattle.hlc_vacuum.proofs.Pieces.{piece_ascends}

@@ -2,9 +2,9 @@
 use Rattle.std.proofs.Common.{true≢false, sym, ◌∙◌, subst, arith, Ok, Err}
 use Rattle.std.proofs.lemmas.Bool.{eqb-true, eq-eqb, ltb-true, lt-ltb}
 use Rattle.std.proofs.lemmas.List.Sorted.{searched}
-use Rattle.hlc_witness.specs.Points.{IsPointBefore}
-use Rattle.hlc_witness.proofs.Places.{place_of, place_before, no_place, never_falling, first_point, first_only}
-use Rattle.hlc_witness.proofs.Places.{next_point, next_only}
+use Rattle.hlc_clock.specs.Points.{IsPointBefore}
+use Rattle.hlc_witness.proofs.PlaceLemmas.{place_of, place_before, no_place, never_falling, first_point, first_only}
+use Rattle.hlc_witness.proofs.PlaceLemmas.{next_point, next_only}
 use Rattle.hlc_witness.proofs.checker.is_at_point.Goals as goal
 
 pub returns-in-Err : goal.returns-in-Err

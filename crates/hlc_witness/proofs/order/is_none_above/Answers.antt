@@ -1,8 +1,8 @@
 -- The last place has the last point.
 use Rattle.std.proofs.Common.{◌≡◌, ◌<◌, ◌≤◌, true≢false, sym, ap, refl, arith, get_or}
 use Rattle.hlc_node.specs.declared.row.Row.{Row}
-use Rattle.hlc_witness.specs.Points.{last_point}
-use Rattle.hlc_witness.proofs.Places.{last_point-is}
+use Rattle.hlc_clock.specs.Points.{last_point}
+use Rattle.hlc_witness.proofs.PlaceLemmas.{last_point-is}
 use Rattle.hlc_witness.proofs.Ascending.{is_gt-above}
 use Rattle.hlc_witness.proofs.order.is_none_above.Goals as goal
 

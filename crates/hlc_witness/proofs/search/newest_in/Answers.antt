@@ -12,7 +12,7 @@ returns-then-end-eq0 c =
     (is_reached c.args.key.now c.args.bound) _ _ c.partition_point-end.ensures.partitioned
     (partitioned c.args.rows.now c.args.key.now c.args.bound c.requires) (λ a r q k. search rules) in
     none_at_start c.args.rows.now c.args.key.now c.args.bound c.partition_point-end.result c.requires parted
-    c.newest_is_greatest.ensures c.if-end-eq0.true
+    c.if-end-eq0.true
 
 pub returns-then-eq : goal.returns-then-eq
 returns-then-eq c =
@@ -21,7 +21,7 @@ returns-then-eq c =
     (partitioned c.args.rows.now c.args.key.now c.args.bound c.requires) (λ a r q k. search rules) in
     last_newest c.args.rows.now c.args.key.now c.args.bound c.partition_point-end.result
     c.requires parted c.index-rows-end.result (omega arith)
-    (omega (arith, c.partition_point-end.ensures.bound)) c.index-rows-end.is c.newest_is_unique.ensures
+    (omega (arith, c.partition_point-end.ensures.bound)) c.index-rows-end.is
     ((bytes_eq-Decides c.index-rows-end.result.key c.args.key.now).0 (sym c.if-eq.ensures))
 
 pub returns-else-eq : goal.returns-else-eq
@@ -31,5 +31,5 @@ returns-else-eq c =
     (partitioned c.args.rows.now c.args.key.now c.args.bound c.requires) (λ a r q k. search rules) in
     last_other c.args.rows.now c.args.key.now c.args.bound c.partition_point-end.result c.requires
     parted c.index-rows-end.result (omega arith) (omega (arith, c.partition_point-end.ensures.bound))
-    c.index-rows-end.is c.newest_is_greatest.ensures (λ same. true≢false
+    c.index-rows-end.is (λ same. true≢false
     (sym ((bytes_eq-Decides c.index-rows-end.result.key c.args.key.now).1 same) ∙ sym c.if-eq.ensures))

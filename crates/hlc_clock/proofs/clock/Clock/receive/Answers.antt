@@ -1,3 +1,4 @@
+-- The answer is the function's, which meets the rule.
 use Rattle.std.proofs.Common.{[], ◌∷◌}
 use Rattle.hlc_clock.proofs.Rule.{due_is_answer}
 use Rattle.hlc_clock.proofs.clock.Clock.receive.Goals as goal

@@ -71,6 +71,5 @@ returns-clause-stands c = λ past h.
     let none = admitted-due _ past c.args.item.now c.in-Ok.next h' looked in
     rw (← c.self.view_is, is.is) (
       none,
-      stands-moved c.stored_rows_may_be_moved.ensures _ _ _ (took c.writes_keep_standing.ensures.stands
-          c.writes_keep_standing.ensures.count _ past c.args.item.now h' none) c.in_default.ensures.ok,
+      stands-moved _ _ _ (took _ past c.args.item.now h' none) c.in_default.ensures.ok,
     )

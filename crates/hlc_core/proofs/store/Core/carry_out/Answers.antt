@@ -1,11 +1,12 @@
 -- What is left is a vacuum of what stood there at the points of the plan, the last of which is the floor.
 use Rattle.std.proofs.Common.{ap, sym, ◌∙◌, subst, length}
 use Rattle.hlc_snapshot.specs.Register.{stamps}
-use Rattle.hlc_snapshot.specs.Points.{ArePoints}
+use Rattle.hlc_clock.specs.Points.{ArePoints}
 use Rattle.hlc_vacuum.specs.declared.report.Report.{Report}
 use Rattle.hlc_core.specs.Past.{open_snapshots}
 use Rattle.hlc_core.specs.PlanAt.{IsPlanAt}
-use Rattle.hlc_core.proofs.VacuumPoints.{points-last}
+use Rattle.hlc_clock.proofs.PointLemmas.{points-last}
+use Rattle.hlc_core.proofs.Vacuums.{vacuums}
 use Rattle.hlc_core.proofs.Held.{held-fewer}
 use Rattle.hlc_core.proofs.store.Core.carry_out.Goals as goal
 
@@ -27,8 +28,8 @@ returns-clause-vacuums c = λ past h.
     ∙ points-last _ _ _ planned.points ∙ top in
     let kept = ap (λ (report : Report). report.kept) c.apply-report.ensures.report in
     rw (← c.self.view_is, top)
-    (c.vacuums_keep_standing.ensures _ past c.apply-report.new.table c.apply-report.result h'
+    (vacuums _ past c.apply-report.new.table c.apply-report.result h'
     (subst (λ f. ArePoints (stamps (open_snapshots past)) f c.apply-report.result.points) top at)
     c.apply-report.ensures.vacuumed at_floor
     (kept ∙ sym (ap (λ (report : Report). length report.witnesses) c.apply-report.ensures.report))
-    c.apply-report.ensures.dropped)
+    c.apply-report.ensures.dropped c.apply-report.ensures.bytes)

@@ -5,7 +5,7 @@ use Rattle.hlc_core.specs.Past.{of_room, of_registry}
 use Rattle.hlc_core.proofs.Standing.{room-due, room-fault, opens}
 use Rattle.std.proofs.lemmas.Map.Keys.{ge_from_not_lt}
 use Rattle.hlc_core.proofs.Held.{held-open, floor-of, not_gt-le}
-use Rattle.hlc_core.specs.PastLaws.{open-room}
+use Rattle.hlc_core.proofs.PastLemmas.{open-room}
 use Rattle.hlc_core.proofs.store.Core.open.Goals as goal
 use Rattle.hlc_core.proofs.store.Core.open.Goals.{in-Ok, in-Err}
 
@@ -35,7 +35,7 @@ returns-clause-stands c = λ past h.
           let none = open-room _ past c.args.stamp (rw (← top) low) (rw (← bottom) high) ∙ sym (room-due _ past h')
           ∙ ap of_room ok.0 in
           rw (w.result-is, ← c.self.view_is, ok.2)
-          (none, ok.1 ∙ ap (λ n. n + 1) h'.opened, opens c.opens_keep_standing.ensures _ past c.args.stamp h' none)
+          (none, ok.1 ∙ ap (λ n. n + 1) h'.opened, opens _ past c.args.stamp h' none)
       | in-Err w ↦
           let room = open-room _ past c.args.stamp (rw (← top) low) (rw (← bottom) high) in
           rw (w.result-is, w.of_registry.ensures, ← c.self.view_is)

@@ -2,7 +2,7 @@ use Rattle.std.proofs.Common.{◌≤◌, ◌∙◌, ◌+◌, sym, ap, arith}
 use Rattle.hlc_core.specs.Past.{floor, horizon, of_room}
 use Rattle.hlc_core.proofs.Standing.{room-due, room-fault, opens}
 use Rattle.hlc_core.proofs.Held.{held-open, floor-of}
-use Rattle.hlc_core.specs.PastLaws.{open-room, horizon-low}
+use Rattle.hlc_core.proofs.PastLemmas.{open-room, horizon-low}
 use Rattle.hlc_core.proofs.store.Core.open_floor.Goals as goal
 use Rattle.hlc_core.proofs.store.Core.open_floor.Goals.{in-Ok, in-Err}
 
@@ -31,7 +31,7 @@ returns-clause-stands c = λ past h.
           rw (w.result-is, ← c.self.view_is, ok.2, ← at) (
             none,
             ap (λ n. (n, c.floor-stamp.result)) (ok.1 ∙ ap (λ n. n + 1) h'.opened),
-            opens c.opens_keep_standing.ensures _ past c.floor-stamp.result h'
+            opens _ past c.floor-stamp.result h'
                 (open-room _ past c.floor-stamp.result low high ∙ none),
           )
       | in-Err w ↦ rw (w.result-is, w.of_registry.ensures) (room-fault _ past _ h' w.in-Err.ensures.err.0)

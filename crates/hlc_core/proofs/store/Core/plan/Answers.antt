@@ -1,7 +1,7 @@
 -- The plan is of the rows that are kept, at the points of the open snapshots and the floor.
 use Rattle.std.proofs.Common.{subst, sym, ◌∙◌}
 use Rattle.hlc_snapshot.specs.Register.{stamps}
-use Rattle.hlc_snapshot.specs.Points.{ArePoints}
+use Rattle.hlc_clock.specs.Points.{ArePoints}
 use Rattle.hlc_vacuum.specs.Plan.{IsPlanOf}
 use Rattle.hlc_core.specs.Kept.{Kept}
 use Rattle.hlc_core.proofs.store.Core.plan.Goals as goal

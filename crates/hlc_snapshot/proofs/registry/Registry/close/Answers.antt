@@ -3,7 +3,7 @@ use Rattle.std.proofs.Common.{◌≡◌, rules, sym, ◌∙◌, refl}
 use Rattle.std.specs.Prelude.{◌==◌, not}
 use Rattle.std.proofs.lemmas.Fn.{filter_same}
 use Rattle.hlc_snapshot.specs.Register.{without}
-use Rattle.hlc_snapshot.specs.RegisterLaws.{closed-map, closed-is_register}
+use Rattle.hlc_snapshot.proofs.RegisterLemmas.{closed-map, closed-is_register}
 use Rattle.hlc_snapshot.proofs.registry.Registry.close.Goals as goal
 
 kept : (c : goal.After-retain) → c.retain.new.self.items ≡ without c.args.id c.self.inside.snapshots.items

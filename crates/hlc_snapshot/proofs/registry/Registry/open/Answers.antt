@@ -1,6 +1,7 @@
+-- What is pushed is the snapshot of the next id, so the map after it is that of an opening.
 use Rattle.std.proofs.Common.{◌∙◌}
 use Rattle.std.proofs.lemmas.Bool.{cond-true}
-use Rattle.hlc_snapshot.specs.RegisterLaws.{next_id-fresh, opened-map}
+use Rattle.hlc_snapshot.proofs.RegisterLemmas.{next_id-fresh, opened-map}
 use Rattle.hlc_snapshot.proofs.registry.Registry.open.Goals as goal
 
 pub returns-clause-fresh : goal.returns-clause-fresh

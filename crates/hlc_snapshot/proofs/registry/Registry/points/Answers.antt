@@ -1,7 +1,8 @@
+-- The stamps and the floor, sorted and without repeats, are the points.
 use Rattle.std.proofs.Common.{◌≤◌}
 use Rattle.std.proofs.lemmas.List.Elements.{All-map}
 use Rattle.std.proofs.lemmas.List.Filters.{dedup_is}
-use Rattle.hlc_snapshot.proofs.PointLists.{points-from_sorted}
+use Rattle.hlc_clock.proofs.PointLemmas.{points-from_sorted}
 use Rattle.hlc_snapshot.proofs.registry.Registry.points.Goals as goal
 
 pub returns : goal.returns

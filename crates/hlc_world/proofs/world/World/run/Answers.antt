@@ -1,10 +1,24 @@
-use Rattle.std.proofs.Common.{◌≡◌, ◌∙◌, subst, ◌++◌, sym, ap, length-append, ◌+◌, append_assoc, arith}
+-- The world is faithful before the first event, and step by step it stays so.
+use Rattle.std.proofs.Common.{◌≡◌, ◌∙◌, ◌∷◌, subst, ◌++◌, refl, sym, ap, length, length-append, ◌+◌, append_assoc}
+use Rattle.std.proofs.Common.{arith, rules}
 use Rattle.hlc_world.specs.Schedule.{after}
-use Rattle.hlc_world.specs.State.{StandsFor}
+use Rattle.hlc_world.specs.State.{world_nodes, IsMatched}
 use Rattle.hlc_world.specs.Headline.{IsFaithful}
 use Rattle.std.proofs.lemmas.Grind.{common_steps}
+use Rattle.hlc_world.proofs.Faithful.{faithful}
 use Rattle.hlc_world.proofs.Runs.{after-push}
 use Rattle.hlc_world.proofs.world.World.run.Goals as goal
+
+pub loop-event-init : goal.loop-event-init
+loop-event-init c = record {
+  counted = ap length c.in-Ok.ensures.items;
+  all' = search rules;
+  same = refl;
+  room = search rules;
+  stands = λ s h. h;
+  faithful = λ s h.
+      faithful c.args.self.now s (subst IsMatched c.self.view_is c.self.invariant) h;
+}
 
 pub loop-event-preserved : goal.loop-event-preserved
 loop-event-preserved c = record {
@@ -21,15 +35,20 @@ loop-event-preserved c = record {
             (sym c.loop-event.invariant.counted),
       )
       (c.step-reply.ensures.stands _ (c.loop-event.invariant.stands s h));
+  faithful = λ s h.
+      rw (
+        c.push_reserved.ensures.items,
+        after-push c.loop-event.yielded c.loop-event.replies.items s c.in-Some.event c.step-reply.result
+            (sym c.loop-event.invariant.counted),
+      )
+      (subst (λ n. IsFaithful n
+      ((c.in-Some.event, c.step-reply.result) ∷ after c.loop-event.yielded c.loop-event.replies.items s)
+      c.step-reply.new.self.core.rows) c.loop-event.invariant.same
+      (c.step-reply.ensures.faithful _ (c.loop-event.invariant.stands s h)));
 }
 
 pub returns-clause-faithful : goal.returns-clause-faithful
 returns-clause-faithful c = λ s h.
     let end : c.loop-event.yielded ≡ c.args.events.items = grind (arith, common_steps) in
-    let stands : StandsFor c.loop-event.self (after c.args.events.items c.loop-event.replies.items s) =
-    subst (λ events. StandsFor c.loop-event.self (after events c.loop-event.replies.items s)) end
-    (c.loop-event.invariant.stands s h) in
-    subst (λ n. IsFaithful n (after c.args.events.items c.loop-event.replies.items s) c.loop-event.self.core.rows)
-    c.loop-event.invariant.same
-    (c.worlds_are_faithful.ensures c.loop-event.self
-    (after c.args.events.items c.loop-event.replies.items s) c.has_a_link_for_each_node.ensures stands)
+    subst (λ events. IsFaithful (world_nodes c.args.self.now) (after events c.loop-event.replies.items s)
+    c.loop-event.self.core.rows) end (c.loop-event.invariant.faithful s h)

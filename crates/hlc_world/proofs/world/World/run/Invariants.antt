@@ -1,8 +1,10 @@
+-- As many replies as events so far, and the world stands for the schedule with them, and is faithful to it.
 use Rattle.std.proofs.Common.{◌≡◌, List, ◌++◌, length, vec_capacity}
 use Rattle.hlc_world.specs.declared.event.Event.{Event}
 use Rattle.hlc_world.specs.declared.reply.Reply.{Reply}
 use Rattle.hlc_world.specs.Schedule.{after}
 use Rattle.hlc_world.specs.State.{StandsFor, world_nodes}
+use Rattle.hlc_world.specs.Headline.{IsFaithful}
 use Rattle.std.specs.Vec.Iter.{into_iter_items}
 use Rattle.hlc_world.proofs.world.World.run.Given as goal
 
@@ -14,4 +16,6 @@ invariant-loop-event l = record {
   room : vec_capacity l.replies ≡ length l.fn.events.items;
   stands : (s : List (Event × Reply)) → StandsFor l.initial.self s
       → StandsFor l.self (after l.yielded l.replies.items s);
+  faithful : (s : List (Event × Reply)) → StandsFor l.initial.self s
+      → IsFaithful (world_nodes l.initial.self) (after l.yielded l.replies.items s) l.self.core.rows;
 }

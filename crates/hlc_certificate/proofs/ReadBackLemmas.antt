@@ -1,0 +1,58 @@
+-- What is printed is read back, and where witnesses show that the rows are the fewest, this is its one answer.
+use Rattle.std.proofs.Common.{ℕ, ap, refl, List, length, get_or, arith, inl, inr}
+use Rattle.std.specs.Prelude.{◌≢◌}
+use Rattle.hlc_node.specs.declared.row.Row.{Row as ARow}
+use Rattle.hlc_witness.specs.declared.witness.Witness.{Witness as AWitness}
+use Rattle.hlc_witness.specs.Fewest.{Fewest as AreFewest}
+use Rattle.hlc_witness.specs.Certificate.{IsCertificate}
+use Rattle.hlc_witness.specs.Cost.{Cheapest as AreCheapest, rows_cost}
+use Rattle.hlc_certificate.specs.declared.check.CheckEnd.TheVariants.{Fewest, ReadFault}
+use Rattle.hlc_certificate.specs.CheckLine.{all_said}
+use Rattle.hlc_certificate.specs.CertificateText.{certificate_text}
+use Rattle.hlc_certificate.specs.Check.{MayAnswer}
+use Rattle.hlc_certificate.specs.OneAnswer.{TellsNoMemory}
+use Rattle.hlc_certificate.specs.ReadBack.{PrintedIsRead, PrintedShowsFewest}
+use Rattle.hlc_certificate.proofs.PrintedLines.{lines_again}
+use Rattle.hlc_certificate.proofs.OneAnswer.{one_answer}
+
+pub printed_is_read : PrintedIsRead
+printed_is_read points rows witnesses has = (has, lines_again (all_said points rows witnesses) has)
+
+-- that rows are the fewest tells of no fault of a read, and of no want of memory
+read_well : (count bytes : ℕ) → Fewest count bytes ≢ ReadFault
+read_well count bytes same = cc
+
+tells_more : (count bytes : ℕ) → TellsNoMemory (Fewest count bytes) → ⊥
+tells_more count bytes tells = absurd (omega (arith, ap (λ (text : List ℕ). get_or text 0 0) tells))
+
+abbrev ShowFewest : Type 0
+ShowFewest = (rows : List ARow) (points : List ℕ) (witnesses : List AWitness)
+    → IsCertificate rows points witnesses → AreFewest rows rows points
+
+abbrev ShowCheapest : Type 0
+ShowCheapest = (rows : List ARow) (points : List ℕ) (witnesses : List AWitness)
+    → IsCertificate rows points witnesses → AreCheapest rows rows points
+
+pub printed_shows_fewest : ShowFewest → ShowCheapest → PrintedShowsFewest
+printed_shows_fewest shows costs points rows witnesses lines certificate fits end may well =
+    let text = certificate_text points rows witnesses in
+    let due : MayAnswer text (Fewest (length rows) (rows_cost rows)) = (
+      fits,
+      record {
+        points = points;
+        rows = rows;
+        witnesses = witnesses;
+        lines_are = lines;
+        certificate = certificate;
+        fewest = shows rows points witnesses certificate;
+        count_is = refl;
+        cheapest = costs rows points witnesses certificate;
+        bytes_is = refl;
+      },
+    ) in
+    elim (one_answer text end (Fewest (length rows) (rows_cost rows)) may due well
+    (read_well (length rows) (rows_cost rows))) [
+      | inl same ↦ inl same
+      | inr (inl lost) ↦ inr lost
+      | inr (inr other) ↦ absurd (tells_more (length rows) (rows_cost rows) other)
+    ]

@@ -1,0 +1,35 @@
+-- What is printed as a certificate is read back as it was, and answered.
+use Rattle.std.specs.Prelude.{◌≡◌, ◌≢◌, ◌≤◌, ◌⊎◌, ℕ, List, length}
+use Rattle.std.specs.List.{AllByRecursion}
+use Rattle.hlc_text.specs.Lines.{lines_of}
+use Rattle.hlc_node.specs.declared.row.Row.{Row as ARow}
+use Rattle.hlc_witness.specs.declared.witness.Witness.{Witness as AWitness}
+use Rattle.hlc_witness.specs.Certificate.{IsCertificate}
+use Rattle.hlc_witness.specs.Cost.{rows_cost}
+use Rattle.hlc_certificate.specs.declared.check.CheckEnd.{CheckEnd}
+use Rattle.hlc_certificate.specs.declared.check.CheckEnd.TheVariants.{Fewest, ReadFault}
+use Rattle.hlc_certificate.specs.CheckLine.{HasCheckLine, all_said, AreLinesOf}
+use Rattle.hlc_certificate.specs.CertificateText.{certificate_text}
+use Rattle.hlc_certificate.specs.Check.{MayAnswer}
+use Rattle.hlc_certificate.specs.OneAnswer.{TellsNoMemory}
+
+-- what has lines is printed as just these lines, so it is read back as what it was
+abbrev pub PrintedIsRead : Type 0
+PrintedIsRead = (points : List ℕ) (rows : List ARow) (witnesses : List AWitness)
+    → AllByRecursion HasCheckLine (all_said points rows witnesses)
+    → AreLinesOf points rows witnesses (lines_of (certificate_text points rows witnesses))
+
+-- A check of the text, where it is not too long and no read failed, answers that so many rows are the fewest and cost
+-- so much; or it tells of want of memory.
+abbrev pub IsAnsweredFewest : List ℕ → ℕ → ℕ → Type 0
+IsAnsweredFewest text count bytes =
+    length text ≤ 16777216 → (end : CheckEnd) → MayAnswer text end → end ≢ ReadFault
+    → (end ≡ Fewest count bytes) ⊎ TellsNoMemory end
+
+-- where the witnesses show that the rows are the fewest, a check of what is printed answers how many they are, and what
+-- they cost
+abbrev pub PrintedShowsFewest : Type 0
+PrintedShowsFewest = (points : List ℕ) (rows : List ARow) (witnesses : List AWitness)
+    → AreLinesOf points rows witnesses (lines_of (certificate_text points rows witnesses))
+    → IsCertificate rows points witnesses
+    → IsAnsweredFewest (certificate_text points rows witnesses) (length rows) (rows_cost rows)

@@ -1,0 +1,317 @@
+-- What holds of a legal past: an item that nothing refuses lies above its node's head, so no write is accepted twice,
+-- and the floor never falls, so no open snapshot is above it; and it says what an item may say, so no accepted write is
+-- beyond the limits.
+use Rattle.std.proofs.Common.{◌≡◌, ℕ, zero, suc, ◌<◌, ◌≤◌, ◌⊎◌, List, [], ◌∷◌, ◌++◌, length, true, Some, None, refl, ap}
+use Rattle.std.proofs.Common.{Option, sym, ◌∙◌, subst, inl, inr, arith, append-nil}
+use Rattle.std.specs.Prelude.{All, Contains, ◌==◌, ◌≢◌, not}
+use Rattle.std.proofs.lemmas.Bool.{cond-true, cond-false, le-leb, lt-leb, lt-ltb, le-ltb, eq-eqb, ne_eqb, cases_lt}
+use Rattle.std.proofs.lemmas.Bool.{cases_eq}
+use Rattle.std.proofs.lemmas.List.Elements.{Contains-append_cases, All-nil, All-weaker, All-push, All-filter}
+use Rattle.hlc_node.specs.declared.row.Row.{Row}
+use Rattle.hlc_node.specs.declared.item.Item.{Item}
+use Rattle.hlc_node.specs.declared.item.Body.{Body}
+use Rattle.hlc_node.specs.declared.item.Body.TheVariants.{Write, Report}
+use Rattle.hlc_core.specs.declared.fault.CoreFault.TheVariants.{NoNode, NotNext, StampNotRising, AboveFloor}
+use Rattle.hlc_core.specs.declared.fault.CoreFault.TheVariants.{BelowHorizon, NumbersSpent, BadBody}
+use Rattle.hlc_node.specs.declared.item.BodyFault.{BodyFault}
+use Rattle.hlc_node.specs.Items.{body_refusal}
+use Rattle.hlc_node.specs.Rows.{IsSameVersion, IsRowSet}
+use Rattle.hlc_witness.specs.Cost.{IsInLimits, AreInLimits}
+use Rattle.hlc_core.specs.Past.{Step, Took, Opened, Closed, Vacuumed, count, head, floor, horizon, least}
+use Rattle.hlc_core.specs.Past.{open_snapshots, room_refusal, open_refusal, body_rows, item_rows, writes, link_refusal}
+use Rattle.hlc_core.specs.Past.{of_body, item_refusal, IsLegal}
+
+-- what it says of an item that nothing refuses it
+pub record IsAdmissible (next last : ℕ) (item : Item) : Type 0 where
+  pub number : item.number ≡ next
+  pub left : item.number ≢ 18446744073709551615
+  pub stamp : last < item.stamp
+  pub limits : body_refusal item.body ≡ None
+
+of_body-none : (fault : Option BodyFault) → of_body fault ≡ None → fault ≡ None
+of_body-none None h = refl
+of_body-none (Some fault) h = absurd (let g : Some (BadBody fault) ≡ None = h in cc)
+
+pub admissible : (next last : ℕ) (item : Item) → link_refusal next last item ≡ None → IsAdmissible next last item
+admissible next last item h =
+    elim (cases_eq item.number next) [
+      | inr other ↦ absurd (let e : not (item.number == next) ≡ true = ap not (ne_eqb _ _ other) in
+          let g : Some (NotNext next) ≡ None = sym (cond-true _ _ _ e) ∙ h in cc)
+      | inl same ↦
+          let h1 = sym (cond-false _ _ _ (ap not (eq-eqb _ _ same))) ∙ h in
+          elim (cases_eq item.number 18446744073709551615) [
+            | inl spent ↦
+                absurd (let g : Some NumbersSpent ≡ None = sym (cond-true _ _ _ (eq-eqb _ _ spent)) ∙ h1 in cc)
+            | inr left ↦
+                let h2 = sym (cond-false _ _ _ (ne_eqb _ _ left)) ∙ h1 in
+                elim (cases_lt last item.stamp) [
+                  | inl rises ↦ record {
+                    number = same;
+                    left = left;
+                    stamp = rises;
+                    limits = of_body-none (body_refusal item.body)
+                        (sym (cond-false _ _ _ (lt-leb item.stamp last rises)) ∙ h2);
+                  }
+                  | inr falls ↦ absurd
+                      (let g : Some (StampNotRising last) ≡ None = sym (cond-true _ _ _ (le-leb _ _ falls)) ∙ h2 in cc)
+                ]
+          ]
+    ]
+
+-- the node is one of the core's
+pub inside : (nodes : ℕ) (past : List Step) (item : Item) → item_refusal nodes past item ≡ None → item.node < nodes
+inside nodes past item h =
+    elim (cases_lt item.node nodes) [
+      | inl below ↦ below
+      | inr outside ↦
+          absurd (let g : Some NoNode ≡ None = sym (cond-true _ _ _ (le-leb nodes item.node outside)) ∙ h in cc)
+    ]
+
+-- at a node of the core's, the item is refused as on its link
+pub on_link : (nodes : ℕ) (past : List Step) (item : Item) → item.node < nodes
+    → item_refusal nodes past item ≡ link_refusal (count item.node past) (head item.node past) item
+on_link nodes past item below = cond-false _ _ _ (lt-leb nodes item.node below)
+
+pub head-same : (n : ℕ) (item : Item) (past : List Step) → item.node ≡ n → head n (Took item ∷ past) ≡ item.stamp
+head-same n item past e = cond-true _ _ _ (eq-eqb _ _ e)
+
+pub head-other : (n : ℕ) (item : Item) (past : List Step) → (item.node ≡ n → ⊥)
+    → head n (Took item ∷ past) ≡ head n past
+head-other n item past e = cond-false _ _ _ (ne_eqb _ _ e)
+
+-- the least is one of the values
+pub least-some : (f : ℕ → ℕ) (n : ℕ) → 0 < n → (k : ℕ) × (k < n) × (f k ≡ least f n)
+least-some f zero h = absurd (omega arith)
+least-some f (suc zero) h = (0, omega arith, refl)
+least-some f (suc (suc n)) h =
+    let rest : (k : ℕ) × (k < suc n) × (f k ≡ least f (suc n)) = least-some f (suc n) (omega arith) in
+    elim (cases_lt (f (suc n)) (least f (suc n))) [
+      | inl less ↦ (suc n, omega arith, omega arith)
+      | inr more ↦ (
+        rest.0,
+        (let l : rest.0 < suc n = rest.1 in omega arith),
+        (let e : f rest.0 ≡ least f (suc n) = rest.2 in omega arith),
+      )
+    ]
+
+-- and none is below it
+pub least-le : (f : ℕ → ℕ) (n k : ℕ) → k < n → least f n ≤ f k
+least-le f zero k h = absurd (omega arith)
+least-le f (suc zero) k h = (let e : k ≡ 0 = omega arith in let g : f k ≡ f 0 = ap f e in omega arith)
+least-le f (suc (suc n)) k h =
+    elim (cases_eq k (suc n)) [
+      | inl same ↦ (let g : f k ≡ f (suc n) = ap f same in omega arith)
+      | inr other ↦ (let g : least f (suc n) ≤ f k = least-le f (suc n) k (omega arith) in omega arith)
+    ]
+
+-- equal values have one least
+pub least-same : (f g : ℕ → ℕ) (n : ℕ) → ((k : ℕ) → k < n → f k ≡ g k) → least f n ≡ least g n
+least-same f g zero h = refl
+least-same f g (suc zero) h = h 0 (omega arith)
+least-same f g (suc (suc n)) h =
+    let a : f (suc n) ≡ g (suc n) = h (suc n) (omega arith) in
+    let b : least f (suc n) ≡ least g (suc n) = least-same f g (suc n) (λ k lt. h k (omega arith)) in cc
+
+pub none-contained : {X : Type 0} (y : X) → Contains [] y → ⊥
+none-contained y (k, lt, e) = omega (arith, lt)
+
+pub contained-cases : {X : Type 0} (x : X) (xs : List X) (y : X) → Contains (x ∷ xs) y → (x ≡ y) ⊎ Contains xs y
+contained-cases x xs y (zero, lt, e) = inl e
+contained-cases x xs y (suc k, lt, e) = inr (k, (let l : suc k < length (x ∷ xs) = lt in omega arith), e)
+
+pub contained-first : {X : Type 0} (x : X) (xs : List X) → Contains (x ∷ xs) x
+contained-first x xs = (0, omega arith, refl)
+
+pub contained-rest : {X : Type 0} (x : X) (xs : List X) (y : X) → Contains xs y → Contains (x ∷ xs) y
+contained-rest x xs y (k, lt, e) = (suc k, omega arith, e)
+
+-- the row of an item has its node and its stamp
+pub body_rows-are : (node stamp : ℕ) (body : Body) (row : Row) → Contains (body_rows node stamp body) row
+    → (row.node ≡ node) × (row.stamp ≡ stamp)
+body_rows-are node stamp Report row m = absurd (none-contained row m)
+body_rows-are node stamp (Write key value) row m =
+    elim (contained-cases (record { key = key; stamp = stamp; node = node; value = value }) [] row m) [
+      | inl same ↦ (sym (ap (λ r. r.node) same), sym (ap (λ r. r.stamp) same))
+      | inr rest ↦ absurd (none-contained row rest)
+    ]
+
+head-up : (n : ℕ) (item : Item) (past : List Step) → head item.node past < item.stamp
+    → head n past ≤ head n (Took item ∷ past)
+head-up n item past up =
+    elim (cases_eq item.node n) [
+      | inl same ↦ (let e : head n (Took item ∷ past) ≡ item.stamp = head-same n item past same in
+          let f : head item.node past ≡ head n past = ap (λ k. head k past) same in omega arith)
+      | inr other ↦ (let e : head n (Took item ∷ past) ≡ head n past = head-other n item past other in omega arith)
+    ]
+
+-- an item that nothing refuses lies above its node's head
+pub rises : (nodes : ℕ) (past : List Step) (item : Item) → item_refusal nodes past item ≡ None
+    → head item.node past < item.stamp
+rises nodes past item h = (admissible _ _ item (sym (on_link nodes past item (inside nodes past item h)) ∙ h)).stamp
+
+-- and so above the floor
+pub above_floor : (nodes : ℕ) (past : List Step) (item : Item) → item_refusal nodes past item ≡ None
+    → floor nodes past < item.stamp
+above_floor nodes past item h =
+    let low : floor nodes past ≤ head item.node past =
+    least-le (λ n. head n past) nodes item.node (inside nodes past item h) in
+    let up : head item.node past < item.stamp = rises nodes past item h in omega arith
+
+-- each accepted write lies at or below its node's head
+below_head : (nodes : ℕ) (past : List Step) → IsLegal nodes past → (row : Row) → Contains (writes past) row
+    → row.stamp ≤ head row.node past
+below_head nodes [] legal row m = absurd (none-contained row m)
+below_head nodes (Opened stamp ∷ past) legal row m = below_head nodes past legal.1 row m
+below_head nodes (Closed id ∷ past) legal row m = below_head nodes past legal.1 row m
+below_head nodes (Vacuumed ∷ past) legal row m = below_head nodes past legal row m
+below_head nodes (Took item ∷ past) legal row m =
+    let up : head item.node past < item.stamp = rises nodes past item legal.0 in
+    elim (Contains-append_cases (writes past) (item_rows item) row m) [
+      | inl earlier ↦
+          let old : row.stamp ≤ head row.node past = below_head nodes past legal.1 row earlier in
+          let g = head-up row.node item past up in omega (arith, g)
+      | inr here ↦
+          let are : (row.node ≡ item.node) × (row.stamp ≡ item.stamp) =
+          body_rows-are item.node item.stamp item.body row here in
+          let e : head row.node (Took item ∷ past) ≡ item.stamp = head-same row.node item past (sym are.0) in
+          omega (arith, are.1)
+    ]
+
+new_version : (nodes : ℕ) (past : List Step) (item : Item) → IsLegal nodes past → item_refusal nodes past item ≡ None
+    → (row other : Row) → Contains (item_rows item) row → Contains (writes past) other → IsSameVersion other row → ⊥
+new_version nodes past item legal none row other m k v =
+    let up : head item.node past < item.stamp = rises nodes past item none in
+    let are : (row.node ≡ item.node) × (row.stamp ≡ item.stamp) = body_rows-are item.node item.stamp item.body row m in
+    let low : other.stamp ≤ head other.node past = below_head nodes past legal other k in
+    let e : head other.node past ≡ head item.node past = ap (λ j. head j past) (v.node ∙ are.0) in
+    omega (arith, v.stamp, are.1)
+
+row_set-push : (rows : List Row) (row : Row) → ((other : Row) → Contains rows other → IsSameVersion other row → ⊥)
+    → IsRowSet rows → IsRowSet (rows ++ row ∷ [])
+row_set-push [] row fresh set' = ((λ other m v. none-contained other m), tt)
+row_set-push (first ∷ rows) row fresh set' = (
+  λ other m v.
+      elim (Contains-append_cases rows (row ∷ []) other m) [
+        | inl earlier ↦ set'.0 other earlier v
+        | inr last ↦
+            elim (contained-cases row [] other last) [
+              | inl same ↦ fresh first (contained-first first rows) (subst (λ x. IsSameVersion first x) (sym same) v)
+              | inr none ↦ none-contained other none
+            ]
+      ],
+  row_set-push rows row (λ other m v. fresh other (contained-rest first rows other m) v) set'.1,
+)
+
+-- the row of an item, if it is a write, is set behind others that are not its version
+pub row_set-body : (node stamp : ℕ) (body : Body) (rows : List Row)
+    → ((row other : Row) → Contains (body_rows node stamp body) row → Contains rows other → IsSameVersion other row → ⊥)
+    → IsRowSet rows → IsRowSet (rows ++ body_rows node stamp body)
+row_set-body node stamp Report rows fresh set' = rw append-nil set'
+row_set-body node stamp (Write key value) rows fresh set' =
+    row_set-push rows _ (λ other m v. fresh _ other (contained-first _ []) m v) set'
+
+-- no two accepted writes are alike in key, stamp and node
+pub writes-row_set : (nodes : ℕ) (past : List Step) → IsLegal nodes past → IsRowSet (writes past)
+writes-row_set nodes [] legal = tt
+writes-row_set nodes (Opened stamp ∷ past) legal = writes-row_set nodes past legal.1
+writes-row_set nodes (Closed id ∷ past) legal = writes-row_set nodes past legal.1
+writes-row_set nodes (Vacuumed ∷ past) legal = writes-row_set nodes past legal
+writes-row_set nodes (Took item ∷ past) legal =
+    row_set-body item.node item.stamp item.body (writes past) (new_version nodes past item legal.1 legal.0)
+    (writes-row_set nodes past legal.1)
+
+-- the row of an item, if it is a write, is set behind others that are in the limits
+limits-body : (node stamp : ℕ) (body : Body) (rows : List Row) → body_refusal body ≡ None → AreInLimits rows
+    → AreInLimits (rows ++ body_rows node stamp body)
+limits-body node stamp Report rows none all' = rw append-nil all'
+limits-body node stamp (Write key value) rows none all' =
+    All-push IsInLimits rows (record { key = key; stamp = stamp; node = node; value = value }) all' none
+
+-- the keys and values of all accepted writes are in the limits
+pub writes-limits : (nodes : ℕ) (past : List Step) → IsLegal nodes past → AreInLimits (writes past)
+writes-limits nodes [] legal = All-nil _
+writes-limits nodes (Opened stamp ∷ past) legal = writes-limits nodes past legal.1
+writes-limits nodes (Closed id ∷ past) legal = writes-limits nodes past legal.1
+writes-limits nodes (Vacuumed ∷ past) legal = writes-limits nodes past legal
+writes-limits nodes (Took item ∷ past) legal =
+    limits-body item.node item.stamp item.body (writes past)
+    (admissible _ _ item (sym (on_link nodes past item (inside nodes past item legal.0)) ∙ legal.0)).limits
+    (writes-limits nodes past legal.1)
+
+-- greater values have no lesser least
+pub least-grows : (f g : ℕ → ℕ) (n : ℕ) → ((k : ℕ) → k < n → f k ≤ g k) → least f n ≤ least g n
+least-grows f g zero h = omega arith
+least-grows f g (suc n) h =
+    let some : (k : ℕ) × (k < suc n) × (g k ≡ least g (suc n)) = least-some g (suc n) (omega arith) in
+    let up : f some.0 ≤ g some.0 = h some.0 some.1 in
+    let low : least f (suc n) ≤ f some.0 = least-le f (suc n) some.0 some.1 in
+    let is : g some.0 ≡ least g (suc n) = some.2 in omega arith
+
+-- the floor never falls
+pub floor-grows : (nodes : ℕ) (past : List Step) (item : Item) → item_refusal nodes past item ≡ None
+    → floor nodes past ≤ floor nodes (Took item ∷ past)
+floor-grows nodes past item none =
+    least-grows (λ n. head n past) (λ n. head n (Took item ∷ past)) nodes
+    (λ n within. head-up n item past (rises nodes past item none))
+
+-- what nothing refuses to open is not above the floor
+pub open-below : (nodes : ℕ) (past : List Step) (stamp : ℕ) → open_refusal nodes past stamp ≡ None
+    → stamp ≤ floor nodes past
+open-below nodes past stamp none =
+    elim (cases_lt (floor nodes past) stamp) [
+      | inl above ↦ absurd (let e : Some (AboveFloor (floor nodes past)) ≡ None =
+          sym (cond-true _ _ _ (lt-ltb (floor nodes past) stamp above)) ∙ none in cc)
+      | inr low ↦ low
+    ]
+
+-- no open snapshot is above the floor
+pub open-low : (nodes : ℕ) (past : List Step) → IsLegal nodes past
+    → All (λ snapshot. snapshot.stamp ≤ floor nodes past) (open_snapshots past)
+open-low nodes [] legal = All-nil _
+open-low nodes (Took item ∷ past) legal =
+    let up : floor nodes past ≤ floor nodes (Took item ∷ past) = floor-grows nodes past item legal.0 in
+    All-weaker (λ snapshot. snapshot.stamp ≤ floor nodes past)
+    (λ snapshot. snapshot.stamp ≤ floor nodes (Took item ∷ past))
+    (λ snapshot low. (let low' : snapshot.stamp ≤ floor nodes past = low in omega arith)) _
+    (open-low nodes past legal.1)
+open-low nodes (Opened stamp ∷ past) legal = All-push (λ snapshot. snapshot.stamp ≤ floor nodes past) _ _
+    (open-low nodes past legal.1) (open-below nodes past stamp legal.0)
+open-low nodes (Closed id ∷ past) legal =
+    All-filter _ (λ snapshot. snapshot.stamp ≤ floor nodes past) _ (open-low nodes past legal.1)
+open-low nodes (Vacuumed ∷ past) legal = open-low nodes past legal
+
+-- nor below the horizon
+pub open-above : (nodes : ℕ) (past : List Step) (stamp : ℕ) → open_refusal nodes past stamp ≡ None
+    → horizon nodes past ≤ stamp
+open-above nodes past stamp none =
+    elim (cases_lt stamp (horizon nodes past)) [
+      | inl low ↦
+          let low_floor : stamp ≤ floor nodes past = open-below nodes past stamp none in
+          absurd (let e : Some (BelowHorizon (horizon nodes past)) ≡ None =
+          sym (cond-true _ _ _ (lt-ltb stamp (horizon nodes past) low))
+          ∙ sym (cond-false _ _ _ (le-ltb (floor nodes past) stamp low_floor)) ∙ none in cc)
+      | inr high ↦ high
+    ]
+
+-- the horizon is not above the floor
+pub horizon-low : (nodes : ℕ) (past : List Step) → IsLegal nodes past → horizon nodes past ≤ floor nodes past
+horizon-low nodes [] legal = omega arith
+horizon-low nodes (Took item ∷ past) legal =
+    let low : horizon nodes past ≤ floor nodes past = horizon-low nodes past legal.1 in
+    let up : floor nodes past ≤ floor nodes (Took item ∷ past) = floor-grows nodes past item legal.0 in omega arith
+horizon-low nodes (Opened stamp ∷ past) legal = horizon-low nodes past legal.1
+horizon-low nodes (Closed id ∷ past) legal = horizon-low nodes past legal.1
+horizon-low nodes (Vacuumed ∷ past) legal = omega arith
+
+-- what is accepted is above the horizon
+pub above-horizon : (nodes : ℕ) (past : List Step) (item : Item) → IsLegal nodes past
+    → item_refusal nodes past item ≡ None → horizon nodes past < item.stamp
+above-horizon nodes past item legal none =
+    let low : horizon nodes past ≤ floor nodes past = horizon-low nodes past legal in
+    let up : floor nodes past < item.stamp = above_floor nodes past item none in omega arith
+
+-- a stamp that is neither above the floor nor below the horizon is refused for want of room alone
+pub open-room : (nodes : ℕ) (past : List Step) (stamp : ℕ) → stamp ≤ floor nodes past → horizon nodes past ≤ stamp
+    → open_refusal nodes past stamp ≡ room_refusal past
+open-room nodes past stamp low high = cond-false _ _ _ (le-ltb (floor nodes past) stamp low)
+    ∙ cond-false _ _ _ (le-ltb stamp (horizon nodes past) high)

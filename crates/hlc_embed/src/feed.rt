@@ -1,0 +1,41 @@
+//! How what a node says comes to the store: the node stamps it, and the item is accepted over the
+//! node's link. In a database the items stand in a replicated log between the two.
+ghost use Rattle.std.specs.Prelude.{List, IfOk, Some};
+ghost use Rattle.hlc_node.specs.declared.item.Body.TheVariants.{Write as a_write, Report as a_report};
+ghost use Rattle.hlc_core.specs.Past.{Step};
+ghost use Rattle.hlc_core.specs.Kept.{StandsFor};
+ghost use Rattle.hlc_embed.specs.Fed.{Feeds, Stands};
+
+use crate::stopped::Stopped;
+use hlc_core::{Bytes, Core, Stamp};
+use hlc_node::NodeCore;
+
+/// Lets a node write, and delivers the item.
+pub(crate) fn write(
+    core: &mut Core,
+    node: &mut NodeCore,
+    reading: u64,
+    key: Bytes,
+    value: Bytes,
+) -> Result<Stamp, Stopped>
+    ensures keeps { Stands core.old → IfOk result (λ _. Stands core.new) }
+    ensures feeds { (past : List Step) → StandsFor core.old past
+        → Feeds core.old core.new past node.old (a_write key (Some value)) reading result }
+{
+    let item = node.write(reading, key, Some(value))?;
+    let stamp = item.stamp;
+    core.accept(item)?;
+    Ok(stamp)
+}
+
+/// Lets a node tell how far its stamps have come, and delivers the item.
+pub(crate) fn report(core: &mut Core, node: &mut NodeCore, reading: u64) -> Result<Stamp, Stopped>
+    ensures keeps { Stands core.old → IfOk result (λ _. Stands core.new) }
+    ensures feeds { (past : List Step) → StandsFor core.old past
+        → Feeds core.old core.new past node.old a_report reading result }
+{
+    let item = node.report(reading)?;
+    let stamp = item.stamp;
+    core.accept(item)?;
+    Ok(stamp)
+}

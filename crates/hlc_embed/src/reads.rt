@@ -1,0 +1,64 @@
+//! What a reader sees in its snapshot, as a line.
+ghost use Rattle.std.specs.Prelude.{◌≡◌, List, IfOk, OnErr, Some, None, option_copied};
+ghost use Rattle.hlc_text.specs.Printing.{Prints};
+ghost use Rattle.hlc_text.specs.Text.{printed};
+ghost use Rattle.hlc_core.specs.Past.{Step, stamp_of};
+ghost use Rattle.hlc_core.specs.Kept.{StandsFor};
+ghost use Rattle.hlc_embed.specs.Told.{read_line, told_read, value_text};
+
+use hlc_core::{Core, NoSnapshot, Stamp};
+use hlc_text::print::{put, put_named_bytes, put_named_stamp};
+use hlc_text::waiting::Waiting;
+use hlc_text::watched::Watched;
+use std::io::Write;
+
+/// Prints the value that a key has in an open snapshot, and gives the snapshot's stamp.
+pub(crate) fn put_read<W: Write>(
+    writer: &mut Watched<W>,
+    waiting: &mut Waiting,
+    core: &Core,
+    id: u64,
+    key: &[u8],
+) -> Result<Stamp, NoSnapshot>
+    ensures ok { (past : List Step) → StandsFor core.now past → IfOk result
+        (λ stamp. (stamp_of id past ≡ Some stamp)
+        × Prints W.contents writer.old writer.new waiting.old waiting.new
+        (told_read past key.now stamp)) }
+    ensures err { (past : List Step) → StandsFor core.now past
+        → OnErr result (stamp_of id past ≡ None) }
+{
+    let Some(stamp) = core.stamp_of(id) else {
+        return Err(NoSnapshot);
+    };
+    let value = core.read(id, key)?;
+    put_answer(writer, waiting, key, stamp, value);
+    Ok(stamp)
+}
+
+/// Prints the line of a read.
+fn put_answer<W: Write>(
+    writer: &mut Watched<W>,
+    waiting: &mut Waiting,
+    key: &[u8],
+    stamp: Stamp,
+    value: Option<&[u8]>,
+)
+    ensures { Prints W.contents writer.old writer.new waiting.old waiting.new
+        (printed (read_line key.now stamp (option_copied value.entry))) }
+{
+    put_named_bytes(writer, waiting, b"read ", key);
+    put_named_stamp(writer, waiting, b" at ", stamp);
+    put_value(writer, waiting, value);
+    put(writer, waiting, b"\n");
+}
+
+/// Prints a value, or that there is none, behind a space.
+fn put_value<W: Write>(writer: &mut Watched<W>, waiting: &mut Waiting, value: Option<&[u8]>)
+    ensures { Prints W.contents writer.old writer.new waiting.old waiting.new
+        (value_text (option_copied value.entry)) }
+{
+    match value {
+        None => put(writer, waiting, b" none"),
+        Some(bytes) => put_named_bytes(writer, waiting, b" value ", bytes),
+    }
+}

@@ -1,0 +1,108 @@
+//! Why the program stopped before its end.
+use hlc_core::{CoreFault, Item, NoMemory, NoSnapshot};
+use hlc_node::{NodeFault, RefusedWrite};
+use hlc_witness::NotShown;
+use std::alloc::AllocError;
+
+/// Why the program stopped. The fault of each call becomes one of these by `?`. Only a core's is kept
+/// whole.
+#[derive(Clone, Copy, PartialEq, Eq, Debug)]
+pub(crate) enum Stopped {
+    /// A node issued no item.
+    NotIssued,
+    /// The store refused a call.
+    Refused(CoreFault),
+    /// A certificate does not show that its rows are the fewest. Of a vacuum it always does.
+    NotShown,
+}
+
+impl From<AllocError> for Stopped {
+    ghost use Rattle.std.specs.Prelude.{◌≡◌};
+    ghost use Rattle.hlc_embed.specs.declared.stopped.Stopped.TheVariants.{Refused};
+    ghost use Rattle.hlc_core.specs.declared.fault.CoreFault.TheVariants.{NoMemory as no_memory};
+
+    ghost from_gives = { λ lack stopped. stopped ≡ Refused no_memory };
+
+    fn from(_: AllocError) -> Stopped {
+        Stopped::Refused(CoreFault::NoMemory)
+    }
+}
+
+impl From<NoMemory> for Stopped {
+    ghost use Rattle.std.specs.Prelude.{◌≡◌};
+    ghost use Rattle.hlc_embed.specs.declared.stopped.Stopped.TheVariants.{Refused};
+    ghost use Rattle.hlc_core.specs.declared.fault.CoreFault.TheVariants.{NoMemory as no_memory};
+
+    ghost from_gives = { λ lack stopped. stopped ≡ Refused no_memory };
+
+    fn from(_: NoMemory) -> Stopped {
+        Stopped::Refused(CoreFault::NoMemory)
+    }
+}
+
+impl From<NoSnapshot> for Stopped {
+    ghost use Rattle.std.specs.Prelude.{◌≡◌};
+    ghost use Rattle.hlc_embed.specs.declared.stopped.Stopped.TheVariants.{Refused};
+    ghost use Rattle.hlc_core.specs.declared.fault.CoreFault.TheVariants.{NoSnapshot as no_snapshot};
+
+    ghost from_gives = { λ lack stopped. stopped ≡ Refused no_snapshot };
+
+    fn from(_: NoSnapshot) -> Stopped {
+        Stopped::Refused(CoreFault::NoSnapshot)
+    }
+}
+
+impl From<CoreFault> for Stopped {
+    ghost use Rattle.std.specs.Prelude.{◌≡◌};
+    ghost use Rattle.hlc_embed.specs.declared.stopped.Stopped.TheVariants.{Refused};
+
+    ghost from_gives = { λ fault stopped. stopped ≡ Refused fault };
+
+    fn from(fault: CoreFault) -> Stopped {
+        Stopped::Refused(fault)
+    }
+}
+
+impl From<(CoreFault, Item)> for Stopped {
+    ghost use Rattle.std.specs.Prelude.{◌≡◌};
+    ghost use Rattle.hlc_embed.specs.declared.stopped.Stopped.TheVariants.{Refused};
+
+    ghost from_gives = { λ refused stopped. stopped ≡ Refused refused.0 };
+
+    fn from(refused: (CoreFault, Item)) -> Stopped {
+        Stopped::Refused(refused.0)
+    }
+}
+
+impl From<NodeFault> for Stopped {
+    ghost use Rattle.std.specs.Prelude.{◌≡◌};
+    ghost use Rattle.hlc_embed.specs.declared.stopped.Stopped.TheVariants.{NotIssued};
+
+    ghost from_gives = { λ fault stopped. stopped ≡ NotIssued };
+
+    fn from(_: NodeFault) -> Stopped {
+        Stopped::NotIssued
+    }
+}
+
+impl From<RefusedWrite> for Stopped {
+    ghost use Rattle.std.specs.Prelude.{◌≡◌};
+    ghost use Rattle.hlc_embed.specs.declared.stopped.Stopped.TheVariants.{NotIssued};
+
+    ghost from_gives = { λ refused stopped. stopped ≡ NotIssued };
+
+    fn from(_: RefusedWrite) -> Stopped {
+        Stopped::NotIssued
+    }
+}
+
+impl From<NotShown> for Stopped {
+    ghost use Rattle.std.specs.Prelude.{◌≡◌};
+    ghost use Rattle.hlc_embed.specs.declared.stopped.Stopped.TheVariants.{NotShown};
+
+    ghost from_gives = { λ reason stopped. stopped ≡ NotShown };
+
+    fn from(_: NotShown) -> Stopped {
+        Stopped::NotShown
+    }
+}

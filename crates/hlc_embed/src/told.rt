@@ -1,0 +1,78 @@
+//! The whole way: two nodes write, the store is read in two snapshots, and a vacuum is certified.
+ghost use Rattle.std.specs.Prelude.{◌≡◌, IfOk};
+ghost use Rattle.hlc_embed.specs.Fed.{Stands};
+ghost use Rattle.hlc_embed.specs.Told.{Tells};
+
+use crate::feed::{report, write};
+use crate::reads::put_read;
+use crate::stopped::Stopped;
+use crate::vacuumed::put_vacuum;
+use hlc_core::{Bytes, Core, Stamp};
+use hlc_node::NodeCore;
+use hlc_text::print::finish;
+use hlc_text::waiting::Waiting;
+use hlc_text::watched::Watched;
+use hlc_witness::Shown;
+use std::alloc::{AllocError, Global};
+use std::io::Write;
+
+/// A key or a value, in memory of its own.
+fn bytes(alloc: Global, text: &[u8]) -> Result<Bytes, AllocError>
+    ensures { IfOk result (λ bytes. bytes ≡ text.now) }
+{
+    Ok(Bytes::from_vec(Vec::from_slice(alloc, text)?))
+}
+
+/// Reads a city in an old snapshot and in a new one, and vacuums.
+pub(crate) fn tell<W: Write>(alloc: Global, writer: &mut Watched<W>) -> Result<Shown, Stopped>
+    ensures { IfOk result (λ shown. Tells W.contents writer.old writer.new shown) }
+{
+    let mut core = Core::new(alloc, 2)?;
+    let (early, late) = fill(alloc, &mut core)?;
+    let mut waiting = Waiting::new();
+    put_read(writer, &mut waiting, &core, early, b"city")?;
+    put_read(writer, &mut waiting, &core, late, b"city")?;
+    let shown = put_vacuum(writer, &mut waiting, &mut core)?;
+    finish(writer, &mut waiting);
+    Ok(shown)
+}
+
+/// Lets two nodes write what a city and its river are, and opens a snapshot on the way and one at the
+/// end.
+fn fill(alloc: Global, core: &mut Core) -> Result<(u64, u64), Stopped>
+    ensures { Stands core.old → IfOk result (λ _. Stands core.new) }
+{
+    let start = Stamp::from_bits(0);
+    let (mut west, mut east) = (NodeCore::new(0, start), NodeCore::new(1, start));
+    // Readings of physical clocks come from outside: here they are 10, 12 and so on.
+    say(alloc, core, &mut west, 10, b"city", b"Lyon")?;
+    say(alloc, core, &mut east, 12, b"river", b"Rhone")?;
+    report(core, &mut west, 12)?;
+    let (early, _) = core.open_floor()?;
+    say(alloc, core, &mut west, 14, b"city", b"Lyon")?;
+    say(alloc, core, &mut west, 15, b"city", b"Paris")?;
+    say(alloc, core, &mut east, 16, b"river", b"Seine")?;
+    report(core, &mut west, 17)?;
+    let (late, _) = core.open_floor()?;
+    Ok((early, late))
+}
+
+/// Lets a node write, from bytes that stay where they are.
+fn say(
+    alloc: Global,
+    core: &mut Core,
+    node: &mut NodeCore,
+    reading: u64,
+    key: &[u8],
+    value: &[u8],
+) -> Result<Stamp, Stopped>
+    ensures { Stands core.old → IfOk result (λ _. Stands core.new) }
+{
+    write(
+        core,
+        node,
+        reading,
+        bytes(alloc, key)?,
+        bytes(alloc, value)?,
+    )
+}

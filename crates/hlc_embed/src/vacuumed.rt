@@ -1,0 +1,59 @@
+//! A vacuum whose certificate is printed, so that anybody can check that it left the fewest rows.
+ghost use Rattle.std.specs.Prelude.{◌≡◌, ◌∷◌, ℕ, List, IfOk, IfErr, IsOk};
+ghost use Rattle.hlc_text.specs.Printing.{Prints};
+ghost use Rattle.hlc_witness.specs.Certificate.{IsCertificate};
+ghost use Rattle.hlc_core.specs.Past.{Step, Vacuumed};
+ghost use Rattle.hlc_core.specs.Kept.{StandsFor};
+ghost use Rattle.hlc_certificate.specs.CertificateText.{certificate_text};
+ghost use Rattle.hlc_certificate.specs.ReadBack.{IsAnsweredFewest};
+
+use crate::stopped::Stopped;
+use hlc_certificate::{printed_certificates_show_fewest, put_certificate};
+use hlc_core::{Core, CoreFault, Row, Stamp, Witness};
+use hlc_text::waiting::Waiting;
+use hlc_text::watched::Watched;
+use hlc_witness::{NotShown, Shown, check};
+use std::io::Write;
+
+/// Vacuums the store, and prints the certificate of the rows that are left up to its floor. The
+/// witnesses always show that they are the fewest.
+pub(crate) fn put_vacuum<W: Write>(
+    writer: &mut Watched<W>,
+    waiting: &mut Waiting,
+    core: &mut Core,
+) -> Result<Shown, Stopped>
+    ensures stands { (past : List Step) → StandsFor core.old past
+        → IfOk result (λ _. StandsFor core.new (Vacuumed ∷ past)) }
+    ensures printed { IfOk result (λ shown. (text : List ℕ)
+        × Prints W.contents writer.old writer.new waiting.old waiting.new text
+        × IsAnsweredFewest text shown.rows shown.cost) }
+    ensures only { (past : List Step) → StandsFor core.old past
+        → IfErr result (λ stopped. stopped ≡ Stopped.Refused CoreFault.NoMemory) }
+{
+    let report = core.vacuum()?;
+    let rows = core.rows_to(report.floor)?;
+    let (points, witnesses) = (report.points.as_slice(), report.witnesses.as_slice());
+    let shown = put_checked(writer, waiting, points, rows.as_slice(), witnesses)?;
+    Ok(shown)
+}
+
+/// Prints a certificate, unless its witnesses do not show that the rows are the fewest.
+fn put_checked<W: Write>(
+    writer: &mut Watched<W>,
+    waiting: &mut Waiting,
+    points: &[Stamp],
+    rows: &[Row],
+    witnesses: &[Witness],
+) -> Result<Shown, NotShown>
+    ensures printed { IfOk result (λ _. Prints W.contents writer.old writer.new
+        waiting.old waiting.new (certificate_text points.now rows.now witnesses.now)) }
+    ensures answered { IfOk result (λ shown.
+        IsAnsweredFewest (certificate_text points.now rows.now witnesses.now)
+        shown.rows shown.cost) }
+    ensures only { IsCertificate rows.now points.now witnesses.now → IsOk result }
+{
+    let shown = check(rows, points, witnesses)?;
+    put_certificate(writer, waiting, points, rows, witnesses);
+    printed_certificates_show_fewest();
+    Ok(shown)
+}

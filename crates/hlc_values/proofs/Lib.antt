@@ -1,0 +1,3 @@
+pub mod MemberLemmas
+pub mod SortedLemmas
+pub mod PigeonLemmas
