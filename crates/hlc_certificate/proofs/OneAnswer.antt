@@ -18,8 +18,9 @@ use Rattle.hlc_witness.specs.Changes.{ChangesAscend, IsChange, change_cmp}
 use Rattle.hlc_witness.specs.Certificate.{IsCertificate, RowsAscend, NoneAbove}
 use Rattle.hlc_witness.specs.Cost.{AreInLimits, rows_cost}
 use Rattle.hlc_witness.specs.Reasons.{IsAbove, IsFault, IsFirstFault, IsFirstReason, AreSorted}
-use Rattle.hlc_certificate.specs.declared.check.CheckEnd.TheVariants.{Fewest, NotShown, BadLine, NotHeld, NoMemory}
-use Rattle.hlc_certificate.specs.declared.check.CheckEnd.TheVariants.{ReadFault, TooLong, WriteFault}
+use Rattle.hlc_certificate.specs.declared.check.CheckEnd.TheVariants.{Fewest, NotShown, BadLine, NoMemory, NotHeld}
+use Rattle.hlc_certificate.specs.declared.check.CheckEnd.TheVariants.{WriteFault}
+use Rattle.hlc_text.specs.declared.input.InputFault.TheVariants.{NoMemory as no_memory, ReadFault, TooLong}
 use Rattle.hlc_text.specs.Lines.{lines_of}
 use Rattle.hlc_certificate.specs.CheckLine.{check_line, HasCheckLine, says_point, says_row, says_witness, all_said}
 use Rattle.hlc_certificate.specs.CheckLine.{AreLinesOf, AreGood, IsFirstBad}
@@ -377,33 +378,33 @@ reason_good : (lines : List (List ℕ)) (reason : AReason) → ShowsReason lines
 reason_good lines reason is = (is.points, is.rows, is.witnesses, is.lines_are)
 
 pub one_answer : OneAnswer
-one_answer input NotHeld finish is also e f = inr (inl refl)
+one_answer input (NotHeld no_memory) finish is also e f = inr (inl refl)
 one_answer input NoMemory finish is also e f = inr (inl refl)
-one_answer input ReadFault finish is also e f = absurd (e refl)
+one_answer input (NotHeld ReadFault) finish is also e f = absurd (e refl)
 one_answer input WriteFault finish is also e f = absurd is
-one_answer input end NotHeld is also e f = inr (inr refl)
+one_answer input end (NotHeld no_memory) is also e f = inr (inr refl)
 one_answer input end NoMemory is also e f = inr (inr refl)
-one_answer input end ReadFault is also e f = absurd (f refl)
+one_answer input end (NotHeld ReadFault) is also e f = absurd (f refl)
 one_answer input end WriteFault is also e f = absurd also
 one_answer input (Fewest m b) (Fewest n k) is also e f =
     inl (fewest_once (lines_of input) m n b k is.1 also.1)
 one_answer input (Fewest m b) (NotShown q) is also e f = absurd (not_both (lines_of input) m b q is.1 also.1)
 one_answer input (Fewest m b) (BadLine n) is also e f =
     absurd (bad_not_good (lines_of input) n also.1 (fewest_good (lines_of input) m b is.1))
-one_answer input (Fewest m b) TooLong is also e f = absurd (omega (arith, is.0, also))
+one_answer input (Fewest m b) (NotHeld TooLong) is also e f = absurd (omega (arith, is.0, also))
 one_answer input (NotShown r) (Fewest n k) is also e f = absurd (not_both (lines_of input) n k r also.1 is.1)
 one_answer input (NotShown r) (NotShown q) is also e f =
     inl (ap NotShown (reason_once (lines_of input) r q is.1 also.1))
 one_answer input (NotShown r) (BadLine n) is also e f =
     absurd (bad_not_good (lines_of input) n also.1 (reason_good (lines_of input) r is.1))
-one_answer input (NotShown r) TooLong is also e f = absurd (omega (arith, is.0, also))
+one_answer input (NotShown r) (NotHeld TooLong) is also e f = absurd (omega (arith, is.0, also))
 one_answer input (BadLine m) (Fewest n k) is also e f =
     absurd (bad_not_good (lines_of input) m is.1 (fewest_good (lines_of input) n k also.1))
 one_answer input (BadLine m) (NotShown q) is also e f =
     absurd (bad_not_good (lines_of input) m is.1 (reason_good (lines_of input) q also.1))
 one_answer input (BadLine m) (BadLine n) is also e f = inl (ap BadLine (bad_once (lines_of input) m n is.1 also.1))
-one_answer input (BadLine m) TooLong is also e f = absurd (omega (arith, is.0, also))
-one_answer input TooLong (Fewest n k) is also e f = absurd (omega (arith, is, also.0))
-one_answer input TooLong (NotShown q) is also e f = absurd (omega (arith, is, also.0))
-one_answer input TooLong (BadLine n) is also e f = absurd (omega (arith, is, also.0))
-one_answer input TooLong TooLong is also e f = inl refl
+one_answer input (BadLine m) (NotHeld TooLong) is also e f = absurd (omega (arith, is.0, also))
+one_answer input (NotHeld TooLong) (Fewest n k) is also e f = absurd (omega (arith, is, also.0))
+one_answer input (NotHeld TooLong) (NotShown q) is also e f = absurd (omega (arith, is, also.0))
+one_answer input (NotHeld TooLong) (BadLine n) is also e f = absurd (omega (arith, is, also.0))
+one_answer input (NotHeld TooLong) (NotHeld TooLong) is also e f = inl refl

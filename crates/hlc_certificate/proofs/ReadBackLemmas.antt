@@ -1,12 +1,10 @@
 -- What is printed is read back, and where witnesses show that the rows are the fewest, this is its one answer.
 use Rattle.std.proofs.Common.{ℕ, ap, refl, List, length, get_or, arith, inl, inr}
 use Rattle.std.specs.Prelude.{◌≢◌}
-use Rattle.hlc_node.specs.declared.row.Row.{Row as ARow}
-use Rattle.hlc_witness.specs.declared.witness.Witness.{Witness as AWitness}
-use Rattle.hlc_witness.specs.Fewest.{Fewest as AreFewest}
-use Rattle.hlc_witness.specs.Certificate.{IsCertificate}
-use Rattle.hlc_witness.specs.Cost.{Cheapest as AreCheapest, rows_cost}
-use Rattle.hlc_certificate.specs.declared.check.CheckEnd.TheVariants.{Fewest, ReadFault}
+use Rattle.hlc_witness.specs.Cost.{rows_cost}
+use Rattle.hlc_witness.proofs.CertificateLemmas.{certificates_show_fewest, certificates_show_cheapest}
+use Rattle.hlc_certificate.specs.declared.check.CheckEnd.TheVariants.{Fewest, NotHeld}
+use Rattle.hlc_text.specs.declared.input.InputFault.TheVariants.{ReadFault}
 use Rattle.hlc_certificate.specs.CheckLine.{all_said}
 use Rattle.hlc_certificate.specs.CertificateText.{certificate_text}
 use Rattle.hlc_certificate.specs.Check.{MayAnswer}
@@ -19,22 +17,14 @@ pub printed_is_read : PrintedIsRead
 printed_is_read points rows witnesses has = (has, lines_again (all_said points rows witnesses) has)
 
 -- that rows are the fewest tells of no fault of a read, and of no want of memory
-read_well : (count bytes : ℕ) → Fewest count bytes ≢ ReadFault
+read_well : (count bytes : ℕ) → Fewest count bytes ≢ NotHeld ReadFault
 read_well count bytes same = cc
 
 tells_more : (count bytes : ℕ) → TellsNoMemory (Fewest count bytes) → ⊥
 tells_more count bytes tells = absurd (omega (arith, ap (λ (text : List ℕ). get_or text 0 0) tells))
 
-abbrev ShowFewest : Type 0
-ShowFewest = (rows : List ARow) (points : List ℕ) (witnesses : List AWitness)
-    → IsCertificate rows points witnesses → AreFewest rows rows points
-
-abbrev ShowCheapest : Type 0
-ShowCheapest = (rows : List ARow) (points : List ℕ) (witnesses : List AWitness)
-    → IsCertificate rows points witnesses → AreCheapest rows rows points
-
-pub printed_shows_fewest : ShowFewest → ShowCheapest → PrintedShowsFewest
-printed_shows_fewest shows costs points rows witnesses lines certificate fits end may well =
+pub printed_shows_fewest : PrintedShowsFewest
+printed_shows_fewest points rows witnesses lines certificate fits end may well =
     let text = certificate_text points rows witnesses in
     let due : MayAnswer text (Fewest (length rows) (rows_cost rows)) = (
       fits,
@@ -44,9 +34,9 @@ printed_shows_fewest shows costs points rows witnesses lines certificate fits en
         witnesses = witnesses;
         lines_are = lines;
         certificate = certificate;
-        fewest = shows rows points witnesses certificate;
+        fewest = certificates_show_fewest rows points witnesses certificate;
         count_is = refl;
-        cheapest = costs rows points witnesses certificate;
+        cheapest = certificates_show_cheapest rows points witnesses certificate;
         bytes_is = refl;
       },
     ) in

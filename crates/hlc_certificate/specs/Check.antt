@@ -16,9 +16,10 @@ use Rattle.hlc_witness.specs.Cost.{Cheapest as AreCheapest, rows_cost}
 use Rattle.hlc_witness.specs.Certificate.{IsCertificate}
 use Rattle.hlc_witness.specs.Reasons.{IsFirstReason}
 use Rattle.hlc_certificate.specs.declared.check.CheckEnd.{CheckEnd}
-use Rattle.hlc_certificate.specs.declared.check.CheckEnd.TheVariants.{Fewest, NotShown, BadLine, NotHeld, NoMemory}
-use Rattle.hlc_certificate.specs.declared.check.CheckEnd.TheVariants.{ReadFault, TooLong, WriteFault}
-use Rattle.hlc_text.specs.Input.{IsInput}
+use Rattle.hlc_certificate.specs.declared.check.CheckEnd.TheVariants.{Fewest, NotShown, BadLine, NoMemory, NotHeld}
+use Rattle.hlc_certificate.specs.declared.check.CheckEnd.TheVariants.{WriteFault}
+use Rattle.hlc_text.specs.declared.input.InputFault.TheVariants.{ReadFault}
+use Rattle.hlc_text.specs.Input.{IsInput, MayFault, FaultTakes, fault_line}
 use Rattle.hlc_text.specs.Lines.{lines_of}
 use Rattle.hlc_certificate.specs.CheckLine.{AreLinesOf, AreGood, IsFirstBad}
 use Rattle.hlc_text.specs.Lines.{bad_line}
@@ -50,11 +51,8 @@ abbrev pub MayAnswer : List ℕ → CheckEnd → Type 0
 MayAnswer input (Fewest count bytes) = (length input ≤ 16777216) × ShowsFewest (lines_of input) count bytes
 MayAnswer input (NotShown reason) = (length input ≤ 16777216) × ShowsReason (lines_of input) reason
 MayAnswer input (BadLine number) = (length input ≤ 16777216) × IsFirstBad (lines_of input) number
--- memory is asked for only where there is a byte to hold
-MayAnswer input NotHeld = 0 < length input
 MayAnswer input NoMemory = (length input ≤ 16777216) × (0 < length (lines_of input)) × AreGood (lines_of input)
-MayAnswer input ReadFault = ⊤
-MayAnswer input TooLong = 16777216 < length input
+MayAnswer input (NotHeld fault) = MayFault input fault
 -- a failed write is no answer: it cuts that off
 MayAnswer input WriteFault = ⊥
 
@@ -64,16 +62,12 @@ IsOfHeld (Fewest count bytes) = ⊤
 IsOfHeld (NotShown reason) = ⊤
 IsOfHeld (BadLine number) = ⊤
 IsOfHeld NoMemory = ⊤
-IsOfHeld NotHeld = ⊥
-IsOfHeld ReadFault = ⊥
-IsOfHeld TooLong = ⊥
+IsOfHeld (NotHeld fault) = ⊥
 IsOfHeld WriteFault = ⊥
 
 -- What may have been taken from the reader when a check came to its end, as of a run.
 abbrev pub MayTake : List ℕ → List ℕ → CheckEnd → Type 0
-MayTake input taken NotHeld = (0 < length taken) × (length taken ≤ 16777216)
-MayTake input taken ReadFault = length taken ≤ 16777216
-MayTake input taken TooLong = 16777216 < length taken
+MayTake input taken (NotHeld fault) = FaultTakes taken fault
 MayTake input taken (Fewest count bytes) = taken ≡ input
 MayTake input taken (NotShown reason) = taken ≡ input
 MayTake input taken (BadLine number) = taken ≡ input
@@ -100,10 +94,8 @@ abbrev pub answer_output : CheckEnd → List ℕ
 answer_output (Fewest count bytes) = printed (fewest_line count bytes)
 answer_output (NotShown reason) = printed (codes "refused 22 reason " ++ decimal (reason_number reason))
 answer_output (BadLine number) = printed (bad_line number)
-answer_output NotHeld = printed (codes "refused 15")
 answer_output NoMemory = printed (codes "refused 15")
-answer_output ReadFault = printed (codes "refused 18")
-answer_output TooLong = printed (codes "refused 20")
+answer_output (NotHeld fault) = printed (fault_line fault)
 answer_output WriteFault = []
 
 -- A certificate was read and answered: there are an input, and an end that it may have, whose line was printed.
@@ -120,7 +112,7 @@ pub record RunsCheck {R W : Type 0} (remaining : R → Option (List ℕ)) (conte
   pub may_answer : MayAnswer input end
   -- the end's line was written, or a beginning of it where the writer failed
   pub wrote : Writes contents writer writer_after (answer_output end)
-  pub read_fault : (end ≡ ReadFault) ↔ (has_failed reader_after ≡ true)
+  pub read_fault : (end ≡ NotHeld ReadFault) ↔ (has_failed reader_after ≡ true)
   -- a failed write cuts the end off
   pub end_is : has_failed writer_after ≡ false → result ≡ end
   pub write_fault : (result ≡ WriteFault) ↔ (has_failed writer_after ≡ true)
@@ -130,8 +122,6 @@ abbrev pub check_status : CheckEnd → ℕ
 check_status (Fewest count bytes) = 0
 check_status (NotShown reason) = 2
 check_status (BadLine number) = 2
-check_status NotHeld = 2
 check_status NoMemory = 2
-check_status ReadFault = 2
-check_status TooLong = 2
+check_status (NotHeld fault) = 2
 check_status WriteFault = 3

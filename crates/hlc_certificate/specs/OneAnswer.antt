@@ -4,7 +4,8 @@ use Rattle.hlc_text.specs.Text.{printed}
 use Rattle.hlc_node.specs.declared.row.Row.{Row as ARow}
 use Rattle.hlc_witness.specs.declared.witness.Witness.{Witness as AWitness}
 use Rattle.hlc_certificate.specs.declared.check.CheckEnd.{CheckEnd}
-use Rattle.hlc_certificate.specs.declared.check.CheckEnd.TheVariants.{ReadFault}
+use Rattle.hlc_certificate.specs.declared.check.CheckEnd.TheVariants.{NotHeld}
+use Rattle.hlc_text.specs.declared.input.InputFault.TheVariants.{ReadFault}
 use Rattle.hlc_certificate.specs.CheckLine.{AreLinesOf}
 use Rattle.hlc_certificate.specs.Check.{MayAnswer, answer_output}
 
@@ -23,5 +24,5 @@ TellsNoMemory end = answer_output end ≡ printed (codes "refused 15")
 -- two ends that one input may have are equal; or one of them tells of want of memory
 abbrev pub OneAnswer : Type 0
 OneAnswer = (input : List ℕ) (end finish : CheckEnd)
-    → MayAnswer input end → MayAnswer input finish → end ≢ ReadFault → finish ≢ ReadFault
+    → MayAnswer input end → MayAnswer input finish → end ≢ NotHeld ReadFault → finish ≢ NotHeld ReadFault
     → (end ≡ finish) ⊎ (TellsNoMemory end ⊎ TellsNoMemory finish)

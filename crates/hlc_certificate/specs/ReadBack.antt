@@ -7,7 +7,8 @@ use Rattle.hlc_witness.specs.declared.witness.Witness.{Witness as AWitness}
 use Rattle.hlc_witness.specs.Certificate.{IsCertificate}
 use Rattle.hlc_witness.specs.Cost.{rows_cost}
 use Rattle.hlc_certificate.specs.declared.check.CheckEnd.{CheckEnd}
-use Rattle.hlc_certificate.specs.declared.check.CheckEnd.TheVariants.{Fewest, ReadFault}
+use Rattle.hlc_certificate.specs.declared.check.CheckEnd.TheVariants.{Fewest, NotHeld}
+use Rattle.hlc_text.specs.declared.input.InputFault.TheVariants.{ReadFault}
 use Rattle.hlc_certificate.specs.CheckLine.{HasCheckLine, all_said, AreLinesOf}
 use Rattle.hlc_certificate.specs.CertificateText.{certificate_text}
 use Rattle.hlc_certificate.specs.Check.{MayAnswer}
@@ -23,7 +24,7 @@ PrintedIsRead = (points : List ℕ) (rows : List ARow) (witnesses : List AWitnes
 -- so much; or it tells of want of memory.
 abbrev pub IsAnsweredFewest : List ℕ → ℕ → ℕ → Type 0
 IsAnsweredFewest text count bytes =
-    length text ≤ 16777216 → (end : CheckEnd) → MayAnswer text end → end ≢ ReadFault
+    length text ≤ 16777216 → (end : CheckEnd) → MayAnswer text end → end ≢ NotHeld ReadFault
     → (end ≡ Fewest count bytes) ⊎ TellsNoMemory end
 
 -- where the witnesses show that the rows are the fewest, a check of what is printed answers how many they are, and what

@@ -11,7 +11,7 @@ ghost use Rattle.hlc_certificate.specs.Check.{MayAnswer, MayTake, IsOfHeld, Runs
 ghost use Rattle.hlc_certificate.specs.Check.{answer_output, fewest_line, reason_number, check_status};
 
 use crate::certificate::{NoCertificate, read_certificate};
-use hlc_text::input::{InputFault, read_input};
+use hlc_text::input::{InputFault, put_fault, read_input};
 use hlc_text::print::{finish, put, put_named_count, put_named_number};
 use hlc_text::waiting::Waiting;
 use hlc_text::watched::Watched;
@@ -30,14 +30,10 @@ pub enum CheckEnd {
     NotShown(NotShown),
     /// The line of this number is the first bad one. The first line has number 1.
     BadLine(u64),
-    /// The input could not be held.
-    NotHeld,
     /// No line is bad, and the points, rows and witnesses could not be held.
     NoMemory,
-    /// A read failed.
-    ReadFault,
-    /// The input has more than 16,777,216 bytes.
-    TooLong,
+    /// The input could not be held.
+    NotHeld(InputFault),
     /// A write failed.
     WriteFault,
 }
@@ -91,13 +87,12 @@ fn check_reader<R: Read>(alloc: Global, reader: &mut Watched<R>) -> CheckEnd
         × IsInput (R.remaining (inner_of reader.old)) input
         × Consumes (R.remaining (inner_of reader.old)) (R.remaining (inner_of reader.new)) taken
         × MayTake input taken result × MayAnswer input result }
-    ensures read_fault { (result ≡ CheckEnd.ReadFault) ↔ (has_failed reader.new ≡ true) }
+    ensures read_fault { (result ≡ CheckEnd.NotHeld InputFault.ReadFault)
+        ↔ (has_failed reader.new ≡ true) }
 {
     match read_input(alloc, reader) {
         Ok(input) => check_input(alloc, input.as_slice()),
-        Err(InputFault::NoMemory) => CheckEnd::NotHeld,
-        Err(InputFault::ReadFault) => CheckEnd::ReadFault,
-        Err(InputFault::TooLong) => CheckEnd::TooLong,
+        Err(fault) => CheckEnd::NotHeld(fault),
     }
 }
 
@@ -136,10 +131,8 @@ fn put_end<W: Write>(writer: &mut Watched<W>, waiting: &mut Waiting, end: CheckE
         CheckEnd::BadLine(number) => {
             put_number_line(writer, waiting, b"refused 16 line ", number)
         }
-        CheckEnd::NotHeld => put(writer, waiting, b"refused 15\n"),
-        CheckEnd::NoMemory => put(writer, waiting, b"refused 15\n"),
-        CheckEnd::ReadFault => put(writer, waiting, b"refused 18\n"),
-        CheckEnd::TooLong => put(writer, waiting, b"refused 20\n"),
+        CheckEnd::NoMemory => put_fault(writer, waiting, InputFault::NoMemory),
+        CheckEnd::NotHeld(fault) => put_fault(writer, waiting, fault),
         CheckEnd::WriteFault => {}
     }
 }

@@ -1,8 +1,6 @@
-//! What holds of every certificate as it is written. A law that calls another follows from it.
+//! What holds of every certificate as it is written.
 ghost use Rattle.hlc_certificate.specs.OneAnswer.{OneAnswer, OneCertificate};
 ghost use Rattle.hlc_certificate.specs.ReadBack.{PrintedIsRead, PrintedShowsFewest};
-
-use hlc_witness::{certificates_show_cheapest, certificates_show_fewest};
 
 /// Lines say one list of points, one of rows and one of witnesses, so whether they show that the
 /// rows are the fewest is a question of the input alone.
@@ -25,7 +23,4 @@ pub fn printed_certificates_are_read()
 /// witnesses show it and there is memory.
 pub fn printed_certificates_show_fewest()
     ensures { PrintedShowsFewest }
-{
-    certificates_show_fewest();
-    certificates_show_cheapest();
-}
+{}

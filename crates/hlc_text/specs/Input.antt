@@ -1,7 +1,39 @@
--- What an input is, by what its reader tells of its bytes.
-use Rattle.std.specs.Prelude.{◌≡◌, ℕ, List, Option, Some, None, ⊤}
+-- What an input is, by what its reader tells of its bytes, and why there is none.
+use Rattle.std.specs.Prelude.{◌≡◌, ℕ, ◌<◌, ◌≤◌, List, length, codes, Option, Some, None, ⊤}
+use Rattle.std.specs.Io.KnownBytes.{Consumes}
+use Rattle.hlc_text.specs.declared.input.InputFault.{InputFault}
+use Rattle.hlc_text.specs.declared.input.InputFault.TheVariants.{NoMemory, ReadFault, TooLong}
+use Rattle.hlc_text.specs.declared.input.TheConstants.{INPUT_LIMIT}
 
 -- the bytes that a reader had left, where they are known
 abbrev pub IsInput : Option (List ℕ) → List ℕ → Type 0
 IsInput None input = ⊤
 IsInput (Some bytes) input = bytes ≡ input
+
+-- what may be why an input is not held: memory is asked for only where there is a byte to hold
+abbrev pub MayFault : List ℕ → InputFault → Type 0
+MayFault input NoMemory = 0 < length input
+MayFault input ReadFault = ⊤
+MayFault input TooLong = INPUT_LIMIT < length input
+
+-- What may have been taken from the reader at a fault: bytes that can't be held, some before a read that fails, or a
+-- byte past the limit. The first of them ends the reading.
+abbrev pub FaultTakes : List ℕ → InputFault → Type 0
+FaultTakes taken NoMemory = (0 < length taken) × (length taken ≤ INPUT_LIMIT)
+FaultTakes taken ReadFault = length taken ≤ INPUT_LIMIT
+FaultTakes taken TooLong = INPUT_LIMIT < length taken
+
+-- an input was not held, of which some was taken
+pub record IsNotHeld (before after : Option (List ℕ)) (fault : InputFault) : Type 0 where
+  pub input : List ℕ
+  pub taken : List ℕ
+  pub is_input : IsInput before input
+  pub consumed : Consumes before after taken
+  pub may_take : FaultTakes taken fault
+  pub may_fault : MayFault input fault
+
+-- the line of a fault
+abbrev pub fault_line : InputFault → List ℕ
+fault_line NoMemory = codes "refused 15"
+fault_line ReadFault = codes "refused 18"
+fault_line TooLong = codes "refused 20"

@@ -1,15 +1,22 @@
 //! The whole input of a run or a check, and its first line.
-ghost use Rattle.std.specs.Prelude.{◌≡◌, ◌<◌, ◌≤◌, ◌∷◌, ◌↔◌, ◌^◌, ℕ, List, Err, false, true, length, vec_len, IfOk};
+ghost use Rattle.std.specs.Prelude.{◌≡◌, ◌<◌, ◌≤◌, ◌∷◌, ◌↔◌, ◌^◌, Err, false, true, length, vec_len, IfOk, IfErr};
+ghost use Rattle.std.proofs.Common.{rules};
+ghost use Rattle.std.proofs.lemmas.Grind.{common_steps};
 ghost use Rattle.std.specs.Io.KnownBytes.{Consumes};
 ghost use Rattle.hlc_text.specs.Watched.{inner_of, has_failed};
 ghost use Rattle.hlc_text.specs.Lines.{lines_of};
-ghost use Rattle.hlc_text.specs.Input.{IsInput};
+ghost use Rattle.hlc_text.specs.Input.{IsInput, IsNotHeld, fault_line};
+ghost use Rattle.hlc_text.specs.Printing.{Prints};
+ghost use Rattle.hlc_text.specs.Text.{printed};
 ghost use Rattle.hlc_text.specs.declared.input.TheConstants.{INPUT_LIMIT};
 
+use crate::print::put;
+use crate::waiting::Waiting;
 use crate::watched::Watched;
 use crate::words::cut;
+use hlc_values::Exact;
 use std::alloc::Global;
-use std::io::Read;
+use std::io::{Read, Write};
 
 /// The most bytes that an input may have.
 pub const INPUT_LIMIT: usize = 16_777_216;
@@ -30,6 +37,24 @@ pub enum InputFault {
     TooLong,
 }
 
+impl Exact for InputFault {
+    ghost equal = { Prim.search (rules, common_steps) };
+
+    ghost copied = { Prim.search rules };
+}
+
+/// Prints the line of a fault.
+pub fn put_fault<W: Write>(writer: &mut Watched<W>, waiting: &mut Waiting, fault: InputFault)
+    ensures { Prints W.contents writer.old writer.new waiting.old waiting.new
+        (printed (fault_line fault)) }
+{
+    match fault {
+        InputFault::NoMemory => put(writer, waiting, b"refused 15\n"),
+        InputFault::ReadFault => put(writer, waiting, b"refused 18\n"),
+        InputFault::TooLong => put(writer, waiting, b"refused 20\n"),
+    }
+}
+
 /// Reads all that the reader has left. The fault is the one that is met first.
 pub fn read_input<R: Read>(alloc: Global, reader: &mut Watched<R>) -> Result<Vec<u8>, InputFault>
     requires { has_failed reader.old ≡ false }
@@ -37,17 +62,8 @@ pub fn read_input<R: Read>(alloc: Global, reader: &mut Watched<R>) -> Result<Vec
         × Consumes (R.remaining (inner_of reader.old)) (R.remaining (inner_of reader.new)) input.items
         × (vec_len input ≤ INPUT_LIMIT)) }
     ensures failed { (result ≡ Err InputFault.ReadFault) ↔ (has_failed reader.new ≡ true) }
-
-    // What was taken till then, by the fault.
-    ensures memory { result ≡ Err InputFault.NoMemory → (taken : List ℕ)
-        × Consumes (R.remaining (inner_of reader.old)) (R.remaining (inner_of reader.new)) taken
-        × (0 < length taken) × (length taken ≤ INPUT_LIMIT) }
-    ensures fault { result ≡ Err InputFault.ReadFault → (taken : List ℕ)
-        × Consumes (R.remaining (inner_of reader.old)) (R.remaining (inner_of reader.new)) taken
-        × (length taken ≤ INPUT_LIMIT) }
-    ensures long { result ≡ Err InputFault.TooLong → (taken : List ℕ)
-        × Consumes (R.remaining (inner_of reader.old)) (R.remaining (inner_of reader.new)) taken
-        × (INPUT_LIMIT < length taken) }
+    ensures err { IfErr result (λ fault.
+        IsNotHeld (R.remaining (inner_of reader.old)) (R.remaining (inner_of reader.new)) fault) }
 {
     let mut input = Vec::new(alloc);
     let mut block = [0u8; 32768];

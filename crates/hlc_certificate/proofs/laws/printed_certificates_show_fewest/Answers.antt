@@ -3,4 +3,4 @@ use Rattle.hlc_certificate.proofs.ReadBackLemmas.{printed_shows_fewest}
 use Rattle.hlc_certificate.proofs.laws.printed_certificates_show_fewest.Goals as goal
 
 pub returns : goal.returns
-returns c = printed_shows_fewest c.certificates_show_fewest.ensures c.certificates_show_cheapest.ensures
+returns c = printed_shows_fewest
