@@ -1,13 +1,19 @@
 -- What the program prints, of a store that stands for what took place.
-use Rattle.std.specs.Prelude.{ℕ, List, ◌++◌, codes, Option, Some, None}
+use Rattle.std.specs.Prelude.{◌≡◌, ℕ, List, ◌∷◌, ◌++◌, codes, Option, Some, None}
 use Rattle.hlc_clock.specs.Stamp.{stamp_text}
 use Rattle.hlc_text.specs.declared.watched.Watched.{Watched}
 use Rattle.hlc_text.specs.Text.{bytes_token, printed}
 use Rattle.hlc_text.specs.Printing.{Writes}
+use Rattle.hlc_node.specs.declared.row.Row.{Row}
 use Rattle.hlc_node.specs.Rows.{answer}
+use Rattle.hlc_witness.specs.declared.witness.Witness.{Witness}
+use Rattle.hlc_witness.specs.Changes.{AreChanges}
 use Rattle.hlc_witness.specs.Shown.{Least}
-use Rattle.hlc_core.specs.Past.{Step, writes}
-use Rattle.hlc_core.specs.Kept.{Kept, StandsFor}
+use Rattle.hlc_core.specs.Past.{Step, Vacuumed, floor, writes}
+use Rattle.hlc_core.specs.Kept.{Kept, StandsFor, nodes}
+use Rattle.hlc_core.specs.Stored.{AreVacuumPoints}
+use Rattle.hlc_core.specs.Calls.{AreRowsTo}
+use Rattle.hlc_certificate.specs.CertificateText.{certificate_text}
 use Rattle.hlc_certificate.specs.ReadBack.{IsAnsweredFewest}
 
 -- a value, or that there is none, behind a space
@@ -24,15 +30,29 @@ read_line key stamp value =
 abbrev pub told_read : List Step → List ℕ → ℕ → List ℕ
 told_read past key stamp = printed (read_line key stamp (answer (writes past) key stamp))
 
--- Of a store that stands for what took place, the city was read at two stamps; behind that stands a certificate, which
--- a check answers with this number of rows as the fewest.
+-- A text is the certificate of a vacuum after this past, which left these rows: it has the vacuum's points, the rows up
+-- to the floor in their order, and the changes of all accepted writes at the points.
+pub record Certifies (nodes : ℕ) (past : List Step) (left : List Row) (text : List ℕ) : Type 0 where
+  pub points : List ℕ
+  pub rows : List Row
+  pub changes : List Witness
+  pub are_points : AreVacuumPoints nodes past points
+  pub are_rows : AreRowsTo left (floor nodes past) rows
+  pub are_changes : AreChanges (writes past) points changes
+  pub spelled : text ≡ certificate_text points rows changes
+
+-- Of a store that stands for what took place, the city was read at two stamps; behind that stands the certificate of
+-- the vacuum that took place next, which a check answers with this number of rows as the fewest.
 pub record Tells {W : Type 0} (contents : W → Option (List ℕ)) (old new : Watched W) (shown : Least) : Type 0 where
   pub core : Kept
   pub past : List Step
   pub stands : StandsFor core past
+  pub vacuumed : Kept
+  pub stands_vacuumed : StandsFor vacuumed (Vacuumed ∷ past)
   pub early : ℕ
   pub late : ℕ
   pub certificate : List ℕ
   pub wrote : Writes contents old new
       ((told_read past (codes "city") early ++ told_read past (codes "city") late) ++ certificate)
+  pub certifies : Certifies (nodes core) past vacuumed.rows certificate
   pub answered : IsAnsweredFewest certificate shown.rows shown.cost

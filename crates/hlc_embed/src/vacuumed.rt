@@ -3,9 +3,10 @@ ghost use Rattle.std.specs.Prelude.{◌≡◌, ◌∷◌, ℕ, List, IfOk, IfErr
 ghost use Rattle.hlc_text.specs.Printing.{Prints};
 ghost use Rattle.hlc_witness.specs.Certificate.{IsCertificate};
 ghost use Rattle.hlc_core.specs.Past.{Step, Vacuumed};
-ghost use Rattle.hlc_core.specs.Kept.{StandsFor};
+ghost use Rattle.hlc_core.specs.Kept.{StandsFor, nodes};
 ghost use Rattle.hlc_certificate.specs.CertificateText.{certificate_text};
 ghost use Rattle.hlc_certificate.specs.ReadBack.{IsAnsweredFewest};
+ghost use Rattle.hlc_embed.specs.Told.{Certifies};
 
 use crate::stopped::Stopped;
 use hlc_certificate::{printed_certificates_show_fewest, put_certificate};
@@ -26,7 +27,9 @@ pub(crate) fn put_vacuum<W: Write>(
         → IfOk result (λ _. StandsFor core.new (Vacuumed ∷ past)) }
     ensures printed { IfOk result (λ shown. (text : List ℕ)
         × Prints W.contents writer.old writer.new waiting.old waiting.new text
-        × IsAnsweredFewest text shown.rows shown.cost) }
+        × IsAnsweredFewest text shown.rows shown.cost
+        × ((past : List Step) → StandsFor core.old past
+        → Certifies (nodes core.old) past core.new.rows text)) }
     ensures only { (past : List Step) → StandsFor core.old past
         → IfErr result (λ stopped. stopped ≡ Stopped.Refused CoreFault.NoMemory) }
 {

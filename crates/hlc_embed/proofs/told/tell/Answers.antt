@@ -14,10 +14,13 @@ returns g c =
       core = _;
       past = stands.0;
       stands = stands.1;
+      vacuumed = _;
+      stands_vacuumed = c.in_ok-shown.ensures.stands stands.0 stands.1;
       early = _;
       late = _;
       certificate = vacuumed.0;
       wrote = printed_finished c.new-waiting.ensures (printed_then (printed_then early.1 late.1) vacuumed.1)
           c.finish.ensures.written;
+      certifies = vacuumed.3 stands.0 stands.1;
       answered = vacuumed.2;
     }
