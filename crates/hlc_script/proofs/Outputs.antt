@@ -32,8 +32,9 @@ use Rattle.hlc_world.specs.Schedule.{item_at}
 use Rattle.hlc_world.specs.Store.{accepting, told, joined, core_past}
 use Rattle.hlc_world.specs.Due.{refusal_due, IsReceived, IsObserved, IsOwed, IsDueReply, IsGiven}
 use Rattle.hlc_script.specs.declared.run.RunEnd.{RunEnd}
-use Rattle.hlc_script.specs.declared.run.RunEnd.TheVariants.{Answered, BadLine, BadHeader, NotHeld, NoMemory}
-use Rattle.hlc_script.specs.declared.run.RunEnd.TheVariants.{ReadFault, TooLong, WriteFault}
+use Rattle.hlc_script.specs.declared.run.RunEnd.TheVariants.{Answered, BadLine, BadHeader, NoMemory, NotHeld}
+use Rattle.hlc_script.specs.declared.run.RunEnd.TheVariants.{WriteFault}
+use Rattle.hlc_text.specs.declared.input.InputFault.TheVariants.{NoMemory as not_enough, ReadFault, TooLong}
 use Rattle.hlc_script.specs.Line.{HasHeader, header_line}
 use Rattle.hlc_script.specs.Reply.{reply_lines, reply_text}
 use Rattle.hlc_script.specs.Run.{AnswersLine, Answers, AnswersScript}
@@ -313,8 +314,8 @@ header_not : (input output : List ℕ) (bad : Option ℕ) → AnswersScript inpu
 header_not input output bad (nodes, lines, replies, has, first, is, answers) none = none nodes lines has first
 
 pub one_output : ReportLaws → OneOutput
-one_output laws input output other NotHeld finish is also e f = inr (inl (short_alone output is.1))
-one_output laws input output other end NotHeld is also e f = inr (inr (short_alone other also.1))
+one_output laws input output other (NotHeld not_enough) finish is also e f = inr (inl (short_alone output is.1))
+one_output laws input output other end (NotHeld not_enough) is also e f = inr (inr (short_alone other also.1))
 one_output laws input output other NoMemory finish is also e f = inr (inl (short_alone output is.2))
 one_output laws input output other end NoMemory is also e f = inr (inr (short_alone other also.2))
 one_output laws input output other Answered Answered is also e f =
@@ -332,14 +333,14 @@ one_output laws input output other BadHeader Answered is also e f = absurd (head
 one_output laws input output other BadHeader (BadLine n) is also e f =
     absurd (header_not input other (Some n) also.1 is.1)
 one_output laws input output other BadHeader BadHeader is also e f = inl (is.2 ∙ sym also.2, refl)
-one_output laws input output other TooLong TooLong is also e f = inl (is.1 ∙ sym also.1, refl)
-one_output laws input output other TooLong Answered is also e f = absurd (omega (arith, is.0, also.0))
-one_output laws input output other TooLong (BadLine n) is also e f = absurd (omega (arith, is.0, also.0))
-one_output laws input output other TooLong BadHeader is also e f = absurd (omega (arith, is.0, also.0))
-one_output laws input output other Answered TooLong is also e f = absurd (omega (arith, is.0, also.0))
-one_output laws input output other (BadLine m) TooLong is also e f = absurd (omega (arith, is.0, also.0))
-one_output laws input output other BadHeader TooLong is also e f = absurd (omega (arith, is.0, also.0))
-one_output laws input output other ReadFault finish is also e f = absurd (e refl)
-one_output laws input output other end ReadFault is also e f = absurd (f refl)
+one_output laws input output other (NotHeld TooLong) (NotHeld TooLong) is also e f = inl (is.1 ∙ sym also.1, refl)
+one_output laws input output other (NotHeld TooLong) Answered is also e f = absurd (omega (arith, is.0, also.0))
+one_output laws input output other (NotHeld TooLong) (BadLine n) is also e f = absurd (omega (arith, is.0, also.0))
+one_output laws input output other (NotHeld TooLong) BadHeader is also e f = absurd (omega (arith, is.0, also.0))
+one_output laws input output other Answered (NotHeld TooLong) is also e f = absurd (omega (arith, is.0, also.0))
+one_output laws input output other (BadLine m) (NotHeld TooLong) is also e f = absurd (omega (arith, is.0, also.0))
+one_output laws input output other BadHeader (NotHeld TooLong) is also e f = absurd (omega (arith, is.0, also.0))
+one_output laws input output other (NotHeld ReadFault) finish is also e f = absurd (e refl)
+one_output laws input output other end (NotHeld ReadFault) is also e f = absurd (f refl)
 one_output laws input output other WriteFault finish is also e f = absurd is
 one_output laws input output other end WriteFault is also e f = absurd also

@@ -4,7 +4,8 @@ use Rattle.std.specs.List.{flat_map}
 use Rattle.hlc_text.specs.Text.{printed}
 use Rattle.hlc_world.specs.declared.event.Event.{Event}
 use Rattle.hlc_script.specs.declared.run.RunEnd.{RunEnd}
-use Rattle.hlc_script.specs.declared.run.RunEnd.TheVariants.{ReadFault}
+use Rattle.hlc_script.specs.declared.run.RunEnd.TheVariants.{NotHeld}
+use Rattle.hlc_text.specs.declared.input.InputFault.TheVariants.{ReadFault}
 use Rattle.hlc_script.specs.Line.{event_line, HasLine}
 use Rattle.hlc_script.specs.Run.{MayWrite}
 
@@ -22,5 +23,5 @@ TellsNoMemory output =
 -- memory
 abbrev pub OneOutput : Type 0
 OneOutput = (input output other : List ℕ) (end finish : RunEnd)
-    → MayWrite input output end → MayWrite input other finish → end ≢ ReadFault → finish ≢ ReadFault
+    → MayWrite input output end → MayWrite input other finish → end ≢ NotHeld ReadFault → finish ≢ NotHeld ReadFault
     → ((output ≡ other) × (end ≡ finish)) ⊎ (TellsNoMemory output ⊎ TellsNoMemory other)

@@ -7,15 +7,16 @@ use Rattle.hlc_text.specs.Watched.{inner_of, has_failed}
 use Rattle.hlc_text.specs.Printing.{Printed, Writes}
 use Rattle.hlc_text.specs.Text.{printed}
 use Rattle.hlc_text.specs.Lines.{lines_of, bad_line}
-use Rattle.hlc_text.specs.Input.{IsInput}
+use Rattle.hlc_text.specs.declared.input.InputFault.TheVariants.{ReadFault}
+use Rattle.hlc_text.specs.Input.{IsInput, MayFault, FaultTakes, fault_line}
 use Rattle.hlc_world.specs.declared.event.Event.{Event}
 use Rattle.hlc_world.specs.declared.reply.Reply.{Reply}
 use Rattle.hlc_world.specs.declared.reply.Reply.TheVariants.{Refused}
 use Rattle.hlc_world.specs.declared.refusal.Refusal.TheVariants.{NoMemory as no_memory}
 use Rattle.hlc_world.specs.Due.{IsGiven}
 use Rattle.hlc_script.specs.declared.run.RunEnd.{RunEnd}
-use Rattle.hlc_script.specs.declared.run.RunEnd.TheVariants.{Answered, BadLine, BadHeader, NotHeld, NoMemory}
-use Rattle.hlc_script.specs.declared.run.RunEnd.TheVariants.{ReadFault, TooLong, WriteFault}
+use Rattle.hlc_script.specs.declared.run.RunEnd.TheVariants.{Answered, BadLine, BadHeader, NoMemory, NotHeld}
+use Rattle.hlc_script.specs.declared.run.RunEnd.TheVariants.{WriteFault}
 use Rattle.hlc_script.specs.Line.{event_line, HasLine, BearsBytes, header_line, HasHeader}
 use Rattle.hlc_script.specs.Reply.{reply_text}
 
@@ -55,15 +56,12 @@ MayWrite input output BadHeader =
     (length input ≤ 16777216)
     × ((nodes : ℕ) (lines : List (List ℕ)) → HasHeader nodes → lines_of input ≢ header_line nodes ∷ lines)
     × (output ≡ printed (codes "refused 17"))
--- memory is asked for only where there is a byte to hold
-MayWrite input output NotHeld = (0 < length input) × (output ≡ printed (codes "refused 15"))
+MayWrite input output (NotHeld fault) = MayFault input fault × (output ≡ printed (fault_line fault))
 -- a world is made only behind a header
 MayWrite input output NoMemory =
     (length input ≤ 16777216)
     × ((nodes : ℕ) × (lines : List (List ℕ)) × HasHeader nodes × (lines_of input ≡ header_line nodes ∷ lines))
     × (output ≡ printed (codes "refused 15"))
-MayWrite input output ReadFault = output ≡ printed (codes "refused 18")
-MayWrite input output TooLong = (16777216 < length input) × (output ≡ printed (codes "refused 20"))
 -- a failed write is no end of what may be written: it cuts that off
 MayWrite input output WriteFault = ⊥
 
@@ -73,18 +71,12 @@ IsOfHeld Answered = ⊤
 IsOfHeld (BadLine number) = ⊤
 IsOfHeld BadHeader = ⊤
 IsOfHeld NoMemory = ⊤
-IsOfHeld NotHeld = ⊥
-IsOfHeld ReadFault = ⊥
-IsOfHeld TooLong = ⊥
+IsOfHeld (NotHeld fault) = ⊥
 IsOfHeld WriteFault = ⊥
 
--- What may have been taken from the reader when a run came to its end. Three ends are met in reading: bytes that
--- can't be held, a read that fails, and a byte past the limit. The first of them ends the reading.
--- Else the whole input was taken.
+-- What may have been taken from the reader when a run came to its end: the whole input, unless it was not held.
 abbrev pub MayTake : List ℕ → List ℕ → RunEnd → Type 0
-MayTake input taken NotHeld = (0 < length taken) × (length taken ≤ 16777216)
-MayTake input taken ReadFault = length taken ≤ 16777216
-MayTake input taken TooLong = 16777216 < length taken
+MayTake input taken (NotHeld fault) = FaultTakes taken fault
 MayTake input taken Answered = taken ≡ input
 MayTake input taken (BadLine number) = taken ≡ input
 MayTake input taken BadHeader = taken ≡ input
@@ -120,7 +112,7 @@ pub record RunsScript {R W : Type 0} (remaining : R → Option (List ℕ)) (cont
   pub may_write : MayWrite input output end
   -- the output was written, or a beginning of it where the writer failed
   pub wrote : Writes contents writer writer_after output
-  pub read_fault : (end ≡ ReadFault) ↔ (has_failed reader_after ≡ true)
+  pub read_fault : (end ≡ NotHeld ReadFault) ↔ (has_failed reader_after ≡ true)
   -- a failed write cuts the end off
   pub end_is : has_failed writer_after ≡ false → result ≡ end
   pub write_fault : (result ≡ WriteFault) ↔ (has_failed writer_after ≡ true)
@@ -130,8 +122,6 @@ abbrev pub status_of : RunEnd → ℕ
 status_of Answered = 0
 status_of (BadLine number) = 2
 status_of BadHeader = 2
-status_of NotHeld = 2
 status_of NoMemory = 2
-status_of ReadFault = 2
-status_of TooLong = 2
+status_of (NotHeld fault) = 2
 status_of WriteFault = 3

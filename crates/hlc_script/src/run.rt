@@ -15,7 +15,7 @@ ghost use Rattle.hlc_script.specs.Run.{Answers, AnswersLine, MayWrite, IsOfHeld,
 
 use crate::line::{Line, read_line};
 use crate::reply::put_reply;
-use hlc_text::input::{InputFault, first_line, read_input};
+use hlc_text::input::{InputFault, first_line, put_fault, read_input};
 use hlc_text::number;
 use hlc_text::print::{finish, put, put_named_number};
 use hlc_text::waiting::Waiting;
@@ -35,14 +35,10 @@ pub enum RunEnd {
     BadLine(u64),
     /// There is no first line, or it is not `nodes N` with N from 1 to 64.
     BadHeader,
-    /// The input could not be held.
-    NotHeld,
     /// The first line is a header, and the world could not be made.
     NoMemory,
-    /// A read failed.
-    ReadFault,
-    /// The input has more than 16,777,216 bytes.
-    TooLong,
+    /// The input could not be held.
+    NotHeld(InputFault),
     /// A write failed.
     WriteFault,
 }
@@ -99,21 +95,14 @@ fn read_and_answer<R: Read, W: Write>(
     requires { has_failed reader.old ≡ false }
     ensures written { ReadsScript R.remaining W.contents reader.old reader.new
         writer.old writer.new waiting.old.items waiting.new.items result }
-    ensures read_fault { (result ≡ RunEnd.ReadFault) ↔ (has_failed reader.new ≡ true) }
+    ensures read_fault { (result ≡ RunEnd.NotHeld InputFault.ReadFault)
+        ↔ (has_failed reader.new ≡ true) }
 {
     match read_input(alloc, reader) {
         Ok(input) => answer_input(alloc, input.as_slice(), writer, waiting),
-        Err(InputFault::NoMemory) => {
-            put(writer, waiting, b"refused 15\n");
-            RunEnd::NotHeld
-        }
-        Err(InputFault::ReadFault) => {
-            put(writer, waiting, b"refused 18\n");
-            RunEnd::ReadFault
-        }
-        Err(InputFault::TooLong) => {
-            put(writer, waiting, b"refused 20\n");
-            RunEnd::TooLong
+        Err(fault) => {
+            put_fault(writer, waiting, fault);
+            RunEnd::NotHeld(fault)
         }
     }
 }
@@ -137,7 +126,7 @@ pub fn answer_input<W: Write>(
         return RunEnd::BadHeader;
     };
     let Ok(mut world) = World::new(alloc, nodes) else {
-        put(writer, waiting, b"refused 15\n");
+        put_fault(writer, waiting, InputFault::NoMemory);
         return RunEnd::NoMemory;
     };
     put_header(writer, waiting, nodes);

@@ -1,6 +1,5 @@
--- An input that is held was taken whole. Of one that is not held, what was taken is a beginning; its length tells why.
-use Rattle.std.proofs.Common.{refl, arith}
-use Rattle.hlc_text.proofs.LineLemmas.{input_taken}
+-- An input that is held was taken whole; of one that is not held, the reading tells why.
+use Rattle.std.proofs.Common.{refl}
 use Rattle.hlc_script.proofs.Taken.{run_takes_all}
 use Rattle.hlc_script.proofs.run.read_and_answer.Goals as goal
 
@@ -19,44 +18,15 @@ returns-in-Ok-clause-written g c =
       prints = written.2;
     }
 
-pub returns-in-Err-NoMemory-clause-written : goal.returns-in-Err-NoMemory-clause-written
-returns-in-Err-NoMemory-clause-written g c =
-    let took = c.in-Err-NoMemory.ensures.memory (cc) in
-    let any = input_taken _ _ took.0 took.1 in record {
-      input = any.0;
-      taken = took.0;
+pub returns-in-Err-clause-written : goal.returns-in-Err-clause-written
+returns-in-Err-clause-written g c =
+    let not = c.in-Err.ensures.err in record {
+      input = not.input;
+      taken = not.taken;
       output = _;
-      is_input = any.1;
-      consumed = took.1;
-      may_take = (took.2, took.3);
-      may_write = (omega (arith, any.2, took.2), refl);
-      prints = c.put.ensures;
-    }
-
-pub returns-in-Err-ReadFault-clause-written : goal.returns-in-Err-ReadFault-clause-written
-returns-in-Err-ReadFault-clause-written g c =
-    let took = c.in-Err-ReadFault.ensures.fault (cc) in
-    let any = input_taken _ _ took.0 took.1 in record {
-      input = any.0;
-      taken = took.0;
-      output = _;
-      is_input = any.1;
-      consumed = took.1;
-      may_take = took.2;
-      may_write = refl;
-      prints = c.put-in-Err-ReadFault.ensures;
-    }
-
-pub returns-in-Err-TooLong-clause-written : goal.returns-in-Err-TooLong-clause-written
-returns-in-Err-TooLong-clause-written g c =
-    let took = c.in-Err-TooLong.ensures.long (cc) in
-    let any = input_taken _ _ took.0 took.1 in record {
-      input = any.0;
-      taken = took.0;
-      output = _;
-      is_input = any.1;
-      consumed = took.1;
-      may_take = took.2;
-      may_write = (omega (arith, any.2, took.2), refl);
-      prints = c.put-in-Err-TooLong.ensures;
+      is_input = not.is_input;
+      consumed = not.consumed;
+      may_take = not.may_take;
+      may_write = (not.may_fault, refl);
+      prints = c.put_fault.ensures;
     }
