@@ -8,7 +8,7 @@ use Rattle.hlc_text.proofs.PrintLemmas.{printed_then, printed_none}
 use Rattle.std.proofs.Common.{append-nil}
 use Rattle.hlc_text.specs.Text.{printed}
 use Rattle.hlc_text.specs.Lines.{lines_of, bad_line}
-use Rattle.hlc_world.specs.declared.event.Event.{Event}
+use Rattle.hlc_world.specs.Schedule.{Event}
 use Rattle.hlc_world.specs.declared.reply.Reply.{Reply}
 use Rattle.hlc_world.specs.State.{State, world_nodes, StandsFor}
 use Rattle.hlc_script.specs.Line.{event_line, HasLine, HasHeader, header_line}

@@ -9,7 +9,7 @@ use Rattle.hlc_clock.specs.Stamp.{stamp_text}
 use Rattle.hlc_text.specs.Text.{bytes_token, AreBytes}
 use Rattle.hlc_text.proofs.TokenLemmas.{number_is_word, stamp_is_word, bytes_are_word, split_words, no_stamp, one_stamp}
 use Rattle.hlc_text.proofs.SpellingLemmas.{one_token}
-use Rattle.hlc_world.specs.declared.event.Event.{Event}
+use Rattle.hlc_world.specs.Schedule.{Event}
 use Rattle.hlc_world.specs.declared.event.Event.TheVariants.{Write, Delete, Report, Send, Receive, Observe, Deliver}
 use Rattle.hlc_world.specs.declared.event.Event.TheVariants.{OpenAt, OpenFloor, Read, List as ListAll, Close, Floor}
 use Rattle.hlc_world.specs.declared.event.Event.TheVariants.{Vacuum, Rows}
@@ -202,7 +202,7 @@ one_delete node node2 reading reading2 key key2 has also e =
 
 one_report : (node node2 reading reading2 : ℕ) → HasLine (Report node reading) → HasLine (Report node2 reading2)
     → event_words (Report node reading) ≡ event_words (Report node2 reading2)
-    → Report node reading ≡ Report node2 reading2
+    → ◌≡◌ {A = Event} (Report node reading) (Report node2 reading2)
 one_report node node2 reading reading2 has also e =
     let e0 : decimal node ≡ decimal node2 = cc in
     let e1 : decimal reading ≡ decimal reading2 = cc in
@@ -210,7 +210,7 @@ one_report node node2 reading reading2 has also e =
     let s1 : reading ≡ reading2 = decimal_injective reading reading2 (omega arith) (omega arith) e1 in cc
 
 one_send : (node node2 reading reading2 : ℕ) → HasLine (Send node reading) → HasLine (Send node2 reading2)
-    → event_words (Send node reading) ≡ event_words (Send node2 reading2) → Send node reading ≡ Send node2 reading2
+    → event_words (Send node reading) ≡ event_words (Send node2 reading2) → ◌≡◌ {A = Event} (Send node reading) (Send node2 reading2)
 one_send node node2 reading reading2 has also e =
     let e0 : decimal node ≡ decimal node2 = cc in
     let e1 : decimal reading ≡ decimal reading2 = cc in
@@ -220,7 +220,7 @@ one_send node node2 reading reading2 has also e =
 one_receive : (node node2 reading reading2 message message2 : ℕ) → HasLine (Receive node reading message)
     → HasLine (Receive node2 reading2 message2)
     → event_words (Receive node reading message) ≡ event_words (Receive node2 reading2 message2)
-    → Receive node reading message ≡ Receive node2 reading2 message2
+    → ◌≡◌ {A = Event} (Receive node reading message) (Receive node2 reading2 message2)
 one_receive node node2 reading reading2 message message2 has also e =
     let e0 : decimal node ≡ decimal node2 = cc in
     let e1 : decimal reading ≡ decimal reading2 = cc in
@@ -231,7 +231,7 @@ one_receive node node2 reading reading2 message message2 has also e =
 
 one_deliver : (node node2 number number2 : ℕ) → HasLine (Deliver node number) → HasLine (Deliver node2 number2)
     → event_words (Deliver node number) ≡ event_words (Deliver node2 number2)
-    → Deliver node number ≡ Deliver node2 number2
+    → ◌≡◌ {A = Event} (Deliver node number) (Deliver node2 number2)
 one_deliver node node2 number number2 has also e =
     let e0 : decimal node ≡ decimal node2 = cc in
     let e1 : decimal number ≡ decimal number2 = cc in
@@ -249,7 +249,7 @@ one_read id id2 key key2 has also e =
 one_observe : (node node2 reading reading2 id id2 : ℕ) → HasLine (Observe node reading id)
     → HasLine (Observe node2 reading2 id2)
     → event_words (Observe node reading id) ≡ event_words (Observe node2 reading2 id2)
-    → Observe node reading id ≡ Observe node2 reading2 id2
+    → ◌≡◌ {A = Event} (Observe node reading id) (Observe node2 reading2 id2)
 one_observe node node2 reading reading2 id id2 has also e =
     let e0 : decimal node ≡ decimal node2 = cc in
     let e1 : decimal reading ≡ decimal reading2 = cc in

@@ -11,14 +11,12 @@ use Rattle.hlc_node.specs.declared.item.Item.{Item}
 use Rattle.hlc_node.specs.declared.item.Message.{Message}
 use Rattle.hlc_node.specs.declared.row.Row.{Row}
 use Rattle.hlc_core.specs.declared.listing.Pair.{Pair}
-use Rattle.hlc_vacuum.specs.declared.report.Report.{Report as AReport}
 use Rattle.hlc_core.specs.Past.{Step}
 use Rattle.hlc_core.specs.History.{IsAnswer}
 use Rattle.hlc_core.specs.Calls.{IsListed}
-use Rattle.hlc_core.specs.Stored.{IsReport, IsStoredCount}
 use Rattle.hlc_core.proofs.ListingLemmas.{one-listing}
+use Rattle.hlc_core.proofs.ReportLemmas.{there_is_one_report, there_is_one_count}
 use Rattle.hlc_node.specs.declared.node.NodeFault.{NodeFault}
-use Rattle.hlc_world.specs.declared.event.Event.{Event}
 use Rattle.hlc_world.specs.declared.event.Event.TheVariants.{Write, Delete, Report, Send, Receive, Observe, Deliver}
 use Rattle.hlc_world.specs.declared.event.Event.TheVariants.{OpenAt, OpenFloor, Read, List as ListAll, Close, Floor}
 use Rattle.hlc_world.specs.declared.event.Event.TheVariants.{Vacuum, Rows}
@@ -28,7 +26,7 @@ use Rattle.hlc_world.specs.declared.reply.Reply.TheVariants.{Answer, Listing, Cl
 use Rattle.hlc_world.specs.declared.reply.Reply.TheVariants.{Rows as RowsAre, Refused}
 use Rattle.hlc_world.specs.declared.refusal.Refusal.{Refusal}
 use Rattle.hlc_world.specs.declared.refusal.Refusal.TheVariants.{NoMemory as no_memory}
-use Rattle.hlc_world.specs.Schedule.{item_at}
+use Rattle.hlc_world.specs.Schedule.{Event, item_at}
 use Rattle.hlc_world.specs.Store.{accepting, told, joined, core_past}
 use Rattle.hlc_world.specs.Due.{refusal_due, IsReceived, IsObserved, IsOwed, IsDueReply, IsGiven}
 use Rattle.hlc_script.specs.declared.run.RunEnd.{RunEnd}
@@ -81,67 +79,60 @@ same_acceptance : (nodes node number : ℕ) (past : List Step) (o : Option Item)
 same_acceptance nodes node number past None stamp stamp2 due also = absurd due
 same_acceptance nodes node number past (Some item) stamp stamp2 due also = ap (λ x. x.stamp) (due ∙ sym also)
 
--- one report of a vacuum, and one number of stored rows, is due
-pub record ReportLaws : Type 0 where
-  pub report : (nodes : ℕ) (past : List Step) (report other : AReport) → IsReport nodes past report
-      → IsReport nodes past other → report ≡ other
-  pub count : (nodes : ℕ) (past : List Step) (count other : ℕ) → IsStoredCount nodes past count
-      → IsStoredCount nodes past other → count ≡ other
-
 -- what is due where nothing is refused is one reply
-due_once : ReportLaws → (nodes : ℕ) (schedule : List (Event × Reply)) (event : Event) (reply other : Reply)
+due_once : (nodes : ℕ) (schedule : List (Event × Reply)) (event : Event) (reply other : Reply)
     → IsDueReply nodes schedule event reply → IsDueReply nodes schedule event other → reply ≡ other
-due_once laws nodes schedule (Write node reading key value) (Stamped stamp number) (Stamped stamp2 number2) due also =
+due_once nodes schedule (Write node reading key value) (Stamped stamp number) (Stamped stamp2 number2) due also =
     issued_once _ _ stamp stamp2 number number2 due also
-due_once laws nodes schedule (Write node reading key value) (Stamped stamp number) other due also = absurd also
-due_once laws nodes schedule (Delete node reading key) (Stamped stamp number) (Stamped stamp2 number2) due also =
+due_once nodes schedule (Write node reading key value) (Stamped stamp number) other due also = absurd also
+due_once nodes schedule (Delete node reading key) (Stamped stamp number) (Stamped stamp2 number2) due also =
     issued_once _ _ stamp stamp2 number number2 due also
-due_once laws nodes schedule (Delete node reading key) (Stamped stamp number) other due also = absurd also
-due_once laws nodes schedule (Report node reading) (Stamped stamp number) (Stamped stamp2 number2) due also =
+due_once nodes schedule (Delete node reading key) (Stamped stamp number) other due also = absurd also
+due_once nodes schedule (Report node reading) (Stamped stamp number) (Stamped stamp2 number2) due also =
     issued_once _ _ stamp stamp2 number number2 due also
-due_once laws nodes schedule (Report node reading) (Stamped stamp number) other due also = absurd also
-due_once laws nodes schedule (Send node reading) (Sent stamp number) (Sent stamp2 number2) due also =
+due_once nodes schedule (Report node reading) (Stamped stamp number) other due also = absurd also
+due_once nodes schedule (Send node reading) (Sent stamp number) (Sent stamp2 number2) due also =
     let stamps : ◌≡◌ {A = Result ℕ ClockFault} (Ok stamp) (Ok stamp2) = sym due.0 ∙ also.0 in
     let s : stamp ≡ stamp2 = cc in
     let n : number ≡ number2 = due.1 ∙ sym also.1 in cc
-due_once laws nodes schedule (Send node reading) (Sent stamp number) other due also = absurd also
-due_once laws nodes schedule (Receive node reading message) (Received stamp) (Received stamp2) due also =
+due_once nodes schedule (Send node reading) (Sent stamp number) other due also = absurd also
+due_once nodes schedule (Receive node reading message) (Received stamp) (Received stamp2) due also =
     ap Received (same_receipt _ _ reading stamp stamp2 due also)
-due_once laws nodes schedule (Receive node reading message) (Received stamp) other due also = absurd also
-due_once laws nodes schedule (Deliver node number) (Accepted stamp) (Accepted stamp2) due also =
+due_once nodes schedule (Receive node reading message) (Received stamp) other due also = absurd also
+due_once nodes schedule (Deliver node number) (Accepted stamp) (Accepted stamp2) due also =
     ap Accepted
     (same_acceptance nodes node number (core_past schedule) (item_at node number schedule) stamp stamp2 due also)
-due_once laws nodes schedule (Deliver node number) (Accepted stamp) other due also = absurd also
-due_once laws nodes schedule (Observe node reading id) (Observed stamp) (Observed stamp2) due also =
+due_once nodes schedule (Deliver node number) (Accepted stamp) other due also = absurd also
+due_once nodes schedule (Observe node reading id) (Observed stamp) (Observed stamp2) due also =
     ap Observed (same_observation _ _ reading stamp stamp2 due also)
-due_once laws nodes schedule (Observe node reading id) (Observed stamp) other due also = absurd also
-due_once laws nodes schedule (OpenAt at) (Snapshot id stamp) (Snapshot id2 stamp2) due also =
+due_once nodes schedule (Observe node reading id) (Observed stamp) other due also = absurd also
+due_once nodes schedule (OpenAt at) (Snapshot id stamp) (Snapshot id2 stamp2) due also =
     let i : id ≡ id2 = due.0 ∙ sym also.0 in
     let s : stamp ≡ stamp2 = due.1 ∙ sym also.1 in cc
-due_once laws nodes schedule (OpenAt at) (Snapshot id stamp) other due also = absurd also
-due_once laws nodes schedule OpenFloor (Snapshot id stamp) (Snapshot id2 stamp2) due also =
+due_once nodes schedule (OpenAt at) (Snapshot id stamp) other due also = absurd also
+due_once nodes schedule OpenFloor (Snapshot id stamp) (Snapshot id2 stamp2) due also =
     let i : id ≡ id2 = due.0 ∙ sym also.0 in
     let s : stamp ≡ stamp2 = due.1 ∙ sym also.1 in cc
-due_once laws nodes schedule OpenFloor (Snapshot id stamp) other due also = absurd also
-due_once laws nodes schedule (Read id key) (Answer value) (Answer value2) due also =
+due_once nodes schedule OpenFloor (Snapshot id stamp) other due also = absurd also
+due_once nodes schedule (Read id key) (Answer value) (Answer value2) due also =
     ap Answer (same_answer _ _ value value2 due also)
-due_once laws nodes schedule (Read id key) (Answer value) other due also = absurd also
-due_once laws nodes schedule (ListAll id) (Listing pairs) (Listing pairs2) due also =
+due_once nodes schedule (Read id key) (Answer value) other due also = absurd also
+due_once nodes schedule (ListAll id) (Listing pairs) (Listing pairs2) due also =
     ap Listing (same_listing _ _ pairs pairs2 due also)
-due_once laws nodes schedule (ListAll id) (Listing pairs) other due also = absurd also
-due_once laws nodes schedule (Close id) (Closed stamp) (Closed stamp2) due also =
+due_once nodes schedule (ListAll id) (Listing pairs) other due also = absurd also
+due_once nodes schedule (Close id) (Closed stamp) (Closed stamp2) due also =
     let stamps : Some stamp ≡ Some stamp2 = sym due ∙ also in
     let s : stamp ≡ stamp2 = cc in cc
-due_once laws nodes schedule (Close id) (Closed stamp) other due also = absurd also
-due_once laws nodes schedule Floor (FloorIs stamp) (FloorIs stamp2) due also = ap FloorIs (due ∙ sym also)
-due_once laws nodes schedule Floor (FloorIs stamp) other due also = absurd also
-due_once laws nodes schedule Vacuum (Vacuumed report) (Vacuumed report2) due also =
-    ap Vacuumed (laws.report nodes (core_past schedule) report report2 due also)
-due_once laws nodes schedule Vacuum (Vacuumed report) other due also = absurd also
-due_once laws nodes schedule Rows (RowsAre count) (RowsAre count2) due also =
-    ap RowsAre (laws.count nodes (core_past schedule) count count2 due also)
-due_once laws nodes schedule Rows (RowsAre count) other due also = absurd also
-due_once laws nodes schedule _ _ _ due also = absurd due
+due_once nodes schedule (Close id) (Closed stamp) other due also = absurd also
+due_once nodes schedule Floor (FloorIs stamp) (FloorIs stamp2) due also = ap FloorIs (due ∙ sym also)
+due_once nodes schedule Floor (FloorIs stamp) other due also = absurd also
+due_once nodes schedule Vacuum (Vacuumed report) (Vacuumed report2) due also =
+    ap Vacuumed (there_is_one_report nodes (core_past schedule) report report2 due also)
+due_once nodes schedule Vacuum (Vacuumed report) other due also = absurd also
+due_once nodes schedule Rows (RowsAre count) (RowsAre count2) due also =
+    ap RowsAre (there_is_one_count nodes (core_past schedule) count count2 due also)
+due_once nodes schedule Rows (RowsAre count) other due also = absurd also
+due_once nodes schedule _ _ _ due also = absurd due
 
 -- a given reply is a refusal, which is due or a want of memory; or it is due where no refusal is
 abbrev GivenCases : ℕ → List (Event × Reply) → Event → Reply → Type 0
@@ -167,28 +158,28 @@ given_cases nodes schedule event (FloorIs stamp) given = inr given
 given_cases nodes schedule event (Vacuumed report) given = inr given
 given_cases nodes schedule event (RowsAre count) given = inr given
 
-once : ReportLaws → (nodes : ℕ) (schedule : List (Event × Reply)) (event : Event) (reply other : Reply)
+once : (nodes : ℕ) (schedule : List (Event × Reply)) (event : Event) (reply other : Reply)
     → GivenCases nodes schedule event reply → GivenCases nodes schedule event other → OneReply reply other
-once laws nodes schedule event reply other (inl (refusal, is, inr lost)) also = inr (inl (is ∙ ap Refused lost))
-once laws nodes schedule event reply other (inl (refusal, is, inl due)) (inl (refusal2, is2, inr lost)) =
+once nodes schedule event reply other (inl (refusal, is, inr lost)) also = inr (inl (is ∙ ap Refused lost))
+once nodes schedule event reply other (inl (refusal, is, inl due)) (inl (refusal2, is2, inr lost)) =
     inr (inr (is2 ∙ ap Refused lost))
-once laws nodes schedule event reply other (inl (refusal, is, inl due)) (inl (refusal2, is2, inl due2)) =
+once nodes schedule event reply other (inl (refusal, is, inl due)) (inl (refusal2, is2, inl due2)) =
     let both : Some refusal ≡ Some refusal2 = sym due ∙ due2 in
     let same : refusal ≡ refusal2 = cc in inl (is ∙ ap Refused same ∙ sym is2)
-once laws nodes schedule event reply other (inl (refusal, is, inl due)) (inr (none, reply_due)) =
+once nodes schedule event reply other (inl (refusal, is, inl due)) (inr (none, reply_due)) =
     absurd (let e : Some refusal ≡ None = sym due ∙ none in cc)
-once laws nodes schedule event reply other (inr (none, due)) (inl (refusal2, is2, inr lost)) =
+once nodes schedule event reply other (inr (none, due)) (inl (refusal2, is2, inr lost)) =
     inr (inr (is2 ∙ ap Refused lost))
-once laws nodes schedule event reply other (inr (none, due)) (inl (refusal2, is2, inl due2)) =
+once nodes schedule event reply other (inr (none, due)) (inl (refusal2, is2, inl due2)) =
     absurd (let e : Some refusal2 ≡ None = sym due2 ∙ none in cc)
-once laws nodes schedule event reply other (inr (none, due)) (inr (none2, due2)) =
-    inl (due_once laws nodes schedule event reply other due due2)
+once nodes schedule event reply other (inr (none, due)) (inr (none2, due2)) =
+    inl (due_once nodes schedule event reply other due due2)
 
 -- a world gives one reply, unless memory was wanting
-given_once : ReportLaws → (nodes : ℕ) (schedule : List (Event × Reply)) (event : Event) (reply other : Reply)
+given_once : (nodes : ℕ) (schedule : List (Event × Reply)) (event : Event) (reply other : Reply)
     → IsGiven nodes schedule event reply → IsGiven nodes schedule event other → OneReply reply other
-given_once laws nodes schedule event reply other given also =
-    once laws nodes schedule event reply other (given_cases nodes schedule event reply given)
+given_once nodes schedule event reply other given also =
+    once nodes schedule event reply other (given_cases nodes schedule event reply given)
     (given_cases nodes schedule event other also)
 
 abbrev Same : List ℕ → List ℕ → Option ℕ → Option ℕ → Type 0
@@ -225,19 +216,18 @@ same_behind_lines (line ∷ lines) rest more bad worse same =
     (same_behind line _ _ bad worse (same_behind_lines lines rest more bad worse same)))
 
 -- a good line, answered twice
-one_line : ReportLaws
-    → (nodes : ℕ) (schedule : List (Event × Reply)) (number : ℕ) (lines : List (List ℕ)) (bad worse : Option ℕ)
+one_line : (nodes : ℕ) (schedule : List (Event × Reply)) (number : ℕ) (lines : List (List ℕ)) (bad worse : Option ℕ)
     (e : Event) (r q : Reply) (s t : List (Event × Reply)) (rest more : List ℕ)
     → ((u : List (Event × Reply)) (o p : List ℕ) → Answers nodes u (number + 1) lines o bad
     → Answers nodes u (number + 1) lines p worse → Same o p bad worse) → AnswersLine nodes schedule e r s
     → AnswersLine nodes schedule e q t → Answers nodes s (number + 1) lines rest bad
     → Answers nodes t (number + 1) lines more worse → Same (reply_text r ++ rest) (reply_text q ++ more) bad worse
-one_line laws nodes schedule number lines bad worse e r q s t rest more onward (inr lost) other first second =
+one_line nodes schedule number lines bad worse e r q s t rest more onward (inr lost) other first second =
     inr (inl (tells r rest lost.1))
-one_line laws nodes schedule number lines bad worse e r q s t rest more onward (inl given) (inr lost) first second =
+one_line nodes schedule number lines bad worse e r q s t rest more onward (inl given) (inr lost) first second =
     inr (inr (tells q more lost.1))
-one_line laws nodes schedule number lines bad worse e r q s t rest more onward (inl given) (inl also) first second =
-    elim (given_once laws nodes schedule e r q given.0 also.0) [
+one_line nodes schedule number lines bad worse e r q s t rest more onward (inl given) (inl also) first second =
+    elim (given_once nodes schedule e r q given.0 also.0) [
       | inr (inl lost) ↦ inr (inl (tells r rest lost))
       | inr (inr lost) ↦ inr (inr (tells q more lost))
       | inl same ↦
@@ -252,34 +242,33 @@ one_line laws nodes schedule number lines bad worse e r q s t rest more onward (
     ]
 
 -- some lines, answered twice
-answered_once : ReportLaws
-    → (nodes : ℕ) (schedule : List (Event × Reply)) (number : ℕ) (lines : List (List ℕ)) (output other : List ℕ)
+answered_once : (nodes : ℕ) (schedule : List (Event × Reply)) (number : ℕ) (lines : List (List ℕ)) (output other : List ℕ)
     (bad worse : Option ℕ) → Answers nodes schedule number lines output bad
     → Answers nodes schedule number lines other worse → Same output other bad worse
-answered_once laws nodes schedule number [] output other bad worse (none, well) (none2, well2) =
+answered_once nodes schedule number [] output other bad worse (none, well) (none2, well2) =
     inl (none ∙ sym none2, well ∙ sym well2)
-answered_once laws nodes schedule number (line ∷ lines) output other bad worse
+answered_once nodes schedule number (line ∷ lines) output other bad worse
     (inl (e, r, s, rest, has, spelled, answers, is, first))
     (inl (f, q, t, more, also, spelled2, answers2, is2, second)) =
     let event : f ≡ e = one_event f e also has (sym spelled2 ∙ spelled) in
     let found : Same (reply_text r ++ rest) (reply_text q ++ more) bad worse =
-    one_line laws nodes schedule number lines bad worse e r q s t rest more
-    (λ u o p. answered_once laws nodes u (number + 1) lines o p bad worse)
+    one_line nodes schedule number lines bad worse e r q s t rest more
+    (λ u o p. answered_once nodes u (number + 1) lines o p bad worse)
     answers (subst (λ (x : Event). AnswersLine nodes schedule x q t) event answers2) first second in
     let G : List ℕ → Type 0 = λ (o : List ℕ). Same o other bad worse in
     let H : List ℕ → Type 0 = λ (o : List ℕ). Same (reply_text r ++ rest) o bad worse in
     subst G (sym is) (subst H (sym is2) found)
-answered_once laws nodes schedule number (line ∷ lines) output other bad worse
+answered_once nodes schedule number (line ∷ lines) output other bad worse
     (inl (e, r, s, rest, has, spelled, answers, is, first)) (inr (none, is2, well2)) = absurd (none e has spelled)
-answered_once laws nodes schedule number (line ∷ lines) output other bad worse (inr (none, is, well))
+answered_once nodes schedule number (line ∷ lines) output other bad worse (inr (none, is, well))
     (inl (f, q, t, more, also, spelled2, answers2, is2, second)) = absurd (none f also spelled2)
-answered_once laws nodes schedule number (line ∷ lines) output other bad worse (inr (none, is, well))
+answered_once nodes schedule number (line ∷ lines) output other bad worse (inr (none, is, well))
     (inr (none2, is2, well2)) = inl (is ∙ sym is2, well ∙ sym well2)
 
 -- a script, answered twice
-script_once : ReportLaws → (input output other : List ℕ) (bad worse : Option ℕ) → AnswersScript input output bad
+script_once : (input output other : List ℕ) (bad worse : Option ℕ) → AnswersScript input output bad
     → AnswersScript input other worse → Same output other bad worse
-script_once laws input output other bad worse (nodes, lines, replies, has, first, is, answers)
+script_once input output other bad worse (nodes, lines, replies, has, first, is, answers)
     (nodes2, lines2, replies2, has2, first2, is2, answers2) =
     let both : header_line nodes2 ∷ lines2 ≡ header_line nodes ∷ lines = sym first2 ∙ first in
     let header : header_line nodes2 ≡ header_line nodes = cc in
@@ -290,7 +279,7 @@ script_once laws input output other bad worse (nodes, lines, replies, has, first
     (subst (λ (ls : List (List ℕ)). Answers nodes2 [] 2 ls replies2 worse) same_lines answers2) in
     let found : Same (printed (header_line nodes) ++ replies) (printed (header_line nodes) ++ replies2) bad worse =
     same_behind (header_line nodes) replies replies2 bad worse
-    (answered_once laws nodes [] 2 lines replies replies2 bad worse answers answers3) in
+    (answered_once nodes [] 2 lines replies replies2 bad worse answers answers3) in
     let G : List ℕ → Type 0 = λ (o : List ℕ). Same o other bad worse in
     let H : List ℕ → Type 0 = λ (o : List ℕ). Same (printed (header_line nodes) ++ replies) o bad worse in
     subst G (sym is) (subst H (sym (is2 ∙ ap (λ (n : ℕ). printed (header_line n) ++ replies2) same)) found)
@@ -313,34 +302,34 @@ header_not : (input output : List ℕ) (bad : Option ℕ) → AnswersScript inpu
     → ((nodes : ℕ) (lines : List (List ℕ)) → HasHeader nodes → lines_of input ≢ header_line nodes ∷ lines) → ⊥
 header_not input output bad (nodes, lines, replies, has, first, is, answers) none = none nodes lines has first
 
-pub one_output : ReportLaws → OneOutput
-one_output laws input output other (NotHeld not_enough) finish is also e f = inr (inl (short_alone output is.1))
-one_output laws input output other end (NotHeld not_enough) is also e f = inr (inr (short_alone other also.1))
-one_output laws input output other NoMemory finish is also e f = inr (inl (short_alone output is.2))
-one_output laws input output other end NoMemory is also e f = inr (inr (short_alone other also.2))
-one_output laws input output other Answered Answered is also e f =
-    ended output other None None (script_once laws input output other None None is.1 also.1)
-one_output laws input output other Answered (BadLine n) is also e f =
-    ended output other None (Some n) (script_once laws input output other None (Some n) is.1 also.1)
-one_output laws input output other (BadLine m) Answered is also e f =
-    ended output other (Some m) None (script_once laws input output other (Some m) None is.1 also.1)
-one_output laws input output other (BadLine m) (BadLine n) is also e f =
-    ended output other (Some m) (Some n) (script_once laws input output other (Some m) (Some n) is.1 also.1)
-one_output laws input output other Answered BadHeader is also e f = absurd (header_not input output None is.1 also.1)
-one_output laws input output other (BadLine m) BadHeader is also e f =
+pub one_output : OneOutput
+one_output input output other (NotHeld not_enough) finish is also e f = inr (inl (short_alone output is.1))
+one_output input output other end (NotHeld not_enough) is also e f = inr (inr (short_alone other also.1))
+one_output input output other NoMemory finish is also e f = inr (inl (short_alone output is.2))
+one_output input output other end NoMemory is also e f = inr (inr (short_alone other also.2))
+one_output input output other Answered Answered is also e f =
+    ended output other None None (script_once input output other None None is.1 also.1)
+one_output input output other Answered (BadLine n) is also e f =
+    ended output other None (Some n) (script_once input output other None (Some n) is.1 also.1)
+one_output input output other (BadLine m) Answered is also e f =
+    ended output other (Some m) None (script_once input output other (Some m) None is.1 also.1)
+one_output input output other (BadLine m) (BadLine n) is also e f =
+    ended output other (Some m) (Some n) (script_once input output other (Some m) (Some n) is.1 also.1)
+one_output input output other Answered BadHeader is also e f = absurd (header_not input output None is.1 also.1)
+one_output input output other (BadLine m) BadHeader is also e f =
     absurd (header_not input output (Some m) is.1 also.1)
-one_output laws input output other BadHeader Answered is also e f = absurd (header_not input other None also.1 is.1)
-one_output laws input output other BadHeader (BadLine n) is also e f =
+one_output input output other BadHeader Answered is also e f = absurd (header_not input other None also.1 is.1)
+one_output input output other BadHeader (BadLine n) is also e f =
     absurd (header_not input other (Some n) also.1 is.1)
-one_output laws input output other BadHeader BadHeader is also e f = inl (is.2 ∙ sym also.2, refl)
-one_output laws input output other (NotHeld TooLong) (NotHeld TooLong) is also e f = inl (is.1 ∙ sym also.1, refl)
-one_output laws input output other (NotHeld TooLong) Answered is also e f = absurd (omega (arith, is.0, also.0))
-one_output laws input output other (NotHeld TooLong) (BadLine n) is also e f = absurd (omega (arith, is.0, also.0))
-one_output laws input output other (NotHeld TooLong) BadHeader is also e f = absurd (omega (arith, is.0, also.0))
-one_output laws input output other Answered (NotHeld TooLong) is also e f = absurd (omega (arith, is.0, also.0))
-one_output laws input output other (BadLine m) (NotHeld TooLong) is also e f = absurd (omega (arith, is.0, also.0))
-one_output laws input output other BadHeader (NotHeld TooLong) is also e f = absurd (omega (arith, is.0, also.0))
-one_output laws input output other (NotHeld ReadFault) finish is also e f = absurd (e refl)
-one_output laws input output other end (NotHeld ReadFault) is also e f = absurd (f refl)
-one_output laws input output other WriteFault finish is also e f = absurd is
-one_output laws input output other end WriteFault is also e f = absurd also
+one_output input output other BadHeader BadHeader is also e f = inl (is.2 ∙ sym also.2, refl)
+one_output input output other (NotHeld TooLong) (NotHeld TooLong) is also e f = inl (is.1 ∙ sym also.1, refl)
+one_output input output other (NotHeld TooLong) Answered is also e f = absurd (omega (arith, is.0, also.0))
+one_output input output other (NotHeld TooLong) (BadLine n) is also e f = absurd (omega (arith, is.0, also.0))
+one_output input output other (NotHeld TooLong) BadHeader is also e f = absurd (omega (arith, is.0, also.0))
+one_output input output other Answered (NotHeld TooLong) is also e f = absurd (omega (arith, is.0, also.0))
+one_output input output other (BadLine m) (NotHeld TooLong) is also e f = absurd (omega (arith, is.0, also.0))
+one_output input output other BadHeader (NotHeld TooLong) is also e f = absurd (omega (arith, is.0, also.0))
+one_output input output other (NotHeld ReadFault) finish is also e f = absurd (e refl)
+one_output input output other end (NotHeld ReadFault) is also e f = absurd (f refl)
+one_output input output other WriteFault finish is also e f = absurd is
+one_output input output other end WriteFault is also e f = absurd also

@@ -1,5 +1,4 @@
 pub mod Line
-pub mod Spelled
 pub mod Reply
 pub mod Run
 pub mod OneOutput

@@ -2,7 +2,7 @@
 use Rattle.std.specs.Prelude.{◌≡◌, ◌≢◌, ℕ, List, ◌++◌, ◌⊎◌, codes}
 use Rattle.std.specs.List.{flat_map}
 use Rattle.hlc_text.specs.Text.{printed}
-use Rattle.hlc_world.specs.declared.event.Event.{Event}
+use Rattle.hlc_world.specs.Schedule.{Event}
 use Rattle.hlc_script.specs.declared.run.RunEnd.{RunEnd}
 use Rattle.hlc_script.specs.declared.run.RunEnd.TheVariants.{NotHeld}
 use Rattle.hlc_text.specs.declared.input.InputFault.TheVariants.{ReadFault}

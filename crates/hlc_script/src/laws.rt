@@ -1,7 +1,5 @@
-//! What holds of every script. A law that calls another follows from it.
+//! What holds of every script.
 ghost use Rattle.hlc_script.specs.OneOutput.{OneEvent, OneOutput};
-
-use hlc_core::there_is_one_report;
 
 /// A line is the line of one event at most.
 pub fn one_event_for_a_line()
@@ -12,6 +10,4 @@ pub fn one_event_for_a_line()
 /// tells of want of memory and no read failed.
 pub fn one_output_for_an_input()
     ensures { OneOutput }
-{
-    there_is_one_report();
-}
+{}

@@ -7,6 +7,6 @@ mod reply;
 mod run;
 
 pub use laws::{one_event_for_a_line, one_output_for_an_input};
-pub use line::{Line, read_line};
+pub use line::{owned_event, read_line};
 pub use reply::{put_refusal, put_reply};
 pub use run::{RunEnd, answer_input, run_script};

@@ -1,147 +1,76 @@
 //! The lines of events, read without memory.
 ghost use Rattle.std.specs.Prelude.{◌≡◌, ◌<◌, ◌^◌, ◌∷◌, [], codes, decimal, IfOk, OnErr};
-ghost use Rattle.std.specs.Option.{option_map};
 ghost use Rattle.hlc_text.specs.Text.{Reads, bytes_token, AreBytes};
 ghost use Rattle.hlc_script.specs.Line.{event_words, event_line, HasLine, BearsBytes};
-ghost use Rattle.hlc_script.specs.Spelled.{event_of};
 
 use hlc_text::bytes::{Spelled, bytes};
 use hlc_text::number;
 use hlc_text::stamp::stamp;
 use hlc_text::words::Words;
-use hlc_world::{Bytes, Event, Stamp};
+use hlc_world::{Bytes, Event};
 use std::alloc::{AllocError, Global};
 
-/// The event that a line spells, with its bytes still as they are spelled.
-#[derive(Debug, Drop)]
-pub enum Line<'a> {
-    Write {
-        node: u16,
-        reading: u64,
-        key: Spelled<'a>,
-        value: Spelled<'a>,
-    },
-    Delete {
-        node: u16,
-        reading: u64,
-        key: Spelled<'a>,
-    },
-    Report {
-        node: u16,
-        reading: u64,
-    },
-    Send {
-        node: u16,
-        reading: u64,
-    },
-    Receive {
-        node: u16,
-        reading: u64,
-        message: u64,
-    },
-    Observe {
-        node: u16,
-        reading: u64,
-        id: u64,
-    },
-    Deliver {
-        node: u16,
-        number: u64,
-    },
-    OpenAt {
-        stamp: Stamp,
-    },
-    OpenFloor,
-    Read {
-        id: u64,
-        key: Spelled<'a>,
-    },
-    List {
-        id: u64,
-    },
-    Close {
-        id: u64,
-    },
-    Floor,
-    Vacuum,
-    Rows,
-}
-
-impl<'a> Line<'a> {
-    /// The event, whose key and value are in memory of their own. Other events take no memory.
-    pub fn to_event(&self, alloc: Global) -> Result<Event, AllocError>
-        ensures ok { IfOk result (λ event. event ≡ event_of self.now) }
-        ensures err { OnErr result (BearsBytes (event_of self.now)) }
-    {
-        match self {
-            Line::Write {
-                node,
-                reading,
-                key,
-                value,
-            } => Ok(Event::Write {
-                node: *node,
-                reading: *reading,
-                key: Bytes::from_vec(key.to_vec(alloc)?),
-                value: Bytes::from_vec(value.to_vec(alloc)?),
-            }),
-            Line::Delete { node, reading, key } => Ok(Event::Delete {
-                node: *node,
-                reading: *reading,
-                key: Bytes::from_vec(key.to_vec(alloc)?),
-            }),
-            Line::Report { node, reading } => Ok(Event::Report {
-                node: *node,
-                reading: *reading,
-            }),
-            Line::Send { node, reading } => Ok(Event::Send {
-                node: *node,
-                reading: *reading,
-            }),
-            Line::Receive {
-                node,
-                reading,
-                message,
-            } => Ok(Event::Receive {
-                node: *node,
-                reading: *reading,
-                message: *message,
-            }),
-            Line::Deliver { node, number } => Ok(Event::Deliver {
-                node: *node,
-                number: *number,
-            }),
-            Line::Observe { node, reading, id } => Ok(Event::Observe {
-                node: *node,
-                reading: *reading,
-                id: *id,
-            }),
-            Line::OpenAt { stamp } => Ok(Event::OpenAt { stamp: *stamp }),
-            Line::OpenFloor => Ok(Event::OpenFloor),
-            Line::List { id } => Ok(Event::List { id: *id }),
-            Line::Close { id } => Ok(Event::Close { id: *id }),
-            Line::Read { id, key } => Ok(Event::Read {
-                id: *id,
-                key: Bytes::from_vec(key.to_vec(alloc)?),
-            }),
-            Line::Floor => Ok(Event::Floor),
-            Line::Vacuum => Ok(Event::Vacuum),
-            Line::Rows => Ok(Event::Rows),
-        }
-    }
-}
-
-/// The event of a line, or none where no event has this line.
-pub fn read_line(line: &[u8]) -> Option<Line<'_>>
-    ensures { Reads event_line HasLine line.now (option_map event_of result) }
+/// The event of a line, with its bytes still as they are spelled, or none where no event has this
+/// line.
+pub fn read_line(line: &[u8]) -> Option<Event<Spelled<'_>>>
+    ensures { Reads event_line HasLine line.now result }
 {
     let mut words = Words::of(line);
-    line_of_words(&mut words)
+    event_of_words(&mut words)
+}
+
+/// The event with its key and its value in memory of their own. Other events take no memory.
+pub fn owned_event(alloc: Global, event: Event<Spelled<'_>>) -> Result<Event, AllocError>
+    ensures ok { IfOk result (λ owned. owned ≡ event.entry) }
+    ensures err { OnErr result (BearsBytes event.entry) }
+{
+    Ok(match event {
+        Event::Write {
+            node,
+            reading,
+            key,
+            value,
+        } => Event::Write {
+            node,
+            reading,
+            key: Bytes::from_vec(key.to_vec(alloc)?),
+            value: Bytes::from_vec(value.to_vec(alloc)?),
+        },
+        Event::Delete { node, reading, key } => Event::Delete {
+            node,
+            reading,
+            key: Bytes::from_vec(key.to_vec(alloc)?),
+        },
+        Event::Read { id, key } => Event::Read {
+            id,
+            key: Bytes::from_vec(key.to_vec(alloc)?),
+        },
+        Event::Report { node, reading } => Event::Report { node, reading },
+        Event::Send { node, reading } => Event::Send { node, reading },
+        Event::Receive {
+            node,
+            reading,
+            message,
+        } => Event::Receive {
+            node,
+            reading,
+            message,
+        },
+        Event::Observe { node, reading, id } => Event::Observe { node, reading, id },
+        Event::Deliver { node, number } => Event::Deliver { node, number },
+        Event::OpenAt { stamp } => Event::OpenAt { stamp },
+        Event::OpenFloor => Event::OpenFloor,
+        Event::List { id } => Event::List { id },
+        Event::Close { id } => Event::Close { id },
+        Event::Floor => Event::Floor,
+        Event::Vacuum => Event::Vacuum,
+        Event::Rows => Event::Rows,
+    })
 }
 
 /// The event of the words.
-fn line_of_words<'a>(words: &mut Words<'a>) -> Option<Line<'a>>
-    ensures { Reads event_words HasLine words.old (option_map event_of result) }
+fn event_of_words<'a>(words: &mut Words<'a>) -> Option<Event<Spelled<'a>>>
+    ensures { Reads event_words HasLine words.old result }
 {
     let verb = words.next()?;
     if verb == b"write".as_slice() {
@@ -190,11 +119,11 @@ fn line_of_words<'a>(words: &mut Words<'a>) -> Option<Line<'a>>
 }
 
 /// The event of the words behind `write`.
-fn write_line<'a>(words: &mut Words<'a>) -> Option<Line<'a>>
-    ensures { Reads event_words HasLine (codes "write" ∷ words.old) (option_map event_of result) }
+fn write_line<'a>(words: &mut Words<'a>) -> Option<Event<Spelled<'a>>>
+    ensures { Reads event_words HasLine (codes "write" ∷ words.old) result }
 {
     let (node, reading, key, value) = node_number_pair(words)?;
-    Some(Line::Write {
+    Some(Event::Write {
         node,
         reading,
         key,
@@ -203,35 +132,35 @@ fn write_line<'a>(words: &mut Words<'a>) -> Option<Line<'a>>
 }
 
 /// The event of the words behind `delete`.
-fn delete_line<'a>(words: &mut Words<'a>) -> Option<Line<'a>>
-    ensures { Reads event_words HasLine (codes "delete" ∷ words.old) (option_map event_of result) }
+fn delete_line<'a>(words: &mut Words<'a>) -> Option<Event<Spelled<'a>>>
+    ensures { Reads event_words HasLine (codes "delete" ∷ words.old) result }
 {
     let (node, reading, key) = node_number_key(words)?;
-    Some(Line::Delete { node, reading, key })
+    Some(Event::Delete { node, reading, key })
 }
 
 /// The event of the words behind `report`.
-fn report_line<'a>(words: &mut Words<'a>) -> Option<Line<'a>>
-    ensures { Reads event_words HasLine (codes "report" ∷ words.old) (option_map event_of result) }
+fn report_line<'a>(words: &mut Words<'a>) -> Option<Event<Spelled<'a>>>
+    ensures { Reads event_words HasLine (codes "report" ∷ words.old) result }
 {
     let (node, reading) = node_number(words)?;
-    Some(Line::Report { node, reading })
+    Some(Event::Report { node, reading })
 }
 
 /// The event of the words behind `send`.
-fn send_line<'a>(words: &mut Words<'a>) -> Option<Line<'a>>
-    ensures { Reads event_words HasLine (codes "send" ∷ words.old) (option_map event_of result) }
+fn send_line<'a>(words: &mut Words<'a>) -> Option<Event<Spelled<'a>>>
+    ensures { Reads event_words HasLine (codes "send" ∷ words.old) result }
 {
     let (node, reading) = node_number(words)?;
-    Some(Line::Send { node, reading })
+    Some(Event::Send { node, reading })
 }
 
 /// The event of the words behind `receive`.
-fn receive_line<'a>(words: &mut Words<'a>) -> Option<Line<'a>>
-    ensures { Reads event_words HasLine (codes "receive" ∷ words.old) (option_map event_of result) }
+fn receive_line<'a>(words: &mut Words<'a>) -> Option<Event<Spelled<'a>>>
+    ensures { Reads event_words HasLine (codes "receive" ∷ words.old) result }
 {
     let (node, reading, message) = node_two_numbers(words)?;
-    Some(Line::Receive {
+    Some(Event::Receive {
         node,
         reading,
         message,
@@ -239,85 +168,85 @@ fn receive_line<'a>(words: &mut Words<'a>) -> Option<Line<'a>>
 }
 
 /// The event of the words behind `observe`.
-fn observe_line<'a>(words: &mut Words<'a>) -> Option<Line<'a>>
-    ensures { Reads event_words HasLine (codes "observe" ∷ words.old) (option_map event_of result) }
+fn observe_line<'a>(words: &mut Words<'a>) -> Option<Event<Spelled<'a>>>
+    ensures { Reads event_words HasLine (codes "observe" ∷ words.old) result }
 {
     let (node, reading, id) = node_two_numbers(words)?;
-    Some(Line::Observe { node, reading, id })
+    Some(Event::Observe { node, reading, id })
 }
 
 /// The event of the words behind `deliver`.
-fn deliver_line<'a>(words: &mut Words<'a>) -> Option<Line<'a>>
-    ensures { Reads event_words HasLine (codes "deliver" ∷ words.old) (option_map event_of result) }
+fn deliver_line<'a>(words: &mut Words<'a>) -> Option<Event<Spelled<'a>>>
+    ensures { Reads event_words HasLine (codes "deliver" ∷ words.old) result }
 {
     let (node, number) = node_number(words)?;
-    Some(Line::Deliver { node, number })
+    Some(Event::Deliver { node, number })
 }
 
 /// The event of the words behind `open`.
-fn open_line<'a>(words: &mut Words<'a>) -> Option<Line<'a>>
-    ensures { Reads event_words HasLine (codes "open" ∷ words.old) (option_map event_of result) }
+fn open_line<'a>(words: &mut Words<'a>) -> Option<Event<Spelled<'a>>>
+    ensures { Reads event_words HasLine (codes "open" ∷ words.old) result }
 {
     let word = words.last()?;
     if word == b"floor".as_slice() {
-        return Some(Line::OpenFloor);
+        return Some(Event::OpenFloor);
     }
     let stamp = stamp(word)?;
-    Some(Line::OpenAt { stamp })
+    Some(Event::OpenAt { stamp })
 }
 
 /// The event of the words behind `read`.
-fn read_verb_line<'a>(words: &mut Words<'a>) -> Option<Line<'a>>
-    ensures { Reads event_words HasLine (codes "read" ∷ words.old) (option_map event_of result) }
+fn read_verb_line<'a>(words: &mut Words<'a>) -> Option<Event<Spelled<'a>>>
+    ensures { Reads event_words HasLine (codes "read" ∷ words.old) result }
 {
     let (id, key) = number_key(words)?;
-    Some(Line::Read { id, key })
+    Some(Event::Read { id, key })
 }
 
 /// The event of the words behind `list`.
-fn list_line<'a>(words: &mut Words<'a>) -> Option<Line<'a>>
-    ensures { Reads event_words HasLine (codes "list" ∷ words.old) (option_map event_of result) }
+fn list_line<'a>(words: &mut Words<'a>) -> Option<Event<Spelled<'a>>>
+    ensures { Reads event_words HasLine (codes "list" ∷ words.old) result }
 {
     let id = one_number(words)?;
-    Some(Line::List { id })
+    Some(Event::List { id })
 }
 
 /// The event of the words behind `close`.
-fn close_line<'a>(words: &mut Words<'a>) -> Option<Line<'a>>
-    ensures { Reads event_words HasLine (codes "close" ∷ words.old) (option_map event_of result) }
+fn close_line<'a>(words: &mut Words<'a>) -> Option<Event<Spelled<'a>>>
+    ensures { Reads event_words HasLine (codes "close" ∷ words.old) result }
 {
     let id = one_number(words)?;
-    Some(Line::Close { id })
+    Some(Event::Close { id })
 }
 
 /// The event of the words behind `floor`, where none stands.
-fn floor_line<'a>(words: &mut Words<'a>) -> Option<Line<'a>>
-    ensures { Reads event_words HasLine (codes "floor" ∷ words.old) (option_map event_of result) }
+fn floor_line<'a>(words: &mut Words<'a>) -> Option<Event<Spelled<'a>>>
+    ensures { Reads event_words HasLine (codes "floor" ∷ words.old) result }
 {
     if words.next().is_some() {
         return None;
     }
-    Some(Line::Floor)
+    Some(Event::Floor)
 }
 
 /// The event of the words behind `vacuum`, where none stands.
-fn vacuum_line<'a>(words: &mut Words<'a>) -> Option<Line<'a>>
-    ensures { Reads event_words HasLine (codes "vacuum" ∷ words.old) (option_map event_of result) }
+fn vacuum_line<'a>(words: &mut Words<'a>) -> Option<Event<Spelled<'a>>>
+    ensures { Reads event_words HasLine (codes "vacuum" ∷ words.old) result }
 {
     if words.next().is_some() {
         return None;
     }
-    Some(Line::Vacuum)
+    Some(Event::Vacuum)
 }
 
 /// The event of the words behind `rows`, where none stands.
-fn rows_line<'a>(words: &mut Words<'a>) -> Option<Line<'a>>
-    ensures { Reads event_words HasLine (codes "rows" ∷ words.old) (option_map event_of result) }
+fn rows_line<'a>(words: &mut Words<'a>) -> Option<Event<Spelled<'a>>>
+    ensures { Reads event_words HasLine (codes "rows" ∷ words.old) result }
 {
     if words.next().is_some() {
         return None;
     }
-    Some(Line::Rows)
+    Some(Event::Rows)
 }
 
 // The shapes of what stands behind a verb.

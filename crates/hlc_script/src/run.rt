@@ -6,15 +6,15 @@ ghost use Rattle.hlc_text.specs.Text.{Reads, printed};
 ghost use Rattle.hlc_text.specs.Lines.{lines_of, bad_line};
 ghost use Rattle.hlc_text.specs.Watched.{has_failed};
 ghost use Rattle.hlc_text.specs.Printing.{Prints};
-ghost use Rattle.hlc_world.specs.declared.event.Event.{Event as AnEvent};
+ghost use Rattle.hlc_world.specs.Schedule.{Event as AnEvent};
 ghost use Rattle.hlc_world.specs.declared.reply.Reply.{Reply as AReply};
 ghost use Rattle.hlc_world.specs.State.{StandsFor, world_nodes};
 ghost use Rattle.hlc_script.specs.Line.{header_line, header_words, HasHeader};
-ghost use Rattle.hlc_script.specs.Spelled.{event_of};
 ghost use Rattle.hlc_script.specs.Run.{Answers, AnswersLine, MayWrite, IsOfHeld, ReadsScript, RunsScript, status_of};
 
-use crate::line::{Line, read_line};
+use crate::line::{owned_event, read_line};
 use crate::reply::put_reply;
+use hlc_text::bytes::Spelled;
 use hlc_text::input::{InputFault, first_line, put_fault, read_input};
 use hlc_text::number;
 use hlc_text::print::{finish, put, put_named_number};
@@ -22,7 +22,7 @@ use hlc_text::waiting::Waiting;
 use hlc_text::watched::Watched;
 use hlc_text::words::Words;
 use hlc_values::Exact;
-use hlc_world::{Refusal, Reply, World};
+use hlc_world::{Event, Refusal, Reply, World};
 use std::alloc::Global;
 use std::io::{Read, Write};
 
@@ -199,11 +199,11 @@ fn answer_lines<W: Write>(
     let mut number = 2u64;
     while !rest.is_empty() {
         let (line, after) = first_line(rest);
-        let Some(line) = read_line(line) else {
+        let Some(event) = read_line(line) else {
             put_bad_line(writer, waiting, number);
             return Some(number);
         };
-        let reply = answer_line(alloc, world, &line);
+        let reply = answer_line(alloc, world, event);
         put_reply(writer, waiting, reply);
         rest = after;
         number += 1;
@@ -213,14 +213,14 @@ fn answer_lines<W: Write>(
 
 /// The answer to a good line: what the world replies to its event, or want of memory where there
 /// was none for the event's bytes.
-fn answer_line(alloc: Global, world: &mut World, line: &Line<'_>) -> Reply
+fn answer_line(alloc: Global, world: &mut World, event: Event<Spelled<'_>>) -> Reply
     ensures nodes { world_nodes world.new ≡ world_nodes world.old }
     ensures answers { (schedule : List (AnEvent × AReply)) → StandsFor world.old schedule
         → (after : List (AnEvent × AReply))
-        × AnswersLine (world_nodes world.old) schedule (event_of line.now) result after
+        × AnswersLine (world_nodes world.old) schedule event.entry result after
         × StandsFor world.new after }
 {
-    match line.to_event(alloc) {
+    match owned_event(alloc, event) {
         Ok(event) => world.step(event),
         Err(_) => Reply::Refused(Refusal::NoMemory),
     }

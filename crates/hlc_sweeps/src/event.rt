@@ -1,6 +1,6 @@
 //! Events of a world.
 use hlc_refused::subject::Subject;
-use hlc_script::read_line;
+use hlc_script::{owned_event, read_line};
 use hlc_world::{Event, Refusal, Reply, World};
 use std::alloc::{AllocError, Global};
 
@@ -73,12 +73,12 @@ impl Subject for Happening {
     type State = Vec<Reply>;
 
     fn new(alloc: Global, line: &[u8]) -> Result<Option<Happening>, AllocError> {
-        let Some(line) = read_line(line) else {
+        let Some(event) = read_line(line) else {
             return Ok(None);
         };
-        let event = line.to_event(alloc)?;
+        let event = owned_event(alloc, event)?;
         let requests = MADE + 1 + 2 * u64::from(requests_of(&event));
-        let events = vec![in alloc; line.to_event(alloc)?, event]?;
+        let events = vec![in alloc; event.clone()?, event]?;
         match world(alloc)? {
             None => Ok(None),
             Some(world) => Ok(Some(Happening {
@@ -127,8 +127,8 @@ fn world(alloc: Global) -> Result<Option<World>, AllocError> {
 fn replies(alloc: Global, world: &mut World, lines: &[&[u8]]) -> Result<Vec<Reply>, AllocError> {
     let mut replies = Vec::new(alloc);
     for line in lines {
-        if let Some(line) = read_line(*line) {
-            let reply = world.step(line.to_event(alloc)?);
+        if let Some(event) = read_line(*line) {
+            let reply = world.step(owned_event(alloc, event)?);
             replies.push(reply)?;
         }
     }

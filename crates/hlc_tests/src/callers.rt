@@ -7,7 +7,7 @@ ghost use Rattle.hlc_node.specs.Rows.{IsRowSet};
 ghost use Rattle.hlc_node.specs.declared.row.Row.{Row as ARow};
 ghost use Rattle.hlc_witness.specs.Fewest.{Alike};
 ghost use Rattle.hlc_snapshot.specs.Register.{stamp_in};
-ghost use Rattle.hlc_world.specs.declared.event.Event.{Event as AnEvent};
+ghost use Rattle.hlc_world.specs.Schedule.{Event as AnEvent};
 ghost use Rattle.hlc_world.specs.declared.reply.Reply.{Reply as AReply};
 ghost use Rattle.hlc_world.specs.State.{StandsFor};
 
@@ -78,7 +78,7 @@ pub fn open_twice(registry: &mut Registry, stamp: Stamp) -> Result<(u64, u64), S
 /// Delivers an item twice, and gives both replies.
 pub fn deliver_twice(world: &mut World, node: u16, number: u64) -> (Reply, Reply)
     ensures { (schedule : List (AnEvent × AReply)) → StandsFor world.old schedule → StandsFor world.new
-        ((AnEvent.Deliver node number, result.1) ∷ (AnEvent.Deliver node number, result.0) ∷ schedule) }
+        ((Event.Deliver node number, result.1) ∷ (Event.Deliver node number, result.0) ∷ schedule) }
 {
     let first = world.step(Event::Deliver { node, number });
     let second = world.step(Event::Deliver { node, number });

@@ -12,12 +12,11 @@ use Rattle.hlc_floor.specs.Heads.{Acceptance}
 use Rattle.hlc_core.specs.Past.{Took, count, head, of_body as body_fault, item_refusal}
 use Rattle.hlc_core.specs.Kept.{Kept, nodes, StandsFor as CoreStandsFor}
 use Rattle.hlc_core.specs.Calls.{IsRefusal, IsWrite}
-use Rattle.hlc_world.specs.declared.event.Event.{Event}
 use Rattle.hlc_world.specs.declared.event.Event.TheVariants.{Deliver}
 use Rattle.hlc_world.specs.declared.reply.Reply.{Reply}
 use Rattle.hlc_world.specs.declared.reply.Reply.TheVariants.{Accepted, Refused}
 use Rattle.hlc_world.specs.declared.refusal.Refusal.TheVariants.{NoMemory}
-use Rattle.hlc_world.specs.Schedule.{item_at}
+use Rattle.hlc_world.specs.Schedule.{Event, item_at}
 use Rattle.hlc_world.specs.Store.{accepting, joined, store_history, core_past}
 use Rattle.hlc_world.specs.Due.{of_core, core_refusal, on_node, deliver_refusal, refusal_due, number_refusal}
 use Rattle.hlc_world.specs.Due.{GoesByNumber}

@@ -10,7 +10,7 @@ use Rattle.hlc_core.specs.Kept.{nodes}
 use Rattle.hlc_core.specs.History.{IsLegalHistory, StandsForHistory}
 use Rattle.hlc_core.specs.Headline.{IsMoment as IsStoreMoment, IsFaithful as IsStoreFaithful}
 use Rattle.hlc_core.proofs.FaithfulLemmas.{histories_are_faithful}
-use Rattle.hlc_world.specs.declared.event.Event.{Event}
+use Rattle.hlc_world.specs.Schedule.{Event}
 use Rattle.hlc_world.specs.declared.reply.Reply.{Reply}
 use Rattle.hlc_world.specs.Store.{share, with_entry, store_history}
 use Rattle.hlc_world.specs.Due.{IsLegal}

@@ -11,13 +11,12 @@ use Rattle.hlc_node.specs.declared.item.Item.{Item}
 use Rattle.hlc_floor.specs.Heads.{Acceptance}
 use Rattle.hlc_core.specs.Past.{Step, Took, Opened, Closed as ClosedOf, Vacuumed as VacuumedOf, count, head, floor}
 use Rattle.hlc_core.proofs.PastLemmas.{least-le}
-use Rattle.hlc_world.specs.declared.event.Event.{Event}
 use Rattle.hlc_world.specs.declared.event.Event.TheVariants.{Write, Delete, Report, Deliver, OpenAt, OpenFloor, Read}
 use Rattle.hlc_world.specs.declared.event.Event.TheVariants.{List as ListAll, Close, Vacuum}
 use Rattle.hlc_world.specs.declared.reply.Reply.{Reply}
 use Rattle.hlc_world.specs.declared.reply.Reply.TheVariants.{Stamped, Accepted, Snapshot, Answer, Listing, Closed}
 use Rattle.hlc_world.specs.declared.reply.Reply.TheVariants.{Vacuumed}
-use Rattle.hlc_world.specs.Schedule.{with_item, issued}
+use Rattle.hlc_world.specs.Schedule.{Event, with_item, issued}
 use Rattle.hlc_world.specs.Store.{store_history, core_past}
 use Rattle.hlc_world.specs.Due.{IsGiven, IsLegal, deliver_refusal}
 use Rattle.hlc_world.specs.Floor.{IsComplete, IsBelowClocks}

@@ -12,12 +12,11 @@ use Rattle.hlc_core.specs.Past.{Step, floor, horizon, stamp_of, open_refusal, Is
 use Rattle.hlc_core.proofs.PastLemmas.{open-room, horizon-low}
 use Rattle.hlc_core.specs.Calls.{list_refusal}
 use Rattle.hlc_core.specs.History.{step_of, with_step, past_of, IsDue, IsLegalHistory}
-use Rattle.hlc_world.specs.declared.event.Event.{Event}
 use Rattle.hlc_world.specs.declared.event.Event.TheVariants.{Deliver, OpenAt, OpenFloor, Read, List as ListAll, Close}
 use Rattle.hlc_world.specs.declared.event.Event.TheVariants.{Vacuum}
 use Rattle.hlc_world.specs.declared.reply.Reply.{Reply}
 use Rattle.hlc_world.specs.declared.reply.Reply.TheVariants.{Accepted, Snapshot, Answer, Listing, Closed, Vacuumed}
-use Rattle.hlc_world.specs.Schedule.{item_at}
+use Rattle.hlc_world.specs.Schedule.{Event, item_at}
 use Rattle.hlc_world.specs.Store.{accepting, joined, with_entry, store_history, core_past}
 use Rattle.hlc_world.specs.Due.{deliver_refusal, IsOwed, IsGiven, IsLegal}
 use Rattle.hlc_world.proofs.Orderly.{no-core, on_node-none}

@@ -14,14 +14,13 @@ use Rattle.hlc_core.specs.declared.reply.CoreReply.{CoreReply}
 use Rattle.hlc_core.specs.Past.{Step, stamp_of}
 use Rattle.hlc_core.specs.History.{past_of}
 use Rattle.hlc_core.specs.Kept.{Kept, StandsFor as CoreStandsFor}
-use Rattle.hlc_world.specs.declared.event.Event.{Event}
 use Rattle.hlc_world.specs.declared.event.Event.TheVariants.{Write, Delete, Report, Send, Receive, Observe}
 use Rattle.hlc_world.specs.declared.reply.Reply.{Reply}
 use Rattle.hlc_world.specs.declared.reply.Reply.TheVariants.{Stamped, Sent, Received, Observed, Refused}
 use Rattle.hlc_world.specs.declared.refusal.Refusal.{Refusal}
 use Rattle.hlc_world.specs.declared.refusal.Refusal.TheVariants.{NoMemory}
 use Rattle.hlc_world.specs.Schedule.{an_item, item_made, message_made, stamping_of, with_item, stamp_or, with_message}
-use Rattle.hlc_world.specs.Schedule.{issued, last_stamp, sent, message_at, node_of}
+use Rattle.hlc_world.specs.Schedule.{Event, issued, last_stamp, sent, message_at, node_of}
 use Rattle.hlc_world.specs.Store.{asked, told, joined, with_entry, store_history, core_past}
 use Rattle.hlc_world.specs.Due.{of_clock, issue_refusal, stamp_refusal, receive_refusal, observe_refusal, on_node}
 use Rattle.hlc_world.specs.Due.{refusal_due, IsReceived, IsObserved, MayLackMemory, IsGiven, IsLegal}

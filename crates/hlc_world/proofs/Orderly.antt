@@ -27,7 +27,6 @@ use Rattle.hlc_core.specs.declared.reply.CoreReply.TheVariants.{Accepted as acce
 use Rattle.hlc_core.specs.Past.{Step, Took, count, head, item_refusal}
 use Rattle.hlc_core.proofs.PastLemmas.{inside, on_link, admissible}
 use Rattle.hlc_core.specs.History.{past_of}
-use Rattle.hlc_world.specs.declared.event.Event.{Event}
 use Rattle.hlc_world.specs.declared.event.Event.TheVariants.{Write, Delete, Report, Send, Receive, Observe, Deliver}
 use Rattle.hlc_world.specs.declared.event.Event.TheVariants.{OpenAt, OpenFloor, Read, List as ListAll, Close, Vacuum}
 use Rattle.hlc_world.specs.declared.reply.Reply.{Reply}
@@ -35,7 +34,7 @@ use Rattle.hlc_world.specs.declared.reply.Reply.TheVariants.{Stamped, Sent, Rece
 use Rattle.hlc_world.specs.declared.reply.Reply.TheVariants.{Answer, Listing, Closed, Vacuumed}
 use Rattle.hlc_world.specs.declared.refusal.Refusal.{Refusal}
 use Rattle.hlc_world.specs.declared.refusal.Refusal.TheVariants.{NoNode}
-use Rattle.hlc_world.specs.Schedule.{an_item, with_item, stamp_or, issued, last_stamp, node_of}
+use Rattle.hlc_world.specs.Schedule.{Event, an_item, with_item, stamp_or, issued, last_stamp, node_of}
 use Rattle.hlc_world.specs.Store.{accepting, joined, with_entry, store_history, core_past}
 use Rattle.hlc_world.specs.Due.{core_refusal, on_node, deliver_refusal, IsReceived, IsObserved, IsGiven, IsLegal}
 use Rattle.hlc_world.proofs.Lists.{some-injective, get-append_left, get-push}

@@ -19,7 +19,6 @@ use Rattle.hlc_core.specs.Past.{Step, count, floor, horizon, opened, stamp_of, o
 use Rattle.hlc_snapshot.specs.declared.fault.SnapshotFault.{SnapshotFault}
 use Rattle.hlc_snapshot.specs.declared.fault.SnapshotFault.TheVariants as snapshot_fault
 use Rattle.hlc_snapshot.specs.Register.{room_refusal as room_in}
-use Rattle.hlc_world.specs.declared.event.Event.{Event}
 use Rattle.hlc_world.specs.declared.event.Event.TheVariants.{Write, Delete, Report, Send, Receive, Observe, Deliver}
 use Rattle.hlc_world.specs.declared.event.Event.TheVariants.{OpenAt, OpenFloor, Read, List as ListAll, Close, Floor}
 use Rattle.hlc_world.specs.declared.event.Event.TheVariants.{Vacuum, Rows}
@@ -28,7 +27,7 @@ use Rattle.hlc_world.specs.declared.reply.Reply.TheVariants.{Refused}
 use Rattle.hlc_world.specs.declared.refusal.Refusal.{Refusal}
 use Rattle.hlc_world.specs.declared.refusal.Refusal.TheVariants.{NoNode, NotNext, StampNotRising, AboveFloor}
 use Rattle.hlc_world.specs.declared.refusal.Refusal.TheVariants.{BelowHorizon, NoMemory}
-use Rattle.hlc_world.specs.Schedule.{item_at, last_stamp, message_at, node_of}
+use Rattle.hlc_world.specs.Schedule.{Event, item_at, last_stamp, message_at, node_of}
 use Rattle.hlc_world.specs.Store.{core_past}
 use Rattle.hlc_world.specs.Due.{issue_refusal, stamp_refusal, receive_refusal, observe_refusal, core_refusal, on_node}
 use Rattle.hlc_world.specs.Due.{refusal_due, number_refusal, GoesByNumber, IsGiven, IsLegal}

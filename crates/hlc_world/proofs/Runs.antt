@@ -1,8 +1,7 @@
 -- One more event of a run comes after all that came before.
 use Rattle.std.proofs.Common.{◌≡◌, List, [], ◌∷◌, ◌++◌, length, refl, arith}
-use Rattle.hlc_world.specs.declared.event.Event.{Event}
 use Rattle.hlc_world.specs.declared.reply.Reply.{Reply}
-use Rattle.hlc_world.specs.Schedule.{after}
+use Rattle.hlc_world.specs.Schedule.{Event, after}
 
 pub after-push : (events : List Event) (replies : List Reply) (s : List (Event × Reply)) (event : Event) (reply : Reply)
     → length events ≡ length replies

@@ -6,12 +6,11 @@ use Rattle.std.specs.Prelude.{slice_get}
 use Rattle.std.proofs.lemmas.Option.{slice_get_within}
 use Rattle.hlc_node.specs.declared.item.Message.{Message}
 use Rattle.hlc_node.specs.declared.item.Body.TheVariants.{Write as a_write, Report as a_report}
-use Rattle.hlc_world.specs.declared.event.Event.{Event}
 use Rattle.hlc_world.specs.declared.event.Event.TheVariants.{Write, Delete, Report, Send, Receive, Observe}
 use Rattle.hlc_world.specs.declared.reply.Reply.{Reply}
 use Rattle.hlc_world.specs.declared.reply.Reply.TheVariants.{Stamped, Sent, Received, Observed}
 use Rattle.hlc_world.specs.Schedule.{stamping_of, stamp_or, message_made, with_message, last_stamp, sent, message_at}
-use Rattle.hlc_world.specs.Schedule.{node_of}
+use Rattle.hlc_world.specs.Schedule.{Event, node_of}
 use Rattle.hlc_world.specs.Due.{IsReceived, IsGiven, IsLegal}
 use Rattle.hlc_world.specs.Before.{entry_at, write_stamp, IsStamped, HappenedBefore, on_node, on_message}
 use Rattle.hlc_world.specs.Before.{on_observation, through}

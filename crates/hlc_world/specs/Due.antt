@@ -20,7 +20,6 @@ use Rattle.hlc_core.specs.declared.reply.CoreReply.{CoreReply}
 use Rattle.hlc_core.specs.Past.{Step, count, floor, stamp_of}
 use Rattle.hlc_core.specs.Stored.{IsStoredCount}
 use Rattle.hlc_core.specs.History.{refusal_due as refusal_owed, IsDueReply as IsOwedReply, MayLackMemory as CoreMayLack}
-use Rattle.hlc_world.specs.declared.event.Event.{Event}
 use Rattle.hlc_world.specs.declared.event.Event.TheVariants.{Write, Delete, Report, Send, Receive, Observe, Deliver}
 use Rattle.hlc_world.specs.declared.event.Event.TheVariants.{Floor, Rows}
 use Rattle.hlc_world.specs.declared.reply.Reply.{Reply}
@@ -31,7 +30,7 @@ use Rattle.hlc_world.specs.declared.refusal.Refusal.TheVariants.{NoNode, Reading
 use Rattle.hlc_world.specs.declared.refusal.Refusal.TheVariants.{NoItem, NotNext, StampNotRising, AboveFloor}
 use Rattle.hlc_world.specs.declared.refusal.Refusal.TheVariants.{BelowHorizon, NoSnapshot, TooManySnapshots, BadKey}
 use Rattle.hlc_world.specs.declared.refusal.Refusal.TheVariants.{ValueTooLong, NumbersSpent, NoMemory}
-use Rattle.hlc_world.specs.Schedule.{issued, item_at, last_stamp, sent, message_at, node_of}
+use Rattle.hlc_world.specs.Schedule.{Event, issued, item_at, last_stamp, sent, message_at, node_of}
 use Rattle.hlc_world.specs.Store.{asked, share, core_past}
 
 -- what no item may say, as a refusal

@@ -7,11 +7,10 @@ use Rattle.hlc_node.specs.declared.item.Message.{Message}
 use Rattle.hlc_node.specs.Node.{Node, issue_due, next_item, after_issue}
 use Rattle.hlc_core.specs.Kept.{Kept, StandsFor as CoreStandsFor}
 use Rattle.hlc_core.specs.Calls.{new_refusal}
-use Rattle.hlc_world.specs.declared.event.Event.{Event}
 use Rattle.hlc_world.specs.declared.reply.Reply.{Reply}
 use Rattle.hlc_world.specs.declared.refusal.Refusal.{Refusal}
 use Rattle.hlc_world.specs.declared.refusal.Refusal.TheVariants.{NoMemory}
-use Rattle.hlc_world.specs.Schedule.{issued, sent, node_of}
+use Rattle.hlc_world.specs.Schedule.{Event, issued, sent, node_of}
 use Rattle.hlc_world.specs.Store.{core_past}
 use Rattle.hlc_world.specs.Due.{issue_refusal, of_core, IsLegal}
 

@@ -7,12 +7,11 @@ use Rattle.hlc_core.specs.declared.reply.CoreReply.{CoreReply}
 use Rattle.hlc_core.specs.declared.reply.CoreReply.TheVariants as core_reply
 use Rattle.hlc_core.specs.Past.{Step}
 use Rattle.hlc_core.specs.History.{past_of}
-use Rattle.hlc_world.specs.declared.event.Event.{Event}
 use Rattle.hlc_world.specs.declared.event.Event.TheVariants.{Deliver, OpenAt, OpenFloor, Read, List as ListAll, Close}
 use Rattle.hlc_world.specs.declared.event.Event.TheVariants.{Vacuum}
 use Rattle.hlc_world.specs.declared.reply.Reply.{Reply}
 use Rattle.hlc_world.specs.declared.reply.Reply.TheVariants.{Accepted, Snapshot, Answer, Listing, Closed, Vacuumed}
-use Rattle.hlc_world.specs.Schedule.{item_at}
+use Rattle.hlc_world.specs.Schedule.{Event, item_at}
 
 -- an item that is found is to be accepted
 abbrev pub accepting : Option Item → Option CoreEvent

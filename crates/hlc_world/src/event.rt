@@ -6,21 +6,21 @@ use hlc_clock::Stamp;
 use hlc_node::Bytes;
 use hlc_values::Exact;
 
-/// What may happen in a world.
+/// What may happen in a world. Its keys and values are bytes, or what stands for bytes.
 #[derive(Clone, PartialEq, Eq, Debug, Drop)]
-pub enum Event {
+pub enum Event<B = Bytes> {
     /// A node writes a value to a key, at this reading of its physical clock.
     Write {
         node: u16,
         reading: u64,
-        key: Bytes,
-        value: Bytes,
+        key: B,
+        value: B,
     },
     /// A node deletes a key: its write is a deletion mark.
     Delete {
         node: u16,
         reading: u64,
-        key: Bytes,
+        key: B,
     },
     /// A node reports how far its stamps have come.
     Report {
@@ -59,7 +59,7 @@ pub enum Event {
     /// A key is read in an open snapshot.
     Read {
         id: u64,
-        key: Bytes,
+        key: B,
     },
     /// All keys with a value are read in an open snapshot.
     List {
@@ -77,7 +77,7 @@ pub enum Event {
     Rows,
 }
 
-impl Exact for Event {
+impl Exact for Event<Bytes> {
     ghost equal = { Prim.search (rules, common_steps) };
 
     ghost copied = { Prim.search rules };

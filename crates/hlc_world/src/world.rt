@@ -4,13 +4,12 @@ ghost use Rattle.std.specs.Prelude.{length};
 ghost use Rattle.hlc_core.specs.Past.{Step, Took, item_refusal};
 ghost use Rattle.hlc_core.specs.Kept.{nodes, StandsFor as CoreStandsFor};
 ghost use Rattle.hlc_core.specs.Calls.{IsRefusal, IsWrite};
-ghost use Rattle.hlc_world.specs.Schedule.{after};
+ghost use Rattle.hlc_world.specs.Schedule.{Event as AnEvent, after};
 ghost use Rattle.hlc_world.specs.Before.{HappenedBefore, IsStamped};
 ghost use Rattle.hlc_world.specs.Due.{IsGiven, IsRefused, GoesByNumber};
 ghost use Rattle.hlc_world.specs.Floor.{IsComplete, IsBelowClocks, IsClosed};
 ghost use Rattle.hlc_world.specs.Headline.{IsFaithful};
 ghost use Rattle.hlc_world.specs.State.{StandsFor, IsMatched, Makes, world_nodes, fresh};
-ghost use Rattle.hlc_world.specs.declared.event.Event.{Event as AnEvent};
 ghost use Rattle.hlc_world.specs.declared.reply.Reply.{Reply as AReply};
 
 use crate::event::Event;
@@ -165,7 +164,7 @@ impl World {
 
     fn write(&mut self, node: u16, reading: u64, key: Bytes, value: Bytes) -> Reply
         ensures stands { (schedule : List (AnEvent × AReply)) → StandsFor self.old schedule
-            → StandsFor self.new ((AnEvent.Write node reading key value, result) ∷ schedule) }
+            → StandsFor self.new ((Event.Write node reading key value, result) ∷ schedule) }
         ensures matched { IsMatched self.new }
         ensures unchanged { IsRefused result → self.new ≡ self.old }
         ensures nodes { world_nodes self.new ≡ world_nodes self.old }
@@ -182,7 +181,7 @@ impl World {
 
     fn delete(&mut self, node: u16, reading: u64, key: Bytes) -> Reply
         ensures stands { (schedule : List (AnEvent × AReply)) → StandsFor self.old schedule
-            → StandsFor self.new ((AnEvent.Delete node reading key, result) ∷ schedule) }
+            → StandsFor self.new ((Event.Delete node reading key, result) ∷ schedule) }
         ensures matched { IsMatched self.new }
         ensures unchanged { IsRefused result → self.new ≡ self.old }
         ensures nodes { world_nodes self.new ≡ world_nodes self.old }
@@ -199,7 +198,7 @@ impl World {
 
     fn report(&mut self, node: u16, reading: u64) -> Reply
         ensures stands { (schedule : List (AnEvent × AReply)) → StandsFor self.old schedule
-            → StandsFor self.new ((AnEvent.Report node reading, result) ∷ schedule) }
+            → StandsFor self.new ((Event.Report node reading, result) ∷ schedule) }
         ensures matched { IsMatched self.new }
         ensures unchanged { IsRefused result → self.new ≡ self.old }
         ensures nodes { world_nodes self.new ≡ world_nodes self.old }
@@ -216,7 +215,7 @@ impl World {
 
     fn send(&mut self, node: u16, reading: u64) -> Reply
         ensures stands { (schedule : List (AnEvent × AReply)) → StandsFor self.old schedule
-            → StandsFor self.new ((AnEvent.Send node reading, result) ∷ schedule) }
+            → StandsFor self.new ((Event.Send node reading, result) ∷ schedule) }
         ensures matched { IsMatched self.new }
         ensures unchanged { IsRefused result → self.new ≡ self.old }
         ensures nodes { world_nodes self.new ≡ world_nodes self.old }
@@ -242,7 +241,7 @@ impl World {
 
     fn receive(&mut self, node: u16, reading: u64, message: u64) -> Reply
         ensures stands { (schedule : List (AnEvent × AReply)) → StandsFor self.old schedule
-            → StandsFor self.new ((AnEvent.Receive node reading message, result) ∷ schedule) }
+            → StandsFor self.new ((Event.Receive node reading message, result) ∷ schedule) }
         ensures matched { IsMatched self.new }
         ensures unchanged { IsRefused result → self.new ≡ self.old }
         ensures nodes { world_nodes self.new ≡ world_nodes self.old }
@@ -266,7 +265,7 @@ impl World {
 
     fn observe(&mut self, node: u16, reading: u64, id: u64) -> Reply
         ensures stands { (schedule : List (AnEvent × AReply)) → StandsFor self.old schedule
-            → StandsFor self.new ((AnEvent.Observe node reading id, result) ∷ schedule) }
+            → StandsFor self.new ((Event.Observe node reading id, result) ∷ schedule) }
         ensures matched { IsMatched self.new }
         ensures unchanged { IsRefused result → self.new ≡ self.old }
         ensures nodes { world_nodes self.new ≡ world_nodes self.old }
@@ -290,7 +289,7 @@ impl World {
 
     fn deliver(&mut self, node: u16, number: u64) -> Reply
         ensures stands { (schedule : List (AnEvent × AReply)) → StandsFor self.old schedule
-            → StandsFor self.new ((AnEvent.Deliver node number, result) ∷ schedule) }
+            → StandsFor self.new ((Event.Deliver node number, result) ∷ schedule) }
         ensures matched { IsMatched self.new }
         ensures unchanged { IsRefused result → self.new ≡ self.old }
         ensures nodes { world_nodes self.new ≡ world_nodes self.old }
@@ -310,7 +309,7 @@ impl World {
 
     fn open_at(&mut self, stamp: Stamp) -> Reply
         ensures stands { (schedule : List (AnEvent × AReply)) → StandsFor self.old schedule
-            → StandsFor self.new ((AnEvent.OpenAt stamp, result) ∷ schedule) }
+            → StandsFor self.new ((Event.OpenAt stamp, result) ∷ schedule) }
         ensures matched { IsMatched self.new }
         ensures unchanged { IsRefused result → self.new ≡ self.old }
         ensures nodes { world_nodes self.new ≡ world_nodes self.old }
@@ -323,7 +322,7 @@ impl World {
 
     fn open_floor(&mut self) -> Reply
         ensures stands { (schedule : List (AnEvent × AReply)) → StandsFor self.old schedule
-            → StandsFor self.new ((AnEvent.OpenFloor, result) ∷ schedule) }
+            → StandsFor self.new ((Event.OpenFloor, result) ∷ schedule) }
         ensures matched { IsMatched self.new }
         ensures unchanged { IsRefused result → self.new ≡ self.old }
         ensures nodes { world_nodes self.new ≡ world_nodes self.old }
@@ -336,7 +335,7 @@ impl World {
 
     fn read(&mut self, id: u64, key: Bytes) -> Reply
         ensures stands { (schedule : List (AnEvent × AReply)) → StandsFor self.old schedule
-            → StandsFor self.new ((AnEvent.Read id key, result) ∷ schedule) }
+            → StandsFor self.new ((Event.Read id key, result) ∷ schedule) }
         ensures matched { IsMatched self.new }
         ensures unchanged { self.new ≡ self.old }
     {
@@ -354,7 +353,7 @@ impl World {
 
     fn list(&mut self, id: u64) -> Reply
         ensures stands { (schedule : List (AnEvent × AReply)) → StandsFor self.old schedule
-            → StandsFor self.new ((AnEvent.List id, result) ∷ schedule) }
+            → StandsFor self.new ((Event.List id, result) ∷ schedule) }
         ensures matched { IsMatched self.new }
         ensures unchanged { self.new ≡ self.old }
     {
@@ -366,7 +365,7 @@ impl World {
 
     fn close(&mut self, id: u64) -> Reply
         ensures stands { (schedule : List (AnEvent × AReply)) → StandsFor self.old schedule
-            → StandsFor self.new ((AnEvent.Close id, result) ∷ schedule) }
+            → StandsFor self.new ((Event.Close id, result) ∷ schedule) }
         ensures matched { IsMatched self.new }
         ensures unchanged { IsRefused result → self.new ≡ self.old }
         ensures nodes { world_nodes self.new ≡ world_nodes self.old }
@@ -379,7 +378,7 @@ impl World {
 
     fn floor(&mut self) -> Reply
         ensures stands { (schedule : List (AnEvent × AReply)) → StandsFor self.old schedule
-            → StandsFor self.new ((AnEvent.Floor, result) ∷ schedule) }
+            → StandsFor self.new ((Event.Floor, result) ∷ schedule) }
         ensures matched { IsMatched self.new }
         ensures unchanged { self.new ≡ self.old }
     {
@@ -390,7 +389,7 @@ impl World {
 
     fn vacuum(&mut self) -> Reply
         ensures stands { (schedule : List (AnEvent × AReply)) → StandsFor self.old schedule
-            → StandsFor self.new ((AnEvent.Vacuum, result) ∷ schedule) }
+            → StandsFor self.new ((Event.Vacuum, result) ∷ schedule) }
         ensures matched { IsMatched self.new }
         ensures unchanged { IsRefused result → self.new ≡ self.old }
         ensures nodes { world_nodes self.new ≡ world_nodes self.old }
@@ -403,7 +402,7 @@ impl World {
 
     fn rows(&mut self) -> Reply
         ensures stands { (schedule : List (AnEvent × AReply)) → StandsFor self.old schedule
-            → StandsFor self.new ((AnEvent.Rows, result) ∷ schedule) }
+            → StandsFor self.new ((Event.Rows, result) ∷ schedule) }
         ensures matched { IsMatched self.new }
         ensures unchanged { self.new ≡ self.old }
     {

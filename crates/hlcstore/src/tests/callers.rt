@@ -7,7 +7,7 @@ ghost use Rattle.hlc_certificate.specs.CertificateText.{certificate_text};
 ghost use Rattle.hlc_certificate.specs.ReadBack.{IsAnsweredFewest};
 ghost use Rattle.hlc_core.specs.Past.{Step};
 ghost use Rattle.hlc_core.specs.Kept.{StandsFor};
-ghost use Rattle.hlc_world.specs.declared.event.Event.{Event as AnEvent};
+ghost use Rattle.hlc_world.specs.Schedule.{Event as AnEvent};
 ghost use Rattle.hlc_script.specs.Line.{HasLine, event_line};
 
 use crate::tests::streams::Taking;

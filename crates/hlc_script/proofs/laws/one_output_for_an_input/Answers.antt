@@ -3,5 +3,4 @@ use Rattle.hlc_script.proofs.Outputs.{one_output}
 use Rattle.hlc_script.proofs.laws.one_output_for_an_input.Goals as goal
 
 pub returns : goal.returns
-returns c =
-    one_output (record { report = c.there_is_one_report.ensures.report; count = c.there_is_one_report.ensures.count })
+returns c = one_output

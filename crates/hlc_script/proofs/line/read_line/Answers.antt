@@ -1,12 +1,10 @@
 -- What is read from the words is read from the line.
-use Rattle.std.specs.Option.{option_map}
 use Rattle.hlc_script.specs.Line.{event_words, HasLine}
-use Rattle.hlc_script.specs.Spelled.{event_of}
 use Rattle.hlc_text.proofs.LineLemmas.{read_from_words}
 use Rattle.hlc_script.proofs.Lines.{words_of_line}
 use Rattle.hlc_script.proofs.line.read_line.Goals as goal
 
 pub returns : goal.returns
 returns c =
-    read_from_words event_words HasLine words_of_line c.args.line.now _ (option_map event_of c.line_of_words.result)
-    c.of-words.ensures c.line_of_words.ensures
+    read_from_words event_words HasLine words_of_line c.args.line.now _ _ c.of-words.ensures
+    c.event_of_words.ensures

@@ -2,7 +2,6 @@
 use Rattle.std.proofs.Common.{arith, ◌≡◌, length, ◌∙◌, refl}
 use Rattle.std.proofs.lemmas.Grind.{common_steps}
 use Rattle.hlc_script.proofs.Going.{going_first, going_more, going_bad, going_end}
-use Rattle.hlc_script.specs.Spelled.{event_of}
 use Rattle.hlc_script.proofs.run.answer_lines.Goals as goal
 
 pub loop-rest-init : goal.loop-rest-init
@@ -18,7 +17,7 @@ loop-rest-preserved g c = record {
   nodes = c.answer_line-reply.ensures.nodes ∙ c.loop-rest.invariant.nodes;
   bound = omega (arith, c.loop-rest.invariant.bound, c.first_line.ensures.shorter);
   going =
-      going_more _ _ _ _ _ c.first_line.result.1.now _ _ _ _ _ _ _ _ _ _ _ (event_of c.in-Some.line) _
+      going_more _ _ _ _ _ c.first_line.result.1.now _ _ _ _ _ _ _ _ _ _ _ _ _
       c.loop-rest.invariant.going c.first_line.ensures.line
       c.in-Some.ensures.0 c.in-Some.ensures.1 c.loop-rest.invariant.nodes c.answer_line-reply.ensures.answers
       c.put_reply.ensures;

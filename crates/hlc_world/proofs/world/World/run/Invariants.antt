@@ -1,8 +1,7 @@
 -- As many replies as events so far, and the world stands for the schedule with them, and is faithful to it.
 use Rattle.std.proofs.Common.{◌≡◌, List, ◌++◌, length, vec_capacity}
-use Rattle.hlc_world.specs.declared.event.Event.{Event}
 use Rattle.hlc_world.specs.declared.reply.Reply.{Reply}
-use Rattle.hlc_world.specs.Schedule.{after}
+use Rattle.hlc_world.specs.Schedule.{Event, after}
 use Rattle.hlc_world.specs.State.{StandsFor, world_nodes}
 use Rattle.hlc_world.specs.Headline.{IsFaithful}
 use Rattle.std.specs.Vec.Iter.{into_iter_items}
