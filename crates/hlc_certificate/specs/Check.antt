@@ -1,6 +1,7 @@
 -- What a check may answer for an input, and how it ends.
 use Rattle.std.specs.Prelude.{◌≡◌, ◌↔◌, ℕ, ◌<◌, ◌≤◌, List, [], ◌++◌, length, codes, decimal, Option, true, false, ⊤}
 use Rattle.std.specs.Io.KnownBytes.{Consumes}
+use Rattle.hlc_text.specs.declared.input.TheConstants.{INPUT_LIMIT}
 use Rattle.hlc_text.specs.declared.watched.Watched.{Watched}
 use Rattle.hlc_text.specs.Watched.{inner_of, has_failed}
 use Rattle.hlc_text.specs.Printing.{Writes}
@@ -48,10 +49,10 @@ pub record ShowsReason (lines : List (List ℕ)) (reason : AReason) : Type 0 whe
 -- what may be the end for an input: a bad line comes before all that the lines say, and also where there is no memory
 -- for that
 abbrev pub MayAnswer : List ℕ → CheckEnd → Type 0
-MayAnswer input (Fewest count bytes) = (length input ≤ 16777216) × ShowsFewest (lines_of input) count bytes
-MayAnswer input (NotShown reason) = (length input ≤ 16777216) × ShowsReason (lines_of input) reason
-MayAnswer input (BadLine number) = (length input ≤ 16777216) × IsFirstBad (lines_of input) number
-MayAnswer input NoMemory = (length input ≤ 16777216) × (0 < length (lines_of input)) × AreGood (lines_of input)
+MayAnswer input (Fewest count bytes) = (length input ≤ INPUT_LIMIT) × ShowsFewest (lines_of input) count bytes
+MayAnswer input (NotShown reason) = (length input ≤ INPUT_LIMIT) × ShowsReason (lines_of input) reason
+MayAnswer input (BadLine number) = (length input ≤ INPUT_LIMIT) × IsFirstBad (lines_of input) number
+MayAnswer input NoMemory = (length input ≤ INPUT_LIMIT) × (0 < length (lines_of input)) × AreGood (lines_of input)
 MayAnswer input (NotHeld fault) = MayFault input fault
 -- a failed write is no answer: it cuts that off
 MayAnswer input WriteFault = ⊥

@@ -1,6 +1,7 @@
 -- What is printed as a certificate is read back as it was, and answered.
 use Rattle.std.specs.Prelude.{◌≡◌, ◌≢◌, ◌≤◌, ◌⊎◌, ℕ, List, length}
 use Rattle.std.specs.List.{AllByRecursion}
+use Rattle.hlc_text.specs.declared.input.TheConstants.{INPUT_LIMIT}
 use Rattle.hlc_text.specs.Lines.{lines_of}
 use Rattle.hlc_node.specs.declared.row.Row.{Row as ARow}
 use Rattle.hlc_witness.specs.declared.witness.Witness.{Witness as AWitness}
@@ -24,7 +25,7 @@ PrintedIsRead = (points : List ℕ) (rows : List ARow) (witnesses : List AWitnes
 -- so much; or it tells of want of memory.
 abbrev pub IsAnsweredFewest : List ℕ → ℕ → ℕ → Type 0
 IsAnsweredFewest text count bytes =
-    length text ≤ 16777216 → (end : CheckEnd) → MayAnswer text end → end ≢ NotHeld ReadFault
+    length text ≤ INPUT_LIMIT → (end : CheckEnd) → MayAnswer text end → end ≢ NotHeld ReadFault
     → (end ≡ Fewest count bytes) ⊎ TellsNoMemory end
 
 -- where the witnesses show that the rows are the fewest, a check of what is printed answers how many they are, and what

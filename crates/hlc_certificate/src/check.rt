@@ -3,6 +3,7 @@ ghost use Rattle.std.specs.Prelude.{◌≡◌, ◌≤◌, ◌↔◌, ◌++◌, �
 ghost use Rattle.std.specs.Io.KnownBytes.{Consumes};
 ghost use Rattle.std.proofs.Common.{rules};
 ghost use Rattle.std.proofs.lemmas.Grind.{common_steps};
+ghost use Rattle.hlc_text.specs.declared.input.TheConstants.{INPUT_LIMIT};
 ghost use Rattle.hlc_text.specs.Watched.{inner_of, has_failed};
 ghost use Rattle.hlc_text.specs.Printing.{Prints};
 ghost use Rattle.hlc_text.specs.Text.{printed};
@@ -99,7 +100,7 @@ fn check_reader<R: Read>(alloc: Global, reader: &mut Watched<R>) -> CheckEnd
 /// Checks an input that is held, as `run_check` does once it has read one. The first bad line is
 /// looked for to the end, so want of memory before it never hides it.
 pub fn check_input(alloc: Global, input: &[u8]) -> CheckEnd
-    requires { length input.now ≤ 16777216 }
+    requires { length input.now ≤ INPUT_LIMIT }
     ensures held { IsOfHeld result }
     ensures answer { MayAnswer input.now result }
 {

@@ -2,6 +2,7 @@
 use Rattle.std.specs.Prelude.{◌≡◌, ◌≢◌, ◌↔◌, ℕ, ◌+◌, ◌<◌, ◌≤◌, ◌⊎◌, List, [], ◌∷◌, ◌++◌, length, codes, Option, Some}
 use Rattle.std.specs.Prelude.{None, true, false, ⊤}
 use Rattle.std.specs.Io.KnownBytes.{Consumes}
+use Rattle.hlc_text.specs.declared.input.TheConstants.{INPUT_LIMIT}
 use Rattle.hlc_text.specs.declared.watched.Watched.{Watched}
 use Rattle.hlc_text.specs.Watched.{inner_of, has_failed}
 use Rattle.hlc_text.specs.Printing.{Printed, Writes}
@@ -50,16 +51,16 @@ AnswersScript input output bad =
 
 -- what may be written for an input, by how the run ends
 abbrev pub MayWrite : List ℕ → List ℕ → RunEnd → Type 0
-MayWrite input output Answered = (length input ≤ 16777216) × AnswersScript input output None
-MayWrite input output (BadLine number) = (length input ≤ 16777216) × AnswersScript input output (Some number)
+MayWrite input output Answered = (length input ≤ INPUT_LIMIT) × AnswersScript input output None
+MayWrite input output (BadLine number) = (length input ≤ INPUT_LIMIT) × AnswersScript input output (Some number)
 MayWrite input output BadHeader =
-    (length input ≤ 16777216)
+    (length input ≤ INPUT_LIMIT)
     × ((nodes : ℕ) (lines : List (List ℕ)) → HasHeader nodes → lines_of input ≢ header_line nodes ∷ lines)
     × (output ≡ printed (codes "refused 17"))
 MayWrite input output (NotHeld fault) = MayFault input fault × (output ≡ printed (fault_line fault))
 -- a world is made only behind a header
 MayWrite input output NoMemory =
-    (length input ≤ 16777216)
+    (length input ≤ INPUT_LIMIT)
     × ((nodes : ℕ) × (lines : List (List ℕ)) × HasHeader nodes × (lines_of input ≡ header_line nodes ∷ lines))
     × (output ≡ printed (codes "refused 15"))
 -- a failed write is no end of what may be written: it cuts that off

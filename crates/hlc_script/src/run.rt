@@ -2,6 +2,7 @@
 ghost use Rattle.std.specs.Prelude.{◌≡◌, ◌≢◌, ◌≤◌, ◌↔◌, ◌∷◌, [], ℕ, List, MatchOption, false, true, length};
 ghost use Rattle.std.proofs.Common.{rules};
 ghost use Rattle.std.proofs.lemmas.Grind.{common_steps};
+ghost use Rattle.hlc_text.specs.declared.input.TheConstants.{INPUT_LIMIT};
 ghost use Rattle.hlc_text.specs.Text.{Reads, printed};
 ghost use Rattle.hlc_text.specs.Lines.{lines_of, bad_line};
 ghost use Rattle.hlc_text.specs.Watched.{has_failed};
@@ -116,7 +117,7 @@ pub fn answer_input<W: Write>(
     writer: &mut Watched<W>,
     waiting: &mut Waiting,
 ) -> RunEnd
-    requires { length input.now ≤ 16777216 }
+    requires { length input.now ≤ INPUT_LIMIT }
     ensures held { IsOfHeld result }
     ensures written { (output : List ℕ) × MayWrite input.now output result
         × Prints W.contents writer.old writer.new waiting.old waiting.new output }
@@ -189,7 +190,7 @@ fn answer_lines<W: Write>(
     writer: &mut Watched<W>,
     waiting: &mut Waiting,
 ) -> Option<u64>
-    requires fits { length text.now ≤ 16777216 }
+    requires fits { length text.now ≤ INPUT_LIMIT }
     requires fresh { StandsFor world.old [] }
     ensures { (output : List ℕ)
         × Answers (world_nodes world.old) [] 2 (lines_of text.now) output result
