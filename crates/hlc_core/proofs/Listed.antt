@@ -12,8 +12,7 @@ use Rattle.std.proofs.lemmas.Slice.Eq.{bytes_eq-Decides}
 use Rattle.hlc_node.specs.declared.row.Row.{Row}
 use Rattle.hlc_node.specs.Rows.{is_candidate, is_before, later, newest, answer}
 use Rattle.hlc_core.specs.declared.listing.Pair.{Pair}
-use Rattle.hlc_core.specs.Listing.{pair_of, pairs_of}
-use Rattle.hlc_core.specs.Calls.{IsListing}
+use Rattle.hlc_core.specs.Listing.{IsListing, pair_of, pairs_of}
 use Rattle.hlc_core.proofs.PastLemmas.{none-contained, contained-first, contained-rest, contained-cases}
 
 abbrev key_cmp : List ℕ → List ℕ → Ordering

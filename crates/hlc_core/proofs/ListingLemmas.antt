@@ -8,7 +8,7 @@ use Rattle.std.specs.Cmp.Lexicographic.{slice_cmp}
 use Rattle.std.proofs.lemmas.Cmp.{nat_list_cmp_total, tied_itself}
 use Rattle.hlc_node.specs.declared.row.Row.{Row}
 use Rattle.hlc_core.specs.declared.listing.Pair.{Pair}
-use Rattle.hlc_core.specs.Calls.{IsListing}
+use Rattle.hlc_core.specs.Listing.{IsListing}
 use Rattle.hlc_core.proofs.PastLemmas.{none-contained, contained-first, contained-rest, contained-cases}
 
 -- the one key is before the other

@@ -16,13 +16,14 @@ use Rattle.hlc_node.specs.declared.item.Body.TheVariants.{Write, Report}
 use Rattle.hlc_node.specs.Rows.{answer, IsRowSet}
 use Rattle.hlc_link.specs.Progress.{Progress}
 use Rattle.hlc_floor.specs.Heads.{IsFloor}
+use Rattle.hlc_floor.specs.declared.heads.TheConstants.{MOST_NODES}
 use Rattle.hlc_core.specs.declared.fault.CoreFault.{CoreFault}
 use Rattle.hlc_core.specs.declared.fault.CoreFault.TheVariants.{NoNode}
 use Rattle.hlc_core.specs.Past.{Step, Took, Opened, Closed, count, head, floor, horizon, opened, writes, body_rows}
 use Rattle.hlc_core.specs.Past.{item_rows, open_snapshots, link_refusal, item_refusal, of_registry, of_room}
 use Rattle.hlc_core.specs.Past.{room_refusal, open_refusal, stamp_of, IsLegal}
 use Rattle.hlc_core.specs.Stored.{IsStoredCount}
-use Rattle.hlc_core.specs.Kept.{Kept, nodes, IsMatched, StandsFor}
+use Rattle.hlc_core.specs.Kept.{Kept, nodes, HaveHeads, StandsFor}
 use Rattle.hlc_snapshot.specs.declared.fault.SnapshotFault.{SnapshotFault}
 use Rattle.hlc_snapshot.specs.declared.snapshot.Snapshot.{Snapshot}
 use Rattle.hlc_vacuum.specs.Standing.{RowsStandFor, count_above}
@@ -33,7 +34,8 @@ use Rattle.hlc_core.specs.declared.listing.Pair.{Pair}
 use Rattle.hlc_core.proofs.Mapped.{in_map}
 use Rattle.hlc_snapshot.specs.Register.{Register, closed, stamps, stamp_in, without, room_refusal as room_in}
 use Rattle.hlc_snapshot.specs.Register.{IsRefusal as IsRoomRefusal}
-use Rattle.hlc_core.specs.Calls.{new_refusal, IsRefusal, IsListing, Closes}
+use Rattle.hlc_core.specs.Calls.{new_refusal, IsRefusal, Closes}
+use Rattle.hlc_core.specs.Listing.{IsListing}
 use Rattle.hlc_core.proofs.PastLemmas.{admissible, on_link, inside, least-some, least-le, above-horizon, open-above}
 use Rattle.hlc_core.proofs.PastLemmas.{writes-row_set, contained-cases, contained-first, contained-rest}
 
@@ -112,23 +114,23 @@ fault-due kept past item fault h looked =
     ]
 
 -- the heads rise with the link
-pub matched : (links : List Progress) (heads : List ℕ) (n : ℕ) (link : Progress) → IsMatched links heads
-    → IsMatched (slice_set links n link) (slice_set heads n link.head)
-matched links heads n link h =
+pub heads-set : (links : List Progress) (heads : List ℕ) (n : ℕ) (link : Progress) → HaveHeads links heads
+    → HaveHeads (slice_set links n link) (slice_set heads n link.head)
+heads-set links heads n link h =
     let l : length (slice_set links n link) ≡ length links = length-set links n link in
     let some : 0 < length links = h.some in
-    let few : length links ≤ 64 = h.few in
+    let few : length links ≤ MOST_NODES = h.few in
     record {
       some = omega arith;
       few = omega arith;
       same = ap (λ xs. slice_set xs n link.head) h.same ∙ sym (map-set (λ link. link.head) links n link);
     }
 
-pub heads-length : (links : List Progress) (heads : List ℕ) → IsMatched links heads → length heads ≡ length links
+pub heads-length : (links : List Progress) (heads : List ℕ) → HaveHeads links heads → length heads ≡ length links
 heads-length links heads h = ap length h.same ∙ length-map links (λ link. link.head)
 
 -- a head is its link's
-pub head-of : (links : List Progress) (heads : List ℕ) (n : ℕ) → IsMatched links heads → n < length links
+pub head-of : (links : List Progress) (heads : List ℕ) (n : ℕ) → HaveHeads links heads → n < length links
     → get_or heads n 0 ≡ (get_or links n (a_link 0 0)).head
 head-of links heads n h within = ap (λ xs. get_or xs n 0) h.same
     ∙ get_or-map (λ link. link.head) links n (a_link 0 0) 0 within
@@ -157,8 +159,8 @@ links-took links past item number next within h n lt =
           ∙ ap (λ k. Some (a_link (count n past) k)) (cond-false (item.node == n) item.stamp (head n past) miss))
     ]
 
-abbrev pub with_item : Kept → Item → Kept
-with_item kept item = record {
+abbrev pub after_item : Kept → Item → Kept
+after_item kept item = record {
   links = slice_set kept.links item.node (a_link (item.number + 1) item.stamp);
   snapshots = kept.snapshots;
   opened = kept.opened;
@@ -185,12 +187,12 @@ count-body stored all horizon changes node stamp (Write key value) is up =
 
 -- an item that nothing refuses is taken
 pub took : (kept : Kept) (past : List Step) (item : Item) → StandsFor kept past
-    → item_refusal (nodes kept) past item ≡ None → StandsFor (with_item kept item) (Took item ∷ past)
+    → item_refusal (nodes kept) past item ≡ None → StandsFor (after_item kept item) (Took item ∷ past)
 took kept past item h none =
     let within : item.node < nodes kept = inside (nodes kept) past item none in
     let next : item.number ≡ count item.node past = (admissible (count item.node past) (head item.node past) item
     (sym (on_link (nodes kept) past item within) ∙ none)).number in
-    let same : nodes (with_item kept item) ≡ nodes kept =
+    let same : nodes (after_item kept item) ≡ nodes kept =
     length-set kept.links item.node (a_link (item.number + 1) item.stamp) in
     let legal : IsLegal (nodes kept) (Took item ∷ past) = (none, h.legal) in
     let up : horizon (nodes kept) past < item.stamp = above-horizon (nodes kept) past item h.legal none in
@@ -216,18 +218,18 @@ took kept past item h none =
     }
 
 -- the least of the kept heads is the floor of the past
-pub floor-from : (kept : Kept) (past : List Step) (heads : List ℕ) (low : ℕ) → IsMatched kept.links heads
+pub floor-from : (kept : Kept) (past : List Step) (heads : List ℕ) (low : ℕ) → HaveHeads kept.links heads
     → StandsFor kept past → IsFloor heads low → low ≡ floor (nodes kept) past
-floor-from kept past heads low matched h is =
-    let len : length heads ≡ nodes kept = heads-length kept.links heads matched in
+floor-from kept past heads low have h is =
+    let len : length heads ≡ nodes kept = heads-length kept.links heads have in
     let each : (n : ℕ) → n < nodes kept → get_or heads n 0 ≡ head n past =
     λ n within.
     let e : Some (get_or kept.links n (a_link 0 0)) ≡ Some (a_link (count n past) (head n past)) =
     sym (slice_get-get_or kept.links n (a_link 0 0) within) ∙ h.links n within in
     let f : get_or kept.links n (a_link 0 0) ≡ a_link (count n past) (head n past) = cc in
-    head-of kept.links heads n matched within ∙ ap (λ link. link.head) f in
+    head-of kept.links heads n have within ∙ ap (λ link. link.head) f in
     let least : (n : ℕ) × (n < nodes kept) × (head n past ≡ floor (nodes kept) past) =
-    least-some (λ n. head n past) (nodes kept) matched.some in
+    least-some (λ n. head n past) (nodes kept) have.some in
     let at : ℕ = is.is_head.0 in
     let at-within : at < length heads = is.is_head.1 in
     let at-is : get_or heads at low ≡ low = is.is_head.2 in
@@ -353,8 +355,9 @@ replicate-length zero link = refl
 replicate-length (suc n) link = ap suc (replicate-length n link)
 
 -- the links and the heads of a new core
-pub starts-matched : (many : ℕ) → 0 < many → many ≤ 64 → IsMatched (replicate many (a_link 0 0)) (replicate many 0)
-starts-matched many some few =
+pub starts-heads : (many : ℕ) → 0 < many → many ≤ MOST_NODES
+    → HaveHeads (replicate many (a_link 0 0)) (replicate many 0)
+starts-heads many some few =
     let l : length (replicate many (a_link 0 0)) ≡ many = replicate-length many (a_link 0 0) in
     record { some = omega arith; few = omega arith; same = sym (map-replicate many (a_link 0 0)) }
 
@@ -382,8 +385,9 @@ starts many =
     )
 
 -- no core of 1 to 64 nodes is refused
-pub new_refusal-none : (many : ℕ) → 0 < many → many ≤ 64 → new_refusal many ≡ None
-new_refusal-none many some few = cond-false _ _ _ (or_from _ _ (ne_eqb many 0 (λ e. omega arith)) (le-ltb 64 many few))
+pub new_refusal-none : (many : ℕ) → 0 < many → many ≤ MOST_NODES → new_refusal many ≡ None
+new_refusal-none many some few =
+    cond-false _ _ _ (or_from _ _ (ne_eqb many 0 (λ e. omega arith)) (le-ltb MOST_NODES many few))
 
 -- what is open is one of the open stamps, so the rows answer there as all accepted writes do
 pub told-alike : (kept : Kept) (past : List Step) (id stamp : ℕ)

@@ -1,10 +1,7 @@
 -- What each call of a core does, for one past that the core stood for.
-use Rattle.std.specs.Prelude.{map, Contains, ◌↔◌, ◌≡◌, ℕ, ◌<◌, ◌≤◌, ◌+◌, ◌⊎◌, List, [], ◌∷◌, ◌==◌, ◌||◌, nat_lt, Option}
+use Rattle.std.specs.Prelude.{◌≡◌, ℕ, ◌<◌, ◌≤◌, ◌+◌, ◌⊎◌, List, [], ◌∷◌, ◌==◌, ◌||◌, nat_lt, Option}
 use Rattle.std.specs.Prelude.{Some, None, if◌then◌else◌, Result, Ok, Err, MatchResult, ⊤}
-use Rattle.std.specs.List.Sorted.{IsPermutation, IsStrictlySortedBy}
-use Rattle.std.specs.Cmp.Lexicographic.{slice_cmp}
-use Rattle.std.specs.Ordering.{nat_cmp}
-use Rattle.hlc_node.specs.Rows.{answer}
+use Rattle.std.specs.List.Sorted.{IsPermutation}
 use Rattle.hlc_node.specs.declared.row.Row.{Row}
 use Rattle.hlc_node.specs.declared.item.Item.{Item}
 use Rattle.hlc_node.specs.declared.item.Body.{Body}
@@ -15,9 +12,11 @@ use Rattle.hlc_core.specs.declared.fault.NoNode.{NoNode as NoSuchNode}
 use Rattle.hlc_snapshot.specs.declared.fault.NoSnapshot.{NoSnapshot as NoSuchSnapshot}
 use Rattle.hlc_core.specs.declared.listing.Pair.{Pair}
 use Rattle.hlc_floor.specs.Heads.{Acceptance}
+use Rattle.hlc_floor.specs.declared.heads.TheConstants.{MOST_NODES}
 use Rattle.hlc_vacuum.specs.Vacuumed.{rows_to}
 use Rattle.hlc_witness.specs.Certificate.{RowsAscend}
 use Rattle.hlc_vacuum.specs.declared.report.Report.{Report as AReport}
+use Rattle.hlc_core.specs.Listing.{IsListing}
 use Rattle.hlc_core.specs.Past.{Step, Took, Opened, Closed, Vacuumed, count, floor, opened, stamp_of, writes}
 use Rattle.hlc_core.specs.Past.{item_refusal, room_refusal, open_refusal}
 use Rattle.hlc_core.specs.Stored.{IsReport, LeavesFewest}
@@ -30,7 +29,7 @@ IsRefusal due MayGrow fault = (due ≡ Some fault) ⊎ ((due ≡ None) × (fault
 
 -- why no core of so many nodes is made
 abbrev pub new_refusal : ℕ → Option CoreFault
-new_refusal count = if count == 0 || nat_lt 64 count then Some NoNode else None
+new_refusal count = if count == 0 || nat_lt MOST_NODES count then Some NoNode else None
 
 -- a new core has these nodes and stands for the past in which nothing took place
 abbrev pub Makes : ℕ → Result Kept CoreFault → Type 0
@@ -81,12 +80,6 @@ OpensAtFloor old new past (Err fault) = IsRefusal (room_refusal past) ⊤ fault
 abbrev pub Closes : Kept → ℕ → List Step → Result ℕ NoSuchSnapshot → Type 0
 Closes new id past (Ok stamp) = (stamp_of id past ≡ Some stamp) × StandsFor new (Closed id ∷ past)
 Closes new id past (Err fault) = stamp_of id past ≡ None
-
--- the listing at a stamp: the keys that have a value there, each once, in byte order, with that value
-pub record IsListing (rows : List Row) (stamp : ℕ) (listing : List Pair) : Type 0 where
-  pub ascending : IsStrictlySortedBy (slice_cmp nat_cmp) (map (λ pair. pair.key) listing)
-  pub exact : (key value : List ℕ)
-      → Contains listing (record { key = key; value = value }) ↔ (answer rows key stamp ≡ Some value)
 
 -- the listing of the snapshot at this stamp, if there is one
 abbrev pub IsListed : Option ℕ → List Row → List Pair → Type 0

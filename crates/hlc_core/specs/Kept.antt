@@ -6,6 +6,7 @@ use Rattle.hlc_snapshot.specs.declared.snapshot.Snapshot.{Snapshot}
 use Rattle.hlc_node.specs.Rows.{IsRowSet}
 use Rattle.hlc_snapshot.specs.Register.{stamps}
 use Rattle.hlc_vacuum.specs.Standing.{RowsStandFor}
+use Rattle.hlc_floor.specs.declared.heads.TheConstants.{MOST_NODES}
 use Rattle.hlc_core.specs.Past.{Step, count, head, horizon, opened, open_snapshots, writes, IsLegal}
 use Rattle.hlc_core.specs.Stored.{IsStoredCount}
 
@@ -28,9 +29,9 @@ with_rows_left kept rows horizon =
     record { links = kept.links; snapshots = kept.snapshots; opened = kept.opened; horizon = horizon; rows = rows }
 
 -- there are 1 to 64 links, and the heads are theirs
-pub record IsMatched (links : List Progress) (heads : List ℕ) : Type 0 where
+pub record HaveHeads (links : List Progress) (heads : List ℕ) : Type 0 where
   pub some : 0 < length links
-  pub few : length links ≤ 64
+  pub few : length links ≤ MOST_NODES
   pub same : heads ≡ map (λ link. link.head) links
 
 -- no open snapshot is above any head, no two rows are one version, and none is above the head of its node

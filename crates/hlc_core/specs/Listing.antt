@@ -1,8 +1,17 @@
--- The pairs of some keys.
-use Rattle.std.specs.Prelude.{ℕ, List, [], ◌∷◌, ◌++◌, Option, Some, None}
+-- The listing of some rows at a stamp, and the pairs that it is made of.
+use Rattle.std.specs.Prelude.{◌≡◌, ◌↔◌, ℕ, List, [], ◌∷◌, ◌++◌, Option, Some, None, map, Contains}
+use Rattle.std.specs.List.Sorted.{IsStrictlySortedBy}
+use Rattle.std.specs.Cmp.Lexicographic.{slice_cmp}
+use Rattle.std.specs.Ordering.{nat_cmp}
 use Rattle.hlc_node.specs.declared.row.Row.{Row}
 use Rattle.hlc_node.specs.Rows.{answer}
 use Rattle.hlc_core.specs.declared.listing.Pair.{Pair}
+
+-- the listing at a stamp: the keys that have a value there, each once, in byte order, with that value
+pub record IsListing (rows : List Row) (stamp : ℕ) (listing : List Pair) : Type 0 where
+  pub ascending : IsStrictlySortedBy (slice_cmp nat_cmp) (map (λ pair. pair.key) listing)
+  pub exact : (key value : List ℕ)
+      → Contains listing (record { key = key; value = value }) ↔ (answer rows key stamp ≡ Some value)
 
 -- a key with its value, if it has one
 abbrev pub pair_of : List ℕ → Option (List ℕ) → List Pair

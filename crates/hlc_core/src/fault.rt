@@ -1,10 +1,14 @@
 //! Why a core refuses a call.
+ghost use Rattle.std.specs.Prelude.{◌≡◌};
 ghost use Rattle.std.proofs.Common.{rules};
 ghost use Rattle.std.proofs.lemmas.Grind.{common_steps};
 
 use hlc_clock::Stamp;
+use hlc_link::LinkFault;
 use hlc_node::BodyFault;
+use hlc_snapshot::SnapshotFault;
 use hlc_values::Exact;
+use std::alloc::AllocError;
 
 /// Why a core refuses a call.
 #[derive(Clone, Copy, PartialEq, Eq, Debug)]
@@ -35,6 +39,44 @@ impl Exact for CoreFault {
     ghost equal = { Prim.search (rules, common_steps) };
 
     ghost copied = { Prim.search rules };
+}
+
+impl From<LinkFault> for CoreFault {
+    ghost use Rattle.hlc_core.specs.Past.{of_link};
+
+    ghost from_gives = { λ fault core. core ≡ of_link fault };
+
+    fn from(fault: LinkFault) -> CoreFault {
+        match fault {
+            LinkFault::NotNext { next } => CoreFault::NotNext { next },
+            LinkFault::NumbersSpent => CoreFault::NumbersSpent,
+            LinkFault::StampNotRising { head } => CoreFault::StampNotRising { head },
+        }
+    }
+}
+
+impl From<SnapshotFault> for CoreFault {
+    ghost use Rattle.hlc_core.specs.Past.{of_registry};
+
+    ghost from_gives = { λ fault core. core ≡ of_registry fault };
+
+    fn from(fault: SnapshotFault) -> CoreFault {
+        match fault {
+            SnapshotFault::TooManySnapshots => CoreFault::TooManySnapshots,
+            SnapshotFault::NumbersSpent => CoreFault::NumbersSpent,
+            SnapshotFault::NoMemory => CoreFault::NoMemory,
+        }
+    }
+}
+
+impl From<AllocError> for CoreFault {
+    ghost use Rattle.hlc_core.specs.declared.fault.CoreFault.TheVariants.{NoMemory};
+
+    ghost from_gives = { λ _ core. core ≡ NoMemory };
+
+    fn from(_fault: AllocError) -> CoreFault {
+        CoreFault::NoMemory
+    }
 }
 
 /// The node is not below the count of nodes.

@@ -1,9 +1,9 @@
 //! How an item is admitted by the intake of its node's link.
 ghost use Rattle.std.specs.Prelude.{◌≡◌, ◌+◌, Some, None, Err, MatchOption, MatchResult, slice_get};
-ghost use Rattle.hlc_core.specs.Past.{link_refusal, of_link};
+ghost use Rattle.hlc_core.specs.Past.{link_refusal};
 
 use crate::fault::CoreFault;
-use hlc_link::{Intake, LinkFault};
+use hlc_link::Intake;
 use hlc_node::{Item, body_fault};
 
 /// The intake of the item's link once it has admitted the item; or the first reason to refuse the
@@ -18,22 +18,9 @@ pub fn admitted(intakes: &[Intake], item: &Item) -> Result<Intake, CoreFault>
         return Err(CoreFault::NoNode);
     };
     let mut intake = *intake;
-    if let Err(fault) = intake.admit(item.number, item.stamp) {
-        return Err(of_link(fault));
-    }
+    intake.admit(item.number, item.stamp)?;
     match body_fault(&item.body) {
         Some(fault) => Err(CoreFault::BadBody(fault)),
         None => Ok(intake),
-    }
-}
-
-/// The link's fault, as a fault of the core.
-fn of_link(fault: LinkFault) -> CoreFault
-    ensures { result ≡ of_link fault }
-{
-    match fault {
-        LinkFault::NotNext { next } => CoreFault::NotNext { next },
-        LinkFault::NumbersSpent => CoreFault::NumbersSpent,
-        LinkFault::StampNotRising { head } => CoreFault::StampNotRising { head },
     }
 }

@@ -1,9 +1,16 @@
-//! What a snapshot holds: keys with their values.
+//! The listing of a table at a stamp: all keys in byte order that have a value there, with that
+//! value.
+ghost use Rattle.std.specs.Prelude.{◌≡◌, ◌++◌, ◌∷◌, [], IfOk, OnOk, option_copied};
 ghost use Rattle.std.proofs.Common.{rules};
 ghost use Rattle.std.proofs.lemmas.Grind.{common_steps};
+ghost use Rattle.hlc_columns.specs.Rows.{rows_in, keys_in, AreAlone};
+ghost use Rattle.hlc_core.specs.Listing.{IsListing, pair_of, pairs_of};
 
+use hlc_clock::Stamp;
+use hlc_columns::{Keyed, Table};
 use hlc_node::Bytes;
 use hlc_values::{Exact, Listed};
+use std::alloc::{AllocError, Global};
 
 /// A key that has a value, and that value.
 #[derive(Clone, PartialEq, Eq, Debug, Drop)]
@@ -19,4 +26,56 @@ impl Exact for Pair {
     ghost equal = { Prim.search (rules, common_steps) };
 
     ghost copied = { Prim.search rules };
+}
+
+/// The keys that have a value at a stamp, in byte order, with that value.
+pub fn listing_at(alloc: Global, table: &Table, stamp: Stamp) -> Result<Listing, AllocError>
+    ensures { IfOk result (λ listing. IsListing table.now stamp listing) }
+{
+    let columns = table.columns()?;
+    let pairs = pairs_at(alloc, columns.as_slice(), stamp)?;
+    Ok(Listing::from_vec(pairs))
+}
+
+/// Of the keys of these columns in turn, those that have a value at a stamp, with that value. Each
+/// key's own column is asked.
+fn pairs_at(alloc: Global, columns: &[Keyed], stamp: Stamp) -> Result<Vec<Pair>, AllocError>
+    requires { AreAlone columns.now }
+    ensures { IfOk result (λ pairs. pairs.items ≡ pairs_of (rows_in columns.now) stamp (keys_in columns.now)) }
+{
+    let mut pairs = Vec::new(alloc);
+    for one in columns {
+        push_told(alloc, &mut pairs, one.key(), one.column().answer(stamp))?;
+    }
+    Ok(pairs)
+}
+
+/// Adds a pair of a key and its value, if it has one.
+fn push_told(
+    alloc: Global,
+    pairs: &mut Vec<Pair>,
+    key: &[u8],
+    told: Option<&[u8]>,
+) -> Result<(), AllocError>
+    ensures { OnOk result (pairs.new.items ≡ pairs.old.items ++ pair_of key.now (option_copied told.entry)) }
+{
+    match told {
+        Some(value) => push_pair(alloc, pairs, key, value),
+        None => Ok(()),
+    }
+}
+
+/// Adds a pair with copies of a key and a value.
+fn push_pair(
+    alloc: Global,
+    pairs: &mut Vec<Pair>,
+    key: &[u8],
+    value: &[u8],
+) -> Result<(), AllocError>
+    ensures { OnOk result (pairs.new.items ≡ pairs.old.items ++ record { key = key.now; value = value.now } ∷ []) }
+{
+    let key = Bytes::from_vec(Vec::from_slice(alloc, key)?);
+    let value = Bytes::from_vec(Vec::from_slice(alloc, value)?);
+    pairs.push(Pair { key, value })?;
+    Ok(())
 }

@@ -170,10 +170,7 @@ impl Core {
         ensures form { IfOk result (λ reply. IsReplyTo AnEvent.Vacuum reply) }
         ensures nodes { nodes self.new ≡ nodes self.old }
     {
-        match self.vacuum() {
-            Ok(report) => Ok(CoreReply::Vacuumed(report)),
-            Err(lack) => Err(lack),
-        }
+        Ok(CoreReply::Vacuumed(self.vacuum()?))
     }
 }
 

@@ -4,13 +4,15 @@ use Rattle.hlc_node.specs.declared.item.Body.{Body}
 use Rattle.hlc_node.specs.declared.item.Body.TheVariants.{Write, Report}
 use Rattle.hlc_node.specs.declared.item.BodyFault.{BodyFault}
 use Rattle.hlc_node.specs.declared.item.BodyFault.TheVariants.{BadKey, ValueTooLong}
+use Rattle.hlc_node.specs.declared.item.TheConstants.{MOST_KEY_BYTES, MOST_VALUE_BYTES}
 
 -- why a value is refused: it has more than 65,535 bytes
 abbrev pub value_refusal : Option (List ℕ) → Option BodyFault
 value_refusal None = None
-value_refusal (Some value) = if nat_lt 65535 (length value) then Some ValueTooLong else None
+value_refusal (Some value) = if nat_lt MOST_VALUE_BYTES (length value) then Some ValueTooLong else None
 
 -- the first reason why no item may say this: a key without bytes or with more than 255; a value that is too long
 abbrev pub body_refusal : Body → Option BodyFault
-body_refusal (Write key value) = if length key == 0 || nat_lt 255 (length key) then Some BadKey else value_refusal value
+body_refusal (Write key value) =
+    if length key == 0 || nat_lt MOST_KEY_BYTES (length key) then Some BadKey else value_refusal value
 body_refusal Report = None

@@ -4,11 +4,28 @@ ghost use Rattle.std.proofs.Common.{rules};
 ghost use Rattle.std.proofs.lemmas.Grind.{common_steps};
 ghost use Rattle.hlc_node.specs.Items.{body_refusal};
 ghost use Rattle.hlc_node.specs.declared.item.Body.TheVariants.{Write as a_write, Report};
+ghost use Rattle.hlc_node.specs.declared.item.TheConstants.{MOST_KEY_BYTES, MOST_VALUE_BYTES};
 
 use crate::bytes::Bytes;
 use hlc_clock::Stamp;
 use hlc_values::Exact;
 use std::alloc::AllocError;
+
+/// The most bytes that a key may have.
+pub const MOST_KEY_BYTES: usize = 255;
+
+/// The most bytes that a value may have.
+pub const MOST_VALUE_BYTES: usize = 65_535;
+
+/// A key has at most 255 bytes.
+pub fn most_key_bytes_are_255()
+    ensures { MOST_KEY_BYTES ≡ 255 }
+{}
+
+/// A value has at most 65,535 bytes.
+pub fn most_value_bytes_are_65535()
+    ensures { MOST_VALUE_BYTES ≡ 65535 }
+{}
 
 /// What an item says.
 #[derive(PartialEq, Eq, Debug, Drop)]
@@ -94,11 +111,11 @@ impl Exact for BodyFault {
 pub fn write_fault(key: &Bytes, value: &Option<Bytes>) -> Option<BodyFault>
     ensures { result ≡ body_refusal (a_write key.now value.now) }
 {
-    if key.is_empty() || key.len() > 255 {
+    if key.is_empty() || key.len() > MOST_KEY_BYTES {
         return Some(BodyFault::BadKey);
     }
     match value {
-        Some(bytes) if bytes.len() > 65_535 => Some(BodyFault::ValueTooLong),
+        Some(bytes) if bytes.len() > MOST_VALUE_BYTES => Some(BodyFault::ValueTooLong),
         _ => None,
     }
 }

@@ -3,6 +3,7 @@ ghost use Rattle.std.proofs.Common.{rules};
 ghost use Rattle.std.proofs.lemmas.Grind.{common_steps};
 
 use hlc_values::Exact;
+use std::alloc::AllocError;
 
 /// Why no snapshot is opened.
 #[derive(Clone, Copy, PartialEq, Eq, Debug)]
@@ -39,4 +40,10 @@ impl Exact for NoMemory {
     ghost equal = { Prim.search (rules, common_steps) };
 
     ghost copied = { Prim.search rules };
+}
+
+impl From<AllocError> for NoMemory {
+    fn from(_fault: AllocError) -> NoMemory {
+        NoMemory
+    }
 }

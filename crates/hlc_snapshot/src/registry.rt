@@ -107,9 +107,7 @@ impl Registry {
         requires { All (λ snapshot. snapshot.stamp ≤ floor) self.now.snapshots }
         ensures { IfOk result (λ points. ArePoints (stamps self.now.snapshots) floor points.items) }
     {
-        let Ok(mut points) = self.stamps_and(floor) else {
-            return Err(NoMemory);
-        };
+        let mut points = self.stamps_and(floor)?;
         points.sort_unstable();
         points.dedup();
         Ok(points)

@@ -6,7 +6,7 @@ use Rattle.hlc_core.specs.declared.event.CoreEvent.{CoreEvent}
 use Rattle.hlc_core.specs.declared.reply.CoreReply.{CoreReply}
 use Rattle.hlc_core.specs.Past.{Step, Opened, Closed, count, floor, opened, writes}
 use Rattle.hlc_core.specs.Stored.{IsReport}
-use Rattle.hlc_core.specs.Calls.{IsListing}
+use Rattle.hlc_core.specs.Listing.{IsListing}
 use Rattle.hlc_core.specs.History.{IsLegalHistory, past_of}
 use Rattle.hlc_words.specs.declared.plan.StormPlan.{StormPlan}
 use Rattle.hlc_storm.specs.declared.report.StormReport.{StormReport}

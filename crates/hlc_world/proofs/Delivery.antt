@@ -21,7 +21,7 @@ use Rattle.hlc_world.specs.Store.{accepting, joined, store_history, core_past}
 use Rattle.hlc_world.specs.Due.{of_core, core_refusal, on_node, deliver_refusal, refusal_due, number_refusal}
 use Rattle.hlc_world.specs.Due.{GoesByNumber}
 use Rattle.hlc_world.specs.Due.{IsOwed, StoreMayLack, IsLegal}
-use Rattle.hlc_world.specs.State.{KeptNode, State, world_nodes, IsMatched, StandsFor}
+use Rattle.hlc_world.specs.State.{KeptIssuer, State, world_nodes, IsMatched, StandsFor}
 use Rattle.hlc_world.proofs.Lists.{some-injective}
 use Rattle.hlc_world.proofs.Nodes.{stays, on_node-inside}
 use Rattle.hlc_world.proofs.Orderly.{IsOrderly, orderly, past_taken}
@@ -70,10 +70,10 @@ due n s p k item o at = on_node-inside n p _ (o.each p k item at).inside
     ∙ ap (λ x. deliver_refusal n (core_past s) x) at
 
 -- the item that the world finds is the issued one
-pub found : (state : State) (s : List (Event × Reply)) (p k : ℕ) (node : KeptNode) (item : Item) → StandsFor state s
-    → p < world_nodes state → slice_get state.nodes p ≡ Some node → Some item ≡ slice_get node.issued k
+pub found : (state : State) (s : List (Event × Reply)) (p k : ℕ) (issuer : KeptIssuer) (item : Item) → StandsFor state s
+    → p < world_nodes state → slice_get state.nodes p ≡ Some issuer → Some item ≡ slice_get issuer.issued k
     → item_at p k s ≡ Some item
-found state s p k node item h inside at in_items =
+found state s p k issuer item h inside at in_items =
     ap (λ x. slice_get x.issued k) (some-injective _ _ (sym (h.nodes p inside) ∙ at)) ∙ sym in_items
 
 -- the core refuses the item, memory aside

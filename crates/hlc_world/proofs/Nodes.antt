@@ -24,12 +24,12 @@ use Rattle.hlc_world.specs.Schedule.{Event, issued, last_stamp, sent, message_at
 use Rattle.hlc_world.specs.Store.{asked, told, joined, with_entry, store_history, core_past}
 use Rattle.hlc_world.specs.Due.{of_clock, issue_refusal, stamp_refusal, receive_refusal, observe_refusal, on_node}
 use Rattle.hlc_world.specs.Due.{refusal_due, IsReceived, IsObserved, MayLackMemory, IsGiven, IsLegal}
-use Rattle.hlc_world.specs.State.{KeptNode, State, world_nodes, StandsFor, fresh, Issues}
+use Rattle.hlc_world.specs.State.{KeptIssuer, State, world_nodes, StandsFor, fresh, Issues, Sees}
 use Rattle.hlc_world.proofs.Lists.{some-injective, get-set_at, get-set_other, set-same, get-append_left, get-push}
 
 -- what is kept of a node
-abbrev a_node : ℕ → ℕ → List Item → KeptNode
-a_node n last items = record { core = record { id = n; last = last; next = length items }; issued = items }
+abbrev a_node : ℕ → ℕ → List Item → KeptIssuer
+a_node n last items = record { node = record { id = n; last = last; next = length items }; issued = items }
 
 pub stamp_or-same : (p st last : ℕ) → stamp_or p (Some (p, st)) last ≡ st
 stamp_or-same p st last = cond-true _ _ _ (eq-eqb p p refl)
@@ -49,8 +49,8 @@ pub on_node-inside : (nodes p : ℕ) (rest : Option Refusal) → p < nodes → o
 on_node-inside nodes p rest h = cond-false _ _ _ (lt-leb nodes p h)
 
 -- one node issued an item, and the others are as they were
-nodes-issued : (nodes : List KeptNode) (lasts : ℕ → ℕ) (items : ℕ → List Item) (p st : ℕ) (item : Item) → item.node ≡ p
-    → p < length nodes → ((n : ℕ) → n < length nodes → slice_get nodes n ≡ Some (a_node n (lasts n) (items n)))
+nodes-issued : (nodes : List KeptIssuer) (lasts : ℕ → ℕ) (items : ℕ → List Item) (p st : ℕ) (item : Item)
+    → item.node ≡ p → p < length nodes → ((n : ℕ) → n < length nodes → slice_get nodes n ≡ Some (a_node n (lasts n) (items n)))
     → (n : ℕ) → n < length nodes → slice_get (slice_set nodes p (a_node p st (items p ++ item ∷ []))) n
     ≡ Some (a_node n (stamp_or n (Some (p, st)) (lasts n)) (with_item n (Some item) (items n)))
 nodes-issued nodes lasts items p st item own inside h n lt =
@@ -69,7 +69,7 @@ nodes-issued nodes lasts items p st item own inside h n lt =
     ]
 
 -- one node was stamped without an item, and the others are as they were
-nodes-stamped : (nodes : List KeptNode) (lasts : ℕ → ℕ) (items : ℕ → List Item) (p st : ℕ) → p < length nodes
+nodes-stamped : (nodes : List KeptIssuer) (lasts : ℕ → ℕ) (items : ℕ → List Item) (p st : ℕ) → p < length nodes
     → ((n : ℕ) → n < length nodes → slice_get nodes n ≡ Some (a_node n (lasts n) (items n)))
     → (n : ℕ) → n < length nodes → slice_get (slice_set nodes p (a_node p st (items p))) n
     ≡ Some (a_node n (stamp_or n (Some (p, st)) (lasts n)) (items n))
@@ -107,7 +107,7 @@ stays state s e refusal not_made not_marked not_sent not_told given h =
       messages = subst (λ o. state.messages ≡ with_message o (sent s)) (sym not_sent) h.messages;
     }
 
-abbrev with_node : State → ℕ → KeptNode → State
+abbrev with_node : State → ℕ → KeptIssuer → State
 with_node state p node = record { core = state.core; nodes = slice_set state.nodes p node; messages = state.messages }
 
 -- an event by which a node issues an item that says this
@@ -170,7 +170,7 @@ report-is nodes s p reading =
 
 -- an item that a node issued
 pub issues : (state : State) (s : List (Event × Reply)) (e : Event) (p : ℕ) (body : Body) (reading : ℕ)
-    (before after : KeptNode) (made : ℕ × ℕ) → IsIssue (world_nodes state) s e p body reading → StandsFor state s
+    (before after : KeptIssuer) (made : ℕ × ℕ) → IsIssue (world_nodes state) s e p body reading → StandsFor state s
     → p < world_nodes state → slice_get state.nodes p ≡ Some before → Issues before after body reading (Ok made)
     → StandsFor (with_node state p after) ((e, Stamped made.0 made.1) ∷ s)
 issues state s e p body reading before after made is h inside at taken =
@@ -178,16 +178,18 @@ issues state s e p body reading before after made is h inside at taken =
     let number : ℕ = length (issued p s) in
     let was : before ≡ a_node p (last_stamp p s) (issued p s) = some-injective _ _ (sym at ∙ h.nodes p inside) in
     let due : issue_due (node_of p s) body reading ≡ Ok st =
-    ap (λ node. issue_due node.core body reading) (sym was) ∙ taken.0 in
-    let numbered : made.1 ≡ number = taken.1 ∙ ap (λ node. node.core.next) was in
+    ap (λ issuer. issue_due issuer.node body reading) (sym was) ∙ taken.0 in
+    let numbered : made.1 ≡ number = taken.1 ∙ ap (λ issuer. issuer.node.next) was in
     let longer : length (issued p s ++ an_item p number st body ∷ []) ≡ number + 1 =
     length-append (issued p s) (an_item p number st body ∷ []) in
     let came : after ≡ a_node p st (issued p s ++ an_item p number st body ∷ []) =
     taken.2
-    ∙ ap (λ node. record { core = after_issue node.core st; issued = node.issued ++ next_item node.core body st ∷ [] })
-    was
+    ∙ ap (λ issuer. record {
+      node = after_issue issuer.node st;
+      issued = issuer.issued ++ next_item issuer.node body st ∷ [];
+    }) was
     ∙ ap (λ k. record {
-      core = record { id = p; last = st; next = k };
+      node = record { id = p; last = st; next = k };
       issued = issued p s ++ an_item p number st body ∷ [];
     }) (sym longer) in
     let none : refusal_due (world_nodes state) s e ≡ None = is.refusal ∙ on_node-inside (world_nodes state) p _ inside
@@ -212,14 +214,14 @@ issues state s e p body reading before after made is h inside at taken =
 
 -- an item that it did not issue
 pub issues_not : (state : State) (s : List (Event × Reply)) (e : Event) (p : ℕ) (body : Body) (reading : ℕ)
-    (before after : KeptNode) (refusal : Refusal) → IsIssue (world_nodes state) s e p body reading → StandsFor state s
+    (before after : KeptIssuer) (refusal : Refusal) → IsIssue (world_nodes state) s e p body reading → StandsFor state s
     → p < world_nodes state → slice_get state.nodes p ≡ Some before → Issues before after body reading (Err refusal)
     → StandsFor (with_node state p after) ((e, Refused refusal) ∷ s)
 issues_not state s e p body reading before after refusal is h inside at left =
     let was : before ≡ a_node p (last_stamp p s) (issued p s) = some-injective _ _ (sym at ∙ h.nodes p inside) in
-    let first : refusal_due (world_nodes state) s e ≡ issue_refusal (issue_due before.core body reading) =
+    let first : refusal_due (world_nodes state) s e ≡ issue_refusal (issue_due before.node body reading) =
     is.refusal ∙ on_node-inside (world_nodes state) p _ inside
-    ∙ ap (λ node. issue_refusal (issue_due node.core body reading)) (sym was) in
+    ∙ ap (λ issuer. issue_refusal (issue_due issuer.node body reading)) (sym was) in
     let given : IsGiven (world_nodes state) s e (Refused refusal) =
     elim left.0 [ inl due ↦ inl (first ∙ due) | inr lost ↦ inr (first ∙ lost.0, lost.1, is.may) ] in
     let unchanged : slice_set state.nodes p after ≡ state.nodes = ap (λ x. slice_set state.nodes p x) left.1
@@ -229,26 +231,26 @@ issues_not state s e p body reading before after refusal is h inside at left =
     (stays state s e refusal (is.not_made _) (is.not_marked _) (is.sends _) (is.tells _) given h)
 
 -- a message that a node sent
-pub sends : (state : State) (s : List (Event × Reply)) (p reading : ℕ) (before : KeptNode) (core : Node)
+pub sends : (state : State) (s : List (Event × Reply)) (p reading : ℕ) (before : KeptIssuer) (node : Node)
     (message : Message) (messages : List Message) → StandsFor state s → p < world_nodes state
-    → slice_get state.nodes p ≡ Some before → stamp_due (before.core.last ∷ []) reading ≡ Ok message.stamp
-    → message.from ≡ before.core.id → core ≡ stamped before.core message.stamp
+    → slice_get state.nodes p ≡ Some before → stamp_due (before.node.last ∷ []) reading ≡ Ok message.stamp
+    → message.from ≡ before.node.id → node ≡ stamped before.node message.stamp
     → messages ≡ state.messages ++ message ∷ [] → StandsFor (record {
       core = state.core;
-      nodes = slice_set state.nodes p (record { core = core; issued = before.issued });
+      nodes = slice_set state.nodes p (record { node = node; issued = before.issued });
       messages = messages;
     }) ((Send p reading, Sent message.stamp (length state.messages)) ∷ s)
-sends state s p reading before core message messages h inside at due from core-is posted =
+sends state s p reading before node message messages h inside at due from node-is posted =
     let st : ℕ = message.stamp in
-    let after : KeptNode = record { core = core; issued = before.issued } in
+    let after : KeptIssuer = record { node = node; issued = before.issued } in
     let was : before ≡ a_node p (last_stamp p s) (issued p s) = some-injective _ _ (sym at ∙ h.nodes p inside) in
     let due' : stamp_due (last_stamp p s ∷ []) reading ≡ Ok st =
-    ap (λ node. stamp_due (node.core.last ∷ []) reading) (sym was) ∙ due in
+    ap (λ issuer. stamp_due (issuer.node.last ∷ []) reading) (sym was) ∙ due in
     let came : after ≡ a_node p st (issued p s) =
-    ap (λ c. record { core = c; issued = before.issued }) core-is
-    ∙ ap (λ node. record { core = stamped node.core st; issued = node.issued }) was in
+    ap (λ c. record { node = c; issued = before.issued }) node-is
+    ∙ ap (λ issuer. record { node = stamped issuer.node st; issued = issuer.issued }) was in
     let is : message ≡ record { from = p; stamp = st } =
-    ap (λ n. record { from = n; stamp = st }) (from ∙ ap (λ node. node.core.id) was) in
+    ap (λ n. record { from = n; stamp = st }) (from ∙ ap (λ issuer. issuer.node.id) was) in
     let same : length (slice_set state.nodes p after) ≡ length state.nodes = length-set state.nodes p after in
     record {
       legal = subst (λ n. IsLegal n ((Send p reading, Sent st (length state.messages)) ∷ s)) (sym same) (
@@ -264,24 +266,24 @@ sends state s p reading before core message messages h inside at due from core-i
     }
 
 -- a message that was not sent: the clock refuses, or there is no memory
-pub sends_not : (state : State) (s : List (Event × Reply)) (p reading : ℕ) (before : KeptNode) (fault : ClockFault)
+pub sends_not : (state : State) (s : List (Event × Reply)) (p reading : ℕ) (before : KeptIssuer) (fault : ClockFault)
     → StandsFor state s → p < world_nodes state → slice_get state.nodes p ≡ Some before
-    → stamp_due (before.core.last ∷ []) reading ≡ Err fault
+    → stamp_due (before.node.last ∷ []) reading ≡ Err fault
     → StandsFor state ((Send p reading, Refused (of_clock fault)) ∷ s)
 sends_not state s p reading before fault h inside at due =
     let was : before ≡ a_node p (last_stamp p s) (issued p s) = some-injective _ _ (sym at ∙ h.nodes p inside) in
     let due' : stamp_due (last_stamp p s ∷ []) reading ≡ Err fault =
-    ap (λ node. stamp_due (node.core.last ∷ []) reading) (sym was) ∙ due in
+    ap (λ issuer. stamp_due (issuer.node.last ∷ []) reading) (sym was) ∙ due in
     stays state s (Send p reading) (of_clock fault) refl refl refl refl
     (inl (on_node-inside (world_nodes state) p _ inside ∙ ap stamp_refusal due')) h
 
-pub sends_lost : (state : State) (s : List (Event × Reply)) (p reading st : ℕ) (before : KeptNode) → StandsFor state s
-    → p < world_nodes state → slice_get state.nodes p ≡ Some before → stamp_due (before.core.last ∷ []) reading ≡ Ok st
+pub sends_lost : (state : State) (s : List (Event × Reply)) (p reading st : ℕ) (before : KeptIssuer) → StandsFor state s
+    → p < world_nodes state → slice_get state.nodes p ≡ Some before → stamp_due (before.node.last ∷ []) reading ≡ Ok st
     → StandsFor state ((Send p reading, Refused NoMemory) ∷ s)
 sends_lost state s p reading st before h inside at due =
     let was : before ≡ a_node p (last_stamp p s) (issued p s) = some-injective _ _ (sym at ∙ h.nodes p inside) in
     let due' : stamp_due (last_stamp p s ∷ []) reading ≡ Ok st =
-    ap (λ node. stamp_due (node.core.last ∷ []) reading) (sym was) ∙ due in
+    ap (λ issuer. stamp_due (issuer.node.last ∷ []) reading) (sym was) ∙ due in
     stays state s (Send p reading) NoMemory refl refl refl refl
     (inr (on_node-inside (world_nodes state) p _ inside ∙ ap stamp_refusal due', refl, tt)) h
 
@@ -323,20 +325,17 @@ observe-is nodes s p reading id seen there =
       given = λ st none due. (none, subst (λ o. IsObserved o (last_stamp p s) reading st) (sym there) due);
     }
 
--- a stamp that a node saw
+-- a node that saw a stamp
 pub sees : (state : State) (s : List (Event × Reply)) (e : Event) (reply : ℕ → Reply) (p seen reading st : ℕ)
-    (before : KeptNode) (core : Node) → IsSight (world_nodes state) s e reply p seen reading
+    (before after : KeptIssuer) → IsSight (world_nodes state) s e reply p seen reading
     → StandsFor state s → p < world_nodes state → slice_get state.nodes p ≡ Some before
-    → stamp_due (before.core.last ∷ seen ∷ []) reading ≡ Ok st → core ≡ stamped before.core st
-    → StandsFor (with_node state p (record { core = core; issued = before.issued })) ((e, reply st) ∷ s)
-sees state s e reply p seen reading st before core is h inside at due core-is =
-    let after : KeptNode = record { core = core; issued = before.issued } in
+    → Sees before after seen reading (Ok st) → StandsFor (with_node state p after) ((e, reply st) ∷ s)
+sees state s e reply p seen reading st before after is h inside at saw =
     let was : before ≡ a_node p (last_stamp p s) (issued p s) = some-injective _ _ (sym at ∙ h.nodes p inside) in
     let due' : stamp_due (last_stamp p s ∷ seen ∷ []) reading ≡ Ok st =
-    ap (λ node. stamp_due (node.core.last ∷ seen ∷ []) reading) (sym was) ∙ due in
+    ap (λ issuer. stamp_due (issuer.node.last ∷ seen ∷ []) reading) (sym was) ∙ saw.0 in
     let came : after ≡ a_node p st (issued p s) =
-    ap (λ c. record { core = c; issued = before.issued }) core-is
-    ∙ ap (λ node. record { core = stamped node.core st; issued = node.issued }) was in
+    saw.1 ∙ ap (λ issuer. record { node = stamped issuer.node st; issued = issuer.issued }) was in
     let none : refusal_due (world_nodes state) s e ≡ None = is.refusal ∙ on_node-inside (world_nodes state) p _ inside
     ∙ ap stamp_refusal due' in
     let same : length (slice_set state.nodes p after) ≡ length state.nodes = length-set state.nodes p after in
@@ -355,17 +354,21 @@ sees state s e reply p seen reading st before core is h inside at due core-is =
       messages = subst (λ o. state.messages ≡ with_message o (sent s)) (sym (is.sends (reply st))) h.messages;
     }
 
--- one that it did not see
+-- one that did not see it
 pub sees_not : (state : State) (s : List (Event × Reply)) (e : Event) (reply : ℕ → Reply) (p seen reading : ℕ)
-    (before : KeptNode) (fault : ClockFault) → IsSight (world_nodes state) s e reply p seen reading
+    (before after : KeptIssuer) (refusal : Refusal) → IsSight (world_nodes state) s e reply p seen reading
     → StandsFor state s → p < world_nodes state → slice_get state.nodes p ≡ Some before
-    → stamp_due (before.core.last ∷ seen ∷ []) reading ≡ Err fault → StandsFor state ((e, Refused (of_clock fault)) ∷ s)
-sees_not state s e reply p seen reading before fault is h inside at due =
+    → Sees before after seen reading (Err refusal) → StandsFor (with_node state p after) ((e, Refused refusal) ∷ s)
+sees_not state s e reply p seen reading before after refusal is h inside at left =
     let was : before ≡ a_node p (last_stamp p s) (issued p s) = some-injective _ _ (sym at ∙ h.nodes p inside) in
-    let due' : stamp_due (last_stamp p s ∷ seen ∷ []) reading ≡ Err fault =
-    ap (λ node. stamp_due (node.core.last ∷ seen ∷ []) reading) (sym was) ∙ due in
-    stays state s e (of_clock fault) (is.makes _) (is.not_marked _) (is.sends _) (is.tells _)
-    (inl (is.refusal ∙ on_node-inside (world_nodes state) p _ inside ∙ ap stamp_refusal due')) h
+    let due' : stamp_refusal (stamp_due (last_stamp p s ∷ seen ∷ []) reading) ≡ Some refusal =
+    ap (λ issuer. stamp_refusal (stamp_due (issuer.node.last ∷ seen ∷ []) reading)) (sym was) ∙ left.0 in
+    let unchanged : slice_set state.nodes p after ≡ state.nodes = ap (λ x. slice_set state.nodes p x) left.1
+    ∙ set-same state.nodes p before at in
+    subst (λ xs. StandsFor (record { core = state.core; nodes = xs; messages = state.messages })
+    ((e, Refused refusal) ∷ s)) (sym unchanged)
+    (stays state s e refusal (is.makes _) (is.not_marked _) (is.sends _) (is.tells _)
+    (inl (is.refusal ∙ on_node-inside (world_nodes state) p _ inside ∙ due')) h)
 
 pub fresh-length : (n : ℕ) → length (fresh n) ≡ n
 fresh-length zero = refl

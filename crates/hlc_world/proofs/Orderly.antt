@@ -41,7 +41,7 @@ use Rattle.hlc_world.proofs.Lists.{some-injective, get-append_left, get-push}
 use Rattle.hlc_world.proofs.Nodes.{with_item-same, with_item-other, stamp_or-other}
 
 -- an item of a node is what it should be: by the node's last stamp, its count and its head
-pub record IsIssued (nodes last next top n k : ℕ) (item : Item) : Type 0 where
+pub record FitsItsNode (nodes last next top n k : ℕ) (item : Item) : Type 0 where
   pub inside : n < nodes
   pub node : item.node ≡ n
   pub number : item.number ≡ k
@@ -53,7 +53,7 @@ pub record IsIssued (nodes last next top n k : ℕ) (item : Item) : Type 0 where
 -- the issued items and what was accepted fit together
 pub record Orderly (nodes : ℕ) (items : ℕ → List Item) (lasts counts heads : ℕ → ℕ) : Type 0 where
   pub each : (n k : ℕ) (item : Item) → slice_get (items n) k ≡ Some item
-      → IsIssued nodes (lasts n) (counts n) (heads n) n k item
+      → FitsItsNode nodes (lasts n) (counts n) (heads n) n k item
   pub rising : (n j k : ℕ) (a b : Item) → j < k → slice_get (items n) j ≡ Some a → slice_get (items n) k ≡ Some b
       → a.stamp < b.stamp
   pub head_low : (n : ℕ) → heads n ≤ lasts n
@@ -125,7 +125,7 @@ orderly-issue nodes items lasts counts heads p st num body h inside is left ok u
           elim (get-with_item n k item x (items n) at) [
             | inl old ↦ m.each n k x old
             | inr fresh ↦
-                subst (λ y. IsIssued nodes (stamp_or n (Some (p, st)) (lasts n)) (counts n) (heads n) n k y) fresh.2
+                subst (λ y. FitsItsNode nodes (stamp_or n (Some (p, st)) (lasts n)) (counts n) (heads n) n k y) fresh.2
                 (let same : p ≡ n = fresh.0 in
                 let e : k ≡ length (items n) = fresh.1 in
                 let f : length (items p) ≡ length (items n) = ap (λ j. length (items j)) same in

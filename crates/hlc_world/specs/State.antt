@@ -1,10 +1,11 @@
 -- What a world keeps, and which schedule it stands for.
 use Rattle.std.specs.Prelude.{◌≡◌, ℕ, zero, suc, ◌<◌, ◌⊎◌, List, [], ◌∷◌, ◌++◌, length, Some, None, slice_get}
 use Rattle.std.specs.Prelude.{MatchOption, Result, Ok, Err}
+use Rattle.hlc_clock.specs.NextStamp.{stamp_due}
 use Rattle.hlc_node.specs.declared.item.Item.{Item}
 use Rattle.hlc_node.specs.declared.item.Body.{Body}
 use Rattle.hlc_node.specs.declared.item.Message.{Message}
-use Rattle.hlc_node.specs.Node.{Node, issue_due, next_item, after_issue}
+use Rattle.hlc_node.specs.Node.{Node, stamped, issue_due, next_item, after_issue}
 use Rattle.hlc_core.specs.Kept.{Kept, StandsFor as CoreStandsFor}
 use Rattle.hlc_core.specs.Calls.{new_refusal}
 use Rattle.hlc_world.specs.declared.reply.Reply.{Reply}
@@ -12,17 +13,17 @@ use Rattle.hlc_world.specs.declared.refusal.Refusal.{Refusal}
 use Rattle.hlc_world.specs.declared.refusal.Refusal.TheVariants.{NoMemory}
 use Rattle.hlc_world.specs.Schedule.{Event, issued, sent, node_of}
 use Rattle.hlc_world.specs.Store.{core_past}
-use Rattle.hlc_world.specs.Due.{issue_refusal, of_core, IsLegal}
+use Rattle.hlc_world.specs.Due.{issue_refusal, stamp_refusal, of_core, IsLegal}
 
--- what is kept of a node: its core, and the items that it issued
-pub record KeptNode : Type 0 where
-  pub core : Node
+-- what is kept of a node: the node itself, and the items that it issued
+pub record KeptIssuer : Type 0 where
+  pub node : Node
   pub issued : List Item
 
 -- what a world keeps: the core of the store, each node, and the messages that were sent
 pub record State : Type 0 where
   pub core : Kept
-  pub nodes : List KeptNode
+  pub nodes : List KeptIssuer
   pub messages : List Message
 
 -- how many nodes there are
@@ -38,13 +39,13 @@ pub record StandsFor (state : State) (schedule : List (Event × Reply)) : Type 0
   pub legal : IsLegal (world_nodes state) schedule
   pub core : CoreStandsFor state.core (core_past schedule)
   pub nodes : (n : ℕ) → n < world_nodes state
-      → slice_get state.nodes n ≡ Some (record { core = node_of n schedule; issued = issued n schedule })
+      → slice_get state.nodes n ≡ Some (record { node = node_of n schedule; issued = issued n schedule })
   pub messages : state.messages ≡ sent schedule
 
 -- so many nodes, on which nothing took place
-abbrev pub fresh : ℕ → List KeptNode
+abbrev pub fresh : ℕ → List KeptIssuer
 fresh zero = []
-fresh (suc n) = fresh n ++ record { core = record { id = n; last = 0; next = 0 }; issued = [] } ∷ []
+fresh (suc n) = fresh n ++ record { node = record { id = n; last = 0; next = 0 }; issued = [] } ∷ []
 
 -- a new world has these nodes and stands for the empty schedule; or the number of nodes is refused,
 -- or there is no memory
@@ -54,18 +55,26 @@ Makes count (Err refusal) = MatchOption (new_refusal count) (refusal ≡ NoMemor
 
 -- a node issued an item that says this, which bears the node's next number; or the node is unchanged, and the refusal
 -- is the due one, or want of memory where none is due
-abbrev pub Issues : KeptNode → KeptNode → Body → ℕ → Result (ℕ × ℕ) Refusal → Type 0
+abbrev pub Issues : KeptIssuer → KeptIssuer → Body → ℕ → Result (ℕ × ℕ) Refusal → Type 0
 Issues old new body reading (Ok made) =
-    (issue_due old.core body reading ≡ Ok made.0)
-    × (made.1 ≡ old.core.next)
-    × (new ≡ record { core = after_issue old.core made.0; issued = old.issued ++ next_item old.core body made.0 ∷ [] })
+    (issue_due old.node body reading ≡ Ok made.0)
+    × (made.1 ≡ old.node.next)
+    × (new ≡ record { node = after_issue old.node made.0; issued = old.issued ++ next_item old.node body made.0 ∷ [] })
 Issues old new body reading (Err refusal) =
-    ((issue_refusal (issue_due old.core body reading) ≡ Some refusal)
-    ⊎ ((issue_refusal (issue_due old.core body reading) ≡ None) × (refusal ≡ NoMemory)))
+    ((issue_refusal (issue_due old.node body reading) ≡ Some refusal)
+    ⊎ ((issue_refusal (issue_due old.node body reading) ≡ None) × (refusal ≡ NoMemory)))
     × (new ≡ old)
 
 -- an item is kept, and its node is this one then; or there is no memory, and all is as it was
-abbrev pub Keeps : KeptNode → KeptNode → Node → Item → Result (ℕ × ℕ) Refusal → Type 0
-Keeps old new core item (Ok made) =
-    (made ≡ (item.stamp, item.number)) × (new ≡ record { core = core; issued = old.issued ++ item ∷ [] })
-Keeps old new core item (Err refusal) = (refusal ≡ NoMemory) × (new ≡ old)
+abbrev pub Keeps : KeptIssuer → KeptIssuer → Node → Item → Result (ℕ × ℕ) Refusal → Type 0
+Keeps old new node item (Ok made) =
+    (made ≡ (item.stamp, item.number)) × (new ≡ record { node = node; issued = old.issued ++ item ∷ [] })
+Keeps old new node item (Err refusal) = (refusal ≡ NoMemory) × (new ≡ old)
+
+-- a node has a stamp above one that it saw; or the node is unchanged, and the refusal is the due one
+abbrev pub Sees : KeptIssuer → KeptIssuer → ℕ → ℕ → Result ℕ Refusal → Type 0
+Sees old new seen reading (Ok stamp) =
+    (stamp_due (old.node.last ∷ seen ∷ []) reading ≡ Ok stamp)
+    × (new ≡ record { node = stamped old.node stamp; issued = old.issued })
+Sees old new seen reading (Err refusal) =
+    (stamp_refusal (stamp_due (old.node.last ∷ seen ∷ []) reading) ≡ Some refusal) × (new ≡ old)

@@ -3,20 +3,20 @@
 #![tactic(auto)]
 
 mod event;
+mod issuer;
 mod laws;
-mod node;
 mod refusal;
 mod reply;
 mod world;
 
 pub use event::Event;
 pub use hlc_clock::Stamp;
-pub use hlc_core::{Listing, Pair, Points, Report, Witness, Witnesses};
+pub use hlc_core::{Listing, NoMemory, Pair, Points, Report, Witness, Witnesses};
 pub use hlc_node::Bytes;
 pub use laws::{
     items_go_by_number, no_clock_is_below_the_floor, open_snapshots_are_closed,
     stamps_follow_events, the_floor_is_complete, worlds_are_faithful,
 };
-pub use refusal::{NoMemory, Refusal};
+pub use refusal::Refusal;
 pub use reply::Reply;
 pub use world::World;

@@ -2,12 +2,12 @@
 ghost use Rattle.std.specs.Prelude.{◌≡◌};
 ghost use Rattle.std.proofs.Common.{rules};
 ghost use Rattle.std.proofs.lemmas.Grind.{common_steps};
-ghost use Rattle.hlc_world.specs.Due.{of_body, of_clock, of_node, of_core};
 
 use hlc_clock::{ClockFault, Stamp};
 use hlc_core::CoreFault;
 use hlc_node::{BodyFault, NodeFault};
 use hlc_values::Exact;
+use std::alloc::AllocError;
 
 /// Why an event does not take place.
 #[derive(Clone, Copy, PartialEq, Eq, Debug)]
@@ -52,61 +52,73 @@ impl Exact for Refusal {
     ghost copied = { Prim.search rules };
 }
 
-/// A growth was refused.
-#[derive(Clone, Copy, PartialEq, Eq, Debug)]
-pub struct NoMemory;
+impl From<BodyFault> for Refusal {
+    ghost use Rattle.hlc_world.specs.Due.{of_body};
 
-impl Exact for NoMemory {
-    ghost equal = { Prim.search (rules, common_steps) };
+    ghost from_gives = { λ fault refusal. refusal ≡ of_body fault };
 
-    ghost copied = { Prim.search rules };
-}
-
-/// What no item may say, as a refusal.
-pub fn of_body(fault: BodyFault) -> Refusal
-    ensures { result ≡ of_body fault }
-{
-    match fault {
-        BodyFault::BadKey => Refusal::BadKey,
-        BodyFault::ValueTooLong => Refusal::ValueTooLong,
+    fn from(fault: BodyFault) -> Refusal {
+        match fault {
+            BodyFault::BadKey => Refusal::BadKey,
+            BodyFault::ValueTooLong => Refusal::ValueTooLong,
+        }
     }
 }
 
-/// The clock's fault, as a refusal.
-pub fn of_clock(fault: ClockFault) -> Refusal
-    ensures { result ≡ of_clock fault }
-{
-    match fault {
-        ClockFault::ReadingTooLarge => Refusal::ReadingTooLarge,
-        ClockFault::CounterFull { at } => Refusal::CounterFull { at },
+impl From<ClockFault> for Refusal {
+    ghost use Rattle.hlc_world.specs.Due.{of_clock};
+
+    ghost from_gives = { λ fault refusal. refusal ≡ of_clock fault };
+
+    fn from(fault: ClockFault) -> Refusal {
+        match fault {
+            ClockFault::ReadingTooLarge => Refusal::ReadingTooLarge,
+            ClockFault::CounterFull { at } => Refusal::CounterFull { at },
+        }
     }
 }
 
-/// The node's fault, as a refusal.
-pub fn of_node(fault: NodeFault) -> Refusal
-    ensures { result ≡ of_node fault }
-{
-    match fault {
-        NodeFault::BadBody(fault) => of_body(fault),
-        NodeFault::NumbersSpent => Refusal::NumbersSpent,
-        NodeFault::NoStamp(fault) => of_clock(fault),
+impl From<NodeFault> for Refusal {
+    ghost use Rattle.hlc_world.specs.Due.{of_node};
+
+    ghost from_gives = { λ fault refusal. refusal ≡ of_node fault };
+
+    fn from(fault: NodeFault) -> Refusal {
+        match fault {
+            NodeFault::BadBody(fault) => Refusal::from(fault),
+            NodeFault::NumbersSpent => Refusal::NumbersSpent,
+            NodeFault::NoStamp(fault) => Refusal::from(fault),
+        }
     }
 }
 
-/// The core's fault, as a refusal.
-pub fn of_core(fault: CoreFault) -> Refusal
-    ensures { result ≡ of_core fault }
-{
-    match fault {
-        CoreFault::NoNode => Refusal::NoNode,
-        CoreFault::NotNext { next } => Refusal::NotNext { next },
-        CoreFault::NumbersSpent => Refusal::NumbersSpent,
-        CoreFault::StampNotRising { head } => Refusal::StampNotRising { head },
-        CoreFault::BadBody(fault) => of_body(fault),
-        CoreFault::AboveFloor { floor } => Refusal::AboveFloor { floor },
-        CoreFault::BelowHorizon { horizon } => Refusal::BelowHorizon { horizon },
-        CoreFault::NoSnapshot => Refusal::NoSnapshot,
-        CoreFault::TooManySnapshots => Refusal::TooManySnapshots,
-        CoreFault::NoMemory => Refusal::NoMemory,
+impl From<CoreFault> for Refusal {
+    ghost use Rattle.hlc_world.specs.Due.{of_core};
+
+    ghost from_gives = { λ fault refusal. refusal ≡ of_core fault };
+
+    fn from(fault: CoreFault) -> Refusal {
+        match fault {
+            CoreFault::NoNode => Refusal::NoNode,
+            CoreFault::NotNext { next } => Refusal::NotNext { next },
+            CoreFault::NumbersSpent => Refusal::NumbersSpent,
+            CoreFault::StampNotRising { head } => Refusal::StampNotRising { head },
+            CoreFault::BadBody(fault) => Refusal::from(fault),
+            CoreFault::AboveFloor { floor } => Refusal::AboveFloor { floor },
+            CoreFault::BelowHorizon { horizon } => Refusal::BelowHorizon { horizon },
+            CoreFault::NoSnapshot => Refusal::NoSnapshot,
+            CoreFault::TooManySnapshots => Refusal::TooManySnapshots,
+            CoreFault::NoMemory => Refusal::NoMemory,
+        }
+    }
+}
+
+impl From<AllocError> for Refusal {
+    ghost use Rattle.hlc_world.specs.declared.refusal.Refusal.TheVariants.{NoMemory};
+
+    ghost from_gives = { λ _ refusal. refusal ≡ NoMemory };
+
+    fn from(_fault: AllocError) -> Refusal {
+        Refusal::NoMemory
     }
 }

@@ -13,11 +13,11 @@ ghost use Rattle.hlc_world.specs.State.{StandsFor, IsMatched, Makes, world_nodes
 ghost use Rattle.hlc_world.specs.declared.reply.Reply.{Reply as AReply};
 
 use crate::event::Event;
-use crate::node::Node;
-use crate::refusal::{self, NoMemory, Refusal};
+use crate::issuer::Issuer;
+use crate::refusal::Refusal;
 use crate::reply::Reply;
 use hlc_clock::Stamp;
-use hlc_core::{Core, CoreFault};
+use hlc_core::{Core, CoreFault, NoMemory};
 use hlc_node::{Bytes, Item, Message};
 use std::alloc::{AllocError, Global};
 use std::marker::Model;
@@ -31,7 +31,7 @@ use std::marker::Model;
 pub struct World {
     alloc: Global,
     core: Core,
-    nodes: Vec<Node>,
+    nodes: Vec<Issuer>,
     messages: Vec<Message>,
 }
 
@@ -52,13 +52,8 @@ impl World {
     pub fn new(alloc: Global, nodes: u16) -> Result<World, Refusal>
         ensures { Makes nodes result }
     {
-        let core = match Core::new(alloc, nodes) {
-            Ok(core) => core,
-            Err(fault) => return Err(refusal::of_core(fault)),
-        };
-        let Ok(nodes) = fresh_nodes(alloc, nodes) else {
-            return Err(Refusal::NoMemory);
-        };
+        let core = Core::new(alloc, nodes)?;
+        let nodes = fresh_nodes(alloc, nodes)?;
         Ok(World {
             alloc,
             core,
@@ -224,16 +219,16 @@ impl World {
         if place >= self.nodes.len() {
             return Reply::Refused(Refusal::NoNode);
         }
-        let mut core = self.nodes[place].core();
-        match core.send(reading) {
-            Err(fault) => Reply::Refused(refusal::of_clock(fault)),
+        let mut sender = self.nodes[place].node();
+        match sender.send(reading) {
+            Err(fault) => Reply::Refused(Refusal::from(fault)),
             Ok(sent) => {
                 let stamp = sent.stamp;
                 let message = self.messages.len() as u64;
                 if !post(&mut self.messages, sent) {
                     return Reply::Refused(Refusal::NoMemory);
                 }
-                self.nodes[place].go_on(core);
+                self.nodes[place].go_on(sender);
                 Reply::Sent { stamp, message }
             }
         }
@@ -253,13 +248,9 @@ impl World {
         let Some(sent) = self.messages.as_slice().get(message as usize) else {
             return Reply::Refused(Refusal::NoMessage);
         };
-        let mut core = self.nodes[place].core();
-        match core.receive(sent, reading) {
-            Ok(stamp) => {
-                self.nodes[place].go_on(core);
-                Reply::Received { stamp }
-            }
-            Err(fault) => Reply::Refused(refusal::of_clock(fault)),
+        match self.nodes[place].receive(sent, reading) {
+            Ok(stamp) => Reply::Received { stamp },
+            Err(refusal) => Reply::Refused(refusal),
         }
     }
 
@@ -277,13 +268,9 @@ impl World {
         let Some(seen) = self.core.stamp_of(id) else {
             return Reply::Refused(Refusal::NoSnapshot);
         };
-        let mut core = self.nodes[place].core();
-        match core.observe(seen, reading) {
-            Ok(stamp) => {
-                self.nodes[place].go_on(core);
-                Reply::Observed { stamp }
-            }
-            Err(fault) => Reply::Refused(refusal::of_clock(fault)),
+        match self.nodes[place].observe(seen, reading) {
+            Ok(stamp) => Reply::Observed { stamp },
+            Err(refusal) => Reply::Refused(refusal),
         }
     }
 
@@ -303,7 +290,7 @@ impl World {
         };
         match accept(&mut self.core, item) {
             Ok(stamp) => Reply::Accepted { stamp },
-            Err(fault) => Reply::Refused(refusal::of_core(fault)),
+            Err(fault) => Reply::Refused(Refusal::from(fault)),
         }
     }
 
@@ -316,7 +303,7 @@ impl World {
     {
         match self.core.open(stamp) {
             Ok(id) => Reply::Snapshot { id, stamp },
-            Err(fault) => Reply::Refused(refusal::of_core(fault)),
+            Err(fault) => Reply::Refused(Refusal::from(fault)),
         }
     }
 
@@ -329,7 +316,7 @@ impl World {
     {
         match self.core.open_floor() {
             Ok((id, stamp)) => Reply::Snapshot { id, stamp },
-            Err(fault) => Reply::Refused(refusal::of_core(fault)),
+            Err(fault) => Reply::Refused(Refusal::from(fault)),
         }
     }
 
@@ -359,7 +346,7 @@ impl World {
     {
         match self.core.list(id) {
             Ok(pairs) => Reply::Listing { pairs },
-            Err(fault) => Reply::Refused(refusal::of_core(fault)),
+            Err(fault) => Reply::Refused(Refusal::from(fault)),
         }
     }
 
@@ -413,12 +400,12 @@ impl World {
 }
 
 /// So many nodes, on which nothing took place.
-fn fresh_nodes(alloc: Global, count: u16) -> Result<Vec<Node>, AllocError>
+fn fresh_nodes(alloc: Global, count: u16) -> Result<Vec<Issuer>, AllocError>
     ensures { IfOk result (λ made. made.items ≡ fresh count) }
 {
     let mut made = Vec::new(alloc);
     for id in 0..count {
-        made.push(Node::new(alloc, id))?;
+        made.push(Issuer::new(alloc, id))?;
     }
     Ok(made)
 }
@@ -440,8 +427,5 @@ fn accept(core: &mut Core, item: &Item) -> Result<Stamp, CoreFault>
     ensures err { OnErr result (core.new ≡ core.old) }
     ensures nodes { nodes core.new ≡ nodes core.old }
 {
-    match core.accept_copy(item) {
-        Ok(accepted) => Ok(accepted.stamp()),
-        Err(fault) => Err(fault),
-    }
+    Ok(core.accept_copy(item)?.stamp())
 }

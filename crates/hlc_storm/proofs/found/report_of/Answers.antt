@@ -2,7 +2,8 @@
 -- listed and closed.
 use Rattle.std.proofs.Common.{◌≡◌, ℕ, ◌+◌, ◌∷◌, ◌∙◌, ap, subst, sym, refl}
 use Rattle.hlc_core.specs.Past.{Opened, Closed, floor, opened, stamp_of, writes}
-use Rattle.hlc_core.specs.Calls.{IsListed, IsListing}
+use Rattle.hlc_core.specs.Calls.{IsListed}
+use Rattle.hlc_core.specs.Listing.{IsListing}
 use Rattle.hlc_core.specs.Kept.{nodes}
 use Rattle.hlc_core.specs.Stored.{IsReport}
 use Rattle.hlc_storm.proofs.Opening.{just_opened}

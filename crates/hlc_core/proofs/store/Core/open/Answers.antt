@@ -1,24 +1,19 @@
-use Rattle.std.proofs.Common.{◌≤◌, ◌∙◌, ◌+◌, sym, ap, subst}
-use Rattle.std.specs.Prelude.{⊤}
-use Rattle.hlc_core.specs.Calls.{IsRefusal}
-use Rattle.hlc_core.specs.Past.{of_room, of_registry}
-use Rattle.hlc_core.proofs.Standing.{room-due, room-fault, opens}
+-- From the horizon to the floor there is room where the registry has room, and its opening is that of the past.
+use Rattle.std.proofs.Common.{◌≤◌, ◌∙◌, ◌+◌, sym, ap}
+use Rattle.hlc_core.specs.Past.{of_room}
+use Rattle.hlc_core.proofs.Standing.{room-due, opens}
 use Rattle.std.proofs.lemmas.Map.Keys.{ge_from_not_lt}
 use Rattle.hlc_core.proofs.Held.{held-open, floor-of, not_gt-le}
 use Rattle.hlc_core.proofs.PastLemmas.{open-room}
 use Rattle.hlc_core.proofs.store.Core.open.Goals as goal
-use Rattle.hlc_core.proofs.store.Core.open.Goals.{in-Ok, in-Err}
 
-pub invariant_of-self : goal.invariant_of-self
-invariant_of-self c =
+pub invariant_of-self-2 : goal.invariant_of-self-2
+invariant_of-self-2 c =
     let low : c.args.stamp ≤ c.floor-floor.result =
     not_gt-le c.args.stamp c.floor-floor.result (sym c.gt.ensures ∙ c.if-gt.false) in
     let is = floor-of _ _ _ c.self.invariant.0 (rw (← c.self.view_is) at c.floor-floor.ensures.least) in
-    elim c.match-open.branch [
-      | in-Ok w ↦ rw w.in-Ok.ensures.ok.2
-          (c.self.invariant.0, held-open _ _ _ _ c.args.stamp c.floor-floor.result c.self.invariant.1 is low)
-      | in-Err w ↦ rw w.in-Err.ensures.err.1 c.self.invariant
-    ]
+    rw c.in_ok-open.ensures.ok.2
+    (c.self.invariant.0, held-open _ _ _ _ c.args.stamp c.floor-floor.result c.self.invariant.1 is low)
 
 pub returns-clause-stands : goal.returns-clause-stands
 returns-clause-stands c = λ past h.
@@ -29,16 +24,8 @@ returns-clause-stands c = λ past h.
     not_gt-le c.args.stamp c.floor-floor.result (sym c.gt.ensures ∙ c.if-gt.false) in
     let high : c.horizon-horizon.result ≤ c.args.stamp =
     ge_from_not_lt c.args.stamp c.horizon-horizon.result (sym c.lt.ensures ∙ c.if-lt.false) in
-    elim c.match-open.branch [
-      | in-Ok w ↦
-          let ok = w.in-Ok.ensures.ok in
-          let none = open-room _ past c.args.stamp (rw (← top) low) (rw (← bottom) high) ∙ sym (room-due _ past h')
-          ∙ ap of_room ok.0 in
-          rw (w.result-is, ← c.self.view_is, ok.2)
-          (none, ok.1 ∙ ap (λ n. n + 1) h'.opened, opens _ past c.args.stamp h' none)
-      | in-Err w ↦
-          let room = open-room _ past c.args.stamp (rw (← top) low) (rw (← bottom) high) in
-          rw (w.result-is, w.of_registry.ensures, ← c.self.view_is)
-          (subst (λ due. IsRefusal due ⊤ (of_registry w.in-Err.fault)) (sym room)
-          (room-fault _ past _ h' w.in-Err.ensures.err.0))
-    ]
+    let ok = c.in_ok-open.ensures.ok in
+    let none = open-room _ past c.args.stamp (rw (← top) low) (rw (← bottom) high) ∙ sym (room-due _ past h')
+    ∙ ap of_room ok.0 in
+    rw (← c.self.view_is, ok.2)
+    (none, ok.1 ∙ ap (λ n. n + 1) h'.opened, opens _ past c.args.stamp h' none)

@@ -6,13 +6,13 @@ use Rattle.hlc_vacuum.specs.Plan.{IsPlanOf}
 use Rattle.hlc_core.specs.Kept.{Kept}
 use Rattle.hlc_core.proofs.store.Core.plan_parallel.Goals as goal
 
-pub returns-in-Ok : goal.returns-in-Ok
-returns-in-Ok g c =
-    let points = c.in-Ok.ensures.points ∙ c.as_slice.ensures.value in
+pub returns : goal.returns
+returns g c =
+    let points = c.in_ok-plan.ensures.points ∙ c.as_slice.ensures.value in
     record {
-      made = subst (λ (kept : Kept). IsPlanOf c.in-Ok.plan kept.rows) c.self.view_is c.in-Ok.ensures.made;
+      made = subst (λ (kept : Kept). IsPlanOf c.in_ok-plan.plan kept.rows) c.self.view_is c.in_ok-plan.ensures.made;
       points =
-          subst (λ (kept : Kept). ArePoints (stamps kept.snapshots) c.floor-floor.result c.in-Ok.plan.points)
+          subst (λ (kept : Kept). ArePoints (stamps kept.snapshots) c.floor-floor.result c.in_ok-plan.plan.points)
           c.self.view_is
           (subst (ArePoints (stamps c.self.inside.registry.snapshots) c.floor-floor.result)
           (sym points) c.in_ok-points.ensures);

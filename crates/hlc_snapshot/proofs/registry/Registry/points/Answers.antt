@@ -9,6 +9,6 @@ pub returns : goal.returns
 returns c =
     points-from_sorted _ c.sort_unstable.new.self.items _ c.args.floor
     (All-map (λ stamp. stamp ≤ c.args.floor) (λ snapshot. snapshot.stamp) c.args.self.now.snapshots c.requires)
-    (rw c.in-Ok.ensures at c.sort_unstable.ensures.permutation)
+    (rw c.in_ok-points.ensures at c.sort_unstable.ensures.permutation)
     c.sort_unstable.ensures.sorted
     (dedup_is _ _ _ c.dedup.ensures.filtered)

@@ -20,5 +20,5 @@ returns-clause-stands c = λ s h.
     (c.accept.ensures.stands (core_past s) h'.core) in
     elim c.match-accept.branch [
       | in-Ok w ↦ rw (w.result-is ∙ sym (ap reply_of w.in-Ok.is)) all'
-      | in-Err w ↦ rw (w.result-is ∙ ap Refused w.of_core.ensures ∙ sym (ap reply_of w.in-Err.is)) all'
+      | in-Err w ↦ rw (w.result-is ∙ ap Refused w.from.ensures ∙ sym (ap reply_of w.in-Err.is)) all'
     ]

@@ -1,52 +1,27 @@
-use Rattle.std.proofs.Common.{◌≡◌, ◌<◌, length, refl, sym, ◌∙◌, ap, arith, [], ◌∷◌, Some, Ok}
+-- The node sees the stamp of the message.
+use Rattle.std.proofs.Common.{◌≡◌, ◌<◌, length, refl, sym, ◌∙◌, ap, arith, Some}
 use Rattle.std.proofs.lemmas.Option.{slice_get_read}
 use Rattle.std.specs.Prelude.{slice_get}
-use Rattle.hlc_clock.specs.NextStamp.{stamp_due}
-use Rattle.hlc_node.specs.Node.{stamped}
 use Rattle.hlc_world.specs.Schedule.{message_at}
-use Rattle.hlc_world.proofs.Lists.{some-injective}
-use Rattle.hlc_world.specs.declared.event.Event.TheVariants.{Receive}
 use Rattle.hlc_world.specs.declared.reply.Reply.TheVariants.{Received}
 use Rattle.hlc_world.proofs.Nodes.{receive-is, sees, sees_not}
 use Rattle.hlc_world.proofs.world.World.receive.Goals as goal
+use Rattle.hlc_world.proofs.world.World.receive.Goals.{in-Ok, in-Err}
 
-pub returns-in-Ok-clause-stands : goal.returns-in-Ok-clause-stands
-returns-in-Ok-clause-stands c = λ s h.
+pub returns-clause-stands : goal.returns-clause-stands
+returns-clause-stands c = λ s h.
     let h' = rw (← c.self.view_is) at h in
     let inside : c.args.node < length c.self.inside.nodes.items = omega (arith, c.self.inside.nodes.ok.0) in
-    let read = slice_get_read c.self.inside.nodes.items
-    (length c.self.inside.nodes.items) c.args.node c.index.result.now refl inside c.index.ensures in
     let at = slice_get_read c.self.inside.nodes.items
     (length c.self.inside.nodes.items) c.args.node c.index_mut.result.now refl inside c.index_mut.ensures.value in
-    let core : c.core-core.result ≡ c.index_mut.result.now.core = c.core-core.ensures
-    ∙ ap (λ node. node.core) (some-injective _ _ (sym read ∙ at)) in
     let l = c.in-Some.ensures.lookup in
     let there : message_at c.args.message s ≡ Some c.in-Some.sent.now =
     ap (λ xs. slice_get xs c.args.message) (sym h'.messages ∙ sym c.as_slice.ensures.value)
     ∙ slice_get_read c.as_slice.result.now _ c.args.message c.in-Some.sent.now refl l.3.0 l.1 in
-    let due : stamp_due (c.index_mut.result.now.core.last ∷ c.in-Some.sent.now.stamp ∷ []) c.args.reading
-    ≡ Ok c.in-Ok.stamp =
-    ap (λ node. stamp_due (node.last ∷ c.in-Some.sent.now.stamp ∷ []) c.args.reading) (sym core)
-    ∙ sym c.in-Ok.ensures.due in
-    rw c.go_on.ensures
-    (sees _ s (Receive c.args.node c.args.reading c.args.message) Received c.args.node c.in-Some.sent.now.stamp
-    c.args.reading c.in-Ok.stamp c.index_mut.result.now c.receive.new.self
-    (receive-is _ s c.args.node c.args.reading c.args.message c.in-Some.sent.now there) h' inside at due
-    (c.in-Ok.ensures.ok ∙ ap (λ node. stamped node c.in-Ok.stamp) core))
-
-pub returns-in-Err-clause-stands : goal.returns-in-Err-clause-stands
-returns-in-Err-clause-stands c = λ s h.
-    let h' = rw (← c.self.view_is) at h in
-    let inside : c.args.node < length c.self.inside.nodes.items = omega (arith, c.self.inside.nodes.ok.0) in
-    let at = slice_get_read c.self.inside.nodes.items
-    (length c.self.inside.nodes.items) c.args.node c.index.result.now refl inside c.index.ensures in
-    let l = c.in-Some.ensures.lookup in
-    let there : message_at c.args.message s ≡ Some c.in-Some.sent.now =
-    ap (λ xs. slice_get xs c.args.message) (sym h'.messages ∙ sym c.as_slice.ensures.value)
-    ∙ slice_get_read c.as_slice.result.now _ c.args.message c.in-Some.sent.now refl l.3.0 l.1 in
-    rw (← c.self.view_is, c.of_clock.ensures)
-    (sees_not _ s (Receive c.args.node c.args.reading c.args.message) Received c.args.node c.in-Some.sent.now.stamp
-    c.args.reading c.index.result.now c.in-Err.fault
-    (receive-is _ s c.args.node c.args.reading c.args.message c.in-Some.sent.now there) h' inside at
-    (ap (λ node. stamp_due (node.last ∷ c.in-Some.sent.now.stamp ∷ []) c.args.reading) (sym c.core-core.ensures)
-    ∙ sym c.in-Err.ensures.due))
+    let is = receive-is _ s c.args.node c.args.reading c.args.message c.in-Some.sent.now there in
+    elim c.match-receive.branch [
+      | in-Ok w ↦ rw w.result-is (sees _ s _ Received c.args.node c.in-Some.sent.now.stamp c.args.reading w.in-Ok.stamp
+          c.index_mut.result.now c.receive.new.self is h' inside at w.in-Ok.ensures)
+      | in-Err w ↦ rw w.result-is (sees_not _ s _ Received c.args.node c.in-Some.sent.now.stamp c.args.reading
+          c.index_mut.result.now c.receive.new.self _ is h' inside at w.in-Err.ensures)
+    ]

@@ -6,7 +6,7 @@ use Rattle.hlc_columns.specs.Cells.{Cell}
 use Rattle.hlc_columns.specs.Rows.{rows_of}
 use Rattle.hlc_core.specs.Listing.{pair_of}
 use Rattle.hlc_core.proofs.Columns.{pair_on, pairs_all}
-use Rattle.hlc_core.proofs.list.pairs_at.Goals as goal
+use Rattle.hlc_core.proofs.listing.pairs_at.Goals as goal
 
 pub loop-one-preserved : goal.loop-one-preserved
 loop-one-preserved c =

@@ -1,0 +1,110 @@
+//! What a world keeps of a node: the node itself, and the items that it issued.
+ghost use Rattle.std.specs.Prelude.{◌≡◌, [], slice_get, option_copied};
+ghost use Rattle.hlc_node.specs.declared.item.Body.TheVariants.{Write as a_write, Report as a_report};
+ghost use Rattle.hlc_world.specs.State.{Issues, Keeps, Sees};
+
+use crate::refusal::Refusal;
+use hlc_clock::Stamp;
+use hlc_node::{Bytes, Item, Message, NodeCore};
+use std::alloc::Global;
+use std::marker::Model;
+
+/// A node, and the items that it issued, in order.
+#[derive(Drop)]
+pub struct Issuer {
+    node: NodeCore,
+    issued: Vec<Item>,
+}
+
+impl Model for Issuer {
+    ghost use Rattle.hlc_world.specs.State.{KeptIssuer};
+
+    ghost Value = { KeptIssuer };
+
+    ghost view = { λ issuer. record { node = issuer.node; issued = issuer.issued.items } };
+}
+
+impl Issuer {
+    /// A node of this number, on which nothing took place.
+    pub fn new(alloc: Global, id: u16) -> Issuer
+        ensures { result ≡ record { node = record { id = id; last = 0; next = 0 }; issued = [] } }
+    {
+        Issuer {
+            node: NodeCore::new(id, Stamp::from_bits(0)),
+            issued: Vec::new(alloc),
+        }
+    }
+
+    /// The node, as a copy to try an event on.
+    pub fn node(&self) -> NodeCore
+        ensures { result ≡ self.now.node }
+    {
+        self.node
+    }
+
+    /// The node came to be this one, by an event without an item.
+    pub fn go_on(&mut self, node: NodeCore)
+        ensures { self.new ≡ record { node = node; issued = self.old.issued } }
+    {
+        self.node = node;
+    }
+
+    /// The issued item of this number.
+    pub fn item(&self, number: u64) -> Option<&Item>
+        ensures { option_copied result ≡ slice_get self.now.issued number }
+    {
+        self.issued.as_slice().get(number as usize)
+    }
+
+    /// Issues the item of a write, or of a deletion where there is no value, and gives its stamp
+    /// and its number.
+    pub fn write(
+        &mut self,
+        reading: u64,
+        key: Bytes,
+        value: Option<Bytes>,
+    ) -> Result<(Stamp, u64), Refusal>
+        ensures { Issues self.old self.new (a_write key value) reading result }
+    {
+        let mut node = self.node;
+        match node.write(reading, key, value) {
+            Err(refused) => Err(Refusal::from(refused.why)),
+            Ok(item) => self.keep(node, item),
+        }
+    }
+
+    /// Issues a report, and gives its stamp and its number.
+    pub fn report(&mut self, reading: u64) -> Result<(Stamp, u64), Refusal>
+        ensures { Issues self.old self.new a_report reading result }
+    {
+        let mut node = self.node;
+        let item = node.report(reading)?;
+        self.keep(node, item)
+    }
+
+    /// Receives a message, and gives the stamp of that.
+    pub fn receive(&mut self, message: &Message, reading: u64) -> Result<Stamp, Refusal>
+        ensures { Sees self.old self.new message.now.stamp reading result }
+    {
+        Ok(self.node.receive(message, reading)?)
+    }
+
+    /// Observes a snapshot at a stamp, and gives the stamp of that.
+    pub fn observe(&mut self, seen: Stamp, reading: u64) -> Result<Stamp, Refusal>
+        ensures { Sees self.old self.new seen reading result }
+    {
+        Ok(self.node.observe(seen, reading)?)
+    }
+
+    /// Keeps an issued item and the node as it is then, if there is memory.
+    fn keep(&mut self, node: NodeCore, item: Item) -> Result<(Stamp, u64), Refusal>
+        ensures { Keeps self.old self.new node item result }
+    {
+        let made = (item.stamp, item.number);
+        if self.issued.push(item).is_err() {
+            return Err(Refusal::NoMemory);
+        }
+        self.node = node;
+        Ok(made)
+    }
+}
