@@ -8,7 +8,7 @@ use crate::caller::Caller;
 use crate::entry::{Entry, Receipt};
 use crate::guarded::Guarded;
 use crate::shared::Shared;
-use hlc_core::{Core, histories_are_faithful};
+use hlc_core::Core;
 use hlc_values::Exact;
 use std::sync::ledger::Ledger;
 
@@ -51,8 +51,6 @@ pub fn settle_guarded<L: Ledger>(
 ) -> Result<Settled, SettleFault>
     ensures { IsSettlement guarded (claims_of lists.items) result }
 {
-    // What the proof cites.
-    histories_are_faithful();
     let Guarded {
         core,
         trail,

@@ -1,6 +1,7 @@
 -- Where no receipt is bad and as many as entries were handed in, all settles: the invariant of what was under the lock
 -- says that the trail is a legal history for which the core stands.
 use Rattle.std.proofs.Common.{◌≡◌, List, Some, sym, ap, ◌∙◌, subst}
+use Rattle.hlc_core.proofs.FaithfulLemmas.{histories_are_faithful}
 use Rattle.hlc_server.specs.declared.entry.Entry.{Entry}
 use Rattle.hlc_server.specs.Trails.{entries_of, history_of}
 use Rattle.hlc_server.specs.Settling.{claims_of, IsSettled}
@@ -24,7 +25,7 @@ returns g c =
       told = each_is_told trail (claims_of c.args.lists.items) settled;
       legal = audited.legal;
       stands = audited.stands;
-      faithful = c.histories_are_faithful.ensures c.guarded.inside.core (history_of trail) audited.stands;
+      faithful = histories_are_faithful c.guarded.inside.core (history_of trail) audited.stands;
       core = ap (λ v. v.core) c.guarded.view_is;
       entries = c.len-entries.ensures ∙ c.in-Some.trail.entries.ok.0;
     }
