@@ -24,7 +24,6 @@ use std::io::Write;
 use std::test::*;
 
 /// Prints the number that the word spells, and gives it.
-#[tactic(auto, using(hlc_text::proofs::PrintLemmas::printed_finished))]
 pub fn echo<W: Write>(writer: &mut Watched<W>, word: &[u8]) -> Option<u64>
     ensures { IfSome result (λ _. Writes W.contents writer.old writer.new word.now) }
 {
