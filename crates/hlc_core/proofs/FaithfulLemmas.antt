@@ -19,7 +19,7 @@ use Rattle.hlc_core.specs.declared.event.CoreEvent.TheVariants.{Read, Vacuum}
 use Rattle.hlc_core.specs.declared.reply.CoreReply.{CoreReply}
 use Rattle.hlc_core.specs.declared.reply.CoreReply.TheVariants.{Answer, Vacuumed}
 use Rattle.hlc_core.specs.History.{past_of, IsAnswer, IsDue, IsLegalHistory, StandsForHistory}
-use Rattle.hlc_core.specs.Headline.{IsMoment, ReadsAreNewest, VacuumsAreLeast, VacuumsAreCheapest, FewestAreLeft}
+use Rattle.hlc_core.specs.Headline.{IsMoment, ReadsAreNewest, VacuumsAreFewest, VacuumsAreCheapest, FewestAreLeft}
 use Rattle.hlc_core.specs.Headline.{IsFaithful}
 use Rattle.hlc_core.proofs.Vacuums.{leaves-fewest}
 
@@ -46,7 +46,7 @@ reads-newest nodes h legal = λ before id key value moment.
     answered (stamp_of id (past_of before)) (answer (writes (past_of before)) key) value due.1
 
 vacuums-least : (nodes : ℕ) (h : List (CoreEvent × CoreReply)) → IsLegalHistory nodes h
-    → VacuumsAreLeast nodes h
+    → VacuumsAreFewest nodes h
 vacuums-least nodes h legal = λ before report moment.
     let given : IsDue nodes (past_of before) Vacuum (Vacuumed report) =
     (moment-legal nodes h ((Vacuum, Vacuumed report) ∷ before) legal moment).0 in

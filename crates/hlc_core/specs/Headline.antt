@@ -29,8 +29,8 @@ ReadsAreNewest history =
 
 -- each vacuum reported its points, the changes of all accepted writes there and their number, and no row set that
 -- answers alike at the points is smaller than the number of rows that it kept
-abbrev pub VacuumsAreLeast : ℕ → List (CoreEvent × CoreReply) → Type 0
-VacuumsAreLeast nodes history =
+abbrev pub VacuumsAreFewest : ℕ → List (CoreEvent × CoreReply) → Type 0
+VacuumsAreFewest nodes history =
     (before : List (CoreEvent × CoreReply)) (report : Report)
     → IsMoment history ((Vacuum, Vacuumed report) ∷ before)
     → IsReport nodes (past_of before) report
@@ -56,6 +56,6 @@ FewestAreLeft history rows =
 -- all of this is true of a history over so many nodes, after which these rows are stored
 pub record IsFaithful (nodes : ℕ) (history : List (CoreEvent × CoreReply)) (rows : List Row) : Type 0 where
   pub reads : ReadsAreNewest history
-  pub vacuums : VacuumsAreLeast nodes history
+  pub vacuums : VacuumsAreFewest nodes history
   pub bytes : VacuumsAreCheapest history
   pub fewest : FewestAreLeft history rows

@@ -3,14 +3,13 @@
 -- so they cost no more.
 use Rattle.std.proofs.Common.{All, Less, length, sym, arith, ◌≡◌, ℕ, ◌≤◌, List, ap₂}
 use Rattle.std.proofs.lemmas.List.Elements.{All-contains}
-use Rattle.hlc_values.proofs.PigeonLemmas.{served}
+use Rattle.hlc_values.proofs.PigeonLemmas.{served, served_all}
 use Rattle.hlc_node.specs.declared.row.Row.{Row}
 use Rattle.hlc_witness.specs.Changes.{ChangesAscend, IsChange, change_cmp}
 use Rattle.hlc_witness.specs.Cost.{cost_of, row_cost, rows_cost, Cheapest, change_cost, changes_cost}
 use Rattle.hlc_witness.specs.Fewest.{Alike}
 use Rattle.hlc_witness.specs.declared.witness.Witness.{Witness}
 use Rattle.hlc_witness.proofs.Forced.{Serves, forced, serves_once, apart}
-use Rattle.hlc_witness.proofs.Pigeons.{served_all}
 
 -- the row that serves a change costs what the change forces
 serves_cost : (all : List Row) (points : List ℕ) (c : Witness) (row : Row) → Serves all points c row
