@@ -1,5 +1,5 @@
 //! The places of a storm's workers: what each of them starts with.
-ghost use Rattle.std.specs.Prelude.{◌≡◌};
+ghost use Rattle.std.specs.Prelude.{◌≡◌, ◌+◌, ◌≤◌, IfOk, length};
 ghost use Rattle.hlc_board.specs.Views.{FeedersOf, PassesOf};
 
 use hlc_board::{Board, Feeder, FloorPass};
@@ -48,10 +48,14 @@ pub(crate) fn node_places<'a, L: Ledger, R: Wait>(
     callers: &mut Vec<Caller<L>>,
 ) -> Result<Vec<Node<'a, L>>, AllocError>
     requires { FeedersOf board.now feeders.items }
+    ensures left { IfOk result
+        (λ places. length callers.old.items ≡ length callers.new.items + length places.items) }
+    ensures all { IfOk result
+        (λ places. length feeders.items ≤ length callers.old.items → length places.items ≡ length feeders.items) }
 {
     let mut feeders = feeders;
     let mut places = Vec::with_capacity(alloc, feeders.len())?;
-    for _ in 0..feeders.len() {
+    for _place in 0..feeders.len() {
         let Some(feeder) = feeders.pop() else {
             break;
         };
@@ -82,10 +86,14 @@ pub(crate) fn reader_places<'a, L: Ledger>(
     callers: &mut Vec<Caller<L>>,
 ) -> Result<Vec<Looking<'a, L>>, AllocError>
     requires { PassesOf board.now passes.items }
+    ensures left { IfOk result
+        (λ places. length callers.old.items ≡ length callers.new.items + length places.items) }
+    ensures all { IfOk result
+        (λ places. length passes.items ≤ length callers.old.items → length places.items ≡ length passes.items) }
 {
     let mut passes = passes;
     let mut places = Vec::with_capacity(alloc, passes.len())?;
-    for _ in 0..passes.len() {
+    for _place in 0..passes.len() {
         let Some(pass) = passes.pop() else {
             break;
         };

@@ -47,6 +47,11 @@ impl Exact for StormFault {
 }
 
 impl From<AllocError> for StormFault {
+    ghost use Rattle.std.specs.Prelude.{◌≡◌};
+    ghost use Rattle.hlc_storm.specs.declared.report.StormFault.{StormFault};
+
+    ghost from_gives = { λ lack fault. fault ≡ StormFault.NoMemory };
+
     fn from(_error: AllocError) -> StormFault {
         StormFault::NoMemory
     }

@@ -1,5 +1,5 @@
 //! A storm by a scope of threads.
-ghost use Rattle.std.specs.Prelude.{◌≡◌, ◌+◌};
+ghost use Rattle.std.specs.Prelude.{◌≡◌, ◌+◌, IfOk, length};
 ghost use Rattle.hlc_storm.specs.Found.{MayTell};
 
 use crate::found::report_of;
@@ -83,7 +83,7 @@ fn storm_in<
     }
 }
 
-/// The work of a storm: a new store after it, and the receipts by caller.
+/// The work of a storm: a new store after it, and the receipts by caller, one list for each.
 #[tactic(auto, using(hlc_board::proofs::PlaceLemmas::feeders_new, hlc_board::proofs::PlaceLemmas::passes_new))]
 pub(crate) fn work<
     L: Ledger + Send + Sync,
@@ -100,6 +100,7 @@ pub(crate) fn work<
 ) -> Result<(Shared<L>, Lists<L>), StormFault>
     requires ledger { (blank.name ≡ L.name) × (blank.parts ≡ L.parts) }
     requires callers { blank.parts ≡ plan.nodes + plan.readers + 1 }
+    ensures { IfOk result (λ told. length told.1.items ≡ plan.nodes + plan.readers + 1) }
 {
     let count = plan.nodes + plan.readers + 1;
     let Ok((shared, callers)) = Shared::<L>::new(alloc, blank, plan.nodes, count, true) else {
@@ -129,7 +130,8 @@ pub(crate) fn work<
     Ok((shared, lists))
 }
 
-/// Runs all threads of a storm, and gives the receipts by caller.
+/// Runs all threads of a storm, and gives the receipts by caller, one list for each place. No clause says what is in
+/// them: the join of a thread says nothing of its result, and the settling looks at each.
 fn run_all<
     'a,
     L: Ledger + Send + Sync,
@@ -147,45 +149,54 @@ fn run_all<
     keys: &[Bytes],
     plan: StormPlan,
     gates: &StormGates<F, D, V>,
-) -> Result<Lists<L>, StormFault> {
+) -> Result<Lists<L>, StormFault>
+    ensures { IfOk result (λ lists. length lists.items ≡ length nodes.entry.items + length looking.entry.items + 1) }
+{
     let to_feed = &gates.feeders;
     let to_read = &gates.readers;
     let to_vacuum = &gates.vacuum;
-    thread::scope(thread::scope_env(), rt, |scope| {
-        let mut writers = Vec::new(alloc);
-        let mut feeders = Vec::new(alloc);
-        let mut readers = Vec::new(alloc);
-        let mut lacks_memory = false;
-        let vacuum = scope
-            .spawn(move || vacuum_rows(rt, alloc, shared, caller, to_vacuum))
-            .ok();
-        for place in looking {
-            let reader = scope
-                .spawn(move || read_keys(rt, alloc, shared, place, keys, to_read))
+    thread::scope(
+        thread::scope_env(),
+        rt,
+        |scope| -> Result<Lists<L>, StormFault>
+            ensures { IfOk result
+                (λ lists. length lists.items ≡ length nodes.entry.items + length looking.entry.items + 1) }
+        {
+            let mut writers = Vec::new(alloc);
+            let mut feeders = Vec::new(alloc);
+            let mut readers = Vec::new(alloc);
+            let mut lacks_memory = false;
+            let vacuum = scope
+                .spawn(move || vacuum_rows(rt, alloc, shared, caller, to_vacuum))
                 .ok();
-            lacks_memory = readers.push(reader).is_err() || lacks_memory;
-        }
-        for Node {
-            number,
-            link,
-            feeding,
-        } in nodes {
-            let writer = scope
-                .spawn(move || write_all(rt, alloc, link, number, plan))
-                .ok();
-            lacks_memory = writers.push(writer).is_err() || lacks_memory;
-            let feeder = scope
-                .spawn(move || feed_link(rt, alloc, shared, feeding, to_feed))
-                .ok();
-            lacks_memory = feeders.push(feeder).is_err() || lacks_memory;
-        }
-        let started = Started {
-            writers,
-            feeders,
-            readers,
-            vacuum,
-            lacks_memory,
-        };
-        join_all(rt, alloc, started)
-    })
+            for place in looking {
+                let reader = scope
+                    .spawn(move || read_keys(rt, alloc, shared, place, keys, to_read))
+                    .ok();
+                lacks_memory = readers.push(reader).is_err() || lacks_memory;
+            }
+            for Node {
+                number,
+                link,
+                feeding,
+            } in nodes {
+                let writer = scope
+                    .spawn(move || write_all(rt, alloc, link, number, plan))
+                    .ok();
+                lacks_memory = writers.push(writer).is_err() || lacks_memory;
+                let feeder = scope
+                    .spawn(move || feed_link(rt, alloc, shared, feeding, to_feed))
+                    .ok();
+                lacks_memory = feeders.push(feeder).is_err() || lacks_memory;
+            }
+            let started = Started {
+                writers,
+                feeders,
+                readers,
+                vacuum,
+                lacks_memory,
+            };
+            join_all(rt, alloc, started)
+        },
+    )
 }

@@ -1,4 +1,15 @@
 //! The workers of a storm, and what is kept of their work.
+ghost use Rattle.std.specs.Prelude.{◌≡◌, ◌≢◌, ◌+◌, ◌∷◌, [], ◌++◌, false, true, None, Some, IfOk, All, length, map};
+ghost use Rattle.std.specs.Prelude.{replicate, Option, vec_len};
+ghost use Rattle.hlc_node.specs.declared.item.Item.{Item as AnItem};
+ghost use Rattle.hlc_board.specs.Views.{Sight};
+ghost use Rattle.hlc_channel.specs.Ends.{Received};
+ghost use Rattle.hlc_core.specs.declared.event.CoreEvent.{CoreEvent as AnEvent};
+ghost use Rattle.hlc_workers.specs.Paid.{IsPaid, event_of};
+ghost use Rattle.hlc_workers.specs.Feeding.{TookAll};
+ghost use Rattle.hlc_workers.specs.Rounds.{HasServed};
+ghost use Rattle.hlc_storm.specs.declared.working.TheConstants.{ROUNDS};
+
 use crate::places::{Feeding, Looking};
 use crate::report::StormFault;
 use crate::writing::WriteFault;
@@ -32,7 +43,13 @@ pub(crate) fn feed_link<L: Ledger, G: Gate, R: Wait>(
     shared: &Shared<L>,
     place: Feeding<'_, L>,
     gate: &G,
-) -> Worked<L> {
+) -> Worked<L>
+    ensures share { IsPaid place.entry.caller result.caller result.receipts.items }
+    ensures items { (link : Received) × (left : Option AnItem)
+        × TookAll place.entry.link.taken link.taken result.receipts.items left
+        × (result.end ≡ WorkEnd.Done → (link.ended ≡ true) × (left ≡ None)) }
+    ensures held { result.end ≡ WorkEnd.Held → G.may_answer gate.now (vec_len result.receipts) false }
+{
     let Feeding {
         caller,
         link,
@@ -62,7 +79,12 @@ pub(crate) fn read_keys<L: Ledger, G: Gate, R: Wait>(
     place: Looking<'_, L>,
     keys: &[Bytes],
     gate: &G,
-) -> Worked<L> {
+) -> Worked<L>
+    ensures share { IsPaid place.entry.caller result.caller result.receipts.items }
+    ensures done { result.end ≡ WorkEnd.Done
+        → (pass : Sight) × HasServed keys.now ROUNDS place.entry.pass pass result.receipts.items }
+    ensures held { result.end ≡ WorkEnd.Held → G.may_answer gate.now (vec_len result.receipts) false }
+{
     let Looking {
         caller,
         board,
@@ -88,7 +110,11 @@ pub(crate) fn vacuum_rows<L: Ledger, G: Gate, R: Wait + Threads + Sync>(
     shared: &Shared<L>,
     caller: Caller<L>,
     gate: &G,
-) -> Worked<L> {
+) -> Worked<L>
+    ensures share { IsPaid caller result.caller result.receipts.items }
+    ensures done { result.end ≡ WorkEnd.Done → map event_of result.receipts.items ≡ replicate ROUNDS AnEvent.Vacuum }
+    ensures held { result.end ≡ WorkEnd.Held → G.may_answer gate.now (vec_len result.receipts) false }
+{
     let Served {
         caller,
         receipts,
@@ -111,7 +137,13 @@ struct Joined<L: Ledger> {
 }
 
 /// Notes what is kept of a worker. Workers are noted from the last caller to the first.
-fn note<L: Ledger>(joined: Joined<L>, worked: Worked<L>) -> Joined<L> {
+fn note<L: Ledger>(joined: Joined<L>, worked: Worked<L>) -> Joined<L>
+    ensures lists { result.lacks_memory ≡ false
+        → result.lists.items ≡ joined.lists.items ++ (worked.caller, worked.receipts) ∷ [] }
+    ensures lacks { result.lacks_memory ≡ false → joined.lacks_memory ≡ false }
+    ensures done { worked.end ≡ WorkEnd.Done → result.first ≡ joined.first }
+    ensures first { worked.end ≢ WorkEnd.Done → result.first ≡ Some worked.end }
+{
     let Joined {
         lists,
         first,
@@ -148,11 +180,14 @@ pub(crate) struct Started<L: Ledger> {
     pub(crate) lacks_memory: bool,
 }
 
-/// Joins the writers, and says whether one was not started, or found no memory.
+/// Joins the writers, and says whether one was not started, or found no memory. How a writer that was started ended is
+/// not said, since a join says nothing of it.
 fn join_writers<R: Threads + Wait>(
     rt: &R,
     writers: Vec<Option<JoinHandle<Result<(), WriteFault>>>>,
-) -> bool {
+) -> bool
+    ensures { result ≡ false → All (λ writer. writer ≢ None) writers.items }
+{
     let mut lacks_memory = false;
     for writer in writers {
         lacks_memory = match writer {
@@ -168,7 +203,10 @@ fn join_worker<L: Ledger, R: Threads + Wait>(
     rt: &R,
     worker: Option<JoinHandle<Worked<L>>>,
     joined: Joined<L>,
-) -> Joined<L> {
+) -> Joined<L>
+    ensures list { result.lacks_memory ≡ false → length result.lists.items ≡ length joined.lists.items + 1 }
+    ensures lacks { result.lacks_memory ≡ false → joined.lacks_memory ≡ false }
+{
     match worker {
         Some(worker) => note(joined, worker.join(rt)),
         None => Joined {
@@ -184,7 +222,11 @@ fn join_workers<L: Ledger, R: Threads + Wait>(
     rt: &R,
     workers: Vec<Option<JoinHandle<Worked<L>>>>,
     joined: Joined<L>,
-) -> Joined<L> {
+) -> Joined<L>
+    ensures lists { result.lacks_memory ≡ false
+        → length result.lists.items ≡ length joined.lists.items + length workers.items }
+    ensures lacks { result.lacks_memory ≡ false → joined.lacks_memory ≡ false }
+{
     let mut joined = joined;
     for worker in workers {
         joined = join_worker(rt, worker, joined);
@@ -197,7 +239,11 @@ pub(crate) fn join_all<L: Ledger, R: Threads + Wait>(
     rt: &R,
     alloc: Global,
     started: Started<L>,
-) -> Result<Lists<L>, StormFault> {
+) -> Result<Lists<L>, StormFault>
+    ensures lists { IfOk result
+        (λ lists. length lists.items ≡ length started.feeders.items + length started.readers.items + 1) }
+    ensures memory { IfOk result (λ _. started.lacks_memory ≡ false) }
+{
     let Started {
         writers,
         feeders,

@@ -1,4 +1,8 @@
 //! What the nodes of a storm write, and how.
+ghost use Rattle.std.specs.Prelude.{◌≡◌, IfOk, map};
+ghost use Rattle.std.specs.List.{range_with_len};
+ghost use Rattle.hlc_storm.specs.Written.{key_text, value_text};
+
 use hlc_channel::LinkSender;
 use hlc_core::{Bytes, Stamp};
 use hlc_node::NodeCore;
@@ -15,34 +19,48 @@ pub(crate) enum WriteFault {
 }
 
 impl From<AllocError> for WriteFault {
+    ghost use Rattle.std.specs.Prelude.{◌≡◌};
+    ghost use Rattle.hlc_storm.specs.declared.writing.WriteFault.{WriteFault};
+
+    ghost from_gives = { λ lack fault. fault ≡ WriteFault.NoMemory };
+
     fn from(_error: AllocError) -> WriteFault {
         WriteFault::NoMemory
     }
 }
 
 /// The key of this number.
-fn key_of(alloc: Global, number: u64) -> Result<Bytes, AllocError> {
+fn key_of(alloc: Global, number: u64) -> Result<Bytes, AllocError>
+    ensures { IfOk result (λ key. key ≡ key_text number) }
+{
     let text = format!(in alloc; "k{number}")?;
     Ok(Bytes::from_vec(text.into_bytes()))
 }
 
 /// All keys of a storm.
-pub(crate) fn all_keys(alloc: Global, plan: &StormPlan) -> Result<Vec<Bytes>, AllocError> {
+pub(crate) fn all_keys(alloc: Global, plan: &StormPlan) -> Result<Vec<Bytes>, AllocError>
+    ensures { IfOk result (λ keys. keys.items ≡ map key_text (range_with_len 0 plan.now.keys)) }
+{
     let mut keys = Vec::with_capacity(alloc, plan.keys as usize)?;
     for number in 0..plan.keys {
-        keys.push(key_of(alloc, number)?)?;
+        let key = key_of(alloc, number)?;
+        keys.push(key)?;
     }
     Ok(keys)
 }
 
 /// The value of a node's write of this number.
-fn value_of(alloc: Global, node: u16, number: u64) -> Result<Bytes, AllocError> {
+fn value_of(alloc: Global, node: u16, number: u64) -> Result<Bytes, AllocError>
+    ensures { IfOk result (λ value. value ≡ value_text node number) }
+{
     let text = format!(in alloc; "{node}.{number}")?;
     Ok(Bytes::from_vec(text.into_bytes()))
 }
 
 /// Issues the writes of a node, and puts each on its link; then a report, and then the end of the link. The write of
 /// number j, from 0, is made at reading j + 1, and the report one above the last.
+///
+/// No clause says what was put: the sender is given up here. The receiving end says what it took.
 pub(crate) fn write_all<R: Wait>(
     rt: &R,
     alloc: Global,

@@ -1,6 +1,6 @@
 -- Each call says what it did to the past that the core stood for before it: the snapshot is opened at the floor,
 -- listed and closed.
-use Rattle.std.proofs.Common.{◌≡◌, ℕ, ◌+◌, ◌∷◌, ◌∙◌, ap, subst, sym, refl}
+use Rattle.std.proofs.Common.{◌+◌, ◌∷◌, ◌∙◌, ap, subst, sym, refl}
 use Rattle.hlc_core.specs.Past.{Opened, Closed, floor, opened, stamp_of, writes}
 use Rattle.hlc_core.specs.Calls.{IsListed}
 use Rattle.hlc_core.specs.Listing.{IsListing}

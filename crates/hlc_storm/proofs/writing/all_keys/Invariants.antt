@@ -1,0 +1,8 @@
+-- The keys so far are there.
+use Rattle.std.proofs.Common.{◌≡◌, map}
+use Rattle.std.specs.List.{range_with_len}
+use Rattle.hlc_storm.specs.Written.{key_text}
+use Rattle.hlc_storm.proofs.writing.all_keys.Given as goal
+
+abbrev pub invariant-loop-number : goal.invariant-loop-number
+invariant-loop-number l = l.keys.items ≡ map key_text (range_with_len 0 l.number)
