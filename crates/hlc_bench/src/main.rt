@@ -73,7 +73,8 @@ fn timed<L: Ledger + Send + Sync, R: Threads + Wait + Sync + Clock>(
     threads: u16,
     trail: bool,
 ) -> io::Result<u128>
-    requires { (blank.name ≡ L.name) × (blank.parts ≡ L.parts) × (blank.parts ≡ threads) × (0 < threads) }
+    requires { (blank.name ≡ L.name) × (blank.parts ≡ L.parts) × (blank.parts ≡ threads)
+        × (0 < threads) }
 {
     let Ok((shared, mut callers)) = Shared::<L>::new(alloc, blank, 1, threads, trail) else {
         return Ok(0);

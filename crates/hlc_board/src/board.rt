@@ -137,10 +137,13 @@ fn cut_feeders(
     first: &mut Seat<(), Place>,
     nodes: u16,
 ) -> Result<Vec<Feeder>, AllocError>
-    requires table { (table.now.shared.key ≡ nodes) × (table.now.shared.table_id.words ≡ nodes) × (0 < nodes) }
-    requires seat { (first.old.table_id ≡ table.now.shared.table_id) × (first.old.me ≡ (uncut nodes 0, [])) }
+    requires table { (table.now.shared.key ≡ nodes) × (table.now.shared.table_id.words ≡ nodes)
+        × (0 < nodes) }
+    requires seat { (first.old.table_id ≡ table.now.shared.table_id)
+        × (first.old.me ≡ (uncut nodes 0, [])) }
     ensures seat { IfOk result (λ _.
-        (first.new.table_id ≡ table.now.shared.table_id) × (first.new.me ≡ (uncut nodes nodes, []))) }
+        (first.new.table_id ≡ table.now.shared.table_id)
+        × (first.new.me ≡ (uncut nodes nodes, []))) }
     ensures feeders { IfOk result (λ made. made.items ≡ posts table.now.shared.table_id nodes) }
 {
     let mut feeders = Vec::with_capacity(alloc, nodes as usize)?;
@@ -163,9 +166,12 @@ fn cut_passes(
     nodes: u16,
     passes: usize,
 ) -> Result<Vec<FloorPass>, AllocError>
-    requires table { (table.now.shared.key ≡ nodes) × (table.now.shared.table_id.words ≡ nodes) × (0 < nodes) }
-    requires seat { (first.old.table_id ≡ table.now.shared.table_id) × (first.old.me ≡ (uncut nodes nodes, [])) }
-    ensures { IfOk result (λ made. made.items ≡ replicate passes (blind table.now.shared.table_id)) }
+    requires table { (table.now.shared.key ≡ nodes) × (table.now.shared.table_id.words ≡ nodes)
+        × (0 < nodes) }
+    requires seat { (first.old.table_id ≡ table.now.shared.table_id)
+        × (first.old.me ≡ (uncut nodes nodes, [])) }
+    ensures { IfOk result
+        (λ made. made.items ≡ replicate passes (blind table.now.shared.table_id)) }
 {
     let mut all = Vec::with_capacity(alloc, passes)?;
     for _pass in 0..passes {
@@ -189,7 +195,8 @@ impl Board {
         ensures board { IfOk result (λ made. made.0.words ≡ nodes) }
         ensures feeders { IfOk result (λ made. made.1.items ≡ posts made.0 nodes) }
         ensures passes { IfOk result (λ made. made.2.items ≡ replicate passes (blind made.0)) }
-        ensures err { IfErr result (λ fault. fault ≡ BoardFault.NoNode ↔ ((1 ≤ nodes) × (nodes ≤ MOST_NODES) → ⊥)) }
+        ensures err { IfErr result
+            (λ fault. fault ≡ BoardFault.NoNode ↔ ((1 ≤ nodes) × (nodes ≤ MOST_NODES) → ⊥)) }
     {
         if nodes == 0 || nodes > MOST_NODES {
             return Err(BoardFault::NoNode);
@@ -241,7 +248,8 @@ impl Board {
         requires { pass.old.board ≡ self.now }
         ensures board { pass.new.board ≡ pass.old.board }
         ensures least { IsLeast self.now.words pass.new.seen result }
-        ensures looks { (k : ℕ) → k < self.now.words → slice_index pass.new.looks k ≡ slice_index pass.old.looks k + 1 }
+        ensures looks { (k : ℕ) → k < self.now.words
+            → slice_index pass.new.looks k ≡ slice_index pass.old.looks k + 1 }
         ensures rises { (k : ℕ) → slice_index pass.old.seen k ≤ slice_index pass.new.seen k }
     {
         let nodes = self.nodes;

@@ -127,7 +127,8 @@ impl LinkSender {
     pub fn put<R: Wait>(&mut self, rt: &R, item: Item) -> Result<(), (PutFault, Item)>
         ensures ok { IfOk result (λ _. self.new ≡ self.old ++ item ∷ []) }
         ensures err { IfErr result (λ refused. (self.new ≡ self.old) × (refused.1 ≡ item)) }
-        ensures spent { IfErr result (λ refused. refused.0 ≡ PutFault.NumbersSpent ↔ length self.old ≡ 2 ^ 60) }
+        ensures spent { IfErr result
+            (λ refused. refused.0 ≡ PutFault.NumbersSpent ↔ length self.old ≡ 2 ^ 60) }
         ensures room { IfOk result (λ _. length self.old < 2 ^ 60) }
     {
         if self.count == MOST_ITEMS {

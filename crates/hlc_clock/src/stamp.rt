@@ -63,7 +63,8 @@ impl Model for Stamp {
 impl Stamp {
     /// The stamp of these parts, refused where the physical part has more than 48 bits.
     pub fn new(l: u64, c: u16) -> Result<Stamp, ReadingTooLarge>
-        ensures { MatchResult result (λ stamp. (l < READING_BOUND) × (stamp ≡ COUNTER_BOUND * l + c))
+        ensures { MatchResult result
+            (λ stamp. (l < READING_BOUND) × (stamp ≡ COUNTER_BOUND * l + c))
             (λ _. READING_BOUND ≤ l) }
     {
         if l >= READING_BOUND {

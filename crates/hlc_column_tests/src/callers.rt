@@ -18,7 +18,8 @@ pub fn count_above(stamps: &[u64], bound: u64) -> usize
 
 /// Adds a row, if its key has none yet, and answers whether it did.
 pub fn add_first(table: &mut Table, row: Row) -> Result<bool, AllocFailed<Row>>
-    ensures added { IfOk result (λ added. IsTrue added → IsPermutation (table.old ++ row ∷ []) table.new) }
+    ensures added { IfOk result
+        (λ added. IsTrue added → IsPermutation (table.old ++ row ∷ []) table.new) }
     ensures known { IfOk result (λ added. added ≡ false → table.new ≡ table.old) }
 {
     if table.column(row.key.as_slice()).is_some() {

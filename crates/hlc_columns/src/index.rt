@@ -65,7 +65,8 @@ fn least_from(stamps: &[u64], from: usize) -> u64
 fn count_below(stamps: &[u64], nodes: &[u16], order: &[u32], stamp: u64) -> usize
     requires { IsIndex stamps.now nodes.now order.now }
     ensures few { result ≤ length order.now }
-    ensures below { (i : ℕ) → i < result → slice_index stamps.now (slice_index order.now i) < stamp }
+    ensures below { (i : ℕ) → i < result
+        → slice_index stamps.now (slice_index order.now i) < stamp }
     ensures above { (i : ℕ) → result ≤ i → i < length order.now
         → stamp ≤ slice_index stamps.now (slice_index order.now i) }
 {

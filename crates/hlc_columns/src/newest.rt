@@ -161,7 +161,8 @@ pub(crate) fn newest_indexed(
 pub(crate) fn count_indexed(stamps: &[u64], nodes: &[u16], order: &[u32], bound: u64) -> usize
     requires { IsIndex stamps.now nodes.now order.now }
     ensures few { result ≤ length order.now }
-    ensures count { result ≡ count_by (λ stamp. nat_le stamp bound) (take (length order.now) stamps.now) }
+    ensures count { result ≡ count_by
+        (λ stamp. nat_le stamp bound) (take (length order.now) stamps.now) }
 {
     order.partition_point(|place| stamp_at(stamps, *place as usize) <= bound)
 }

@@ -40,12 +40,14 @@ pub fn open_snapshots_are_at_most_the_floor()
 pub fn floor_is_the_least_head()
     ensures some { (nodes : ℕ) (past : List Step) → 0 < nodes
         → (n : ℕ) × (n < nodes) × (head n past ≡ floor nodes past) }
-    ensures least { (nodes : ℕ) (past : List Step) (n : ℕ) → n < nodes → floor nodes past ≤ head n past }
+    ensures least { (nodes : ℕ) (past : List Step) (n : ℕ) → n < nodes
+        → floor nodes past ≤ head n past }
 {}
 
 /// There is one listing of some rows at a stamp.
 pub fn there_is_one_listing()
-    ensures { (rows : List ARow) (stamp : ℕ) (listing other : List APair) → IsListing rows stamp listing
+    ensures { (rows : List ARow) (stamp : ℕ) (listing other : List APair)
+        → IsListing rows stamp listing
         → IsListing rows stamp other → listing ≡ other }
 {}
 
@@ -54,7 +56,8 @@ pub fn there_is_one_listing()
 pub fn vacuums_keep_standing()
     ensures { (kept : Kept) (past : List Step) (rows : List ARow) (report : AReport)
         → StandsFor kept past → AreVacuumPoints (nodes kept) past report.points
-        → IsVacuumOf kept.rows report.points report.witnesses rows → report.floor ≡ floor (nodes kept) past
+        → IsVacuumOf kept.rows report.points report.witnesses rows
+        → report.floor ≡ floor (nodes kept) past
         → report.kept ≡ length report.witnesses → report.dropped + length rows ≡ length kept.rows
         → report.bytes ≡ rows_cost (rows_to report.floor rows)
         → Vacuums kept (with_rows_left kept rows (floor (nodes kept) past)) past report }
@@ -69,9 +72,11 @@ pub fn vacuums_leave_the_fewest()
 
 /// After a past one report of a vacuum is due at most, and one number of stored rows.
 pub fn there_is_one_report()
-    ensures report { (nodes : ℕ) (past : List Step) (report other : AReport) → IsReport nodes past report
+    ensures report { (nodes : ℕ) (past : List Step) (report other : AReport)
+        → IsReport nodes past report
         → IsReport nodes past other → report ≡ other }
-    ensures count { (nodes : ℕ) (past : List Step) (count other : ℕ) → IsStoredCount nodes past count
+    ensures count { (nodes : ℕ) (past : List Step) (count other : ℕ)
+        → IsStoredCount nodes past count
         → IsStoredCount nodes past other → count ≡ other }
 {}
 

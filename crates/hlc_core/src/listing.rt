@@ -41,7 +41,8 @@ pub fn listing_at(alloc: Global, table: &Table, stamp: Stamp) -> Result<Listing,
 /// key's own column is asked.
 fn pairs_at(alloc: Global, columns: &[Keyed], stamp: Stamp) -> Result<Vec<Pair>, AllocError>
     requires { AreAlone columns.now }
-    ensures { IfOk result (λ pairs. pairs.items ≡ pairs_of (rows_in columns.now) stamp (keys_in columns.now)) }
+    ensures { IfOk result
+        (λ pairs. pairs.items ≡ pairs_of (rows_in columns.now) stamp (keys_in columns.now)) }
 {
     let mut pairs = Vec::new(alloc);
     for one in columns {
@@ -57,7 +58,8 @@ fn push_told(
     key: &[u8],
     told: Option<&[u8]>,
 ) -> Result<(), AllocError>
-    ensures { OnOk result (pairs.new.items ≡ pairs.old.items ++ pair_of key.now (option_copied told.entry)) }
+    ensures { OnOk result (pairs.new.items
+        ≡ pairs.old.items ++ pair_of key.now (option_copied told.entry)) }
 {
     match told {
         Some(value) => push_pair(alloc, pairs, key, value),
@@ -72,7 +74,8 @@ fn push_pair(
     key: &[u8],
     value: &[u8],
 ) -> Result<(), AllocError>
-    ensures { OnOk result (pairs.new.items ≡ pairs.old.items ++ record { key = key.now; value = value.now } ∷ []) }
+    ensures { OnOk result (pairs.new.items
+        ≡ pairs.old.items ++ record { key = key.now; value = value.now } ∷ []) }
 {
     let key = Bytes::from_vec(Vec::from_slice(alloc, key)?);
     let value = Bytes::from_vec(Vec::from_slice(alloc, value)?);

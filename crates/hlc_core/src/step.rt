@@ -22,7 +22,8 @@ impl Core {
             → Steps self.old self.new event history result }
         ensures err { IfErr result (λ back. (back.1 ≡ event) × (self.new ≡ self.old)) }
         ensures refused { IfOk result (λ reply. IsRefused reply → self.new ≡ self.old) }
-        ensures copied { IfOk result (λ reply. event ≢ CoreEvent.Vacuum → (IsPlain reply → ⊥) → self.new ≡ self.old) }
+        ensures copied { IfOk result
+            (λ reply. event ≢ CoreEvent.Vacuum → (IsPlain reply → ⊥) → self.new ≡ self.old) }
         ensures form { IfOk result (λ reply. IsReplyTo event reply) }
         ensures nodes { nodes self.new ≡ nodes self.old }
     {
@@ -60,7 +61,8 @@ impl Core {
     fn step_accept(&mut self, item: Item) -> Result<CoreReply, (NoMemory, CoreEvent)>
         ensures stands { (history : List (AnEvent × AReply)) → StandsForHistory self.old history
             → Steps self.old self.new (AnEvent.Accept item) history result }
-        ensures err { IfErr result (λ back. (back.1 ≡ AnEvent.Accept item) × (self.new ≡ self.old)) }
+        ensures err { IfErr result
+            (λ back. (back.1 ≡ AnEvent.Accept item) × (self.new ≡ self.old)) }
         ensures refused { IfOk result (λ reply. IsRefused reply → self.new ≡ self.old) }
         ensures plain { IfOk result IsPlain }
         ensures form { IfOk result (λ reply. IsReplyTo (AnEvent.Accept item) reply) }
@@ -176,7 +178,8 @@ impl Core {
 
 /// A refusal as a reply, but for want of memory.
 fn told(fault: CoreFault) -> Result<CoreReply, NoMemory>
-    ensures ok { IfOk result (λ reply. (reply ≡ CoreReply.Refused fault) × (fault ≢ CoreFault.NoMemory)) }
+    ensures ok { IfOk result
+        (λ reply. (reply ≡ CoreReply.Refused fault) × (fault ≢ CoreFault.NoMemory)) }
     ensures err { OnErr result (fault ≡ CoreFault.NoMemory) }
 {
     match fault {

@@ -26,7 +26,8 @@ pub fn place_of(stamps: &[u64], nodes: &[u16], stamp: u64, node: u16) -> Option<
 /// Whether one of the eight places from a place on holds the stamp.
 pub(crate) fn holds_stamp(stamps: &[u64], at: usize, stamp: u64) -> bool
     requires { at + 8 ≤ length stamps.now }
-    ensures { result ≡ false → (k : ℕ) → at ≤ k → k < at + 8 → slice_index stamps.now k ≡ stamp → ⊥ }
+    ensures { result ≡ false → (k : ℕ) → at ≤ k → k < at + 8 → slice_index stamps.now k ≡ stamp
+        → ⊥ }
 {
     let lanes = u64x8::from_slice(&stamps[at..]);
     lanes.simd_eq(u64x8::splat(stamp)).to_bitmask() != 0

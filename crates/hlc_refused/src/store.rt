@@ -73,9 +73,11 @@ pub struct Answers {
 
 /// Asks a store all that can be asked.
 pub fn ask(alloc: Global, core: &Core) -> Result<Answers, AllocError>
-    ensures floor { IfOk result (λ answers. IsFloor (map (λ link. link.head) core.now.links) answers.floor) }
+    ensures floor { IfOk result
+        (λ answers. IsFloor (map (λ link. link.head) core.now.links) answers.floor) }
     ensures rows { IfOk result (λ answers. answers.rows ≡ length core.now.rows) }
-    ensures stored { IfOk result (λ answers. AreRowsTo core.now.rows (2 ^ 64 - 1) answers.stored.items) }
+    ensures stored { IfOk result
+        (λ answers. AreRowsTo core.now.rows (2 ^ 64 - 1) answers.stored.items) }
     ensures report { IfOk result (λ answers. answers.report ≡ None) }
 {
     let Ok(stored) = core.rows_to(Stamp::from_bits(u64::MAX)) else {
@@ -97,7 +99,8 @@ pub fn ask(alloc: Global, core: &Core) -> Result<Answers, AllocError>
 /// Vacuums a store, and asks it again.
 pub fn vacuum_and_ask(alloc: Global, core: &mut Core) -> Result<Answers, AllocError>
     ensures rows { IfOk result (λ answers. answers.rows ≡ length core.new.rows) }
-    ensures stored { IfOk result (λ answers. AreRowsTo core.new.rows (2 ^ 64 - 1) answers.stored.items) }
+    ensures stored { IfOk result
+        (λ answers. AreRowsTo core.new.rows (2 ^ 64 - 1) answers.stored.items) }
     ensures report { IfOk result (λ answers. answers.report ≢ None) }
 {
     let Ok(report) = core.vacuum() else {

@@ -54,7 +54,8 @@ fn put_pair<W: Write>(writer: &mut Watched<W>, waiting: &mut Waiting, pair: &Pai
 }
 
 fn put_reply_text<W: Write>(writer: &mut Watched<W>, waiting: &mut Waiting, reply: &Reply)
-    ensures { Prints W.contents writer.old writer.new waiting.old waiting.new (reply_line reply.now) }
+    ensures { Prints W.contents writer.old writer.new waiting.old waiting.new
+        (reply_line reply.now) }
 {
     match reply {
         Reply::Stamped { stamp, item } => {
@@ -106,7 +107,8 @@ fn put_answer<W: Write>(writer: &mut Watched<W>, waiting: &mut Waiting, value: &
 
 /// Prints the text of a refusal: its number, and what the table of refusals adds.
 pub fn put_refusal<W: Write>(writer: &mut Watched<W>, waiting: &mut Waiting, refusal: Refusal)
-    ensures { Prints W.contents writer.old writer.new waiting.old waiting.new (refusal_line refusal) }
+    ensures { Prints W.contents writer.old writer.new waiting.old waiting.new
+        (refusal_line refusal) }
 {
     match refusal {
         Refusal::NoNode => put(writer, waiting, b"refused 1"),

@@ -63,8 +63,10 @@ impl<L: Ledger> Guarded<L> {
         requires callers { (0 < callers) × (blank.parts ≡ callers) }
         ensures made { MatchResult result (λ made. new_refusal nodes ≡ None)
             (λ fault. IsRefusal (new_refusal nodes) ⊤ fault) }
-        ensures callers { IfOk result (λ made. made.1.items ≡ map fresh (range_with_len 0 callers)) }
-        ensures fresh { IfOk result (λ made. (nodes_of made.0.core ≡ nodes) × StandsForHistory made.0.core []
+        ensures callers { IfOk result
+            (λ made. made.1.items ≡ map fresh (range_with_len 0 callers)) }
+        ensures fresh { IfOk result
+            (λ made. (nodes_of made.0.core ≡ nodes) × StandsForHistory made.0.core []
             × (made.0.trail ≡ (if audit then Some [] else None)) × (made.0.calls ≡ 0)) }
     {
         let core = Core::new(alloc, nodes)?;
@@ -207,10 +209,13 @@ fn make_call(
 ) -> Result<CoreReply, NoMemory>
     ensures form { IfOk result (λ reply. IsReplyTo event.now reply) }
     ensures trail { IfOk result
-        (λ reply. entries_of trail.new ≡ with_entry (entries_of trail.old) (entry caller event.now reply)) }
-    ensures step { IfOk result (λ reply. (history : List (AnEvent × AReply)) → StandsForHistory core.old history
+        (λ reply. entries_of trail.new
+        ≡ with_entry (entries_of trail.old) (entry caller event.now reply)) }
+    ensures step { IfOk result
+        (λ reply. (history : List (AnEvent × AReply)) → StandsForHistory core.old history
         → IsStep core.old core.new event.now history reply) }
-    ensures err { OnErr result ((core.new ≡ core.old) × (entries_of trail.new ≡ entries_of trail.old)) }
+    ensures err { OnErr result ((core.new ≡ core.old)
+        × (entries_of trail.new ≡ entries_of trail.old)) }
 {
     match trail {
         None => core.step_ref(event),
@@ -232,10 +237,13 @@ fn write_call(
     requires { event.now ≢ AnEvent.Vacuum }
     ensures form { IfOk result (λ reply. IsReplyTo event.now reply) }
     ensures trail { IfOk result
-        (λ reply. trail.new.entries.items ≡ trail.old.entries.items ++ entry caller event.now reply ∷ []) }
-    ensures step { IfOk result (λ reply. (history : List (AnEvent × AReply)) → StandsForHistory core.old history
+        (λ reply. trail.new.entries.items
+        ≡ trail.old.entries.items ++ entry caller event.now reply ∷ []) }
+    ensures step { IfOk result
+        (λ reply. (history : List (AnEvent × AReply)) → StandsForHistory core.old history
         → IsStep core.old core.new event.now history reply) }
-    ensures err { OnErr result ((core.new ≡ core.old) × (trail.new.entries.items ≡ trail.old.entries.items)) }
+    ensures err { OnErr result ((core.new ≡ core.old)
+        × (trail.new.entries.items ≡ trail.old.entries.items)) }
 {
     let Ok(written) = event.clone() else {
         return Err(NoMemory);
@@ -259,10 +267,13 @@ fn write_call(
 fn write_vacuum(core: &mut Core, trail: &mut Trail, caller: u16) -> Result<CoreReply, NoMemory>
     ensures form { IfOk result (λ reply. IsReplyTo AnEvent.Vacuum reply) }
     ensures trail { IfOk result
-        (λ reply. trail.new.entries.items ≡ trail.old.entries.items ++ entry caller AnEvent.Vacuum reply ∷ []) }
-    ensures step { IfOk result (λ reply. (history : List (AnEvent × AReply)) → StandsForHistory core.old history
+        (λ reply. trail.new.entries.items
+        ≡ trail.old.entries.items ++ entry caller AnEvent.Vacuum reply ∷ []) }
+    ensures step { IfOk result
+        (λ reply. (history : List (AnEvent × AReply)) → StandsForHistory core.old history
         → IsStep core.old core.new AnEvent.Vacuum history reply) }
-    ensures err { OnErr result ((core.new ≡ core.old) × (trail.new.entries.items ≡ trail.old.entries.items)) }
+    ensures err { OnErr result ((core.new ≡ core.old)
+        × (trail.new.entries.items ≡ trail.old.entries.items)) }
 {
     let Ok(()) = trail.entries.reserve(1) else {
         return Err(NoMemory);
@@ -285,10 +296,13 @@ fn make_vacuum(
 ) -> Result<CoreReply, NoMemory>
     ensures form { IfOk result (λ reply. IsReplyTo AnEvent.Vacuum reply) }
     ensures trail { IfOk result
-        (λ reply. entries_of trail.new ≡ with_entry (entries_of trail.old) (entry caller AnEvent.Vacuum reply)) }
-    ensures step { IfOk result (λ reply. (history : List (AnEvent × AReply)) → StandsForHistory core.old history
+        (λ reply. entries_of trail.new
+        ≡ with_entry (entries_of trail.old) (entry caller AnEvent.Vacuum reply)) }
+    ensures step { IfOk result
+        (λ reply. (history : List (AnEvent × AReply)) → StandsForHistory core.old history
         → IsStep core.old core.new AnEvent.Vacuum history reply) }
-    ensures err { OnErr result ((core.new ≡ core.old) × (entries_of trail.new ≡ entries_of trail.old)) }
+    ensures err { OnErr result ((core.new ≡ core.old)
+        × (entries_of trail.new ≡ entries_of trail.old)) }
 {
     match trail {
         None => match core.vacuum_parallel(rt) {
@@ -308,10 +322,13 @@ fn write_parallel_vacuum(
 ) -> Result<CoreReply, NoMemory>
     ensures form { IfOk result (λ reply. IsReplyTo AnEvent.Vacuum reply) }
     ensures trail { IfOk result
-        (λ reply. trail.new.entries.items ≡ trail.old.entries.items ++ entry caller AnEvent.Vacuum reply ∷ []) }
-    ensures step { IfOk result (λ reply. (history : List (AnEvent × AReply)) → StandsForHistory core.old history
+        (λ reply. trail.new.entries.items
+        ≡ trail.old.entries.items ++ entry caller AnEvent.Vacuum reply ∷ []) }
+    ensures step { IfOk result
+        (λ reply. (history : List (AnEvent × AReply)) → StandsForHistory core.old history
         → IsStep core.old core.new AnEvent.Vacuum history reply) }
-    ensures err { OnErr result ((core.new ≡ core.old) × (trail.new.entries.items ≡ trail.old.entries.items)) }
+    ensures err { OnErr result ((core.new ≡ core.old)
+        × (trail.new.entries.items ≡ trail.old.entries.items)) }
 {
     let Ok(()) = trail.entries.reserve(1) else {
         return Err(NoMemory);

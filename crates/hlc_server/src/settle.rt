@@ -110,7 +110,8 @@ fn look_through(
     ensures good { IfOk result (λ last. AreGood trail.now before (map (claim by) receipts.now)
         × (last ≡ last_key before (map (claim by) receipts.now))) }
     ensures bad { IfErr result
-        (λ i. (i < length receipts.now) × AreGood trail.now before (map (claim by) (take i receipts.now))
+        (λ i. (i < length receipts.now)
+        × AreGood trail.now before (map (claim by) (take i receipts.now))
         × ¬ AreGood trail.now before (map (claim by) (take (i + 1) receipts.now))) }
 {
     let mut last = before;

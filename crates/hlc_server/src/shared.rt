@@ -39,7 +39,8 @@ impl<L: Ledger> Shared<L> {
         requires ledger { (blank.name ≡ L.name) × (blank.parts ≡ L.parts) }
         requires callers { (0 < callers) × (blank.parts ≡ callers) }
         ensures { MatchResult result
-            (λ made. (new_refusal nodes ≡ None) × (made.1.items ≡ map fresh (range_with_len 0 callers)))
+            (λ made. (new_refusal nodes ≡ None)
+            × (made.1.items ≡ map fresh (range_with_len 0 callers)))
             (λ fault. IsRefusal (new_refusal nodes) ⊤ fault) }
     {
         let (guarded, callers) = Guarded::new(alloc, blank, nodes, callers, audit)?;

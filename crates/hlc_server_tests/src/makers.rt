@@ -17,7 +17,8 @@ pub fn bytes(alloc: Global, byte: u8) -> Result<Bytes, AllocError>
 /// The write of this number on this node's link, of its number to the key `k`, at a second for each.
 pub fn write(alloc: Global, node: u16, number: u8) -> Result<Item, AllocError>
     ensures { IfOk result (λ item. (item.node ≡ node) × (item.number ≡ number)
-        × (item.stamp ≡ (number + 1) * 65536) × (item.body ≡ a_write (107 ∷ []) (Some (number ∷ [])))) }
+        × (item.stamp ≡ (number + 1) * 65536)
+        × (item.body ≡ a_write (107 ∷ []) (Some (number ∷ [])))) }
 {
     Ok(Item {
         node,

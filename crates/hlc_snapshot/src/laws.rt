@@ -23,7 +23,8 @@ pub fn opening_adds_one_snapshot()
 
 /// A closed snapshot is gone; the others keep their stamps.
 pub fn closing_takes_out_one_snapshot()
-    ensures gone { (register : Register) (id : ℕ) → stamp_in id (closed id register).snapshots ≡ None }
+    ensures gone { (register : Register) (id : ℕ)
+        → stamp_in id (closed id register).snapshots ≡ None }
     ensures others { (register : Register) (id other : ℕ) → other ≢ id
         → stamp_in other (closed id register).snapshots ≡ stamp_in other register.snapshots }
 {}
@@ -32,8 +33,10 @@ pub fn closing_takes_out_one_snapshot()
 pub fn registers_stay_registers()
     ensures empty { IsRegister (record { snapshots = []; opened = 0 }) }
     ensures opening { (register : Register) (stamp : ℕ) → IsRegister register
-        → room_refusal (length register.snapshots) register.opened ≡ None → IsRegister (opened_at register stamp) }
-    ensures closing { (register : Register) (id : ℕ) → IsRegister register → IsRegister (closed id register) }
+        → room_refusal (length register.snapshots) register.opened ≡ None
+        → IsRegister (opened_at register stamp) }
+    ensures closing { (register : Register) (id : ℕ) → IsRegister register
+        → IsRegister (closed id register) }
 {}
 
 /// An id that was given by an earlier time, and is open at a later one, was open at the earlier one
@@ -45,5 +48,6 @@ pub fn ids_are_never_used_again()
 
 /// There is one list of points at most.
 pub fn points_are_unique()
-    ensures { (stamps xs ys : List ℕ) (floor : ℕ) → ArePoints stamps floor xs → ArePoints stamps floor ys → xs ≡ ys }
+    ensures { (stamps xs ys : List ℕ) (floor : ℕ) → ArePoints stamps floor xs
+        → ArePoints stamps floor ys → xs ≡ ys }
 {}

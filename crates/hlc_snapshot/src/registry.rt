@@ -48,9 +48,11 @@ impl Registry {
     ///
     /// Refused, in this order: 1,024 snapshots are open; no id is left; want of memory.
     pub fn open(&mut self, stamp: Stamp) -> Result<u64, SnapshotFault>
-        ensures ok { IfOk result (λ id. (room_refusal (length self.old.snapshots) self.old.opened ≡ None)
+        ensures ok { IfOk result
+            (λ id. (room_refusal (length self.old.snapshots) self.old.opened ≡ None)
             × (id ≡ self.old.opened + 1) × (self.new ≡ opened_at self.old stamp)) }
-        ensures err { IfErr result (λ fault. IsRefusal (room_refusal (length self.old.snapshots) self.old.opened) fault
+        ensures err { IfErr result
+            (λ fault. IsRefusal (room_refusal (length self.old.snapshots) self.old.opened) fault
             × (self.new ≡ self.old)) }
 
         // As a map: the id had no stamp and is above all others; now it has this one, and nothing
@@ -86,12 +88,15 @@ impl Registry {
     /// Closes the snapshot that has this id, and gives its stamp. Takes no memory.
     pub fn close(&mut self, id: u64) -> Result<Stamp, NoSnapshot>
         ensures ok { IfOk result
-            (λ stamp. (stamp_in id self.old.snapshots ≡ Some stamp) × (self.new ≡ closed id self.old)) }
-        ensures err { OnErr result ((stamp_in id self.old.snapshots ≡ None) × (self.new ≡ self.old)) }
+            (λ stamp. (stamp_in id self.old.snapshots ≡ Some stamp)
+            × (self.new ≡ closed id self.old)) }
+        ensures err { OnErr result ((stamp_in id self.old.snapshots ≡ None)
+            × (self.new ≡ self.old)) }
 
         // As a map: the id has no stamp any more; nothing else changes.
         ensures map { (other : ℕ)
-            → stamp_in other self.new.snapshots ≡ (if other == id then None else stamp_in other self.old.snapshots) }
+            → stamp_in other self.new.snapshots
+            ≡ (if other == id then None else stamp_in other self.old.snapshots) }
         ensures register { IsRegister self.new }
     {
         let Some(stamp) = self.stamp_of(id) else {

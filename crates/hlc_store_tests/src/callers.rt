@@ -11,7 +11,8 @@ use hlc_witness::{NotShown, Shown, check};
 /// fewest, and the cheapest. They always are.
 pub fn vacuum_and_check(core: &mut Core) -> Result<Result<Shown, NotShown>, NoMemory>
     ensures { (past : List Step) → StandsFor core.old past → IfOk result
-        (λ shown. IsOkAnd shown (λ least. least.rows ≡ length (rows_to (floor (nodes core.old) past) core.new.rows))) }
+        (λ shown. IsOkAnd shown
+        (λ least. least.rows ≡ length (rows_to (floor (nodes core.old) past) core.new.rows))) }
 {
     let report = core.vacuum()?;
     let rows = core.rows_to(report.floor)?;

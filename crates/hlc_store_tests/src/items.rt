@@ -20,7 +20,13 @@ pub fn item(
     value: Option<&[u8]>,
 ) -> Result<Item, AllocError>
     ensures { IfOk result (λ made. made
-        ≡ record { node = at.0; number = at.1; stamp = at.2; body = Body.Write key.now (option_copied value.entry) }) }
+        ≡ record {
+          node = at.0;
+          number = at.1;
+          stamp = at.2;
+          body = Body.Write key.now
+              (option_copied value.entry);
+        }) }
 {
     let (node, number, bits) = at;
     let key = bytes(alloc, key)?;

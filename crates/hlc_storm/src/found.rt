@@ -17,7 +17,8 @@ pub(crate) fn report_of(
     plan: StormPlan,
 ) -> Result<StormReport, StormFault>
     ensures { IfOk result
-        (λ report. (past : List Step) → StandsFor core past → IsFoundIn plan (nodes core) past report) }
+        (λ report. (past : List Step) → StandsFor core past
+        → IsFoundIn plan (nodes core) past report) }
 {
     let mut core = core;
     let accepted = counts_of(alloc, &core, plan.nodes)?;

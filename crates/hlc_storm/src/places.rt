@@ -51,7 +51,8 @@ pub(crate) fn node_places<'a, L: Ledger, R: Wait>(
     ensures left { IfOk result
         (λ places. length callers.old.items ≡ length callers.new.items + length places.items) }
     ensures all { IfOk result
-        (λ places. length feeders.items ≤ length callers.old.items → length places.items ≡ length feeders.items) }
+        (λ places. length feeders.items ≤ length callers.old.items
+        → length places.items ≡ length feeders.items) }
 {
     let mut feeders = feeders;
     let mut places = Vec::with_capacity(alloc, feeders.len())?;
@@ -89,7 +90,8 @@ pub(crate) fn reader_places<'a, L: Ledger>(
     ensures left { IfOk result
         (λ places. length callers.old.items ≡ length callers.new.items + length places.items) }
     ensures all { IfOk result
-        (λ places. length passes.items ≤ length callers.old.items → length places.items ≡ length passes.items) }
+        (λ places. length passes.items ≤ length callers.old.items
+        → length places.items ≡ length passes.items) }
 {
     let mut passes = passes;
     let mut places = Vec::with_capacity(alloc, passes.len())?;

@@ -46,7 +46,8 @@ fn put_told<W: Write>(
     waiting: &mut Waiting,
     told: &Result<StormReport, StormFault>,
 )
-    ensures { Prints W.contents writer.old writer.new waiting.old waiting.new (storm_text told.now) }
+    ensures { Prints W.contents writer.old writer.new waiting.old waiting.new
+        (storm_text told.now) }
 {
     match told {
         Ok(report) => put_report(writer, waiting, report),
@@ -59,7 +60,8 @@ fn put_told<W: Write>(
 
 /// Prints the lines of a report.
 fn put_report<W: Write>(writer: &mut Watched<W>, waiting: &mut Waiting, report: &StormReport)
-    ensures { Prints W.contents writer.old writer.new waiting.old waiting.new (report_text report.now) }
+    ensures { Prints W.contents writer.old writer.new waiting.old waiting.new
+        (report_text report.now) }
 {
     put_counts(writer, waiting, report.accepted.as_slice());
     put_named_stamp(writer, waiting, b"floor ", report.floor);
@@ -81,7 +83,8 @@ fn put_counts<W: Write>(writer: &mut Watched<W>, waiting: &mut Waiting, counts: 
 }
 
 fn put_count<W: Write>(writer: &mut Watched<W>, waiting: &mut Waiting, node: u64, count: u64)
-    ensures { Prints W.contents writer.old writer.new waiting.old waiting.new (printed (accepted_line node count)) }
+    ensures { Prints W.contents writer.old writer.new waiting.old waiting.new
+        (printed (accepted_line node count)) }
 {
     put_named_number(writer, waiting, b"accepted ", node);
     put_named_number(writer, waiting, b" ", count);
@@ -99,7 +102,8 @@ fn put_pairs<W: Write>(writer: &mut Watched<W>, waiting: &mut Waiting, pairs: &[
 }
 
 fn put_pair<W: Write>(writer: &mut Watched<W>, waiting: &mut Waiting, pair: &Pair)
-    ensures { Prints W.contents writer.old writer.new waiting.old waiting.new (printed (pair_line pair.now)) }
+    ensures { Prints W.contents writer.old writer.new waiting.old waiting.new
+        (printed (pair_line pair.now)) }
 {
     put_bytes(writer, waiting, pair.key.as_slice());
     put_named_bytes(writer, waiting, b" ", pair.value.as_slice());

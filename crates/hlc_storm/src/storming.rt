@@ -150,7 +150,8 @@ fn run_all<
     plan: StormPlan,
     gates: &StormGates<F, D, V>,
 ) -> Result<Lists<L>, StormFault>
-    ensures { IfOk result (λ lists. length lists.items ≡ length nodes.entry.items + length looking.entry.items + 1) }
+    ensures { IfOk result
+        (λ lists. length lists.items ≡ length nodes.entry.items + length looking.entry.items + 1) }
 {
     let to_feed = &gates.feeders;
     let to_read = &gates.readers;
@@ -160,7 +161,8 @@ fn run_all<
         rt,
         |scope| -> Result<Lists<L>, StormFault>
             ensures { IfOk result
-                (λ lists. length lists.items ≡ length nodes.entry.items + length looking.entry.items + 1) }
+                (λ lists. length lists.items
+                ≡ length nodes.entry.items + length looking.entry.items + 1) }
         {
             let mut writers = Vec::new(alloc);
             let mut feeders = Vec::new(alloc);

@@ -48,7 +48,8 @@ pub(crate) fn feed_link<L: Ledger, G: Gate, R: Wait>(
     ensures items { (link : Received) × (left : Option AnItem)
         × TookAll place.entry.link.taken link.taken result.receipts.items left
         × (result.end ≡ WorkEnd.Done → (link.ended ≡ true) × (left ≡ None)) }
-    ensures held { result.end ≡ WorkEnd.Held → G.may_answer gate.now (vec_len result.receipts) false }
+    ensures held { result.end ≡ WorkEnd.Held
+        → G.may_answer gate.now (vec_len result.receipts) false }
 {
     let Feeding {
         caller,
@@ -83,7 +84,8 @@ pub(crate) fn read_keys<L: Ledger, G: Gate, R: Wait>(
     ensures share { IsPaid place.entry.caller result.caller result.receipts.items }
     ensures done { result.end ≡ WorkEnd.Done
         → (pass : Sight) × HasServed keys.now ROUNDS place.entry.pass pass result.receipts.items }
-    ensures held { result.end ≡ WorkEnd.Held → G.may_answer gate.now (vec_len result.receipts) false }
+    ensures held { result.end ≡ WorkEnd.Held
+        → G.may_answer gate.now (vec_len result.receipts) false }
 {
     let Looking {
         caller,
@@ -112,8 +114,10 @@ pub(crate) fn vacuum_rows<L: Ledger, G: Gate, R: Wait + Threads + Sync>(
     gate: &G,
 ) -> Worked<L>
     ensures share { IsPaid caller result.caller result.receipts.items }
-    ensures done { result.end ≡ WorkEnd.Done → map event_of result.receipts.items ≡ replicate ROUNDS AnEvent.Vacuum }
-    ensures held { result.end ≡ WorkEnd.Held → G.may_answer gate.now (vec_len result.receipts) false }
+    ensures done { result.end ≡ WorkEnd.Done
+        → map event_of result.receipts.items ≡ replicate ROUNDS AnEvent.Vacuum }
+    ensures held { result.end ≡ WorkEnd.Held
+        → G.may_answer gate.now (vec_len result.receipts) false }
 {
     let Served {
         caller,
@@ -204,7 +208,8 @@ fn join_worker<L: Ledger, R: Threads + Wait>(
     worker: Option<JoinHandle<Worked<L>>>,
     joined: Joined<L>,
 ) -> Joined<L>
-    ensures list { result.lacks_memory ≡ false → length result.lists.items ≡ length joined.lists.items + 1 }
+    ensures list { result.lacks_memory ≡ false
+        → length result.lists.items ≡ length joined.lists.items + 1 }
     ensures lacks { result.lacks_memory ≡ false → joined.lacks_memory ≡ false }
 {
     match worker {
@@ -241,7 +246,8 @@ pub(crate) fn join_all<L: Ledger, R: Threads + Wait>(
     started: Started<L>,
 ) -> Result<Lists<L>, StormFault>
     ensures lists { IfOk result
-        (λ lists. length lists.items ≡ length started.feeders.items + length started.readers.items + 1) }
+        (λ lists. length lists.items
+        ≡ length started.feeders.items + length started.readers.items + 1) }
     ensures memory { IfOk result (λ _. started.lacks_memory ≡ false) }
 {
     let Started {

@@ -67,7 +67,8 @@ pub fn is_complete(heads: &Heads, stamp: Stamp) -> bool
 
 /// Opens two snapshots at one stamp. Each has an id of its own.
 pub fn open_twice(registry: &mut Registry, stamp: Stamp) -> Result<(u64, u64), SnapshotFault>
-    ensures { IfOk result (λ ids. (ids.0 < ids.1) × (stamp_in ids.0 registry.new.snapshots ≡ Some stamp)
+    ensures { IfOk result
+        (λ ids. (ids.0 < ids.1) × (stamp_in ids.0 registry.new.snapshots ≡ Some stamp)
         × (stamp_in ids.1 registry.new.snapshots ≡ Some stamp)) }
 {
     let first = registry.open(stamp)?;
@@ -77,7 +78,8 @@ pub fn open_twice(registry: &mut Registry, stamp: Stamp) -> Result<(u64, u64), S
 
 /// Delivers an item twice, and gives both replies.
 pub fn deliver_twice(world: &mut World, node: u16, number: u64) -> (Reply, Reply)
-    ensures { (schedule : List (AnEvent × AReply)) → StandsFor world.old schedule → StandsFor world.new
+    ensures { (schedule : List (AnEvent × AReply)) → StandsFor world.old schedule
+        → StandsFor world.new
         ((Event.Deliver node number, result.1) ∷ (Event.Deliver node number, result.0) ∷ schedule) }
 {
     let first = world.step(Event::Deliver { node, number });
@@ -88,7 +90,8 @@ pub fn deliver_twice(world: &mut World, node: u16, number: u64) -> (Reply, Reply
 /// How many rows answer so at least, if the witnesses show it.
 pub fn least_count(rows: &[Row], points: &[Stamp], witnesses: &[Witness]) -> Option<u64>
     ensures { IfSome result
-        (λ count. (others : List ARow) → IsRowSet others → Alike others rows.now points.now → count ≤ length others) }
+        (λ count. (others : List ARow) → IsRowSet others → Alike others rows.now points.now
+        → count ≤ length others) }
 {
     match check(rows, points, witnesses) {
         Ok(shown) => Some(shown.count()),

@@ -59,7 +59,8 @@ pub fn put_fault<W: Write>(writer: &mut Watched<W>, waiting: &mut Waiting, fault
 pub fn read_input<R: Read>(alloc: Global, reader: &mut Watched<R>) -> Result<Vec<u8>, InputFault>
     requires { has_failed reader.old ≡ false }
     ensures ok { IfOk result (λ input. IsInput (R.remaining (inner_of reader.old)) input.items
-        × Consumes (R.remaining (inner_of reader.old)) (R.remaining (inner_of reader.new)) input.items
+        × Consumes (R.remaining (inner_of reader.old))
+        (R.remaining (inner_of reader.new)) input.items
         × (vec_len input ≤ INPUT_LIMIT)) }
     ensures failed { (result ≡ Err InputFault.ReadFault) ↔ (has_failed reader.new ≡ true) }
     ensures err { IfErr result (λ fault.

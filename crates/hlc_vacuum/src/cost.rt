@@ -27,7 +27,8 @@ pub(crate) fn kept_cost(columns: &[Keyed], keep: &[bool], bound: Stamp) -> u128
 /// What the kept rows of a column at or below a stamp cost together.
 fn column_cost(key: &[u8], column: &Column, keep: &[bool], bound: Stamp) -> u128
     requires { length keep.now ≡ length column.now }
-    ensures cost { result ≡ rows_cost (rows_to bound (items_where_true keep.now (rows_of key.now column.now))) }
+    ensures cost { result
+        ≡ rows_cost (rows_to bound (items_where_true keep.now (rows_of key.now column.now))) }
     ensures small { result ≤ (2 ^ 64 + 8) * length keep.now }
 {
     let stamps = column.stamps();

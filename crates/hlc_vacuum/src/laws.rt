@@ -15,30 +15,39 @@ ghost use Rattle.hlc_vacuum.specs.Standing.{RowsStandFor, StandsAfterVacuum, cou
 /// What a vacuum keeps at or below the last point is the cheapest, against all rows that there were,
 /// and costs just what the changes force.
 pub fn vacuums_keep_cheapest()
-    ensures cheapest { (rows kept : List ARow) (points : List ℕ) (changes : List AWitness) → PointsAscend points
-        → IsVacuumOf rows points changes kept → Cheapest (rows_to (last_point points) kept) rows points }
-    ensures cost { (rows kept : List ARow) (points : List ℕ) (changes : List AWitness) → PointsAscend points
+    ensures cheapest { (rows kept : List ARow) (points : List ℕ) (changes : List AWitness)
+        → PointsAscend points
+        → IsVacuumOf rows points changes kept
+        → Cheapest (rows_to (last_point points) kept) rows points }
+    ensures cost { (rows kept : List ARow) (points : List ℕ) (changes : List AWitness)
+        → PointsAscend points
         → IsVacuumOf rows points changes kept
         → rows_cost (rows_to (last_point points) kept) ≡ changes_cost rows changes }
 {}
 
 /// What a vacuum keeps at or below the last point is the fewest, against all rows that there were.
 pub fn vacuums_keep_fewest()
-    ensures { (rows kept : List ARow) (points : List ℕ) (changes : List AWitness) → PointsAscend points
-        → IsVacuumOf rows points changes kept → Fewest (rows_to (last_point points) kept) rows points }
+    ensures { (rows kept : List ARow) (points : List ℕ) (changes : List AWitness)
+        → PointsAscend points
+        → IsVacuumOf rows points changes kept
+        → Fewest (rows_to (last_point points) kept) rows points }
 {}
 
 /// Keeping the newest row at each change, all rows above the last point, and no other, is a vacuum.
 pub fn newest_rows_suffice()
-    ensures { (rows kept : List ARow) (points : List ℕ) (changes : List AWitness) → PointsAscend points
-        → AreChanges rows points changes → KeepsNewest rows points changes kept → IsVacuumOf rows points changes kept }
+    ensures { (rows kept : List ARow) (points : List ℕ) (changes : List AWitness)
+        → PointsAscend points
+        → AreChanges rows points changes → KeepsNewest rows points changes kept
+        → IsVacuumOf rows points changes kept }
 {}
 
 /// Just after a vacuum the stored rows at or below the floor, once sorted by key, stamp and node, are
 /// certified by the changes.
 pub fn vacuums_are_certified()
-    ensures { (stored all rows : List ARow) (floor : ℕ) (opened points : List ℕ) (changes : List AWitness)
-        → StandsAfterVacuum stored all floor opened points changes → PointsAscend points → last_point points ≡ floor
+    ensures { (stored all rows : List ARow) (floor : ℕ) (opened points : List ℕ)
+        (changes : List AWitness)
+        → StandsAfterVacuum stored all floor opened points changes → PointsAscend points
+        → last_point points ≡ floor
         → IsPermutation (rows_to floor stored) rows → RowsAscend rows → AreInLimits all
         → IsCertificate rows points changes }
 {}
@@ -47,17 +56,20 @@ pub fn vacuums_are_certified()
 /// are the fewest against all of them, whatever was dropped before. Its points are the open stamps,
 /// none of them above the floor, and the floor.
 pub fn vacuums_compose()
-    ensures { (stored all kept : List ARow) (horizon floor : ℕ) (opened points : List ℕ) (changes : List AWitness)
+    ensures { (stored all kept : List ARow) (horizon floor : ℕ) (opened points : List ℕ)
+        (changes : List AWitness)
         → RowsStandFor stored all horizon opened → horizon ≤ floor → PointsAscend points
         → ((point : ℕ) → Contains points point ↔ (Contains opened point ⊎ (point ≡ floor)))
-        → ((stamp : ℕ) → Contains opened stamp → stamp ≤ floor) → IsVacuumOf stored points changes kept
+        → ((stamp : ℕ) → Contains opened stamp → stamp ≤ floor)
+        → IsVacuumOf stored points changes kept
         → StandsAfterVacuum kept all floor opened points changes }
 {}
 
 /// Rows that stand for all with the floor as the horizon, and are as many as the changes and the rows
 /// above the floor, are just after a vacuum: those at or below the floor are the fewest.
 pub fn standing_rows_are_fewest()
-    ensures { (stored all : List ARow) (floor : ℕ) (opened points : List ℕ) (changes : List AWitness)
+    ensures { (stored all : List ARow) (floor : ℕ) (opened points : List ℕ)
+        (changes : List AWitness)
         → RowsStandFor stored all floor opened
         → ((point : ℕ) → Contains points point ↔ (Contains opened point ⊎ (point ≡ floor)))
         → ((stamp : ℕ) → Contains opened stamp → stamp ≤ floor) → AreChanges all points changes
@@ -83,12 +95,14 @@ pub fn writes_keep_standing()
 
 /// Stored rows stand for all in whichever order they are stored.
 pub fn stored_rows_may_be_moved()
-    ensures { (stored moved all : List ARow) (horizon : ℕ) (opened : List ℕ) → RowsStandFor stored all horizon opened
+    ensures { (stored moved all : List ARow) (horizon : ℕ) (opened : List ℕ)
+        → RowsStandFor stored all horizon opened
         → IsPermutation stored moved → IsRowSet moved → RowsStandFor moved all horizon opened }
 {}
 
 /// A snapshot that opens at or above the horizon is told the same.
 pub fn opens_keep_standing()
-    ensures { (stored all : List ARow) (horizon stamp : ℕ) (opened : List ℕ) → RowsStandFor stored all horizon opened
+    ensures { (stored all : List ARow) (horizon stamp : ℕ) (opened : List ℕ)
+        → RowsStandFor stored all horizon opened
         → horizon ≤ stamp → RowsStandFor stored all horizon (opened ++ stamp ∷ []) }
 {}

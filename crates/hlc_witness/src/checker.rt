@@ -26,7 +26,8 @@ pub fn check(rows: &[Row], points: &[Stamp], witnesses: &[Witness]) -> Result<Sh
     ensures cost { IfOk result (λ shown. shown.cost ≡ rows_cost rows.now) }
     ensures fewest { IfOk result (λ _. Fewest rows.now rows.now points.now) }
     ensures cheapest { IfOk result (λ _. Cheapest rows.now rows.now points.now) }
-    ensures reason { IfErr result (λ reason. IsFirstReason rows.now points.now witnesses.now reason) }
+    ensures reason { IfErr result
+        (λ reason. IsFirstReason rows.now points.now witnesses.now reason) }
     ensures only { IsCertificate rows.now points.now witnesses.now → IsOk result }
 {
     match reason_against(rows, points, witnesses) {
@@ -109,7 +110,8 @@ fn is_at_point(points: &[Stamp], witness: &Witness) -> bool
 fn has_same_answers(rows: &[Row], witness: &Witness) -> bool
     requires { RowsAscend rows.now }
     ensures { IsTrue result
-        ↔ (answer rows.now witness.now.key witness.now.at ≡ answer_at rows.now witness.now.key witness.now.before) }
+        ↔ (answer rows.now witness.now.key witness.now.at
+        ≡ answer_at rows.now witness.now.key witness.now.before) }
 {
     let at = value_in(rows, &witness.key, witness.at);
     let before = value_at(rows, &witness.key, witness.before);

@@ -50,7 +50,8 @@ fn next_word(words: &[String]) -> Option<(&[u8], &[String])>
 /// The number behind a name, from `low` to `high`, and the words after it.
 fn named<'a>(words: &'a [String], name: &[u8], low: u64, high: u64) -> Option<(u64, &'a [String])>
     ensures { MatchOption result
-        ((n : ℕ) (others : List (List ℕ)) → low ≤ n → n ≤ high → bytes_of words.now ≢ name.now ∷ decimal n ∷ others)
+        ((n : ℕ) (others : List (List ℕ)) → low ≤ n → n ≤ high
+        → bytes_of words.now ≢ name.now ∷ decimal n ∷ others)
         (λ parts. (low ≤ parts.0) × (parts.0 ≤ high)
         × (bytes_of words.now ≡ name.now ∷ decimal parts.0 ∷ bytes_of parts.1.now)) }
 {

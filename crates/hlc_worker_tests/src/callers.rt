@@ -25,7 +25,8 @@ pub fn put_last<R: Wait>(rt: &R, sender: LinkSender, item: Item) -> Option<u64>
 /// Whether every node of a board has come so far.
 pub fn has_come(board: &Board, pass: &mut FloorPass, stamp: Stamp) -> bool
     requires { pass.old.board ≡ board.now }
-    ensures { IsTrue result ↔ ((node : ℕ) → node < board.now.words → stamp ≤ slice_index pass.new.seen node) }
+    ensures { IsTrue result
+        ↔ ((node : ℕ) → node < board.now.words → stamp ≤ slice_index pass.new.seen node) }
 {
     stamp <= board.floor(pass)
 }

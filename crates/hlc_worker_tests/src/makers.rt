@@ -24,7 +24,8 @@ pub fn bytes(alloc: Global, byte: u8) -> Result<Bytes, AllocError>
 /// The item of this number on the link of node 0, a second later for each: a value of the key `a`.
 pub fn write(alloc: Global, number: u8, value: u8) -> Result<Item, AllocError>
     ensures { IfOk result (λ item. (item.node ≡ 0) × (item.number ≡ number)
-        × (item.stamp ≡ (number + 1) * 65536) × (item.body ≡ a_write (97 ∷ []) (Some (value ∷ [])))) }
+        × (item.stamp ≡ (number + 1) * 65536)
+        × (item.body ≡ a_write (97 ∷ []) (Some (value ∷ [])))) }
 {
     Ok(Item {
         node: 0,

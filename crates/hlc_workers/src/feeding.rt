@@ -50,7 +50,8 @@ pub fn feed<L: Ledger, G: Gate, R: Wait>(
     ensures raised { result.feeder
         ≡ post feeder.board feeder.node (highest feeder.node feeder.raised result.receipts.items) }
     ensures done { result.end ≡ WorkEnd.Done → (result.link.ended ≡ true) × (result.left ≡ None) }
-    ensures held { result.end ≡ WorkEnd.Held → G.may_answer gate.now (vec_len result.receipts) false }
+    ensures held { result.end ≡ WorkEnd.Held
+        → G.may_answer gate.now (vec_len result.receipts) false }
 {
     let mut link = link;
     let mut caller = caller;
@@ -98,7 +99,8 @@ fn feed_one<L: Ledger, G: Gate, R: Wait>(
         (FedOne receipts.old.items receipts.new.items caller result.0
         link.old.taken link.new.taken feeder.old feeder.new)
         (λ told. FedNone receipts.old.items receipts.new.items caller result.0
-        link.old.taken link.new feeder.old feeder.new told (G.may_answer gate.now (vec_len receipts.new) false)) }
+        link.old.taken link.new feeder.old feeder.new told
+        (G.may_answer gate.now (vec_len receipts.new) false)) }
 {
     let item = match link.take(rt) {
         Ok(Parcel::Item(item)) => item,

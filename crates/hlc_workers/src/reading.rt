@@ -35,7 +35,8 @@ fn read_each<L: Ledger, G: Gate, R: Wait>(
     gate: &G,
 ) -> (Caller<L>, Option<WorkEnd>)
     ensures { MadeSome receipts.old.items receipts.new.items caller result.0 result.1
-        (λ more. map event_of more ≡ map (ARead id) keys.now) (G.may_answer gate.now (vec_len receipts.new) false) }
+        (λ more. map event_of more
+        ≡ map (ARead id) keys.now) (G.may_answer gate.now (vec_len receipts.new) false) }
 {
     let mut caller = caller;
     for key in keys {
@@ -63,7 +64,8 @@ fn read_and_close<L: Ledger, G: Gate, R: Wait>(
     gate: &G,
 ) -> (Caller<L>, Option<WorkEnd>)
     ensures { MadeSome receipts.old.items receipts.new.items caller result.0 result.1
-        (λ more. map event_of more ≡ reads_of id keys.now) (G.may_answer gate.now (vec_len receipts.new) false) }
+        (λ more. map event_of more
+        ≡ reads_of id keys.now) (G.may_answer gate.now (vec_len receipts.new) false) }
 {
     let (caller, end) = read_each(rt, shared, caller, id, keys, receipts, gate);
     if let Some(end) = end {
@@ -82,7 +84,8 @@ fn read_at_floor<L: Ledger, G: Gate, R: Wait>(
     receipts: &mut Vec<Receipt>,
     gate: &G,
 ) -> (Caller<L>, Option<WorkEnd>)
-    ensures { MadeSome receipts.old.items receipts.new.items caller result.0 result.1 (AtFloor keys.now)
+    ensures { MadeSome receipts.old.items receipts.new.items caller result.0 result.1
+        (AtFloor keys.now)
         (G.may_answer gate.now (vec_len receipts.new) false) }
 {
     let (caller, told) = make_call(rt, shared, caller, CoreEvent::OpenFloor, receipts, gate);
@@ -106,7 +109,8 @@ fn make_round<L: Ledger, G: Gate, R: Wait>(
     receipts: &mut Vec<Receipt>,
     gate: &G,
 ) -> (Caller<L>, Option<WorkEnd>)
-    ensures { MadeSome receipts.old.items receipts.new.items caller result.0 result.1 (IsRound keys.now stamp)
+    ensures { MadeSome receipts.old.items receipts.new.items caller result.0 result.1
+        (IsRound keys.now stamp)
         (G.may_answer gate.now (vec_len receipts.new) false) }
 {
     let (caller, told) = make_call(rt, shared, caller, CoreEvent::OpenAt(stamp), receipts, gate);
@@ -141,8 +145,10 @@ pub fn serve_reader<L: Ledger, G: Gate, R: Wait>(
     requires { pass.board ≡ board.now }
     ensures share { IsPaid caller result.caller result.receipts.items }
     ensures board { result.pass.board ≡ pass.board }
-    ensures done { result.end ≡ WorkEnd.Done → HasServed keys.now rounds pass result.pass result.receipts.items }
-    ensures held { result.end ≡ WorkEnd.Held → G.may_answer gate.now (vec_len result.receipts) false }
+    ensures done { result.end ≡ WorkEnd.Done
+        → HasServed keys.now rounds pass result.pass result.receipts.items }
+    ensures held { result.end ≡ WorkEnd.Held
+        → G.may_answer gate.now (vec_len result.receipts) false }
 {
     let mut caller = caller;
     let mut pass = pass;

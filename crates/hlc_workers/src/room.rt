@@ -37,7 +37,8 @@ pub(crate) fn make_room<G: Gate, R: Wait>(
     ensures items { receipts.new.items ≡ receipts.old.items }
     ensures len { vec_len receipts.new ≡ vec_len receipts.old }
     ensures room { OnOk result (vec_len receipts.new < vec_capacity receipts.new) }
-    ensures held { IfErr result (λ end. end ≡ WorkEnd.Held → G.may_answer gate.now (vec_len receipts.new) false) }
+    ensures held { IfErr result
+        (λ end. end ≡ WorkEnd.Held → G.may_answer gate.now (vec_len receipts.new) false) }
     ensures stops { IfErr result (λ end. (end ≢ WorkEnd.Done) × (end ≢ WorkEnd.Closed)) }
 {
     if !gate.pass(rt, receipts.len() as u64) {

@@ -58,8 +58,10 @@ pub fn serve_vacuum<L: Ledger, G: Gate, R: Wait + Threads + Sync>(
     gate: &G,
 ) -> Served<L>
     ensures share { IsPaid caller result.caller result.receipts.items }
-    ensures done { result.end ≡ WorkEnd.Done → map event_of result.receipts.items ≡ replicate times AnEvent.Vacuum }
-    ensures held { result.end ≡ WorkEnd.Held → G.may_answer gate.now (vec_len result.receipts) false }
+    ensures done { result.end ≡ WorkEnd.Done
+        → map event_of result.receipts.items ≡ replicate times AnEvent.Vacuum }
+    ensures held { result.end ≡ WorkEnd.Held
+        → G.may_answer gate.now (vec_len result.receipts) false }
 {
     let mut caller = caller;
     let mut receipts = Vec::new(alloc);

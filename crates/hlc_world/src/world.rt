@@ -90,7 +90,8 @@ impl World {
             → IsClosed ((event, result) ∷ schedule) }
         ensures faithful { (schedule : List (AnEvent × AReply)) → StandsFor self.old schedule
             → IsFaithful (world_nodes self.old) ((event, result) ∷ schedule) self.new.core.rows }
-        ensures rising { (schedule : List (AnEvent × AReply)) (head : ℕ) → StandsFor self.old schedule
+        ensures rising { (schedule : List (AnEvent × AReply)) (head : ℕ)
+            → StandsFor self.old schedule
             → result ≢ Reply.Refused (Refusal.StampNotRising head) }
         ensures numbered { (schedule : List (AnEvent × AReply)) → StandsFor self.old schedule
             → GoesByNumber (world_nodes self.old) schedule }
@@ -104,11 +105,16 @@ impl World {
     /// place and the events come back.
     pub fn run(&mut self, events: Vec<Event>) -> Result<Vec<Reply>, (NoMemory, Vec<Event>)>
         ensures ok { IfOk result
-            (λ replies. (length replies.items ≡ length events.items) × ((schedule : List (AnEvent × AReply))
-            → StandsFor self.old schedule → StandsFor self.new (after events.items replies.items schedule))) }
-        ensures faithful { IfOk result (λ replies. (schedule : List (AnEvent × AReply)) → StandsFor self.old schedule
-            → IsFaithful (world_nodes self.old) (after events.items replies.items schedule) self.new.core.rows) }
-        ensures err { IfErr result (λ refused. (refused.1.items ≡ events.items) × (self.new ≡ self.old)) }
+            (λ replies. (length replies.items ≡ length events.items)
+            × ((schedule : List (AnEvent × AReply))
+            → StandsFor self.old schedule
+            → StandsFor self.new (after events.items replies.items schedule))) }
+        ensures faithful { IfOk result
+            (λ replies. (schedule : List (AnEvent × AReply)) → StandsFor self.old schedule
+            → IsFaithful (world_nodes self.old)
+            (after events.items replies.items schedule) self.new.core.rows) }
+        ensures err { IfErr result
+            (λ refused. (refused.1.items ≡ events.items) × (self.new ≡ self.old)) }
         ensures nodes { world_nodes self.new ≡ world_nodes self.old }
     {
         let mut replies = match Vec::with_capacity(self.alloc, events.len()) {
@@ -421,9 +427,11 @@ fn post(messages: &mut Vec<Message>, message: Message) -> bool
 /// Hands an item to the store, which takes a copy, and gives its stamp.
 fn accept(core: &mut Core, item: &Item) -> Result<Stamp, CoreFault>
     ensures stands { (past : List Step) → CoreStandsFor core.old past
-        → MatchResult result (λ stamp. (stamp ≡ item.now.stamp) × (item_refusal (nodes core.old) past item.now ≡ None)
+        → MatchResult result
+        (λ stamp. (stamp ≡ item.now.stamp) × (item_refusal (nodes core.old) past item.now ≡ None)
         × CoreStandsFor core.new (Took item.now ∷ past)) (λ fault.
-        IsRefusal (item_refusal (nodes core.old) past item.now) (IsWrite item.now.body) fault × (core.new ≡ core.old)) }
+        IsRefusal (item_refusal (nodes core.old) past item.now) (IsWrite item.now.body) fault
+        × (core.new ≡ core.old)) }
     ensures err { OnErr result (core.new ≡ core.old) }
     ensures nodes { nodes core.new ≡ nodes core.old }
 {
