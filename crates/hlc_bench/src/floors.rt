@@ -148,6 +148,34 @@ fn look_often(looking: Looking<'_>) -> u64 {
     greatest
 }
 
+/// What the looks take beside a writer, which is told to stop once they are made.
+fn timed_beside<
+    W: FnOnce(&AtomicBool) -> u64 + Send,
+    S: FnOnce() -> T,
+    T: Drop,
+    R: Threads + Clock,
+>(rt: &R, write: W, look: S) -> io::Result<Option<Looked>>
+    requires { W.IsAlwaysCallable write × S.IsAlwaysCallable look }
+{
+    let stop = AtomicBool::new(false);
+    let start = Instant::now(rt)?;
+    let (raises, nanos) = thread::join(
+        rt,
+        || write(&stop),
+        || {
+            let seen = look();
+            let nanos = stopped(rt, start, &stop);
+            drop(seen);
+            nanos
+        },
+    );
+    Ok(Some(Looked {
+        looks: LOOKS,
+        nanos: nanos?,
+        raises,
+    }))
+}
+
 /// Tells the writer to stop, and gives the nanoseconds since the start.
 fn stopped<R: Clock>(rt: &R, start: Instant, stop: &AtomicBool) -> io::Result<u128> {
     let took = start.elapsed(rt);
@@ -180,23 +208,11 @@ pub(crate) fn on_a_board<L: Ledger + Send + Sync, R: Threads + Wait + Sync + Clo
     let raising = raising_all(alloc, &board, feeders)?;
     let looking = looking_all(alloc, &board, passes)?;
     let store = &shared;
-    let stop = AtomicBool::new(false);
-    let start = Instant::now(rt)?;
-    let (written, nanos) = thread::join(
+    timed_beside(
         rt,
-        || hand_in_until(rt, store, writer, raising, &stop),
-        || {
-            let seen = thread::map_vec(rt, looking, &|one| look_often(one));
-            let nanos = stopped(rt, start, &stop);
-            drop(seen);
-            nanos
-        },
-    );
-    Ok(Some(Looked {
-        looks: LOOKS,
-        nanos: nanos?,
-        raises: written.1,
-    }))
+        |stop: &AtomicBool| hand_in_until(rt, store, writer, raising, stop).1,
+        || thread::map_vec(rt, looking, &|one| look_often(one)),
+    )
 }
 
 /// The floor that a refused opening tells; 0 where the reply is another.
@@ -250,23 +266,11 @@ pub(crate) fn in_a_shared_store<L: Ledger + Send + Sync, R: Threads + Wait + Syn
     };
     let raising = raising_all(alloc, &board, feeders)?;
     let store = &shared;
-    let stop = AtomicBool::new(false);
-    let start = Instant::now(rt)?;
-    let (written, nanos) = thread::join(
+    timed_beside(
         rt,
-        || hand_in_until(rt, store, writer, raising, &stop),
-        || {
-            let seen = thread::map_vec(rt, callers, &|caller| ask_often(rt, store, caller));
-            let nanos = stopped(rt, start, &stop);
-            drop(seen);
-            nanos
-        },
-    );
-    Ok(Some(Looked {
-        looks: LOOKS,
-        nanos: nanos?,
-        raises: written.1,
-    }))
+        |stop: &AtomicBool| hand_in_until(rt, store, writer, raising, stop).1,
+        || thread::map_vec(rt, callers, &|caller| ask_often(rt, store, caller)),
+    )
 }
 
 /// Looks often at the floor of a core behind a lock, and gives the greatest that was seen.
@@ -302,26 +306,9 @@ pub(crate) fn behind_a_lock<R: Threads + Wait + Sync + Clock>(
         return Ok(None);
     };
     let lock = Mutex::new(core);
-    let stop = AtomicBool::new(false);
-    let start = Instant::now(rt)?;
-    let (raises, nanos) = thread::join(
+    timed_beside(
         rt,
-        || accept_until(rt, &lock, &stop),
-        || {
-            let seen = thread::map_indices(
-                rt,
-                alloc,
-                usize::from(readers),
-                &|_| lock_often(rt, &lock),
-            );
-            let nanos = stopped(rt, start, &stop);
-            drop(seen);
-            nanos
-        },
-    );
-    Ok(Some(Looked {
-        looks: LOOKS,
-        nanos: nanos?,
-        raises,
-    }))
+        |stop: &AtomicBool| accept_until(rt, &lock, stop),
+        || thread::map_indices(rt, alloc, usize::from(readers), &|_| lock_often(rt, &lock)),
+    )
 }
