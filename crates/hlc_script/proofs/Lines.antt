@@ -210,7 +210,8 @@ one_report node node2 reading reading2 has also e =
     let s1 : reading ≡ reading2 = decimal_injective reading reading2 (omega arith) (omega arith) e1 in cc
 
 one_send : (node node2 reading reading2 : ℕ) → HasLine (Send node reading) → HasLine (Send node2 reading2)
-    → event_words (Send node reading) ≡ event_words (Send node2 reading2) → ◌≡◌ {A = Event} (Send node reading) (Send node2 reading2)
+    → event_words (Send node reading) ≡ event_words (Send node2 reading2)
+    → ◌≡◌ {A = Event} (Send node reading) (Send node2 reading2)
 one_send node node2 reading reading2 has also e =
     let e0 : decimal node ≡ decimal node2 = cc in
     let e1 : decimal reading ≡ decimal reading2 = cc in

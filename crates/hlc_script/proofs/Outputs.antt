@@ -242,8 +242,8 @@ one_line nodes schedule number lines bad worse e r q s t rest more onward (inl g
     ]
 
 -- some lines, answered twice
-answered_once : (nodes : ℕ) (schedule : List (Event × Reply)) (number : ℕ) (lines : List (List ℕ)) (output other : List ℕ)
-    (bad worse : Option ℕ) → Answers nodes schedule number lines output bad
+answered_once : (nodes : ℕ) (schedule : List (Event × Reply)) (number : ℕ) (lines : List (List ℕ))
+    (output other : List ℕ) (bad worse : Option ℕ) → Answers nodes schedule number lines output bad
     → Answers nodes schedule number lines other worse → Same output other bad worse
 answered_once nodes schedule number [] output other bad worse (none, well) (none2, well2) =
     inl (none ∙ sym none2, well ∙ sym well2)

@@ -50,7 +50,8 @@ on_node-inside nodes p rest h = cond-false _ _ _ (lt-leb nodes p h)
 
 -- one node issued an item, and the others are as they were
 nodes-issued : (nodes : List KeptIssuer) (lasts : ℕ → ℕ) (items : ℕ → List Item) (p st : ℕ) (item : Item)
-    → item.node ≡ p → p < length nodes → ((n : ℕ) → n < length nodes → slice_get nodes n ≡ Some (a_node n (lasts n) (items n)))
+    → item.node ≡ p → p < length nodes
+    → ((n : ℕ) → n < length nodes → slice_get nodes n ≡ Some (a_node n (lasts n) (items n)))
     → (n : ℕ) → n < length nodes → slice_get (slice_set nodes p (a_node p st (items p ++ item ∷ []))) n
     ≡ Some (a_node n (stamp_or n (Some (p, st)) (lasts n)) (with_item n (Some item) (items n)))
 nodes-issued nodes lasts items p st item own inside h n lt =
