@@ -1,3 +1,4 @@
+-- The name and the parts of the blank ledger.
 use Rattle.hlc_bench.proofs.main.Given as goal
 
 abbrev pub ghosts-timed : goal.ghosts-timed

@@ -1,3 +1,4 @@
+-- The last pass is the board's, and so are those before it.
 use Rattle.std.proofs.Common.{List, subst}
 use Rattle.hlc_board.specs.Views.{Sight}
 use Rattle.hlc_board.specs.Views.{PassesOf}

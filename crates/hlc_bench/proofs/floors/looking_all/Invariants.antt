@@ -1,3 +1,4 @@
+-- The passes that are left are the board's.
 use Rattle.hlc_board.specs.Views.{PassesOf}
 use Rattle.hlc_bench.proofs.floors.looking_all.Given as goal
 

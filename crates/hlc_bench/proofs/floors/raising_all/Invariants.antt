@@ -1,3 +1,4 @@
+-- The feeders that are left are the board's.
 use Rattle.hlc_board.specs.Views.{FeedersOf}
 use Rattle.hlc_bench.proofs.floors.raising_all.Given as goal
 

@@ -1,3 +1,4 @@
+-- The floor is defined as the least of the heads.
 use Rattle.hlc_core.specs.Past.{head}
 use Rattle.hlc_core.proofs.PastLemmas.{least-some, least-le}
 use Rattle.hlc_core.proofs.laws.floor_is_the_least_head.Goals as goal

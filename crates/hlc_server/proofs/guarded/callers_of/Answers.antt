@@ -1,3 +1,4 @@
+-- One part more is split off, and its caller has the next number.
 use Rattle.std.proofs.Common.{ℕ, List, arith, ap, sym, ◌∙◌, map, [], ◌∷◌, ◌++◌}
 use Rattle.std.specs.List.{range_with_len}
 use Rattle.std.proofs.lemmas.List.FromFn.{map-range_with_len_more}

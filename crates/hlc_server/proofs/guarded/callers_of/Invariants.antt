@@ -1,3 +1,4 @@
+-- The callers so far have their numbers and empty shares, and the rest is shared by those to come.
 use Rattle.std.proofs.Common.{◌≡◌, ◌+◌, map}
 use Rattle.std.specs.List.{range_with_len}
 use Rattle.hlc_server.specs.Seats.{fresh}

@@ -1,3 +1,4 @@
+-- The name and the parts of the blank ledger.
 use Rattle.hlc_server_tests.proofs.threads.four_threads.Given as goal
 
 abbrev pub ghosts-by_four : goal.ghosts-by_four

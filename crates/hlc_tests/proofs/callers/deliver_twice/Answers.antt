@@ -1,3 +1,4 @@
+-- The second step goes on from where the first one left off.
 use Rattle.hlc_tests.proofs.callers.deliver_twice.Goals as goal
 
 pub returns : goal.returns

@@ -1,3 +1,4 @@
+-- So many new nodes are made.
 use Rattle.std.proofs.Common.{◌≡◌}
 use Rattle.hlc_world.specs.State.{fresh}
 use Rattle.hlc_world.proofs.world.fresh_nodes.Given as goal

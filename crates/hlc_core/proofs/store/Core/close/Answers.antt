@@ -1,3 +1,4 @@
+-- The register without the snapshot stands for the past with the closing; what is open stays at or below the heads.
 use Rattle.hlc_core.proofs.Standing.{closes-result}
 use Rattle.hlc_core.proofs.Held.{held-close_result}
 use Rattle.hlc_core.proofs.store.Core.close.Goals as goal

@@ -1,3 +1,4 @@
+-- The kept heads are those of the past, so their least is its floor.
 use Rattle.std.proofs.Common.{subst}
 use Rattle.hlc_floor.specs.Heads.{IsFloor}
 use Rattle.hlc_core.proofs.Standing.{floor-from}

@@ -1,3 +1,4 @@
+-- A new core and nodes that issued nothing stand for the empty schedule.
 use Rattle.std.proofs.Common.{◌∙◌, sym, ap, length}
 use Rattle.hlc_world.proofs.Nodes.{starts, fresh-length}
 use Rattle.hlc_world.proofs.world.World.new.Goals as goal

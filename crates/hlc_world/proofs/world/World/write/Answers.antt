@@ -1,3 +1,4 @@
+-- The node issues the item, or refuses as is due, and the other nodes stay.
 use Rattle.std.proofs.Common.{◌<◌, length, refl, arith, Some}
 use Rattle.std.proofs.lemmas.Option.{slice_get_read}
 use Rattle.hlc_node.specs.declared.item.Body.TheVariants.{Write as a_write}
