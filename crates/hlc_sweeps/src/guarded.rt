@@ -1,9 +1,12 @@
 //! Calls of what lies under the lock of a shared store, with a trail and without.
-ghost use Rattle.std.specs.Prelude.{◌≡◌};
+ghost use Rattle.std.specs.Prelude.{◌≡◌, ◌∷◌, ◌++◌, [], None, true, false};
+ghost use Rattle.std.specs.Prelude.{IfOk, IfSome, IsTrue, MatchOption, MatchResult};
+ghost use Rattle.hlc_refused.specs.declared.subject.Seen.{Seen};
+ghost use Rattle.hlc_server.specs.declared.entry.NotDone.{NotDone};
 
 use hlc_core::{Bytes, CoreEvent};
 use hlc_refused::store::{Answers, ask, write};
-use hlc_refused::subject::{Place, Seen, seen_if};
+use hlc_refused::subject::{Place, Seen};
 use hlc_refused::turn::{REFUSED, Turn};
 use hlc_server::{Caller, Guarded, NotDone, Receipt, SettleFault, settle_guarded, step_guarded};
 use std::alloc::{AllocError, Global};
@@ -31,7 +34,8 @@ struct Outcome {
     settled: Result<(Answers, u64), SettleFault>,
 }
 
-/// Tries the call of this name, and compares with a twin on which none is refused.
+/// Tries the call of this name, and compares with a twin on which none is refused. No clause says
+/// which request the run refuses, so none says what is seen; `judged` has what is said of it.
 pub fn guarded(
     alloc: Global,
     audit: bool,
@@ -44,15 +48,29 @@ pub fn guarded(
     let Some((_, due)) = told(alloc, audit, name, &mut Turn::new(alloc, REFUSED))? else {
         return Ok(Seen::NotMade);
     };
+    Ok(judged(refused, &outcome, &due))
+}
+
+/// What was seen, by what was told of the call that is tried and of all calls in the end, and by
+/// what is due.
+fn judged(refused: bool, outcome: &Outcome, due: &Outcome) -> Seen
+    ensures wrong { IfSome outcome.now.wrong (λ place. result ≡ Seen.Wrong place) }
+    ensures answered { result ≡ Seen.Answered → (refused ≡ false) × (outcome.now.wrong ≡ None)
+        × IsTrue (⟦<Outcome as PartialEq>⟧.eq outcome.now due.now) }
+    ensures refused { result ≡ Seen.Refused → (refused ≡ true) × (outcome.now.wrong ≡ None)
+        × IsTrue (⟦<Outcome as PartialEq>⟧.eq outcome.now due.now) }
+{
     if let Some(place) = outcome.wrong {
-        return Ok(Seen::Wrong(place));
+        return Seen::Wrong(place);
     }
-    let seen = if refused {
+    if *outcome != *due {
+        return Seen::Wrong(Place::Later);
+    }
+    if refused {
         Seen::Refused
     } else {
         Seen::Answered
-    };
-    Ok(seen_if(outcome == due, seen, Place::Later))
+    }
 }
 
 /// Whether the call was refused memory, and what was told, by a store of its own.
@@ -177,7 +195,12 @@ impl<L: Ledger> Desk<L> {
         alloc: Global,
         name: &[u8],
         answer: Option<Result<Receipt, (NotDone, CoreEvent)>>,
-    ) -> Result<Option<Place>, AllocError> {
+    ) -> Result<Option<Place>, AllocError>
+        ensures { IfOk result (λ place. place ≡ None → MatchOption answer ⊥
+            (λ told. MatchResult told
+            (λ receipt. self.new.receipts.items ≡ self.old.receipts.items ++ receipt ∷ [])
+            (λ refused. refused.0 ≡ NotDone.NoMemory))) }
+    {
         match answer {
             None => Ok(Some(Place::Answer)),
             Some(Ok(receipt)) => {
@@ -186,9 +209,12 @@ impl<L: Ledger> Desk<L> {
             }
             Some(Err((why, event))) => {
                 let due = event_of(alloc, name)?;
-                let is_back = why == NotDone::NoMemory && due == Some(event.clone()?);
+                let is_back = due == Some(event.clone()?);
                 self.make(event)?;
-                Ok(if is_back { None } else { Some(Place::Answer) })
+                Ok(match why {
+                    NotDone::NoMemory if is_back => None,
+                    _ => Some(Place::Answer),
+                })
             }
         }
     }

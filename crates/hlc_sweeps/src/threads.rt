@@ -1,4 +1,7 @@
 //! The vacuum of a store whose columns threads plan.
+ghost use Rattle.std.specs.Prelude.{◌≡◌, ◌≢◌, None, length, IfOk, IsTrue};
+ghost use Rattle.hlc_refused.specs.declared.subject.Seen.{Seen};
+
 use hlc_core::{Core, Report};
 use hlc_refused::store::{STOCKED, ask, stocked, vacuum_and_ask};
 use hlc_refused::subject::{Place, Seen, seen_if};
@@ -37,7 +40,11 @@ fn called<R: Threads + Sync>(
     tried: &mut Core,
     twin: &mut Core,
     answer: Option<Report>,
-) -> Result<Seen, AllocError> {
+) -> Result<Seen, AllocError>
+    ensures answered { IfOk result (λ seen. seen ≡ Seen.Answered → answer ≢ None) }
+    ensures refused { IfOk result (λ seen. seen ≡ Seen.Refused
+        → (answer ≡ None) × (length tried.old.rows ≡ length twin.old.rows)) }
+{
     if answer.is_some() {
         let due = twin.vacuum_parallel(rt).ok();
         return Ok(seen_if(answer == due, Seen::Answered, Place::Answer));
@@ -51,7 +58,12 @@ fn called<R: Threads + Sync>(
 }
 
 /// Whether both tell the same, now and after another vacuum.
-fn go_on_alike(alloc: Global, tried: &mut Core, twin: &mut Core) -> Result<bool, AllocError> {
+fn go_on_alike(alloc: Global, tried: &mut Core, twin: &mut Core) -> Result<bool, AllocError>
+    ensures before { IfOk result
+        (λ alike. IsTrue alike → length tried.old.rows ≡ length twin.old.rows) }
+    ensures after { IfOk result
+        (λ alike. IsTrue alike → length tried.new.rows ≡ length twin.new.rows) }
+{
     if ask(alloc, tried)? != ask(alloc, twin)? {
         return Ok(false);
     }

@@ -1,5 +1,11 @@
 //! The workers round a shared store, one at a time and in one thread.
-ghost use Rattle.std.specs.Prelude.{◌≡◌};
+ghost use Rattle.std.specs.Prelude.{◌≡◌, ◌+◌, ◌<◌, ◌≤◌, ◌∷◌, [], None, true};
+ghost use Rattle.std.specs.Prelude.{List, length, IfOk, IsTrue, MatchOption};
+ghost use Rattle.hlc_refused.specs.declared.subject.Seen.{Seen};
+ghost use Rattle.hlc_workers.specs.declared.room.WorkEnd.{WorkEnd};
+ghost use Rattle.hlc_server.specs.declared.entry.Entry.{Entry};
+ghost use Rattle.hlc_server.specs.declared.entry.NotDone.{NotDone};
+ghost use Rattle.hlc_server.specs.Settling.{IsSettled, claims_of};
 
 use hlc_board::Board;
 use hlc_channel::{LinkReceiver, link};
@@ -8,7 +14,7 @@ use hlc_refused::store::write;
 use hlc_refused::subject::{Place, Seen};
 use hlc_refused::turn::Turn;
 use hlc_server::{Caller, NotDone, Receipt, Shared};
-use hlc_workers::{Fed, FreeGate, WorkEnd, feed, serve_reader, serve_vacuum};
+use hlc_workers::{Fed, FreeGate, Reader, Served, WorkEnd, feed, serve_reader, serve_vacuum};
 use std::alloc::{AllocError, Global};
 use std::marker::Brand;
 use std::sync::Wait;
@@ -31,6 +37,9 @@ struct Store<L: Ledger> {
     caller: Caller<L>,
     receipts: Vec<Receipt>,
 }
+
+// No clause says which request the run refuses, so none of the three workers has one for what is
+// seen of it. What is said for what, `seen` has.
 
 /// The link of three writes is fed into a new store.
 pub fn feeding<R: Wait>(rt: &R, alloc: Global, turn: &mut Turn) -> Result<Seen, AllocError> {
@@ -91,12 +100,12 @@ fn feeding_in<L: Ledger, R: Wait>(
     if !is_left(alloc, receipts.len(), left)? {
         return Ok(Seen::Wrong(Place::State));
     }
-    let store = Store {
-        shared,
+    let served = Served {
         caller,
-        receipts: past,
+        receipts,
+        end,
     };
-    seen(alloc, store, receipts, end, 3)
+    seen(alloc, shared, past, served, 3)
 }
 
 fn reading_in<L: Ledger, R: Wait>(
@@ -121,18 +130,24 @@ fn reading_in<L: Ledger, R: Wait>(
     let Store {
         shared,
         caller,
-        receipts,
+        receipts: past,
     } = store;
-    let served = serve_reader(
+    let read = serve_reader(
         rt, alloc, &shared, caller, &board, pass, &keys, 1, &FreeGate,
     );
     turn.end();
-    let store = Store {
-        shared,
-        caller: served.caller,
+    let Reader {
+        caller,
         receipts,
+        end,
+        ..
+    } = read;
+    let served = Served {
+        caller,
+        receipts,
+        end,
     };
-    seen(alloc, store, served.receipts, served.end, 4)
+    seen(alloc, shared, past, served, 4)
 }
 
 fn vacuuming_in<L: Ledger, R: Wait + Threads + Sync>(
@@ -152,16 +167,11 @@ fn vacuuming_in<L: Ledger, R: Wait + Threads + Sync>(
     let Store {
         shared,
         caller,
-        receipts,
+        receipts: past,
     } = store;
     let served = serve_vacuum(rt, alloc, &shared, caller, 1, &FreeGate);
     turn.end();
-    let store = Store {
-        shared,
-        caller: served.caller,
-        receipts,
-    };
-    seen(alloc, store, served.receipts, served.end, 1)
+    seen(alloc, shared, past, served, 1)
 }
 
 /// A new store of one node, with a trail.
@@ -213,7 +223,10 @@ fn written<L: Ledger, R: Wait>(
 }
 
 /// The write of this number on a link.
-fn item(alloc: Global, number: u8) -> Result<Item, AllocError> {
+fn item(alloc: Global, number: u8) -> Result<Item, AllocError>
+    ensures { IfOk result
+        (λ item. (item.node ≡ 0) × (item.number ≡ number) × (item.stamp ≡ number + 1)) }
+{
     let number = u64::from(number);
     let key: &[u8] = if number == 1 { b"b" } else { b"a" };
     write(alloc, (0, number, number + 1), key, b"x")
@@ -239,43 +252,78 @@ fn full_link<R: Wait>(rt: &R, alloc: Global) -> Result<Option<LinkReceiver>, All
 
 /// Whether the item that is left is the next one where so many were handed in, and none behind the
 /// last.
-fn is_left(alloc: Global, count: usize, left: Option<Item>) -> Result<bool, AllocError> {
-    Ok(match count {
-        0 => left == Some(item(alloc, 0)?),
-        1 => left == Some(item(alloc, 1)?),
-        2 => left == Some(item(alloc, 2)?),
-        _ => left.is_none(),
-    })
+fn is_left(alloc: Global, count: usize, left: Option<Item>) -> Result<bool, AllocError>
+    ensures none { IfOk result (λ same. IsTrue same → 3 ≤ count → left ≡ None) }
+    ensures next { IfOk result (λ same. IsTrue same → count < 3
+        → MatchOption left ⊥ (λ item. item.number ≡ count)) }
+{
+    match left {
+        None => Ok(count >= 3),
+        Some(_) if count >= 3 => Ok(false),
+        Some(left) => Ok(left == item(alloc, count as u8)?),
+    }
 }
 
 /// What was seen of a worker that was to give so many receipts, by its end and what settles.
 fn seen<L: Ledger>(
     alloc: Global,
-    store: Store<L>,
-    more: Vec<Receipt>,
-    end: WorkEnd,
+    shared: Shared<L>,
+    past: Vec<Receipt>,
+    served: Served<L>,
     due: usize,
-) -> Result<Seen, AllocError> {
-    let Store {
-        shared,
+) -> Result<Seen, AllocError>
+    ensures answered { IfOk result (λ seen. seen ≡ Seen.Answered
+        → (served.end ≡ WorkEnd.Done) × (length served.receipts.items ≡ due)) }
+    ensures refused { IfOk result (λ seen. seen ≡ Seen.Refused
+        → (served.end ≡ WorkEnd.Spent NotDone.NoMemory) × (length served.receipts.items < due)) }
+{
+    let Served {
         caller,
-        mut receipts,
-    } = store;
+        receipts: mut more,
+        end,
+    } = served;
     let count = more.len();
-    for receipt in more {
-        receipts.push(receipt)?;
-    }
+    let mut receipts = past;
+    receipts.append(&mut more)?;
+    let is_settled = settles(alloc, shared, caller, receipts)?;
+    Ok(judged(is_settled, end, count, due))
+}
+
+/// Whether these receipts of the one caller settle, so that no other call stands in the trail.
+fn settles<L: Ledger>(
+    alloc: Global,
+    shared: Shared<L>,
+    caller: Caller<L>,
+    receipts: Vec<Receipt>,
+) -> Result<bool, AllocError>
+    ensures { IfOk result (λ all. IsTrue all
+        → (trail : List Entry) × IsSettled trail (claims_of ((caller, receipts) ∷ []))) }
+{
     let total = receipts.len() as u64;
     let lists = vec![in alloc; (caller, receipts)]?;
-    let Ok(settled) = shared.settle(lists) else {
-        return Ok(Seen::Wrong(Place::Later));
-    };
-    if settled.entries != total {
-        return Ok(Seen::Wrong(Place::Later));
+    match shared.settle(lists) {
+        Ok(settled) => Ok(settled.entries == total),
+        Err(_) => Ok(false),
     }
-    Ok(match end {
+}
+
+/// What was seen of a worker that gave so many receipts where others are due.
+fn judged(is_settled: bool, end: WorkEnd, count: usize, due: usize) -> Seen
+    ensures answered { result ≡ Seen.Answered
+        → (is_settled ≡ true) × (end ≡ WorkEnd.Done) × (count ≡ due) }
+    ensures refused { result ≡ Seen.Refused
+        → (is_settled ≡ true) × (end ≡ WorkEnd.Spent NotDone.NoMemory) × (count < due) }
+    ensures done { (is_settled ≡ true) × (end ≡ WorkEnd.Done) × (count ≡ due)
+        → result ≡ Seen.Answered }
+    ensures spent { (is_settled ≡ true) × (end ≡ WorkEnd.Spent NotDone.NoMemory) × (count < due)
+        → result ≡ Seen.Refused }
+{
+    if !is_settled {
+        return Seen::Wrong(Place::Later);
+    }
+    match end {
         WorkEnd::Done if count == due => Seen::Answered,
         WorkEnd::Spent(NotDone::NoMemory) if count < due => Seen::Refused,
         _ => Seen::Wrong(Place::Answer),
-    })
+    }
 }
