@@ -1,7 +1,7 @@
 -- What an item may say.
-use Rattle.std.specs.Prelude.{ℕ, List, length, ◌==◌, ◌||◌, nat_lt, Option, Some, None, if◌then◌else◌}
+use Rattle.std.specs.Prelude.{ℕ, Bool, true, false, List, length, ◌==◌, ◌||◌, nat_lt, Option, Some, None, if◌then◌else◌}
 use Rattle.hlc_node.specs.declared.item.Body.{Body}
-use Rattle.hlc_node.specs.declared.item.Body.TheVariants.{Write, Report}
+use Rattle.hlc_node.specs.declared.item.Body.TheVariants.{Write, Report, Retire}
 use Rattle.hlc_node.specs.declared.item.BodyFault.{BodyFault}
 use Rattle.hlc_node.specs.declared.item.BodyFault.TheVariants.{BadKey, ValueTooLong}
 use Rattle.hlc_node.specs.declared.item.TheConstants.{MOST_KEY_BYTES, MOST_VALUE_BYTES}
@@ -16,3 +16,10 @@ abbrev pub body_refusal : Body → Option BodyFault
 body_refusal (Write key value) =
     if length key == 0 || nat_lt MOST_KEY_BYTES (length key) then Some BadKey else value_refusal value
 body_refusal Report = None
+body_refusal Retire = None
+
+-- an item that says this is its node's last one
+abbrev pub retires : Body → Bool
+retires (Write key value) = false
+retires Report = false
+retires Retire = true

@@ -1,27 +1,29 @@
 -- What a node keeps, and what it answers to each event.
-use Rattle.std.specs.Prelude.{ℕ, ◌+◌, [], ◌∷◌, ◌==◌, Option, Some, None, Result, Ok, Err, if◌then◌else◌}
+use Rattle.std.specs.Prelude.{ℕ, Bool, ◌+◌, List, [], ◌∷◌, ◌==◌, Option, Some, None, Result, Ok, Err, if◌then◌else◌}
 use Rattle.hlc_clock.specs.NextStamp.{stamp_due}
 use Rattle.hlc_clock.specs.declared.clock.ClockFault.{ClockFault}
 use Rattle.hlc_node.specs.declared.item.Item.{Item}
 use Rattle.hlc_node.specs.declared.item.Body.{Body}
 use Rattle.hlc_node.specs.declared.item.BodyFault.{BodyFault}
 use Rattle.hlc_node.specs.declared.node.NodeFault.{NodeFault}
-use Rattle.hlc_node.specs.declared.node.NodeFault.TheVariants.{BadBody, NumbersSpent, NoStamp}
-use Rattle.hlc_node.specs.Items.{body_refusal}
+use Rattle.hlc_node.specs.declared.node.NodeFault.TheVariants.{Retired, BadBody, NumbersSpent, NoStamp}
+use Rattle.hlc_node.specs.Items.{body_refusal, retires}
 
--- a node: its own number, the stamp of its last event, and the link number of its next item
+-- a node: its own number, the stamp of its last event or else of its start, the link number of its next item, and
+-- whether it retired
 pub record Node : Type 0 where
   pub id : ℕ
   pub last : ℕ
   pub next : ℕ
+  pub retired : Bool
 
 -- the node after an event without an item that was stamped so
 abbrev pub stamped : Node → ℕ → Node
-stamped node stamp = record { id = node.id; last = stamp; next = node.next }
+stamped node stamp = record { id = node.id; last = stamp; next = node.next; retired = node.retired }
 
--- the node after it issued an item that was stamped so
-abbrev pub after_issue : Node → ℕ → Node
-after_issue node stamp = record { id = node.id; last = stamp; next = node.next + 1 }
+-- the node after it issued an item that says this and was stamped so
+abbrev pub after_issue : Node → Body → ℕ → Node
+after_issue node body stamp = record { id = node.id; last = stamp; next = node.next + 1; retired = retires body }
 
 -- the node's next item, if it says this and is stamped so
 abbrev pub next_item : Node → Body → ℕ → Item
@@ -37,11 +39,20 @@ abbrev pub unless_bad : Option BodyFault → Result ℕ NodeFault → Result ℕ
 unless_bad None rest = rest
 unless_bad (Some fault) rest = Err (BadBody fault)
 
+-- a node that retired is refused before all else
+abbrev pub unless_retired : Bool → Result ℕ NodeFault → Result ℕ NodeFault
+unless_retired gone rest = if gone then Err Retired else rest
+
+-- the stamp of the node's next event without an item, above these stamps; or the first reason that there is none
+abbrev pub event_due : Node → List ℕ → ℕ → Result ℕ NodeFault
+event_due node earlier reading = unless_retired node.retired (clocked (stamp_due earlier reading))
+
 -- the stamp of the node's next item, by why what it says is refused, if it is; or the first reason that there is none
 abbrev pub issue_after : Option BodyFault → Node → ℕ → Result ℕ NodeFault
 issue_after refusal node reading =
-    unless_bad refusal
-    (if node.next == 18446744073709551615 then Err NumbersSpent else clocked (stamp_due (node.last ∷ []) reading))
+    unless_retired node.retired
+    (unless_bad refusal
+    (if node.next == 18446744073709551615 then Err NumbersSpent else clocked (stamp_due (node.last ∷ []) reading)))
 
 -- the stamp of the node's next item, if it says this; or the first reason that there is none
 abbrev pub issue_due : Node → Body → ℕ → Result ℕ NodeFault

@@ -1,9 +1,9 @@
 //! Items, which a node hands on over its link, and messages to other nodes.
-ghost use Rattle.std.specs.Prelude.{◌≡◌};
+ghost use Rattle.std.specs.Prelude.{◌≡◌, ◌⊎◌};
 ghost use Rattle.std.proofs.Common.{rules};
 ghost use Rattle.std.proofs.lemmas.Grind.{common_steps};
-ghost use Rattle.hlc_node.specs.Items.{body_refusal};
-ghost use Rattle.hlc_node.specs.declared.item.Body.TheVariants.{Write as a_write, Report};
+ghost use Rattle.hlc_node.specs.Items.{body_refusal, retires};
+ghost use Rattle.hlc_node.specs.declared.item.Body.TheVariants.{Write as a_write, Report, Retire};
 ghost use Rattle.hlc_node.specs.declared.item.TheConstants.{MOST_KEY_BYTES, MOST_VALUE_BYTES};
 
 use crate::bytes::Bytes;
@@ -34,6 +34,8 @@ pub enum Body {
     Write { key: Bytes, value: Option<Bytes> },
     /// No write: the node's stamps have come so far.
     Report,
+    /// No write, and the node's last item: it issues nothing after it.
+    Retire,
 }
 
 /// An item of a node's link.
@@ -70,11 +72,12 @@ pub enum BodyFault {
 impl Clone for Body {
     ghost is_clone = { λ body copy. copy ≡ body };
 
-    ghost is_infallible = { λ body. body ≡ Report };
+    ghost is_infallible = { λ body. (body ≡ Report) ⊎ (body ≡ Retire) };
 
     fn clone(&self) -> Result<Body, AllocError> {
         match self {
             Body::Report => Ok(Body::Report),
+            Body::Retire => Ok(Body::Retire),
             Body::Write { key, value } => Ok(Body::Write {
                 key: key.clone()?,
                 value: value.clone()?,
@@ -120,12 +123,19 @@ pub fn write_fault(key: &Bytes, value: &Option<Bytes>) -> Option<BodyFault>
     }
 }
 
+/// Whether an item that says this is its node's last one.
+pub fn retires(body: &Body) -> bool
+    ensures { result ≡ retires body.now }
+{
+    matches!(body, Body::Retire)
+}
+
 /// The first reason why no item may say this.
 pub fn body_fault(body: &Body) -> Option<BodyFault>
     ensures { result ≡ body_refusal body.now }
 {
     match body {
         Body::Write { key, value } => write_fault(key, value),
-        Body::Report => None,
+        Body::Report | Body::Retire => None,
     }
 }

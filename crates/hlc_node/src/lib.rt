@@ -12,7 +12,7 @@ pub use bytes::Bytes;
 pub use hlc_clock::Stamp;
 pub use item::{
     Body, BodyFault, Item, MOST_KEY_BYTES, MOST_VALUE_BYTES, Message, body_fault,
-    most_key_bytes_are_255, most_value_bytes_are_65535, write_fault,
+    most_key_bytes_are_255, most_value_bytes_are_65535, retires, write_fault,
 };
 pub use laws::{
     newest_is_greatest, newest_is_unique, newest_stays, no_newest_no_row, other_keys_do_not_count,
