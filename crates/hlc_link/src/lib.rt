@@ -3,5 +3,5 @@
 
 mod intake;
 
-pub use hlc_node::Stamp;
+pub use hlc_clock::Stamp;
 pub use intake::{Intake, LinkFault};
