@@ -8,11 +8,12 @@ use hlc_values::Exact;
 use std::marker::Model;
 
 /// An item of this node, with this stamp, was accepted: it is the node's head, or was. Only
-/// `Heads::raise` makes one.
+/// `Heads::raise` and `Heads::retire` make one.
 #[derive(Clone, Copy, PartialEq, Eq, Debug)]
 pub struct Accepted {
     node: u16,
     stamp: Stamp,
+    retires: bool,
 }
 
 impl Model for Accepted {
@@ -20,9 +21,11 @@ impl Model for Accepted {
 
     ghost Value = { Acceptance };
 
-    ghost view = { λ accepted. record { node = accepted.node; stamp = accepted.stamp } };
+    ghost view = { λ accepted. record
+        { node = accepted.node; stamp = accepted.stamp; retires = accepted.retires } };
 
-    ghost inverse = { λ acceptance. record { node = acceptance.node; stamp = acceptance.stamp } };
+    ghost inverse = { λ acceptance. record
+        { node = acceptance.node; stamp = acceptance.stamp; retires = acceptance.retires } };
 }
 
 impl Exact for Accepted {
@@ -33,10 +36,14 @@ impl Exact for Accepted {
 
 impl Accepted {
     /// The word that an item of this node and stamp was accepted.
-    pub(crate) fn new(node: u16, stamp: Stamp) -> Accepted
-        ensures { result ≡ record { node = node; stamp = stamp } }
+    pub(crate) fn new(node: u16, stamp: Stamp, retires: bool) -> Accepted
+        ensures { result ≡ record { node = node; stamp = stamp; retires = retires } }
     {
-        Accepted { node, stamp }
+        Accepted {
+            node,
+            stamp,
+            retires,
+        }
     }
 
     /// The node that issued the item.
@@ -51,5 +58,12 @@ impl Accepted {
         ensures { result ≡ self.now.stamp }
     {
         self.stamp
+    }
+
+    /// Whether it was the node's last item.
+    pub fn retires(&self) -> bool
+        ensures { result ≡ self.now.retires }
+    {
+        self.retires
     }
 }

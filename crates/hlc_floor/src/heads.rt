@@ -1,9 +1,17 @@
 //! The head of each link, and the floor.
-ghost use Rattle.std.specs.Prelude.{◌≡◌, ◌<◌, Some, length, slice_get, slice_set, slice_index_or};
+ghost use Rattle.std.specs.Prelude.{◌≡◌, ◌<◌, false, true, MatchOption, length, min};
 ghost use Rattle.std.proofs.Common.{rules};
 ghost use Rattle.std.proofs.lemmas.Grind.{common_steps};
-ghost use Rattle.hlc_floor.specs.declared.heads.TheConstants.{MOST_NODES};
-ghost use Rattle.hlc_floor.specs.Heads.{Makes, IsFloor};
+ghost use Rattle.hlc_floor.specs.declared.heads.TheConstants.{MOST_NODES, MOST_NUMBERS};
+ghost use Rattle.hlc_floor.specs.Heads.{
+  Makes,
+  Joins,
+  IsFloor,
+  IsLeast,
+  AllRetired,
+  head_at,
+  marked,
+};
 
 use crate::accepted::Accepted;
 use hlc_clock::Stamp;
@@ -11,12 +19,21 @@ use hlc_values::Exact;
 use std::alloc::Global;
 use std::marker::Model;
 
-/// The most nodes that there may be.
+/// The most nodes that there may be at the start.
 pub const MOST_NODES: u16 = 64;
 
-/// There are at most 64 nodes.
+/// There are at most 64 nodes at the start.
 pub fn most_nodes_are_64()
     ensures { MOST_NODES ≡ 64 }
+{}
+
+/// The most numbers that are given to nodes, those of the start and of all that join. None is given
+/// twice.
+pub const MOST_NUMBERS: u16 = 1024;
+
+/// At most 1,024 numbers are given to nodes.
+pub fn most_numbers_are_1024()
+    ensures { MOST_NUMBERS ≡ 1024 }
 {}
 
 /// Why no heads are made.
@@ -34,72 +51,187 @@ impl Exact for HeadsFault {
     ghost copied = { Prim.search rules };
 }
 
-/// The head of each node: the stamp of its last accepted item, 0.0 where there is none. Contracts
-/// see the list of the heads, by node.
+/// Why no node joins.
+#[derive(Clone, Copy, PartialEq, Eq, Debug)]
+pub enum JoinFault {
+    /// 1,024 numbers were given already.
+    TooManyNodes,
+    /// A growth was refused.
+    NoMemory,
+}
+
+impl Exact for JoinFault {
+    ghost equal = { Prim.search (rules, common_steps) };
+
+    ghost copied = { Prim.search rules };
+}
+
+/// The head of a node: the stamp of its last accepted item or else of its start, and whether that
+/// item was the node's last.
+#[derive(Clone, Copy, PartialEq, Eq, Debug)]
+pub struct Head {
+    pub stamp: Stamp,
+    pub retired: bool,
+}
+
+impl Exact for Head {
+    ghost equal = { Prim.search (rules, common_steps) };
+
+    ghost copied = { Prim.search rules };
+}
+
+/// The head of each node, and the greatest stamp of an accepted item. Contracts see the list of the
+/// heads, by node, and that stamp.
 #[derive(Drop)]
 pub struct Heads {
-    stamps: Vec<Stamp>,
+    heads: Vec<Head>,
+    top: Stamp,
 }
 
 impl Model for Heads {
-    ghost use Rattle.std.specs.Prelude.{ℕ, List};
-    ghost use Rattle.hlc_floor.specs.Heads.{IsSized};
+    ghost use Rattle.hlc_floor.specs.Heads.{Marks, IsSized};
 
-    ghost Value = { List ℕ };
+    ghost Value = { Marks };
 
-    ghost view = { λ heads. heads.stamps.items };
+    ghost view = { λ heads. record { heads = heads.heads.items; top = heads.top } };
 
-    ghost invariant = { λ heads. IsSized heads.stamps.items };
+    ghost invariant = { λ heads. IsSized (record { heads = heads.heads.items; top = heads.top }) };
 }
 
 impl Heads {
-    /// The heads of so many nodes, 1 to 64, of which nothing was accepted. Nodes are numbered from 0.
+    /// The heads of so many nodes, 1 to 64, of which nothing was accepted. Nodes are numbered from
+    /// 0 and start at 0.0.
     pub fn new(alloc: Global, nodes: u16) -> Result<Heads, HeadsFault>
         ensures { Makes nodes result }
     {
         if nodes == 0 || nodes > MOST_NODES {
             return Err(HeadsFault::NoNode);
         }
-        match vec![in alloc; Stamp::from_bits(0); nodes as usize] {
-            Ok(stamps) => Ok(Heads { stamps }),
+        let head = Head {
+            stamp: Stamp::from_bits(0),
+            retired: false,
+        };
+        match vec![in alloc; head; nodes as usize] {
+            Ok(heads) => Ok(Heads {
+                heads,
+                top: Stamp::from_bits(0),
+            }),
             Err(_) => Err(HeadsFault::NoMemory),
         }
     }
 
     /// The head of a node, which is below the count of nodes.
     pub fn head(&self, node: u16) -> Stamp
-        requires { node < length self.now }
-        ensures { slice_get self.now node ≡ Some result }
+        requires { node < length self.now.heads }
+        ensures { result ≡ (head_at self.now.heads node).stamp }
     {
-        self.stamps[node as usize]
+        self.heads[node as usize].stamp
+    }
+
+    /// Whether a node, which is below the count of nodes, retired.
+    pub fn is_retired(&self, node: u16) -> bool
+        requires { node < length self.now.heads }
+        ensures { result ≡ (head_at self.now.heads node).retired }
+    {
+        self.heads[node as usize].retired
     }
 
     /// An item of this node, with this stamp, was accepted: the stamp is the node's head from now
-    /// on. The node is below the count of nodes, and the stamp is above its head.
+    /// on. The node is below the count of nodes and has not retired, and the stamp is above its
+    /// head.
     pub fn raise(&mut self, node: u16, stamp: Stamp) -> Accepted
-        requires node { node < length self.old }
-        requires rising { slice_index_or self.old node 0 < stamp }
-        ensures raised { self.new ≡ slice_set self.old node stamp }
-        ensures accepted { result ≡ record { node = node; stamp = stamp } }
+        requires node { node < length self.old.heads }
+        requires open { (head_at self.old.heads node).retired ≡ false }
+        requires rising { (head_at self.old.heads node).stamp < stamp }
+        ensures raised { self.new ≡ marked self.old node stamp false }
+        ensures accepted { result ≡ record { node = node; stamp = stamp; retires = false } }
     {
-        self.stamps[node as usize] = stamp;
-        Accepted::new(node, stamp)
+        self.mark(node, stamp, false)
     }
 
-    /// The floor: the least head. It never falls, and every item that is accepted later lies above
+    /// The last item of this node, with this stamp, was accepted: the node counts no more in the
+    /// floor. The node is below the count of nodes and has not retired, and the stamp is above its
+    /// head.
+    pub fn retire(&mut self, node: u16, stamp: Stamp) -> Accepted
+        requires node { node < length self.old.heads }
+        requires open { (head_at self.old.heads node).retired ≡ false }
+        requires rising { (head_at self.old.heads node).stamp < stamp }
+        ensures retired { self.new ≡ marked self.old node stamp true }
+        ensures accepted { result ≡ record { node = node; stamp = stamp; retires = true } }
+    {
+        self.mark(node, stamp, true)
+    }
+
+    /// The stamp is the node's head, and the top where it is above it.
+    fn mark(&mut self, node: u16, stamp: Stamp, last: bool) -> Accepted
+        requires { node < length self.old.heads }
+        ensures marked { self.new ≡ marked self.old node stamp last }
+        ensures accepted { result ≡ record { node = node; stamp = stamp; retires = last } }
+    {
+        self.heads[node as usize] = Head {
+            stamp,
+            retired: last,
+        };
+        if stamp > self.top {
+            self.top = stamp;
+        }
+        Accepted::new(node, stamp, last)
+    }
+
+    /// A node joins: it is given the next number, and starts at the floor, which is its first head.
+    /// So the floor stays.
+    ///
+    /// Refused, in this order: 1,024 numbers were given; want of memory.
+    pub fn join(&mut self) -> Result<(u16, Stamp), JoinFault>
+        ensures { Joins self.old self.new result }
+    {
+        if self.heads.len() >= MOST_NUMBERS as usize {
+            return Err(JoinFault::TooManyNodes);
+        }
+        let node = self.heads.len() as u16;
+        let start = self.floor();
+        let head = Head {
+            stamp: start,
+            retired: false,
+        };
+        match self.heads.push(head) {
+            Ok(()) => Ok((node, start)),
+            Err(_) => Err(JoinFault::NoMemory),
+        }
+    }
+
+    /// The floor: the least head of the nodes that have not retired; where all did, the greatest
+    /// stamp of an accepted item. It never falls, and every item that is accepted later lies above
     /// it. It costs one pass over the heads.
     pub fn floor(&self) -> Stamp
         ensures { IsFloor self.now result }
     {
-        least(self.stamps.as_slice())
+        match least(self.heads.as_slice()) {
+            Some(stamp) => stamp,
+            None => self.top,
+        }
     }
 }
 
-/// The least of some stamps.
-fn least(stamps: &[Stamp]) -> Stamp
-    requires { 0 < length stamps.now }
-    ensures { IsFloor stamps.now result }
+/// The least head of the nodes that have not retired, if there is one.
+fn least(heads: &[Head]) -> Option<Stamp>
+    ensures { MatchOption result (AllRetired heads.now) (λ low. IsLeast heads.now low) }
 {
-    // There is one, so nothing stands in for it.
-    stamps.iter().copied().min().unwrap_or(Stamp::from_bits(0))
+    let mut least = None;
+    for head in heads {
+        if !head.retired {
+            least = Some(lower(least, head.stamp));
+        }
+    }
+    least
+}
+
+/// The lower of the two, if there are two.
+fn lower(least: Option<Stamp>, stamp: Stamp) -> Stamp
+    ensures { MatchOption least (result ≡ stamp) (λ low. result ≡ min low stamp) }
+{
+    match least {
+        Some(low) if low < stamp => low,
+        _ => stamp,
+    }
 }

@@ -5,5 +5,8 @@ mod accepted;
 mod heads;
 
 pub use accepted::Accepted;
-pub use heads::{Heads, HeadsFault, MOST_NODES, most_nodes_are_64};
+pub use heads::{
+    Head, Heads, HeadsFault, JoinFault, MOST_NODES, MOST_NUMBERS, most_nodes_are_64,
+    most_numbers_are_1024,
+};
 pub use hlc_clock::Stamp;
