@@ -86,16 +86,18 @@ impl Exact for Head {
 pub struct Heads {
     heads: Vec<Head>,
     top: Stamp,
+    floor: Stamp,
 }
 
 impl Model for Heads {
-    ghost use Rattle.hlc_floor.specs.Heads.{Marks, IsSized};
+    ghost use Rattle.hlc_floor.specs.Heads.{Marks, IsSized, IsFloor};
 
     ghost Value = { Marks };
 
     ghost view = { λ heads. record { heads = heads.heads.items; top = heads.top } };
 
-    ghost invariant = { λ heads. IsSized (record { heads = heads.heads.items; top = heads.top }) };
+    ghost invariant = { λ heads. IsSized (record { heads = heads.heads.items; top = heads.top })
+        × IsFloor (record { heads = heads.heads.items; top = heads.top }) heads.floor };
 }
 
 impl Heads {
@@ -115,6 +117,7 @@ impl Heads {
             Ok(heads) => Ok(Heads {
                 heads,
                 top: Stamp::from_bits(0),
+                floor: Stamp::from_bits(0),
             }),
             Err(_) => Err(HeadsFault::NoMemory),
         }
@@ -162,18 +165,25 @@ impl Heads {
         self.mark(node, stamp, true)
     }
 
-    /// The stamp is the node's head, and the top where it is above it.
+    /// The stamp is the node's head, and the top where it is above it. The floor stays, unless the
+    /// node stood there: then it is looked for.
     fn mark(&mut self, node: u16, stamp: Stamp, last: bool) -> Accepted
-        requires { node < length self.old.heads }
+        requires node { node < length self.old.heads }
+        requires open { (head_at self.old.heads node).retired ≡ false }
+        requires rising { (head_at self.old.heads node).stamp < stamp }
         ensures marked { self.new ≡ marked self.old node stamp last }
         ensures accepted { result ≡ record { node = node; stamp = stamp; retires = last } }
     {
+        let was = self.head(node);
         self.heads[node as usize] = Head {
             stamp,
             retired: last,
         };
         if stamp > self.top {
             self.top = stamp;
+        }
+        if was <= self.floor {
+            self.floor = least(self.heads.as_slice()).unwrap_or(self.top);
         }
         Accepted::new(node, stamp, last)
     }
@@ -189,7 +199,7 @@ impl Heads {
             return Err(JoinFault::TooManyNodes);
         }
         let node = self.heads.len() as u16;
-        let start = self.floor();
+        let start = self.floor;
         let head = Head {
             stamp: start,
             retired: false,
@@ -202,14 +212,12 @@ impl Heads {
 
     /// The floor: the least head of the nodes that have not retired; where all did, the greatest
     /// stamp of an accepted item. It never falls, and every item that is accepted later lies above
-    /// it. It costs one pass over the heads.
+    /// it. It is at hand: `raise` and `retire` look for it, in one pass over the heads, where the
+    /// node stood at the floor.
     pub fn floor(&self) -> Stamp
         ensures { IsFloor self.now result }
     {
-        match least(self.heads.as_slice()) {
-            Some(stamp) => stamp,
-            None => self.top,
-        }
+        self.floor
     }
 }
 

@@ -54,8 +54,8 @@ pub fn write_of(key: Bytes, value: Bytes) -> Option<Body>
 pub fn admit_twice(intake: &mut Intake, number: u64, stamp: Stamp) -> Result<(), LinkFault>
     ensures { IsErr result }
 {
-    let _first = intake.admit(number, stamp);
-    intake.admit(number, stamp)
+    let _first = intake.admit(number, stamp, false);
+    intake.admit(number, stamp, false)
 }
 
 /// Whether every node has come so far that no item at or below this stamp is still to come.
