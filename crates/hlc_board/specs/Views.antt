@@ -1,8 +1,10 @@
 -- What a caller sees of a board's feeders and passes.
 use Rattle.std.specs.Prelude.{◌≡◌, ◌≢◌, ℕ, zero, suc, ◌+◌, ◌<◌, ◌≤◌, List, [], ◌∷◌, ◌++◌, ⊤, replicate, slice_index}
+use Rattle.std.specs.Prelude.{if◌then◌else◌}
 use Rattle.atomic_table.specs.Seated.{TableId}
+use Rattle.hlc_floor.specs.Heads.{Acceptance}
 
--- a feeder of a board: its node, and the stamp that it raised last
+-- a feeder of a board: its node, and the word that it raised last
 pub record Post : Type 0 where
   pub board : TableId
   pub node : ℕ
@@ -13,6 +15,10 @@ pub record Sight : Type 0 where
   pub board : TableId
   pub seen : List ℕ
   pub looks : List ℕ
+
+-- the word that an accepted item leaves on the board: its stamp, or the greatest word where it was its node's last one
+abbrev pub word_of : Acceptance → ℕ
+word_of accepted = if accepted.retires then 18446744073709551615 else accepted.stamp
 
 -- a feeder of this board, of this node, which raised this last
 abbrev pub post : TableId → ℕ → ℕ → Post

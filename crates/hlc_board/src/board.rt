@@ -3,7 +3,7 @@ ghost use Rattle.std.specs.Prelude.{◌≡◌, ℕ, ◌+◌, ◌<◌, ◌≤◌,
 ghost use Rattle.std.proofs.Common.{rules};
 ghost use Rattle.std.proofs.lemmas.Grind.{common_steps};
 ghost use Rattle.hlc_floor.specs.declared.heads.TheConstants.{MOST_NODES};
-ghost use Rattle.hlc_board.specs.Views.{post, posts, blind, LooksAt, IsLeast};
+ghost use Rattle.hlc_board.specs.Views.{post, posts, word_of, blind, LooksAt, IsLeast};
 ghost use Rattle.hlc_board.specs.Board.{uncut};
 
 use crate::rule::{CutFeeder, CutPass, Fresh, Look, Place, Raise};
@@ -17,8 +17,10 @@ use std::marker::Model;
 /// As many words as there may be nodes.
 const WORDS: usize = MOST_NODES as usize;
 
-/// A board: for each node one word, the stamp of an item of that node that was accepted, 0.0 at first.
-/// Threads share it. Contracts see which board it is; `words` is the number of its nodes.
+/// A board: for each node of the start one word, the stamp of an item of that node that was accepted,
+/// 0.0 at first. A node that retired holds the floor no longer: its word is the greatest one. A node
+/// that joined has no word. Threads share a board. Contracts see which board it is; `words` is the
+/// number of its nodes.
 ///
 /// Its words may lag behind the store: a feeder raises a word after the store accepted the item.
 #[derive(Drop)]
@@ -43,7 +45,7 @@ impl Model for Board {
 }
 
 /// Raises the word of one node; there is one for each node of a board. Contracts see its board, its
-/// node, and the stamp that it raised last.
+/// node, and the word that it raised last.
 #[derive(Drop)]
 pub struct Feeder {
     seat: Seat<(), Place>,
@@ -119,12 +121,24 @@ impl Feeder {
         self.node
     }
 
-    /// The stamp that it raised last, 0.0 where it raised none.
+    /// The word that it raised last, 0.0 where it raised none.
     pub fn raised(&self) -> Stamp
         ensures { result ≡ self.now.raised }
     {
         self.raised
     }
+}
+
+/// The word that an accepted item leaves on the board.
+fn word_of(accepted: &Accepted) -> Stamp
+    ensures word { result ≡ word_of accepted.now }
+    ensures above { accepted.now.stamp ≤ result }
+{
+    let stamp = accepted.stamp();
+    if accepted.retires() {
+        return Stamp::from_bits(u64::MAX);
+    }
+    stamp
 }
 
 /// The table on which a board stands.
@@ -209,20 +223,20 @@ impl Board {
         Ok((Board { table, nodes }, feeders, all))
     }
 
-    /// Stores the stamp of an item that was accepted in the word of the feeder's node. The feeder is of
-    /// this board, the item is of the feeder's node, and its stamp is above the one raised last. It
-    /// costs one store.
+    /// Stores the stamp of an item that was accepted in the word of the feeder's node, or the greatest
+    /// word where the item was the node's last one. The feeder is of this board, the item is of the
+    /// feeder's node, and its stamp is above the word raised last. It costs one store.
     pub fn raise(&self, feeder: &mut Feeder, accepted: &Accepted)
         requires board { feeder.old.board ≡ self.now }
         requires node { accepted.now.node ≡ feeder.old.node }
         requires above { feeder.old.raised < accepted.now.stamp }
-        ensures { feeder.new ≡ post feeder.old.board feeder.old.node accepted.now.stamp }
+        ensures { feeder.new ≡ post feeder.old.board feeder.old.node (word_of accepted.now) }
     {
-        let stamp = accepted.stamp();
+        let word = word_of(accepted);
         self.table
             .shared
-            .store::<Raise>(&mut feeder.seat, feeder.node as usize, stamp.bits());
-        feeder.raised = stamp;
+            .store::<Raise>(&mut feeder.seat, feeder.node as usize, word.bits());
+        feeder.raised = word;
     }
 
     /// Looks at the word of one node, which is below the count of nodes. The pass is of this board. It
@@ -243,7 +257,8 @@ impl Board {
     /// this board. It costs one load for each node. What was seen of a node never falls.
     ///
     /// The words are loaded one after another, not at one moment. Each is the stamp of an item that
-    /// was accepted, or 0.0, so no item that is accepted later lies at or below the answer.
+    /// was accepted, or 0.0, or the greatest word where the node retired. So no item of a node of the
+    /// start that is accepted later lies at or below the answer; one of a node that joined may.
     pub fn floor(&self, pass: &mut FloorPass) -> Stamp
         requires { pass.old.board ≡ self.now }
         ensures board { pass.new.board ≡ pass.old.board }
