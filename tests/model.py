@@ -8,6 +8,7 @@ import re
 MOST_NUM = 2**64 - 1
 MOST_READING = 2**48 - 1
 MOST_COUNTER = 2**16 - 1
+MOST_NUMBERS = 1_024
 START = (0, 0)
 
 
@@ -107,6 +108,8 @@ class World:
         b"write": (node_num, num, data, data),
         b"delete": (node_num, num, data),
         b"report": (node_num, num),
+        b"join": (),
+        b"retire": (node_num, num),
         b"send": (node_num, num),
         b"receive": (node_num, num, num),
         b"observe": (node_num, num, num),
@@ -124,8 +127,10 @@ class World:
         self.clocks = [START] * nodes
         self.items = [[] for _ in range(nodes)]
         self.messages = []
+        self.closed = [False] * nodes
         self.taken = [0] * nodes
         self.heads = [START] * nodes
+        self.retired = [False] * nodes
         self.writes = []
         self.snapshots = {}
         self.opened = 0
@@ -152,6 +157,21 @@ class World:
         if node >= len(self.clocks):
             raise Refused(b"refused 1")
 
+    def active(self, node):
+        """The node is there, and has not issued its last item."""
+        self.known(node)
+        if self.closed[node]:
+            raise Refused(b"refused 27")
+
+    def join(self):
+        if len(self.clocks) == MOST_NUMBERS:
+            raise Refused(b"refused 26")
+        start = self.least()
+        for parts, first in [(self.clocks, start), (self.items, []), (self.closed, False),
+                             (self.taken, 0), (self.heads, start), (self.retired, False)]:
+            parts.append(first)
+        return [b"joined %d start %s" % (len(self.clocks) - 1, put(start))]
+
     def tick(self, node, reading, other=START):
         """The least stamp above the node's and the other one, at this reading or later; it becomes the node's."""
         if reading > MOST_READING:
@@ -166,7 +186,7 @@ class World:
         return self.clocks[node]
 
     def issue(self, node, reading, key, value, is_write):
-        self.known(node)
+        self.active(node)
         if is_write and not key_fits(key):
             raise Refused(b"refused 12")
         if not value_fits(value):
@@ -184,43 +204,51 @@ class World:
     def report(self, node, reading):
         return self.issue(node, reading, None, None, False)
 
+    def retire(self, node, reading):
+        told = self.issue(node, reading, None, None, False)
+        self.closed[node] = True
+        return told
+
     def send(self, node, reading):
-        self.known(node)
+        self.active(node)
         self.messages.append(self.tick(node, reading))
         return [b"stamp %s message %d" % (put(self.messages[-1]), len(self.messages) - 1)]
 
     def receive(self, node, reading, message):
-        self.known(node)
+        self.active(node)
         if message >= len(self.messages):
             raise Refused(b"refused 4")
         return [b"stamp " + put(self.tick(node, reading, self.messages[message]))]
 
     def observe(self, node, reading, snapshot):
-        self.known(node)
+        self.active(node)
         return [b"stamp " + put(self.tick(node, reading, self.at(snapshot)))]
 
     def deliver(self, node, item):
         self.known(node)
         if item >= len(self.items[node]):
             raise Refused(b"refused 5")
+        if self.retired[node]:
+            raise Refused(b"refused 27")
         if item != self.taken[node]:
             raise Refused(b"refused 6 next %d" % self.taken[node])
         at, write = self.items[node][item]
         self.taken[node] += 1
         self.heads[node] = at
+        self.retired[node] = self.closed[node] and self.taken[node] == len(self.items[node])
         if write is not None:
             self.writes.append(write)
         return [b"accepted " + put(at)]
 
     def open(self, at):
-        if at is not None and at > min(self.heads):
-            raise Refused(b"refused 8 floor " + put(min(self.heads)))
+        if at is not None and at > self.least():
+            raise Refused(b"refused 8 floor " + put(self.least()))
         if at is not None and at < self.horizon:
             raise Refused(b"refused 9 horizon " + put(self.horizon))
         if len(self.snapshots) == 1_024:
             raise Refused(b"refused 11")
         self.opened += 1
-        self.snapshots[self.opened] = min(self.heads) if at is None else at
+        self.snapshots[self.opened] = self.least() if at is None else at
         return [b"snapshot %d at %s" % (self.opened, put(self.snapshots[self.opened]))]
 
     def at(self, snapshot):
@@ -243,14 +271,19 @@ class World:
         del self.snapshots[snapshot]
         return [b"closed " + put(at)]
 
+    def least(self):
+        """The floor: the least head of the nodes whose last item was not accepted, else the greatest stamp accepted."""
+        left = [head for head, retired in zip(self.heads, self.retired) if not retired]
+        return min(left) if left else max(self.heads)
+
     def floor(self):
-        return [b"floor " + put(min(self.heads))]
+        return [b"floor " + put(self.least())]
 
     def above(self, bound):
         return sum(write[1] > bound for write in self.writes)
 
     def vacuum(self):
-        floor = min(self.heads)
+        floor = self.least()
         found = changes(self.writes, sorted({floor, *self.snapshots.values()}))
         before = self.kept + self.above(self.horizon) - self.above(floor)
         self.horizon, self.kept = floor, len(found)
