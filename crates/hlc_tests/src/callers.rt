@@ -1,7 +1,8 @@
 //! The small callers of the pages of values, clock, node, link, floor, snapshot, witness and world, each with what it
 //! may rely on.
 ghost use Rattle.std.specs.Prelude.{ℕ, ◌≡◌, ◌<◌, ◌≤◌, ◌↔◌, List, ◌∷◌, None, Some, true};
-ghost use Rattle.std.specs.Prelude.{length, Contains, IsTrue, IfOk, IfSome, IsErr};
+ghost use Rattle.std.specs.Prelude.{length, false, IsTrue, IfOk, IfSome, IsErr};
+ghost use Rattle.hlc_floor.specs.Heads.{head_at};
 ghost use Rattle.hlc_node.specs.Items.{body_refusal};
 ghost use Rattle.hlc_node.specs.Rows.{IsRowSet};
 ghost use Rattle.hlc_node.specs.declared.row.Row.{Row as ARow};
@@ -60,7 +61,9 @@ pub fn admit_twice(intake: &mut Intake, number: u64, stamp: Stamp) -> Result<(),
 
 /// Whether every node has come so far that no item at or below this stamp is still to come.
 pub fn is_complete(heads: &Heads, stamp: Stamp) -> bool
-    ensures { result ≡ true → (head : ℕ) → Contains heads.now head → stamp ≤ head }
+    ensures { result ≡ true → (k : ℕ) → k < length heads.now.heads
+        → (head_at heads.now.heads k).retired ≡ false
+        → stamp ≤ (head_at heads.now.heads k).stamp }
 {
     stamp <= heads.floor()
 }

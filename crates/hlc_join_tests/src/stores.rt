@@ -1,0 +1,76 @@
+//! A store of nodes that join and retire, fed items that no world makes.
+use hlc_core::{Body, Bytes, Core, CoreFault, Item, NoNode, Stamp};
+use std::alloc::{AllocError, Global};
+use std::test::*;
+
+fn stamp(reading: u64) -> Stamp {
+    Stamp::from_bits(reading.wrapping_mul(65_536))
+}
+
+/// The item of a node, with this number and reading, that says this.
+fn item(at: (u16, u64, u64), body: Body) -> Item {
+    let (node, number, reading) = at;
+    Item {
+        node,
+        number,
+        stamp: stamp(reading),
+        body,
+    }
+}
+
+/// The item of a write of `a`.
+fn write(alloc: Global, at: (u16, u64, u64), value: &[u8]) -> Result<Item, AllocError> {
+    let key = Bytes::from_vec(Vec::from_slice(alloc, b"a")?);
+    let value = Some(Bytes::from_vec(Vec::from_slice(alloc, value)?));
+    Ok(item(at, Body::Write { key, value }))
+}
+
+/// Whether a store refuses an item so, and tells it beforehand.
+fn is_refused(core: &mut Core, item: Item, due: CoreFault) -> bool {
+    let told = core.check_item(&item);
+    let refused = core.accept(item).err();
+    told == Err(due) && refused.map(|refused| refused.0) == Some(due)
+}
+
+#[test]
+fn a_node_joins_and_the_first_one_retires(rt: HostRuntime) -> Result<(), Fail> {
+    let alloc = rt.alloc();
+    let mut core = Core::new(alloc, 1).ok().ok_or("a store")?;
+    assert!(rt; core.accept(write(alloc, (0, 0, 5), b"x")?).is_ok());
+    assert_eq!(rt; core.join(), Ok((1, stamp(5))));
+    assert_eq!(rt; core.count(1), Ok(0));
+    assert_eq!(rt; core.count(2), Err(NoNode));
+    let at_start = write(alloc, (1, 0, 5), b"y")?;
+    let rising = CoreFault::StampNotRising { head: stamp(5) };
+    assert!(rt; is_refused(&mut core, at_start, rising));
+    let retired = core
+        .accept(item((0, 1, 7), Body::Retire))
+        .ok()
+        .ok_or("the last item")?;
+    assert!(rt; retired.retires());
+    assert_eq!(rt; core.floor(), stamp(5));
+    assert!(rt; core.accept(write(alloc, (1, 0, 6), b"y")?).is_ok());
+    assert_eq!(rt; core.floor(), stamp(6));
+    assert_eq!(rt; core.open_floor(), Ok((1, stamp(6))));
+    assert_eq!(rt; core.read(1, b"a"), Ok(Some(b"y".as_slice())));
+    let again = item((0, 2, 8), Body::Report);
+    assert!(rt; is_refused(&mut core, again, CoreFault::Retired));
+    assert!(rt; core.accept(item((1, 1, 9), Body::Retire)).is_ok());
+    assert_eq!(rt; core.floor(), stamp(9));
+    assert_eq!(rt; core.join(), Ok((2, stamp(9))));
+    let unknown = item((3, 0, 10), Body::Report);
+    assert!(rt; is_refused(&mut core, unknown, CoreFault::NoNode));
+    Ok(())
+}
+
+#[test]
+fn a_store_has_1024_numbers(rt: HostRuntime) -> Result<(), Fail> {
+    let mut core = Core::new(rt.alloc(), 64).ok().ok_or("a store")?;
+    for number in 64..1_024 {
+        assert_eq!(rt; core.join(), Ok((number, stamp(0))));
+    }
+    assert_eq!(rt; core.join(), Err(CoreFault::TooManyNodes));
+    assert_eq!(rt; core.count(1_023), Ok(0));
+    assert_eq!(rt; core.count(1_024), Err(NoNode));
+    Ok(())
+}
