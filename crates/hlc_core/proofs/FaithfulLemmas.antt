@@ -2,17 +2,12 @@
 -- so each read and each vacuum was given its due there; each change forces a row and its bytes;
 -- and a core that stands for a vacuum was left the fewest rows.
 use Rattle.std.proofs.Common.{◌≡◌, ℕ, ◌≤◌, List, [], ◌∷◌, ◌++◌, length, Option, Some, None, refl, subst, arith}
-use Rattle.hlc_node.specs.declared.row.Row.{Row}
 use Rattle.hlc_node.specs.Rows.{answer}
-use Rattle.hlc_witness.specs.declared.witness.Witness.{Witness}
-use Rattle.hlc_witness.specs.Fewest.{Alike}
-use Rattle.hlc_witness.specs.Changes.{AreChanges}
 use Rattle.hlc_witness.specs.Cost.{changes_cost, rows_cost}
 use Rattle.hlc_witness.proofs.ChangeLemmas.{changes_force_rows}
 use Rattle.hlc_witness.proofs.CostLemmas.{changes_force_bytes}
-use Rattle.hlc_vacuum.specs.declared.report.Report.{Report}
-use Rattle.hlc_core.specs.Past.{Step, Vacuumed as VacuumedAll, stamp_of, writes}
-use Rattle.hlc_core.specs.Stored.{IsReport, LeavesFewest}
+use Rattle.hlc_core.specs.Past.{Vacuumed as VacuumedAll, stamp_of, writes}
+use Rattle.hlc_core.specs.Stored.{IsReport}
 use Rattle.hlc_core.specs.Kept.{Kept, nodes, StandsFor}
 use Rattle.hlc_core.specs.declared.event.CoreEvent.{CoreEvent}
 use Rattle.hlc_core.specs.declared.event.CoreEvent.TheVariants.{Read, Vacuum}

@@ -1,8 +1,8 @@
 -- What holds of a legal past: an item that nothing refuses lies above its node's head, so no write is accepted twice,
 -- and the floor never falls, so no open snapshot is above it; and it says what an item may say, so no accepted write is
 -- beyond the limits.
-use Rattle.std.proofs.Common.{◌≡◌, ℕ, zero, suc, ◌<◌, ◌≤◌, ◌⊎◌, List, [], ◌∷◌, ◌++◌, length, true, Some, None, refl, ap}
-use Rattle.std.proofs.Common.{Option, sym, ◌∙◌, subst, inl, inr, arith, append-nil}
+use Rattle.std.proofs.Common.{◌≡◌, ℕ, zero, suc, ◌+◌, ◌<◌, ◌≤◌, ◌⊎◌, List, [], ◌∷◌, ◌++◌, length, max, Bool, true}
+use Rattle.std.proofs.Common.{false, Option, Some, None, refl, ap, sym, ◌∙◌, subst, inl, inr, arith, append-nil}
 use Rattle.std.specs.Prelude.{All, Contains, ◌==◌, ◌≢◌, not}
 use Rattle.std.proofs.lemmas.Bool.{cond-true, cond-false, le-leb, lt-leb, lt-ltb, le-ltb, eq-eqb, ne_eqb, cases_lt}
 use Rattle.std.proofs.lemmas.Bool.{cases_eq}
@@ -10,19 +10,22 @@ use Rattle.std.proofs.lemmas.List.Elements.{Contains-append_cases, All-nil, All-
 use Rattle.hlc_node.specs.declared.row.Row.{Row}
 use Rattle.hlc_node.specs.declared.item.Item.{Item}
 use Rattle.hlc_node.specs.declared.item.Body.{Body}
-use Rattle.hlc_node.specs.declared.item.Body.TheVariants.{Write, Report}
+use Rattle.hlc_node.specs.declared.item.Body.TheVariants.{Write, Report, Retire}
 use Rattle.hlc_core.specs.declared.fault.CoreFault.TheVariants.{NoNode, NotNext, StampNotRising, AboveFloor}
 use Rattle.hlc_core.specs.declared.fault.CoreFault.TheVariants.{BelowHorizon, NumbersSpent, BadBody}
 use Rattle.hlc_node.specs.declared.item.BodyFault.{BodyFault}
-use Rattle.hlc_node.specs.Items.{body_refusal}
+use Rattle.hlc_node.specs.Items.{body_refusal, retires}
 use Rattle.hlc_node.specs.Rows.{IsSameVersion, IsRowSet}
+use Rattle.hlc_floor.specs.Low.{low}
+use Rattle.hlc_floor.proofs.LowLemmas.{low-is, low-rises, low-joins}
 use Rattle.hlc_witness.specs.Cost.{IsInLimits, AreInLimits}
-use Rattle.hlc_core.specs.Past.{Step, Took, Opened, Closed, Vacuumed, count, head, floor, horizon, least}
-use Rattle.hlc_core.specs.Past.{open_snapshots, room_refusal, open_refusal, body_rows, item_rows, writes, link_refusal}
-use Rattle.hlc_core.specs.Past.{of_body, item_refusal, IsLegal}
+use Rattle.hlc_core.specs.Past.{Step, Took, Opened, Closed, Vacuumed, Joined, numbered, count, head, retired, top}
+use Rattle.hlc_core.specs.Past.{floor, horizon, open_snapshots, room_refusal, open_refusal, body_rows, item_rows}
+use Rattle.hlc_core.specs.Past.{writes, link_refusal, of_body, item_refusal, IsLegal}
 
 -- what it says of an item that nothing refuses it
-pub record IsAdmissible (next last : ℕ) (item : Item) : Type 0 where
+pub record IsAdmissible (gone : Bool) (next last : ℕ) (item : Item) : Type 0 where
+  pub here : gone ≡ false
   pub number : item.number ≡ next
   pub left : item.number ≢ 18446744073709551615
   pub stamp : last < item.stamp
@@ -32,8 +35,10 @@ of_body-none : (fault : Option BodyFault) → of_body fault ≡ None → fault �
 of_body-none None h = refl
 of_body-none (Some fault) h = absurd (let g : Some (BadBody fault) ≡ None = h in cc)
 
-pub admissible : (next last : ℕ) (item : Item) → link_refusal next last item ≡ None → IsAdmissible next last item
-admissible next last item h =
+pub admissible : (gone : Bool) (next last : ℕ) (item : Item) → link_refusal gone next last item ≡ None
+    → IsAdmissible gone next last item
+admissible true next last item h = absurd (cc)
+admissible false next last item h =
     elim (cases_eq item.number next) [
       | inr other ↦ absurd (let e : not (item.number == next) ≡ true = ap not (ne_eqb _ _ other) in
           let g : Some (NotNext next) ≡ None = sym (cond-true _ _ _ e) ∙ h in cc)
@@ -46,6 +51,7 @@ admissible next last item h =
                 let h2 = sym (cond-false _ _ _ (ne_eqb _ _ left)) ∙ h1 in
                 elim (cases_lt last item.stamp) [
                   | inl rises ↦ record {
+                    here = refl;
                     number = same;
                     left = left;
                     stamp = rises;
@@ -59,18 +65,20 @@ admissible next last item h =
     ]
 
 -- the node is one of the core's
-pub inside : (nodes : ℕ) (past : List Step) (item : Item) → item_refusal nodes past item ≡ None → item.node < nodes
+pub inside : (nodes : ℕ) (past : List Step) (item : Item) → item_refusal nodes past item ≡ None
+    → item.node < numbered nodes past
 inside nodes past item h =
-    elim (cases_lt item.node nodes) [
+    elim (cases_lt item.node (numbered nodes past)) [
       | inl below ↦ below
-      | inr outside ↦
-          absurd (let g : Some NoNode ≡ None = sym (cond-true _ _ _ (le-leb nodes item.node outside)) ∙ h in cc)
+      | inr outside ↦ absurd (let g : Some NoNode ≡ None =
+          sym (cond-true _ _ _ (le-leb (numbered nodes past) item.node outside)) ∙ h in cc)
     ]
 
 -- at a node of the core's, the item is refused as on its link
-pub on_link : (nodes : ℕ) (past : List Step) (item : Item) → item.node < nodes
-    → item_refusal nodes past item ≡ link_refusal (count item.node past) (head item.node past) item
-on_link nodes past item below = cond-false _ _ _ (lt-leb nodes item.node below)
+pub on_link : (nodes : ℕ) (past : List Step) (item : Item) → item.node < numbered nodes past
+    → item_refusal nodes past item
+    ≡ link_refusal (retired item.node past) (count item.node past) (head item.node past) item
+on_link nodes past item below = cond-false _ _ _ (lt-leb (numbered nodes past) item.node below)
 
 pub head-same : (n : ℕ) (item : Item) (past : List Step) → item.node ≡ n → head n (Took item ∷ past) ≡ item.stamp
 head-same n item past e = cond-true _ _ _ (eq-eqb _ _ e)
@@ -79,38 +87,41 @@ pub head-other : (n : ℕ) (item : Item) (past : List Step) → (item.node ≡ n
     → head n (Took item ∷ past) ≡ head n past
 head-other n item past e = cond-false _ _ _ (ne_eqb _ _ e)
 
--- the least is one of the values
-pub least-some : (f : ℕ → ℕ) (n : ℕ) → 0 < n → (k : ℕ) × (k < n) × (f k ≡ least f n)
-least-some f zero h = absurd (omega arith)
-least-some f (suc zero) h = (0, omega arith, refl)
-least-some f (suc (suc n)) h =
-    let rest : (k : ℕ) × (k < suc n) × (f k ≡ least f (suc n)) = least-some f (suc n) (omega arith) in
-    elim (cases_lt (f (suc n)) (least f (suc n))) [
-      | inl less ↦ (suc n, omega arith, omega arith)
-      | inr more ↦ (
-        rest.0,
-        (let l : rest.0 < suc n = rest.1 in omega arith),
-        (let e : f rest.0 ≡ least f (suc n) = rest.2 in omega arith),
-      )
-    ]
+pub retired-same : (n : ℕ) (item : Item) (past : List Step) → item.node ≡ n
+    → retired n (Took item ∷ past) ≡ retires item.body
+retired-same n item past e = cond-true _ _ _ (eq-eqb _ _ e)
 
--- and none is below it
-pub least-le : (f : ℕ → ℕ) (n k : ℕ) → k < n → least f n ≤ f k
-least-le f zero k h = absurd (omega arith)
-least-le f (suc zero) k h = (let e : k ≡ 0 = omega arith in let g : f k ≡ f 0 = ap f e in omega arith)
-least-le f (suc (suc n)) k h =
-    elim (cases_eq k (suc n)) [
-      | inl same ↦ (let g : f k ≡ f (suc n) = ap f same in omega arith)
-      | inr other ↦ (let g : least f (suc n) ≤ f k = least-le f (suc n) k (omega arith) in omega arith)
-    ]
+pub retired-other : (n : ℕ) (item : Item) (past : List Step) → (item.node ≡ n → ⊥)
+    → retired n (Took item ∷ past) ≡ retired n past
+retired-other n item past e = cond-false _ _ _ (ne_eqb _ _ e)
 
--- equal values have one least
-pub least-same : (f g : ℕ → ℕ) (n : ℕ) → ((k : ℕ) → k < n → f k ≡ g k) → least f n ≡ least g n
-least-same f g zero h = refl
-least-same f g (suc zero) h = h 0 (omega arith)
-least-same f g (suc (suc n)) h =
-    let a : f (suc n) ≡ g (suc n) = h (suc n) (omega arith) in
-    let b : least f (suc n) ≡ least g (suc n) = least-same f g (suc n) (λ k lt. h k (omega arith)) in cc
+pub count-other : (n : ℕ) (item : Item) (past : List Step) → (item.node ≡ n → ⊥)
+    → count n (Took item ∷ past) ≡ count n past
+count-other n item past e = cond-false _ _ _ (ne_eqb _ _ e)
+
+-- a node's start is its first head
+pub head-joined : (n node start : ℕ) (past : List Step) → node ≡ n → head n (Joined node start ∷ past) ≡ start
+head-joined n node start past e = cond-true _ _ _ (eq-eqb _ _ e)
+
+pub head-joined_other : (n node start : ℕ) (past : List Step) → (node ≡ n → ⊥)
+    → head n (Joined node start ∷ past) ≡ head n past
+head-joined_other n node start past e = cond-false _ _ _ (ne_eqb _ _ e)
+
+-- of a node that is not there nothing was accepted
+pub fresh : (nodes : ℕ) (past : List Step) (n : ℕ) → IsLegal nodes past → numbered nodes past ≤ n
+    → (count n past ≡ 0) × (retired n past ≡ false)
+fresh nodes [] n legal out = (refl, refl)
+fresh nodes (Opened stamp ∷ past) n legal out = fresh nodes past n legal.1 out
+fresh nodes (Closed id ∷ past) n legal out = fresh nodes past n legal.1 out
+fresh nodes (Vacuumed ∷ past) n legal out = fresh nodes past n legal out
+fresh nodes (Joined node start ∷ past) n legal out =
+    fresh nodes past n legal.3 (let out' : numbered nodes past + 1 ≤ n = out in omega arith)
+fresh nodes (Took item ∷ past) n legal out =
+    let within : item.node < numbered nodes past = inside nodes past item legal.0 in
+    let out' : numbered nodes past ≤ n = out in
+    let other : item.node ≡ n → ⊥ = λ e. omega arith in
+    let rest = fresh nodes past n legal.1 out in
+    (count-other n item past other ∙ rest.0, retired-other n item past other ∙ rest.1)
 
 pub none-contained : {X : Type 0} (y : X) → Contains [] y → ⊥
 none-contained y (k, lt, e) = omega (arith, lt)
@@ -129,6 +140,7 @@ contained-rest x xs y (k, lt, e) = (suc k, omega arith, e)
 pub body_rows-are : (node stamp : ℕ) (body : Body) (row : Row) → Contains (body_rows node stamp body) row
     → (row.node ≡ node) × (row.stamp ≡ stamp)
 body_rows-are node stamp Report row m = absurd (none-contained row m)
+body_rows-are node stamp Retire row m = absurd (none-contained row m)
 body_rows-are node stamp (Write key value) row m =
     elim (contained-cases (record { key = key; stamp = stamp; node = node; value = value }) [] row m) [
       | inl same ↦ (sym (ap (λ r. r.node) same), sym (ap (λ r. r.stamp) same))
@@ -147,15 +159,54 @@ head-up n item past up =
 -- an item that nothing refuses lies above its node's head
 pub rises : (nodes : ℕ) (past : List Step) (item : Item) → item_refusal nodes past item ≡ None
     → head item.node past < item.stamp
-rises nodes past item h = (admissible _ _ item (sym (on_link nodes past item (inside nodes past item h)) ∙ h)).stamp
+rises nodes past item h = (admissible _ _ _ item (sym (on_link nodes past item (inside nodes past item h)) ∙ h)).stamp
+
+-- and its node has not retired
+pub still_here : (nodes : ℕ) (past : List Step) (item : Item) → item_refusal nodes past item ≡ None
+    → retired item.node past ≡ false
+still_here nodes past item h =
+    (admissible _ _ _ item (sym (on_link nodes past item (inside nodes past item h)) ∙ h)).here
+
+-- no head of a node that has not retired is below the floor
+pub floor-le : (nodes : ℕ) (past : List Step) (n : ℕ) → n < numbered nodes past → retired n past ≡ false
+    → floor nodes past ≤ head n past
+floor-le nodes past n within here =
+    (low-is (λ n. head n past) (λ n. retired n past) (numbered nodes past) (top past)).least n within here
+
+-- and the floor is one of those, or all retired and it is the greatest accepted stamp
+pub floor-some : (nodes : ℕ) (past : List Step)
+    → ((n : ℕ) × (n < numbered nodes past) × (retired n past ≡ false) × (head n past ≡ floor nodes past))
+    ⊎ (((n : ℕ) → n < numbered nodes past → retired n past ≡ true) × (floor nodes past ≡ top past))
+floor-some nodes past =
+    (low-is (λ n. head n past) (λ n. retired n past) (numbered nodes past) (top past)).is
 
 -- and so above the floor
 pub above_floor : (nodes : ℕ) (past : List Step) (item : Item) → item_refusal nodes past item ≡ None
     → floor nodes past < item.stamp
 above_floor nodes past item h =
     let low : floor nodes past ≤ head item.node past =
-    least-le (λ n. head n past) nodes item.node (inside nodes past item h) in
+    floor-le nodes past item.node (inside nodes past item h) (still_here nodes past item h) in
     let up : head item.node past < item.stamp = rises nodes past item h in omega arith
+
+-- each accepted write is of a node that is there
+pub inside-row : (nodes : ℕ) (past : List Step) → IsLegal nodes past → (row : Row) → Contains (writes past) row
+    → row.node < numbered nodes past
+inside-row nodes [] legal row m = absurd (none-contained row m)
+inside-row nodes (Opened stamp ∷ past) legal row m = inside-row nodes past legal.1 row m
+inside-row nodes (Closed id ∷ past) legal row m = inside-row nodes past legal.1 row m
+inside-row nodes (Vacuumed ∷ past) legal row m = inside-row nodes past legal row m
+inside-row nodes (Joined node start ∷ past) legal row m =
+    let within : row.node < numbered nodes past = inside-row nodes past legal.3 row m in
+    let goal : row.node < numbered nodes past + 1 = omega arith in goal
+inside-row nodes (Took item ∷ past) legal row m =
+    elim (Contains-append_cases (writes past) (item_rows item) row m) [
+      | inl earlier ↦ inside-row nodes past legal.1 row earlier
+      | inr here ↦
+          let are : (row.node ≡ item.node) × (row.stamp ≡ item.stamp) =
+          body_rows-are item.node item.stamp item.body row here in
+          let within : item.node < numbered nodes past = inside nodes past item legal.0 in
+          let goal : row.node < numbered nodes past = omega (arith, are.0) in goal
+    ]
 
 -- each accepted write lies at or below its node's head
 below_head : (nodes : ℕ) (past : List Step) → IsLegal nodes past → (row : Row) → Contains (writes past) row
@@ -164,6 +215,16 @@ below_head nodes [] legal row m = absurd (none-contained row m)
 below_head nodes (Opened stamp ∷ past) legal row m = below_head nodes past legal.1 row m
 below_head nodes (Closed id ∷ past) legal row m = below_head nodes past legal.1 row m
 below_head nodes (Vacuumed ∷ past) legal row m = below_head nodes past legal row m
+below_head nodes (Joined node start ∷ past) legal row m =
+    let old : row.stamp ≤ head row.node past = below_head nodes past legal.3 row m in
+    elim (cases_eq node row.node) [
+      | inr other ↦
+          let e : head row.node (Joined node start ∷ past) ≡ head row.node past =
+          head-joined_other row.node node start past other in omega arith
+      | inl same ↦
+          absurd (let within : row.node < numbered nodes past = inside-row nodes past legal.3 row m in
+          let e : node ≡ numbered nodes past = legal.1 in omega arith)
+    ]
 below_head nodes (Took item ∷ past) legal row m =
     let up : head item.node past < item.stamp = rises nodes past item legal.0 in
     elim (Contains-append_cases (writes past) (item_rows item) row m) [
@@ -207,6 +268,7 @@ pub row_set-body : (node stamp : ℕ) (body : Body) (rows : List Row)
     → ((row other : Row) → Contains (body_rows node stamp body) row → Contains rows other → IsSameVersion other row → ⊥)
     → IsRowSet rows → IsRowSet (rows ++ body_rows node stamp body)
 row_set-body node stamp Report rows fresh set' = rw append-nil set'
+row_set-body node stamp Retire rows fresh set' = rw append-nil set'
 row_set-body node stamp (Write key value) rows fresh set' =
     row_set-push rows _ (λ other m v. fresh _ other (contained-first _ []) m v) set'
 
@@ -216,6 +278,7 @@ writes-row_set nodes [] legal = tt
 writes-row_set nodes (Opened stamp ∷ past) legal = writes-row_set nodes past legal.1
 writes-row_set nodes (Closed id ∷ past) legal = writes-row_set nodes past legal.1
 writes-row_set nodes (Vacuumed ∷ past) legal = writes-row_set nodes past legal
+writes-row_set nodes (Joined node start ∷ past) legal = writes-row_set nodes past legal.3
 writes-row_set nodes (Took item ∷ past) legal =
     row_set-body item.node item.stamp item.body (writes past) (new_version nodes past item legal.1 legal.0)
     (writes-row_set nodes past legal.1)
@@ -224,6 +287,7 @@ writes-row_set nodes (Took item ∷ past) legal =
 limits-body : (node stamp : ℕ) (body : Body) (rows : List Row) → body_refusal body ≡ None → AreInLimits rows
     → AreInLimits (rows ++ body_rows node stamp body)
 limits-body node stamp Report rows none all' = rw append-nil all'
+limits-body node stamp Retire rows none all' = rw append-nil all'
 limits-body node stamp (Write key value) rows none all' =
     All-push IsInLimits rows (record { key = key; stamp = stamp; node = node; value = value }) all' none
 
@@ -233,26 +297,34 @@ writes-limits nodes [] legal = All-nil _
 writes-limits nodes (Opened stamp ∷ past) legal = writes-limits nodes past legal.1
 writes-limits nodes (Closed id ∷ past) legal = writes-limits nodes past legal.1
 writes-limits nodes (Vacuumed ∷ past) legal = writes-limits nodes past legal
+writes-limits nodes (Joined node start ∷ past) legal = writes-limits nodes past legal.3
 writes-limits nodes (Took item ∷ past) legal =
     limits-body item.node item.stamp item.body (writes past)
-    (admissible _ _ item (sym (on_link nodes past item (inside nodes past item legal.0)) ∙ legal.0)).limits
+    (admissible _ _ _ item (sym (on_link nodes past item (inside nodes past item legal.0)) ∙ legal.0)).limits
     (writes-limits nodes past legal.1)
 
--- greater values have no lesser least
-pub least-grows : (f g : ℕ → ℕ) (n : ℕ) → ((k : ℕ) → k < n → f k ≤ g k) → least f n ≤ least g n
-least-grows f g zero h = omega arith
-least-grows f g (suc n) h =
-    let some : (k : ℕ) × (k < suc n) × (g k ≡ least g (suc n)) = least-some g (suc n) (omega arith) in
-    let up : f some.0 ≤ g some.0 = h some.0 some.1 in
-    let low : least f (suc n) ≤ f some.0 = least-le f (suc n) some.0 some.1 in
-    let is : g some.0 ≡ least g (suc n) = some.2 in omega arith
-
--- the floor never falls
+-- the floor never falls: not by an item
 pub floor-grows : (nodes : ℕ) (past : List Step) (item : Item) → item_refusal nodes past item ≡ None
     → floor nodes past ≤ floor nodes (Took item ∷ past)
 floor-grows nodes past item none =
-    least-grows (λ n. head n past) (λ n. head n (Took item ∷ past)) nodes
-    (λ n within. head-up n item past (rises nodes past item none))
+    low-rises (λ n. head n past) (λ n. head n (Took item ∷ past)) (λ n. retired n past)
+    (λ n. retired n (Took item ∷ past)) (numbered nodes past) (top past) (top (Took item ∷ past)) item.node item.stamp
+    (inside nodes past item none) (still_here nodes past item none) (rises nodes past item none)
+    (head-same item.node item past refl)
+    (λ k other. (
+      head-other k item past (λ e. other (sym e)),
+      retired-other k item past (λ e. other (sym e)),
+    ))
+    (let e : top (Took item ∷ past) ≡ max (top past) item.stamp = refl in omega arith)
+
+-- nor by a node that joins at it
+pub floor-joins : (nodes : ℕ) (past : List Step) (node start : ℕ) → node ≡ numbered nodes past
+    → start ≡ floor nodes past → floor nodes past ≤ floor nodes (Joined node start ∷ past)
+floor-joins nodes past node start is at =
+    low-joins (λ n. head n past) (λ n. head n (Joined node start ∷ past)) (λ n. retired n past)
+    (λ n. retired n (Joined node start ∷ past)) (numbered nodes past) (top past)
+    (head-joined (numbered nodes past) node start past is ∙ at)
+    (λ k within. (head-joined_other k node start past (λ e. omega (arith, is)), refl))
 
 -- what nothing refuses to open is not above the floor
 pub open-below : (nodes : ℕ) (past : List Step) (stamp : ℕ) → open_refusal nodes past stamp ≡ None
@@ -279,6 +351,13 @@ open-low nodes (Opened stamp ∷ past) legal = All-push (λ snapshot. snapshot.s
 open-low nodes (Closed id ∷ past) legal =
     All-filter _ (λ snapshot. snapshot.stamp ≤ floor nodes past) _ (open-low nodes past legal.1)
 open-low nodes (Vacuumed ∷ past) legal = open-low nodes past legal
+open-low nodes (Joined node start ∷ past) legal =
+    let up : floor nodes past ≤ floor nodes (Joined node start ∷ past) =
+    floor-joins nodes past node start legal.1 legal.2 in
+    All-weaker (λ snapshot. snapshot.stamp ≤ floor nodes past)
+    (λ snapshot. snapshot.stamp ≤ floor nodes (Joined node start ∷ past))
+    (λ snapshot low. (let low' : snapshot.stamp ≤ floor nodes past = low in omega arith)) _
+    (open-low nodes past legal.3)
 
 -- nor below the horizon
 pub open-above : (nodes : ℕ) (past : List Step) (stamp : ℕ) → open_refusal nodes past stamp ≡ None
@@ -302,6 +381,10 @@ horizon-low nodes (Took item ∷ past) legal =
 horizon-low nodes (Opened stamp ∷ past) legal = horizon-low nodes past legal.1
 horizon-low nodes (Closed id ∷ past) legal = horizon-low nodes past legal.1
 horizon-low nodes (Vacuumed ∷ past) legal = omega arith
+horizon-low nodes (Joined node start ∷ past) legal =
+    let low : horizon nodes past ≤ floor nodes past = horizon-low nodes past legal.3 in
+    let up : floor nodes past ≤ floor nodes (Joined node start ∷ past) =
+    floor-joins nodes past node start legal.1 legal.2 in omega arith
 
 -- what is accepted is above the horizon
 pub above-horizon : (nodes : ℕ) (past : List Step) (item : Item) → IsLegal nodes past

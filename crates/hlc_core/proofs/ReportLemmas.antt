@@ -1,13 +1,10 @@
 -- There is one report of a vacuum: its points are one list, and so are its changes and those of the one before.
-use Rattle.std.proofs.Common.{◌≡◌, ℕ, ◌+◌, ◌≤◌, List, [], ◌∷◌, ◌++◌, length, refl, ap, sym, ◌∙◌, arith}
+use Rattle.std.proofs.Common.{◌≡◌, ℕ, ◌+◌, ◌≤◌, List, [], ◌∷◌, length, ap, sym, ◌∙◌, arith}
 use Rattle.std.specs.Prelude.{Contains}
 use Rattle.std.proofs.lemmas.List.Elements.{All-map, All-contains}
-use Rattle.hlc_node.specs.declared.row.Row.{Row}
 use Rattle.hlc_snapshot.specs.declared.snapshot.Snapshot.{Snapshot}
 use Rattle.hlc_snapshot.specs.Register.{stamps}
-use Rattle.hlc_clock.specs.Points.{ArePoints}
 use Rattle.hlc_witness.specs.declared.witness.Witness.{Witness}
-use Rattle.hlc_clock.specs.Points.{PointsAscend, last_point}
 use Rattle.hlc_witness.specs.Changes.{AreChanges}
 use Rattle.hlc_witness.specs.Cost.{changes_cost}
 use Rattle.hlc_witness.specs.AllChanges.{all_changes}
@@ -15,7 +12,8 @@ use Rattle.hlc_vacuum.specs.Standing.{count_above}
 use Rattle.hlc_vacuum.specs.declared.report.Report.{Report}
 use Rattle.hlc_clock.proofs.PointLemmas.{ArePoints-unique, points-ascend}
 use Rattle.hlc_witness.proofs.ChangeLemmas.{changes_are_one}
-use Rattle.hlc_core.specs.Past.{Step, Took, Opened, Closed, Vacuumed, floor, horizon, open_snapshots, writes, IsLegal}
+use Rattle.hlc_core.specs.Past.{Step, Took, Opened, Closed, Vacuumed, Joined, floor, horizon, open_snapshots, writes}
+use Rattle.hlc_core.specs.Past.{IsLegal}
 use Rattle.hlc_core.specs.Stored.{AreVacuumPoints, AreLastChanges, IsStoredCount, IsReport}
 use Rattle.hlc_core.proofs.PastLemmas.{open-low}
 
@@ -49,6 +47,8 @@ one-last nodes (Took item ∷ past) changes before are were =
 one-last nodes (Opened stamp ∷ past) changes before are were =
     one-last nodes past changes before are were
 one-last nodes (Closed id ∷ past) changes before are were =
+    one-last nodes past changes before are were
+one-last nodes (Joined node start ∷ past) changes before are were =
     one-last nodes past changes before are were
 one-last nodes (Vacuumed ∷ past) changes before are were =
     one-changes nodes past are.0 were.0 changes before are.1 were.1 are.2 were.2

@@ -1,18 +1,14 @@
 -- A vacuum: what it leaves stands for the past with it, its report is the due one,
 -- and what is left at or below the floor are the fewest.
-use Rattle.std.proofs.Common.{◌≡◌, ℕ, ◌+◌, ◌≤◌, List, ◌∷◌, length, leb, refl, ap, sym, ◌∙◌, subst, arith}
-use Rattle.std.specs.Prelude.{◌↔◌, ◌⊎◌, Contains}
+use Rattle.std.proofs.Common.{◌≡◌, ℕ, ◌+◌, List, ◌∷◌, length, leb, refl, ap, sym, ◌∙◌, subst, arith}
 use Rattle.std.specs.List.Sorted.{IsPermutation}
 use Rattle.hlc_node.specs.declared.row.Row.{Row}
 use Rattle.hlc_snapshot.specs.Register.{stamps}
-use Rattle.hlc_witness.specs.declared.witness.Witness.{Witness}
-use Rattle.hlc_clock.specs.Points.{PointsAscend, last_point}
-use Rattle.hlc_witness.specs.Fewest.{Alike, Fewest}
-use Rattle.hlc_witness.specs.Cost.{Cheapest, AreInLimits, rows_cost, changes_cost}
-use Rattle.hlc_witness.specs.Changes.{AreChanges}
+use Rattle.hlc_clock.specs.Points.{PointsAscend}
+use Rattle.hlc_witness.specs.Fewest.{Fewest}
+use Rattle.hlc_witness.specs.Cost.{Cheapest, rows_cost}
 use Rattle.hlc_vacuum.specs.Vacuumed.{IsVacuumOf, rows_to}
-use Rattle.hlc_witness.specs.Certificate.{IsCertificate, RowsAscend}
-use Rattle.hlc_vacuum.specs.Standing.{RowsStandFor, StandsAfterVacuum, count_above, count_between}
+use Rattle.hlc_vacuum.specs.Standing.{StandsAfterVacuum, count_above, count_between}
 use Rattle.hlc_witness.proofs.CostLemmas.{fewest_rows_are_cheapest, fewest_rows_cost}
 use Rattle.hlc_vacuum.proofs.StandingLemmas.{vacuums_compose, standing_rows_are_fewest, vacuums_are_certified}
 use Rattle.hlc_vacuum.proofs.StandingLemmas.{rows_above_are_counted}
@@ -81,7 +77,9 @@ vacuums kept past rows report h at made at_floor number dropped bytes =
     stands-vacuumed kept past rows report h at made in
     let stands : StandsFor (with_rows_left kept rows low) (Vacuumed ∷ past) = record {
       legal = h.legal;
+      many = h.many;
       links = h.links;
+      top = h.top;
       snapshots = h.snapshots;
       opened = h.opened;
       rows = after.stands;

@@ -5,7 +5,7 @@ use Rattle.std.specs.List.Sorted.{IsPermutation}
 use Rattle.hlc_node.specs.declared.row.Row.{Row}
 use Rattle.hlc_node.specs.declared.item.Item.{Item}
 use Rattle.hlc_node.specs.declared.item.Body.{Body}
-use Rattle.hlc_node.specs.declared.item.Body.TheVariants.{Write, Report}
+use Rattle.hlc_node.specs.declared.item.Body.TheVariants.{Write, Report, Retire}
 use Rattle.hlc_core.specs.declared.fault.CoreFault.{CoreFault}
 use Rattle.hlc_core.specs.declared.fault.CoreFault.TheVariants.{NoMemory, NoNode, NoSnapshot}
 use Rattle.hlc_core.specs.declared.fault.NoNode.{NoNode as NoSuchNode}
@@ -17,8 +17,8 @@ use Rattle.hlc_vacuum.specs.Vacuumed.{rows_to}
 use Rattle.hlc_witness.specs.Certificate.{RowsAscend}
 use Rattle.hlc_vacuum.specs.declared.report.Report.{Report as AReport}
 use Rattle.hlc_core.specs.Listing.{IsListing}
-use Rattle.hlc_core.specs.Past.{Step, Took, Opened, Closed, Vacuumed, count, floor, opened, stamp_of, writes}
-use Rattle.hlc_core.specs.Past.{item_refusal, room_refusal, open_refusal}
+use Rattle.hlc_core.specs.Past.{Step, Took, Opened, Closed, Vacuumed, Joined, numbered, count, floor, opened, stamp_of}
+use Rattle.hlc_core.specs.Past.{writes, item_refusal, join_refusal, room_refusal, open_refusal}
 use Rattle.hlc_core.specs.Stored.{IsReport, LeavesFewest}
 use Rattle.hlc_core.specs.Kept.{Kept, nodes, StandsFor}
 
@@ -40,6 +40,7 @@ Makes count (Err fault) = IsRefusal (new_refusal count) ⊤ fault
 abbrev pub IsWrite : Body → Type 0
 IsWrite (Write key value) = ⊤
 IsWrite Report = ⊥
+IsWrite Retire = ⊥
 
 -- the item was accepted, or refused with the first reason that holds
 abbrev pub Accepts : Kept → Kept → Item → List Step → Result Acceptance (CoreFault × Item) → Type 0
@@ -60,8 +61,16 @@ Checks kept item past result =
 
 -- the number of a node's accepted items, or that there is no such node
 abbrev pub Counts : ℕ → ℕ → List Step → Result ℕ NoSuchNode → Type 0
-Counts nodes node past (Ok number) = (node < nodes) × (number ≡ count node past)
-Counts nodes node past (Err fault) = nodes ≤ node
+Counts nodes node past (Ok number) = (node < numbered nodes past) × (number ≡ count node past)
+Counts nodes node past (Err fault) = numbered nodes past ≤ node
+
+-- a node joined: it was given the next number, and starts at the floor; or it was refused
+abbrev pub Joins : Kept → Kept → List Step → Result (ℕ × ℕ) CoreFault → Type 0
+Joins old new past (Ok made) =
+    (join_refusal (nodes old) past ≡ None)
+    × (made ≡ (numbered (nodes old) past, floor (nodes old) past))
+    × StandsFor new (Joined made.0 made.1 ∷ past)
+Joins old new past (Err fault) = IsRefusal (join_refusal (nodes old) past) ⊤ fault
 
 -- a snapshot was opened at the stamp, with an id one above the number of those opened before, or refused
 abbrev pub Opens : Kept → Kept → ℕ → List Step → Result ℕ CoreFault → Type 0

@@ -2,16 +2,17 @@
 -- and the histories in which each event was given its due.
 use Rattle.std.specs.Prelude.{◌≡◌, ◌≢◌, ℕ, ◌+◌, List, [], ◌∷◌, Option, Some, None, Result, Ok, Err, ⊤}
 use Rattle.hlc_node.specs.Rows.{answer}
+use Rattle.hlc_node.specs.Items.{retires}
 use Rattle.hlc_core.specs.declared.fault.CoreFault.{CoreFault}
 use Rattle.hlc_core.specs.declared.event.CoreEvent.{CoreEvent}
-use Rattle.hlc_core.specs.declared.event.CoreEvent.TheVariants.{Accept, OpenAt, OpenFloor, Read, List as ListAll, Close}
-use Rattle.hlc_core.specs.declared.event.CoreEvent.TheVariants.{Vacuum}
+use Rattle.hlc_core.specs.declared.event.CoreEvent.TheVariants.{Accept, Join, OpenAt, OpenFloor, Read, List as ListAll}
+use Rattle.hlc_core.specs.declared.event.CoreEvent.TheVariants.{Close, Vacuum}
 use Rattle.hlc_core.specs.declared.reply.CoreReply.{CoreReply}
-use Rattle.hlc_core.specs.declared.reply.CoreReply.TheVariants.{Accepted, Opened, Answer, Listing, Closed, Vacuumed}
-use Rattle.hlc_core.specs.declared.reply.CoreReply.TheVariants.{Refused}
-use Rattle.hlc_core.specs.Past.{Step, Took, Opened as OpenedAt, Closed as ClosedOf, Vacuumed as VacuumedAll, floor}
-use Rattle.hlc_core.specs.Past.{opened, stamp_of, writes}
-use Rattle.hlc_core.specs.Past.{item_refusal, room_refusal, open_refusal}
+use Rattle.hlc_core.specs.declared.reply.CoreReply.TheVariants.{Accepted, Joined, Opened, Answer, Listing, Closed}
+use Rattle.hlc_core.specs.declared.reply.CoreReply.TheVariants.{Vacuumed, Refused}
+use Rattle.hlc_core.specs.Past.{Step, Took, Joined as JoinedAt, Opened as OpenedAt, Closed as ClosedOf}
+use Rattle.hlc_core.specs.Past.{Vacuumed as VacuumedAll, numbered, floor, opened, stamp_of, writes}
+use Rattle.hlc_core.specs.Past.{item_refusal, join_refusal, room_refusal, open_refusal}
 use Rattle.hlc_core.specs.Stored.{IsReport}
 use Rattle.hlc_core.specs.Kept.{Kept, nodes, StandsFor}
 use Rattle.hlc_core.specs.Calls.{IsWrite, IsListed, list_refusal}
@@ -22,6 +23,7 @@ use Rattle.hlc_core.specs.Calls.{IsWrite, IsListed, list_refusal}
 -- what an event did, if its reply says that it took place and was no question
 abbrev pub step_of : CoreEvent → CoreReply → Option Step
 step_of (Accept item) (Accepted accepted) = Some (Took item)
+step_of Join (Joined node start) = Some (JoinedAt node start)
 step_of (OpenAt at) (Opened id stamp) = Some (OpenedAt stamp)
 step_of OpenFloor (Opened id stamp) = Some (OpenedAt stamp)
 step_of (Close id) (Closed stamp) = Some (ClosedOf id)
@@ -41,6 +43,7 @@ past_of (entry ∷ history) = with_step (step_of entry.0 entry.1) (past_of histo
 -- the first refusal that is due, memory aside
 abbrev pub refusal_due : ℕ → List Step → CoreEvent → Option CoreFault
 refusal_due nodes past (Accept item) = item_refusal nodes past item
+refusal_due nodes past Join = join_refusal nodes past
 refusal_due nodes past (OpenAt stamp) = open_refusal nodes past stamp
 refusal_due nodes past OpenFloor = room_refusal past
 refusal_due nodes past (Read id key) = list_refusal (stamp_of id past)
@@ -55,7 +58,9 @@ IsAnswer (Some stamp) answers value = value ≡ answers stamp
 
 -- the reply that is due where no refusal is
 abbrev pub IsDueReply : ℕ → List Step → CoreEvent → CoreReply → Type 0
-IsDueReply nodes past (Accept item) (Accepted accepted) = accepted ≡ record { node = item.node; stamp = item.stamp }
+IsDueReply nodes past (Accept item) (Accepted accepted) =
+    accepted ≡ record { node = item.node; stamp = item.stamp; retires = retires item.body }
+IsDueReply nodes past Join (Joined node start) = (node ≡ numbered nodes past) × (start ≡ floor nodes past)
 IsDueReply nodes past (OpenAt at) (Opened id stamp) = (id ≡ opened past + 1) × (stamp ≡ at)
 IsDueReply nodes past OpenFloor (Opened id stamp) = (id ≡ opened past + 1) × (stamp ≡ floor nodes past)
 IsDueReply nodes past (Read id key) (Answer value) = IsAnswer (stamp_of id past) (answer (writes past) key) value
@@ -84,7 +89,8 @@ abbrev pub TakesValue : Option ℕ → (ℕ → Option (List ℕ)) → Type 0
 TakesValue None answers = ⊥
 TakesValue (Some stamp) answers = answers stamp ≢ None
 
--- the event may want memory: it stores a row, opens a snapshot, gives a value or a listing, or is a vacuum
+-- the event may want memory: it stores a row, lets a node join, opens a snapshot, gives a value or a listing, or is a
+-- vacuum
 abbrev pub MayLackMemory : List Step → CoreEvent → Type 0
 MayLackMemory past (Accept item) = IsWrite item.body
 MayLackMemory past (Read id key) = TakesValue (stamp_of id past) (answer (writes past) key)
@@ -116,7 +122,9 @@ IsPlain _ = ⊤
 
 -- the event may get a reply of this form, whatever took place
 abbrev pub IsReplyTo : CoreEvent → CoreReply → Type 0
-IsReplyTo (Accept item) (Accepted accepted) = accepted ≡ record { node = item.node; stamp = item.stamp }
+IsReplyTo (Accept item) (Accepted accepted) =
+    accepted ≡ record { node = item.node; stamp = item.stamp; retires = retires item.body }
+IsReplyTo Join (Joined node start) = ⊤
 IsReplyTo (OpenAt at) (Opened id stamp) = stamp ≡ at
 IsReplyTo OpenFloor (Opened id stamp) = ⊤
 IsReplyTo (Read id key) (Answer value) = ⊤

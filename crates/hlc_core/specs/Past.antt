@@ -1,12 +1,16 @@
 -- What took place in a core, and what follows from it.
-use Rattle.std.specs.Prelude.{◌≡◌, ◌≢◌, ℕ, zero, suc, ◌+◌, List, [], ◌∷◌, ◌++◌, length, min, ◌==◌, not, nat_le, nat_lt}
-use Rattle.std.specs.Prelude.{Option, Some, None, if◌then◌else◌, ⊤}
+use Rattle.std.specs.Prelude.{◌≡◌, ◌≢◌, ℕ, ◌+◌, List, [], ◌∷◌, ◌++◌, length, max, Bool, false, ◌==◌, not, nat_le}
+use Rattle.std.specs.Prelude.{nat_lt, Option, Some, None, if◌then◌else◌, ⊤}
 use Rattle.hlc_node.specs.declared.item.Item.{Item}
 use Rattle.hlc_node.specs.declared.row.Row.{Row}
 use Rattle.hlc_node.specs.declared.item.Body.{Body}
-use Rattle.hlc_node.specs.declared.item.Body.TheVariants.{Write, Report}
+use Rattle.hlc_node.specs.declared.item.Body.TheVariants.{Write, Report, Retire}
 use Rattle.hlc_node.specs.declared.item.BodyFault.{BodyFault}
-use Rattle.hlc_node.specs.Items.{body_refusal}
+use Rattle.hlc_node.specs.Items.{body_refusal, retires}
+use Rattle.hlc_floor.specs.Low.{low}
+use Rattle.hlc_floor.specs.declared.heads.TheConstants.{MOST_NUMBERS}
+use Rattle.hlc_floor.specs.declared.heads.JoinFault.{JoinFault}
+use Rattle.hlc_floor.specs.declared.heads.JoinFault.TheVariants as join_fault
 use Rattle.hlc_link.specs.declared.intake.LinkFault.{LinkFault}
 use Rattle.hlc_link.specs.declared.intake.LinkFault.TheVariants as link_fault
 use Rattle.hlc_core.specs.declared.fault.CoreFault.{CoreFault}
@@ -14,19 +18,27 @@ use Rattle.hlc_snapshot.specs.declared.snapshot.Snapshot.{Snapshot}
 use Rattle.hlc_snapshot.specs.declared.fault.SnapshotFault.{SnapshotFault}
 use Rattle.hlc_snapshot.specs.declared.fault.SnapshotFault.TheVariants as snapshot_fault
 use Rattle.hlc_snapshot.specs.Register.{stamp_in, without, room_refusal as room_in}
-use Rattle.hlc_core.specs.declared.fault.CoreFault.TheVariants.{NoNode, NotNext, StampNotRising, AboveFloor}
-use Rattle.hlc_core.specs.declared.fault.CoreFault.TheVariants.{BelowHorizon, TooManySnapshots, BadBody, NumbersSpent}
-use Rattle.hlc_core.specs.declared.fault.CoreFault.TheVariants.{NoMemory}
+use Rattle.hlc_core.specs.declared.fault.CoreFault.TheVariants.{NoNode, Retired, TooManyNodes, NotNext, StampNotRising}
+use Rattle.hlc_core.specs.declared.fault.CoreFault.TheVariants.{AboveFloor, BelowHorizon, TooManySnapshots, BadBody}
+use Rattle.hlc_core.specs.declared.fault.CoreFault.TheVariants.{NumbersSpent, NoMemory}
 
 -- an event that took place: an item was accepted; a snapshot was opened at a stamp; the snapshot of an id was closed;
--- rows were vacuumed at the floor
+-- rows were vacuumed at the floor; a node of this number joined, and starts at this stamp
 pub data Step : Type 0 where
   Took : Item → Step
   Opened : ℕ → Step
   Closed : ℕ → Step
   Vacuumed : Step
+  Joined : ℕ → ℕ → Step
 
--- Below, a past is the list of the steps that took place, the last one first. Refused calls and reads are no steps.
+-- Below, a past is the list of the steps that took place, the last one first. Refused calls and reads are no steps. So
+-- many nodes are there at the start, numbered from 0; those that join have the numbers after them.
+
+-- how many node numbers were given: those of the start, and those of the nodes that joined
+abbrev pub numbered : ℕ → List Step → ℕ
+numbered nodes [] = nodes
+numbered nodes (Joined node start ∷ past) = numbered nodes past + 1
+numbered nodes (_ ∷ past) = numbered nodes past
 
 -- how many items of a node were accepted
 abbrev pub count : ℕ → List Step → ℕ
@@ -34,21 +46,28 @@ count n [] = 0
 count n (Took item ∷ past) = if item.node == n then count n past + 1 else count n past
 count n (_ ∷ past) = count n past
 
--- the stamp of the last accepted item of a node, 0 where there is none
+-- the stamp of the last accepted item of a node, or else of its start; 0 at a node of the start
 abbrev pub head : ℕ → List Step → ℕ
 head n [] = 0
 head n (Took item ∷ past) = if item.node == n then item.stamp else head n past
+head n (Joined node start ∷ past) = if node == n then start else head n past
 head n (_ ∷ past) = head n past
 
--- the least of f 0, f 1 and so on, below n; 0 where n is 0
-abbrev pub least : (ℕ → ℕ) → ℕ → ℕ
-least f zero = 0
-least f (suc zero) = f 0
-least f (suc (suc n)) = min (f (suc n)) (least f (suc n))
+-- a node retired: its last accepted item is a Retire
+abbrev pub retired : ℕ → List Step → Bool
+retired n [] = false
+retired n (Took item ∷ past) = if item.node == n then retires item.body else retired n past
+retired n (_ ∷ past) = retired n past
 
--- the least head of all nodes
+-- the greatest stamp of an accepted item, 0 where there is none
+abbrev pub top : List Step → ℕ
+top [] = 0
+top (Took item ∷ past) = max (top past) item.stamp
+top (_ ∷ past) = top past
+
+-- the least head of the nodes that have not retired; where all retired, the greatest stamp of an accepted item
 abbrev pub floor : ℕ → List Step → ℕ
-floor nodes past = least (λ n. head n past) nodes
+floor nodes past = low (λ n. head n past) (λ n. retired n past) (numbered nodes past) (top past)
 
 -- the floor of the last vacuum, 0 before the first
 abbrev pub horizon : ℕ → List Step → ℕ
@@ -60,6 +79,7 @@ horizon nodes (_ ∷ past) = horizon nodes past
 abbrev pub body_rows : ℕ → ℕ → Body → List Row
 body_rows node stamp (Write key value) = record { key = key; stamp = stamp; node = node; value = value } ∷ []
 body_rows node stamp Report = []
+body_rows node stamp Retire = []
 
 -- the row of an item, if it is a write
 abbrev pub item_rows : Item → List Row
@@ -90,6 +110,7 @@ stamp_of id past = stamp_in id (open_snapshots past)
 
 -- the link's fault, as a fault of the core
 abbrev pub of_link : LinkFault → CoreFault
+of_link link_fault.Retired = Retired
 of_link (link_fault.NotNext next) = NotNext next
 of_link link_fault.NumbersSpent = NumbersSpent
 of_link (link_fault.StampNotRising head) = StampNotRising head
@@ -99,10 +120,11 @@ abbrev pub of_body : Option BodyFault → Option CoreFault
 of_body None = None
 of_body (Some fault) = Some (BadBody fault)
 
--- the first reason to refuse an item on its link, by the link's next number and its head
-abbrev pub link_refusal : ℕ → ℕ → Item → Option CoreFault
-link_refusal next last item =
-    if not (item.number == next) then Some (NotNext next)
+-- the first reason to refuse an item on its link, by whether its node retired, the link's next number and its head
+abbrev pub link_refusal : Bool → ℕ → ℕ → Item → Option CoreFault
+link_refusal gone next last item =
+    if gone then Some Retired
+    else if not (item.number == next) then Some (NotNext next)
     else if item.number == 18446744073709551615 then Some NumbersSpent
     else if nat_le item.stamp last then Some (StampNotRising last)
     else of_body (body_refusal item.body)
@@ -110,7 +132,17 @@ link_refusal next last item =
 -- the first reason to refuse an item, memory aside
 abbrev pub item_refusal : ℕ → List Step → Item → Option CoreFault
 item_refusal nodes past item =
-    if nat_le nodes item.node then Some NoNode else link_refusal (count item.node past) (head item.node past) item
+    if nat_le (numbered nodes past) item.node then Some NoNode
+    else link_refusal (retired item.node past) (count item.node past) (head item.node past) item
+
+-- why no node joins, memory aside: all numbers were given
+abbrev pub join_refusal : ℕ → List Step → Option CoreFault
+join_refusal nodes past = if nat_le MOST_NUMBERS (numbered nodes past) then Some TooManyNodes else None
+
+-- why no node joins, as a fault of the core
+abbrev pub of_join : JoinFault → CoreFault
+of_join join_fault.TooManyNodes = TooManyNodes
+of_join join_fault.NoMemory = NoMemory
 
 -- a registry's fault, as a fault of the core
 abbrev pub of_registry : SnapshotFault → CoreFault
@@ -145,3 +177,5 @@ IsLegal nodes (Took item ∷ past) = (item_refusal nodes past item ≡ None) × 
 IsLegal nodes (Opened stamp ∷ past) = (open_refusal nodes past stamp ≡ None) × IsLegal nodes past
 IsLegal nodes (Closed id ∷ past) = (stamp_of id past ≢ None) × IsLegal nodes past
 IsLegal nodes (Vacuumed ∷ past) = IsLegal nodes past
+IsLegal nodes (Joined node start ∷ past) =
+    (join_refusal nodes past ≡ None) × (node ≡ numbered nodes past) × (start ≡ floor nodes past) × IsLegal nodes past

@@ -11,6 +11,8 @@ use hlc_values::Exact;
 pub enum CoreEvent {
     /// An item comes over its node's link.
     Accept(Item),
+    /// A node joins, and is given the next number.
+    Join,
     /// A snapshot is opened at this stamp.
     OpenAt(Stamp),
     /// A snapshot is opened at the floor.

@@ -4,6 +4,7 @@ ghost use Rattle.std.proofs.Common.{rules};
 ghost use Rattle.std.proofs.lemmas.Grind.{common_steps};
 
 use hlc_clock::Stamp;
+use hlc_floor::JoinFault;
 use hlc_link::LinkFault;
 use hlc_node::BodyFault;
 use hlc_snapshot::SnapshotFault;
@@ -13,8 +14,12 @@ use std::alloc::AllocError;
 /// Why a core refuses a call.
 #[derive(Clone, Copy, PartialEq, Eq, Debug)]
 pub enum CoreFault {
-    /// The node is not below the count of nodes, or that count is not 1 to 64.
+    /// No node has this number; or the count of nodes of a new core is not 1 to 64.
     NoNode,
+    /// The node retired.
+    Retired,
+    /// 1,024 node numbers were given already.
+    TooManyNodes,
     /// The link number is not the next one.
     NotNext { next: u64 },
     /// No further link number, or snapshot id, is left.
@@ -48,9 +53,23 @@ impl From<LinkFault> for CoreFault {
 
     fn from(fault: LinkFault) -> CoreFault {
         match fault {
+            LinkFault::Retired => CoreFault::Retired,
             LinkFault::NotNext { next } => CoreFault::NotNext { next },
             LinkFault::NumbersSpent => CoreFault::NumbersSpent,
             LinkFault::StampNotRising { head } => CoreFault::StampNotRising { head },
+        }
+    }
+}
+
+impl From<JoinFault> for CoreFault {
+    ghost use Rattle.hlc_core.specs.Past.{of_join};
+
+    ghost from_gives = { λ fault core. core ≡ of_join fault };
+
+    fn from(fault: JoinFault) -> CoreFault {
+        match fault {
+            JoinFault::TooManyNodes => CoreFault::TooManyNodes,
+            JoinFault::NoMemory => CoreFault::NoMemory,
         }
     }
 }
@@ -79,7 +98,7 @@ impl From<AllocError> for CoreFault {
     }
 }
 
-/// The node is not below the count of nodes.
+/// No node has this number.
 #[derive(Clone, Copy, PartialEq, Eq, Debug)]
 pub struct NoNode;
 

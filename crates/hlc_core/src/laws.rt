@@ -1,7 +1,8 @@
 //! What holds of every legal past, and of cores that stand for one.
-ghost use Rattle.std.specs.Prelude.{◌≡◌, ◌+◌, ◌<◌, ◌≤◌, ℕ, List, ◌∷◌, None, All, length};
+ghost use Rattle.std.specs.Prelude.{◌≡◌, ◌+◌, ◌<◌, ◌≤◌, ◌⊎◌, true, false, ℕ, List, ◌∷◌, None, All, length};
 ghost use Rattle.hlc_node.specs.Rows.{IsRowSet};
-ghost use Rattle.hlc_core.specs.Past.{Step, Vacuumed, IsLegal, writes, head, floor, open_snapshots, item_refusal};
+ghost use Rattle.hlc_core.specs.Past.{Step, Took, Joined, Vacuumed, IsLegal, numbered, retired, top, writes, head};
+ghost use Rattle.hlc_core.specs.Past.{floor, open_snapshots, item_refusal};
 ghost use Rattle.hlc_vacuum.specs.Vacuumed.{IsVacuumOf, rows_to};
 ghost use Rattle.hlc_witness.specs.Cost.{rows_cost};
 ghost use Rattle.hlc_vacuum.specs.declared.report.Report.{Report as AReport};
@@ -36,12 +37,26 @@ pub fn open_snapshots_are_at_most_the_floor()
         → All (λ snapshot. snapshot.stamp ≤ floor nodes past) (open_snapshots past) }
 {}
 
-/// The floor is the head of some node, and no head is below it.
+/// The floor is the head of some node that has not retired, or, where all did, the greatest stamp of
+/// an accepted item; and no head of a node that has not retired is below it.
 pub fn floor_is_the_least_head()
-    ensures some { (nodes : ℕ) (past : List Step) → 0 < nodes
-        → (n : ℕ) × (n < nodes) × (head n past ≡ floor nodes past) }
-    ensures least { (nodes : ℕ) (past : List Step) (n : ℕ) → n < nodes
-        → floor nodes past ≤ head n past }
+    ensures some { (nodes : ℕ) (past : List Step)
+        → ((n : ℕ) × (n < numbered nodes past) × (retired n past ≡ false)
+        × (head n past ≡ floor nodes past))
+        ⊎ (((n : ℕ) → n < numbered nodes past → retired n past ≡ true)
+        × (floor nodes past ≡ top past)) }
+    ensures least { (nodes : ℕ) (past : List Step) (n : ℕ) → n < numbered nodes past
+        → retired n past ≡ false → floor nodes past ≤ head n past }
+{}
+
+/// The floor never falls: not by an item that is accepted, be it a node's last or not, nor by a node
+/// that joins. No other step moves it.
+pub fn the_floor_never_falls()
+    ensures took { (nodes : ℕ) (past : List Step) (item : AnItem) → item_refusal nodes past item ≡ None
+        → floor nodes past ≤ floor nodes (Took item ∷ past) }
+    ensures joined { (nodes : ℕ) (past : List Step) (node start : ℕ)
+        → IsLegal nodes (Joined node start ∷ past)
+        → floor nodes past ≤ floor nodes (Joined node start ∷ past) }
 {}
 
 /// There is one listing of some rows at a stamp.

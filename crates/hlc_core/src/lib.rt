@@ -24,8 +24,8 @@ pub use hlc_vacuum::{Points, Report, Witnesses};
 pub use hlc_witness::Witness;
 pub use laws::{
     accepted_writes_are_a_row_set, floor_is_the_least_head, histories_are_faithful,
-    later_items_are_above_the_floor, open_snapshots_are_at_most_the_floor, there_is_one_listing,
-    there_is_one_report, vacuums_keep_standing, vacuums_leave_the_fewest,
+    later_items_are_above_the_floor, open_snapshots_are_at_most_the_floor, the_floor_never_falls,
+    there_is_one_listing, there_is_one_report, vacuums_keep_standing, vacuums_leave_the_fewest,
 };
 pub use listing::{Listing, Pair};
 pub use reply::CoreReply;

@@ -1,26 +1,47 @@
 //! How an item is admitted by the intake of its node's link.
-ghost use Rattle.std.specs.Prelude.{◌≡◌, ◌+◌, Some, None, Err, MatchOption, MatchResult, slice_get};
+ghost use Rattle.std.specs.Prelude.{◌≡◌, ◌+◌, ◌<◌, false, length, Some, None, Err, MatchOption, MatchResult, slice_get};
+ghost use Rattle.hlc_node.specs.Items.{retires};
+ghost use Rattle.hlc_floor.specs.Heads.{head_at, marked};
 ghost use Rattle.hlc_core.specs.Past.{link_refusal};
 
 use crate::fault::CoreFault;
+use hlc_clock::Stamp;
+use hlc_floor::{Accepted, Heads};
 use hlc_link::Intake;
-use hlc_node::{Item, body_fault};
+use hlc_node::{Item, body_fault, retires};
 
 /// The intake of the item's link once it has admitted the item; or the first reason to refuse the
 /// item, memory aside.
 pub fn admitted(intakes: &[Intake], item: &Item) -> Result<Intake, CoreFault>
     ensures { MatchOption (slice_get intakes.now item.now.node) (result ≡ Err CoreFault.NoNode)
-        (λ link. MatchResult result (λ new. (link_refusal link.next link.head item.now ≡ None)
-        × (new ≡ record { next = item.now.number + 1; head = item.now.stamp }))
-        (λ fault. link_refusal link.next link.head item.now ≡ Some fault)) }
+        (λ link. MatchResult result
+        (λ new. (link_refusal link.retired link.next link.head item.now ≡ None)
+        × (new ≡ record
+        { next = item.now.number + 1; head = item.now.stamp; retired = retires item.now.body }))
+        (λ fault. link_refusal link.retired link.next link.head item.now ≡ Some fault)) }
 {
     let Some(intake) = intakes.get(item.node as usize) else {
         return Err(CoreFault::NoNode);
     };
     let mut intake = *intake;
-    intake.admit(item.number, item.stamp)?;
+    intake.admit(item.number, item.stamp, retires(&item.body))?;
     match body_fault(&item.body) {
         Some(fault) => Err(CoreFault::BadBody(fault)),
         None => Ok(intake),
+    }
+}
+
+/// The node's head rises to this stamp, which may be that of its last item.
+pub fn rise(heads: &mut Heads, node: u16, stamp: Stamp, last: bool) -> Accepted
+    requires node { node < length heads.old.heads }
+    requires open { (head_at heads.old.heads node).retired ≡ false }
+    requires rising { (head_at heads.old.heads node).stamp < stamp }
+    ensures marked { heads.new ≡ marked heads.old node stamp last }
+    ensures accepted { result ≡ record { node = node; stamp = stamp; retires = last } }
+{
+    if last {
+        heads.retire(node, stamp)
+    } else {
+        heads.raise(node, stamp)
     }
 }

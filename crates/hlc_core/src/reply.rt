@@ -23,6 +23,8 @@ use std::alloc::AllocError;
 pub enum CoreReply {
     /// The item was accepted.
     Accepted(Accepted),
+    /// The node of this number joined, and its clock starts at this stamp.
+    Joined { node: u16, start: Stamp },
     /// The snapshot of this id was opened, at this stamp.
     Opened { id: u64, stamp: Stamp },
     /// The value of the key, or none.
@@ -46,6 +48,10 @@ impl Clone for CoreReply {
     fn clone(&self) -> Result<CoreReply, AllocError> {
         match self {
             CoreReply::Accepted(accepted) => Ok(CoreReply::Accepted(*accepted)),
+            CoreReply::Joined { node, start } => Ok(CoreReply::Joined {
+                node: *node,
+                start: *start,
+            }),
             CoreReply::Opened { id, stamp } => Ok(CoreReply::Opened {
                 id: *id,
                 stamp: *stamp,

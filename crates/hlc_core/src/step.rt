@@ -49,6 +49,7 @@ impl Core {
     {
         match event {
             CoreEvent::Accept(item) => self.step_accept_copy(item),
+            CoreEvent::Join => self.step_join(),
             CoreEvent::OpenAt(stamp) => self.step_open(*stamp),
             CoreEvent::OpenFloor => self.step_open_floor(),
             CoreEvent::Read { id, key } => self.step_read(*id, key),
@@ -91,6 +92,21 @@ impl Core {
     {
         match self.accept_copy(item) {
             Ok(accepted) => Ok(CoreReply::Accepted(accepted)),
+            Err(fault) => told(fault),
+        }
+    }
+
+    fn step_join(&mut self) -> Result<CoreReply, NoMemory>
+        ensures stands { (history : List (AnEvent × AReply)) → StandsForHistory self.old history
+            → Steps self.old self.new AnEvent.Join history result }
+        ensures err { OnErr result (self.new ≡ self.old) }
+        ensures refused { IfOk result (λ reply. IsRefused reply → self.new ≡ self.old) }
+        ensures plain { IfOk result IsPlain }
+        ensures form { IfOk result (λ reply. IsReplyTo AnEvent.Join reply) }
+        ensures nodes { nodes self.new ≡ nodes self.old }
+    {
+        match self.join() {
+            Ok((node, start)) => Ok(CoreReply::Joined { node, start }),
             Err(fault) => told(fault),
         }
     }

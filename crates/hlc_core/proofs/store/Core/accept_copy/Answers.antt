@@ -1,5 +1,7 @@
 -- As of `accept`: the copy of an item that nothing refuses is the row of its past.
-use Rattle.std.proofs.Common.{◌≡◌, ◌<◌, arith, length, get_or}
+use Rattle.std.proofs.Common.{◌≡◌, ◌<◌, arith, length, false}
+use Rattle.hlc_node.specs.Items.{retires}
+use Rattle.hlc_floor.specs.Heads.{head_at}
 use Rattle.hlc_core.proofs.Standing.{admitted, admitted-due, heads-set, head-of, heads-length, took}
 use Rattle.hlc_core.proofs.Held.{held-accept}
 use Rattle.hlc_core.proofs.Moved.{fresh, held-moved, stands-moved}
@@ -9,7 +11,7 @@ pub store_copy-requires : goal.store_copy-requires
 store_copy-requires c =
     let looked = rw c.as_slice.ensures.value at c.in_ok-intake.ensures in
     let is = admitted _ c.args.item.now c.in_ok-intake.intake looked in
-    let up : get_or c.self.inside.heads c.args.item.now.node 0 < c.args.item.now.stamp =
+    let up : (head_at c.self.inside.heads.heads c.args.item.now.node).stamp < c.args.item.now.stamp =
     rw (head-of _ _ c.args.item.now.node c.self.invariant.0 is.within) is.rising in
     fresh _ _ _ c.args.item.now.node c.args.item.now.stamp c.args.item.now.body c.self.invariant.1 up
 
@@ -20,16 +22,23 @@ index_mut-requires c =
     (admitted _ c.args.item.now c.in_ok-intake.intake looked).within in
     omega (arith, c.self.inside.intakes.ok.0)
 
-pub raise-requires-clause-node : goal.raise-requires-clause-node
-raise-requires-clause-node c =
+pub rise-requires-clause-node : goal.rise-requires-clause-node
+rise-requires-clause-node c =
     let looked = rw c.as_slice.ensures.value at c.in_ok-intake.ensures in
     let within : c.args.item.now.node < length c.self.inside.intakes.items =
     (admitted _ c.args.item.now c.in_ok-intake.intake looked).within in
-    let len : length c.self.inside.heads ≡ length c.self.inside.intakes.items = heads-length _ _ c.self.invariant.0 in
+    let len : length c.self.inside.heads.heads ≡ length c.self.inside.intakes.items =
+    heads-length _ _ c.self.invariant.0 in
     omega arith
 
-pub raise-requires-clause-rising : goal.raise-requires-clause-rising
-raise-requires-clause-rising c =
+pub rise-requires-clause-open : goal.rise-requires-clause-open
+rise-requires-clause-open c =
+    let looked = rw c.as_slice.ensures.value at c.in_ok-intake.ensures in
+    let is = admitted _ c.args.item.now c.in_ok-intake.intake looked in
+    rw (head-of _ _ c.args.item.now.node c.self.invariant.0 is.within) is.here
+
+pub rise-requires-clause-rising : goal.rise-requires-clause-rising
+rise-requires-clause-rising c =
     let looked = rw c.as_slice.ensures.value at c.in_ok-intake.ensures in
     let is = admitted _ c.args.item.now c.in_ok-intake.intake looked in
     rw (head-of _ _ c.args.item.now.node c.self.invariant.0 is.within) is.rising
@@ -38,16 +47,20 @@ pub invariant_of-self-2 : goal.invariant_of-self-2
 invariant_of-self-2 c =
     let looked = rw c.as_slice.ensures.value at c.in_ok-intake.ensures in
     let is = admitted _ c.args.item.now c.in_ok-intake.intake looked in
-    let within : c.args.item.now.node < length c.self.inside.heads =
-    (let len : length c.self.inside.heads ≡ length c.self.inside.intakes.items =
+    let within : c.args.item.now.node < length c.self.inside.heads.heads =
+    (let len : length c.self.inside.heads.heads ≡ length c.self.inside.intakes.items =
     heads-length _ _ c.self.invariant.0 in
     let w : c.args.item.now.node < length c.self.inside.intakes.items = is.within in omega arith) in
-    let up : get_or c.self.inside.heads c.args.item.now.node 0 < c.args.item.now.stamp =
+    let here : (head_at c.self.inside.heads.heads c.args.item.now.node).retired ≡ false =
+    rw (head-of _ _ c.args.item.now.node c.self.invariant.0 is.within) is.here in
+    let up : (head_at c.self.inside.heads.heads c.args.item.now.node).stamp < c.args.item.now.stamp =
     rw (head-of _ _ c.args.item.now.node c.self.invariant.0 is.within) is.rising in
-    rw (c.raise.ensures.raised, is.is) (
+    rw (c.rise.ensures.marked, c.retires-last.ensures, is.is) (
       heads-set _ _ c.args.item.now.node _ c.self.invariant.0,
-      held-moved _ _ _ _ (held-accept _ _ _ c.args.item.now.node c.args.item.now.stamp c.args.item.now.body
-          c.self.invariant.1 within up) c.in_ok-store_copy.ensures.ok,
+      held-moved _ _ _ _
+          (held-accept _ _ _ c.args.item.now.node c.args.item.now.stamp c.args.item.now.body
+          (retires c.args.item.now.body) c.self.invariant.1 within here up)
+          c.in_ok-store_copy.ensures.ok,
     )
 
 pub returns-clause-stands : goal.returns-clause-stands
@@ -56,7 +69,7 @@ returns-clause-stands c = λ past h.
     let looked = rw c.as_slice.ensures.value at c.in_ok-intake.ensures in
     let is = admitted _ c.args.item.now c.in_ok-intake.intake looked in
     let none = admitted-due _ past c.args.item.now c.in_ok-intake.intake h' looked in
-    rw (← c.self.view_is, is.is) (
+    rw (← c.self.view_is, c.rise.ensures.marked, is.is) (
       none,
       stands-moved _ _ _ (took _ past c.args.item.now h' none) c.in_ok-store_copy.ensures.ok,
     )

@@ -1,10 +1,16 @@
--- The plan is of the rows that are kept, at the points of the open snapshots and the floor.
+-- The plan is of the rows that are kept, at the points of the open snapshots and the floor, above which none is open.
 use Rattle.std.proofs.Common.{subst, sym, ◌∙◌}
 use Rattle.hlc_snapshot.specs.Register.{stamps}
 use Rattle.hlc_clock.specs.Points.{ArePoints}
 use Rattle.hlc_vacuum.specs.Plan.{IsPlanOf}
 use Rattle.hlc_core.specs.Kept.{Kept}
+use Rattle.hlc_core.proofs.Held.{held-low, floor-of}
 use Rattle.hlc_core.proofs.store.Core.plan.Goals as goal
+
+pub points-requires : goal.points-requires
+points-requires c =
+    let is = floor-of _ _ _ c.self.invariant.0 (rw (← c.self.view_is) at c.floor-floor.ensures.least) in
+    held-low _ _ _ _ c.self.invariant.1 is
 
 pub returns : goal.returns
 returns c =

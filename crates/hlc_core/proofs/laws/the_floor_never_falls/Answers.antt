@@ -1,0 +1,9 @@
+-- An item only lifts its own node's head, or takes it away, and a node joins at the floor itself.
+use Rattle.hlc_core.proofs.PastLemmas.{floor-grows, floor-joins}
+use Rattle.hlc_core.proofs.laws.the_floor_never_falls.Goals as goal
+
+pub returns-clause-took : goal.returns-clause-took
+returns-clause-took c = floor-grows
+
+pub returns-clause-joined : goal.returns-clause-joined
+returns-clause-joined c = λ nodes past node start legal. floor-joins nodes past node start legal.1 legal.2

@@ -1,0 +1,38 @@
+-- The node's link and head are one more each, at the floor, so the core stands for the joining too.
+use Rattle.std.proofs.Common.{◌<◌, ◌∙◌, length, arith, refl}
+use Rattle.hlc_floor.specs.declared.heads.TheConstants.{MOST_NUMBERS}
+use Rattle.hlc_core.proofs.Standing.{heads-joined, heads-length, floor-from, joins, joins-none, both}
+use Rattle.hlc_core.proofs.Held.{held-joined}
+use Rattle.hlc_core.proofs.store.Core.join.Goals as goal
+
+pub invariant_of-self-2 : goal.invariant_of-self-2
+invariant_of-self-2 c =
+    let few : length c.self.inside.intakes.items < MOST_NUMBERS =
+    (let len = heads-length _ _ c.self.invariant.0 in
+    let f : length c.self.inside.heads.heads < MOST_NUMBERS = c.in_ok-made.ensures.0 in omega (arith, len)) in
+    rw (
+      c.push_reserved.ensures.items,
+      c.in_ok-try_reserve.ensures.items,
+      c.starting_at.ensures,
+      c.in_ok-made.ensures.3,
+    ) (
+      heads-joined _ _ c.in_ok-made.made.1 c.self.invariant.0 few,
+      held-joined _ _ _ _ c.self.invariant.1 c.in_ok-made.ensures.2,
+    )
+
+pub returns-clause-stands : goal.returns-clause-stands
+returns-clause-stands c = λ past h.
+    let h' = rw (← c.self.view_is) at h in
+    let len = heads-length _ _ c.self.invariant.0 ∙ h'.many in
+    let is = c.in_ok-made.ensures.1 ∙ len in
+    let at = floor-from _ past _ _ c.self.invariant.0 refl h' c.in_ok-made.ensures.2 in
+    let few : length c.self.inside.heads.heads < MOST_NUMBERS = c.in_ok-made.ensures.0 in
+    let none = joins-none _ past _ few len in
+    rw (
+      ← c.self.view_is,
+      c.push_reserved.ensures.items,
+      c.in_ok-try_reserve.ensures.items,
+      c.starting_at.ensures,
+      c.in_ok-made.ensures.3,
+    )
+    (none, both c.in_ok-made.made _ _ is at, joins _ past c.in_ok-made.made.0 c.in_ok-made.made.1 h' none is at)
