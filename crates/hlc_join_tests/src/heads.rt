@@ -1,32 +1,58 @@
 //! Heads of nodes that join and retire.
-use hlc_floor::{Heads, JoinFault, Stamp};
+ghost use Rattle.std.specs.Prelude.{◌≡◌, ◌<◌, length};
+
+use hlc_floor::{Accepted, Heads, JoinFault, Stamp};
 use std::test::*;
+
+/// Raises the head of a node, or lets it retire, where its head is below the stamp and it has not
+/// retired.
+fn mark(heads: &mut Heads, node: u16, bits: u64, last: bool) -> Option<Accepted>
+    requires { node < length heads.old.heads }
+    ensures { length heads.new.heads ≡ length heads.old.heads }
+{
+    let stamp = Stamp::from_bits(bits);
+    if heads.is_retired(node) || heads.head(node) >= stamp {
+        return None;
+    }
+    if last {
+        Some(heads.retire(node, stamp))
+    } else {
+        Some(heads.raise(node, stamp))
+    }
+}
 
 #[test]
 fn the_floor_of_those_that_are_left(rt: HostRuntime) -> Result<(), Fail> {
     let mut heads = Heads::new(rt.alloc(), 2).ok().ok_or("heads")?;
-    let [three, five, seven, nine] = [3, 5, 7, 9].map(Stamp::from_bits);
-    assert!(rt; !heads.raise(0, five).retires());
+    let raised = mark(&mut heads, 0, 5, false).ok_or("a raise")?;
+    assert!(rt; !raised.retires());
     assert_eq!(rt; heads.floor(), Stamp::from_bits(0));
-    heads.raise(1, three);
-    assert_eq!(rt; heads.floor(), three);
-    assert_eq!(rt; heads.join(), Ok((2, three)));
-    assert_eq!(rt; (heads.head(2), heads.floor()), (three, three));
-    let retired = heads.retire(1, seven);
+    assert!(rt; mark(&mut heads, 1, 3, false).is_some());
+    assert_eq!(rt; heads.floor(), Stamp::from_bits(3));
+    let retired = mark(&mut heads, 1, 7, true).ok_or("a last item")?;
     assert_eq!(rt;
         (retired.node(), retired.stamp(), retired.retires()),
-        (1, seven, true)
+        (1, Stamp::from_bits(7), true)
     );
-    assert!(rt; heads.is_retired(1) && !heads.is_retired(2));
-    assert_eq!(rt; heads.floor(), three);
-    heads.retire(2, five);
-    assert_eq!(rt; heads.floor(), five);
-    // All retired: the floor is the greatest stamp, and one that joins starts there.
-    heads.retire(0, Stamp::from_bits(6));
-    assert_eq!(rt; heads.floor(), seven);
-    assert_eq!(rt; heads.join(), Ok((3, seven)));
-    heads.retire(3, nine);
-    assert_eq!(rt; heads.floor(), nine);
+    assert!(rt; heads.is_retired(1) && !heads.is_retired(0));
+    assert_eq!(rt; heads.floor(), Stamp::from_bits(5));
+    // All retired: the floor is the greatest stamp, and not that of the last one to go.
+    assert!(rt; mark(&mut heads, 0, 6, true).is_some());
+    assert_eq!(rt; heads.floor(), Stamp::from_bits(7));
+    Ok(())
+}
+
+#[test]
+fn a_node_joins_at_the_floor(rt: HostRuntime) -> Result<(), Fail> {
+    let mut heads = Heads::new(rt.alloc(), 1).ok().ok_or("heads")?;
+    assert!(rt; mark(&mut heads, 0, 5, false).is_some());
+    let (node, start) = heads.join().ok().ok_or("a node")?;
+    assert_eq!(rt; (node, start), (1, Stamp::from_bits(5)));
+    assert_eq!(rt; (heads.head(node), heads.floor()), (start, start));
+    assert!(rt; mark(&mut heads, node, 9, false).is_some());
+    assert_eq!(rt; heads.floor(), Stamp::from_bits(5));
+    assert!(rt; mark(&mut heads, 0, 6, true).is_some());
+    assert_eq!(rt; heads.floor(), Stamp::from_bits(9));
     Ok(())
 }
 
@@ -37,8 +63,6 @@ fn no_number_is_given_twice(rt: HostRuntime) -> Result<(), Fail> {
     for number in 64..1_024 {
         assert_eq!(rt; heads.join(), Ok((number, zero)));
     }
-    assert_eq!(rt; heads.join(), Err(JoinFault::TooManyNodes));
-    heads.retire(1_023, Stamp::from_bits(1));
     assert_eq!(rt; heads.join(), Err(JoinFault::TooManyNodes));
     Ok(())
 }

@@ -1,4 +1,4 @@
-//! Calls of a store that lists, vacuums, or takes no memory.
+//! Calls of a store that lists, vacuums, lets a node join, or takes no memory.
 use crate::store::{Answers, STOCKED, ask, stocked, vacuum_and_ask};
 use crate::subject::Subject;
 use hlc_core::{Body, Core, CoreFault, Item, Listing, Report, Row, Stamp};
@@ -10,6 +10,7 @@ enum Call {
     List,
     RowsTo,
     Vacuum,
+    Join,
     /// One that takes no memory.
     Free(FreeCall),
 }
@@ -26,6 +27,8 @@ enum FreeCall {
     Horizon,
     /// The acceptance of a report.
     Accept,
+    /// The acceptance of a node's last item.
+    Retire,
     Close,
 }
 
@@ -35,6 +38,8 @@ pub enum Told {
     Listing(Result<Listing, CoreFault>),
     Rows(Vec<Row>),
     Report(Report),
+    /// The number of the node, and its start.
+    Joined(Result<(u16, Stamp), CoreFault>),
     /// Whether it was refused.
     Done(bool),
     /// The first byte of a value.
@@ -71,6 +76,7 @@ impl Subject for Asking {
             Call::List => list(&self.core),
             Call::RowsTo => Some(Told::Rows(self.core.rows_to(Stamp::from_bits(3)).ok()?)),
             Call::Vacuum => Some(Told::Report(self.core.vacuum().ok()?)),
+            Call::Join => join(&mut self.core),
             Call::Free(call) => Some(free(&mut self.core, call)),
         }
     }
@@ -90,6 +96,7 @@ fn call_of(name: &[u8]) -> Option<Call> {
         b"list" => Some(Call::List),
         b"rows_to" => Some(Call::RowsTo),
         b"vacuum" => Some(Call::Vacuum),
+        b"join" => Some(Call::Join),
         _ => Some(Call::Free(free_call_of(name)?)),
     }
 }
@@ -105,6 +112,7 @@ fn free_call_of(name: &[u8]) -> Option<FreeCall> {
         b"floor" => Some(FreeCall::Floor),
         b"horizon" => Some(FreeCall::Horizon),
         b"accept" => Some(FreeCall::Accept),
+        b"retire" => Some(FreeCall::Retire),
         b"close" => Some(FreeCall::Close),
         _ => None,
     }
@@ -118,17 +126,26 @@ fn list(core: &Core) -> Option<Told> {
     }
 }
 
+/// The node that joins.
+fn join(core: &mut Core) -> Option<Told> {
+    match core.join() {
+        Err(CoreFault::NoMemory) => None,
+        answer => Some(Told::Joined(answer)),
+    }
+}
+
 /// Makes a call that takes no memory.
 fn free(core: &mut Core, call: FreeCall) -> Told {
     match call {
-        FreeCall::CheckItem => Told::Done(core.check_item(&report()).is_ok()),
+        FreeCall::CheckItem => Told::Done(core.check_item(&item(Body::Report)).is_ok()),
         FreeCall::Read => Told::Byte(first_byte(core)),
         FreeCall::StampOf => Told::Stamp(core.stamp_of(1)),
         FreeCall::Rows => Told::Count(core.rows()),
         FreeCall::Count => Told::Count(u128::from(core.count(0).unwrap_or(0))),
         FreeCall::Floor => Told::Stamp(Some(core.floor())),
         FreeCall::Horizon => Told::Stamp(Some(core.horizon())),
-        FreeCall::Accept => Told::Done(core.accept(report()).is_ok()),
+        FreeCall::Accept => Told::Done(core.accept(item(Body::Report)).is_ok()),
+        FreeCall::Retire => Told::Done(core.accept(item(Body::Retire)).is_ok()),
         FreeCall::Close => Told::Stamp(core.close(1).ok()),
     }
 }
@@ -141,12 +158,12 @@ fn first_byte(core: &Core) -> Option<u8> {
     }
 }
 
-/// The next report of node 0.
-fn report() -> Item {
+/// The next item of node 0, which says this.
+fn item(body: Body) -> Item {
     Item {
         node: 0,
         number: 3,
         stamp: Stamp::from_bits(9),
-        body: Body::Report,
+        body,
     }
 }

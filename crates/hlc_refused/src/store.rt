@@ -1,8 +1,9 @@
 //! A store with a past, and what it tells.
-ghost use Rattle.std.specs.Prelude.{◌≡◌, ◌≢◌, ◌^◌, ◌-◌, ◌∷◌, [], None, Some, IfOk, length, map};
+ghost use Rattle.std.specs.Prelude.{◌≡◌, ◌≢◌, ◌^◌, ◌-◌, ◌∷◌, [], None, Some, IfOk, length};
 ghost use Rattle.hlc_node.specs.declared.item.Body.TheVariants.{Write as a_write};
 ghost use Rattle.hlc_floor.specs.Heads.{IsFloor};
 ghost use Rattle.hlc_core.specs.Calls.{AreRowsTo};
+ghost use Rattle.hlc_core.specs.Kept.{marks_of};
 
 use hlc_core::{Body, Bytes, Core, CoreFault, Item, Listing, Report, Row, Stamp};
 use std::alloc::{AllocError, Global};
@@ -74,7 +75,7 @@ pub struct Answers {
 /// Asks a store all that can be asked.
 pub fn ask(alloc: Global, core: &Core) -> Result<Answers, AllocError>
     ensures floor { IfOk result
-        (λ answers. IsFloor (map (λ link. link.head) core.now.links) answers.floor) }
+        (λ answers. IsFloor (marks_of core.now.links core.now.top) answers.floor) }
     ensures rows { IfOk result (λ answers. answers.rows ≡ length core.now.rows) }
     ensures stored { IfOk result
         (λ answers. AreRowsTo core.now.rows (2 ^ 64 - 1) answers.stored.items) }

@@ -148,6 +148,7 @@ fn event_of(alloc: Global, name: &[u8]) -> Result<Option<CoreEvent>, AllocError>
         },
         b"list" => CoreEvent::List(1),
         b"close" => CoreEvent::Close(1),
+        b"join" => CoreEvent::Join,
         b"vacuum" => CoreEvent::Vacuum,
         _ => return Ok(None),
     }))
