@@ -46,11 +46,12 @@ struct Receipt {
     reply: Reply,
 }
 
-/// The next number of a node's link, and the stamp that was accepted last.
+/// The next number of a node's link, the stamp that was accepted last, and whether the node retired.
 #[derive(Clone, Copy, Default)]
 struct Intake {
     next: u64,
     head: u64,
+    retired: bool,
 }
 
 struct Guarded {
@@ -75,13 +76,13 @@ impl Guarded {
     }
 
     fn floor(&self) -> u64 {
-        self.nodes.iter().map(|node| node.head).min().unwrap_or(0)
+        self.nodes.iter().filter(|node| !node.retired).map(|node| node.head).min().unwrap_or(0)
     }
 
     fn admit(&mut self, node: u16, number: u64, stamp: u64) -> Reply {
         match self.nodes.get_mut(node as usize) {
-            Some(intake) if number == intake.next && stamp > intake.head => {
-                *intake = Intake { next: number + 1, head: stamp };
+            Some(intake) if !intake.retired && number == intake.next && stamp > intake.head => {
+                *intake = Intake { next: number + 1, head: stamp, retired: false };
                 Reply::Accepted(node, stamp)
             }
             _ => Reply::Refused(1),
@@ -236,10 +237,36 @@ fn behind_a_lock(readers: u16) -> (u128, u64) {
     looked(readers, admit, || store.lock().unwrap().floor())
 }
 
+/// What reports take of all nodes that have not retired, in turn, each with a question for the floor.
+fn delivered(nodes: u16, gone: u16) -> (u64, u128, u64) {
+    let mut store = Guarded::new(nodes as usize, false);
+    for node in &mut store.nodes[..gone as usize] {
+        *node = Intake { next: 1, head: 1 << 16, retired: true };
+    }
+    let rounds = DELIVERIES / u64::from(nodes - gone);
+    let mut greatest = 0;
+    let start = Instant::now();
+    for number in 0..rounds {
+        for node in gone..nodes {
+            std::hint::black_box(store.admit(node, number, (number + 1) << 16));
+            greatest = greatest.max(store.floor());
+        }
+    }
+    (rounds * u64::from(nodes - gone), start.elapsed().as_nanos(), greatest)
+}
+
+const DELIVERIES: u64 = 2_000_000;
+
 fn main() {
     let words: Vec<String> = std::env::args().collect();
     let threads = words.get(1).and_then(|word| word.parse().ok()).unwrap_or(1);
     let second = words.get(2).map_or("", String::as_str);
+    if words[1] == "nodes" {
+        let (nodes, gone) = (second.parse().unwrap(), words[3].parse().unwrap());
+        let (items, nanos, floor) = delivered(nodes, gone);
+        println!("nodes {nodes} gone {gone} items {items} nanos {nanos} floor {}.0", floor >> 16);
+        return;
+    }
     let looks = match words[1].as_str() {
         "board" => on_a_board,
         "shared" => in_a_shared_store,

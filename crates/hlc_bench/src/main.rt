@@ -1,14 +1,16 @@
-//! Calls of a shared store, timed: reads of 64 keys by so many threads, without a trail or with one; and
-//! looks at the floor, on a board and behind a lock.
+//! Calls of a shared store, timed: reads of 64 keys by so many threads, without a trail or with one; looks
+//! at the floor, on a board and behind a lock; and deliveries to a store to which many nodes came, and left.
 #![tactic(auto)]
 
 ghost use Rattle.std.specs.Prelude.{◌≡◌, ◌<◌, ◌≤◌};
 
 mod floors;
+mod joined;
 
 use floors::Looked;
 use hlc_core::{Body, Bytes, Item, Stamp};
 use hlc_server::{Caller, Receipt, Shared};
+use joined::Delivered;
 use std::alloc::{AllocError, Global};
 use std::marker::Brand;
 use std::rt::Clock;
@@ -143,7 +145,21 @@ fn looked<R: Threads + Wait + Sync + Clock>(
     }
 }
 
-/// With `board`, `shared` or `lock` and a number of readers it times their looks at a floor there. Else it
+/// The count that a word names; 0 where it names none of those that are measured.
+fn count_in(word: Option<String>) -> u16 {
+    let Some(word) = word else {
+        return 0;
+    };
+    match word.as_str() {
+        "64" => 64,
+        "960" => 960,
+        "1024" => 1_024,
+        _ => 0,
+    }
+}
+
+/// With `nodes`, how many numbers were given and how many of those nodes retired, it times deliveries to
+/// such a store. With `board`, `shared` or `lock` and a number of readers it times their looks at a floor there. Else it
 /// times the calls of as many threads as the first word says, with a trail where the second is `on`.
 /// With no word it times nothing.
 fn main(rt: HostRuntime) -> io::Result<()> {
@@ -153,6 +169,20 @@ fn main(rt: HostRuntime) -> io::Result<()> {
     };
     let second = word(&rt, 2);
     let place = first.as_str();
+    if place == "nodes" {
+        let (nodes, gone) = (count_in(second), count_in(word(&rt, 3)));
+        let Some(
+            Delivered {
+                items,
+                nanos,
+                floor,
+            },
+        ) = joined::delivered(&rt, alloc, nodes, gone)?
+        else {
+            return Ok(());
+        };
+        return println!(rt; "nodes {nodes} gone {gone} items {items} nanos {nanos} floor {floor}");
+    }
     if place == "board" || place == "shared" || place == "lock" {
         let readers = threads_in(second);
         let Some(
