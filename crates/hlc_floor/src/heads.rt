@@ -1,5 +1,5 @@
 //! The head of each link, and the floor.
-ghost use Rattle.std.specs.Prelude.{◌≡◌, ◌<◌, false, true, MatchOption, length, min};
+ghost use Rattle.std.specs.Prelude.{◌≡◌, ◌<◌, false, true, length};
 ghost use Rattle.std.proofs.Common.{rules};
 ghost use Rattle.std.proofs.lemmas.Grind.{common_steps};
 ghost use Rattle.hlc_floor.specs.declared.heads.TheConstants.{MOST_NODES, MOST_NUMBERS};
@@ -7,13 +7,12 @@ ghost use Rattle.hlc_floor.specs.Heads.{
   Makes,
   Joins,
   IsFloor,
-  IsLeast,
-  AllRetired,
   head_at,
   marked,
 };
 
 use crate::accepted::Accepted;
+use crate::groups::{GROUP, groups_of, least_of, regroup};
 use hlc_clock::Stamp;
 use hlc_values::Exact;
 use std::alloc::Global;
@@ -85,19 +84,23 @@ impl Exact for Head {
 #[derive(Drop)]
 pub struct Heads {
     heads: Vec<Head>,
+    /// Of each group of nodes the least head of those that have not retired, if there is one.
+    groups: [Option<Stamp>; GROUP],
     top: Stamp,
     floor: Stamp,
 }
 
 impl Model for Heads {
     ghost use Rattle.hlc_floor.specs.Heads.{Marks, IsSized, IsFloor};
+    ghost use Rattle.hlc_floor.specs.Groups.{AreGroups};
 
     ghost Value = { Marks };
 
     ghost view = { λ heads. record { heads = heads.heads.items; top = heads.top } };
 
     ghost invariant = { λ heads. IsSized (record { heads = heads.heads.items; top = heads.top })
-        × IsFloor (record { heads = heads.heads.items; top = heads.top }) heads.floor };
+        × IsFloor (record { heads = heads.heads.items; top = heads.top }) heads.floor
+        × AreGroups heads.heads.items heads.groups };
 }
 
 impl Heads {
@@ -115,6 +118,7 @@ impl Heads {
         };
         match vec![in alloc; head; nodes as usize] {
             Ok(heads) => Ok(Heads {
+                groups: groups_of(&heads),
                 heads,
                 top: Stamp::from_bits(0),
                 floor: Stamp::from_bits(0),
@@ -174,16 +178,18 @@ impl Heads {
         ensures marked { self.new ≡ marked self.old node stamp last }
         ensures accepted { result ≡ record { node = node; stamp = stamp; retires = last } }
     {
-        let was = self.head(node);
-        self.heads[node as usize] = Head {
+        let place = node as usize;
+        let was = self.heads[place].stamp;
+        self.heads[place] = Head {
             stamp,
             retired: last,
         };
         if stamp > self.top {
             self.top = stamp;
         }
-        if was <= self.floor {
-            self.floor = least(self.heads.as_slice()).unwrap_or(self.top);
+        regroup(&mut self.groups, &self.heads, place, was);
+        if was == self.floor {
+            self.floor = least_of(&self.groups).unwrap_or(self.top);
         }
         Accepted::new(node, stamp, last)
     }
@@ -198,48 +204,28 @@ impl Heads {
         if self.heads.len() >= MOST_NUMBERS as usize {
             return Err(JoinFault::TooManyNodes);
         }
-        let node = self.heads.len() as u16;
+        let place = self.heads.len();
         let start = self.floor;
         let head = Head {
             stamp: start,
             retired: false,
         };
         match self.heads.push(head) {
-            Ok(()) => Ok((node, start)),
+            Ok(()) => {
+                self.groups[place / GROUP] = Some(start);
+                Ok((place as u16, start))
+            }
             Err(_) => Err(JoinFault::NoMemory),
         }
     }
 
     /// The floor: the least head of the nodes that have not retired; where all did, the greatest
     /// stamp of an accepted item. It never falls, and every item that is accepted later lies above
-    /// it. It is at hand: `raise` and `retire` look for it, in one pass over the heads, where the
-    /// node stood at the floor.
+    /// it. It is at hand, however many nodes came and went: `raise` and `retire` keep it, looking at
+    /// 32 heads where the node stood lowest of its group, and at 32 groups where it stood at the floor.
     pub fn floor(&self) -> Stamp
         ensures { IsFloor self.now result }
     {
         self.floor
-    }
-}
-
-/// The least head of the nodes that have not retired, if there is one.
-fn least(heads: &[Head]) -> Option<Stamp>
-    ensures { MatchOption result (AllRetired heads.now) (λ low. IsLeast heads.now low) }
-{
-    let mut least = None;
-    for head in heads {
-        if !head.retired {
-            least = Some(lower(least, head.stamp));
-        }
-    }
-    least
-}
-
-/// The lower of the two, if there are two.
-fn lower(least: Option<Stamp>, stamp: Stamp) -> Stamp
-    ensures { MatchOption least (result ≡ stamp) (λ low. result ≡ min low stamp) }
-{
-    match least {
-        Some(low) if low < stamp => low,
-        _ => stamp,
     }
 }

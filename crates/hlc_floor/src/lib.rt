@@ -2,6 +2,7 @@
 #![tactic(auto)]
 
 mod accepted;
+mod groups;
 mod heads;
 
 pub use accepted::Accepted;
