@@ -45,8 +45,15 @@ moves-in heads node stamp from to last (Some low) within left rising apart h = (
       let away : k ≢ node =
       λ e. apart (subst (λ n. from ≤ n) e h.0.1) (subst (λ n. n < to) e h.0.2) (ap Some (sym at
       ∙ ap (λ n. (head_at heads n).stamp) e)) in
-      let o = other heads node stamp last k away in
-      (k, h.0.1, h.0.2, subst (λ n. k < n) (sym (length-set heads node (a_head stamp last))) h.0.3, ap (λ (head : Head). head.retired) o ∙ h.0.4, ap (λ (head : Head). head.stamp) o ∙ at)),
+      let o = other heads node stamp last k away in (
+        k,
+        h.0.1,
+        h.0.2,
+        subst (λ n. k < n) (sym (length-set heads node (a_head stamp last))) h.0.3,
+        ap
+            (λ (head : Head). head.retired) o ∙ h.0.4,
+        ap (λ (head : Head). head.stamp) o ∙ at,
+      )),
   (λ k ge lt unretired.
       elim (cases_eq k node) [
         | inl at ↦
@@ -79,7 +86,8 @@ above : (heads : List Head) (groups : List (Option ℕ)) (low group k : ℕ) (fo
     → ((other : ℕ) → group_at groups group ≡ Some other → low ≤ other)
     → group * GROUP ≤ k → k < group * GROUP + GROUP → (head_at heads k).retired ≡ false
     → IsLeastIn heads (group * GROUP) (group * GROUP + GROUP) found → low ≤ (head_at heads k).stamp
-above heads groups low group k None same least ge lt left h = absurd (let e : false ≡ true = sym left ∙ h k ge lt in cc)
+above heads groups low group k None same least ge lt left h =
+    absurd (let e : false ≡ true = sym left ∙ h k ge lt in cc)
 above heads groups low group k (Some other) same least ge lt left h =
     let a : low ≤ other = least other same in
     let b : other ≤ (head_at heads k).stamp = h.1 k ge lt left in
@@ -92,17 +100,20 @@ found_floor marks groups None few h none = inr (
   (λ k lt.
       let group = k / GROUP in
       let less : group < GROUP = omega (arith, lt, few) in
-      subst (λ o. IsLeastIn marks.heads (group * GROUP) (group * GROUP + GROUP) o) (none group less) (h group less) k (omega arith) (omega arith)),
+      subst (λ o. IsLeastIn marks.heads (group * GROUP) (group * GROUP + GROUP) o) (none group less)
+      (h group less) k (omega arith) (omega arith)),
   refl,
 )
 found_floor marks groups (Some low) few h one =
-    let at = subst (λ o. IsLeastIn marks.heads (one.0.0 * GROUP) (one.0.0 * GROUP + GROUP) o) one.0.2 (h one.0.0 one.0.1) in
+    let at = subst (λ o. IsLeastIn marks.heads (one.0.0 * GROUP) (one.0.0 * GROUP + GROUP) o) one.0.2
+    (h one.0.0 one.0.1) in
     inl (record {
       is_head = (at.0.0, at.0.3, at.0.4, at.0.5);
       least = λ k lt left.
           let group = k / GROUP in
           let less : group < GROUP = omega (arith, lt, few) in
-          above marks.heads groups low group k (group_at groups group) refl (λ other e. one.1 group other less e) (omega arith) (omega arith) left (h group less);
+          above marks.heads groups low group k (group_at groups group) refl (λ other e. one.1 group other less e)
+          (omega arith) (omega arith) left (h group less);
     })
 
 some-same : {a b : ℕ} → Some a ≡ Some b → a ≡ b
@@ -116,11 +127,14 @@ floor-stays marks node stamp floor last within left rising apart h =
     elim h [
       | inl one ↦
           let o = moves-in marks.heads node stamp 0 (length marks.heads) last (Some floor) within left rising
-          (λ ge lt e. apart (sym (some-same e)))
-          ((one.is_head.0, omega arith, one.is_head.1, one.is_head.1, one.is_head.2, one.is_head.3), (λ k ge lt. one.least k lt)) in
+          (λ ge lt e. apart (sym (some-same e))) (
+            (one.is_head.0, omega arith, one.is_head.1, one.is_head.1, one.is_head.2, one.is_head.3),
+            (λ k ge lt. one.least k lt),
+          ) in
           inl (record {
             is_head = (o.0.0, o.0.3, o.0.4, o.0.5);
-            least = λ k lt. o.1 k (omega arith) (subst (λ n. k < n) (length-set marks.heads node (a_head stamp last)) lt);
+            least = λ k lt. o.1 k (omega arith)
+                (subst (λ n. k < n) (length-set marks.heads node (a_head stamp last)) lt);
           })
       | inr none ↦ absurd (let e : false ≡ true = sym left ∙ none.0 node within in cc)
     ]
@@ -149,7 +163,8 @@ joins-in : (heads : List Head) (start from to : ℕ) (found : Option ℕ)
     → (from ≤ length heads → length heads < to → ⊥) → IsLeastIn heads from to found
     → IsLeastIn (heads ++ a_head start false ∷ []) from to found
 joins-in heads start from to None out h = λ k ge lt.
-    ap (λ (head : Head). head.retired) (joined-other heads start k (λ e. out (subst (λ n. from ≤ n) e ge) (subst (λ n. n < to) e lt))) ∙ h k ge lt
+    ap (λ (head : Head). head.retired)
+    (joined-other heads start k (λ e. out (subst (λ n. from ≤ n) e ge) (subst (λ n. n < to) e lt))) ∙ h k ge lt
 joins-in heads start from to (Some low) out h = (
   (let k = h.0.0 in
       let l : length (heads ++ a_head start false ∷ []) ≡ length heads + 1 =
@@ -176,7 +191,9 @@ joined-above : (marks : Marks) (floor k : ℕ) → IsFloor marks floor
     → (head_at (joined marks floor).heads k).retired ≡ false → floor ≤ (head_at (joined marks floor).heads k).stamp
 joined-above marks floor k h left =
     elim (cases_eq k (length marks.heads)) [
-      | inl at ↦ (let x : (head_at (joined marks floor).heads k).stamp ≡ floor = ap (λ (head : Head). head.stamp) (joined-here marks.heads floor k at) in omega arith)
+      | inl at ↦
+          (let x : (head_at (joined marks floor).heads k).stamp ≡ floor = ap (λ (head : Head). head.stamp)
+          (joined-here marks.heads floor k at) in omega arith)
       | inr away ↦
           let o = joined-other marks.heads floor k away in
           let x : (head_at (joined marks floor).heads k).stamp ≡ (head_at marks.heads k).stamp =
@@ -201,7 +218,13 @@ floor_joins marks floor h =
     length-append marks.heads (a_head floor false ∷ []) in
     let at = joined-here marks.heads floor (length marks.heads) refl in
     inl (record {
-      is_head = (length marks.heads, omega arith, ap (λ (head : Head). head.retired) at, ap (λ (head : Head). head.stamp) at);
+      is_head = (
+        length marks.heads,
+        omega arith,
+        ap (λ (head : Head). head.retired) at,
+        ap
+            (λ (head : Head). head.stamp) at,
+      );
       least = λ k lt left. joined-above marks floor k h left;
     })
 
@@ -220,14 +243,24 @@ groups_join marks groups floor sized few h old = λ group lt.
           length-append marks.heads (a_head floor false ∷ []) in
           let here' = joined-here marks.heads floor (length marks.heads) refl in
           subst (λ o. IsLeastIn (joined marks floor).heads (group * GROUP) (group * GROUP + GROUP) o) (sym x) (
-            (length marks.heads, omega (arith, at), omega (arith, at), omega arith, ap (λ (head : Head). head.retired) here', ap (λ (head : Head). head.stamp) here'),
+            (
+              length marks.heads,
+              omega (arith, at),
+              omega (arith, at),
+              omega arith,
+              ap
+                  (λ (head : Head). head.retired) here',
+              ap (λ (head : Head). head.stamp) here',
+            ),
             (λ k ge less left. joined-above marks floor k h left),
           )
       | inr away ↦
-          let x : group_at (slice_set groups (length marks.heads / GROUP) (Some floor)) group ≡ group_at groups group =
+          let x : group_at
+          (slice_set groups (length marks.heads / GROUP) (Some floor)) group ≡ group_at groups group =
           get_or-set_other groups (length marks.heads / GROUP) group (Some floor) None away in
           subst (λ o. IsLeastIn (joined marks floor).heads (group * GROUP) (group * GROUP + GROUP) o) (sym x)
-          (joins-in marks.heads floor (group * GROUP) (group * GROUP + GROUP) (group_at groups group) (λ ge less. away (omega (arith, ge, less))) (old group lt))
+          (joins-in marks.heads floor (group * GROUP) (group * GROUP + GROUP) (group_at groups group)
+          (λ ge less. away (omega (arith, ge, less))) (old group lt))
     ]
 
 -- and there is room for it

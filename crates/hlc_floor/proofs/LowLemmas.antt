@@ -58,9 +58,11 @@ left-is f gone zero = λ k lt. absurd (omega arith)
 left-is f gone (suc n) =
     elim (cases_Bool (gone n)) [
       | inl out ↦
-          subst (λ o. IsLeft f gone (suc n) o) (sym (cond-true _ _ _ out)) (skip f gone n (least_left f gone n) out (left-is f gone n))
+          subst (λ o. IsLeft f gone (suc n) o) (sym (cond-true _ _ _ out))
+          (skip f gone n (least_left f gone n) out (left-is f gone n))
       | inr here ↦
-          subst (λ o. IsLeft f gone (suc n) o) (sym (cond-false _ _ _ here)) (meet f gone n (least_left f gone n) here (left-is f gone n))
+          subst (λ o. IsLeft f gone (suc n) o) (sym (cond-false _ _ _ here))
+          (meet f gone n (least_left f gone n) here (left-is f gone n))
     ]
 
 low-by : (f : ℕ → ℕ) (gone : ℕ → Bool) (n top : ℕ) (o : Option ℕ) → IsLeft f gone n o
@@ -151,7 +153,8 @@ low-joins f g gone left n top at others =
 -- the floor is the one that its definition says
 pub floor-is : (marks : Marks) (floor : ℕ) → IsFloor marks floor → floor ≡ floor_of marks
 floor-is marks floor h =
-    low-one (λ k. (head_at marks.heads k).stamp) (λ k. (head_at marks.heads k).retired) (length marks.heads) marks.top floor (floor_of marks)
+    low-one (λ k. (head_at marks.heads k).stamp) (λ k. (head_at marks.heads k).retired)
+    (length marks.heads) marks.top floor (floor_of marks)
     (elim h [
       | inl one ↦ record { least = one.least; is = inl one.is_head }
       | inr none ↦
@@ -161,4 +164,5 @@ floor-is marks floor h =
             is = inr none;
           }
     ])
-    (low-is (λ k. (head_at marks.heads k).stamp) (λ k. (head_at marks.heads k).retired) (length marks.heads) marks.top)
+    (low-is (λ k. (head_at marks.heads k).stamp) (λ k. (head_at marks.heads k).retired)
+    (length marks.heads) marks.top)

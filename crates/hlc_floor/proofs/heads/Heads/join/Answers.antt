@@ -1,5 +1,6 @@
 -- The floor stays where a node joins at it, and the node's group has it as its least head.
-use Rattle.std.proofs.Common.{rules, ◌≡◌, ◌<◌, ◌/◌, ℕ, List, [], ◌∷◌, ◌++◌, length, Some, false, sym, subst, slice_set}
+use Rattle.std.proofs.Common.{rules, ◌≡◌, ◌<◌, ◌/◌, ℕ, List, [], ◌∷◌, ◌++◌, length, Some, false, sym, subst}
+use Rattle.std.proofs.Common.{slice_set}
 use Rattle.std.proofs.lemmas.Grind.{common_steps}
 use Rattle.hlc_floor.specs.declared.heads.TheConstants.{MOST_NUMBERS}
 use Rattle.hlc_floor.specs.declared.groups.TheConstants.{GROUP}
@@ -13,7 +14,8 @@ pub invariant_of-self : goal.invariant_of-self
 invariant_of-self c =
     let inside = c.self.inside in
     let marks : Marks = record { heads = inside.heads.items; top = inside.top } in
-    let pushed : c.push.new.self.items ≡ inside.heads.items ++ a_head inside.floor false ∷ [] = c.in-Ok.ensures.items in
+    let pushed : c.push.new.self.items ≡ inside.heads.items ++ a_head inside.floor false ∷ [] =
+    c.in-Ok.ensures.items in
     let place : c.len-place.result ≡ length inside.heads.items = search rules in
     let few : length inside.heads.items < MOST_NUMBERS = search (rules, common_steps) in
     let sized : length inside.groups ≡ GROUP = search (rules, common_steps) in
@@ -25,6 +27,7 @@ invariant_of-self c =
     (sym pushed) (
       joined-sized marks inside.floor c.self.invariant.0 few,
       floor_joins marks inside.floor c.self.invariant.1,
-      subst (λ (n : ℕ). AreGroups (joined marks inside.floor).heads (slice_set inside.groups (n / GROUP) (Some inside.floor))) (sym place)
+      subst (λ (n : ℕ). AreGroups (joined marks inside.floor).heads
+          (slice_set inside.groups (n / GROUP) (Some inside.floor))) (sym place)
           (groups_join marks inside.groups inside.floor sized few c.self.invariant.1 c.self.invariant.2),
     )
