@@ -1,7 +1,7 @@
 -- A core goes on standing for what took place: each part that is kept follows the step as its definition does.
 use Rattle.std.proofs.Common.{◌≡◌, ℕ, zero, suc, ◌+◌, ◌<◌, ◌≤◌, List, [], ◌∷◌, ◌++◌, length, map, max, get_or, Bool}
-use Rattle.std.proofs.Common.{true, false, Some, None, Option, Ok, Err, Result, refl, ap, sym, ◌∙◌, subst, inl, inr, arith}
-use Rattle.std.proofs.Common.{length-set, length-append, get_or-set_other, replicate}
+use Rattle.std.proofs.Common.{true, false, Some, None, Option, Ok, Err, Result, refl, ap, sym, ◌∙◌, subst, inl, inr}
+use Rattle.std.proofs.Common.{arith, length-set, length-append, get_or-set_other, replicate}
 use Rattle.std.proofs.lemmas.Grind.{get_or-set_at}
 use Rattle.std.specs.Prelude.{⊤, ◌==◌, not, Contains, IfOk, OnErr, slice_get, slice_set, MatchOption, MatchResult}
 use Rattle.std.proofs.lemmas.Option.{slice_get-get_or, slice_get_past}
