@@ -10,9 +10,10 @@ use Rattle.hlc_text.specs.Text.{bytes_token, AreBytes}
 use Rattle.hlc_text.proofs.TokenLemmas.{number_is_word, stamp_is_word, bytes_are_word, split_words, no_stamp, one_stamp}
 use Rattle.hlc_text.proofs.SpellingLemmas.{one_token}
 use Rattle.hlc_world.specs.Schedule.{Event}
-use Rattle.hlc_world.specs.declared.event.Event.TheVariants.{Write, Delete, Report, Send, Receive, Observe, Deliver}
-use Rattle.hlc_world.specs.declared.event.Event.TheVariants.{OpenAt, OpenFloor, Read, List as ListAll, Close, Floor}
-use Rattle.hlc_world.specs.declared.event.Event.TheVariants.{Vacuum, Rows}
+use Rattle.hlc_world.specs.declared.event.Event.TheVariants.{Write, Delete, Report, Retire, Join, Send, Receive}
+use Rattle.hlc_world.specs.declared.event.Event.TheVariants.{Observe}
+use Rattle.hlc_world.specs.declared.event.Event.TheVariants.{Deliver, OpenAt, OpenFloor, Read, List as ListAll, Close}
+use Rattle.hlc_world.specs.declared.event.Event.TheVariants.{Floor, Vacuum, Rows}
 use Rattle.hlc_script.specs.Line.{event_words, event_line, HasLine, header_words, header_line, HasHeader}
 use Rattle.hlc_script.specs.OneOutput.{OneEvent}
 
@@ -33,6 +34,10 @@ words_of_line (Delete node reading key) has =
 words_of_line (Report node reading) has =
     split_words (codes "report") (decimal node ∷ decimal reading ∷ [])
     (refl, (number_is_word node (omega arith), (number_is_word reading (omega arith), tt)))
+words_of_line (Retire node reading) has =
+    split_words (codes "retire") (decimal node ∷ decimal reading ∷ [])
+    (refl, (number_is_word node (omega arith), (number_is_word reading (omega arith), tt)))
+words_of_line Join has = split_words (codes "join") [] (refl, tt)
 words_of_line (Send node reading) has =
     split_words (codes "send") (decimal node ∷ decimal reading ∷ [])
     (refl, (number_is_word node (omega arith), (number_is_word reading (omega arith), tt)))
@@ -105,6 +110,13 @@ no_report args none (Report node reading) has is = let rest : args ≡ decimal n
     none (node, reading) has rest
 no_report args none event has is = absurd (omega (arith, ap mark is))
 
+pub no_retire : (args : List (List ℕ))
+    → ((x : ℕ × ℕ) → (x.0 < 2 ^ 16) × (x.1 < 2 ^ 64) → args ≢ decimal x.0 ∷ decimal x.1 ∷ []) → (event : Event)
+    → HasLine event → codes "retire" ∷ args ≢ event_words event
+no_retire args none (Retire node reading) has is = let rest : args ≡ decimal node ∷ decimal reading ∷ [] = cc in
+    none (node, reading) has rest
+no_retire args none event has is = absurd (omega (arith, ap mark is))
+
 pub no_send : (args : List (List ℕ))
     → ((x : ℕ × ℕ) → (x.0 < 2 ^ 16) × (x.1 < 2 ^ 64) → args ≢ decimal x.0 ∷ decimal x.1 ∷ []) → (event : Event)
     → HasLine event → codes "send" ∷ args ≢ event_words event
@@ -164,6 +176,11 @@ pub no_floor : (args : List (List ℕ)) → args ≢ [] → (event : Event) → 
 no_floor args none Floor has is = let rest : args ≡ [] = cc in none rest
 no_floor args none event has is = absurd (omega (arith, ap mark is))
 
+pub no_join : (args : List (List ℕ)) → args ≢ [] → (event : Event) → HasLine event
+    → codes "join" ∷ args ≢ event_words event
+no_join args none Join has is = let rest : args ≡ [] = cc in none rest
+no_join args none event has is = absurd (omega (arith, ap mark is))
+
 pub no_vacuum : (args : List (List ℕ)) → args ≢ [] → (event : Event) → HasLine event
     → codes "vacuum" ∷ args ≢ event_words event
 no_vacuum args none Vacuum has is = let rest : args ≡ [] = cc in none rest
@@ -204,6 +221,15 @@ one_report : (node node2 reading reading2 : ℕ) → HasLine (Report node readin
     → event_words (Report node reading) ≡ event_words (Report node2 reading2)
     → ◌≡◌ {A = Event} (Report node reading) (Report node2 reading2)
 one_report node node2 reading reading2 has also e =
+    let e0 : decimal node ≡ decimal node2 = cc in
+    let e1 : decimal reading ≡ decimal reading2 = cc in
+    let s0 : node ≡ node2 = decimal_injective node node2 (omega arith) (omega arith) e0 in
+    let s1 : reading ≡ reading2 = decimal_injective reading reading2 (omega arith) (omega arith) e1 in cc
+
+one_retire : (node node2 reading reading2 : ℕ) → HasLine (Retire node reading) → HasLine (Retire node2 reading2)
+    → event_words (Retire node reading) ≡ event_words (Retire node2 reading2)
+    → ◌≡◌ {A = Event} (Retire node reading) (Retire node2 reading2)
+one_retire node node2 reading reading2 has also e =
     let e0 : decimal node ≡ decimal node2 = cc in
     let e1 : decimal reading ≡ decimal reading2 = cc in
     let s0 : node ≡ node2 = decimal_injective node node2 (omega arith) (omega arith) e0 in
@@ -274,6 +300,11 @@ same_words (Delete node reading key) other has also same = absurd (omega (arith,
 same_words (Report node reading) (Report node2 reading2) has also same =
     one_report node node2 reading reading2 has also same
 same_words (Report node reading) other has also same = absurd (omega (arith, ap mark same))
+same_words (Retire node reading) (Retire node2 reading2) has also same =
+    one_retire node node2 reading reading2 has also same
+same_words (Retire node reading) other has also same = absurd (omega (arith, ap mark same))
+same_words Join Join has also same = refl
+same_words Join other has also same = absurd (omega (arith, ap mark same))
 same_words (Send node reading) (Send node2 reading2) has also same =
     one_send node node2 reading reading2 has also same
 same_words (Send node reading) other has also same = absurd (omega (arith, ap mark same))

@@ -17,17 +17,18 @@ use Rattle.hlc_core.specs.Calls.{IsListed}
 use Rattle.hlc_core.proofs.ListingLemmas.{one-listing}
 use Rattle.hlc_core.proofs.ReportLemmas.{there_is_one_report, there_is_one_count}
 use Rattle.hlc_node.specs.declared.node.NodeFault.{NodeFault}
-use Rattle.hlc_world.specs.declared.event.Event.TheVariants.{Write, Delete, Report, Send, Receive, Observe, Deliver}
-use Rattle.hlc_world.specs.declared.event.Event.TheVariants.{OpenAt, OpenFloor, Read, List as ListAll, Close, Floor}
-use Rattle.hlc_world.specs.declared.event.Event.TheVariants.{Vacuum, Rows}
+use Rattle.hlc_world.specs.declared.event.Event.TheVariants.{Write, Delete, Report, Retire, Join, Send, Receive}
+use Rattle.hlc_world.specs.declared.event.Event.TheVariants.{Observe}
+use Rattle.hlc_world.specs.declared.event.Event.TheVariants.{Deliver, OpenAt, OpenFloor, Read, List as ListAll, Close}
+use Rattle.hlc_world.specs.declared.event.Event.TheVariants.{Floor, Vacuum, Rows}
 use Rattle.hlc_world.specs.declared.reply.Reply.{Reply}
-use Rattle.hlc_world.specs.declared.reply.Reply.TheVariants.{Stamped, Sent, Received, Observed, Accepted, Snapshot}
-use Rattle.hlc_world.specs.declared.reply.Reply.TheVariants.{Answer, Listing, Closed, Floor as FloorIs, Vacuumed}
-use Rattle.hlc_world.specs.declared.reply.Reply.TheVariants.{Rows as RowsAre, Refused}
+use Rattle.hlc_world.specs.declared.reply.Reply.TheVariants.{Stamped, Joined, Sent, Received, Observed, Accepted}
+use Rattle.hlc_world.specs.declared.reply.Reply.TheVariants.{Snapshot, Answer, Listing, Closed, Floor as FloorIs}
+use Rattle.hlc_world.specs.declared.reply.Reply.TheVariants.{Vacuumed, Rows as RowsAre, Refused}
 use Rattle.hlc_world.specs.declared.refusal.Refusal.{Refusal}
 use Rattle.hlc_world.specs.declared.refusal.Refusal.TheVariants.{NoMemory as no_memory}
 use Rattle.hlc_world.specs.Schedule.{Event, item_at}
-use Rattle.hlc_world.specs.Store.{accepting, told, joined, core_past}
+use Rattle.hlc_world.specs.Store.{accepting, accepted, paired, core_past}
 use Rattle.hlc_world.specs.Due.{refusal_due, IsReceived, IsObserved, IsOwed, IsDueReply, IsGiven}
 use Rattle.hlc_script.specs.declared.run.RunEnd.{RunEnd}
 use Rattle.hlc_script.specs.declared.run.RunEnd.TheVariants.{Answered, BadLine, BadHeader, NoMemory, NotHeld}
@@ -73,11 +74,11 @@ same_listing : (o : Option ℕ) (rows : List Row) (pairs pairs2 : List Pair) →
 same_listing None rows pairs pairs2 due also = absurd due
 same_listing (Some stamp) rows pairs pairs2 due also = one-listing rows stamp pairs pairs2 due also
 
-same_acceptance : (nodes node number : ℕ) (past : List Step) (o : Option Item) (stamp stamp2 : ℕ)
-    → IsOwed nodes past (joined (told (Deliver node number) (Accepted stamp)) (accepting o))
-    → IsOwed nodes past (joined (told (Deliver node number) (Accepted stamp2)) (accepting o)) → stamp ≡ stamp2
-same_acceptance nodes node number past None stamp stamp2 due also = absurd due
-same_acceptance nodes node number past (Some item) stamp stamp2 due also = ap (λ x. x.stamp) (due ∙ sym also)
+same_acceptance : (nodes node : ℕ) (past : List Step) (o : Option Item) (stamp stamp2 : ℕ)
+    → IsOwed nodes past (paired (accepted node stamp o) (accepting o))
+    → IsOwed nodes past (paired (accepted node stamp2 o) (accepting o)) → stamp ≡ stamp2
+same_acceptance nodes node past None stamp stamp2 due also = absurd due
+same_acceptance nodes node past (Some item) stamp stamp2 due also = ap (λ x. x.stamp) (due ∙ sym also)
 
 -- what is due where nothing is refused is one reply
 due_once : (nodes : ℕ) (schedule : List (Event × Reply)) (event : Event) (reply other : Reply)
@@ -91,6 +92,13 @@ due_once nodes schedule (Delete node reading key) (Stamped stamp number) other d
 due_once nodes schedule (Report node reading) (Stamped stamp number) (Stamped stamp2 number2) due also =
     issued_once _ _ stamp stamp2 number number2 due also
 due_once nodes schedule (Report node reading) (Stamped stamp number) other due also = absurd also
+due_once nodes schedule (Retire node reading) (Stamped stamp number) (Stamped stamp2 number2) due also =
+    issued_once _ _ stamp stamp2 number number2 due also
+due_once nodes schedule (Retire node reading) (Stamped stamp number) other due also = absurd also
+due_once nodes schedule Join (Joined node start) (Joined node2 start2) due also =
+    let n : node ≡ node2 = due.0 ∙ sym also.0 in
+    let s : start ≡ start2 = due.1 ∙ sym also.1 in cc
+due_once nodes schedule Join (Joined node start) other due also = absurd also
 due_once nodes schedule (Send node reading) (Sent stamp number) (Sent stamp2 number2) due also =
     let stamps : ◌≡◌ {A = Result ℕ ClockFault} (Ok stamp) (Ok stamp2) = sym due.0 ∙ also.0 in
     let s : stamp ≡ stamp2 = cc in
@@ -101,7 +109,7 @@ due_once nodes schedule (Receive node reading message) (Received stamp) (Receive
 due_once nodes schedule (Receive node reading message) (Received stamp) other due also = absurd also
 due_once nodes schedule (Deliver node number) (Accepted stamp) (Accepted stamp2) due also =
     ap Accepted
-    (same_acceptance nodes node number (core_past schedule) (item_at node number schedule) stamp stamp2 due also)
+    (same_acceptance nodes node (core_past schedule) (item_at node number schedule) stamp stamp2 due also)
 due_once nodes schedule (Deliver node number) (Accepted stamp) other due also = absurd also
 due_once nodes schedule (Observe node reading id) (Observed stamp) (Observed stamp2) due also =
     ap Observed (same_observation _ _ reading stamp stamp2 due also)
@@ -146,6 +154,7 @@ given_cases : (nodes : ℕ) (schedule : List (Event × Reply)) (event : Event) (
 given_cases nodes schedule event (Refused refusal) (inl due) = inl (refusal, refl, inl due)
 given_cases nodes schedule event (Refused refusal) (inr lost) = inl (refusal, refl, inr lost.1)
 given_cases nodes schedule event (Stamped stamp item) given = inr given
+given_cases nodes schedule event (Joined node start) given = inr given
 given_cases nodes schedule event (Sent stamp message) given = inr given
 given_cases nodes schedule event (Received stamp) given = inr given
 given_cases nodes schedule event (Observed stamp) given = inr given

@@ -4,9 +4,10 @@ use Rattle.hlc_clock.specs.Stamp.{stamp_text}
 use Rattle.hlc_text.specs.Text.{bytes_token, AreBytes}
 use Rattle.hlc_text.specs.Lines.{spaced}
 use Rattle.hlc_world.specs.Schedule.{Event}
-use Rattle.hlc_world.specs.declared.event.Event.TheVariants.{Write, Delete, Report, Send, Receive, Observe, Deliver}
-use Rattle.hlc_world.specs.declared.event.Event.TheVariants.{OpenAt, OpenFloor, Read, List as ListAll, Close, Floor}
-use Rattle.hlc_world.specs.declared.event.Event.TheVariants.{Vacuum, Rows}
+use Rattle.hlc_world.specs.declared.event.Event.TheVariants.{Write, Delete, Report, Retire, Join, Send, Receive}
+use Rattle.hlc_world.specs.declared.event.Event.TheVariants.{Observe}
+use Rattle.hlc_world.specs.declared.event.Event.TheVariants.{Deliver, OpenAt, OpenFloor, Read, List as ListAll, Close}
+use Rattle.hlc_world.specs.declared.event.Event.TheVariants.{Floor, Vacuum, Rows}
 
 -- the words of an event
 abbrev pub event_words : Event → List (List ℕ)
@@ -14,6 +15,8 @@ event_words (Write node reading key value) =
     codes "write" ∷ decimal node ∷ decimal reading ∷ bytes_token key ∷ bytes_token value ∷ []
 event_words (Delete node reading key) = codes "delete" ∷ decimal node ∷ decimal reading ∷ bytes_token key ∷ []
 event_words (Report node reading) = codes "report" ∷ decimal node ∷ decimal reading ∷ []
+event_words (Retire node reading) = codes "retire" ∷ decimal node ∷ decimal reading ∷ []
+event_words Join = codes "join" ∷ []
 event_words (Send node reading) = codes "send" ∷ decimal node ∷ decimal reading ∷ []
 event_words (Receive node reading message) = codes "receive" ∷ decimal node ∷ decimal reading ∷ decimal message ∷ []
 event_words (Observe node reading id) = codes "observe" ∷ decimal node ∷ decimal reading ∷ decimal id ∷ []
@@ -36,6 +39,8 @@ abbrev pub HasLine : Event → Type 0
 HasLine (Write node reading key value) = (node < 2 ^ 16) × (reading < 2 ^ 64) × AreBytes key × AreBytes value
 HasLine (Delete node reading key) = (node < 2 ^ 16) × (reading < 2 ^ 64) × AreBytes key
 HasLine (Report node reading) = (node < 2 ^ 16) × (reading < 2 ^ 64)
+HasLine (Retire node reading) = (node < 2 ^ 16) × (reading < 2 ^ 64)
+HasLine Join = ⊤
 HasLine (Send node reading) = (node < 2 ^ 16) × (reading < 2 ^ 64)
 HasLine (Receive node reading message) = (node < 2 ^ 16) × (reading < 2 ^ 64) × (message < 2 ^ 64)
 HasLine (Observe node reading id) = (node < 2 ^ 16) × (reading < 2 ^ 64) × (id < 2 ^ 64)
@@ -64,6 +69,6 @@ header_words nodes = codes "nodes" ∷ decimal nodes ∷ []
 abbrev pub header_line : ℕ → List ℕ
 header_line nodes = spaced (header_words nodes)
 
--- a script is of 1 to 64 nodes
+-- a script starts with 1 to 64 nodes
 abbrev pub HasHeader : ℕ → Type 0
 HasHeader nodes = (0 < nodes) × (nodes ≤ 64)

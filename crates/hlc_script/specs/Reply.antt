@@ -6,13 +6,15 @@ use Rattle.hlc_text.specs.Text.{bytes_token, printed}
 use Rattle.hlc_core.specs.declared.listing.Pair.{Pair}
 use Rattle.hlc_vacuum.specs.declared.report.Report.{Report}
 use Rattle.hlc_world.specs.declared.reply.Reply.{Reply}
-use Rattle.hlc_world.specs.declared.reply.Reply.TheVariants.{Stamped, Sent, Received, Observed, Accepted, Snapshot}
-use Rattle.hlc_world.specs.declared.reply.Reply.TheVariants.{Answer, Listing, Closed, Floor, Vacuumed, Rows, Refused}
+use Rattle.hlc_world.specs.declared.reply.Reply.TheVariants.{Stamped, Joined, Sent, Received, Observed, Accepted}
+use Rattle.hlc_world.specs.declared.reply.Reply.TheVariants.{Snapshot, Answer, Listing, Closed, Floor, Vacuumed, Rows}
+use Rattle.hlc_world.specs.declared.reply.Reply.TheVariants.{Refused}
 use Rattle.hlc_world.specs.declared.refusal.Refusal.{Refusal}
 use Rattle.hlc_world.specs.declared.refusal.Refusal.TheVariants.{NoNode, ReadingTooLarge, CounterFull, NoMessage}
 use Rattle.hlc_world.specs.declared.refusal.Refusal.TheVariants.{NoItem, NotNext, StampNotRising, AboveFloor}
 use Rattle.hlc_world.specs.declared.refusal.Refusal.TheVariants.{BelowHorizon, NoSnapshot, TooManySnapshots, BadKey}
-use Rattle.hlc_world.specs.declared.refusal.Refusal.TheVariants.{ValueTooLong, NumbersSpent, NoMemory}
+use Rattle.hlc_world.specs.declared.refusal.Refusal.TheVariants.{ValueTooLong, NumbersSpent, NoMemory, TooManyNodes}
+use Rattle.hlc_world.specs.declared.refusal.Refusal.TheVariants.{Retired}
 use Rattle.hlc_certificate.specs.CertificateText.{witness_line}
 
 -- a refusal's number, and what it tells behind it
@@ -32,6 +34,8 @@ refusal_line BadKey = codes "refused 12"
 refusal_line ValueTooLong = codes "refused 13"
 refusal_line NumbersSpent = codes "refused 14"
 refusal_line NoMemory = codes "refused 15"
+refusal_line TooManyNodes = codes "refused 26"
+refusal_line Retired = codes "refused 27"
 
 -- the value of a key, or none
 abbrev pub answer_line : Option (List ℕ) → List ℕ
@@ -52,6 +56,7 @@ report_line report =
 -- the first line of a reply
 abbrev pub reply_line : Reply → List ℕ
 reply_line (Stamped stamp item) = (codes "stamp " ++ stamp_text stamp) ++ (codes " item " ++ decimal item)
+reply_line (Joined node start) = (codes "joined " ++ decimal node) ++ (codes " start " ++ stamp_text start)
 reply_line (Sent stamp message) = (codes "stamp " ++ stamp_text stamp) ++ (codes " message " ++ decimal message)
 reply_line (Received stamp) = codes "stamp " ++ stamp_text stamp
 reply_line (Observed stamp) = codes "stamp " ++ stamp_text stamp

@@ -46,6 +46,8 @@ pub fn owned_event(alloc: Global, event: Event<Spelled<'_>>) -> Result<Event, Al
             key: Bytes::from_vec(key.to_vec(alloc)?),
         },
         Event::Report { node, reading } => Event::Report { node, reading },
+        Event::Retire { node, reading } => Event::Retire { node, reading },
+        Event::Join => Event::Join,
         Event::Send { node, reading } => Event::Send { node, reading },
         Event::Receive {
             node,
@@ -81,6 +83,12 @@ fn event_of_words<'a>(words: &mut Words<'a>) -> Option<Event<Spelled<'a>>>
     }
     if verb == b"report".as_slice() {
         return report_line(words);
+    }
+    if verb == b"retire".as_slice() {
+        return retire_line(words);
+    }
+    if verb == b"join".as_slice() {
+        return join_line(words);
     }
     if verb == b"send".as_slice() {
         return send_line(words);
@@ -145,6 +153,24 @@ fn report_line<'a>(words: &mut Words<'a>) -> Option<Event<Spelled<'a>>>
 {
     let (node, reading) = node_number(words)?;
     Some(Event::Report { node, reading })
+}
+
+/// The event of the words behind `retire`.
+fn retire_line<'a>(words: &mut Words<'a>) -> Option<Event<Spelled<'a>>>
+    ensures { Reads event_words HasLine (codes "retire" ∷ words.old) result }
+{
+    let (node, reading) = node_number(words)?;
+    Some(Event::Retire { node, reading })
+}
+
+/// The event of the words behind `join`, where none stands.
+fn join_line<'a>(words: &mut Words<'a>) -> Option<Event<Spelled<'a>>>
+    ensures { Reads event_words HasLine (codes "join" ∷ words.old) result }
+{
+    if words.next().is_some() {
+        return None;
+    }
+    Some(Event::Join)
 }
 
 /// The event of the words behind `send`.

@@ -62,6 +62,10 @@ fn put_reply_text<W: Write>(writer: &mut Watched<W>, waiting: &mut Waiting, repl
             put_named_stamp(writer, waiting, b"stamp ", *stamp);
             put_named_number(writer, waiting, b" item ", *item);
         }
+        Reply::Joined { node, start } => {
+            put_named_number(writer, waiting, b"joined ", *node as u64);
+            put_named_stamp(writer, waiting, b" start ", *start);
+        }
         Reply::Sent { stamp, message } => {
             put_named_stamp(writer, waiting, b"stamp ", *stamp);
             put_named_number(writer, waiting, b" message ", *message);
@@ -132,5 +136,7 @@ pub fn put_refusal<W: Write>(writer: &mut Watched<W>, waiting: &mut Waiting, ref
         Refusal::ValueTooLong => put(writer, waiting, b"refused 13"),
         Refusal::NumbersSpent => put(writer, waiting, b"refused 14"),
         Refusal::NoMemory => put(writer, waiting, b"refused 15"),
+        Refusal::TooManyNodes => put(writer, waiting, b"refused 26"),
+        Refusal::Retired => put(writer, waiting, b"refused 27"),
     }
 }

@@ -7,11 +7,11 @@ use Rattle.std.specs.Prelude.{Contains}
 use Rattle.std.proofs.lemmas.Bool.{cases_eq}
 use Rattle.std.proofs.lemmas.List.Elements.{Contains-append_left, Contains-push}
 use Rattle.hlc_node.specs.declared.item.Item.{Item}
-use Rattle.hlc_node.specs.declared.item.Body.TheVariants.{Write as a_write, Report as a_report}
+use Rattle.hlc_node.specs.declared.item.Body.TheVariants.{Write as a_write, Report as a_report, Retire as a_retire}
 use Rattle.hlc_snapshot.proofs.RegisterLemmas.{stamp_in-all}
 use Rattle.hlc_core.specs.Past.{floor, open_snapshots}
 use Rattle.hlc_core.proofs.PastLemmas.{open-low}
-use Rattle.hlc_world.specs.declared.event.Event.TheVariants.{Write, Delete, Report}
+use Rattle.hlc_world.specs.declared.event.Event.TheVariants.{Write, Delete, Report, Retire}
 use Rattle.hlc_world.specs.declared.reply.Reply.{Reply}
 use Rattle.hlc_world.specs.declared.reply.Reply.TheVariants.{Stamped}
 use Rattle.hlc_world.specs.Schedule.{Event, an_item, item_made, stamping_of, with_item, issued}
@@ -35,6 +35,8 @@ made-stamped (Delete n r key) (Stamped st k) item is =
     ap (λ (x : Item). Some (x.node, x.stamp)) (some-injective (an_item n k st (a_write key None)) item is)
 made-stamped (Report n r) (Stamped st k) item is =
     ap (λ (x : Item). Some (x.node, x.stamp)) (some-injective (an_item n k st (a_report)) item is)
+made-stamped (Retire n r) (Stamped st k) item is =
+    ap (λ (x : Item). Some (x.node, x.stamp)) (some-injective (an_item n k st (a_retire)) item is)
 made-stamped _ _ item is = absurd (cc)
 
 issued-stamped : (s : List (Event × Reply)) (turn : ℕ) (item : Item) → IsIssuedAt s turn item

@@ -1,15 +1,15 @@
--- A delivery is answered as is due: an issued item is refused by the store for its number alone, as the schedule says.
-use Rattle.std.proofs.Common.{◌≡◌, ℕ, ◌<◌, List, ◌∷◌, Some, None, Option, Ok, Err, Result, refl, ap, sym, ◌∙◌, subst}
-use Rattle.std.proofs.Common.{inl, inr}
-use Rattle.std.proofs.Common.{arith}
+-- A delivery is answered as is due: an issued item is refused by the store for its number alone, or since its node's
+-- last item was accepted, as the schedule says.
+use Rattle.std.proofs.Common.{◌≡◌, ℕ, ◌<◌, List, ◌∷◌, length, Some, None, Option, Ok, Err, Result, refl, ap, sym, ◌∙◌}
+use Rattle.std.proofs.Common.{subst, inl, inr, arith}
 use Rattle.std.specs.Prelude.{not, MatchResult, slice_get}
-use Rattle.std.proofs.lemmas.Bool.{cond-true, cond-false, lt-leb, eq-eqb, ne_eqb, cases_eq}
+use Rattle.std.proofs.lemmas.Bool.{cond-true, cond-false, lt-leb, eq-eqb, ne_eqb, cases_eq, cases_Bool}
 use Rattle.hlc_node.specs.declared.item.Item.{Item}
+use Rattle.hlc_node.specs.Items.{retires}
 use Rattle.hlc_core.specs.declared.fault.CoreFault.{CoreFault}
 use Rattle.hlc_core.specs.declared.fault.CoreFault.TheVariants as core_fault
-use Rattle.hlc_core.specs.declared.reply.CoreReply.TheVariants.{Accepted as accepted}
 use Rattle.hlc_floor.specs.Heads.{Acceptance}
-use Rattle.hlc_core.specs.Past.{Took, count, head, of_body as body_fault, item_refusal}
+use Rattle.hlc_core.specs.Past.{Took, numbered, retired, count, head, of_body as body_fault, item_refusal}
 use Rattle.hlc_core.specs.Kept.{Kept, nodes, StandsFor as CoreStandsFor}
 use Rattle.hlc_core.specs.Calls.{IsRefusal, IsWrite}
 use Rattle.hlc_world.specs.declared.event.Event.TheVariants.{Deliver}
@@ -17,109 +17,119 @@ use Rattle.hlc_world.specs.declared.reply.Reply.{Reply}
 use Rattle.hlc_world.specs.declared.reply.Reply.TheVariants.{Accepted, Refused}
 use Rattle.hlc_world.specs.declared.refusal.Refusal.TheVariants.{NoMemory}
 use Rattle.hlc_world.specs.Schedule.{Event, item_at}
-use Rattle.hlc_world.specs.Store.{accepting, joined, store_history, core_past}
-use Rattle.hlc_world.specs.Due.{of_core, core_refusal, on_node, deliver_refusal, refusal_due, number_refusal}
+use Rattle.hlc_world.specs.Store.{accepting, accepted, paired, store_history, core_past}
+use Rattle.hlc_world.specs.Due.{of_core, core_refusal, on_link, deliver_refusal, refusal_due, number_refusal}
 use Rattle.hlc_world.specs.Due.{GoesByNumber}
 use Rattle.hlc_world.specs.Due.{IsOwed, StoreMayLack, IsLegal}
-use Rattle.hlc_world.specs.State.{KeptIssuer, State, world_nodes, IsMatched, StandsFor}
+use Rattle.hlc_world.specs.State.{KeptIssuer, State, world_nodes, StandsFor}
 use Rattle.hlc_world.proofs.Lists.{some-injective}
-use Rattle.hlc_world.proofs.Nodes.{stays, on_node-inside}
+use Rattle.hlc_world.proofs.Nodes.{stays, on_link-inside}
 use Rattle.hlc_world.proofs.Orderly.{IsOrderly, orderly, past_taken}
 
--- the core refuses an issued item for its number alone
+-- the core refuses an issued item for its number alone, or since its node's last item was accepted
 by-number : (n : ℕ) (s : List (Event × Reply)) (p k : ℕ) (item : Item) → IsOrderly n s → item_at p k s ≡ Some item
-    → core_refusal (item_refusal n (core_past s) item) ≡ number_refusal (Some item) k (count p (core_past s))
+    → core_refusal (item_refusal n (core_past s) item)
+    ≡ number_refusal (Some item) (retired p (core_past s)) k (count p (core_past s))
 by-number n s p k item o at =
     let i = o.each p k item at in
     let own : item.node ≡ p = i.node in
-    let inside : item.node < n = subst (λ j. j < n) (sym own) i.inside in
+    let inside : item.node < numbered n (core_past s) = subst (λ j. j < numbered n (core_past s)) (sym own) i.inside in
     let c : count item.node (core_past s) ≡ count p (core_past s) = ap (λ j. count j (core_past s)) own in
-    elim (cases_eq k (count p (core_past s))) [
-      | inl next ↦
-          let top : head item.node (core_past s) ≡ head p (core_past s) = ap (λ j. head j (core_past s)) own in
-          let up : head p (core_past s) < item.stamp = i.ahead (omega arith) in
-          let none : item_refusal n (core_past s) item ≡ None =
-          cond-false _ _ _ (lt-leb n item.node inside)
-          ∙ cond-false _ _ _ (ap not (eq-eqb _ _ (i.number ∙ next ∙ sym c)))
-          ∙ cond-false _ _ _ (ne_eqb _ _ (λ e. i.left (sym i.number ∙ e)))
-          ∙ cond-false _ _ _ (lt-leb item.stamp (head item.node (core_past s)) (omega arith))
-          ∙ ap body_fault i.body in
-          ap core_refusal none ∙ sym (cond-true _ _ _ (eq-eqb _ _ next))
-      | inr other ↦
-          let not_next : item_refusal n (core_past s) item ≡ Some (core_fault.NotNext (count p (core_past s))) =
-          cond-false _ _ _ (lt-leb n item.node inside)
-          ∙ cond-true _ _ _ (ap not (ne_eqb _ _ (λ e. other (sym i.number ∙ e ∙ c))))
-          ∙ ap (λ x. Some (core_fault.NotNext x)) c in
-          ap core_refusal not_next ∙ sym (cond-false _ _ _ (ne_eqb _ _ other))
+    let out : retired item.node (core_past s) ≡ retired p (core_past s) = ap (λ j. retired j (core_past s)) own in
+    elim (cases_Bool (retired p (core_past s))) [
+      | inl over ↦
+          let is_out : item_refusal n (core_past s) item ≡ Some core_fault.Retired =
+          cond-false _ _ _ (lt-leb (numbered n (core_past s)) item.node inside) ∙ cond-true _ _ _ (out ∙ over) in
+          ap core_refusal is_out ∙ sym (cond-true _ _ _ over)
+      | inr here ↦
+          elim (cases_eq k (count p (core_past s))) [
+            | inl next ↦
+                let top : head item.node (core_past s) ≡ head p (core_past s) = ap (λ j. head j (core_past s)) own in
+                let up : head p (core_past s) < item.stamp = i.ahead (omega arith) in
+                let none : item_refusal n (core_past s) item ≡ None =
+                cond-false _ _ _ (lt-leb (numbered n (core_past s)) item.node inside)
+                ∙ cond-false _ _ _ (out ∙ here)
+                ∙ cond-false _ _ _ (ap not (eq-eqb _ _ (i.number ∙ next ∙ sym c)))
+                ∙ cond-false _ _ _ (ne_eqb _ _ (λ e. i.left (sym i.number ∙ e)))
+                ∙ cond-false _ _ _ (lt-leb item.stamp (head item.node (core_past s)) (omega arith))
+                ∙ ap body_fault i.body in
+                ap core_refusal none ∙ sym (cond-false _ _ _ here ∙ cond-true _ _ _ (eq-eqb _ _ next))
+            | inr other ↦
+                let not_next : item_refusal n (core_past s) item ≡ Some (core_fault.NotNext (count p (core_past s))) =
+                cond-false _ _ _ (lt-leb (numbered n (core_past s)) item.node inside)
+                ∙ cond-false _ _ _ (out ∙ here)
+                ∙ cond-true _ _ _ (ap not (ne_eqb _ _ (λ e. other (sym i.number ∙ e ∙ c))))
+                ∙ ap (λ x. Some (core_fault.NotNext x)) c in
+                ap core_refusal not_next ∙ sym (cond-false _ _ _ here ∙ cond-false _ _ _ (ne_eqb _ _ other))
+          ]
     ]
 
 found-number : (n : ℕ) (s : List (Event × Reply)) (p k : ℕ) (o : Option Item) → IsOrderly n s → item_at p k s ≡ o
-    → deliver_refusal n (core_past s) o ≡ number_refusal o k (count p (core_past s))
+    → deliver_refusal n (core_past s) o ≡ number_refusal o (retired p (core_past s)) k (count p (core_past s))
 found-number n s p k None ordered at = refl
 found-number n s p k (Some item) ordered at = by-number n s p k item ordered at
 
--- so a delivery is refused for its number alone
+-- so is a delivery
 pub goes-by-number : (n : ℕ) (s : List (Event × Reply)) → IsLegal n s → GoesByNumber n s
 goes-by-number n s legal =
-    λ p k. ap (λ rest. on_node n p rest) (found-number n s p k (item_at p k s) (orderly n s legal) refl)
+    λ p k. ap (λ rest. on_link n s p rest) (found-number n s p k (item_at p k s) (orderly n s legal) refl)
 
 -- why the world refuses to deliver an issued item is why the core does
 due : (n : ℕ) (s : List (Event × Reply)) (p k : ℕ) (item : Item) → IsOrderly n s → item_at p k s ≡ Some item
     → refusal_due n s (Deliver p k) ≡ core_refusal (item_refusal n (core_past s) item)
-due n s p k item o at = on_node-inside n p _ (o.each p k item at).inside
+due n s p k item o at = on_link-inside n s p _ (o.each p k item at).inside
     ∙ ap (λ x. deliver_refusal n (core_past s) x) at
 
 -- the item that the world finds is the issued one
 pub found : (state : State) (s : List (Event × Reply)) (p k : ℕ) (issuer : KeptIssuer) (item : Item) → StandsFor state s
-    → p < world_nodes state → slice_get state.nodes p ≡ Some issuer → Some item ≡ slice_get issuer.issued k
+    → p < length state.nodes → slice_get state.nodes p ≡ Some issuer → Some item ≡ slice_get issuer.issued k
     → item_at p k s ≡ Some item
 found state s p k issuer item h inside at in_items =
     ap (λ x. slice_get x.issued k) (some-injective _ _ (sym (h.nodes p inside) ∙ at)) ∙ sym in_items
 
 -- the core refuses the item, memory aside
-refused : (state : State) (s : List (Event × Reply)) (p k : ℕ) (item : Item) (f : CoreFault) → IsMatched state
+refused : (state : State) (s : List (Event × Reply)) (p k : ℕ) (item : Item) (f : CoreFault)
     → StandsFor state s → item_at p k s ≡ Some item → item_refusal (nodes state.core) (core_past s) item ≡ Some f
     → StandsFor state ((Deliver p k, Refused (of_core f)) ∷ s)
-refused state s p k item f matched h at refusal =
+refused state s p k item f h at refusal =
     stays state s (Deliver p k) (of_core f) refl refl refl refl
-    (inl (due (world_nodes state) s p k item (orderly (world_nodes state) s h.legal) at
-    ∙ ap core_refusal (subst (λ n. item_refusal n (core_past s) item ≡ Some f) matched refusal))) h
+    (inl (due (world_nodes state) s p k item (orderly (world_nodes state) s h.legal) at ∙ ap core_refusal refusal)) h
 
 -- there is no memory for it, which a write alone may want
-no_memory : (state : State) (s : List (Event × Reply)) (p k : ℕ) (item : Item) → IsMatched state → StandsFor state s
+no_memory : (state : State) (s : List (Event × Reply)) (p k : ℕ) (item : Item) → StandsFor state s
     → item_at p k s ≡ Some item → item_refusal (nodes state.core) (core_past s) item ≡ None → IsWrite item.body
     → StandsFor state ((Deliver p k, Refused NoMemory) ∷ s)
-no_memory state s p k item matched h at none takes =
+no_memory state s p k item h at none takes =
     stays state s (Deliver p k) NoMemory refl refl refl refl
     (inr (
-      due (world_nodes state) s p k item (orderly (world_nodes state) s h.legal) at ∙ ap core_refusal
-          (subst (λ n. item_refusal n (core_past s) item ≡ None) matched none),
+      due (world_nodes state) s p k item (orderly (world_nodes state) s h.legal) at ∙ ap core_refusal none,
       refl,
       subst (λ o. StoreMayLack (core_past s) (accepting o)) (sym at) takes,
     )) h
 
 -- the core accepts it
-taken : (state : State) (s : List (Event × Reply)) (p k : ℕ) (item : Item) (core : Kept) → IsMatched state
-    → StandsFor state s
+taken : (state : State) (s : List (Event × Reply)) (p k : ℕ) (item : Item) (core : Kept)
+    → nodes core ≡ nodes state.core → StandsFor state s
     → item_at p k s ≡ Some item → item_refusal (nodes state.core) (core_past s) item ≡ None
     → CoreStandsFor core (Took item ∷ core_past s)
     → StandsFor (record { core = core; nodes = state.nodes; messages = state.messages })
     ((Deliver p k, Accepted item.stamp) ∷ s)
-taken state s p k item core matched h at none took =
+taken state s p k item core same h at none took =
     let ordered = orderly (world_nodes state) s h.legal in
-    let acceptance : ℕ → Acceptance = λ j. record { node = j; stamp = item.stamp } in
+    let acceptance : ℕ → Acceptance = λ j. record { node = j; stamp = item.stamp; retires = retires item.body } in
     record {
-      legal = (
+      legal = subst (λ n. IsLegal n ((Deliver p k, Accepted item.stamp) ∷ s)) (sym same) (
         (
-          due (world_nodes state) s p k item ordered at ∙ ap core_refusal
-              (subst (λ n. item_refusal n (core_past s) item ≡ None) matched none),
-          subst (λ o. IsOwed (world_nodes state) (core_past s) (joined (Some (accepted (acceptance p))) (accepting o)))
+          due (world_nodes state) s p k item ordered at ∙ ap core_refusal none,
+          subst (λ o. IsOwed (world_nodes state) (core_past s) (paired (accepted p item.stamp o) (accepting o)))
               (sym at)
               (ap acceptance (sym (ordered.each p k item at).node)),
         ),
         h.legal,
       );
-      core = subst (λ o. CoreStandsFor core (past_taken (acceptance p) o (store_history s))) (sym at) took;
+      core = subst (λ o. CoreStandsFor core (past_taken p item.stamp o (store_history s))) (sym at) took;
+      many = subst (λ o. length state.nodes ≡ numbered (nodes core) (past_taken p item.stamp o (store_history s)))
+          (sym at) (h.many ∙ ap (λ n. numbered n (core_past s)) (sym same));
       nodes = h.nodes;
       messages = h.messages;
     }
@@ -132,7 +142,7 @@ reply_of (Err fault) = Refused (of_core fault)
 -- what the core answers to the item
 pub answered : (state : State) (s : List (Event × Reply)) (p k : ℕ) (item : Item) (core : Kept)
     (result : Result ℕ CoreFault)
-    → IsMatched state → StandsFor state s → item_at p k s ≡ Some item
+    → nodes core ≡ nodes state.core → StandsFor state s → item_at p k s ≡ Some item
     → MatchResult result
     (λ stamp. (stamp ≡ item.stamp) × (item_refusal (nodes state.core) (core_past s) item ≡ None) × CoreStandsFor core
     (Took item ∷ core_past s))
@@ -140,17 +150,17 @@ pub answered : (state : State) (s : List (Event × Reply)) (p k : ℕ) (item : I
     × (core ≡ state.core))
     → StandsFor (record { core = core; nodes = state.nodes; messages = state.messages })
     ((Deliver p k, reply_of result) ∷ s)
-answered state s p k item core (Ok stamp) matched h at a =
+answered state s p k item core (Ok stamp) same h at a =
     let t : StandsFor (record { core = core; nodes = state.nodes; messages = state.messages })
     ((Deliver p k, Accepted item.stamp) ∷ s) =
-    taken state s p k item core matched h at a.1 a.2 in
+    taken state s p k item core same h at a.1 a.2 in
     subst (λ x. StandsFor (record { core = core; nodes = state.nodes; messages = state.messages })
     ((Deliver p k, Accepted x) ∷ s)) (sym a.0) t
-answered state s p k item core (Err f) matched h at a =
+answered state s p k item core (Err f) same h at a =
     subst (λ x. StandsFor (record { core = x; nodes = state.nodes; messages = state.messages })
     ((Deliver p k, Refused (of_core f)) ∷ s)) (sym a.1)
     (elim a.0 [
-      | inl due ↦ refused state s p k item f matched h at due
+      | inl due ↦ refused state s p k item f h at due
       | inr lost ↦ subst (λ x. StandsFor state ((Deliver p k, Refused (of_core x)) ∷ s)) (sym lost.1)
-          (no_memory state s p k item matched h at lost.0 lost.2)
+          (no_memory state s p k item h at lost.0 lost.2)
     ])

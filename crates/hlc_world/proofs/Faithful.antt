@@ -1,20 +1,17 @@
 -- What is promised of a whole schedule follows from the world's standing for it: the core stands for the store's
--- history, which is legal,
--- so the core is faithful to it; each moment of the schedule is one of that history; and each moment of a legal
--- schedule is legal, so
--- what can be read there is closed.
+-- history, which is legal, so the core is faithful to it; each moment of the schedule is one of that history; and each
+-- moment of a legal schedule is legal, so what can be read there is closed.
 use Rattle.std.proofs.Common.{ℕ, List, [], ◌∷◌, ◌++◌, Some, None, Option, refl, ap, sym, subst}
 use Rattle.hlc_core.specs.declared.event.CoreEvent.{CoreEvent}
 use Rattle.hlc_core.specs.declared.reply.CoreReply.{CoreReply}
-use Rattle.hlc_core.specs.Kept.{nodes}
-use Rattle.hlc_core.specs.History.{IsLegalHistory, StandsForHistory}
-use Rattle.hlc_core.specs.Headline.{IsMoment as IsStoreMoment, IsFaithful as IsStoreFaithful}
+use Rattle.hlc_core.specs.History.{StandsForHistory}
+use Rattle.hlc_core.specs.Headline.{IsMoment as IsStoreMoment}
 use Rattle.hlc_core.proofs.FaithfulLemmas.{histories_are_faithful}
 use Rattle.hlc_world.specs.Schedule.{Event}
 use Rattle.hlc_world.specs.declared.reply.Reply.{Reply}
 use Rattle.hlc_world.specs.Store.{share, with_entry, store_history}
 use Rattle.hlc_world.specs.Due.{IsLegal}
-use Rattle.hlc_world.specs.State.{State, world_nodes, IsMatched, StandsFor}
+use Rattle.hlc_world.specs.State.{State, world_nodes, StandsFor}
 use Rattle.hlc_world.specs.Headline.{MomentsAreTold, ReadsAreClosed, IsFaithful}
 use Rattle.hlc_world.proofs.Histories.{history-legal}
 use Rattle.hlc_world.proofs.Closure.{closed}
@@ -50,20 +47,14 @@ reads-closed nodes s legal =
     (before-legal nodes moment.later before (subst (λ x. IsLegal nodes x) moment.order legal))
 
 -- the core stands for the store's history
-stands : (state : State) (s : List (Event × Reply)) → IsMatched state → StandsFor state s
-    → StandsForHistory state.core (store_history s)
-stands state s matched h = record {
-  legal = subst (λ n. IsLegalHistory n (store_history s)) (sym matched) (history-legal (world_nodes state) s h.legal);
-  core = h.core;
-}
+stands : (state : State) (s : List (Event × Reply)) → StandsFor state s → StandsForHistory state.core (store_history s)
+stands state s h = record { legal = history-legal (world_nodes state) s h.legal; core = h.core }
 
 -- a world is faithful to each schedule that it stands for
-pub faithful : (state : State) (s : List (Event × Reply)) → IsMatched state → StandsFor state s
+pub faithful : (state : State) (s : List (Event × Reply)) → StandsFor state s
     → IsFaithful (world_nodes state) s state.core.rows
-faithful state s matched h = record {
-  store =
-      subst (λ n. IsStoreFaithful n (store_history s) state.core.rows) matched
-      (histories_are_faithful state.core (store_history s) (stands state s matched h));
+faithful state s h = record {
+  store = histories_are_faithful state.core (store_history s) (stands state s h);
   moments = moments-told s;
   closed = reads-closed (world_nodes state) s h.legal;
 }

@@ -1,21 +1,21 @@
--- The floor is complete: an issued item at or below the floor is not above its node's head, so it was accepted, since a
--- node's items are accepted in order and what was not yet accepted lies above the head.
--- No head is above its node's clock, so the floor is not.
+-- The floor is complete: where a node's last item was accepted, all of its items were; else an issued item at or below
+-- the floor is not above its node's head, so it was accepted, since a node's items are accepted in order and what was
+-- not yet accepted lies above the head. No head is above its node's clock, so the floor is not.
 use Rattle.std.proofs.Common.{◌≡◌, ℕ, ◌+◌, ◌<◌, ◌≤◌, List, [], ◌∷◌, ◌++◌, length, Some, None, Option, refl, ap, sym}
 use Rattle.std.proofs.Common.{◌∙◌, subst, inl, inr, arith, length-append}
 use Rattle.std.specs.Prelude.{Contains, slice_get}
 use Rattle.std.proofs.lemmas.Option.{slice_get-get_or, slice_get_within}
-use Rattle.std.proofs.lemmas.Bool.{cases_lt, cases_eq}
+use Rattle.std.proofs.lemmas.Bool.{cases_lt, cases_eq, cases_Bool}
 use Rattle.std.proofs.lemmas.List.Elements.{Contains-append_left, Contains-append_right}
 use Rattle.hlc_node.specs.declared.item.Item.{Item}
-use Rattle.hlc_floor.specs.Heads.{Acceptance}
-use Rattle.hlc_core.specs.Past.{Step, Took, Opened, Closed as ClosedOf, Vacuumed as VacuumedOf, count, head, floor}
-use Rattle.hlc_core.proofs.PastLemmas.{least-le}
-use Rattle.hlc_world.specs.declared.event.Event.TheVariants.{Write, Delete, Report, Deliver, OpenAt, OpenFloor, Read}
-use Rattle.hlc_world.specs.declared.event.Event.TheVariants.{List as ListAll, Close, Vacuum}
+use Rattle.hlc_core.specs.Past.{Step, Took, Opened, Closed as ClosedOf, Vacuumed as VacuumedOf, Joined as JoinedOf}
+use Rattle.hlc_core.specs.Past.{retired, count, head, floor}
+use Rattle.hlc_core.proofs.PastLemmas.{floor-le}
+use Rattle.hlc_world.specs.declared.event.Event.TheVariants.{Write, Delete, Report, Retire, Join, Deliver, OpenAt}
+use Rattle.hlc_world.specs.declared.event.Event.TheVariants.{OpenFloor, Read, List as ListAll, Close, Vacuum}
 use Rattle.hlc_world.specs.declared.reply.Reply.{Reply}
-use Rattle.hlc_world.specs.declared.reply.Reply.TheVariants.{Stamped, Accepted, Snapshot, Answer, Listing, Closed}
-use Rattle.hlc_world.specs.declared.reply.Reply.TheVariants.{Vacuumed}
+use Rattle.hlc_world.specs.declared.reply.Reply.TheVariants.{Stamped, Joined, Accepted, Snapshot, Answer, Listing}
+use Rattle.hlc_world.specs.declared.reply.Reply.TheVariants.{Closed, Vacuumed}
 use Rattle.hlc_world.specs.Schedule.{Event, with_item, issued}
 use Rattle.hlc_world.specs.Store.{store_history, core_past}
 use Rattle.hlc_world.specs.Due.{IsGiven, IsLegal, deliver_refusal}
@@ -23,7 +23,8 @@ use Rattle.hlc_world.specs.Floor.{IsComplete, IsBelowClocks}
 use Rattle.hlc_world.proofs.Lists.{some-injective}
 use Rattle.hlc_world.proofs.Nodes.{with_item-same, with_item-other}
 use Rattle.hlc_world.proofs.Orderly.{IsOrderly, orderly, get-with_item, count-same, count-other, delivered, past_taken}
-use Rattle.hlc_world.proofs.Orderly.{on_node-none}
+use Rattle.hlc_world.proofs.Orderly.{on_link-none}
+use Rattle.hlc_world.proofs.Endings.{ended}
 
 -- the first items of a node, as many as were accepted, are those that were
 record AreTaken (items : List Item) (number : ℕ) (past : List Step) : Type 0 where
@@ -88,12 +89,12 @@ taken-took n p k item items past own at next h =
 abbrev AllTaken : List (Event × Reply) → Type 0
 AllTaken s = (n : ℕ) → AreTaken (issued n s) (count n (core_past s)) (core_past s)
 
-taken-delivered : (nodes : ℕ) (s : List (Event × Reply)) (p k : ℕ) (acceptance : Acceptance) (o : Option Item)
+taken-delivered : (nodes : ℕ) (s : List (Event × Reply)) (p k st : ℕ) (o : Option Item)
     → slice_get (issued p s) k ≡ o → deliver_refusal nodes (core_past s) o ≡ None → IsOrderly nodes s
-    → AllTaken s → (n : ℕ) → AreTaken (issued n s) (count n (past_taken acceptance o (store_history s)))
-    (past_taken acceptance o (store_history s))
-taken-delivered nodes s p k acceptance None at none ordered h n = h n
-taken-delivered nodes s p k acceptance (Some item) at none ordered h n =
+    → AllTaken s → (n : ℕ) → AreTaken (issued n s) (count n (past_taken p st o (store_history s)))
+    (past_taken p st o (store_history s))
+taken-delivered nodes s p k st None at none ordered h n = h n
+taken-delivered nodes s p k st (Some item) at none ordered h n =
     let is = ordered.each p k item at in
     taken-took n p k item (λ j. issued j s) (core_past s) is.node at
     (delivered nodes (core_past s) p k item is.node is.number none) (h n)
@@ -106,8 +107,12 @@ taken-entry nodes s (Delete p reading key) (Stamped st num) given ordered h =
     λ n. taken-issue n _ (issued n s) (count n (core_past s)) (core_past s) (h n)
 taken-entry nodes s (Report p reading) (Stamped st num) given ordered h =
     λ n. taken-issue n _ (issued n s) (count n (core_past s)) (core_past s) (h n)
-taken-entry nodes s (Deliver p k) (Accepted st) given ordered h = taken-delivered nodes s p k
-    (record { node = p; stamp = st }) (slice_get (issued p s) k) refl (on_node-none nodes p _ given.0).1 ordered h
+taken-entry nodes s (Retire p reading) (Stamped st num) given ordered h =
+    λ n. taken-issue n _ (issued n s) (count n (core_past s)) (core_past s) (h n)
+taken-entry nodes s Join (Joined node start) given ordered h =
+    λ n. taken-more (issued n s) (count n (core_past s)) (core_past s) (JoinedOf node start) (h n)
+taken-entry nodes s (Deliver p k) (Accepted st) given ordered h =
+    taken-delivered nodes s p k st (slice_get (issued p s) k) refl (on_link-none nodes s p _ given.0).1 ordered h
 taken-entry nodes s (OpenAt at) (Snapshot id st) given ordered h =
     λ n. taken-more (issued n s) (count n (core_past s)) (core_past s) (Opened st) (h n)
 taken-entry nodes s OpenFloor (Snapshot id st) given ordered h =
@@ -133,18 +138,22 @@ complete nodes s legal = λ item from low.
     let within : k < length (issued n s) = from.1.1 in
     let at : slice_get (issued n s) k ≡ Some item = slice_get-get_or (issued n s) k item within ∙ ap Some from.1.2 in
     let is = (orderly nodes s legal).each n k item at in
-    let least : floor nodes (core_past s) ≤ head n (core_past s) =
-    least-le (λ j. head j (core_past s)) nodes n is.inside in
     (taken nodes s legal n).each k item at
     (elim (cases_lt k (count n (core_past s))) [
       | inl before ↦ before
-      | inr later ↦ absurd (let up : head n (core_past s) < item.stamp = is.ahead later in
-          let low' : item.stamp ≤ floor nodes (core_past s) = low in omega arith)
+      | inr later ↦
+          elim (cases_Bool (retired n (core_past s))) [
+            | inl out ↦ (let each = ((ended nodes s legal).done n out).0 in omega (arith, within, each))
+            | inr here ↦ absurd
+                (let least : floor nodes (core_past s) ≤ head n (core_past s) =
+                floor-le nodes (core_past s) n is.inside here in
+                let up : head n (core_past s) < item.stamp = is.ahead later in
+                let low' : item.stamp ≤ floor nodes (core_past s) = low in omega arith)
+          ]
     ])
 
--- no clock is below the floor
+-- no clock of a node whose last item was not accepted is below the floor
 pub below_clocks : (nodes : ℕ) (s : List (Event × Reply)) → IsLegal nodes s → IsBelowClocks nodes s
-below_clocks nodes s legal = λ n inside.
-    let least : floor nodes (core_past s) ≤ head n (core_past s) =
-    least-le (λ j. head j (core_past s)) nodes n inside in
+below_clocks nodes s legal = λ n inside here.
+    let least : floor nodes (core_past s) ≤ head n (core_past s) = floor-le nodes (core_past s) n inside here in
     let low = (orderly nodes s legal).head_low n in omega (arith, low)

@@ -1,9 +1,7 @@
 -- The store's history of a legal schedule is legal, since what is due to an event that asks something of the store is
--- what the store
--- owes; and what took place in a legal history is a legal past.
+-- what the store owes; and what took place in a legal history is a legal past.
 use Rattle.std.proofs.Common.{◌≡◌, ℕ, ◌≤◌, List, [], ◌∷◌, Some, None, Option, ◌∙◌, sym, subst, arith}
 use Rattle.hlc_node.specs.declared.item.Item.{Item}
-use Rattle.hlc_floor.specs.Heads.{Acceptance}
 use Rattle.hlc_core.specs.declared.event.CoreEvent.{CoreEvent}
 use Rattle.hlc_core.specs.declared.event.CoreEvent.TheVariants as core_event
 use Rattle.hlc_core.specs.declared.reply.CoreReply.{CoreReply}
@@ -13,28 +11,28 @@ use Rattle.hlc_core.proofs.PastLemmas.{open-room, horizon-low}
 use Rattle.hlc_core.specs.Calls.{list_refusal}
 use Rattle.hlc_core.specs.History.{step_of, with_step, past_of, IsDue, IsLegalHistory}
 use Rattle.hlc_world.specs.declared.event.Event.TheVariants.{Deliver, OpenAt, OpenFloor, Read, List as ListAll, Close}
-use Rattle.hlc_world.specs.declared.event.Event.TheVariants.{Vacuum}
+use Rattle.hlc_world.specs.declared.event.Event.TheVariants.{Join, Vacuum}
 use Rattle.hlc_world.specs.declared.reply.Reply.{Reply}
-use Rattle.hlc_world.specs.declared.reply.Reply.TheVariants.{Accepted, Snapshot, Answer, Listing, Closed, Vacuumed}
+use Rattle.hlc_world.specs.declared.reply.Reply.TheVariants.{Accepted, Joined, Snapshot, Answer, Listing, Closed}
+use Rattle.hlc_world.specs.declared.reply.Reply.TheVariants.{Vacuumed}
 use Rattle.hlc_world.specs.Schedule.{Event, item_at}
-use Rattle.hlc_world.specs.Store.{accepting, joined, with_entry, store_history, core_past}
+use Rattle.hlc_world.specs.Store.{accepting, accepted, paired, with_entry, store_history, core_past}
 use Rattle.hlc_world.specs.Due.{deliver_refusal, IsOwed, IsGiven, IsLegal}
-use Rattle.hlc_world.proofs.Orderly.{no-core, on_node-none}
+use Rattle.hlc_world.proofs.Orderly.{no-core, on_link-none}
 
 -- the store's share of a delivery is due
-history-taken : (nodes : ℕ) (h : List (CoreEvent × CoreReply)) (acceptance : Acceptance) (o : Option Item)
+history-taken : (nodes : ℕ) (h : List (CoreEvent × CoreReply)) (p st : ℕ) (o : Option Item)
     → deliver_refusal nodes (past_of h) o ≡ None
-    → IsOwed nodes (past_of h) (joined (Some (core_reply.Accepted acceptance)) (accepting o)) → IsLegalHistory nodes h
-    → IsLegalHistory nodes (with_entry (joined (Some (core_reply.Accepted acceptance)) (accepting o)) h)
-history-taken nodes h acceptance None none owed legal = legal
-history-taken nodes h acceptance (Some item) none owed legal = ((no-core _ none, owed), legal)
+    → IsOwed nodes (past_of h) (paired (accepted p st o) (accepting o)) → IsLegalHistory nodes h
+    → IsLegalHistory nodes (with_entry (paired (accepted p st o) (accepting o)) h)
+history-taken nodes h p st None none owed legal = legal
+history-taken nodes h p st (Some item) none owed legal = ((no-core _ none, owed), legal)
 
 history-entry : (nodes : ℕ) (s : List (Event × Reply)) (event : Event) (reply : Reply) → IsGiven nodes s event reply
     → IsLegalHistory nodes (store_history s) → IsLegalHistory nodes (store_history ((event, reply) ∷ s))
 history-entry nodes s (Deliver p k) (Accepted st) given legal =
-    history-taken nodes (store_history s) (record { node = p; stamp = st }) (item_at p k s)
-    (on_node-none nodes p _ given.0).1
-    given.1 legal
+    history-taken nodes (store_history s) p st (item_at p k s) (on_link-none nodes s p _ given.0).1 given.1 legal
+history-entry nodes s Join (Joined node start) given legal = ((no-core _ given.0, given.1), legal)
 history-entry nodes s (OpenAt at) (Snapshot id st) given legal = ((no-core _ given.0, given.1), legal)
 history-entry nodes s OpenFloor (Snapshot id st) given legal = ((no-core _ given.0, given.1), legal)
 history-entry nodes s (Read id key) (Answer value) given legal = ((no-core _ given.0, given.1), legal)
@@ -62,6 +60,7 @@ past-step nodes past core_event.OpenFloor (core_reply.Opened id st) due legal =
     let low : horizon nodes past ≤ floor nodes past = horizon-low nodes past legal in
     (open-room nodes past st (omega arith) (omega arith) ∙ due.0, legal)
 past-step nodes past (core_event.Close id) (core_reply.Closed st) due legal = (no-list (stamp_of id past) due.0, legal)
+past-step nodes past core_event.Join (core_reply.Joined node start) due legal = (due.0, due.1.0, due.1.1, legal)
 past-step nodes past core_event.Vacuum (core_reply.Vacuumed report) due legal = legal
 past-step nodes past _ _ due legal = legal
 

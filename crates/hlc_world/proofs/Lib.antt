@@ -1,6 +1,7 @@
 pub mod Lists
 pub mod Nodes
 pub mod Orderly
+pub mod Endings
 pub mod Floors
 pub mod Rises
 pub mod Delivery
@@ -11,3 +12,4 @@ pub mod Histories
 pub mod Closure
 pub mod Faithful
 pub mod Runs
+pub mod Joins

@@ -1,35 +1,41 @@
 -- The world goes on standing for its schedule: new nodes, the events of nodes, and events that change nothing.
-use Rattle.std.proofs.Common.{◌≡◌, ℕ, zero, suc, ◌+◌, ◌<◌, List, [], ◌∷◌, ◌++◌, length, Some, None, Ok, Err, Option}
-use Rattle.std.proofs.Common.{refl, ap, sym, ◌∙◌, subst, inl, inr, arith, length-set, length-append}
-use Rattle.std.specs.Prelude.{slice_get, slice_set}
+use Rattle.std.proofs.Common.{◌≡◌, ℕ, zero, suc, ◌+◌, ◌<◌, Bool, true, false, List, [], ◌∷◌, ◌++◌, length, Some}
+use Rattle.std.proofs.Common.{None}
+use Rattle.std.proofs.Common.{Ok, Err, Option, Result, refl, ap, sym, ◌∙◌, subst, inl, inr, arith, length-set}
+use Rattle.std.proofs.Common.{length-append}
+use Rattle.std.specs.Prelude.{slice_get, slice_set, if◌then◌else◌}
 use Rattle.std.proofs.lemmas.Bool.{cond-true, cond-false, eq-eqb, ne_eqb, lt-leb, cases_eq}
 use Rattle.hlc_clock.specs.NextStamp.{stamp_due}
 use Rattle.hlc_clock.specs.declared.clock.ClockFault.{ClockFault}
 use Rattle.hlc_node.specs.declared.item.Item.{Item}
 use Rattle.hlc_node.specs.declared.item.Message.{Message}
 use Rattle.hlc_node.specs.declared.item.Body.{Body}
-use Rattle.hlc_node.specs.declared.item.Body.TheVariants.{Write as a_write, Report as a_report}
-use Rattle.hlc_node.specs.Node.{Node, issue_due, next_item, stamped, after_issue}
+use Rattle.hlc_node.specs.declared.item.Body.TheVariants.{Write as a_write, Report as a_report, Retire as a_retire}
+use Rattle.hlc_node.specs.declared.node.NodeFault.{NodeFault}
+use Rattle.hlc_node.specs.Items.{retires}
+use Rattle.hlc_node.specs.Node.{Node, clocked, unless_retired, event_due, issue_due, next_item, stamped, after_issue}
 use Rattle.hlc_core.specs.declared.reply.CoreReply.{CoreReply}
-use Rattle.hlc_core.specs.Past.{Step, stamp_of}
+use Rattle.hlc_core.specs.Past.{Step, numbered, stamp_of}
 use Rattle.hlc_core.specs.History.{past_of}
-use Rattle.hlc_core.specs.Kept.{Kept, StandsFor as CoreStandsFor}
-use Rattle.hlc_world.specs.declared.event.Event.TheVariants.{Write, Delete, Report, Send, Receive, Observe}
+use Rattle.hlc_core.specs.Kept.{Kept, nodes as core_nodes, StandsFor as CoreStandsFor}
+use Rattle.hlc_world.specs.declared.event.Event.TheVariants.{Write, Delete, Report, Retire, Send, Receive, Observe}
 use Rattle.hlc_world.specs.declared.reply.Reply.{Reply}
 use Rattle.hlc_world.specs.declared.reply.Reply.TheVariants.{Stamped, Sent, Received, Observed, Refused}
 use Rattle.hlc_world.specs.declared.refusal.Refusal.{Refusal}
-use Rattle.hlc_world.specs.declared.refusal.Refusal.TheVariants.{NoMemory}
-use Rattle.hlc_world.specs.Schedule.{an_item, item_made, message_made, stamping_of, with_item, stamp_or, with_message}
-use Rattle.hlc_world.specs.Schedule.{Event, issued, last_stamp, sent, message_at, node_of}
-use Rattle.hlc_world.specs.Store.{asked, told, joined, with_entry, store_history, core_past}
-use Rattle.hlc_world.specs.Due.{of_clock, issue_refusal, stamp_refusal, receive_refusal, observe_refusal, on_node}
-use Rattle.hlc_world.specs.Due.{refusal_due, IsReceived, IsObserved, MayLackMemory, IsGiven, IsLegal}
+use Rattle.hlc_world.specs.declared.refusal.Refusal.TheVariants.{Retired, NoMemory}
+use Rattle.hlc_world.specs.Schedule.{an_item, item_made, message_made, mark_of, with_item, ends, stamp_or, with_message}
+use Rattle.hlc_world.specs.Schedule.{Event, issued, gone, last_stamp, sent, message_at, node_of}
+use Rattle.hlc_world.specs.Store.{asked, told, paired, with_entry, store_history, core_past}
+use Rattle.hlc_world.specs.Due.{of_node, issue_refusal, stamp_refusal, receive_refusal, observe_refusal, on_link}
+use Rattle.hlc_world.specs.Due.{on_node}
+use Rattle.hlc_world.specs.Due.{refusal_due, IsReceived, IsObserved, MayLackMemory, IsGiven}
 use Rattle.hlc_world.specs.State.{KeptIssuer, State, world_nodes, StandsFor, fresh, Issues, Sees}
 use Rattle.hlc_world.proofs.Lists.{some-injective, get-set_at, get-set_other, set-same, get-append_left, get-push}
 
 -- what is kept of a node
-abbrev a_node : ℕ → ℕ → List Item → KeptIssuer
-a_node n last items = record { node = record { id = n; last = last; next = length items }; issued = items }
+abbrev pub a_node : ℕ → ℕ → List Item → Bool → KeptIssuer
+a_node n last items over =
+    record { node = record { id = n; last = last; next = length items; retired = over }; issued = items }
 
 pub stamp_or-same : (p st last : ℕ) → stamp_or p (Some (p, st)) last ≡ st
 stamp_or-same p st last = cond-true _ _ _ (eq-eqb p p refl)
@@ -45,66 +51,127 @@ pub with_item-other : (n : ℕ) (item : Item) (items : List Item) → (item.node
     → with_item n (Some item) items ≡ items
 with_item-other n item items e = cond-false _ _ _ (ne_eqb _ _ e)
 
-pub on_node-inside : (nodes p : ℕ) (rest : Option Refusal) → p < nodes → on_node nodes p rest ≡ rest
-on_node-inside nodes p rest h = cond-false _ _ _ (lt-leb nodes p h)
+pub ends-same : (p : ℕ) (item : Item) (over : Bool) → item.node ≡ p → ends p (Some item) over ≡ retires item.body
+ends-same p item over e = cond-true _ _ _ (eq-eqb _ _ e)
+
+pub ends-other : (n : ℕ) (item : Item) (over : Bool) → (item.node ≡ n → ⊥) → ends n (Some item) over ≡ over
+ends-other n item over e = cond-false _ _ _ (ne_eqb _ _ e)
+
+pub on_link-inside : (nodes : ℕ) (s : List (Event × Reply)) (p : ℕ) (rest : Option Refusal)
+    → p < numbered nodes (core_past s) → on_link nodes s p rest ≡ rest
+on_link-inside nodes s p rest h = cond-false _ _ _ (lt-leb (numbered nodes (core_past s)) p h)
+
+gone-issue : (over : Bool) (r : Result ℕ NodeFault)
+    → (if over then Some Retired else issue_refusal (unless_retired over r)) ≡ issue_refusal (unless_retired over r)
+gone-issue true r = refl
+gone-issue false r = refl
+
+gone-sight : (over : Bool) (r : Result ℕ ClockFault)
+    → (if over then Some Retired else stamp_refusal r) ≡ issue_refusal (unless_retired over (clocked r))
+gone-sight true r = refl
+gone-sight false (Ok st) = refl
+gone-sight false (Err fault) = refl
+
+-- an event of a node that is there is refused as the node refuses it
+issue-due : (nodes : ℕ) (s : List (Event × Reply)) (p : ℕ) (r : Result ℕ NodeFault)
+    → p < numbered nodes (core_past s) → on_node nodes s p (issue_refusal (unless_retired (gone p s) r))
+    ≡ issue_refusal (unless_retired (gone p s) r)
+issue-due nodes s p r h = on_link-inside nodes s p _ h ∙ gone-issue (gone p s) r
+
+sight-due : (nodes : ℕ) (s : List (Event × Reply)) (p : ℕ) (r : Result ℕ ClockFault)
+    → p < numbered nodes (core_past s) → on_node nodes s p (stamp_refusal r)
+    ≡ issue_refusal (unless_retired (gone p s) (clocked r))
+sight-due nodes s p r h = on_link-inside nodes s p _ h ∙ gone-sight (gone p s) r
+
+-- a stamp that is due to a node is due by its clock
+event-ok : (over : Bool) (r : Result ℕ ClockFault) (st : ℕ) → unless_retired over (clocked r) ≡ Ok st → r ≡ Ok st
+event-ok true r st h = absurd (cc)
+event-ok false (Ok x) st h = ap Ok (cc)
+event-ok false (Err fault) st h = absurd (cc)
 
 -- one node issued an item, and the others are as they were
-nodes-issued : (nodes : List KeptIssuer) (lasts : ℕ → ℕ) (items : ℕ → List Item) (p st : ℕ) (item : Item)
-    → item.node ≡ p → p < length nodes
-    → ((n : ℕ) → n < length nodes → slice_get nodes n ≡ Some (a_node n (lasts n) (items n)))
-    → (n : ℕ) → n < length nodes → slice_get (slice_set nodes p (a_node p st (items p ++ item ∷ []))) n
-    ≡ Some (a_node n (stamp_or n (Some (p, st)) (lasts n)) (with_item n (Some item) (items n)))
-nodes-issued nodes lasts items p st item own inside h n lt =
+nodes-issued : (nodes : List KeptIssuer) (lasts : ℕ → ℕ) (items : ℕ → List Item) (overs : ℕ → Bool) (p st : ℕ)
+    (item : Item) → item.node ≡ p → p < length nodes
+    → ((n : ℕ) → n < length nodes → slice_get nodes n ≡ Some (a_node n (lasts n) (items n) (overs n)))
+    → (n : ℕ) → n < length nodes
+    → slice_get (slice_set nodes p (a_node p st (items p ++ item ∷ []) (retires item.body))) n
+    ≡ Some (a_node n (stamp_or n (Some (p, st)) (lasts n)) (with_item n (Some item) (items n))
+    (ends n (Some item) (overs n)))
+nodes-issued nodes lasts items overs p st item own inside h n lt =
+    let new : KeptIssuer = a_node p st (items p ++ item ∷ []) (retires item.body) in
+    let every : ℕ → KeptIssuer =
+    λ k. a_node k (stamp_or k (Some (p, st)) (lasts k)) (with_item k (Some item) (items k))
+    (ends k (Some item) (overs k)) in
     elim (cases_eq p n) [
       | inl same ↦
-          subst (λ k. slice_get (slice_set nodes p (a_node p st (items p ++ item ∷ []))) k
-          ≡ Some (a_node k (stamp_or k (Some (p, st)) (lasts k)) (with_item k (Some item) (items k)))) same
-          (get-set_at nodes p (a_node p st (items p ++ item ∷ [])) inside
-          ∙ sym (ap (λ a. Some (a_node p a (with_item p (Some item) (items p)))) (stamp_or-same p st (lasts p))
-          ∙ ap (λ xs. Some (a_node p st xs)) (with_item-same p item (items p) own)))
+          subst (λ k. slice_get (slice_set nodes p new) k ≡ Some (every k)) same
+          (get-set_at nodes p new inside
+          ∙ sym (ap (λ a. Some (a_node p a (with_item p (Some item) (items p)) (ends p (Some item) (overs p))))
+          (stamp_or-same p st (lasts p))
+          ∙ ap (λ xs. Some (a_node p st xs (ends p (Some item) (overs p)))) (with_item-same p item (items p) own)
+          ∙ ap (λ g. Some (a_node p st (items p ++ item ∷ []) g)) (ends-same p item (overs p) own)))
       | inr other ↦
-          get-set_other nodes p n (a_node p st (items p ++ item ∷ [])) (λ e. other (sym e))
+          let far : item.node ≡ n → ⊥ = λ e. other (sym own ∙ e) in
+          get-set_other nodes p n new (λ e. other (sym e))
           ∙ h n lt
-          ∙ sym (ap (λ a. Some (a_node n a (with_item n (Some item) (items n)))) (stamp_or-other n p st (lasts n) other)
-          ∙ ap (λ xs. Some (a_node n (lasts n) xs)) (with_item-other n item (items n) (λ e. other (sym own ∙ e))))
+          ∙ sym (ap (λ a. Some (a_node n a (with_item n (Some item) (items n)) (ends n (Some item) (overs n))))
+          (stamp_or-other n p st (lasts n) other)
+          ∙ ap (λ xs. Some (a_node n (lasts n) xs (ends n (Some item) (overs n)))) (with_item-other n item (items n) far)
+          ∙ ap (λ g. Some (a_node n (lasts n) (items n) g)) (ends-other n item (overs n) far))
     ]
 
 -- one node was stamped without an item, and the others are as they were
-nodes-stamped : (nodes : List KeptIssuer) (lasts : ℕ → ℕ) (items : ℕ → List Item) (p st : ℕ) → p < length nodes
-    → ((n : ℕ) → n < length nodes → slice_get nodes n ≡ Some (a_node n (lasts n) (items n)))
-    → (n : ℕ) → n < length nodes → slice_get (slice_set nodes p (a_node p st (items p))) n
-    ≡ Some (a_node n (stamp_or n (Some (p, st)) (lasts n)) (items n))
-nodes-stamped nodes lasts items p st inside h n lt =
+nodes-stamped : (nodes : List KeptIssuer) (lasts : ℕ → ℕ) (items : ℕ → List Item) (overs : ℕ → Bool) (p st : ℕ)
+    → p < length nodes
+    → ((n : ℕ) → n < length nodes → slice_get nodes n ≡ Some (a_node n (lasts n) (items n) (overs n)))
+    → (n : ℕ) → n < length nodes → slice_get (slice_set nodes p (a_node p st (items p) (overs p))) n
+    ≡ Some (a_node n (stamp_or n (Some (p, st)) (lasts n)) (items n) (overs n))
+nodes-stamped nodes lasts items overs p st inside h n lt =
     elim (cases_eq p n) [
       | inl same ↦
-          subst (λ k. slice_get (slice_set nodes p (a_node p st (items p))) k
-          ≡ Some (a_node k (stamp_or k (Some (p, st)) (lasts k)) (items k))) same
-          (get-set_at nodes p (a_node p st (items p)) inside
-          ∙ sym (ap (λ a. Some (a_node p a (items p))) (stamp_or-same p st (lasts p))))
+          subst (λ k. slice_get (slice_set nodes p (a_node p st (items p) (overs p))) k
+          ≡ Some (a_node k (stamp_or k (Some (p, st)) (lasts k)) (items k) (overs k))) same
+          (get-set_at nodes p (a_node p st (items p) (overs p)) inside
+          ∙ sym (ap (λ a. Some (a_node p a (items p) (overs p))) (stamp_or-same p st (lasts p))))
       | inr other ↦
-          get-set_other nodes p n (a_node p st (items p)) (λ e. other (sym e))
+          get-set_other nodes p n (a_node p st (items p) (overs p)) (λ e. other (sym e))
           ∙ h n lt
-          ∙ sym (ap (λ a. Some (a_node n a (items n))) (stamp_or-other n p st (lasts n) other))
+          ∙ sym (ap (λ a. Some (a_node n a (items n) (overs n))) (stamp_or-other n p st (lasts n) other))
     ]
 
 -- the core's past after an event by which the store was told this
 abbrev past_told : List (Event × Reply) → Event → Option CoreReply → List Step
-past_told s e reply = past_of (with_entry (joined reply (asked s e)) (store_history s))
+past_told s e reply = past_of (with_entry (paired reply (asked s e)) (store_history s))
+
+-- what is kept of a node after an event that set this mark and issued this item, if it did
+abbrev node_by : ℕ → Option (ℕ × ℕ) → Option Item → List (Event × Reply) → KeptIssuer
+node_by n mark item s =
+    a_node n (stamp_or n mark (last_stamp n s)) (with_item n item (issued n s)) (ends n item (gone n s))
+
+-- a node that is kept has a number that was given
+there : (state : State) (s : List (Event × Reply)) (p : ℕ) → StandsFor state s → p < length state.nodes
+    → p < numbered (world_nodes state) (core_past s)
+there state s p h inside = (let m = h.many in omega (arith, m))
+
+-- and it is as the schedule says
+was : (state : State) (s : List (Event × Reply)) (p : ℕ) (before : KeptIssuer) → StandsFor state s
+    → p < length state.nodes → slice_get state.nodes p ≡ Some before
+    → before ≡ a_node p (last_stamp p s) (issued p s) (gone p s)
+was state s p before h inside at = some-injective _ _ (sym at ∙ h.nodes p inside)
 
 -- a refused event leaves all as it was
 pub stays : (state : State) (s : List (Event × Reply)) (e : Event) (refusal : Refusal)
-    → item_made e (Refused refusal) ≡ None → stamping_of e (Refused refusal) ≡ None
-    → message_made e (Refused refusal) ≡ None → told e (Refused refusal) ≡ None
+    → item_made e (Refused refusal) ≡ None → mark_of e (Refused refusal) ≡ None
+    → message_made e (Refused refusal) ≡ None → told s e (Refused refusal) ≡ None
     → IsGiven (world_nodes state) s e (Refused refusal) → StandsFor state s → StandsFor state ((e, Refused refusal) ∷ s)
 stays state s e refusal not_made not_marked not_sent not_told given h =
     record {
       legal = (given, h.legal);
       core = subst (λ o. CoreStandsFor state.core (past_told s e o)) (sym not_told) h.core;
+      many = subst (λ o. length state.nodes ≡ numbered (world_nodes state) (past_told s e o)) (sym not_told) h.many;
       nodes = λ n lt.
-          subst (λ o. slice_get state.nodes n ≡ Some (a_node n (stamp_or n o (last_stamp n s))
-          (with_item n (item_made e (Refused refusal)) (issued n s)))) (sym not_marked)
-          (subst (λ o. slice_get state.nodes n ≡ Some (a_node n (last_stamp n s) (with_item n o (issued n s))))
-          (sym not_made) (h.nodes n lt));
+          subst (λ o. slice_get state.nodes n ≡ Some (node_by n o (item_made e (Refused refusal)) s)) (sym not_marked)
+          (subst (λ o. slice_get state.nodes n ≡ Some (node_by n None o s)) (sym not_made) (h.nodes n lt));
       messages = subst (λ o. state.messages ≡ with_message o (sent s)) (sym not_sent) h.messages;
     }
 
@@ -113,13 +180,13 @@ with_node state p node = record { core = state.core; nodes = slice_set state.nod
 
 -- an event by which a node issues an item that says this
 pub record IsIssue (nodes : ℕ) (s : List (Event × Reply)) (e : Event) (p : ℕ) (body : Body) (reading : ℕ) : Type 0 where
-  pub refusal : refusal_due nodes s e ≡ on_node nodes p (issue_refusal (issue_due (node_of p s) body reading))
+  pub refusal : refusal_due nodes s e ≡ on_node nodes s p (issue_refusal (issue_due (node_of p s) body reading))
   pub makes : (st num : ℕ) → item_made e (Stamped st num) ≡ Some (an_item p num st body)
-  pub marks : (st num : ℕ) → stamping_of e (Stamped st num) ≡ Some (p, st)
+  pub marks : (st num : ℕ) → mark_of e (Stamped st num) ≡ Some (p, st)
   pub sends : (r : Reply) → message_made e r ≡ None
-  pub tells : (r : Reply) → told e r ≡ None
+  pub tells : (r : Reply) → told s e r ≡ None
   pub not_made : (f : Refusal) → item_made e (Refused f) ≡ None
-  pub not_marked : (f : Refusal) → stamping_of e (Refused f) ≡ None
+  pub not_marked : (f : Refusal) → mark_of e (Refused f) ≡ None
   pub given : (st num : ℕ) → refusal_due nodes s e ≡ None → issue_due (node_of p s) body reading ≡ Ok st
       → num ≡ length (issued p s) → IsGiven nodes s e (Stamped st num)
   pub may : MayLackMemory s e
@@ -169,46 +236,62 @@ report-is nodes s p reading =
       may = tt;
     }
 
+pub retire-is : (nodes : ℕ) (s : List (Event × Reply)) (p reading : ℕ)
+    → IsIssue nodes s (Retire p reading) p a_retire reading
+retire-is nodes s p reading =
+    record {
+      refusal = refl;
+      makes = λ st num. refl;
+      marks = λ st num. refl;
+      sends = λ r. refl;
+      tells = λ r. refl;
+      not_made = λ f. refl;
+      not_marked = λ f. refl;
+      given = λ st num a b c. (a, (b, c));
+      may = tt;
+    }
+
 -- an item that a node issued
 pub issues : (state : State) (s : List (Event × Reply)) (e : Event) (p : ℕ) (body : Body) (reading : ℕ)
     (before after : KeptIssuer) (made : ℕ × ℕ) → IsIssue (world_nodes state) s e p body reading → StandsFor state s
-    → p < world_nodes state → slice_get state.nodes p ≡ Some before → Issues before after body reading (Ok made)
+    → p < length state.nodes → slice_get state.nodes p ≡ Some before → Issues before after body reading (Ok made)
     → StandsFor (with_node state p after) ((e, Stamped made.0 made.1) ∷ s)
 issues state s e p body reading before after made is h inside at taken =
     let st : ℕ = made.0 in
     let number : ℕ = length (issued p s) in
-    let was : before ≡ a_node p (last_stamp p s) (issued p s) = some-injective _ _ (sym at ∙ h.nodes p inside) in
+    let so : before ≡ a_node p (last_stamp p s) (issued p s) (gone p s) = was state s p before h inside at in
     let due : issue_due (node_of p s) body reading ≡ Ok st =
-    ap (λ issuer. issue_due issuer.node body reading) (sym was) ∙ taken.0 in
-    let numbered : made.1 ≡ number = taken.1 ∙ ap (λ issuer. issuer.node.next) was in
+    ap (λ issuer. issue_due issuer.node body reading) (sym so) ∙ taken.0 in
+    let next : made.1 ≡ number = taken.1 ∙ ap (λ issuer. issuer.node.next) so in
     let longer : length (issued p s ++ an_item p number st body ∷ []) ≡ number + 1 =
     length-append (issued p s) (an_item p number st body ∷ []) in
-    let came : after ≡ a_node p st (issued p s ++ an_item p number st body ∷ []) =
+    let came : after ≡ a_node p st (issued p s ++ an_item p number st body ∷ []) (retires body) =
     taken.2
     ∙ ap (λ issuer. record {
-      node = after_issue issuer.node st;
+      node = after_issue issuer.node body st;
       issued = issuer.issued ++ next_item issuer.node body st ∷ [];
-    }) was
+    }) so
     ∙ ap (λ k. record {
-      node = record { id = p; last = st; next = k };
+      node = record { id = p; last = st; next = k; retired = retires body };
       issued = issued p s ++ an_item p number st body ∷ [];
     }) (sym longer) in
-    let none : refusal_due (world_nodes state) s e ≡ None = is.refusal ∙ on_node-inside (world_nodes state) p _ inside
-    ∙ ap issue_refusal due in
+    let none : refusal_due (world_nodes state) s e ≡ None =
+    is.refusal ∙ issue-due (world_nodes state) s p _ (there state s p h inside) ∙ ap issue_refusal due in
     let same : length (slice_set state.nodes p after) ≡ length state.nodes = length-set state.nodes p after in
-    subst (λ k. StandsFor (with_node state p after) ((e, Stamped st k) ∷ s)) (sym numbered)
+    subst (λ k. StandsFor (with_node state p after) ((e, Stamped st k) ∷ s)) (sym next)
     (record {
-      legal =
-          subst (λ n. IsLegal n ((e, Stamped st number) ∷ s)) (sym same) (is.given st number none due refl, h.legal);
+      legal = (is.given st number none due refl, h.legal);
       core = subst (λ o. CoreStandsFor state.core (past_told s e o)) (sym (is.tells _)) h.core;
+      many = subst (λ o. length (slice_set state.nodes p after) ≡ numbered (world_nodes state) (past_told s e o))
+          (sym (is.tells _)) (same ∙ h.many);
       nodes = λ n lt.
-          subst (λ o. slice_get (slice_set state.nodes p after) n ≡ Some (a_node n (stamp_or n o (last_stamp n s))
-          (with_item n (item_made e (Stamped st number)) (issued n s)))) (sym (is.marks st number))
-          (subst (λ o. slice_get (slice_set state.nodes p after) n ≡ Some (a_node n
-          (stamp_or n (Some (p, st)) (last_stamp n s)) (with_item n o (issued n s)))) (sym (is.makes st number))
-          (subst (λ x. slice_get (slice_set state.nodes p x) n ≡ Some (a_node n (stamp_or n (Some (p, st))
-          (last_stamp n s)) (with_item n (Some (an_item p number st body)) (issued n s)))) (sym came)
-          (nodes-issued state.nodes (λ k. last_stamp k s) (λ k. issued k s) p st
+          subst (λ o. slice_get (slice_set state.nodes p after) n
+          ≡ Some (node_by n o (item_made e (Stamped st number)) s)) (sym (is.marks st number))
+          (subst (λ o. slice_get (slice_set state.nodes p after) n ≡ Some (node_by n (Some (p, st)) o s))
+          (sym (is.makes st number))
+          (subst (λ x. slice_get (slice_set state.nodes p x) n
+          ≡ Some (node_by n (Some (p, st)) (Some (an_item p number st body)) s)) (sym came)
+          (nodes-issued state.nodes (λ k. last_stamp k s) (λ k. issued k s) (λ k. gone k s) p st
           (an_item p number st body) refl inside h.nodes n (rw same at lt))));
       messages = subst (λ o. state.messages ≡ with_message o (sent s)) (sym (is.sends _)) h.messages;
     })
@@ -216,13 +299,12 @@ issues state s e p body reading before after made is h inside at taken =
 -- an item that it did not issue
 pub issues_not : (state : State) (s : List (Event × Reply)) (e : Event) (p : ℕ) (body : Body) (reading : ℕ)
     (before after : KeptIssuer) (refusal : Refusal) → IsIssue (world_nodes state) s e p body reading → StandsFor state s
-    → p < world_nodes state → slice_get state.nodes p ≡ Some before → Issues before after body reading (Err refusal)
+    → p < length state.nodes → slice_get state.nodes p ≡ Some before → Issues before after body reading (Err refusal)
     → StandsFor (with_node state p after) ((e, Refused refusal) ∷ s)
 issues_not state s e p body reading before after refusal is h inside at left =
-    let was : before ≡ a_node p (last_stamp p s) (issued p s) = some-injective _ _ (sym at ∙ h.nodes p inside) in
     let first : refusal_due (world_nodes state) s e ≡ issue_refusal (issue_due before.node body reading) =
-    is.refusal ∙ on_node-inside (world_nodes state) p _ inside
-    ∙ ap (λ issuer. issue_refusal (issue_due issuer.node body reading)) (sym was) in
+    is.refusal ∙ issue-due (world_nodes state) s p _ (there state s p h inside)
+    ∙ ap (λ issuer. issue_refusal (issue_due issuer.node body reading)) (sym (was state s p before h inside at)) in
     let given : IsGiven (world_nodes state) s e (Refused refusal) =
     elim left.0 [ inl due ↦ inl (first ∙ due) | inr lost ↦ inr (first ∙ lost.0, lost.1, is.may) ] in
     let unchanged : slice_set state.nodes p after ≡ state.nodes = ap (λ x. slice_set state.nodes p x) left.1
@@ -233,8 +315,9 @@ issues_not state s e p body reading before after refusal is h inside at left =
 
 -- a message that a node sent
 pub sends : (state : State) (s : List (Event × Reply)) (p reading : ℕ) (before : KeptIssuer) (node : Node)
-    (message : Message) (messages : List Message) → StandsFor state s → p < world_nodes state
-    → slice_get state.nodes p ≡ Some before → stamp_due (before.node.last ∷ []) reading ≡ Ok message.stamp
+    (message : Message) (messages : List Message) → StandsFor state s → p < length state.nodes
+    → slice_get state.nodes p ≡ Some before
+    → event_due before.node (before.node.last ∷ []) reading ≡ Ok message.stamp
     → message.from ≡ before.node.id → node ≡ stamped before.node message.stamp
     → messages ≡ state.messages ++ message ∷ [] → StandsFor (record {
       core = state.core;
@@ -244,153 +327,166 @@ pub sends : (state : State) (s : List (Event × Reply)) (p reading : ℕ) (befor
 sends state s p reading before node message messages h inside at due from node-is posted =
     let st : ℕ = message.stamp in
     let after : KeptIssuer = record { node = node; issued = before.issued } in
-    let was : before ≡ a_node p (last_stamp p s) (issued p s) = some-injective _ _ (sym at ∙ h.nodes p inside) in
-    let due' : stamp_due (last_stamp p s ∷ []) reading ≡ Ok st =
-    ap (λ issuer. stamp_due (issuer.node.last ∷ []) reading) (sym was) ∙ due in
-    let came : after ≡ a_node p st (issued p s) =
+    let so : before ≡ a_node p (last_stamp p s) (issued p s) (gone p s) = was state s p before h inside at in
+    let by : event_due (node_of p s) (last_stamp p s ∷ []) reading ≡ Ok st =
+    ap (λ issuer. event_due issuer.node (issuer.node.last ∷ []) reading) (sym so) ∙ due in
+    let due' : stamp_due (last_stamp p s ∷ []) reading ≡ Ok st = event-ok (gone p s) _ st by in
+    let came : after ≡ a_node p st (issued p s) (gone p s) =
     ap (λ c. record { node = c; issued = before.issued }) node-is
-    ∙ ap (λ issuer. record { node = stamped issuer.node st; issued = issuer.issued }) was in
+    ∙ ap (λ issuer. record { node = stamped issuer.node st; issued = issuer.issued }) so in
     let is : message ≡ record { from = p; stamp = st } =
-    ap (λ n. record { from = n; stamp = st }) (from ∙ ap (λ issuer. issuer.node.id) was) in
+    ap (λ n. record { from = n; stamp = st }) (from ∙ ap (λ issuer. issuer.node.id) so) in
     let same : length (slice_set state.nodes p after) ≡ length state.nodes = length-set state.nodes p after in
     record {
-      legal = subst (λ n. IsLegal n ((Send p reading, Sent st (length state.messages)) ∷ s)) (sym same) (
-        (on_node-inside (world_nodes state) p _ inside ∙ ap stamp_refusal due', (due', ap length h.messages)),
+      legal = (
+        (
+          sight-due (world_nodes state) s p _ (there state s p h inside) ∙ ap issue_refusal by,
+          (due', ap length h.messages),
+        ),
         h.legal,
       );
       core = h.core;
+      many = same ∙ h.many;
       nodes = λ n lt.
-          subst (λ x. slice_get (slice_set state.nodes p x) n
-          ≡ Some (a_node n (stamp_or n (Some (p, st)) (last_stamp n s)) (issued n s))) (sym came)
-          (nodes-stamped state.nodes (λ k. last_stamp k s) (λ k. issued k s) p st inside h.nodes n (rw same at lt));
+          subst (λ x. slice_get (slice_set state.nodes p x) n ≡ Some (node_by n (Some (p, st)) None s)) (sym came)
+          (nodes-stamped state.nodes (λ k. last_stamp k s) (λ k. issued k s) (λ k. gone k s) p st inside
+          h.nodes n (rw same at lt));
       messages = posted ∙ ap (λ xs. xs ++ message ∷ []) h.messages ∙ ap (λ x. sent s ++ x ∷ []) is;
     }
 
--- a message that was not sent: the clock refuses, or there is no memory
-pub sends_not : (state : State) (s : List (Event × Reply)) (p reading : ℕ) (before : KeptIssuer) (fault : ClockFault)
-    → StandsFor state s → p < world_nodes state → slice_get state.nodes p ≡ Some before
-    → stamp_due (before.node.last ∷ []) reading ≡ Err fault
-    → StandsFor state ((Send p reading, Refused (of_clock fault)) ∷ s)
+-- why the world refuses a message is why the node does
+sends-due : (state : State) (s : List (Event × Reply)) (p reading : ℕ) (before : KeptIssuer) → StandsFor state s
+    → p < length state.nodes → slice_get state.nodes p ≡ Some before
+    → refusal_due (world_nodes state) s (Send p reading)
+    ≡ issue_refusal (event_due before.node (before.node.last ∷ []) reading)
+sends-due state s p reading before h inside at =
+    sight-due (world_nodes state) s p _ (there state s p h inside)
+    ∙ ap (λ issuer. issue_refusal (event_due issuer.node (issuer.node.last ∷ []) reading))
+    (sym (was state s p before h inside at))
+
+-- a message that was not sent: the node refuses, or there is no memory
+pub sends_not : (state : State) (s : List (Event × Reply)) (p reading : ℕ) (before : KeptIssuer) (fault : NodeFault)
+    → StandsFor state s → p < length state.nodes → slice_get state.nodes p ≡ Some before
+    → event_due before.node (before.node.last ∷ []) reading ≡ Err fault
+    → StandsFor state ((Send p reading, Refused (of_node fault)) ∷ s)
 sends_not state s p reading before fault h inside at due =
-    let was : before ≡ a_node p (last_stamp p s) (issued p s) = some-injective _ _ (sym at ∙ h.nodes p inside) in
-    let due' : stamp_due (last_stamp p s ∷ []) reading ≡ Err fault =
-    ap (λ issuer. stamp_due (issuer.node.last ∷ []) reading) (sym was) ∙ due in
-    stays state s (Send p reading) (of_clock fault) refl refl refl refl
-    (inl (on_node-inside (world_nodes state) p _ inside ∙ ap stamp_refusal due')) h
+    stays state s (Send p reading) (of_node fault) refl refl refl refl
+    (inl (sends-due state s p reading before h inside at ∙ ap issue_refusal due)) h
 
 pub sends_lost : (state : State) (s : List (Event × Reply)) (p reading st : ℕ) (before : KeptIssuer) → StandsFor state s
-    → p < world_nodes state → slice_get state.nodes p ≡ Some before → stamp_due (before.node.last ∷ []) reading ≡ Ok st
+    → p < length state.nodes → slice_get state.nodes p ≡ Some before
+    → event_due before.node (before.node.last ∷ []) reading ≡ Ok st
     → StandsFor state ((Send p reading, Refused NoMemory) ∷ s)
 sends_lost state s p reading st before h inside at due =
-    let was : before ≡ a_node p (last_stamp p s) (issued p s) = some-injective _ _ (sym at ∙ h.nodes p inside) in
-    let due' : stamp_due (last_stamp p s ∷ []) reading ≡ Ok st =
-    ap (λ issuer. stamp_due (issuer.node.last ∷ []) reading) (sym was) ∙ due in
     stays state s (Send p reading) NoMemory refl refl refl refl
-    (inr (on_node-inside (world_nodes state) p _ inside ∙ ap stamp_refusal due', refl, tt)) h
+    (inr (sends-due state s p reading before h inside at ∙ ap issue_refusal due, refl, tt)) h
 
 -- an event by which a node sees a stamp
 pub record IsSight (nodes : ℕ) (s : List (Event × Reply)) (e : Event) (reply : ℕ → Reply)
     (p seen reading : ℕ) : Type 0 where
-  pub refusal : refusal_due nodes s e ≡ on_node nodes p (stamp_refusal (stamp_due (last_stamp p s ∷ seen ∷ []) reading))
-  pub marks : (st : ℕ) → stamping_of e (reply st) ≡ Some (p, st)
+  pub refusal : refusal_due nodes s e
+      ≡ on_node nodes s p (stamp_refusal (stamp_due (last_stamp p s ∷ seen ∷ []) reading))
+  pub marks : (st : ℕ) → mark_of e (reply st) ≡ Some (p, st)
   pub makes : (r : Reply) → item_made e r ≡ None
   pub sends : (r : Reply) → message_made e r ≡ None
-  pub tells : (r : Reply) → told e r ≡ None
-  pub not_marked : (f : Refusal) → stamping_of e (Refused f) ≡ None
+  pub tells : (r : Reply) → told s e r ≡ None
+  pub not_marked : (f : Refusal) → mark_of e (Refused f) ≡ None
   pub given : (st : ℕ) → refusal_due nodes s e ≡ None → stamp_due (last_stamp p s ∷ seen ∷ []) reading ≡ Ok st
       → IsGiven nodes s e (reply st)
 
 pub receive-is : (nodes : ℕ) (s : List (Event × Reply)) (p reading number : ℕ) (message : Message)
     → message_at number s ≡ Some message → IsSight nodes s (Receive p reading number) Received p message.stamp reading
-receive-is nodes s p reading number message there =
+receive-is nodes s p reading number message found =
     record {
-      refusal = ap (λ o. on_node nodes p (receive_refusal o (last_stamp p s) reading)) there;
+      refusal = ap (λ o. on_node nodes s p (receive_refusal o (last_stamp p s) reading)) found;
       marks = λ st. refl;
       makes = λ r. refl;
       sends = λ r. refl;
       tells = λ r. refl;
       not_marked = λ f. refl;
-      given = λ st none due. (none, subst (λ o. IsReceived o (last_stamp p s) reading st) (sym there) due);
+      given = λ st none due. (none, subst (λ o. IsReceived o (last_stamp p s) reading st) (sym found) due);
     }
 
 pub observe-is : (nodes : ℕ) (s : List (Event × Reply)) (p reading id seen : ℕ) → stamp_of id (core_past s) ≡ Some seen
     → IsSight nodes s (Observe p reading id) Observed p seen reading
-observe-is nodes s p reading id seen there =
+observe-is nodes s p reading id seen found =
     record {
-      refusal = ap (λ o. on_node nodes p (observe_refusal o (last_stamp p s) reading)) there;
+      refusal = ap (λ o. on_node nodes s p (observe_refusal o (last_stamp p s) reading)) found;
       marks = λ st. refl;
       makes = λ r. refl;
       sends = λ r. refl;
       tells = λ r. refl;
       not_marked = λ f. refl;
-      given = λ st none due. (none, subst (λ o. IsObserved o (last_stamp p s) reading st) (sym there) due);
+      given = λ st none due. (none, subst (λ o. IsObserved o (last_stamp p s) reading st) (sym found) due);
     }
 
 -- a node that saw a stamp
 pub sees : (state : State) (s : List (Event × Reply)) (e : Event) (reply : ℕ → Reply) (p seen reading st : ℕ)
     (before after : KeptIssuer) → IsSight (world_nodes state) s e reply p seen reading
-    → StandsFor state s → p < world_nodes state → slice_get state.nodes p ≡ Some before
+    → StandsFor state s → p < length state.nodes → slice_get state.nodes p ≡ Some before
     → Sees before after seen reading (Ok st) → StandsFor (with_node state p after) ((e, reply st) ∷ s)
 sees state s e reply p seen reading st before after is h inside at saw =
-    let was : before ≡ a_node p (last_stamp p s) (issued p s) = some-injective _ _ (sym at ∙ h.nodes p inside) in
-    let due' : stamp_due (last_stamp p s ∷ seen ∷ []) reading ≡ Ok st =
-    ap (λ issuer. stamp_due (issuer.node.last ∷ seen ∷ []) reading) (sym was) ∙ saw.0 in
-    let came : after ≡ a_node p st (issued p s) =
-    saw.1 ∙ ap (λ issuer. record { node = stamped issuer.node st; issued = issuer.issued }) was in
-    let none : refusal_due (world_nodes state) s e ≡ None = is.refusal ∙ on_node-inside (world_nodes state) p _ inside
-    ∙ ap stamp_refusal due' in
+    let so : before ≡ a_node p (last_stamp p s) (issued p s) (gone p s) = was state s p before h inside at in
+    let by : event_due (node_of p s) (last_stamp p s ∷ seen ∷ []) reading ≡ Ok st =
+    ap (λ issuer. event_due issuer.node (issuer.node.last ∷ seen ∷ []) reading) (sym so) ∙ saw.0 in
+    let came : after ≡ a_node p st (issued p s) (gone p s) =
+    saw.1 ∙ ap (λ issuer. record { node = stamped issuer.node st; issued = issuer.issued }) so in
+    let none : refusal_due (world_nodes state) s e ≡ None =
+    is.refusal ∙ sight-due (world_nodes state) s p _ (there state s p h inside) ∙ ap issue_refusal by in
     let same : length (slice_set state.nodes p after) ≡ length state.nodes = length-set state.nodes p after in
     record {
-      legal = subst (λ n. IsLegal n ((e, reply st) ∷ s)) (sym same) (is.given st none due', h.legal);
+      legal = (is.given st none (event-ok (gone p s) _ st by), h.legal);
       core = subst (λ o. CoreStandsFor state.core (past_told s e o)) (sym (is.tells (reply st))) h.core;
+      many = subst (λ o. length (slice_set state.nodes p after) ≡ numbered (world_nodes state) (past_told s e o))
+          (sym (is.tells (reply st))) (same ∙ h.many);
       nodes = λ n lt.
-          subst (λ o. slice_get (slice_set state.nodes p after) n
-          ≡ Some (a_node n (stamp_or n o (last_stamp n s)) (with_item n (item_made e (reply st)) (issued n s))))
+          subst (λ o. slice_get (slice_set state.nodes p after) n ≡ Some (node_by n o (item_made e (reply st)) s))
           (sym (is.marks st))
-          (subst (λ o. slice_get (slice_set state.nodes p after) n ≡ Some (a_node n
-          (stamp_or n (Some (p, st)) (last_stamp n s)) (with_item n o (issued n s)))) (sym (is.makes (reply st)))
-          (subst (λ x. slice_get (slice_set state.nodes p x) n
-          ≡ Some (a_node n (stamp_or n (Some (p, st)) (last_stamp n s)) (issued n s))) (sym came)
-          (nodes-stamped state.nodes (λ k. last_stamp k s) (λ k. issued k s) p st inside h.nodes n (rw same at lt))));
+          (subst (λ o. slice_get (slice_set state.nodes p after) n ≡ Some (node_by n (Some (p, st)) o s))
+          (sym (is.makes (reply st)))
+          (subst (λ x. slice_get (slice_set state.nodes p x) n ≡ Some (node_by n (Some (p, st)) None s)) (sym came)
+          (nodes-stamped state.nodes (λ k. last_stamp k s) (λ k. issued k s) (λ k. gone k s) p st inside
+          h.nodes n (rw same at lt))));
       messages = subst (λ o. state.messages ≡ with_message o (sent s)) (sym (is.sends (reply st))) h.messages;
     }
 
 -- one that did not see it
 pub sees_not : (state : State) (s : List (Event × Reply)) (e : Event) (reply : ℕ → Reply) (p seen reading : ℕ)
     (before after : KeptIssuer) (refusal : Refusal) → IsSight (world_nodes state) s e reply p seen reading
-    → StandsFor state s → p < world_nodes state → slice_get state.nodes p ≡ Some before
+    → StandsFor state s → p < length state.nodes → slice_get state.nodes p ≡ Some before
     → Sees before after seen reading (Err refusal) → StandsFor (with_node state p after) ((e, Refused refusal) ∷ s)
 sees_not state s e reply p seen reading before after refusal is h inside at left =
-    let was : before ≡ a_node p (last_stamp p s) (issued p s) = some-injective _ _ (sym at ∙ h.nodes p inside) in
-    let due' : stamp_refusal (stamp_due (last_stamp p s ∷ seen ∷ []) reading) ≡ Some refusal =
-    ap (λ issuer. stamp_refusal (stamp_due (issuer.node.last ∷ seen ∷ []) reading)) (sym was) ∙ left.0 in
+    let due : issue_refusal (event_due (node_of p s) (last_stamp p s ∷ seen ∷ []) reading) ≡ Some refusal =
+    ap (λ issuer. issue_refusal (event_due issuer.node (issuer.node.last ∷ seen ∷ []) reading))
+    (sym (was state s p before h inside at)) ∙ left.0 in
     let unchanged : slice_set state.nodes p after ≡ state.nodes = ap (λ x. slice_set state.nodes p x) left.1
     ∙ set-same state.nodes p before at in
     subst (λ xs. StandsFor (record { core = state.core; nodes = xs; messages = state.messages })
     ((e, Refused refusal) ∷ s)) (sym unchanged)
     (stays state s e refusal (is.makes _) (is.not_marked _) (is.sends _) (is.tells _)
-    (inl (is.refusal ∙ on_node-inside (world_nodes state) p _ inside ∙ due')) h)
+    (inl (is.refusal ∙ sight-due (world_nodes state) s p _ (there state s p h inside) ∙ due)) h)
 
 pub fresh-length : (n : ℕ) → length (fresh n) ≡ n
 fresh-length zero = refl
 fresh-length (suc n) = length-append (fresh n) _ ∙ (let e = fresh-length n in omega (arith, e))
 
-fresh-at : (n k : ℕ) → k < n → slice_get (fresh n) k ≡ Some (a_node k 0 [])
+fresh-at : (n k : ℕ) → k < n → slice_get (fresh n) k ≡ Some (a_node k 0 [] false)
 fresh-at zero k h = absurd (omega arith)
 fresh-at (suc n) k h =
     elim (cases_eq k n) [
       | inl same ↦ ap (λ j. slice_get (fresh (suc n)) j) (same ∙ sym (fresh-length n))
-          ∙ get-push (fresh n) (a_node n 0 []) ∙ ap (λ j. Some (a_node j 0 [])) (sym same)
-      | inr other ↦ get-append_left (fresh n) (a_node n 0 [] ∷ []) k (let e = fresh-length n in omega (arith, e))
+          ∙ get-push (fresh n) (a_node n 0 [] false) ∙ ap (λ j. Some (a_node j 0 [] false)) (sym same)
+      | inr other ↦ get-append_left (fresh n) (a_node n 0 [] false ∷ []) k (let e = fresh-length n in omega (arith, e))
           ∙ fresh-at n k (omega arith)
     ]
 
 -- a new world
-pub starts : (n : ℕ) (core : Kept) → CoreStandsFor core []
+pub starts : (n : ℕ) (core : Kept) → core_nodes core ≡ n → CoreStandsFor core []
     → StandsFor (record { core = core; nodes = fresh n; messages = [] }) []
-starts n core h = record {
+starts n core is h = record {
   legal = tt;
   core = h;
+  many = fresh-length n ∙ sym is;
   nodes = λ k lt. fresh-at n k (let e = fresh-length n in omega (arith, e));
   messages = refl;
 }

@@ -1,8 +1,9 @@
 -- What is true of the items of every legal schedule: they bear their numbers, their stamps rise, none is above its
 -- node's clock, and those that were not yet accepted lie above the node's head.
--- So the store refuses an issued item for its number alone.
-use Rattle.std.proofs.Common.{◌≡◌, ℕ, ◌+◌, ◌*◌, ◌<◌, ◌≤◌, ◌⊎◌, List, [], ◌∷◌, ◌++◌, length, max, Some, None, Ok, Err}
-use Rattle.std.proofs.Common.{Option, Result, refl, ap, sym, ◌∙◌, subst, inl, inr, arith, length-append}
+-- So the store refuses an issued item for its number alone. A node that is not there yet has no stamp.
+use Rattle.std.proofs.Common.{◌≡◌, ℕ, Bool, true, false, ◌+◌, ◌*◌, ◌<◌, ◌≤◌, ◌⊎◌, List, [], ◌∷◌, ◌++◌, length, max}
+use Rattle.std.proofs.Common.{Some, None, Ok, Err, Option, Result, refl, ap, sym, ◌∙◌, subst, inl, inr, arith}
+use Rattle.std.proofs.Common.{length-append}
 use Rattle.std.specs.Prelude.{◌==◌, nat_le, slice_get, if◌then◌else◌}
 use Rattle.std.proofs.lemmas.Option.{slice_get_within}
 use Rattle.std.proofs.lemmas.Bool.{cond-true, cond-false, le-leb, lt-leb, eq-eqb, ne_eqb, cases_lt, cases_eq}
@@ -12,31 +13,32 @@ use Rattle.hlc_clock.specs.declared.clock.ClockFault.{ClockFault}
 use Rattle.hlc_clock.specs.declared.clock.ClockFault.TheVariants as clock_fault
 use Rattle.hlc_node.specs.declared.item.Item.{Item}
 use Rattle.hlc_node.specs.declared.item.Body.{Body}
-use Rattle.hlc_node.specs.declared.item.Body.TheVariants.{Write as a_write, Report as a_report}
+use Rattle.hlc_node.specs.declared.item.Body.TheVariants.{Write as a_write, Report as a_report, Retire as a_retire}
 use Rattle.hlc_node.specs.declared.item.BodyFault.{BodyFault}
 use Rattle.hlc_node.specs.declared.item.Message.{Message}
 use Rattle.hlc_node.specs.declared.node.NodeFault.{NodeFault}
 use Rattle.hlc_node.specs.declared.node.NodeFault.TheVariants.{NumbersSpent}
 use Rattle.hlc_node.specs.Items.{body_refusal}
-use Rattle.hlc_node.specs.Node.{Node, clocked, unless_bad, issue_due}
-use Rattle.hlc_floor.specs.Heads.{Acceptance}
+use Rattle.hlc_node.specs.Node.{Node, clocked, unless_retired, unless_bad, issue_due}
 use Rattle.hlc_core.specs.declared.fault.CoreFault.{CoreFault}
 use Rattle.hlc_core.specs.declared.event.CoreEvent.{CoreEvent}
 use Rattle.hlc_core.specs.declared.reply.CoreReply.{CoreReply}
-use Rattle.hlc_core.specs.declared.reply.CoreReply.TheVariants.{Accepted as accepted}
-use Rattle.hlc_core.specs.Past.{Step, Took, count, head, item_refusal}
-use Rattle.hlc_core.proofs.PastLemmas.{inside, on_link, admissible}
+use Rattle.hlc_core.specs.Past.{Step, Took, Joined as JoinedOf, numbered, retired, count, head, item_refusal}
+use Rattle.hlc_core.proofs.PastLemmas.{inside, on_link as on_its_link, admissible}
 use Rattle.hlc_core.specs.History.{past_of}
-use Rattle.hlc_world.specs.declared.event.Event.TheVariants.{Write, Delete, Report, Send, Receive, Observe, Deliver}
-use Rattle.hlc_world.specs.declared.event.Event.TheVariants.{OpenAt, OpenFloor, Read, List as ListAll, Close, Vacuum}
+use Rattle.hlc_world.specs.declared.event.Event.TheVariants.{Write, Delete, Report, Retire, Join, Send, Receive}
+use Rattle.hlc_world.specs.declared.event.Event.TheVariants.{Observe}
+use Rattle.hlc_world.specs.declared.event.Event.TheVariants.{Deliver, OpenAt, OpenFloor, Read, List as ListAll, Close}
+use Rattle.hlc_world.specs.declared.event.Event.TheVariants.{Vacuum}
 use Rattle.hlc_world.specs.declared.reply.Reply.{Reply}
-use Rattle.hlc_world.specs.declared.reply.Reply.TheVariants.{Stamped, Sent, Received, Observed, Accepted, Snapshot}
-use Rattle.hlc_world.specs.declared.reply.Reply.TheVariants.{Answer, Listing, Closed, Vacuumed}
+use Rattle.hlc_world.specs.declared.reply.Reply.TheVariants.{Stamped, Joined, Sent, Received, Observed, Accepted}
+use Rattle.hlc_world.specs.declared.reply.Reply.TheVariants.{Snapshot, Answer, Listing, Closed, Vacuumed}
 use Rattle.hlc_world.specs.declared.refusal.Refusal.{Refusal}
-use Rattle.hlc_world.specs.declared.refusal.Refusal.TheVariants.{NoNode}
-use Rattle.hlc_world.specs.Schedule.{Event, an_item, with_item, stamp_or, issued, last_stamp, node_of}
-use Rattle.hlc_world.specs.Store.{accepting, joined, with_entry, store_history, core_past}
-use Rattle.hlc_world.specs.Due.{core_refusal, on_node, deliver_refusal, IsReceived, IsObserved, IsGiven, IsLegal}
+use Rattle.hlc_world.specs.declared.refusal.Refusal.TheVariants.{NoNode, Retired as IsRetired}
+use Rattle.hlc_world.specs.Schedule.{Event, an_item, with_item, stamp_or, issued, gone, last_stamp, node_of}
+use Rattle.hlc_world.specs.Store.{accepting, accepted, paired, with_entry, store_history, core_past}
+use Rattle.hlc_world.specs.Due.{core_refusal, on_link, on_node, deliver_refusal, IsReceived, IsObserved, IsGiven}
+use Rattle.hlc_world.specs.Due.{IsLegal}
 use Rattle.hlc_world.proofs.Lists.{some-injective, get-append_left, get-push}
 use Rattle.hlc_world.proofs.Nodes.{with_item-same, with_item-other, stamp_or-other}
 
@@ -51,12 +53,13 @@ pub record FitsItsNode (nodes last next top n k : ℕ) (item : Item) : Type 0 wh
   pub ahead : next ≤ k → top < item.stamp
 
 -- the issued items and what was accepted fit together
-pub record Orderly (nodes : ℕ) (items : ℕ → List Item) (lasts counts heads : ℕ → ℕ) : Type 0 where
+pub record Orderly (many : ℕ) (items : ℕ → List Item) (lasts counts heads : ℕ → ℕ) : Type 0 where
   pub each : (n k : ℕ) (item : Item) → slice_get (items n) k ≡ Some item
-      → FitsItsNode nodes (lasts n) (counts n) (heads n) n k item
+      → FitsItsNode many (lasts n) (counts n) (heads n) n k item
   pub rising : (n j k : ℕ) (a b : Item) → j < k → slice_get (items n) j ≡ Some a → slice_get (items n) k ≡ Some b
       → a.stamp < b.stamp
   pub head_low : (n : ℕ) → heads n ≤ lasts n
+  pub fresh : (n : ℕ) → many ≤ n → lasts n ≡ 0
 
 -- an item after one more was issued is an old one or that one
 pub get-with_item : (n k : ℕ) (item x : Item) (xs : List Item) → slice_get (with_item n (Some item) xs) k ≡ Some x
@@ -90,10 +93,10 @@ stamp_or-grows n p st last up =
     ]
 
 -- an event with a higher stamp keeps the order
-orderly-mark : (nodes : ℕ) (items : ℕ → List Item) (lasts counts heads : ℕ → ℕ) (p st : ℕ)
-    → Orderly nodes items lasts counts heads → lasts p < st
-    → Orderly nodes items (λ n. stamp_or n (Some (p, st)) (lasts n)) counts heads
-orderly-mark nodes items lasts counts heads p st h up =
+orderly-mark : (many : ℕ) (items : ℕ → List Item) (lasts counts heads : ℕ → ℕ) (p st : ℕ)
+    → Orderly many items lasts counts heads → p < many → lasts p < st
+    → Orderly many items (λ n. stamp_or n (Some (p, st)) (lasts n)) counts heads
+orderly-mark many items lasts counts heads p st h inside up =
     let grows : (n : ℕ) → lasts n ≤ stamp_or n (Some (p, st)) (lasts n) =
     λ n. stamp_or-grows n p st (lasts n) (λ e. subst (λ j. lasts j < st) e up) in
     record {
@@ -110,6 +113,7 @@ orderly-mark nodes items lasts counts heads p st h up =
           });
       rising = h.rising;
       head_low = λ n. (let g = grows n in let l : heads n ≤ lasts n = h.head_low n in omega (arith, g));
+      fresh = λ n out. stamp_or-other n p st (lasts n) (λ e. omega (arith, out, e)) ∙ h.fresh n out;
     }
 
 -- so does an item that a node issues
@@ -119,7 +123,7 @@ orderly-issue : (nodes : ℕ) (items : ℕ → List Item) (lasts counts heads : 
     (λ n. with_item n (Some (an_item p num st body)) (items n)) (λ n. stamp_or n (Some (p, st)) (lasts n)) counts heads
 orderly-issue nodes items lasts counts heads p st num body h inside is left ok up =
     let item = an_item p num st body in
-    let m = orderly-mark nodes items lasts counts heads p st h up in
+    let m = orderly-mark nodes items lasts counts heads p st h inside up in
     record {
       each = λ n k x at.
           elim (get-with_item n k item x (items n) at) [
@@ -162,6 +166,7 @@ orderly-issue nodes items lasts counts heads p st num body h inside is left ok u
                 ])
           ];
       head_low = m.head_low;
+      fresh = m.fresh;
     }
 
 pub count-same : (n : ℕ) (item : Item) (past : List Step) → item.node ≡ n
@@ -221,14 +226,64 @@ orderly-took nodes items lasts past p k item h at next =
             | inr other ↦ (let b : head n (Took item ∷ past) ≡ head n past = head-other n item past other in
                 let l : head n past ≤ lasts n = h.head_low n in omega arith)
           ];
+      fresh = h.fresh;
     }
 
--- a node that nothing refused is there
-pub on_node-none : (nodes p : ℕ) (rest : Option Refusal) → on_node nodes p rest ≡ None → (p < nodes) × (rest ≡ None)
-on_node-none nodes p rest h =
-    elim (cases_lt p nodes) [
-      | inl inside ↦ (inside, sym (cond-false _ _ _ (lt-leb nodes p inside)) ∙ h)
-      | inr outside ↦ absurd (let e : Some NoNode ≡ None = sym (cond-true _ _ _ (le-leb nodes p outside)) ∙ h in cc)
+-- and so does a node that joins
+orderly-join : (many : ℕ) (items : ℕ → List Item) (lasts counts : ℕ → ℕ) (past : List Step) (node start : ℕ)
+    → Orderly many items lasts counts (λ n. head n past) → node ≡ many
+    → Orderly (many + 1) items (λ n. stamp_or n (Some (node, start)) (lasts n)) counts
+    (λ n. head n (JoinedOf node start ∷ past))
+orderly-join many items lasts counts past node start h is =
+    let before : (n : ℕ) → (node ≡ n → ⊥)
+    → (stamp_or n (Some (node, start)) (lasts n) ≡ lasts n) × (head n (JoinedOf node start ∷ past) ≡ head n past) =
+    λ n other. (stamp_or-other n node start (lasts n) other, cond-false _ _ _ (ne_eqb node n other)) in
+    record {
+      each = λ n k item m.
+          (let i = h.each n k item m in
+          let within : n < many = i.inside in
+          let b = before n (λ e. omega (arith, e, is)) in
+          record {
+            inside = omega arith;
+            node = i.node;
+            number = i.number;
+            left = i.left;
+            body = i.body;
+            low = (let l : item.stamp ≤ lasts n = i.low in omega (arith, b.0));
+            ahead = λ c. (let a : head n past < item.stamp = i.ahead c in omega (arith, b.1));
+          });
+      rising = h.rising;
+      head_low = λ n.
+          elim (cases_eq node n) [
+            | inl same ↦
+                (let a : stamp_or n (Some (node, start)) (lasts n) ≡ start = cond-true _ _ _ (eq-eqb node n same) in
+                let b : head n (JoinedOf node start ∷ past) ≡ start = cond-true _ _ _ (eq-eqb node n same) in
+                omega arith)
+            | inr other ↦
+                (let b = before n other in let l : head n past ≤ lasts n = h.head_low n in omega (arith, b.0, b.1))
+          ];
+      fresh = λ n out. (before n (λ e. omega (arith, e, is, out))).0 ∙ h.fresh n (omega (arith, out));
+    }
+
+-- a link that nothing refused is there
+pub on_link-none : (nodes : ℕ) (s : List (Event × Reply)) (p : ℕ) (rest : Option Refusal)
+    → on_link nodes s p rest ≡ None → (p < numbered nodes (core_past s)) × (rest ≡ None)
+on_link-none nodes s p rest h =
+    elim (cases_lt p (numbered nodes (core_past s))) [
+      | inl inside ↦ (inside, sym (cond-false _ _ _ (lt-leb (numbered nodes (core_past s)) p inside)) ∙ h)
+      | inr outside ↦ absurd
+          (let e : Some NoNode ≡ None =
+          sym (cond-true _ _ _ (le-leb (numbered nodes (core_past s)) p outside)) ∙ h in cc)
+    ]
+
+-- a node that nothing refused is there and has not retired
+pub on_node-none : (nodes : ℕ) (s : List (Event × Reply)) (p : ℕ) (rest : Option Refusal)
+    → on_node nodes s p rest ≡ None → (p < numbered nodes (core_past s)) × (gone p s ≡ false) × (rest ≡ None)
+on_node-none nodes s p rest h =
+    let there = on_link-none nodes s p _ h in
+    elim (cases_Bool (gone p s)) [
+      | inl over ↦ absurd (let e : Some IsRetired ≡ None = sym (cond-true _ _ _ over) ∙ there.1 in cc)
+      | inr here ↦ (there.0, here, sym (cond-false _ _ _ here) ∙ there.1)
     ]
 
 clocked-ok : (r : Result ℕ ClockFault) (st : ℕ) → clocked r ≡ Ok st → r ≡ Ok st
@@ -273,11 +328,13 @@ observed-rises None last reading st h = absurd h
 observed-rises (Some seen) last reading st h = (sight-rises last seen reading st h).0
 
 -- what it says of an item that a stamp is due to it
-issue-by : (body : Option BodyFault) (last next reading st : ℕ) → unless_bad body
-    (if next == 18446744073709551615 then Err NumbersSpent else clocked (stamp_due (last ∷ []) reading)) ≡ Ok st
+issue-by : (over : Bool) (body : Option BodyFault) (last next reading st : ℕ)
+    → unless_retired over (unless_bad body
+    (if next == 18446744073709551615 then Err NumbersSpent else clocked (stamp_due (last ∷ []) reading))) ≡ Ok st
     → (body ≡ None) × (next ≡ 18446744073709551615 → ⊥) × (last < st)
-issue-by (Some fault) last next reading st h = absurd (cc)
-issue-by None last next reading st h =
+issue-by true body last next reading st h = absurd (cc)
+issue-by false (Some fault) last next reading st h = absurd (cc)
+issue-by false None last next reading st h =
     elim (cases_eq next 18446744073709551615) [
       | inl spent ↦ absurd (let e : ◌≡◌ {A = Result ℕ NodeFault} (Err NumbersSpent) (Ok st) =
           sym (cond-true _ _ _ (eq-eqb _ _ spent)) ∙ h in cc)
@@ -287,7 +344,7 @@ issue-by None last next reading st h =
 
 pub issue-ok : (node : Node) (body : Body) (reading st : ℕ) → issue_due node body reading ≡ Ok st
     → (body_refusal body ≡ None) × (node.next ≡ 18446744073709551615 → ⊥) × (node.last < st)
-issue-ok node body reading st h = issue-by (body_refusal body) node.last node.next reading st h
+issue-ok node body reading st h = issue-by node.retired (body_refusal body) node.last node.next reading st h
 
 -- where the world refuses nothing for the core, the core does not refuse
 pub no-core : (o : Option CoreFault) → core_refusal o ≡ None → o ≡ None
@@ -299,34 +356,49 @@ pub delivered : (nodes : ℕ) (past : List Step) (p k : ℕ) (item : Item) → i
     → deliver_refusal nodes past (Some item) ≡ None → k ≡ count p past
 delivered nodes past p k item own number none =
     let accepts : item_refusal nodes past item ≡ None = no-core (item_refusal nodes past item) none in
-    let link = sym (on_link nodes past item (inside nodes past item accepts)) ∙ accepts in
-    sym number ∙ (admissible (count item.node past) (head item.node past) item link).number ∙ ap (λ j. count j past) own
+    let link = sym (on_its_link nodes past item (inside nodes past item accepts)) ∙ accepts in
+    sym number
+    ∙ (admissible (retired item.node past) (count item.node past) (head item.node past) item link).number
+    ∙ ap (λ j. count j past) own
 
 -- the core's past after a delivery
-abbrev pub past_taken : Acceptance → Option Item → List (CoreEvent × CoreReply) → List Step
-past_taken acceptance o history = past_of (with_entry (joined (Some (accepted acceptance)) (accepting o)) history)
+abbrev pub past_taken : ℕ → ℕ → Option Item → List (CoreEvent × CoreReply) → List Step
+past_taken p st o history = past_of (with_entry (paired (accepted p st o) (accepting o)) history)
 
+-- the items fit together in a schedule, after which the core's past is this
+abbrev IsOrderlyAt : ℕ → List (Event × Reply) → List Step → Type 0
+IsOrderlyAt nodes s past =
+    Orderly (numbered nodes past) (λ n. issued n s) (λ n. last_stamp n s) (λ n. count n past) (λ n. head n past)
+
+-- and so they do after each event of it
 abbrev pub IsOrderly : ℕ → List (Event × Reply) → Type 0
-IsOrderly nodes s =
-    Orderly nodes (λ n. issued n s) (λ n. last_stamp n s) (λ n. count n (core_past s)) (λ n. head n (core_past s))
+IsOrderly nodes s = IsOrderlyAt nodes s (core_past s)
 
 orderly-issued : (nodes : ℕ) (s : List (Event × Reply)) (p reading st num : ℕ) (body : Body) (rest : Option Refusal)
-    → on_node nodes p rest ≡ None → issue_due (node_of p s) body reading ≡ Ok st → num ≡ length (issued p s)
-    → IsOrderly nodes s → Orderly nodes (λ n. with_item n (Some (an_item p num st body)) (issued n s))
-    (λ n. stamp_or n (Some (p, st)) (last_stamp n s)) (λ n. count n (core_past s)) (λ n. head n (core_past s))
+    → on_node nodes s p rest ≡ None → issue_due (node_of p s) body reading ≡ Ok st → num ≡ length (issued p s)
+    → IsOrderly nodes s → Orderly (numbered nodes (core_past s))
+    (λ n. with_item n (Some (an_item p num st body)) (issued n s)) (λ n. stamp_or n (Some (p, st)) (last_stamp n s))
+    (λ n. count n (core_past s)) (λ n. head n (core_past s))
 orderly-issued nodes s p reading st num body rest none due is h =
     let f = issue-ok (node_of p s) body reading st due in
-    orderly-issue nodes (λ n. issued n s) (λ n. last_stamp n s) (λ n. count n (core_past s))
-    (λ n. head n (core_past s)) p st num body h (on_node-none nodes p rest none).0 is f.1 f.0 f.2
+    orderly-issue (numbered nodes (core_past s)) (λ n. issued n s) (λ n. last_stamp n s) (λ n. count n (core_past s))
+    (λ n. head n (core_past s)) p st num body h (on_node-none nodes s p rest none).0 is f.1 f.0 f.2
 
-orderly-taken : (nodes : ℕ) (s : List (Event × Reply)) (p k : ℕ) (acceptance : Acceptance) (o : Option Item)
+orderly-stamped : (nodes : ℕ) (s : List (Event × Reply)) (p st : ℕ) (rest : Option Refusal)
+    → on_node nodes s p rest ≡ None → last_stamp p s < st
+    → IsOrderly nodes s → Orderly (numbered nodes (core_past s)) (λ n. issued n s)
+    (λ n. stamp_or n (Some (p, st)) (last_stamp n s)) (λ n. count n (core_past s)) (λ n. head n (core_past s))
+orderly-stamped nodes s p st rest none up h =
+    orderly-mark (numbered nodes (core_past s)) (λ n. issued n s) (λ n. last_stamp n s) (λ n. count n (core_past s))
+    (λ n. head n (core_past s)) p st h (on_node-none nodes s p rest none).0 up
+
+orderly-taken : (nodes : ℕ) (s : List (Event × Reply)) (p k st : ℕ) (o : Option Item)
     → slice_get (issued p s) k ≡ o → deliver_refusal nodes (core_past s) o ≡ None → IsOrderly nodes s
-    → Orderly nodes (λ n. issued n s) (λ n. last_stamp n s) (λ n. count n (past_taken acceptance o (store_history s)))
-    (λ n. head n (past_taken acceptance o (store_history s)))
-orderly-taken nodes s p k acceptance None at none h = h
-orderly-taken nodes s p k acceptance (Some item) at none h =
+    → IsOrderlyAt nodes s (past_taken p st o (store_history s))
+orderly-taken nodes s p k st None at none h = h
+orderly-taken nodes s p k st (Some item) at none h =
     let is = h.each p k item at in
-    orderly-took nodes (λ n. issued n s) (λ n. last_stamp n s) (core_past s) p k item h at
+    orderly-took (numbered nodes (core_past s)) (λ n. issued n s) (λ n. last_stamp n s) (core_past s) p k item h at
     (delivered nodes (core_past s) p k item is.node is.number none)
 
 orderly-entry : (nodes : ℕ) (s : List (Event × Reply)) (event : Event) (reply : Reply) → IsGiven nodes s event reply
@@ -337,18 +409,19 @@ orderly-entry nodes s (Delete p reading key) (Stamped st num) given h =
     orderly-issued nodes s p reading st num (a_write key None) _ given.0 given.1.0 given.1.1 h
 orderly-entry nodes s (Report p reading) (Stamped st num) given h =
     orderly-issued nodes s p reading st num a_report _ given.0 given.1.0 given.1.1 h
+orderly-entry nodes s (Retire p reading) (Stamped st num) given h =
+    orderly-issued nodes s p reading st num a_retire _ given.0 given.1.0 given.1.1 h
+orderly-entry nodes s Join (Joined node start) given h =
+    orderly-join (numbered nodes (core_past s)) (λ n. issued n s) (λ n. last_stamp n s) (λ n. count n (core_past s))
+    (core_past s) node start h given.1.0
 orderly-entry nodes s (Send p reading) (Sent st num) given h =
-    orderly-mark nodes (λ n. issued n s) (λ n. last_stamp n s) (λ n. count n (core_past s))
-    (λ n. head n (core_past s)) p st h (stamp-rises _ reading st given.1.0)
+    orderly-stamped nodes s p st _ given.0 (stamp-rises _ reading st given.1.0) h
 orderly-entry nodes s (Receive p reading number) (Received st) given h =
-    orderly-mark nodes (λ n. issued n s) (λ n. last_stamp n s) (λ n. count n (core_past s))
-    (λ n. head n (core_past s)) p st h (received-rises _ _ reading st given.1)
+    orderly-stamped nodes s p st _ given.0 (received-rises _ _ reading st given.1) h
 orderly-entry nodes s (Observe p reading id) (Observed st) given h =
-    orderly-mark nodes (λ n. issued n s) (λ n. last_stamp n s) (λ n. count n (core_past s))
-    (λ n. head n (core_past s)) p st h (observed-rises _ _ reading st given.1)
+    orderly-stamped nodes s p st _ given.0 (observed-rises _ _ reading st given.1) h
 orderly-entry nodes s (Deliver p k) (Accepted st) given h =
-    orderly-taken nodes s p k (record { node = p; stamp = st }) (slice_get (issued p s) k) refl
-    (on_node-none nodes p _ given.0).1 h
+    orderly-taken nodes s p k st (slice_get (issued p s) k) refl (on_link-none nodes s p _ given.0).1 h
 orderly-entry nodes s (OpenAt at) (Snapshot id st) given h = h
 orderly-entry nodes s OpenFloor (Snapshot id st) given h = h
 orderly-entry nodes s (Read id key) (Answer value) given h = h
@@ -364,5 +437,6 @@ orderly nodes [] legal =
       each = λ n k item m. absurd (let w : k < 0 = slice_get_within [] k item m in omega arith);
       rising = λ n j k a b lt m. absurd (let w : j < 0 = slice_get_within [] j a m in omega arith);
       head_low = λ n. omega arith;
+      fresh = λ n out. refl;
     }
 orderly nodes (entry ∷ s) legal = orderly-entry nodes s entry.0 entry.1 legal.0 (orderly nodes s legal.1)

@@ -1,36 +1,39 @@
 -- No world answers that a stamp does not rise: no due refusal says it, since a delivery is of an issued item, and is
--- refused for its number alone.
-use Rattle.std.proofs.Common.{◌≡◌, ℕ, List, [], ◌∷◌, length, Some, None, Option, Ok, Err, Result, ap, sym, ◌∙◌, subst}
-use Rattle.std.proofs.Common.{inl, inr}
-use Rattle.std.specs.Prelude.{nat_le, nat_lt}
+-- refused for its number alone, or since its node's last item was accepted.
+use Rattle.std.proofs.Common.{◌≡◌, ℕ, Bool, true, false, List, [], ◌∷◌, length, Some, None, Option, Ok, Err, Result, ap}
+use Rattle.std.proofs.Common.{sym, ◌∙◌, subst, inl, inr}
+use Rattle.std.specs.Prelude.{nat_le, nat_lt, if◌then◌else◌}
 use Rattle.std.proofs.lemmas.Bool.{cond-true, cond-false, eq-eqb, ne_eqb, cases_eq, cases_Bool}
 use Rattle.hlc_clock.specs.NextStamp.{stamp_due}
 use Rattle.hlc_clock.specs.declared.clock.ClockFault.{ClockFault}
 use Rattle.hlc_clock.specs.declared.clock.ClockFault.TheVariants as clock_fault
 use Rattle.hlc_node.specs.declared.item.Item.{Item}
-use Rattle.hlc_node.specs.declared.item.Body.TheVariants.{Write as a_write, Report as a_report}
+use Rattle.hlc_node.specs.declared.item.Body.TheVariants.{Write as a_write, Report as a_report, Retire as a_retire}
 use Rattle.hlc_node.specs.declared.item.BodyFault.TheVariants as body_fault
 use Rattle.hlc_node.specs.declared.item.Message.{Message}
 use Rattle.hlc_node.specs.declared.node.NodeFault.{NodeFault}
 use Rattle.hlc_node.specs.declared.node.NodeFault.TheVariants as node_fault
 use Rattle.hlc_node.specs.Node.{issue_due}
+use Rattle.hlc_floor.specs.declared.heads.TheConstants.{MOST_NUMBERS}
 use Rattle.hlc_core.specs.Calls.{list_refusal}
-use Rattle.hlc_core.specs.Past.{Step, count, floor, horizon, opened, stamp_of, open_snapshots, of_room, open_refusal}
+use Rattle.hlc_core.specs.Past.{Step, numbered, retired, count, floor, horizon, opened, stamp_of, open_snapshots}
+use Rattle.hlc_core.specs.Past.{join_refusal, of_room, open_refusal}
 use Rattle.hlc_snapshot.specs.declared.fault.SnapshotFault.{SnapshotFault}
 use Rattle.hlc_snapshot.specs.declared.fault.SnapshotFault.TheVariants as snapshot_fault
 use Rattle.hlc_snapshot.specs.Register.{room_refusal as room_in}
-use Rattle.hlc_world.specs.declared.event.Event.TheVariants.{Write, Delete, Report, Send, Receive, Observe, Deliver}
-use Rattle.hlc_world.specs.declared.event.Event.TheVariants.{OpenAt, OpenFloor, Read, List as ListAll, Close, Floor}
-use Rattle.hlc_world.specs.declared.event.Event.TheVariants.{Vacuum, Rows}
+use Rattle.hlc_world.specs.declared.event.Event.TheVariants.{Write, Delete, Report, Retire, Join, Send, Receive}
+use Rattle.hlc_world.specs.declared.event.Event.TheVariants.{Observe}
+use Rattle.hlc_world.specs.declared.event.Event.TheVariants.{Deliver, OpenAt, OpenFloor, Read, List as ListAll, Close}
+use Rattle.hlc_world.specs.declared.event.Event.TheVariants.{Floor, Vacuum, Rows}
 use Rattle.hlc_world.specs.declared.reply.Reply.{Reply}
 use Rattle.hlc_world.specs.declared.reply.Reply.TheVariants.{Refused}
 use Rattle.hlc_world.specs.declared.refusal.Refusal.{Refusal}
-use Rattle.hlc_world.specs.declared.refusal.Refusal.TheVariants.{NoNode, NotNext, StampNotRising, AboveFloor}
-use Rattle.hlc_world.specs.declared.refusal.Refusal.TheVariants.{BelowHorizon, NoMemory}
-use Rattle.hlc_world.specs.Schedule.{Event, item_at, last_stamp, message_at, node_of}
+use Rattle.hlc_world.specs.declared.refusal.Refusal.TheVariants.{NoNode, Retired as IsRetired, TooManyNodes, NotNext}
+use Rattle.hlc_world.specs.declared.refusal.Refusal.TheVariants.{StampNotRising, AboveFloor, BelowHorizon, NoMemory}
+use Rattle.hlc_world.specs.Schedule.{Event, gone, item_at, last_stamp, message_at, node_of}
 use Rattle.hlc_world.specs.Store.{core_past}
-use Rattle.hlc_world.specs.Due.{issue_refusal, stamp_refusal, receive_refusal, observe_refusal, core_refusal, on_node}
-use Rattle.hlc_world.specs.Due.{refusal_due, number_refusal, GoesByNumber, IsGiven, IsLegal}
+use Rattle.hlc_world.specs.Due.{issue_refusal, stamp_refusal, receive_refusal, observe_refusal, core_refusal, on_link}
+use Rattle.hlc_world.specs.Due.{on_node, refusal_due, number_refusal, GoesByNumber, IsGiven, IsLegal}
 use Rattle.hlc_world.proofs.Delivery.{goes-by-number}
 
 -- the refusal is not that a stamp does not rise
@@ -47,6 +50,7 @@ issue-rise (Ok st) head e = absurd (cc)
 issue-rise (Err (node_fault.BadBody body_fault.BadKey)) head e = absurd (cc)
 issue-rise (Err (node_fault.BadBody body_fault.ValueTooLong)) head e = absurd (cc)
 issue-rise (Err node_fault.NumbersSpent) head e = absurd (cc)
+issue-rise (Err node_fault.Retired) head e = absurd (cc)
 issue-rise (Err (node_fault.NoStamp fault)) head e = stamp-rise (Err fault) head e
 
 receive-rise : (o : Option Message) (last reading : ℕ) → IsRise (receive_refusal o last reading)
@@ -57,9 +61,10 @@ observe-rise : (o : Option ℕ) (last reading : ℕ) → IsRise (observe_refusal
 observe-rise None last reading head e = absurd (cc)
 observe-rise (Some seen) last reading head e = stamp-rise (stamp_due (last ∷ seen ∷ []) reading) head e
 
-number-rise : (o : Option Item) (number next : ℕ) → IsRise (number_refusal o number next)
-number-rise None number next head e = absurd (cc)
-number-rise (Some item) number next head e =
+number-rise : (o : Option Item) (over : Bool) (number next : ℕ) → IsRise (number_refusal o over number next)
+number-rise None over number next head e = absurd (cc)
+number-rise (Some item) true number next head e = absurd (cc)
+number-rise (Some item) false number next head e =
     elim (cases_eq number next) [
       | inl same ↦
           absurd (let g : None ≡ Some (StampNotRising head) = sym (cond-true _ _ _ (eq-eqb _ _ same)) ∙ e in cc)
@@ -92,29 +97,53 @@ snapshot-rise : (o : Option ℕ) → IsRise (core_refusal (list_refusal o))
 snapshot-rise None head e = absurd (cc)
 snapshot-rise (Some stamp) head e = absurd (cc)
 
-inside-rise : (nodes p : ℕ) (rest : Option Refusal) → IsRise rest → IsRise (on_node nodes p rest)
-inside-rise nodes p rest h head e =
-    elim (cases_Bool (nat_le nodes p)) [
+join-rise : (nodes : ℕ) (past : List Step) → IsRise (core_refusal (join_refusal nodes past))
+join-rise nodes past head e =
+    elim (cases_Bool (nat_le MOST_NUMBERS (numbered nodes past))) [
+      | inl full ↦ absurd (let g : Some TooManyNodes ≡ Some (StampNotRising head) =
+          ap core_refusal (sym (cond-true _ _ _ full)) ∙ e in cc)
+      | inr room ↦ absurd
+          (let g : None ≡ Some (StampNotRising head) = ap core_refusal (sym (cond-false _ _ _ room)) ∙ e in cc)
+    ]
+
+link-rise : (nodes : ℕ) (s : List (Event × Reply)) (p : ℕ) (rest : Option Refusal) → IsRise rest
+    → IsRise (on_link nodes s p rest)
+link-rise nodes s p rest h head e =
+    elim (cases_Bool (nat_le (numbered nodes (core_past s)) p)) [
       | inl outside ↦
           absurd (let g : Some NoNode ≡ Some (StampNotRising head) = sym (cond-true _ _ _ outside) ∙ e in cc)
       | inr inside ↦ h head (sym (cond-false _ _ _ inside) ∙ e)
     ]
 
+gone-rise : (over : Bool) (rest : Option Refusal) → IsRise rest → IsRise (if over then Some IsRetired else rest)
+gone-rise true rest h head e = absurd (cc)
+gone-rise false rest h head e = h head e
+
+inside-rise : (nodes : ℕ) (s : List (Event × Reply)) (p : ℕ) (rest : Option Refusal) → IsRise rest
+    → IsRise (on_node nodes s p rest)
+inside-rise nodes s p rest h =
+    link-rise nodes s p (if gone p s then Some IsRetired else rest) (gone-rise (gone p s) rest h)
+
 due-rise : (nodes : ℕ) (s : List (Event × Reply)) (event : Event) → GoesByNumber nodes s
     → IsRise (refusal_due nodes s event)
 due-rise nodes s (Write p reading key value) numbers =
-    inside-rise nodes p _ (issue-rise (issue_due (node_of p s) (a_write key (Some value)) reading))
+    inside-rise nodes s p _ (issue-rise (issue_due (node_of p s) (a_write key (Some value)) reading))
 due-rise nodes s (Delete p reading key) numbers =
-    inside-rise nodes p _ (issue-rise (issue_due (node_of p s) (a_write key None) reading))
+    inside-rise nodes s p _ (issue-rise (issue_due (node_of p s) (a_write key None) reading))
 due-rise nodes s (Report p reading) numbers =
-    inside-rise nodes p _ (issue-rise (issue_due (node_of p s) a_report reading))
-due-rise nodes s (Send p reading) numbers = inside-rise nodes p _ (stamp-rise (stamp_due (last_stamp p s ∷ []) reading))
+    inside-rise nodes s p _ (issue-rise (issue_due (node_of p s) a_report reading))
+due-rise nodes s (Retire p reading) numbers =
+    inside-rise nodes s p _ (issue-rise (issue_due (node_of p s) a_retire reading))
+due-rise nodes s Join numbers = join-rise nodes (core_past s)
+due-rise nodes s (Send p reading) numbers =
+    inside-rise nodes s p _ (stamp-rise (stamp_due (last_stamp p s ∷ []) reading))
 due-rise nodes s (Receive p reading k) numbers =
-    inside-rise nodes p _ (receive-rise (message_at k s) (last_stamp p s) reading)
+    inside-rise nodes s p _ (receive-rise (message_at k s) (last_stamp p s) reading)
 due-rise nodes s (Deliver p k) numbers =
-    subst IsRise (sym (numbers p k)) (inside-rise nodes p _ (number-rise (item_at p k s) k (count p (core_past s))))
+    subst IsRise (sym (numbers p k))
+    (link-rise nodes s p _ (number-rise (item_at p k s) (retired p (core_past s)) k (count p (core_past s))))
 due-rise nodes s (Observe p reading id) numbers =
-    inside-rise nodes p _ (observe-rise (stamp_of id (core_past s)) (last_stamp p s) reading)
+    inside-rise nodes s p _ (observe-rise (stamp_of id (core_past s)) (last_stamp p s) reading)
 due-rise nodes s (OpenAt stamp) numbers = open-rise nodes (core_past s) stamp
 due-rise nodes s OpenFloor numbers = room-rise (room_in (length (open_snapshots (core_past s))) (opened (core_past s)))
 due-rise nodes s (Read id key) numbers = snapshot-rise (stamp_of id (core_past s))

@@ -1,22 +1,25 @@
 -- Stamps follow events: each stamp of a node lies above its last one, each receipt above its message's, which is its
 -- sending's, and each observation above its snapshot's, which is that of its opening.
-use Rattle.std.proofs.Common.{◌≡◌, ℕ, ◌<◌, ◌≤◌, List, [], ◌∷◌, ◌++◌, length, Some, None, Option, refl, ap, sym, ◌∙◌}
-use Rattle.std.proofs.Common.{subst, inl, inr, arith}
+use Rattle.std.proofs.Common.{◌≡◌, ℕ, ◌<◌, ◌≤◌, ◌⊎◌, List, [], ◌∷◌, ◌++◌, length, Some, None, Option, refl, ap, sym}
+use Rattle.std.proofs.Common.{◌∙◌, subst, inl, inr, arith}
 use Rattle.std.specs.Prelude.{slice_get}
 use Rattle.std.proofs.lemmas.Option.{slice_get_within}
+use Rattle.std.proofs.lemmas.Bool.{cond-true, eq-eqb, cases_eq}
 use Rattle.hlc_node.specs.declared.item.Message.{Message}
-use Rattle.hlc_node.specs.declared.item.Body.TheVariants.{Write as a_write, Report as a_report}
-use Rattle.hlc_world.specs.declared.event.Event.TheVariants.{Write, Delete, Report, Send, Receive, Observe}
+use Rattle.hlc_node.specs.declared.item.Body.TheVariants.{Write as a_write, Report as a_report, Retire as a_retire}
+use Rattle.hlc_world.specs.declared.event.Event.TheVariants.{Write, Delete, Report, Retire, Join, Send, Receive}
+use Rattle.hlc_world.specs.declared.event.Event.TheVariants.{Observe}
 use Rattle.hlc_world.specs.declared.reply.Reply.{Reply}
-use Rattle.hlc_world.specs.declared.reply.Reply.TheVariants.{Stamped, Sent, Received, Observed}
-use Rattle.hlc_world.specs.Schedule.{stamping_of, stamp_or, message_made, with_message, last_stamp, sent, message_at}
-use Rattle.hlc_world.specs.Schedule.{Event, node_of}
+use Rattle.hlc_world.specs.declared.reply.Reply.TheVariants.{Stamped, Joined, Sent, Received, Observed}
+use Rattle.hlc_world.specs.Schedule.{stamping_of, mark_of, stamp_or, message_made, with_message, last_stamp, sent}
+use Rattle.hlc_world.specs.Schedule.{Event, message_at, node_of}
 use Rattle.hlc_world.specs.Due.{IsReceived, IsGiven, IsLegal}
 use Rattle.hlc_world.specs.Before.{entry_at, write_stamp, IsStamped, HappenedBefore, on_node, on_message}
 use Rattle.hlc_world.specs.Before.{on_observation, through}
 use Rattle.hlc_world.proofs.Lists.{some-injective, get-append_left, get-push}
-use Rattle.hlc_world.proofs.Nodes.{stamp_or-same}
-use Rattle.hlc_world.proofs.Orderly.{issue-ok, stamp-rises, sight-rises, received-rises, observed-rises, stamp_or-grows}
+use Rattle.hlc_world.proofs.Nodes.{stamp_or-same, stamp_or-other}
+use Rattle.hlc_world.proofs.Orderly.{IsOrderly, orderly, issue-ok, stamp-rises, sight-rises, received-rises}
+use Rattle.hlc_world.proofs.Orderly.{observed-rises}
 use Rattle.hlc_world.proofs.Entries.{entry-cases, entry-inside}
 use Rattle.hlc_world.proofs.Openings.{opened-found, observed-above}
 
@@ -29,6 +32,8 @@ stamp-new nodes s (Delete n reading key) (Stamped st num) p given h = subst (λ 
     (some-injective (n, st) p h) (issue-ok (node_of n s) (a_write key None) reading st given.1.0).2
 stamp-new nodes s (Report n reading) (Stamped st num) p given h = subst (λ q. last_stamp q.0 s < q.1)
     (some-injective (n, st) p h) (issue-ok (node_of n s) a_report reading st given.1.0).2
+stamp-new nodes s (Retire n reading) (Stamped st num) p given h = subst (λ q. last_stamp q.0 s < q.1)
+    (some-injective (n, st) p h) (issue-ok (node_of n s) a_retire reading st given.1.0).2
 stamp-new nodes s (Send n reading) (Sent st num) p given h =
     subst (λ q. last_stamp q.0 s < q.1) (some-injective (n, st) p h) (stamp-rises _ reading st given.1.0)
 stamp-new nodes s (Receive n reading k) (Received st) p given h =
@@ -37,16 +42,47 @@ stamp-new nodes s (Observe n reading id) (Observed st) p given h =
     subst (λ q. last_stamp q.0 s < q.1) (some-injective (n, st) p h) (observed-rises _ _ reading st given.1)
 stamp-new nodes s _ _ p given h = absurd (cc)
 
-last-grows : (n last : ℕ) (o : Option (ℕ × ℕ)) → ((p : ℕ × ℕ) → o ≡ Some p → p.0 ≡ n → last < p.1)
+-- a stamp sets the clock
+mark-stamped : (event : Event) (reply : Reply) (p : ℕ × ℕ) → stamping_of event reply ≡ Some p
+    → mark_of event reply ≡ Some p
+mark-stamped Join reply p h = absurd (cc)
+mark-stamped _ reply p h = h
+
+-- and so does a join, and nothing else
+mark-is : (event : Event) (reply : Reply) (p : ℕ × ℕ) → mark_of event reply ≡ Some p
+    → (stamping_of event reply ≡ Some p) ⊎ ◌≡◌ {A = Event × Reply} (event, reply) (Join, Joined p.0 p.1)
+mark-is Join (Joined node start) p h =
+    let pair : ℕ × ℕ → Event × Reply = λ q. (Join, Joined q.0 q.1) in
+    inr (ap pair (some-injective (node, start) p h))
+mark-is _ _ p h = inl h
+
+-- a clock is never set back: that of a node that joins was 0
+mark-new : (nodes : ℕ) (s : List (Event × Reply)) (event : Event) (reply : Reply) (p : ℕ × ℕ)
+    → IsGiven nodes s event reply → IsOrderly nodes s → mark_of event reply ≡ Some p → last_stamp p.0 s ≤ p.1
+mark-new nodes s event reply p given ordered h =
+    elim (mark-is event reply p h) [
+      | inl stamped ↦ (let up = stamp-new nodes s event reply p given stamped in omega (arith, up))
+      | inr joins ↦
+          (let is : IsGiven nodes s Join (Joined p.0 p.1) = subst (λ y. IsGiven nodes s y.0 y.1) joins given in
+          let next = is.1.0 in
+          let e : last_stamp p.0 s ≡ 0 = ordered.fresh p.0 (omega (arith, next)) in omega (arith, e))
+    ]
+
+last-grows : (n last : ℕ) (o : Option (ℕ × ℕ)) → ((p : ℕ × ℕ) → o ≡ Some p → p.0 ≡ n → last ≤ p.1)
     → last ≤ stamp_or n o last
 last-grows n last None up = omega arith
-last-grows n last (Some p) up = stamp_or-grows n p.0 p.1 last (λ e. up p refl e)
+last-grows n last (Some p) up =
+    elim (cases_eq p.0 n) [
+      | inl same ↦ (let e : stamp_or n (Some p) last ≡ p.1 = cond-true _ _ _ (eq-eqb p.0 n same) in
+          let u : last ≤ p.1 = up p refl same in omega arith)
+      | inr other ↦ (let e : stamp_or n (Some p) last ≡ last = stamp_or-other n p.0 p.1 last other in omega arith)
+    ]
 
 step-grows : (nodes : ℕ) (s : List (Event × Reply)) (entry : Event × Reply) (n : ℕ) → IsGiven nodes s entry.0 entry.1
-    → last_stamp n s ≤ last_stamp n (entry ∷ s)
-step-grows nodes s entry n given =
-    last-grows n (last_stamp n s) (stamping_of entry.0 entry.1)
-    (λ p e own. subst (λ k. last_stamp k s < p.1) own (stamp-new nodes s entry.0 entry.1 p given e))
+    → IsOrderly nodes s → last_stamp n s ≤ last_stamp n (entry ∷ s)
+step-grows nodes s entry n given ordered =
+    last-grows n (last_stamp n s) (mark_of entry.0 entry.1)
+    (λ p e own. subst (λ k. last_stamp k s ≤ p.1) own (mark-new nodes s entry.0 entry.1 p given ordered e))
 
 -- no stamp of a node lies above its last one
 stamp-low : (nodes : ℕ) (s : List (Event × Reply)) (i n a : ℕ) (x : Event × Reply) → IsLegal nodes s
@@ -56,11 +92,12 @@ stamp-low nodes (entry ∷ s) i n a x legal at m =
     elim (entry-cases entry s i x at) [
       | inl here ↦
           (let e : stamping_of entry.0 entry.1 ≡ Some (n, a) = ap (λ y. stamping_of y.0 y.1) here.1 ∙ m in
-          let f : last_stamp n (entry ∷ s) ≡ a = ap (λ o. stamp_or n o (last_stamp n s)) e
+          let f : last_stamp n (entry ∷ s) ≡ a =
+          ap (λ o. stamp_or n o (last_stamp n s)) (mark-stamped entry.0 entry.1 (n, a) e)
           ∙ stamp_or-same n a (last_stamp n s) in omega (arith, f))
       | inr there ↦
           (let l : a ≤ last_stamp n s = stamp-low nodes s i n a x legal.1 there.1 m in
-          let g = step-grows nodes s entry n legal.0 in omega (arith, g))
+          let g = step-grows nodes s entry n legal.0 (orderly nodes s legal.1) in omega (arith, g))
     ]
 
 on_node-less : (nodes : ℕ) (s : List (Event × Reply)) (i j n a b : ℕ) (x y : Event × Reply) → IsLegal nodes s

@@ -1,11 +1,12 @@
 -- The reply that is due to an event after a schedule.
-use Rattle.std.specs.Prelude.{◌≡◌, ℕ, List, [], ◌∷◌, length, Option, Some, None, Result, Ok, Err, ◌==◌, ◌⊎◌, nat_le}
+use Rattle.std.specs.Prelude.{◌≡◌, ℕ, Bool, List, [], ◌∷◌, length, Option, Some, None, Result, Ok, Err, ◌==◌, ◌⊎◌}
+use Rattle.std.specs.Prelude.{nat_le}
 use Rattle.std.specs.Prelude.{if◌then◌else◌, ⊤}
 use Rattle.hlc_clock.specs.NextStamp.{stamp_due}
 use Rattle.hlc_clock.specs.declared.clock.ClockFault.{ClockFault}
 use Rattle.hlc_clock.specs.declared.clock.ClockFault.TheVariants as clock_fault
 use Rattle.hlc_node.specs.declared.item.Item.{Item}
-use Rattle.hlc_node.specs.declared.item.Body.TheVariants.{Write as a_write, Report as a_report}
+use Rattle.hlc_node.specs.declared.item.Body.TheVariants.{Write as a_write, Report as a_report, Retire as a_retire}
 use Rattle.hlc_node.specs.declared.item.BodyFault.{BodyFault}
 use Rattle.hlc_node.specs.declared.item.BodyFault.TheVariants as body_fault
 use Rattle.hlc_node.specs.declared.item.Message.{Message}
@@ -17,20 +18,21 @@ use Rattle.hlc_core.specs.declared.fault.CoreFault.TheVariants as core_fault
 use Rattle.hlc_core.specs.declared.event.CoreEvent.{CoreEvent}
 use Rattle.hlc_core.specs.declared.event.CoreEvent.TheVariants.{Accept}
 use Rattle.hlc_core.specs.declared.reply.CoreReply.{CoreReply}
-use Rattle.hlc_core.specs.Past.{Step, count, floor, stamp_of}
+use Rattle.hlc_core.specs.Past.{Step, numbered, count, retired, floor, stamp_of}
 use Rattle.hlc_core.specs.Stored.{IsStoredCount}
 use Rattle.hlc_core.specs.History.{refusal_due as refusal_owed, IsDueReply as IsOwedReply, MayLackMemory as CoreMayLack}
-use Rattle.hlc_world.specs.declared.event.Event.TheVariants.{Write, Delete, Report, Send, Receive, Observe, Deliver}
-use Rattle.hlc_world.specs.declared.event.Event.TheVariants.{Floor, Rows}
+use Rattle.hlc_world.specs.declared.event.Event.TheVariants.{Write, Delete, Report, Retire, Send, Receive, Observe}
+use Rattle.hlc_world.specs.declared.event.Event.TheVariants.{Deliver, Floor, Rows}
 use Rattle.hlc_world.specs.declared.reply.Reply.{Reply}
 use Rattle.hlc_world.specs.declared.reply.Reply.TheVariants.{Stamped, Sent, Received, Observed, Floor as FloorIs}
 use Rattle.hlc_world.specs.declared.reply.Reply.TheVariants.{Rows as RowsAre, Refused}
 use Rattle.hlc_world.specs.declared.refusal.Refusal.{Refusal}
-use Rattle.hlc_world.specs.declared.refusal.Refusal.TheVariants.{NoNode, ReadingTooLarge, CounterFull, NoMessage}
+use Rattle.hlc_world.specs.declared.refusal.Refusal.TheVariants.{NoNode, Retired, TooManyNodes, ReadingTooLarge}
+use Rattle.hlc_world.specs.declared.refusal.Refusal.TheVariants.{CounterFull, NoMessage}
 use Rattle.hlc_world.specs.declared.refusal.Refusal.TheVariants.{NoItem, NotNext, StampNotRising, AboveFloor}
 use Rattle.hlc_world.specs.declared.refusal.Refusal.TheVariants.{BelowHorizon, NoSnapshot, TooManySnapshots, BadKey}
 use Rattle.hlc_world.specs.declared.refusal.Refusal.TheVariants.{ValueTooLong, NumbersSpent, NoMemory}
-use Rattle.hlc_world.specs.Schedule.{Event, issued, item_at, last_stamp, sent, message_at, node_of}
+use Rattle.hlc_world.specs.Schedule.{Event, issued, gone, item_at, last_stamp, sent, message_at, node_of}
 use Rattle.hlc_world.specs.Store.{asked, share, core_past}
 
 -- what no item may say, as a refusal
@@ -46,6 +48,8 @@ of_clock (clock_fault.CounterFull at) = CounterFull at
 -- the core's fault, as a refusal
 abbrev pub of_core : CoreFault → Refusal
 of_core core_fault.NoNode = NoNode
+of_core core_fault.Retired = Retired
+of_core core_fault.TooManyNodes = TooManyNodes
 of_core (core_fault.NotNext next) = NotNext next
 of_core core_fault.NumbersSpent = NumbersSpent
 of_core (core_fault.StampNotRising head) = StampNotRising head
@@ -58,6 +62,7 @@ of_core core_fault.NoMemory = NoMemory
 
 -- the node's fault, as a refusal
 abbrev pub of_node : NodeFault → Refusal
+of_node node_fault.Retired = Retired
 of_node (node_fault.BadBody fault) = of_body fault
 of_node node_fault.NumbersSpent = NumbersSpent
 of_node (node_fault.NoStamp fault) = of_clock fault
@@ -88,9 +93,13 @@ abbrev pub core_refusal : Option CoreFault → Option Refusal
 core_refusal None = None
 core_refusal (Some fault) = Some (of_core fault)
 
--- an event of a node that is not there is refused before all else
-abbrev pub on_node : ℕ → ℕ → Option Refusal → Option Refusal
-on_node nodes node rest = if nat_le nodes node then Some NoNode else rest
+-- the link of a node that is not there is refused before all else
+abbrev pub on_link : ℕ → List (Event × Reply) → ℕ → Option Refusal → Option Refusal
+on_link nodes schedule node rest = if nat_le (numbered nodes (core_past schedule)) node then Some NoNode else rest
+
+-- an event of a node that is not there, and then of one that retired, is refused before all else
+abbrev pub on_node : ℕ → List (Event × Reply) → ℕ → Option Refusal → Option Refusal
+on_node nodes schedule node rest = on_link nodes schedule node (if gone node schedule then Some Retired else rest)
 
 -- why the store refuses what it is asked, if it does
 abbrev pub store_refusal : ℕ → List Step → Option CoreEvent → Option Refusal
@@ -106,19 +115,21 @@ deliver_refusal nodes past (Some item) = store_refusal nodes past (Some (Accept 
 -- the one that the store owes
 abbrev pub refusal_due : ℕ → List (Event × Reply) → Event → Option Refusal
 refusal_due nodes schedule (Write node reading key value) =
-    on_node nodes node (issue_refusal (issue_due (node_of node schedule) (a_write key (Some value)) reading))
+    on_node nodes schedule node (issue_refusal (issue_due (node_of node schedule) (a_write key (Some value)) reading))
 refusal_due nodes schedule (Delete node reading key) =
-    on_node nodes node (issue_refusal (issue_due (node_of node schedule) (a_write key None) reading))
+    on_node nodes schedule node (issue_refusal (issue_due (node_of node schedule) (a_write key None) reading))
 refusal_due nodes schedule (Report node reading) =
-    on_node nodes node (issue_refusal (issue_due (node_of node schedule) a_report reading))
+    on_node nodes schedule node (issue_refusal (issue_due (node_of node schedule) a_report reading))
+refusal_due nodes schedule (Retire node reading) =
+    on_node nodes schedule node (issue_refusal (issue_due (node_of node schedule) a_retire reading))
 refusal_due nodes schedule (Send node reading) =
-    on_node nodes node (stamp_refusal (stamp_due (last_stamp node schedule ∷ []) reading))
+    on_node nodes schedule node (stamp_refusal (stamp_due (last_stamp node schedule ∷ []) reading))
 refusal_due nodes schedule (Receive node reading message) =
-    on_node nodes node (receive_refusal (message_at message schedule) (last_stamp node schedule) reading)
+    on_node nodes schedule node (receive_refusal (message_at message schedule) (last_stamp node schedule) reading)
 refusal_due nodes schedule (Observe node reading id) =
-    on_node nodes node (observe_refusal (stamp_of id (core_past schedule)) (last_stamp node schedule) reading)
+    on_node nodes schedule node (observe_refusal (stamp_of id (core_past schedule)) (last_stamp node schedule) reading)
 refusal_due nodes schedule (Deliver node number) =
-    on_node nodes node (deliver_refusal nodes (core_past schedule) (item_at node number schedule))
+    on_link nodes schedule node (deliver_refusal nodes (core_past schedule) (item_at node number schedule))
 refusal_due nodes schedule event = store_refusal nodes (core_past schedule) (asked schedule event)
 
 -- the stamp of the receipt of a message
@@ -146,6 +157,8 @@ IsDueReply nodes schedule (Delete node reading key) (Stamped stamp number) =
     (issue_due (node_of node schedule) (a_write key None) reading ≡ Ok stamp) × (number ≡ length (issued node schedule))
 IsDueReply nodes schedule (Report node reading) (Stamped stamp number) =
     (issue_due (node_of node schedule) a_report reading ≡ Ok stamp) × (number ≡ length (issued node schedule))
+IsDueReply nodes schedule (Retire node reading) (Stamped stamp number) =
+    (issue_due (node_of node schedule) a_retire reading ≡ Ok stamp) × (number ≡ length (issued node schedule))
 IsDueReply nodes schedule (Send node reading) (Sent stamp number) =
     (stamp_due (last_stamp node schedule ∷ []) reading ≡ Ok stamp) × (number ≡ length (sent schedule))
 IsDueReply nodes schedule (Receive node reading message) (Received stamp) =
@@ -166,6 +179,7 @@ abbrev pub MayLackMemory : List (Event × Reply) → Event → Type 0
 MayLackMemory schedule (Write node reading key value) = ⊤
 MayLackMemory schedule (Delete node reading key) = ⊤
 MayLackMemory schedule (Report node reading) = ⊤
+MayLackMemory schedule (Retire node reading) = ⊤
 MayLackMemory schedule (Send node reading) = ⊤
 MayLackMemory schedule event = StoreMayLack (core_past schedule) (asked schedule event)
 
@@ -186,14 +200,20 @@ abbrev pub IsLegal : ℕ → List (Event × Reply) → Type 0
 IsLegal nodes [] = ⊤
 IsLegal nodes (entry ∷ schedule) = IsGiven nodes schedule entry.0 entry.1 × IsLegal nodes schedule
 
--- only an issued item is delivered, and only the next one accepted
-abbrev pub number_refusal : Option Item → ℕ → ℕ → Option Refusal
-number_refusal None number next = Some NoItem
-number_refusal (Some item) number next = if number == next then None else Some (NotNext next)
+-- only an issued item is delivered, none after its node's last one was accepted, and only the next one accepted
+abbrev pub number_refusal : Option Item → Bool → ℕ → ℕ → Option Refusal
+number_refusal None over number next = Some NoItem
+number_refusal (Some item) over number next =
+    if over then Some Retired
+    else if number == next then None
+    else Some (NotNext next)
 
--- an issued item is refused for its number alone, memory aside: its stamp is never too low, its key and value never bad
+-- an issued item is refused for its number alone, memory aside, or since its node's last one was accepted: its stamp is
+-- never too low, its key and value never bad
 abbrev pub GoesByNumber : ℕ → List (Event × Reply) → Type 0
 GoesByNumber nodes schedule =
     (node number : ℕ)
     → refusal_due nodes schedule (Deliver node number)
-    ≡ on_node nodes node (number_refusal (item_at node number schedule) number (count node (core_past schedule)))
+    ≡ on_link nodes schedule node
+    (number_refusal (item_at node number schedule) (retired node (core_past schedule)) number
+    (count node (core_past schedule)))

@@ -1,7 +1,7 @@
 -- What the floor promises of a schedule, and what an open snapshot holds.
-use Rattle.std.specs.Prelude.{◌≡◌, ℕ, ◌<◌, ◌≤◌, List, Contains, Some}
+use Rattle.std.specs.Prelude.{◌≡◌, ℕ, ◌<◌, ◌≤◌, List, Contains, Some, false}
 use Rattle.hlc_node.specs.declared.item.Item.{Item}
-use Rattle.hlc_core.specs.Past.{Took, floor, stamp_of}
+use Rattle.hlc_core.specs.Past.{Took, numbered, retired, floor, stamp_of}
 use Rattle.hlc_world.specs.declared.reply.Reply.{Reply}
 use Rattle.hlc_world.specs.Schedule.{Event, item_made, issued, last_stamp}
 use Rattle.hlc_world.specs.Store.{core_past}
@@ -20,9 +20,11 @@ abbrev pub IsComplete : ℕ → List (Event × Reply) → Type 0
 IsComplete nodes schedule = (item : Item) → IsIssued item schedule → item.stamp ≤ floor nodes (core_past schedule)
     → IsAccepted item schedule
 
--- no clock is below the floor
+-- no clock of a node whose last item was not yet accepted is below the floor
 abbrev pub IsBelowClocks : ℕ → List (Event × Reply) → Type 0
-IsBelowClocks nodes schedule = (n : ℕ) → n < nodes → floor nodes (core_past schedule) ≤ last_stamp n schedule
+IsBelowClocks nodes schedule =
+    (n : ℕ) → n < numbered nodes (core_past schedule) → retired n (core_past schedule) ≡ false
+    → floor nodes (core_past schedule) ≤ last_stamp n schedule
 
 -- the event of this turn issued the item
 pub record IsIssuedAt (schedule : List (Event × Reply)) (turn : ℕ) (item : Item) : Type 0 where

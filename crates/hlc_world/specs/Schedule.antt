@@ -1,14 +1,17 @@
 -- A schedule, and what it says of nodes, items and messages.
-use Rattle.std.specs.Prelude.{ℕ, List, [], ◌∷◌, ◌++◌, length, Option, Some, None, ◌==◌, if◌then◌else◌, slice_get}
+use Rattle.std.specs.Prelude.{ℕ, Bool, false, List, [], ◌∷◌, ◌++◌, length, Option, Some, None, ◌==◌, if◌then◌else◌}
+use Rattle.std.specs.Prelude.{slice_get}
 use Rattle.hlc_node.specs.declared.item.Item.{Item}
 use Rattle.hlc_node.specs.declared.item.Body.{Body}
-use Rattle.hlc_node.specs.declared.item.Body.TheVariants.{Write as a_write, Report as a_report}
+use Rattle.hlc_node.specs.declared.item.Body.TheVariants.{Write as a_write, Report as a_report, Retire as a_retire}
+use Rattle.hlc_node.specs.Items.{retires}
 use Rattle.hlc_node.specs.declared.item.Message.{Message}
 use Rattle.hlc_node.specs.Node.{Node}
 use Rattle.hlc_world.specs.declared.event.Event.{Event as EventOf}
-use Rattle.hlc_world.specs.declared.event.Event.TheVariants.{Write, Delete, Report, Send, Receive, Observe}
+use Rattle.hlc_world.specs.declared.event.Event.TheVariants.{Write, Delete, Report, Retire, Join, Send, Receive}
+use Rattle.hlc_world.specs.declared.event.Event.TheVariants.{Observe}
 use Rattle.hlc_world.specs.declared.reply.Reply.{Reply}
-use Rattle.hlc_world.specs.declared.reply.Reply.TheVariants.{Stamped, Sent, Received, Observed}
+use Rattle.hlc_world.specs.declared.reply.Reply.TheVariants.{Stamped, Joined, Sent, Received, Observed}
 
 -- an event whose keys and values are lists of bytes
 abbrev pub Event : Type 0
@@ -27,6 +30,7 @@ item_made (Write node reading key value) (Stamped stamp number) =
     Some (an_item node number stamp (a_write key (Some value)))
 item_made (Delete node reading key) (Stamped stamp number) = Some (an_item node number stamp (a_write key None))
 item_made (Report node reading) (Stamped stamp number) = Some (an_item node number stamp a_report)
+item_made (Retire node reading) (Stamped stamp number) = Some (an_item node number stamp a_retire)
 item_made _ _ = None
 
 -- the message that an event sent
@@ -39,10 +43,16 @@ abbrev pub stamping_of : Event → Reply → Option (ℕ × ℕ)
 stamping_of (Write node reading key value) (Stamped stamp number) = Some (node, stamp)
 stamping_of (Delete node reading key) (Stamped stamp number) = Some (node, stamp)
 stamping_of (Report node reading) (Stamped stamp number) = Some (node, stamp)
+stamping_of (Retire node reading) (Stamped stamp number) = Some (node, stamp)
 stamping_of (Send node reading) (Sent stamp number) = Some (node, stamp)
 stamping_of (Receive node reading message) (Received stamp) = Some (node, stamp)
 stamping_of (Observe node reading id) (Observed stamp) = Some (node, stamp)
 stamping_of _ _ = None
+
+-- the node whose clock an event set, and the stamp: it was stamped, or joined and starts there
+abbrev pub mark_of : Event → Reply → Option (ℕ × ℕ)
+mark_of Join (Joined node start) = Some (node, start)
+mark_of event reply = stamping_of event reply
 
 -- the items of a node, and this one behind them, if it is of that node
 abbrev pub with_item : ℕ → Option Item → List Item → List Item
@@ -54,6 +64,16 @@ abbrev pub issued : ℕ → List (Event × Reply) → List Item
 issued n [] = []
 issued n (entry ∷ schedule) = with_item n (item_made entry.0 entry.1) (issued n schedule)
 
+-- whether this item, if it is of that node, is its last one, or else so
+abbrev pub ends : ℕ → Option Item → Bool → Bool
+ends n None before = before
+ends n (Some item) before = if item.node == n then retires item.body else before
+
+-- a node issued its last item: it retired
+abbrev pub gone : ℕ → List (Event × Reply) → Bool
+gone n [] = false
+gone n (entry ∷ schedule) = ends n (item_made entry.0 entry.1) (gone n schedule)
+
 -- the issued item of a node that has this number
 abbrev pub item_at : ℕ → ℕ → List (Event × Reply) → Option Item
 item_at n number schedule = slice_get (issued n schedule) number
@@ -63,10 +83,10 @@ abbrev pub stamp_or : ℕ → Option (ℕ × ℕ) → ℕ → ℕ
 stamp_or n None last = last
 stamp_or n (Some mark) last = if mark.0 == n then mark.1 else last
 
--- the stamp of a node's last event, 0 where there is none
+-- the stamp of a node's last event, or else of its start; 0 at a node of the start
 abbrev pub last_stamp : ℕ → List (Event × Reply) → ℕ
 last_stamp n [] = 0
-last_stamp n (entry ∷ schedule) = stamp_or n (stamping_of entry.0 entry.1) (last_stamp n schedule)
+last_stamp n (entry ∷ schedule) = stamp_or n (mark_of entry.0 entry.1) (last_stamp n schedule)
 
 -- the messages, and this one behind them
 abbrev pub with_message : Option Message → List Message → List Message
@@ -84,7 +104,8 @@ message_at number schedule = slice_get (sent schedule) number
 
 -- what a node has come to
 abbrev pub node_of : ℕ → List (Event × Reply) → Node
-node_of n schedule = record { id = n; last = last_stamp n schedule; next = length (issued n schedule) }
+node_of n schedule =
+    record { id = n; last = last_stamp n schedule; next = length (issued n schedule); retired = gone n schedule }
 
 -- a schedule, and then these events with their replies, the first of them first
 abbrev pub after : List Event → List Reply → List (Event × Reply) → List (Event × Reply)

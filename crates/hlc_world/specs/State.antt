@@ -1,19 +1,19 @@
 -- What a world keeps, and which schedule it stands for.
-use Rattle.std.specs.Prelude.{◌≡◌, ℕ, zero, suc, ◌<◌, ◌⊎◌, List, [], ◌∷◌, ◌++◌, length, Some, None, slice_get}
+use Rattle.std.specs.Prelude.{◌≡◌, ℕ, false, zero, suc, ◌<◌, ◌⊎◌, List, [], ◌∷◌, ◌++◌, length, Some, None, slice_get}
 use Rattle.std.specs.Prelude.{MatchOption, Result, Ok, Err}
-use Rattle.hlc_clock.specs.NextStamp.{stamp_due}
 use Rattle.hlc_node.specs.declared.item.Item.{Item}
 use Rattle.hlc_node.specs.declared.item.Body.{Body}
 use Rattle.hlc_node.specs.declared.item.Message.{Message}
-use Rattle.hlc_node.specs.Node.{Node, stamped, issue_due, next_item, after_issue}
-use Rattle.hlc_core.specs.Kept.{Kept, StandsFor as CoreStandsFor}
+use Rattle.hlc_node.specs.Node.{Node, stamped, event_due, issue_due, next_item, after_issue}
+use Rattle.hlc_core.specs.Kept.{Kept, nodes as core_nodes, StandsFor as CoreStandsFor}
+use Rattle.hlc_core.specs.Past.{numbered}
 use Rattle.hlc_core.specs.Calls.{new_refusal}
 use Rattle.hlc_world.specs.declared.reply.Reply.{Reply}
 use Rattle.hlc_world.specs.declared.refusal.Refusal.{Refusal}
 use Rattle.hlc_world.specs.declared.refusal.Refusal.TheVariants.{NoMemory}
 use Rattle.hlc_world.specs.Schedule.{Event, issued, sent, node_of}
 use Rattle.hlc_world.specs.Store.{core_past}
-use Rattle.hlc_world.specs.Due.{issue_refusal, stamp_refusal, of_core, IsLegal}
+use Rattle.hlc_world.specs.Due.{issue_refusal, of_core, IsLegal}
 
 -- what is kept of a node: the node itself, and the items that it issued
 pub record KeptIssuer : Type 0 where
@@ -26,26 +26,23 @@ pub record State : Type 0 where
   pub nodes : List KeptIssuer
   pub messages : List Message
 
--- how many nodes there are
+-- how many nodes there were at the start
 abbrev pub world_nodes : State → ℕ
-world_nodes state = length state.nodes
-
--- the core has a link for each node
-abbrev pub IsMatched : State → Type 0
-IsMatched state = length state.core.links ≡ length state.nodes
+world_nodes state = core_nodes state.core
 
 -- the world stands for the schedule
 pub record StandsFor (state : State) (schedule : List (Event × Reply)) : Type 0 where
   pub legal : IsLegal (world_nodes state) schedule
   pub core : CoreStandsFor state.core (core_past schedule)
-  pub nodes : (n : ℕ) → n < world_nodes state
+  pub many : length state.nodes ≡ numbered (world_nodes state) (core_past schedule)
+  pub nodes : (n : ℕ) → n < length state.nodes
       → slice_get state.nodes n ≡ Some (record { node = node_of n schedule; issued = issued n schedule })
   pub messages : state.messages ≡ sent schedule
 
 -- so many nodes, on which nothing took place
 abbrev pub fresh : ℕ → List KeptIssuer
 fresh zero = []
-fresh (suc n) = fresh n ++ record { node = record { id = n; last = 0; next = 0 }; issued = [] } ∷ []
+fresh (suc n) = fresh n ++ record { node = record { id = n; last = 0; next = 0; retired = false }; issued = [] } ∷ []
 
 -- a new world has these nodes and stands for the empty schedule; or the number of nodes is refused,
 -- or there is no memory
@@ -59,7 +56,10 @@ abbrev pub Issues : KeptIssuer → KeptIssuer → Body → ℕ → Result (ℕ �
 Issues old new body reading (Ok made) =
     (issue_due old.node body reading ≡ Ok made.0)
     × (made.1 ≡ old.node.next)
-    × (new ≡ record { node = after_issue old.node made.0; issued = old.issued ++ next_item old.node body made.0 ∷ [] })
+    × (new ≡ record {
+      node = after_issue old.node body made.0;
+      issued = old.issued ++ next_item old.node body made.0 ∷ [];
+    })
 Issues old new body reading (Err refusal) =
     ((issue_refusal (issue_due old.node body reading) ≡ Some refusal)
     ⊎ ((issue_refusal (issue_due old.node body reading) ≡ None) × (refusal ≡ NoMemory)))
@@ -74,7 +74,7 @@ Keeps old new node item (Err refusal) = (refusal ≡ NoMemory) × (new ≡ old)
 -- a node has a stamp above one that it saw; or the node is unchanged, and the refusal is the due one
 abbrev pub Sees : KeptIssuer → KeptIssuer → ℕ → ℕ → Result ℕ Refusal → Type 0
 Sees old new seen reading (Ok stamp) =
-    (stamp_due (old.node.last ∷ seen ∷ []) reading ≡ Ok stamp)
+    (event_due old.node (old.node.last ∷ seen ∷ []) reading ≡ Ok stamp)
     × (new ≡ record { node = stamped old.node stamp; issued = old.issued })
 Sees old new seen reading (Err refusal) =
-    (stamp_refusal (stamp_due (old.node.last ∷ seen ∷ []) reading) ≡ Some refusal) × (new ≡ old)
+    (issue_refusal (event_due old.node (old.node.last ∷ seen ∷ []) reading) ≡ Some refusal) × (new ≡ old)

@@ -1,6 +1,7 @@
 -- The store's share of a schedule: what its events asked of the store, and what the store answered.
-use Rattle.std.specs.Prelude.{List, [], ◌∷◌, Option, Some, None}
+use Rattle.std.specs.Prelude.{ℕ, List, [], ◌∷◌, Option, Some, None}
 use Rattle.hlc_node.specs.declared.item.Item.{Item}
+use Rattle.hlc_node.specs.Items.{retires}
 use Rattle.hlc_core.specs.declared.event.CoreEvent.{CoreEvent}
 use Rattle.hlc_core.specs.declared.event.CoreEvent.TheVariants as core_event
 use Rattle.hlc_core.specs.declared.reply.CoreReply.{CoreReply}
@@ -8,9 +9,10 @@ use Rattle.hlc_core.specs.declared.reply.CoreReply.TheVariants as core_reply
 use Rattle.hlc_core.specs.Past.{Step}
 use Rattle.hlc_core.specs.History.{past_of}
 use Rattle.hlc_world.specs.declared.event.Event.TheVariants.{Deliver, OpenAt, OpenFloor, Read, List as ListAll, Close}
-use Rattle.hlc_world.specs.declared.event.Event.TheVariants.{Vacuum}
+use Rattle.hlc_world.specs.declared.event.Event.TheVariants.{Join, Vacuum}
 use Rattle.hlc_world.specs.declared.reply.Reply.{Reply}
-use Rattle.hlc_world.specs.declared.reply.Reply.TheVariants.{Accepted, Snapshot, Answer, Listing, Closed, Vacuumed}
+use Rattle.hlc_world.specs.declared.reply.Reply.TheVariants.{Accepted, Joined, Snapshot, Answer, Listing, Closed}
+use Rattle.hlc_world.specs.declared.reply.Reply.TheVariants.{Vacuumed}
 use Rattle.hlc_world.specs.Schedule.{Event, item_at}
 
 -- an item that is found is to be accepted
@@ -18,10 +20,11 @@ abbrev pub accepting : Option Item → Option CoreEvent
 accepting None = None
 accepting (Some item) = Some (core_event.Accept item)
 
--- What an event asks of the store: a delivery asks it to accept the item of that number. The events of nodes ask
--- nothing of it, and the questions for the floor and the rows are the world's own.
+-- What an event asks of the store: a delivery asks it to accept the item of that number, and a join for the next
+-- number. The events of nodes ask nothing of it, and the questions for the floor and the rows are the world's own.
 abbrev pub asked : List (Event × Reply) → Event → Option CoreEvent
 asked schedule (Deliver node number) = accepting (item_at node number schedule)
+asked schedule Join = Some core_event.Join
 asked schedule (OpenAt stamp) = Some (core_event.OpenAt stamp)
 asked schedule OpenFloor = Some core_event.OpenFloor
 asked schedule (Read id key) = Some (core_event.Read id key)
@@ -30,26 +33,33 @@ asked schedule (Close id) = Some (core_event.Close id)
 asked schedule Vacuum = Some core_event.Vacuum
 asked schedule _ = None
 
+-- the word that an item that is found was accepted, of this node and with this stamp
+abbrev pub accepted : ℕ → ℕ → Option Item → Option CoreReply
+accepted node stamp None = None
+accepted node stamp (Some item) =
+    Some (core_reply.Accepted (record { node = node; stamp = stamp; retires = retires item.body }))
+
 -- what the store answered to it, by the event's reply; nothing, where the event did not take place
-abbrev pub told : Event → Reply → Option CoreReply
-told (Deliver node number) (Accepted stamp) = Some (core_reply.Accepted (record { node = node; stamp = stamp }))
-told (OpenAt at) (Snapshot id stamp) = Some (core_reply.Opened id stamp)
-told OpenFloor (Snapshot id stamp) = Some (core_reply.Opened id stamp)
-told (Read id key) (Answer value) = Some (core_reply.Answer value)
-told (ListAll id) (Listing pairs) = Some (core_reply.Listing pairs)
-told (Close id) (Closed stamp) = Some (core_reply.Closed stamp)
-told Vacuum (Vacuumed report) = Some (core_reply.Vacuumed report)
-told _ _ = None
+abbrev pub told : List (Event × Reply) → Event → Reply → Option CoreReply
+told schedule (Deliver node number) (Accepted stamp) = accepted node stamp (item_at node number schedule)
+told schedule Join (Joined node start) = Some (core_reply.Joined node start)
+told schedule (OpenAt at) (Snapshot id stamp) = Some (core_reply.Opened id stamp)
+told schedule OpenFloor (Snapshot id stamp) = Some (core_reply.Opened id stamp)
+told schedule (Read id key) (Answer value) = Some (core_reply.Answer value)
+told schedule (ListAll id) (Listing pairs) = Some (core_reply.Listing pairs)
+told schedule (Close id) (Closed stamp) = Some (core_reply.Closed stamp)
+told schedule Vacuum (Vacuumed report) = Some (core_reply.Vacuumed report)
+told schedule _ _ = None
 
 -- the reply and the event, if there are both
-abbrev pub joined : Option CoreReply → Option CoreEvent → Option (CoreEvent × CoreReply)
-joined None event = None
-joined (Some reply) None = None
-joined (Some reply) (Some event) = Some (event, reply)
+abbrev pub paired : Option CoreReply → Option CoreEvent → Option (CoreEvent × CoreReply)
+paired None event = None
+paired (Some reply) None = None
+paired (Some reply) (Some event) = Some (event, reply)
 
 -- what the store is asked by an event that takes place, with its answer
 abbrev pub share : List (Event × Reply) → Event → Reply → Option (CoreEvent × CoreReply)
-share schedule event reply = joined (told event reply) (asked schedule event)
+share schedule event reply = paired (told schedule event reply) (asked schedule event)
 
 -- the history, and this entry after it
 abbrev pub with_entry : Option (CoreEvent × CoreReply) → List (CoreEvent × CoreReply) → List (CoreEvent × CoreReply)

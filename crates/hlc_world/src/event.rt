@@ -27,6 +27,13 @@ pub enum Event<B = Bytes> {
         node: u16,
         reading: u64,
     },
+    /// A node issues its last item. After it each event of the node is refused.
+    Retire {
+        node: u16,
+        reading: u64,
+    },
+    /// A node joins: it is given the next number, and starts at the floor.
+    Join,
     /// A node sends a message. Messages are numbered from 0 over the whole world.
     Send {
         node: u16,
@@ -78,7 +85,8 @@ pub enum Event<B = Bytes> {
 }
 
 impl Exact for Event<Bytes> {
-    ghost equal = { Prim.search (rules, common_steps) };
+    // Each way by a search of its own, since both are too much for one.
+    ghost equal = { λ x y. (Prim.search (rules, common_steps), Prim.search (rules, common_steps)) };
 
     ghost copied = { Prim.search rules };
 }

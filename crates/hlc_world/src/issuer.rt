@@ -1,6 +1,10 @@
 //! What a world keeps of a node: the node itself, and the items that it issued.
-ghost use Rattle.std.specs.Prelude.{◌≡◌, [], slice_get, option_copied};
-ghost use Rattle.hlc_node.specs.declared.item.Body.TheVariants.{Write as a_write, Report as a_report};
+ghost use Rattle.std.specs.Prelude.{◌≡◌, false, [], slice_get, option_copied};
+ghost use Rattle.hlc_node.specs.declared.item.Body.TheVariants.{
+  Write as a_write,
+  Report as a_report,
+  Retire as a_retire,
+};
 ghost use Rattle.hlc_world.specs.State.{Issues, Keeps, Sees};
 
 use crate::refusal::Refusal;
@@ -25,12 +29,13 @@ impl Model for Issuer {
 }
 
 impl Issuer {
-    /// A node of this number, on which nothing took place.
-    pub fn new(alloc: Global, id: u16) -> Issuer
-        ensures { result ≡ record { node = record { id = id; last = 0; next = 0 }; issued = [] } }
+    /// A node of this number, whose clock starts at a stamp and on which nothing took place.
+    pub fn new(alloc: Global, id: u16, start: Stamp) -> Issuer
+        ensures { result ≡ record
+            { node = record { id = id; last = start; next = 0; retired = false }; issued = [] } }
     {
         Issuer {
-            node: NodeCore::new(id, Stamp::from_bits(0)),
+            node: NodeCore::new(id, start),
             issued: Vec::new(alloc),
         }
     }
@@ -40,6 +45,13 @@ impl Issuer {
         ensures { result ≡ self.now.node }
     {
         self.node
+    }
+
+    /// Whether the node retired.
+    pub fn is_retired(&self) -> bool
+        ensures { result ≡ self.now.node.retired }
+    {
+        self.node.is_retired()
     }
 
     /// The node came to be this one, by an event without an item.
@@ -82,18 +94,41 @@ impl Issuer {
         self.keep(node, item)
     }
 
+    /// Issues the node's last item, and gives its stamp and its number.
+    pub fn retire(&mut self, reading: u64) -> Result<(Stamp, u64), Refusal>
+        ensures { Issues self.old self.new a_retire reading result }
+    {
+        let mut node = self.node;
+        let item = node.retire(reading)?;
+        self.keep(node, item)
+    }
+
     /// Receives a message, and gives the stamp of that.
     pub fn receive(&mut self, message: &Message, reading: u64) -> Result<Stamp, Refusal>
         ensures { Sees self.old self.new message.now.stamp reading result }
     {
-        Ok(self.node.receive(message, reading)?)
+        let mut node = self.node;
+        match node.receive(message, reading) {
+            Err(fault) => Err(Refusal::from(fault)),
+            Ok(stamp) => {
+                self.node = node;
+                Ok(stamp)
+            }
+        }
     }
 
     /// Observes a snapshot at a stamp, and gives the stamp of that.
     pub fn observe(&mut self, seen: Stamp, reading: u64) -> Result<Stamp, Refusal>
         ensures { Sees self.old self.new seen reading result }
     {
-        Ok(self.node.observe(seen, reading)?)
+        let mut node = self.node;
+        match node.observe(seen, reading) {
+            Err(fault) => Err(Refusal::from(fault)),
+            Ok(stamp) => {
+                self.node = node;
+                Ok(stamp)
+            }
+        }
     }
 
     /// Keeps an issued item and the node as it is then, if there is memory.

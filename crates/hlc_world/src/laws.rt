@@ -6,7 +6,7 @@ ghost use Rattle.hlc_world.specs.Due.{IsLegal, GoesByNumber};
 ghost use Rattle.hlc_world.specs.Before.{HappenedBefore, IsStamped};
 ghost use Rattle.hlc_world.specs.Floor.{IsComplete, IsBelowClocks, IsClosed};
 ghost use Rattle.hlc_world.specs.Headline.{IsFaithful};
-ghost use Rattle.hlc_world.specs.State.{State, IsMatched, StandsFor, world_nodes};
+ghost use Rattle.hlc_world.specs.State.{State, StandsFor, world_nodes};
 
 /// In a schedule whose events were each given their due, as in each that a world stands for, if an
 /// event happened before another (Lamport 1978), its stamp is the lesser.
@@ -17,8 +17,8 @@ pub fn stamps_follow_events()
         → IsStamped schedule later m b → a < b }
 {}
 
-/// In such a schedule an issued item is refused for its number alone, memory aside: its stamp is
-/// never too low, its key and value never bad.
+/// In such a schedule an issued item is refused for its number alone, memory aside, or since its
+/// node's last item was accepted: its stamp is never too low, its key and value never bad.
 pub fn items_go_by_number()
     ensures { (nodes : ℕ) (schedule : List (AnEvent × AReply)) → IsLegal nodes schedule
         → GoesByNumber nodes schedule }
@@ -31,7 +31,7 @@ pub fn the_floor_is_complete()
         → IsComplete nodes schedule }
 {}
 
-/// In such a schedule no clock is below the floor.
+/// In such a schedule no clock of a node whose last item was not yet accepted is below the floor.
 pub fn no_clock_is_below_the_floor()
     ensures { (nodes : ℕ) (schedule : List (AnEvent × AReply)) → IsLegal nodes schedule
         → IsBelowClocks nodes schedule }
@@ -48,7 +48,6 @@ pub fn open_snapshots_are_closed()
 /// reads gave the newest accepted values, vacuums were the least and the cheapest, and left the
 /// fewest rows; that history has each moment of the schedule; and what can be read is closed.
 pub fn worlds_are_faithful()
-    ensures { (state : State) (schedule : List (AnEvent × AReply)) → IsMatched state
-        → StandsFor state schedule
+    ensures { (state : State) (schedule : List (AnEvent × AReply)) → StandsFor state schedule
         → IsFaithful (world_nodes state) schedule state.core.rows }
 {}

@@ -12,8 +12,12 @@ use std::alloc::AllocError;
 /// Why an event does not take place.
 #[derive(Clone, Copy, PartialEq, Eq, Debug)]
 pub enum Refusal {
-    /// The node is not below the count of nodes, or that count is not 1 to 64.
+    /// No node has that number, or a new world is not of 1 to 64 nodes.
     NoNode,
+    /// The node retired; of a delivery: the node's last item was accepted.
+    Retired,
+    /// 1,024 node numbers were given, and none is given twice.
+    TooManyNodes,
     /// The reading is 2^48 or more.
     ReadingTooLarge,
     /// The event needs a counter of 65,536; `at` is the greatest earlier stamp: the node's last, or
@@ -85,6 +89,7 @@ impl From<NodeFault> for Refusal {
 
     fn from(fault: NodeFault) -> Refusal {
         match fault {
+            NodeFault::Retired => Refusal::Retired,
             NodeFault::BadBody(fault) => Refusal::from(fault),
             NodeFault::NumbersSpent => Refusal::NumbersSpent,
             NodeFault::NoStamp(fault) => Refusal::from(fault),
@@ -100,6 +105,8 @@ impl From<CoreFault> for Refusal {
     fn from(fault: CoreFault) -> Refusal {
         match fault {
             CoreFault::NoNode => Refusal::NoNode,
+            CoreFault::Retired => Refusal::Retired,
+            CoreFault::TooManyNodes => Refusal::TooManyNodes,
             CoreFault::NotNext { next } => Refusal::NotNext { next },
             CoreFault::NumbersSpent => Refusal::NumbersSpent,
             CoreFault::StampNotRising { head } => Refusal::StampNotRising { head },

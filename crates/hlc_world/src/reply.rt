@@ -19,6 +19,8 @@ use hlc_values::Exact;
 pub enum Reply {
     /// The node issued the item of this number, with this stamp.
     Stamped { stamp: Stamp, item: u64 },
+    /// A node of this number joined, and starts at this stamp.
+    Joined { node: u16, start: Stamp },
     /// The message of this number was sent, with this stamp.
     Sent { stamp: Stamp, message: u64 },
     /// The message was received, with this stamp.
@@ -46,11 +48,15 @@ pub enum Reply {
 }
 
 impl Exact for Reply {
+    // Each way by a search of its own, since both are too much for one.
     ghost equal = { let listings : (x y : List APair) → IsTrue (⟦<Listing as PartialEq>⟧.eq x y) ↔ (x ≡ y)
         = pointwise_decides pair_equal in
         let reports : (x y : AReport) → IsTrue (⟦<Report as PartialEq>⟧.eq x y) ↔ (x ≡ y)
         = report_equal in
-        Prim.search (rules, common_steps, listings, reports) };
+        λ x y. (
+          Prim.search (rules, common_steps, listings, reports),
+          Prim.search (rules, common_steps, listings, reports),
+        ) };
 
     ghost copied = { Prim.search rules };
 }

@@ -9,7 +9,7 @@ ghost use Rattle.hlc_world.specs.Before.{HappenedBefore, IsStamped};
 ghost use Rattle.hlc_world.specs.Due.{IsGiven, IsRefused, GoesByNumber};
 ghost use Rattle.hlc_world.specs.Floor.{IsComplete, IsBelowClocks, IsClosed};
 ghost use Rattle.hlc_world.specs.Headline.{IsFaithful};
-ghost use Rattle.hlc_world.specs.State.{StandsFor, IsMatched, Makes, world_nodes, fresh};
+ghost use Rattle.hlc_world.specs.State.{StandsFor, Makes, world_nodes, fresh};
 ghost use Rattle.hlc_world.specs.declared.reply.Reply.{Reply as AReply};
 
 use crate::event::Event;
@@ -18,6 +18,7 @@ use crate::refusal::Refusal;
 use crate::reply::Reply;
 use hlc_clock::Stamp;
 use hlc_core::{Core, CoreFault, NoMemory};
+use hlc_floor::MOST_NUMBERS;
 use hlc_node::{Bytes, Item, Message};
 use std::alloc::{AllocError, Global};
 use std::marker::Model;
@@ -36,19 +37,16 @@ pub struct World {
 }
 
 impl Model for World {
-    ghost use Rattle.hlc_world.specs.State.{State, IsMatched};
+    ghost use Rattle.hlc_world.specs.State.{State};
 
     ghost Value = { State };
 
     ghost view = { λ world. record { core = world.core; nodes = world.nodes.items; messages = world.messages.items } };
-
-    ghost invariant = { λ world.
-        IsMatched (record { core = world.core; nodes = world.nodes.items; messages = world.messages.items }) };
 }
 
 impl World {
     /// A world of so many nodes, 1 to 64, in which nothing took place. Nodes are numbered from 0,
-    /// and each clock starts at 0.0.
+    /// and each clock starts at 0.0. Nodes that join have the numbers after them, up to 1,023.
     pub fn new(alloc: Global, nodes: u16) -> Result<World, Refusal>
         ensures { Makes nodes result }
     {
@@ -64,15 +62,17 @@ impl World {
 
     /// One event takes place, or is refused.
     ///
-    /// Refusals come in this order. Write, Delete: no such node; bad key; value too long; numbers
-    /// spent; reading too large; counter full. Report: no such node; numbers spent; reading too
-    /// large; counter full. Send: no such node; reading too large; counter full. Receive: no such
-    /// node; no such message; reading too large; counter full. Observe: no such node; no such
-    /// snapshot; reading too large; counter full. Deliver: no such node; no such item; not the next
-    /// number. OpenAt: above the floor; below the horizon; too many snapshots; numbers spent.
-    /// OpenFloor: the last two. Read, List, Close: no such snapshot. Last, where the event makes an
-    /// item, a message, a snapshot or a listing, stores a row, gives a value or is a Vacuum, want of
-    /// memory. A Vacuum is refused for nothing else, and Floor and Rows are never refused.
+    /// Refusals come in this order. Write, Delete: no such node; retired; bad key; value too long;
+    /// numbers spent; reading too large; counter full. Report, Retire: no such node; retired;
+    /// numbers spent; reading too large; counter full. Join: too many nodes. Send: no such node;
+    /// retired; reading too large; counter full. Receive: no such node; retired; no such message;
+    /// reading too large; counter full. Observe: no such node; retired; no such snapshot; reading
+    /// too large; counter full. Deliver: no such node; no such item; retired, where the node's last
+    /// item was accepted; not the next number. OpenAt: above the floor; below the horizon; too many
+    /// snapshots; numbers spent. OpenFloor: the last two. Read, List, Close: no such snapshot. Last,
+    /// where the event makes an item, a node, a message, a snapshot or a listing, stores a row,
+    /// gives a value or is a Vacuum, want of memory. A Vacuum is refused for nothing else, and Floor
+    /// and Rows are never refused.
     pub fn step(&mut self, event: Event) -> Reply
         ensures stands { (schedule : List (AnEvent × AReply)) → StandsFor self.old schedule
             → StandsFor self.new ((event, result) ∷ schedule) }
@@ -131,7 +131,6 @@ impl World {
     fn take_place(&mut self, event: Event) -> Reply
         ensures stands { (schedule : List (AnEvent × AReply)) → StandsFor self.old schedule
             → StandsFor self.new ((event, result) ∷ schedule) }
-        ensures matched { IsMatched self.new }
         ensures unchanged { IsRefused result → self.new ≡ self.old }
         ensures nodes { world_nodes self.new ≡ world_nodes self.old }
     {
@@ -144,6 +143,8 @@ impl World {
             } => self.write(node, reading, key, value),
             Event::Delete { node, reading, key } => self.delete(node, reading, key),
             Event::Report { node, reading } => self.report(node, reading),
+            Event::Retire { node, reading } => self.retire(node, reading),
+            Event::Join => self.join(),
             Event::Send { node, reading } => self.send(node, reading),
             Event::Receive {
                 node,
@@ -166,7 +167,6 @@ impl World {
     fn write(&mut self, node: u16, reading: u64, key: Bytes, value: Bytes) -> Reply
         ensures stands { (schedule : List (AnEvent × AReply)) → StandsFor self.old schedule
             → StandsFor self.new ((Event.Write node reading key value, result) ∷ schedule) }
-        ensures matched { IsMatched self.new }
         ensures unchanged { IsRefused result → self.new ≡ self.old }
         ensures nodes { world_nodes self.new ≡ world_nodes self.old }
     {
@@ -183,7 +183,6 @@ impl World {
     fn delete(&mut self, node: u16, reading: u64, key: Bytes) -> Reply
         ensures stands { (schedule : List (AnEvent × AReply)) → StandsFor self.old schedule
             → StandsFor self.new ((Event.Delete node reading key, result) ∷ schedule) }
-        ensures matched { IsMatched self.new }
         ensures unchanged { IsRefused result → self.new ≡ self.old }
         ensures nodes { world_nodes self.new ≡ world_nodes self.old }
     {
@@ -200,7 +199,6 @@ impl World {
     fn report(&mut self, node: u16, reading: u64) -> Reply
         ensures stands { (schedule : List (AnEvent × AReply)) → StandsFor self.old schedule
             → StandsFor self.new ((Event.Report node reading, result) ∷ schedule) }
-        ensures matched { IsMatched self.new }
         ensures unchanged { IsRefused result → self.new ≡ self.old }
         ensures nodes { world_nodes self.new ≡ world_nodes self.old }
     {
@@ -214,10 +212,50 @@ impl World {
         }
     }
 
+    fn retire(&mut self, node: u16, reading: u64) -> Reply
+        ensures stands { (schedule : List (AnEvent × AReply)) → StandsFor self.old schedule
+            → StandsFor self.new ((Event.Retire node reading, result) ∷ schedule) }
+        ensures unchanged { IsRefused result → self.new ≡ self.old }
+        ensures nodes { world_nodes self.new ≡ world_nodes self.old }
+    {
+        let place = node as usize;
+        if place >= self.nodes.len() {
+            return Reply::Refused(Refusal::NoNode);
+        }
+        match self.nodes[place].retire(reading) {
+            Ok((stamp, item)) => Reply::Stamped { stamp, item },
+            Err(refusal) => Reply::Refused(refusal),
+        }
+    }
+
+    fn join(&mut self) -> Reply
+        ensures stands { (schedule : List (AnEvent × AReply)) → StandsFor self.old schedule
+            → StandsFor self.new ((Event.Join, result) ∷ schedule) }
+        ensures unchanged { IsRefused result → self.new ≡ self.old }
+        ensures nodes { world_nodes self.new ≡ world_nodes self.old }
+    {
+        if self.nodes.len() >= MOST_NUMBERS as usize {
+            return Reply::Refused(Refusal::TooManyNodes);
+        }
+        if self.nodes.try_reserve(1).is_err() {
+            return Reply::Refused(Refusal::NoMemory);
+        }
+        match self.core.join() {
+            Ok(made) => {
+                self.nodes
+                    .push_reserved(Issuer::new(self.alloc, made.0, made.1));
+                Reply::Joined {
+                    node: made.0,
+                    start: made.1,
+                }
+            }
+            Err(fault) => Reply::Refused(Refusal::from(fault)),
+        }
+    }
+
     fn send(&mut self, node: u16, reading: u64) -> Reply
         ensures stands { (schedule : List (AnEvent × AReply)) → StandsFor self.old schedule
             → StandsFor self.new ((Event.Send node reading, result) ∷ schedule) }
-        ensures matched { IsMatched self.new }
         ensures unchanged { IsRefused result → self.new ≡ self.old }
         ensures nodes { world_nodes self.new ≡ world_nodes self.old }
     {
@@ -243,13 +281,15 @@ impl World {
     fn receive(&mut self, node: u16, reading: u64, message: u64) -> Reply
         ensures stands { (schedule : List (AnEvent × AReply)) → StandsFor self.old schedule
             → StandsFor self.new ((Event.Receive node reading message, result) ∷ schedule) }
-        ensures matched { IsMatched self.new }
         ensures unchanged { IsRefused result → self.new ≡ self.old }
         ensures nodes { world_nodes self.new ≡ world_nodes self.old }
     {
         let place = node as usize;
         if place >= self.nodes.len() {
             return Reply::Refused(Refusal::NoNode);
+        }
+        if self.nodes[place].is_retired() {
+            return Reply::Refused(Refusal::Retired);
         }
         let Some(sent) = self.messages.as_slice().get(message as usize) else {
             return Reply::Refused(Refusal::NoMessage);
@@ -263,13 +303,15 @@ impl World {
     fn observe(&mut self, node: u16, reading: u64, id: u64) -> Reply
         ensures stands { (schedule : List (AnEvent × AReply)) → StandsFor self.old schedule
             → StandsFor self.new ((Event.Observe node reading id, result) ∷ schedule) }
-        ensures matched { IsMatched self.new }
         ensures unchanged { IsRefused result → self.new ≡ self.old }
         ensures nodes { world_nodes self.new ≡ world_nodes self.old }
     {
         let place = node as usize;
         if place >= self.nodes.len() {
             return Reply::Refused(Refusal::NoNode);
+        }
+        if self.nodes[place].is_retired() {
+            return Reply::Refused(Refusal::Retired);
         }
         let Some(seen) = self.core.stamp_of(id) else {
             return Reply::Refused(Refusal::NoSnapshot);
@@ -283,7 +325,6 @@ impl World {
     fn deliver(&mut self, node: u16, number: u64) -> Reply
         ensures stands { (schedule : List (AnEvent × AReply)) → StandsFor self.old schedule
             → StandsFor self.new ((Event.Deliver node number, result) ∷ schedule) }
-        ensures matched { IsMatched self.new }
         ensures unchanged { IsRefused result → self.new ≡ self.old }
         ensures nodes { world_nodes self.new ≡ world_nodes self.old }
     {
@@ -303,7 +344,6 @@ impl World {
     fn open_at(&mut self, stamp: Stamp) -> Reply
         ensures stands { (schedule : List (AnEvent × AReply)) → StandsFor self.old schedule
             → StandsFor self.new ((Event.OpenAt stamp, result) ∷ schedule) }
-        ensures matched { IsMatched self.new }
         ensures unchanged { IsRefused result → self.new ≡ self.old }
         ensures nodes { world_nodes self.new ≡ world_nodes self.old }
     {
@@ -316,7 +356,6 @@ impl World {
     fn open_floor(&mut self) -> Reply
         ensures stands { (schedule : List (AnEvent × AReply)) → StandsFor self.old schedule
             → StandsFor self.new ((Event.OpenFloor, result) ∷ schedule) }
-        ensures matched { IsMatched self.new }
         ensures unchanged { IsRefused result → self.new ≡ self.old }
         ensures nodes { world_nodes self.new ≡ world_nodes self.old }
     {
@@ -329,7 +368,6 @@ impl World {
     fn read(&mut self, id: u64, key: Bytes) -> Reply
         ensures stands { (schedule : List (AnEvent × AReply)) → StandsFor self.old schedule
             → StandsFor self.new ((Event.Read id key, result) ∷ schedule) }
-        ensures matched { IsMatched self.new }
         ensures unchanged { self.new ≡ self.old }
     {
         match self.core.read(id, key.as_slice()) {
@@ -347,7 +385,6 @@ impl World {
     fn list(&mut self, id: u64) -> Reply
         ensures stands { (schedule : List (AnEvent × AReply)) → StandsFor self.old schedule
             → StandsFor self.new ((Event.List id, result) ∷ schedule) }
-        ensures matched { IsMatched self.new }
         ensures unchanged { self.new ≡ self.old }
     {
         match self.core.list(id) {
@@ -359,7 +396,6 @@ impl World {
     fn close(&mut self, id: u64) -> Reply
         ensures stands { (schedule : List (AnEvent × AReply)) → StandsFor self.old schedule
             → StandsFor self.new ((Event.Close id, result) ∷ schedule) }
-        ensures matched { IsMatched self.new }
         ensures unchanged { IsRefused result → self.new ≡ self.old }
         ensures nodes { world_nodes self.new ≡ world_nodes self.old }
     {
@@ -372,7 +408,6 @@ impl World {
     fn floor(&mut self) -> Reply
         ensures stands { (schedule : List (AnEvent × AReply)) → StandsFor self.old schedule
             → StandsFor self.new ((Event.Floor, result) ∷ schedule) }
-        ensures matched { IsMatched self.new }
         ensures unchanged { self.new ≡ self.old }
     {
         Reply::Floor {
@@ -383,7 +418,6 @@ impl World {
     fn vacuum(&mut self) -> Reply
         ensures stands { (schedule : List (AnEvent × AReply)) → StandsFor self.old schedule
             → StandsFor self.new ((Event.Vacuum, result) ∷ schedule) }
-        ensures matched { IsMatched self.new }
         ensures unchanged { IsRefused result → self.new ≡ self.old }
         ensures nodes { world_nodes self.new ≡ world_nodes self.old }
     {
@@ -396,7 +430,6 @@ impl World {
     fn rows(&mut self) -> Reply
         ensures stands { (schedule : List (AnEvent × AReply)) → StandsFor self.old schedule
             → StandsFor self.new ((Event.Rows, result) ∷ schedule) }
-        ensures matched { IsMatched self.new }
         ensures unchanged { self.new ≡ self.old }
     {
         Reply::Rows {
@@ -411,7 +444,7 @@ fn fresh_nodes(alloc: Global, count: u16) -> Result<Vec<Issuer>, AllocError>
 {
     let mut made = Vec::new(alloc);
     for id in 0..count {
-        made.push(Issuer::new(alloc, id))?;
+        made.push(Issuer::new(alloc, id, Stamp::from_bits(0)))?;
     }
     Ok(made)
 }

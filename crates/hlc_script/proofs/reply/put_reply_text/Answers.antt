@@ -12,3 +12,7 @@ returns-in-Sent g c =
 pub returns-in-Snapshot : goal.returns-in-Snapshot
 returns-in-Snapshot g c =
     rw c.in-Snapshot.is (printed_then c.put_named_number-in-Snapshot.ensures c.put_named_stamp-in-Snapshot.ensures)
+
+pub returns-in-Joined : goal.returns-in-Joined
+returns-in-Joined g c =
+    rw c.in-Joined.is (printed_then c.put_named_number-in-Joined.ensures c.put_named_stamp-in-Joined.ensures)

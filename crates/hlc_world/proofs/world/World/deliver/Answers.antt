@@ -16,7 +16,7 @@ returns-clause-stands c = λ s h.
     let at =
     found _ s c.args.node c.args.number c.index.result.now c.in-Some.item.now h' inside node c.in-Some.ensures in
     let all' = answered _ s c.args.node c.args.number c.in-Some.item.now c.accept.new.core c.accept.result
-    c.self.invariant h' at
+    c.accept.ensures.nodes h' at
     (c.accept.ensures.stands (core_past s) h'.core) in
     elim c.match-accept.branch [
       | in-Ok w ↦ rw (w.result-is ∙ sym (ap reply_of w.in-Ok.is)) all'

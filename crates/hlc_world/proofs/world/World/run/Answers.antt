@@ -2,7 +2,7 @@
 use Rattle.std.proofs.Common.{◌≡◌, ◌∙◌, ◌∷◌, subst, ◌++◌, refl, sym, ap, length, length-append, ◌+◌, append_assoc}
 use Rattle.std.proofs.Common.{arith, rules}
 use Rattle.hlc_world.specs.Schedule.{after}
-use Rattle.hlc_world.specs.State.{world_nodes, IsMatched}
+use Rattle.hlc_world.specs.State.{world_nodes}
 use Rattle.hlc_world.specs.Headline.{IsFaithful}
 use Rattle.std.proofs.lemmas.Grind.{common_steps}
 use Rattle.hlc_world.proofs.Faithful.{faithful}
@@ -16,8 +16,7 @@ loop-event-init c = record {
   same = refl;
   room = search rules;
   stands = λ s h. h;
-  faithful = λ s h.
-      faithful c.args.self.now s (subst IsMatched c.self.view_is c.self.invariant) h;
+  faithful = faithful c.args.self.now;
 }
 
 pub loop-event-preserved : goal.loop-event-preserved

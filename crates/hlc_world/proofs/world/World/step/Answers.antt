@@ -39,5 +39,4 @@ pub returns-clause-faithful : goal.returns-clause-faithful
 returns-clause-faithful c = λ s h.
     subst (λ n. IsFaithful n ((c.args.event, c.take_place.result) ∷ s) c.take_place.new.self.core.rows)
     c.take_place.ensures.nodes
-    (faithful c.take_place.new.self ((c.args.event, c.take_place.result) ∷ s)
-    c.take_place.ensures.matched (c.take_place.ensures.stands s h))
+    (faithful c.take_place.new.self ((c.args.event, c.take_place.result) ∷ s) (c.take_place.ensures.stands s h))

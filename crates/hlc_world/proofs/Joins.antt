@@ -1,0 +1,116 @@
+-- A node that joins: it has no items and no stamp, and its clock starts at the floor.
+use Rattle.std.proofs.Common.{◌≡◌, ℕ, ◌+◌, Bool, false, ◌<◌, ◌≤◌, List, [], ◌∷◌, ◌++◌, length, Some, None, Option, refl}
+use Rattle.std.proofs.Common.{ap, sym, ◌∙◌, subst, inl, inr, arith, length-append}
+use Rattle.std.specs.Prelude.{⊤, slice_get}
+use Rattle.std.proofs.lemmas.Bool.{cond-true, cond-false, lt-leb, le-leb, cases_eq}
+use Rattle.hlc_node.specs.declared.item.Item.{Item}
+use Rattle.hlc_floor.specs.declared.heads.TheConstants.{MOST_NUMBERS}
+use Rattle.hlc_core.specs.declared.fault.CoreFault.{CoreFault}
+use Rattle.hlc_core.specs.Past.{Joined as JoinedOf, numbered, floor, join_refusal}
+use Rattle.hlc_core.specs.Kept.{Kept, nodes, StandsFor as CoreStandsFor}
+use Rattle.hlc_core.specs.Calls.{IsRefusal}
+use Rattle.hlc_world.specs.declared.event.Event.TheVariants.{Join}
+use Rattle.hlc_world.specs.declared.reply.Reply.{Reply}
+use Rattle.hlc_world.specs.declared.reply.Reply.TheVariants.{Joined, Refused}
+use Rattle.hlc_world.specs.declared.refusal.Refusal.TheVariants.{TooManyNodes, NoMemory}
+use Rattle.hlc_world.specs.Schedule.{Event, item_made, with_item, ends, stamp_or, issued, gone, last_stamp}
+use Rattle.hlc_world.specs.Store.{core_past}
+use Rattle.hlc_world.specs.Due.{of_core, core_refusal, IsLegal}
+use Rattle.hlc_world.specs.State.{KeptIssuer, State, world_nodes, StandsFor}
+use Rattle.hlc_world.proofs.Lists.{get-append_left, get-push}
+use Rattle.hlc_world.proofs.Nodes.{a_node, stays, stamp_or-same, stamp_or-other, with_item-same, with_item-other}
+use Rattle.hlc_world.proofs.Nodes.{ends-other}
+use Rattle.hlc_world.proofs.Orderly.{orderly}
+
+no-items : (xs : List Item) → ((k : ℕ) (item : Item) → slice_get xs k ≡ Some item → ⊥) → xs ≡ []
+no-items [] h = refl
+no-items (x ∷ xs) h = absurd (h 0 x refl)
+
+-- to be put behind is to be there
+not-empty : (xs : List Item) (x : Item) → xs ++ x ∷ [] ≡ [] → ⊥
+not-empty [] x e = absurd (cc)
+not-empty (y ∷ ys) x e = absurd (cc)
+
+item-ends : (n : ℕ) (o : Option Item) (xs : List Item) (before : Bool) → (xs ≡ [] → before ≡ false)
+    → with_item n o xs ≡ [] → ends n o before ≡ false
+item-ends n None xs before h e = h e
+item-ends n (Some item) xs before h e =
+    elim (cases_eq item.node n) [
+      | inl same ↦ absurd (not-empty xs item (sym (with_item-same n item xs same) ∙ e))
+      | inr other ↦ ends-other n item before other ∙ h (sym (with_item-other n item xs other) ∙ e)
+    ]
+
+-- a node that issued nothing has not retired
+not-gone : (n : ℕ) (s : List (Event × Reply)) → issued n s ≡ [] → gone n s ≡ false
+not-gone n [] e = refl
+not-gone n (entry ∷ s) e = item-ends n (item_made entry.0 entry.1) (issued n s) (gone n s) (not-gone n s) e
+
+-- a node joined, with the next number
+pub joins : (state : State) (s : List (Event × Reply)) (node start : ℕ) (core : Kept) → StandsFor state s
+    → nodes core ≡ nodes state.core → join_refusal (world_nodes state) (core_past s) ≡ None
+    → node ≡ numbered (world_nodes state) (core_past s) → start ≡ floor (world_nodes state) (core_past s)
+    → CoreStandsFor core (JoinedOf node start ∷ core_past s) → StandsFor (record {
+      core = core;
+      nodes = state.nodes ++ a_node node start [] false ∷ [];
+      messages = state.messages;
+    }) ((Join, Joined node start) ∷ s)
+joins state s node start core h same none is at stands =
+    let x : KeptIssuer = a_node node start [] false in
+    let l : length (state.nodes ++ x ∷ []) ≡ length state.nodes + 1 = length-append state.nodes (x ∷ []) in
+    record {
+      legal = subst (λ n. IsLegal n ((Join, Joined node start) ∷ s)) (sym same)
+          ((ap core_refusal none, (is, at)), h.legal);
+      core = stands;
+      many = l ∙ ap (λ n. n + 1) h.many ∙ ap (λ n. numbered n (core_past s) + 1) (sym same);
+      nodes = λ n lt.
+          elim (cases_eq n (length state.nodes)) [
+            | inl last ↦
+                let own : node ≡ n = is ∙ sym h.many ∙ sym last in
+                let empty : issued n s ≡ [] =
+                no-items (issued n s) (λ k item there.
+                (let i = ((orderly (world_nodes state) s h.legal).each n k item there).inside in
+                omega (arith, i, is, own))) in
+                ap (λ k. slice_get (state.nodes ++ x ∷ []) k) last
+                ∙ get-push state.nodes x
+                ∙ ap (λ k. Some (a_node k start [] false)) own
+                ∙ sym (ap (λ a. Some (a_node n a (issued n s) (gone n s)))
+                (ap (λ k. stamp_or n (Some (k, start)) (last_stamp n s)) own
+                ∙ stamp_or-same n start (last_stamp n s))
+                ∙ ap (λ xs. Some (a_node n start xs (gone n s))) empty
+                ∙ ap (λ g. Some (a_node n start [] g)) (not-gone n s empty))
+            | inr earlier ↦
+                let within : n < length state.nodes = omega (arith, lt, l) in
+                let other : node ≡ n → ⊥ = λ e. (let m = h.many in omega (arith, is, m, e)) in
+                get-append_left state.nodes (x ∷ []) n within
+                ∙ h.nodes n within
+                ∙ sym (ap (λ a. Some (a_node n a (issued n s) (gone n s)))
+                (stamp_or-other n node start (last_stamp n s) other))
+          ];
+      messages = h.messages;
+    }
+
+-- none joined: 1,024 numbers were given
+pub joins_full : (state : State) (s : List (Event × Reply)) → StandsFor state s → MOST_NUMBERS ≤ length state.nodes
+    → StandsFor state ((Join, Refused TooManyNodes) ∷ s)
+joins_full state s h full =
+    stays state s Join TooManyNodes refl refl refl refl
+    (inl (ap core_refusal (cond-true _ _ _ (le-leb MOST_NUMBERS (numbered (world_nodes state) (core_past s))
+    (let m = h.many in omega (arith, m)))))) h
+
+-- or there is no memory
+pub joins_lost : (state : State) (s : List (Event × Reply)) → StandsFor state s → length state.nodes < MOST_NUMBERS
+    → StandsFor state ((Join, Refused NoMemory) ∷ s)
+joins_lost state s h few =
+    let none : join_refusal (world_nodes state) (core_past s) ≡ None =
+    cond-false _ _ _ (lt-leb MOST_NUMBERS (numbered (world_nodes state) (core_past s)) (let m = h.many in omega (arith, m))) in
+    stays state s Join NoMemory refl refl refl refl (inr (ap core_refusal none, refl, tt)) h
+
+-- or the core refuses it
+pub joins_not : (state : State) (s : List (Event × Reply)) (fault : CoreFault) → StandsFor state s
+    → IsRefusal (join_refusal (world_nodes state) (core_past s)) ⊤ fault
+    → StandsFor state ((Join, Refused (of_core fault)) ∷ s)
+joins_not state s fault h (inl due) =
+    stays state s Join (of_core fault) refl refl refl refl (inl (ap core_refusal due)) h
+joins_not state s fault h (inr lost) =
+    subst (λ f. StandsFor state ((Join, Refused (of_core f)) ∷ s)) (sym lost.1)
+    (stays state s Join NoMemory refl refl refl refl (inr (ap core_refusal lost.0, refl, tt)) h)
