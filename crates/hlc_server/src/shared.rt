@@ -73,6 +73,18 @@ impl<L: Ledger> Shared<L> {
         self.step(rt, caller, CoreEvent::Accept(item))
     }
 
+    /// Lets a node join. The reply tells its number and the stamp at which its clock starts: from them
+    /// the node's side is made, by `NodeCore::new(node, start)`.
+    pub fn join<R: Wait>(
+        &self,
+        rt: &R,
+        caller: Caller<L>,
+    ) -> (Caller<L>, Result<Receipt, (NotDone, CoreEvent)>)
+        ensures { IsToldFor caller AnEvent.Join result }
+    {
+        self.step(rt, caller, CoreEvent::Join)
+    }
+
     /// Opens a snapshot at a stamp.
     pub fn open<R: Wait>(
         &self,

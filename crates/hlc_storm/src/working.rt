@@ -64,7 +64,7 @@ pub(crate) fn feed_link<L: Ledger, G: Gate, R: Wait>(
         receipts,
         left: _,
         end,
-    } = feed(rt, alloc, shared, caller, link, board, feeder, gate);
+    } = feed(rt, alloc, shared, caller, link, board, Some(feeder), gate);
     Worked {
         caller,
         receipts,

@@ -1,20 +1,21 @@
 -- What the receipts tell after one call more, or one round more: the new receipts stand behind those before, and each
 -- fact about a list of receipts is put together of those about its two parts.
 use Rattle.std.proofs.Common.{◌≡◌, ℕ, List, [], ◌∷◌, ◌++◌, map, Option, Some, None, IfNone, sym, ap, ◌∙◌, arith}
-use Rattle.std.proofs.Common.{length-append, append_assoc, refl, subst, All}
-use Rattle.std.proofs.lemmas.List.{append-nil, map-append}
+use Rattle.std.proofs.Common.{length-append, append_assoc, refl, subst, All, length, take, get_or, ◌+◌, ◌<◌}
+use Rattle.std.proofs.lemmas.List.{append-nil, map-append, take_more}
 use Rattle.std.proofs.lemmas.List.Elements.{All-append, All-nil}
 use Rattle.hlc_node.specs.declared.item.Item.{Item}
 use Rattle.hlc_server.specs.declared.entry.Receipt.{Receipt}
 use Rattle.hlc_server.specs.Seats.{Seat}
+use Rattle.std.specs.Option.{option_map}
 use Rattle.hlc_board.specs.Views.{Post, post}
 use Rattle.hlc_workers.specs.Paid.{event_of, IsPaid, MadeNone, MadeSome}
-use Rattle.hlc_workers.specs.Feeding.{accept_of, TookAll, raised_by, highest}
-use Rattle.hlc_core.specs.declared.event.CoreEvent.TheVariants.{OpenAt, OpenFloor}
+use Rattle.hlc_workers.specs.Feeding.{accept_of, TookAll, raised_by, highest, fed_by, fed_all}
+use Rattle.hlc_core.specs.declared.event.CoreEvent.TheVariants.{OpenAt, OpenFloor, Read}
 use Rattle.hlc_workers.specs.declared.room.WorkEnd.{WorkEnd}
 use Rattle.hlc_workers.specs.declared.room.WorkEnd.TheVariants.{Done, Held}
 use Rattle.hlc_workers.specs.declared.opening.Opening.{Opening}
-use Rattle.hlc_workers.specs.declared.opening.Opening.TheVariants.{Opened as opened, Below as below}
+use Rattle.hlc_workers.specs.declared.opening.Opening.TheVariants.{Opened as opened, Outside as outside}
 use Rattle.hlc_workers.specs.Rounds.{opening_of, reads_of, GoesOn, AtFloor, GoesOnOrAgain, IsRound, AreRounds}
 
 -- before the first call
@@ -69,22 +70,29 @@ took_more before taken after receipts more r item took is event now = (
       ∙ sym (map-append accept_of took.0 (item ∷ [])),
 )
 
--- the greatest stamp after one receipt more
+-- what is raised after one receipt more
 highest_more : (node raised : ℕ) (xs : List Receipt) (r : Receipt)
     → highest node raised (xs ++ r ∷ []) ≡ raised_by node (highest node raised xs) r.reply
 highest_more node raised [] r = refl
 highest_more node raised (y ∷ ys) r = highest_more node (raised_by node raised y.reply) ys r
 
--- the feeder after one receipt more
-pub raised_more : (first was now : Post) (receipts more : List Receipt) (r : Receipt)
-    → was ≡ post first.board first.node (highest first.node first.raised receipts) → more ≡ receipts ++ r ∷ []
-    → now ≡ post was.board was.node (raised_by was.node was.raised r.reply)
-    → now ≡ post first.board first.node (highest first.node first.raised more)
+-- the feeder, where there is one, after one receipt more
+pub raised_more : (first was now : Option Post) (receipts more : List Receipt) (r : Receipt)
+    → was ≡ option_map (λ feeder. fed_all feeder receipts) first → more ≡ receipts ++ r ∷ []
+    → now ≡ option_map (λ feeder. fed_by feeder r.reply) was
+    → now ≡ option_map (λ feeder. fed_all feeder more) first
 raised_more first was now receipts more r before is step =
     step
-    ∙ ap (λ (p : Post). post p.board p.node (raised_by p.node p.raised r.reply)) before
-    ∙ ap (λ (n : ℕ). post first.board first.node n) (sym (highest_more first.node first.raised receipts r))
-    ∙ ap (λ (l : List Receipt). post first.board first.node (highest first.node first.raised l)) (sym is)
+    ∙ ap (option_map (λ feeder. fed_by feeder r.reply)) before
+    ∙ one_more first
+    ∙ ap (λ (l : List Receipt). option_map (λ feeder. fed_all feeder l) first) (sym is)
+  where
+    one_more : (feeder : Option Post)
+        → option_map (λ f. fed_by f r.reply) (option_map (λ f. fed_all f receipts) feeder)
+        ≡ option_map (λ f. fed_all f (receipts ++ r ∷ [])) feeder
+    one_more None = refl
+    one_more (Some feeder) =
+        ap (λ (n : ℕ). Some (post feeder.board feeder.node n)) (sym (highest_more feeder.node feeder.raised receipts r))
 
 -- one round more behind those before
 rounds-append : (keys : List (List ℕ)) (stamps : List ℕ) (stamp : ℕ) (before round : List Receipt)
@@ -113,6 +121,24 @@ pub pushed : (old mid new more : List Receipt) (r : Receipt) → mid ≡ old ++ 
     → new ≡ old ++ (r ∷ more)
 pushed old mid new more r one rest = rest ∙ ap (λ (l : List Receipt). l ++ more) one ∙ append_assoc old (r ∷ []) more
 
+-- more behind the first ones, and then one receipt
+pub behind : (old more mid new : List Receipt) (r : Receipt) → mid ≡ old ++ more → new ≡ mid ++ r ∷ []
+    → new ≡ old ++ (more ++ r ∷ [])
+behind old more mid new r first one =
+    one ∙ ap (λ (l : List Receipt). l ++ r ∷ []) first ∙ append_assoc old more (r ∷ [])
+
+-- one key more was read
+pub read_more : (keys : List (List ℕ)) (id i : ℕ) (item key : List ℕ) (more : List Receipt) (r : Receipt)
+    → i < length keys → item ≡ get_or keys i item → key ≡ item → r.event ≡ Read id key
+    → map event_of more ≡ map (Read id) (take i keys)
+    → map event_of (more ++ r ∷ []) ≡ map (Read id) (take (i + 1) keys)
+read_more keys id i item key more r lt is copy event had =
+    map-append event_of more (r ∷ [])
+    ∙ ap (λ l. l ++ event_of r ∷ []) had
+    ∙ ap (λ e. map (Read id) (take i keys) ++ e ∷ []) (event ∙ ap (Read id) (copy ∙ is))
+    ∙ sym (map-append (Read id) (take i keys) (get_or keys i item ∷ []))
+    ∙ sym (ap (map (Read id)) (take_more keys i item lt))
+
 -- an opening at the floor, and then the reads
 pub at_floor : (keys : List (List ℕ)) (r : Receipt) (id : ℕ) (more : List Receipt) (end : Option WorkEnd)
     → r.event ≡ OpenFloor
@@ -128,9 +154,9 @@ pub at_board : (keys : List (List ℕ)) (stamp : ℕ) (r : Receipt) (id : ℕ) (
 at_board keys stamp r id more None event is h = (event, subst (λ (o : Opening). GoesOnOrAgain keys o more) is h)
 at_board keys stamp r id more (Some end) event is h = tt
 
--- an opening below the horizon, and then one at the floor
+-- an opening above the floor or below the horizon, and then one at the floor
 pub again : (keys : List (List ℕ)) (stamp : ℕ) (r : Receipt) (more : List Receipt) (end : Option WorkEnd)
     → r.event ≡ OpenAt stamp
-    → below ≡ opening_of r.reply → IfNone end (AtFloor keys more) → IfNone end (IsRound keys stamp (r ∷ more))
+    → outside ≡ opening_of r.reply → IfNone end (AtFloor keys more) → IfNone end (IsRound keys stamp (r ∷ more))
 again keys stamp r more None event is h = (event, subst (λ (o : Opening). GoesOnOrAgain keys o more) is h)
 again keys stamp r more (Some end) event is h = tt

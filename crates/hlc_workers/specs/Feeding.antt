@@ -1,9 +1,9 @@
 -- What a worker of a link has done.
-use Rattle.std.specs.Prelude.{◌≡◌, ◌==◌, ℕ, List, [], ◌∷◌, ◌++◌, map, max, true, Option, None, if◌then◌else◌}
-use Rattle.std.specs.Option.{option_to_list}
+use Rattle.std.specs.Prelude.{◌≡◌, ◌==◌, ◌&&◌, ℕ, List, [], ◌∷◌, ◌++◌, map, nat_lt, true, Option, None, if◌then◌else◌}
+use Rattle.std.specs.Option.{option_to_list, option_map}
 use Rattle.hlc_node.specs.declared.item.Item.{Item}
 use Rattle.hlc_channel.specs.Ends.{Received}
-use Rattle.hlc_board.specs.Views.{Post, post}
+use Rattle.hlc_board.specs.Views.{Post, post, word_of}
 use Rattle.hlc_core.specs.declared.event.CoreEvent.{CoreEvent}
 use Rattle.hlc_core.specs.declared.event.CoreEvent.TheVariants.{Accept}
 use Rattle.hlc_core.specs.declared.reply.CoreReply.{CoreReply}
@@ -24,13 +24,14 @@ TookAll before after receipts left =
     (items : List Item) × (after ≡ before ++ items ++ option_to_list left)
     × (map event_of receipts ≡ map accept_of items)
 
--- what a node's feeder has raised after this reply: where it says that an item of the node was accepted, the greater of
--- the item's stamp and the one before
+-- what a node's feeder has raised after this reply: where it says that an item of the node was accepted above what was
+-- raised before, the word of that item, which is its stamp, or the greatest word where it was the node's last one
 abbrev pub raised_by : ℕ → ℕ → CoreReply → ℕ
-raised_by node raised (Accepted accepted) = if (accepted.node == node) then (max raised accepted.stamp) else raised
+raised_by node raised (Accepted accepted) =
+    if (accepted.node == node) && nat_lt raised accepted.stamp then word_of accepted else raised
 raised_by node raised _ = raised
 
--- the greatest of a stamp and those of the node's accepted items that the receipts tell
+-- what the node's feeder has raised after these receipts
 abbrev pub highest : ℕ → ℕ → List Receipt → ℕ
 highest node raised [] = raised
 highest node raised (receipt ∷ receipts) = highest node (raised_by node raised receipt.reply) receipts
@@ -39,16 +40,22 @@ highest node raised (receipt ∷ receipts) = highest node (raised_by node raised
 abbrev pub fed_by : Post → CoreReply → Post
 fed_by feeder reply = post feeder.board feeder.node (raised_by feeder.node feeder.raised reply)
 
+-- the feeder after these receipts
+abbrev pub fed_all : Post → List Receipt → Post
+fed_all feeder receipts = post feeder.board feeder.node (highest feeder.node feeder.raised receipts)
+
 -- One item was taken and handed in: the receipts were `old` and are `new`, the caller was `before` and is `after`, the
--- items taken were `had` and are `taken`, and the feeder was `one` and is `other`.
-abbrev pub FedOne : List Receipt → List Receipt → Seat → Seat → List Item → List Item → Post → Post → Type 0
+-- items taken were `had` and are `taken`, and the feeder, where there is one, was `one` and is `other`.
+abbrev pub FedOne : List Receipt → List Receipt → Seat → Seat → List Item → List Item → Option Post → Option Post
+    → Type 0
 FedOne old new before after had taken one other =
     (receipt : Receipt) × (item : Item) × (new ≡ old ++ receipt ∷ []) × (receipt.event ≡ accept_of item)
-    × (taken ≡ had ++ item ∷ []) × IsPaid before after (receipt ∷ []) × (other ≡ fed_by one receipt.reply)
+    × (taken ≡ had ++ item ∷ []) × IsPaid before after (receipt ∷ [])
+    × (other ≡ option_map (λ feeder. fed_by feeder receipt.reply) one)
 
 -- No item was handed in: this is left, and so the work ends.
 -- `held` is what the gate promises where it holds the next call.
-abbrev pub FedNone : List Receipt → List Receipt → Seat → Seat → List Item → Received → Post → Post
+abbrev pub FedNone : List Receipt → List Receipt → Seat → Seat → List Item → Received → Option Post → Option Post
     → (Option Item × WorkEnd)
     → Type 0 → Type 0
 FedNone old new before after had link one other told held =

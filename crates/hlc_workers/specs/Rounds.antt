@@ -1,6 +1,6 @@
 -- What a reader's worker has done.
 use Rattle.std.specs.Prelude.{◌≡◌, ℕ, ◌+◌, ◌-◌, ◌<◌, ◌≤◌, List, [], ◌∷◌, ◌++◌, map, length, slice_index}
-use Rattle.hlc_core.specs.declared.fault.CoreFault.TheVariants.{BelowHorizon}
+use Rattle.hlc_core.specs.declared.fault.CoreFault.TheVariants.{AboveFloor, BelowHorizon}
 use Rattle.hlc_core.specs.declared.event.CoreEvent.{CoreEvent}
 use Rattle.hlc_core.specs.declared.event.CoreEvent.TheVariants.{OpenAt, OpenFloor, Read, Close}
 use Rattle.hlc_core.specs.declared.reply.CoreReply.{CoreReply}
@@ -8,7 +8,7 @@ use Rattle.hlc_core.specs.declared.reply.CoreReply.TheVariants.{Opened, Refused}
 use Rattle.hlc_server.specs.declared.entry.Receipt.{Receipt}
 use Rattle.hlc_board.specs.Views.{Sight, IsLeast}
 use Rattle.hlc_workers.specs.declared.opening.Opening.{Opening}
-use Rattle.hlc_workers.specs.declared.opening.Opening.TheVariants.{Opened as opened, Below as below}
+use Rattle.hlc_workers.specs.declared.opening.Opening.TheVariants.{Opened as opened, Outside as outside}
 use Rattle.hlc_workers.specs.declared.opening.Opening.TheVariants.{NotOpened as refused}
 use Rattle.hlc_server.specs.Seats.{Seat}
 use Rattle.hlc_workers.specs.Paid.{event_of, IsPaid}
@@ -16,7 +16,8 @@ use Rattle.hlc_workers.specs.Paid.{event_of, IsPaid}
 -- what an opening came to, by its reply
 abbrev pub opening_of : CoreReply → Opening
 opening_of (Opened id stamp) = opened id
-opening_of (Refused (BelowHorizon horizon)) = below
+opening_of (Refused (AboveFloor floor)) = outside
+opening_of (Refused (BelowHorizon horizon)) = outside
 opening_of _ = refused
 
 -- One opening more was made, for this event, and it came to this: the receipts were `old` and are `new`, the caller was
@@ -33,7 +34,7 @@ reads_of id keys = map (Read id) keys ++ Close id ∷ []
 -- after an opening at the floor
 abbrev pub GoesOn : List (List ℕ) → Opening → List Receipt → Type 0
 GoesOn keys (opened id) receipts = map event_of receipts ≡ reads_of id keys
-GoesOn keys below receipts = receipts ≡ []
+GoesOn keys outside receipts = receipts ≡ []
 GoesOn keys refused receipts = receipts ≡ []
 
 -- an opening at the floor, and what follows
@@ -41,10 +42,10 @@ abbrev pub AtFloor : List (List ℕ) → List Receipt → Type 0
 AtFloor keys [] = ⊥
 AtFloor keys (receipt ∷ receipts) = (receipt.event ≡ OpenFloor) × GoesOn keys (opening_of receipt.reply) receipts
 
--- after an opening at the board's floor: where it is below the horizon, an opening at the floor
+-- after an opening at the board's floor: where it is above the floor or below the horizon, an opening at the floor
 abbrev pub GoesOnOrAgain : List (List ℕ) → Opening → List Receipt → Type 0
 GoesOnOrAgain keys (opened id) receipts = map event_of receipts ≡ reads_of id keys
-GoesOnOrAgain keys below receipts = AtFloor keys receipts
+GoesOnOrAgain keys outside receipts = AtFloor keys receipts
 GoesOnOrAgain keys refused receipts = receipts ≡ []
 
 -- one round at a stamp

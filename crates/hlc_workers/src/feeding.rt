@@ -1,8 +1,8 @@
 //! The worker of a link.
-ghost use Rattle.std.specs.Prelude.{◌≡◌, true, false, None, vec_len, MatchOption};
-ghost use Rattle.hlc_board.specs.Views.{post};
+ghost use Rattle.std.specs.Prelude.{◌≡◌, true, false, None, vec_len, IfSome, MatchOption};
+ghost use Rattle.std.specs.Option.{option_map};
 ghost use Rattle.hlc_workers.specs.Paid.{IsPaid};
-ghost use Rattle.hlc_workers.specs.Feeding.{TookAll, FedOne, FedNone, fed_by, highest};
+ghost use Rattle.hlc_workers.specs.Feeding.{TookAll, FedOne, FedNone, fed_by, fed_all};
 
 use crate::gate::Gate;
 use crate::room::{WorkEnd, make_room};
@@ -20,7 +20,8 @@ use std::sync::ledger::Ledger;
 pub struct Fed<L: Ledger> {
     pub caller: Caller<L>,
     pub link: LinkReceiver,
-    pub feeder: Feeder,
+    /// None where none was given.
+    pub feeder: Option<Feeder>,
     pub receipts: Vec<Receipt>,
     /// The item that was taken and not handed in, where there is one.
     pub left: Option<Item>,
@@ -29,7 +30,8 @@ pub struct Fed<L: Ledger> {
 
 /// Takes the parcels of a link until its end. It hands each item in, and raises the board with each
 /// item of the feeder's node that was accepted above what was raised, after the lock is free, and with
-/// no other. The feeder is of this board. Parcels are taken first, then the gate is asked.
+/// no other. The feeder is of this board. Of a node that joined there is none, since it has no word on
+/// the board: then nothing is raised. Parcels are taken first, then the gate is asked.
 ///
 /// It ends `Done` at the end of the link, `Closed` where the link handed the call back, `Held` where
 /// the gate answered false, and `Spent` where an item was not handed in, or the room for its receipt
@@ -41,14 +43,14 @@ pub fn feed<L: Ledger, G: Gate, R: Wait>(
     caller: Caller<L>,
     link: LinkReceiver,
     board: &Board,
-    feeder: Feeder,
+    feeder: Option<Feeder>,
     gate: &G,
 ) -> Fed<L>
-    requires { feeder.board ≡ board.now }
+    requires { IfSome feeder (λ feeder. feeder.board ≡ board.now) }
     ensures share { IsPaid caller result.caller result.receipts.items }
     ensures items { TookAll link.taken result.link.taken result.receipts.items result.left }
     ensures raised { result.feeder
-        ≡ post feeder.board feeder.node (highest feeder.node feeder.raised result.receipts.items) }
+        ≡ option_map (λ feeder. fed_all feeder result.receipts.items) feeder }
     ensures done { result.end ≡ WorkEnd.Done → (result.link.ended ≡ true) × (result.left ≡ None) }
     ensures held { result.end ≡ WorkEnd.Held
         → G.may_answer gate.now (vec_len result.receipts) false }
@@ -90,11 +92,11 @@ fn feed_one<L: Ledger, G: Gate, R: Wait>(
     caller: Caller<L>,
     link: &mut LinkReceiver,
     board: &Board,
-    feeder: &mut Feeder,
+    feeder: &mut Option<Feeder>,
     receipts: &mut Vec<Receipt>,
     gate: &G,
 ) -> (Caller<L>, Option<(Option<Item>, WorkEnd)>)
-    requires { feeder.old.board ≡ board.now }
+    requires { IfSome feeder.old (λ feeder. feeder.board ≡ board.now) }
     ensures went { MatchOption result.1
         (FedOne receipts.old.items receipts.new.items caller result.0
         link.old.taken link.new.taken feeder.old feeder.new)
@@ -112,7 +114,7 @@ fn feed_one<L: Ledger, G: Gate, R: Wait>(
     }
     match shared.accept(rt, caller, item) {
         (caller, Ok(receipt)) => {
-            raise_if(board, feeder, &receipt.reply);
+            raise_where(board, feeder, &receipt.reply);
             receipts.push_reserved(receipt);
             (caller, None)
         }
@@ -122,6 +124,16 @@ fn feed_one<L: Ledger, G: Gate, R: Wait>(
             };
             (caller, Some((Some(item), WorkEnd::Spent(why))))
         }
+    }
+}
+
+/// Raises the board with what the reply says, where there is a feeder.
+fn raise_where(board: &Board, feeder: &mut Option<Feeder>, reply: &CoreReply)
+    requires { IfSome feeder.old (λ feeder. feeder.board ≡ board.now) }
+    ensures { feeder.new ≡ option_map (λ feeder. fed_by feeder reply.now) feeder.old }
+{
+    if let Some(feeder) = feeder {
+        raise_if(board, feeder, reply);
     }
 }
 

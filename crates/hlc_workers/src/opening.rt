@@ -15,8 +15,8 @@ use std::sync::ledger::Ledger;
 pub enum Opening {
     /// The snapshot of this id was opened.
     Opened(u64),
-    /// The stamp was below the horizon.
-    Below,
+    /// The stamp was above the floor or below the horizon.
+    Outside,
     /// It was refused for another reason.
     NotOpened,
 }
@@ -55,7 +55,8 @@ fn opening_in(reply: &CoreReply) -> Opening
 {
     match reply {
         CoreReply::Opened { id, stamp: _ } => Opening::Opened(*id),
-        CoreReply::Refused(CoreFault::BelowHorizon { horizon: _ }) => Opening::Below,
+        CoreReply::Refused(CoreFault::AboveFloor { floor: _ }) => Opening::Outside,
+        CoreReply::Refused(CoreFault::BelowHorizon { horizon: _ }) => Opening::Outside,
         _ => Opening::NotOpened,
     }
 }

@@ -75,7 +75,8 @@ fn read_and_close<L: Ledger, G: Gate, R: Wait>(
     (caller, told.err())
 }
 
-/// The part of a round that opens at the floor of the store, where the board's was below the horizon.
+/// The part of a round that opens at the floor of the store, where the board's was above it, or below
+/// the horizon.
 fn read_at_floor<L: Ledger, G: Gate, R: Wait>(
     rt: &R,
     shared: &Shared<L>,
@@ -98,8 +99,8 @@ fn read_at_floor<L: Ledger, G: Gate, R: Wait>(
     }
 }
 
-/// One round: opens at the stamp, or at the floor of the store where that is below the horizon, reads
-/// each key and closes.
+/// One round: opens at the stamp, or at the floor of the store where the stamp is above it or below the
+/// horizon, reads each key and closes.
 fn make_round<L: Ledger, G: Gate, R: Wait>(
     rt: &R,
     shared: &Shared<L>,
@@ -118,15 +119,16 @@ fn make_round<L: Ledger, G: Gate, R: Wait>(
         Err(end) => (caller, Some(end)),
         Ok(opening) => match opening {
             Opening::Opened(id) => read_and_close(rt, shared, caller, id, keys, receipts, gate),
-            Opening::Below => read_at_floor(rt, shared, caller, keys, receipts, gate),
+            Opening::Outside => read_at_floor(rt, shared, caller, keys, receipts, gate),
             Opening::NotOpened => (caller, None),
         },
     }
 }
 
 /// Makes so many rounds. Each looks at the floor of the board, opens a snapshot there, reads each key
-/// in turn, and closes it. Where that stamp is below the horizon it makes one more call, and opens at
-/// the floor of the store. A round whose opening is refused ends there. The pass is of this board.
+/// in turn, and closes it. Where that stamp is above the floor of the store, as it may be while a node
+/// that joined is behind, or below the horizon, it makes one more call, and opens at the floor of the
+/// store. A round whose opening is refused otherwise ends there. The pass is of this board.
 ///
 /// It ends `Done` after the last round, `Held` where the gate answered false, and `Spent` where a call
 /// was not made, or the copy of a key or the room for a receipt was refused; the receipts so far are

@@ -23,9 +23,9 @@ returns-in-Opened g c =
       e.5,
     )
 
-pub returns-in-Below : goal.returns-in-Below
-returns-in-Below g c =
-    let t = rw (c.in-Ok.is, c.in-Below.is) at c.make_call-caller.ensures.told in
+pub returns-in-Outside : goal.returns-in-Outside
+returns-in-Outside g c =
+    let t = rw (c.in-Ok.is, c.in-Outside.is) at c.make_call-caller.ensures.told in
     let e = c.read_at_floor.ensures in (
       t.0 ∷ e.0,
       pushed c.args.receipts.now.items c.make_call-caller.new.receipts.items
