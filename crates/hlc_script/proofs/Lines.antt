@@ -1,7 +1,6 @@
 -- A line is the line of one event: it is parted into the words that it was put together from, the first word tells
 -- the kind of event, and each other word spells one value.
-use Rattle.std.proofs.Common.{◌≡◌, ℕ, ◌+◌, ◌*◌, ◌<◌, ◌^◌, ◌∙◌, sym, ap, refl, List, [], ◌∷◌, get_or, length, arith}
-use Rattle.std.proofs.Common.{eqb}
+use Rattle.std.proofs.Common.{◌≡◌, ℕ, ◌+◌, ◌*◌, ◌<◌, ◌^◌, ◌∙◌, sym, ap, refl, List, [], ◌∷◌, get_or, length, arith, eqb}
 use Rattle.std.specs.Prelude.{decimal, codes, ◌≢◌}
 use Rattle.std.specs.List.{slice_split}
 use Rattle.std.proofs.lemmas.Fmt.{decimal_injective}
@@ -11,9 +10,8 @@ use Rattle.hlc_text.proofs.TokenLemmas.{number_is_word, stamp_is_word, bytes_are
 use Rattle.hlc_text.proofs.SpellingLemmas.{one_token}
 use Rattle.hlc_world.specs.Schedule.{Event}
 use Rattle.hlc_world.specs.declared.event.Event.TheVariants.{Write, Delete, Report, Retire, Join, Send, Receive}
-use Rattle.hlc_world.specs.declared.event.Event.TheVariants.{Observe}
-use Rattle.hlc_world.specs.declared.event.Event.TheVariants.{Deliver, OpenAt, OpenFloor, Read, List as ListAll, Close}
-use Rattle.hlc_world.specs.declared.event.Event.TheVariants.{Floor, Vacuum, Rows}
+use Rattle.hlc_world.specs.declared.event.Event.TheVariants.{Observe, Deliver, OpenAt, OpenFloor, Read, List as ListAll}
+use Rattle.hlc_world.specs.declared.event.Event.TheVariants.{Close, Floor, Vacuum, Rows}
 use Rattle.hlc_script.specs.Line.{event_words, event_line, HasLine, header_words, header_line, HasHeader}
 use Rattle.hlc_script.specs.OneOutput.{OneEvent}
 

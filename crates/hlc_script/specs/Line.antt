@@ -5,9 +5,8 @@ use Rattle.hlc_text.specs.Text.{bytes_token, AreBytes}
 use Rattle.hlc_text.specs.Lines.{spaced}
 use Rattle.hlc_world.specs.Schedule.{Event}
 use Rattle.hlc_world.specs.declared.event.Event.TheVariants.{Write, Delete, Report, Retire, Join, Send, Receive}
-use Rattle.hlc_world.specs.declared.event.Event.TheVariants.{Observe}
-use Rattle.hlc_world.specs.declared.event.Event.TheVariants.{Deliver, OpenAt, OpenFloor, Read, List as ListAll, Close}
-use Rattle.hlc_world.specs.declared.event.Event.TheVariants.{Floor, Vacuum, Rows}
+use Rattle.hlc_world.specs.declared.event.Event.TheVariants.{Observe, Deliver, OpenAt, OpenFloor, Read, List as ListAll}
+use Rattle.hlc_world.specs.declared.event.Event.TheVariants.{Close, Floor, Vacuum, Rows}
 
 -- the words of an event
 abbrev pub event_words : Event → List (List ℕ)

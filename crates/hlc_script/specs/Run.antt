@@ -1,6 +1,6 @@
 -- What a run may write for an input, and how it ends.
-use Rattle.std.specs.Prelude.{◌≡◌, ◌≢◌, ◌↔◌, ℕ, ◌+◌, ◌≤◌, ◌⊎◌, List, [], ◌∷◌, ◌++◌, length, codes, Option, Some}
-use Rattle.std.specs.Prelude.{None, true, false, ⊤}
+use Rattle.std.specs.Prelude.{◌≡◌, ◌≢◌, ◌↔◌, ℕ, ◌+◌, ◌≤◌, ◌⊎◌, List, [], ◌∷◌, ◌++◌, length, codes, Option, Some, None}
+use Rattle.std.specs.Prelude.{true, false, ⊤}
 use Rattle.std.specs.Io.KnownBytes.{Consumes}
 use Rattle.hlc_text.specs.declared.input.TheConstants.{INPUT_LIMIT}
 use Rattle.hlc_text.specs.declared.watched.Watched.{Watched}

@@ -19,8 +19,7 @@ use Rattle.hlc_world.specs.declared.refusal.Refusal.TheVariants.{NoMemory}
 use Rattle.hlc_world.specs.Schedule.{Event, item_at}
 use Rattle.hlc_world.specs.Store.{accepting, accepted, paired, store_history, core_past}
 use Rattle.hlc_world.specs.Due.{of_core, core_refusal, on_link, deliver_refusal, refusal_due, number_refusal}
-use Rattle.hlc_world.specs.Due.{GoesByNumber}
-use Rattle.hlc_world.specs.Due.{IsOwed, StoreMayLack, IsLegal}
+use Rattle.hlc_world.specs.Due.{GoesByNumber, IsOwed, StoreMayLack, IsLegal}
 use Rattle.hlc_world.specs.State.{KeptIssuer, State, world_nodes, StandsFor}
 use Rattle.hlc_world.proofs.Lists.{some-injective}
 use Rattle.hlc_world.proofs.Nodes.{stays, on_link-inside}

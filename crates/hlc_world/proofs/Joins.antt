@@ -102,7 +102,8 @@ pub joins_lost : (state : State) (s : List (Event × Reply)) → StandsFor state
     → StandsFor state ((Join, Refused NoMemory) ∷ s)
 joins_lost state s h few =
     let none : join_refusal (world_nodes state) (core_past s) ≡ None =
-    cond-false _ _ _ (lt-leb MOST_NUMBERS (numbered (world_nodes state) (core_past s)) (let m = h.many in omega (arith, m))) in
+    cond-false _ _ _ (lt-leb MOST_NUMBERS (numbered (world_nodes state) (core_past s))
+    (let m = h.many in omega (arith, m))) in
     stays state s Join NoMemory refl refl refl refl (inr (ap core_refusal none, refl, tt)) h
 
 -- or the core refuses it

@@ -1,6 +1,5 @@
 -- The world goes on standing for its schedule: new nodes, the events of nodes, and events that change nothing.
-use Rattle.std.proofs.Common.{◌≡◌, ℕ, zero, suc, ◌+◌, ◌<◌, Bool, true, false, List, [], ◌∷◌, ◌++◌, length, Some}
-use Rattle.std.proofs.Common.{None}
+use Rattle.std.proofs.Common.{◌≡◌, ℕ, zero, suc, ◌+◌, ◌<◌, Bool, true, false, List, [], ◌∷◌, ◌++◌, length, Some, None}
 use Rattle.std.proofs.Common.{Ok, Err, Option, Result, refl, ap, sym, ◌∙◌, subst, inl, inr, arith, length-set}
 use Rattle.std.proofs.Common.{length-append}
 use Rattle.std.specs.Prelude.{slice_get, slice_set, if◌then◌else◌}
@@ -27,8 +26,7 @@ use Rattle.hlc_world.specs.Schedule.{an_item, item_made, message_made, mark_of, 
 use Rattle.hlc_world.specs.Schedule.{Event, issued, gone, last_stamp, sent, message_at, node_of}
 use Rattle.hlc_world.specs.Store.{asked, told, paired, with_entry, store_history, core_past}
 use Rattle.hlc_world.specs.Due.{of_node, issue_refusal, stamp_refusal, receive_refusal, observe_refusal, on_link}
-use Rattle.hlc_world.specs.Due.{on_node}
-use Rattle.hlc_world.specs.Due.{refusal_due, IsReceived, IsObserved, MayLackMemory, IsGiven}
+use Rattle.hlc_world.specs.Due.{on_node, refusal_due, IsReceived, IsObserved, MayLackMemory, IsGiven}
 use Rattle.hlc_world.specs.State.{KeptIssuer, State, world_nodes, StandsFor, fresh, Issues, Sees}
 use Rattle.hlc_world.proofs.Lists.{some-injective, get-set_at, get-set_other, set-same, get-append_left, get-push}
 
@@ -116,7 +114,8 @@ nodes-issued nodes lasts items overs p st item own inside h n lt =
           ∙ h n lt
           ∙ sym (ap (λ a. Some (a_node n a (with_item n (Some item) (items n)) (ends n (Some item) (overs n))))
           (stamp_or-other n p st (lasts n) other)
-          ∙ ap (λ xs. Some (a_node n (lasts n) xs (ends n (Some item) (overs n)))) (with_item-other n item (items n) far)
+          ∙ ap (λ xs. Some (a_node n (lasts n) xs (ends n (Some item) (overs n))))
+          (with_item-other n item (items n) far)
           ∙ ap (λ g. Some (a_node n (lasts n) (items n) g)) (ends-other n item (overs n) far))
     ]
 

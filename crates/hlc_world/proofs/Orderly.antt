@@ -27,9 +27,8 @@ use Rattle.hlc_core.specs.Past.{Step, Took, Joined as JoinedOf, numbered, retire
 use Rattle.hlc_core.proofs.PastLemmas.{inside, on_link as on_its_link, admissible}
 use Rattle.hlc_core.specs.History.{past_of}
 use Rattle.hlc_world.specs.declared.event.Event.TheVariants.{Write, Delete, Report, Retire, Join, Send, Receive}
-use Rattle.hlc_world.specs.declared.event.Event.TheVariants.{Observe}
-use Rattle.hlc_world.specs.declared.event.Event.TheVariants.{Deliver, OpenAt, OpenFloor, Read, List as ListAll, Close}
-use Rattle.hlc_world.specs.declared.event.Event.TheVariants.{Vacuum}
+use Rattle.hlc_world.specs.declared.event.Event.TheVariants.{Observe, Deliver, OpenAt, OpenFloor, Read, List as ListAll}
+use Rattle.hlc_world.specs.declared.event.Event.TheVariants.{Close, Vacuum}
 use Rattle.hlc_world.specs.declared.reply.Reply.{Reply}
 use Rattle.hlc_world.specs.declared.reply.Reply.TheVariants.{Stamped, Joined, Sent, Received, Observed, Accepted}
 use Rattle.hlc_world.specs.declared.reply.Reply.TheVariants.{Snapshot, Answer, Listing, Closed, Vacuumed}

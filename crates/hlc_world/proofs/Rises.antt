@@ -22,9 +22,8 @@ use Rattle.hlc_snapshot.specs.declared.fault.SnapshotFault.{SnapshotFault}
 use Rattle.hlc_snapshot.specs.declared.fault.SnapshotFault.TheVariants as snapshot_fault
 use Rattle.hlc_snapshot.specs.Register.{room_refusal as room_in}
 use Rattle.hlc_world.specs.declared.event.Event.TheVariants.{Write, Delete, Report, Retire, Join, Send, Receive}
-use Rattle.hlc_world.specs.declared.event.Event.TheVariants.{Observe}
-use Rattle.hlc_world.specs.declared.event.Event.TheVariants.{Deliver, OpenAt, OpenFloor, Read, List as ListAll, Close}
-use Rattle.hlc_world.specs.declared.event.Event.TheVariants.{Floor, Vacuum, Rows}
+use Rattle.hlc_world.specs.declared.event.Event.TheVariants.{Observe, Deliver, OpenAt, OpenFloor, Read, List as ListAll}
+use Rattle.hlc_world.specs.declared.event.Event.TheVariants.{Close, Floor, Vacuum, Rows}
 use Rattle.hlc_world.specs.declared.reply.Reply.{Reply}
 use Rattle.hlc_world.specs.declared.reply.Reply.TheVariants.{Refused}
 use Rattle.hlc_world.specs.declared.refusal.Refusal.{Refusal}

@@ -1,7 +1,6 @@
 -- The reply that is due to an event after a schedule.
 use Rattle.std.specs.Prelude.{◌≡◌, ℕ, Bool, List, [], ◌∷◌, length, Option, Some, None, Result, Ok, Err, ◌==◌, ◌⊎◌}
-use Rattle.std.specs.Prelude.{nat_le}
-use Rattle.std.specs.Prelude.{if◌then◌else◌, ⊤}
+use Rattle.std.specs.Prelude.{nat_le, if◌then◌else◌, ⊤}
 use Rattle.hlc_clock.specs.NextStamp.{stamp_due}
 use Rattle.hlc_clock.specs.declared.clock.ClockFault.{ClockFault}
 use Rattle.hlc_clock.specs.declared.clock.ClockFault.TheVariants as clock_fault
@@ -28,10 +27,10 @@ use Rattle.hlc_world.specs.declared.reply.Reply.TheVariants.{Stamped, Sent, Rece
 use Rattle.hlc_world.specs.declared.reply.Reply.TheVariants.{Rows as RowsAre, Refused}
 use Rattle.hlc_world.specs.declared.refusal.Refusal.{Refusal}
 use Rattle.hlc_world.specs.declared.refusal.Refusal.TheVariants.{NoNode, Retired, TooManyNodes, ReadingTooLarge}
-use Rattle.hlc_world.specs.declared.refusal.Refusal.TheVariants.{CounterFull, NoMessage}
-use Rattle.hlc_world.specs.declared.refusal.Refusal.TheVariants.{NoItem, NotNext, StampNotRising, AboveFloor}
-use Rattle.hlc_world.specs.declared.refusal.Refusal.TheVariants.{BelowHorizon, NoSnapshot, TooManySnapshots, BadKey}
-use Rattle.hlc_world.specs.declared.refusal.Refusal.TheVariants.{ValueTooLong, NumbersSpent, NoMemory}
+use Rattle.hlc_world.specs.declared.refusal.Refusal.TheVariants.{CounterFull, NoMessage, NoItem, NotNext}
+use Rattle.hlc_world.specs.declared.refusal.Refusal.TheVariants.{StampNotRising, AboveFloor, BelowHorizon, NoSnapshot}
+use Rattle.hlc_world.specs.declared.refusal.Refusal.TheVariants.{TooManySnapshots, BadKey, ValueTooLong, NumbersSpent}
+use Rattle.hlc_world.specs.declared.refusal.Refusal.TheVariants.{NoMemory}
 use Rattle.hlc_world.specs.Schedule.{Event, issued, gone, item_at, last_stamp, sent, message_at, node_of}
 use Rattle.hlc_world.specs.Store.{asked, share, core_past}
 
