@@ -1,5 +1,6 @@
 //! A store of nodes that join and retire, fed items that no world makes.
-use hlc_core::{Body, Bytes, Core, CoreFault, Item, NoNode, Stamp};
+use hlc_core::{Body, Core, CoreFault, Item, NoNode, Stamp};
+use hlc_vacuum_tests::items::item;
 use std::alloc::{AllocError, Global};
 use std::test::*;
 
@@ -7,8 +8,8 @@ fn stamp(reading: u64) -> Stamp {
     Stamp::from_bits(reading.wrapping_mul(65_536))
 }
 
-/// The item of a node, with this number and reading, that says this.
-fn item(at: (u16, u64, u64), body: Body) -> Item {
+/// The item of a node, with this number and reading, that writes nothing and says this.
+fn said(at: (u16, u64, u64), body: Body) -> Item {
     let (node, number, reading) = at;
     Item {
         node,
@@ -20,9 +21,13 @@ fn item(at: (u16, u64, u64), body: Body) -> Item {
 
 /// The item of a write of `a`.
 fn write(alloc: Global, at: (u16, u64, u64), value: &[u8]) -> Result<Item, AllocError> {
-    let key = Bytes::from_vec(Vec::from_slice(alloc, b"a")?);
-    let value = Some(Bytes::from_vec(Vec::from_slice(alloc, value)?));
-    Ok(item(at, Body::Write { key, value }))
+    let (node, number, reading) = at;
+    item(
+        alloc,
+        (node, number, stamp(reading).bits()),
+        b"a",
+        Some(value),
+    )
 }
 
 /// What a store says of an item beforehand, and whether it refuses it then.
@@ -42,7 +47,7 @@ fn a_node_joins_and_the_first_one_retires(rt: HostRuntime) -> Result<(), Fail> {
     let rising = CoreFault::StampNotRising { head: stamp(5) };
     assert_eq!(rt; told(&mut core, at_start), (Err(rising), true));
     let retired = core
-        .accept(item((0, 1, 7), Body::Retire))
+        .accept(said((0, 1, 7), Body::Retire))
         .ok()
         .ok_or("the last item")?;
     assert!(rt; retired.retires());
@@ -51,12 +56,12 @@ fn a_node_joins_and_the_first_one_retires(rt: HostRuntime) -> Result<(), Fail> {
     assert_eq!(rt; core.floor(), stamp(6));
     assert_eq!(rt; core.open_floor(), Ok((1, stamp(6))));
     assert_eq!(rt; core.read(1, b"a"), Ok(Some(b"y".as_slice())));
-    let again = item((0, 2, 8), Body::Report);
+    let again = said((0, 2, 8), Body::Report);
     assert_eq!(rt; told(&mut core, again), (Err(CoreFault::Retired), true));
-    assert!(rt; core.accept(item((1, 1, 9), Body::Retire)).is_ok());
+    assert!(rt; core.accept(said((1, 1, 9), Body::Retire)).is_ok());
     assert_eq!(rt; core.floor(), stamp(9));
     assert_eq!(rt; core.join(), Ok((2, stamp(9))));
-    let unknown = item((3, 0, 10), Body::Report);
+    let unknown = said((3, 0, 10), Body::Report);
     assert_eq!(rt; told(&mut core, unknown), (Err(CoreFault::NoNode), true));
     Ok(())
 }

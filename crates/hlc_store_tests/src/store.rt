@@ -1,6 +1,6 @@
 //! The store by itself, fed items that no world makes.
-use crate::items::{bytes, item};
 use hlc_core::{Body, BodyFault, Core, CoreFault, Item, NoNode, NoSnapshot, Stamp};
+use hlc_vacuum_tests::items::{bytes, item};
 use hlc_world::{Event, Reply};
 use std::alloc::{AllocError, Global};
 use std::test::*;
