@@ -159,8 +159,9 @@ fn count_in(word: Option<String>) -> u16 {
 }
 
 /// With `nodes`, how many numbers were given and how many of those nodes retired, it times deliveries to
-/// such a store. With `board`, `shared` or `lock` and a number of readers it times their looks at a floor there. Else it
-/// times the calls of as many threads as the first word says, with a trail where the second is `on`.
+/// such a store. With `board`, `shared` or `lock` and a number of readers it times their looks at a floor
+/// there. Else it times the calls of as many threads as the first word says, with a trail where the second
+/// is `on`.
 /// With no word it times nothing.
 fn main(rt: HostRuntime) -> io::Result<()> {
     let alloc = rt.alloc();

@@ -87,7 +87,14 @@ fn feeding_in<L: Ledger, R: Wait>(
         receipts: past,
     } = store;
     let fed = feed(
-        rt, alloc, &shared, caller, receiver, &board, Some(feeder), &FreeGate,
+        rt,
+        alloc,
+        &shared,
+        caller,
+        receiver,
+        &board,
+        Some(feeder),
+        &FreeGate,
     );
     turn.end();
     let Fed {
