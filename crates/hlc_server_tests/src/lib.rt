@@ -6,6 +6,8 @@ pub mod callers;
 #[cfg(test)]
 mod forged;
 #[cfg(test)]
+mod joins;
+#[cfg(test)]
 mod makers;
 #[cfg(test)]
 mod threads;

@@ -123,8 +123,8 @@ fn work<L: Ledger, R: Wait + Threads + Sync>(
     }
 }
 
-/// Four threads make 50 calls each, of all seven kinds. Their receipts settle, and each read after a
-/// thread's own write shows that write.
+/// Four threads make 50 calls each, of all kinds but a join. Their receipts settle, and each read after
+/// a thread's own write shows that write.
 fn by_four<L: Ledger + Send + Sync, R: Threads + Wait + Abort + Sync>(
     rt: &R,
     alloc: Global,

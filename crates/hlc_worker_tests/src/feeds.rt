@@ -59,7 +59,16 @@ fn fed<L: Ledger, G: Gate, R: Wait>(
     } else {
         drop(sender);
     }
-    let fed = feed(rt, alloc, &shared, caller, receiver, &board, feeder, gate);
+    let fed = feed(
+        rt,
+        alloc,
+        &shared,
+        caller,
+        receiver,
+        &board,
+        Some(feeder),
+        gate,
+    );
     let Fed {
         receipts,
         left,
@@ -71,7 +80,7 @@ fn fed<L: Ledger, G: Gate, R: Wait>(
         receipts,
         left,
         end,
-        raised: feeder.raised(),
+        raised: feeder.ok_or("a feeder")?.raised(),
     })
 }
 

@@ -21,7 +21,7 @@ use std::thread::Threads;
 const LOOKS: u64 = 4_000_000_000;
 
 /// Looks until the flag is set. False where that was given up.
-fn was_set(flag: &AtomicBool) -> bool {
+pub fn was_set(flag: &AtomicBool) -> bool {
     for _ in 0..LOOKS {
         if flag.load(Ordering::SeqCst) {
             return true;
@@ -32,15 +32,15 @@ fn was_set(flag: &AtomicBool) -> bool {
 
 /// Two flags: turn 2 was asked for; the calls of the other thread were answered.
 #[derive(Drop)]
-struct Flags {
-    asked: AtomicBool,
-    answered: AtomicBool,
+pub struct Flags {
+    pub asked: AtomicBool,
+    pub answered: AtomicBool,
 }
 
 /// Holds turn 2 until the calls of the other thread were answered.
 #[derive(Drop)]
-struct HoldsTurnTwo<'a> {
-    flags: &'a Flags,
+pub struct HoldsTurnTwo<'a> {
+    pub flags: &'a Flags,
 }
 
 impl<'a> Gate for HoldsTurnTwo<'a> {
@@ -111,7 +111,7 @@ fn beside<L: Ledger + Send + Sync, R: Threads + Wait + Sync>(
 }
 
 /// Feeds the write of x at 1.0, and gives the receipts.
-fn feed_first<L: Ledger, R: Wait + Abort>(
+pub fn feed_first<L: Ledger, R: Wait + Abort>(
     rt: &R,
     alloc: Global,
     shared: &Shared<L>,
@@ -126,7 +126,14 @@ fn feed_first<L: Ledger, R: Wait + Abort>(
     sender.put(rt, item).ok().ok_or("the first item")?;
     sender.finish(rt)?;
     let fed = feed(
-        rt, alloc, shared, caller, receiver, board, feeder, &FreeGate,
+        rt,
+        alloc,
+        shared,
+        caller,
+        receiver,
+        board,
+        Some(feeder),
+        &FreeGate,
     );
     let Fed {
         caller,
@@ -136,12 +143,13 @@ fn feed_first<L: Ledger, R: Wait + Abort>(
         ..
     } = fed;
     assert_eq!(rt; end, WorkEnd::Done);
+    let feeder = feeder.ok_or("a feeder")?;
     assert_eq!(rt; feeder.raised(), at_second(1));
     Ok((caller, receipts))
 }
 
 /// Looks whether a round opened at 1.0, read x twice, and closed.
-fn has_read_twice<R: Abort>(rt: &R, alloc: Global, reads: &[Receipt]) -> Result<(), Fail> {
+pub fn has_read_twice<R: Abort>(rt: &R, alloc: Global, reads: &[Receipt]) -> Result<(), Fail> {
     assert_eq!(rt; reads.len(), 4);
     let answer = CoreReply::Answer(Some(bytes(alloc, b'x')?));
     assert_eq!(rt; reads[0].event, CoreEvent::OpenAt(at_second(1)));

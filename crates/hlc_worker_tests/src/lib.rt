@@ -10,6 +10,8 @@ mod feeds;
 #[cfg(test)]
 mod gates;
 #[cfg(test)]
+mod joins;
+#[cfg(test)]
 mod links;
 #[cfg(test)]
 mod makers;
