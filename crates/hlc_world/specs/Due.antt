@@ -66,7 +66,7 @@ of_node (node_fault.BadBody fault) = of_body fault
 of_node node_fault.NumbersSpent = NumbersSpent
 of_node (node_fault.NoStamp fault) = of_clock fault
 
--- why a node issues no item
+-- why a node issues no item, or has no stamp for another event
 abbrev pub issue_refusal : Result ℕ NodeFault → Option Refusal
 issue_refusal (Ok stamp) = None
 issue_refusal (Err fault) = Some (of_node fault)

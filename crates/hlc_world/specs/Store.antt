@@ -33,7 +33,7 @@ asked schedule (Close id) = Some (core_event.Close id)
 asked schedule Vacuum = Some core_event.Vacuum
 asked schedule _ = None
 
--- the word that an item that is found was accepted, of this node and with this stamp
+-- the word that the item, where there is one, was accepted: it is of this node and has this stamp
 abbrev pub accepted : ℕ → ℕ → Option Item → Option CoreReply
 accepted node stamp None = None
 accepted node stamp (Some item) =
