@@ -1,5 +1,7 @@
--- A head is not below the floor, and the floor not below the stamp.
-use Rattle.std.proofs.Common.{◌≡◌, ◌≤◌, ◌<◌, ℕ, true, false, is_le, nat_cmp, ap, sym, ◌∙◌, refl, arith}
+-- The head of a node that has not retired is not below the floor, and the floor not below the stamp.
+use Rattle.std.proofs.Common.{◌≡◌, ◌≤◌, ◌<◌, ℕ, true, false, is_le, nat_cmp, ap, sym, ◌∙◌, refl, inl, inr}
+use Rattle.std.proofs.Common.{arith}
+use Rattle.hlc_floor.specs.Heads.{head_at}
 use Rattle.std.proofs.lemmas.Cmp.{by_ranked, ranked}
 use Rattle.hlc_tests.proofs.callers.is_complete.Goals as goal
 
@@ -10,7 +12,11 @@ at-most a b h =
     (λ e more. absurd (let f : false ≡ true = ap is_le (sym e) ∙ h in cc))
 
 pub returns : goal.returns
-returns c = λ yes head m.
-    let low : c.floor.result ≤ head = c.floor.ensures.least head m in
+returns c = λ yes k within left.
     let least : c.args.stamp ≤ c.floor.result = at-most c.args.stamp c.floor.result (sym c.le.ensures ∙ yes) in
-    omega arith
+    elim c.floor.ensures [
+      | inl one ↦
+          let low : c.floor.result ≤ (head_at c.args.heads.now.heads k).stamp = one.least k within left in
+          omega arith
+      | inr none ↦ absurd (let e : false ≡ true = sym left ∙ none.0 k within in cc)
+    ]
