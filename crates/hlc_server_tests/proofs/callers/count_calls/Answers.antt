@@ -1,5 +1,6 @@
 -- Where the receipts settle they are as many as the entries, and all are those of the one list.
-use Rattle.std.proofs.Common.{◌≡◌, ℕ, length, List, [], ◌∷◌, ◌++◌, sym, ap, ◌∙◌, Result, Ok, Err, IfOk, map, MatchResult, rules}
+use Rattle.std.proofs.Common.{◌≡◌, ℕ, length, List, [], ◌∷◌, ◌++◌, sym, ap, ◌∙◌, Result, Ok, Err, IfOk}
+use Rattle.std.proofs.Common.{map, MatchResult, rules}
 use Rattle.std.specs.Result.{IsOkAnd}
 use Rattle.std.proofs.lemmas.List.{length-map, append-nil}
 use Rattle.hlc_server.specs.declared.settle.Settled.{Settled}
