@@ -43,7 +43,7 @@ fn store_of(alloc: Global, nodes: u16, gone: u16) -> Option<Core> {
 }
 
 /// What reports take of all nodes that have not retired, in turn, each with a question for the floor.
-pub(crate) fn delivered<R: Clock>(
+pub(crate) fn deliver_all<R: Clock>(
     rt: &R,
     alloc: Global,
     nodes: u16,

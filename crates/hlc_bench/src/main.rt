@@ -178,7 +178,7 @@ fn main(rt: HostRuntime) -> io::Result<()> {
                 nanos,
                 floor,
             },
-        ) = joined::delivered(&rt, alloc, nodes, gone)?
+        ) = joined::deliver_all(&rt, alloc, nodes, gone)?
         else {
             return Ok(());
         };
