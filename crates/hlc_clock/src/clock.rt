@@ -28,6 +28,7 @@ impl Exact for ClockFault {
 ///
 /// The rule is that of Kulkarni et al. 2014 for hybrid logical clocks, with one difference: where
 /// the counter has no room the event is refused, and nothing is carried into the physical part.
+#[repr(C)]
 #[derive(Clone, Copy, PartialEq, Eq, Debug)]
 pub struct Clock {
     last: Stamp,

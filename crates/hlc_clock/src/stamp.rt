@@ -47,6 +47,7 @@ impl Exact for ReadingTooLarge {
 /// Both stand in one word, `l * 65536 + c`, so stamps compare as their words do. Contracts see
 /// a stamp as that word. It is printed `l.c`, both in decimal; width, fill, alignment and precision
 /// are those of a `str` of that text.
+#[repr(C)]
 #[derive(Copy, Debug)]
 pub struct Stamp {
     bits: u64,

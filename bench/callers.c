@@ -1,0 +1,106 @@
+/* What a call of the C library costs from C, in ns: the least of nine runs. */
+#include "hlcstore.h"
+#include <stdio.h>
+#include <stdlib.h>
+#include <string.h>
+#include <time.h>
+
+#define WRITES 100000
+#define KEYS 1000
+#define BATCH 1000
+
+static double least[8];
+static hlc_store store = HLC_CLOSED_STORE;
+
+static double now(void)
+{
+    struct timespec t;
+    clock_gettime(CLOCK_MONOTONIC, &t);
+    return t.tv_sec * 1e9 + t.tv_nsec;
+}
+
+static void take(int kind, double started, int calls)
+{
+    double each = (now() - started) / calls;
+    if (least[kind] == 0 || each < least[kind]) least[kind] = each;
+}
+
+static void key_of(uint8_t *key, int n)
+{
+    memcpy(key, "key00000", 8);
+    for (int i = 7; n > 0; i--, n /= 10) key[i] = '0' + n % 10;
+}
+
+static void must(uint32_t code)
+{
+    if (code != HLC_OK) exit(1);
+}
+
+static void fill(void)
+{
+    uint8_t key[8], value[8] = "value000";
+    uint64_t word;
+    for (int i = 0; i < WRITES; i++) {
+        key_of(key, i % KEYS);
+        must(hlc_accept_write(&store, 0, i, (uint64_t)(i + 1) << 16, key, 8, value, 8, &word));
+    }
+}
+
+static void fill_in_batches(void)
+{
+    static hlc_entry entries[BATCH];
+    static uint8_t bytes[BATCH * 16];
+    uint64_t word;
+    size_t many;
+    for (int start = 0; start < WRITES; start += BATCH) {
+        for (int i = 0; i < BATCH; i++) {
+            key_of(bytes + 16 * i, (start + i) % KEYS);
+            memcpy(bytes + 16 * i + 8, "value000", 8);
+            entries[i] = (hlc_entry){ 0, false, start + i, (uint64_t)(start + i + 1) << 16, 16 * i, 8, 16 * i + 8, 8 };
+        }
+        must(hlc_accept_all(&store, entries, BATCH, bytes, sizeof bytes, &many, &word));
+    }
+}
+
+int main(void)
+{
+    static const char *names[] = { "accept of a write", "the same, by 1000", "rows", "floor", "a refused write",
+                                   "read, 100 versions", "node's write" };
+    uint64_t word, id, at, number;
+    uint8_t key[8], out[64];
+    size_t len;
+    for (int run = 0; run < 9; run++) {
+        hlc_node node = hlc_node_open(0, 0);
+        must(hlc_open(&store, 1));
+        double t = now();
+        fill_in_batches();
+        take(1, t, WRITES);
+        hlc_close(&store);
+        must(hlc_open(&store, 1));
+        t = now();
+        fill();
+        take(0, t, WRITES);
+        t = now();
+        for (int i = 0; i < WRITES; i++) hlc_rows(&store, &word);
+        take(2, t, WRITES);
+        t = now();
+        for (int i = 0; i < WRITES; i++) hlc_floor(&store, &at);
+        take(3, t, WRITES);
+        key_of(key, 5);
+        t = now();
+        for (int i = 0; i < WRITES; i++) hlc_accept_write(&store, 0, 1, 1, key, 8, key, 8, &word);
+        take(4, t, WRITES);
+        must(hlc_open_snapshot_at_floor(&store, &id, &at));
+        t = now();
+        for (int i = 0; i < WRITES; i++) {
+            key_of(key, i * 7 % KEYS);
+            must(hlc_read(&store, id, key, 8, out, sizeof out, &len));
+        }
+        take(5, t, WRITES);
+        hlc_close(&store);
+        t = now();
+        for (int i = 0; i < WRITES; i++) must(hlc_node_write(&node, i, key, 8, key, 8, &number, &word));
+        take(6, t, WRITES);
+    }
+    for (int kind = 0; kind < 7; kind++) printf("C: %s %.1f\n", names[kind], least[kind]);
+}

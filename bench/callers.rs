@@ -1,0 +1,36 @@
+//! What a call of the C library costs from Rust, in ns: the least of nine runs.
+#[path = "../examples/rust/hlcstore.rs"]
+mod hlcstore;
+
+use hlcstore::Store;
+use std::time::Instant;
+
+const WRITES: u64 = 100_000;
+
+fn key(n: u64) -> [u8; 8] {
+    let mut key = *b"key00000";
+    key[3..].copy_from_slice(format!("{:05}", n % 1_000).as_bytes());
+    key
+}
+
+fn main() {
+    let keys: Vec<[u8; 8]> = (0..1_000).map(key).collect();
+    let (mut accept, mut read) = (f64::MAX, f64::MAX);
+    for _ in 0..9 {
+        let mut store = Store::closed();
+        store.open(1).unwrap();
+        let start = Instant::now();
+        for i in 0..WRITES {
+            store.write(0, (i, (i + 1) << 16), &keys[(i % 1_000) as usize], b"value000").unwrap();
+        }
+        accept = accept.min(start.elapsed().as_nanos() as f64 / WRITES as f64);
+        let (id, _) = store.snapshot_at_floor().unwrap();
+        let start = Instant::now();
+        for i in 0..WRITES {
+            store.read(id, &keys[(i * 7 % 1_000) as usize]).unwrap().unwrap();
+        }
+        read = read.min(start.elapsed().as_nanos() as f64 / WRITES as f64);
+    }
+    println!("Rust: accept of a write {accept:.1}");
+    println!("Rust: read, 100 versions, into a vector {read:.1}");
+}

@@ -1,0 +1,4 @@
+pub mod Batches
+pub mod Bytes
+pub mod Refusals
+pub mod Whole

@@ -1,0 +1,29 @@
+-- What a handle holds before and after a call.
+use Rattle.std.specs.Prelude.{◌≡◌, ℕ, [], Option, Some, None, MatchOption, ⊤}
+use Rattle.hlc_core.specs.Kept.{Kept, StandsFor, nodes as nodes_in}
+use Rattle.hlc_core.specs.Calls.{new_refusal}
+use Rattle.hlc_node.specs.declared.item.Item.{Item}
+use Rattle.hlc_node.specs.declared.item.Body.{Body}
+use Rattle.hlc_ffi.specs.Told.{IsAnswered}
+
+-- an open store is told of and stays open; a closed one stays closed, and its answer is this
+abbrev pub OnStore : Option Kept → Option Kept → Type 0 → (Kept → Kept → Type 0) → Type 0
+OnStore old new Closed Open =
+    MatchOption old (Closed × (new ≡ None)) (λ before. MatchOption new ⊥ (λ after. Open before after))
+
+-- A closed store was opened, and nothing took place in it; or it stays closed, for the reason that is due or for want
+-- of memory. An open one stays as it was.
+abbrev pub IsOpening : Option Kept → Option Kept → ℕ → ℕ → Type 0
+IsOpening (Some before) new count code = (code ≡ 101) × (new ≡ Some before)
+IsOpening None new count code =
+    MatchOption new (IsAnswered (new_refusal count) ⊤ ⊥ code 0) (λ core. (code ≡ 0) × (nodes_in core ≡ count)
+    × (new_refusal count ≡ None) × StandsFor core [])
+
+-- how many nodes there were at the start, 0 where it is closed
+abbrev pub nodes : Option Kept → ℕ
+nodes None = 0
+nodes (Some kept) = nodes_in kept
+
+-- an item
+abbrev pub an_item : ℕ → ℕ → ℕ → Body → Item
+an_item node number stamp body = record { node = node; number = number; stamp = stamp; body = body }

@@ -1,0 +1,245 @@
+//! The calls by which a store is fed.
+ghost use Rattle.std.specs.Prelude.{◌≡◌, ◌≢◌, List, Some, None};
+ghost use Rattle.hlc_node.specs.declared.item.Body.TheVariants.{Write as a_write, Report as a_report};
+ghost use Rattle.hlc_node.specs.declared.item.Body.TheVariants.{Retire as a_retire};
+ghost use Rattle.hlc_core.specs.Past.{Step};
+ghost use Rattle.hlc_core.specs.Kept.{StandsFor};
+ghost use Rattle.hlc_ffi.specs.Answers.{IsAccepted, IsChecked, IsJoined};
+ghost use Rattle.hlc_ffi.specs.Held.{OnStore, nodes, an_item};
+
+use crate::{items, told};
+use hlc_core::{Body, Item, Stamp};
+use hlc_handle::Store;
+use std::alloc::Global;
+
+/// Accepts the write that a node issued under this number: 0 and its stamp, or a refusal and its
+/// word.
+#[unsafe(no_mangle)]
+pub extern "C" fn hlc_accept_write(
+    alloc: Global,
+    store: &mut Store,
+    node: u16,
+    number: u64,
+    stamp: u64,
+    key: &[u8],
+    value: &[u8],
+    word: &mut u64,
+) -> u32
+    ensures answer { OnStore store.old.room.value store.new.room.value
+        ((result ≡ 100) × (word.new ≡ 0)) (λ old new. (past : List Step) → StandsFor old past
+        → IsAccepted old new (an_item node number stamp (a_write key.now (Some value.now)))
+        past result word.new) }
+    ensures same { result ≢ 0 → store.new.room.value ≡ store.old.room.value }
+    ensures nodes { nodes store.new.room.value ≡ nodes store.old.room.value }
+{
+    let Some(held) = store.take(alloc) else {
+        *word = 0;
+        return 100;
+    };
+    let mut held = held;
+    let code = items::write(alloc, &mut held, node, number, stamp, key, value, word);
+    store.put(held);
+    code
+}
+
+/// Accepts the deletion that a node issued under this number: 0 and its stamp, or a refusal and its
+/// word.
+#[unsafe(no_mangle)]
+pub extern "C" fn hlc_accept_delete(
+    alloc: Global,
+    store: &mut Store,
+    node: u16,
+    number: u64,
+    stamp: u64,
+    key: &[u8],
+    word: &mut u64,
+) -> u32
+    ensures answer { OnStore store.old.room.value store.new.room.value
+        ((result ≡ 100) × (word.new ≡ 0)) (λ old new. (past : List Step) → StandsFor old past
+        → IsAccepted old new (an_item node number stamp (a_write key.now None))
+        past result word.new) }
+    ensures same { result ≢ 0 → store.new.room.value ≡ store.old.room.value }
+    ensures nodes { nodes store.new.room.value ≡ nodes store.old.room.value }
+{
+    let Some(held) = store.take(alloc) else {
+        *word = 0;
+        return 100;
+    };
+    let mut held = held;
+    let code = items::delete(alloc, &mut held, node, number, stamp, key, word);
+    store.put(held);
+    code
+}
+
+/// Accepts the report that a node issued under this number: 0 and its stamp, or a refusal and its
+/// word. It takes no memory.
+#[unsafe(no_mangle)]
+pub extern "C" fn hlc_accept_report(
+    alloc: Global,
+    store: &mut Store,
+    node: u16,
+    number: u64,
+    stamp: u64,
+    word: &mut u64,
+) -> u32
+    ensures answer { OnStore store.old.room.value store.new.room.value
+        ((result ≡ 100) × (word.new ≡ 0)) (λ old new. (past : List Step) → StandsFor old past
+        → IsAccepted old new (an_item node number stamp a_report)
+        past result word.new) }
+    ensures same { result ≢ 0 → store.new.room.value ≡ store.old.room.value }
+    ensures nodes { nodes store.new.room.value ≡ nodes store.old.room.value }
+{
+    let Some(held) = store.take(alloc) else {
+        *word = 0;
+        return 100;
+    };
+    let mut held = held;
+    let item = Item {
+        node,
+        number,
+        stamp: Stamp::from_bits(stamp),
+        body: Body::Report,
+    };
+    let code = told::accept(&mut held, item, word);
+    store.put(held);
+    code
+}
+
+/// Accepts a node's last item, which it issued under this number: 0 and its stamp, or a refusal and
+/// its word. It takes no memory.
+#[unsafe(no_mangle)]
+pub extern "C" fn hlc_accept_retire(
+    alloc: Global,
+    store: &mut Store,
+    node: u16,
+    number: u64,
+    stamp: u64,
+    word: &mut u64,
+) -> u32
+    ensures answer { OnStore store.old.room.value store.new.room.value
+        ((result ≡ 100) × (word.new ≡ 0)) (λ old new. (past : List Step) → StandsFor old past
+        → IsAccepted old new (an_item node number stamp a_retire)
+        past result word.new) }
+    ensures same { result ≢ 0 → store.new.room.value ≡ store.old.room.value }
+    ensures nodes { nodes store.new.room.value ≡ nodes store.old.room.value }
+{
+    let Some(held) = store.take(alloc) else {
+        *word = 0;
+        return 100;
+    };
+    let mut held = held;
+    let item = Item {
+        node,
+        number,
+        stamp: Stamp::from_bits(stamp),
+        body: Body::Retire,
+    };
+    let code = told::accept(&mut held, item, word);
+    store.put(held);
+    code
+}
+
+/// Why `hlc_accept_write` would refuse a write, memory aside: 0, or the refusal and its word.
+#[unsafe(no_mangle)]
+pub extern "C" fn hlc_check_write(
+    alloc: Global,
+    store: &mut Store,
+    node: u16,
+    number: u64,
+    stamp: u64,
+    key: &[u8],
+    value: &[u8],
+    word: &mut u64,
+) -> u32
+    ensures answer { OnStore store.old.room.value store.new.room.value
+        ((result ≡ 100) × (word.new ≡ 0)) (λ old new. (past : List Step) → StandsFor old past
+        → IsChecked old (an_item node number stamp (a_write key.now (Some value.now)))
+        past result word.new) }
+    ensures same { store.new.room.value ≡ store.old.room.value }
+{
+    let Some(held) = store.take(alloc) else {
+        *word = 0;
+        return 100;
+    };
+    let bad = items::write_fault(key, value);
+    let code = items::tell_check(&held, node, number, stamp, bad, word);
+    store.put(held);
+    code
+}
+
+/// Why `hlc_accept_delete` would refuse a deletion, memory aside: 0, or the refusal and its word.
+#[unsafe(no_mangle)]
+pub extern "C" fn hlc_check_delete(
+    alloc: Global,
+    store: &mut Store,
+    node: u16,
+    number: u64,
+    stamp: u64,
+    key: &[u8],
+    word: &mut u64,
+) -> u32
+    ensures answer { OnStore store.old.room.value store.new.room.value
+        ((result ≡ 100) × (word.new ≡ 0)) (λ old new. (past : List Step) → StandsFor old past
+        → IsChecked old (an_item node number stamp (a_write key.now None))
+        past result word.new) }
+    ensures same { store.new.room.value ≡ store.old.room.value }
+{
+    let Some(held) = store.take(alloc) else {
+        *word = 0;
+        return 100;
+    };
+    let bad = items::key_fault(key);
+    let code = items::tell_check(&held, node, number, stamp, bad, word);
+    store.put(held);
+    code
+}
+
+/// Why `hlc_accept_report`, or `hlc_accept_retire`, would refuse an item: 0, or the refusal and its
+/// word.
+#[unsafe(no_mangle)]
+pub extern "C" fn hlc_check_report(
+    alloc: Global,
+    store: &mut Store,
+    node: u16,
+    number: u64,
+    stamp: u64,
+    word: &mut u64,
+) -> u32
+    ensures answer { OnStore store.old.room.value store.new.room.value
+        ((result ≡ 100) × (word.new ≡ 0)) (λ old new. (past : List Step) → StandsFor old past
+        → IsChecked old (an_item node number stamp a_report) past result word.new) }
+    ensures retire { OnStore store.old.room.value store.new.room.value
+        ((result ≡ 100) × (word.new ≡ 0)) (λ old new. (past : List Step) → StandsFor old past
+        → IsChecked old (an_item node number stamp a_retire) past result word.new) }
+    ensures same { store.new.room.value ≡ store.old.room.value }
+{
+    let Some(held) = store.take(alloc) else {
+        *word = 0;
+        return 100;
+    };
+    let code = items::tell_check(&held, node, number, stamp, None, word);
+    store.put(held);
+    code
+}
+
+/// Lets a node join: 0, its number and the stamp that its clock starts at; or 26 or 15.
+#[unsafe(no_mangle)]
+pub extern "C" fn hlc_join(alloc: Global, store: &mut Store, node: &mut u16, start: &mut u64) -> u32
+    ensures answer { OnStore store.old.room.value store.new.room.value
+        ((result ≡ 100) × (node.new ≡ 0) × (start.new ≡ 0))
+        (λ old new. (past : List Step) → StandsFor old past
+        → IsJoined old new past result node.new start.new) }
+    ensures nothing { result ≢ 0 → (node.new ≡ 0) × (start.new ≡ 0) }
+    ensures same { result ≢ 0 → store.new.room.value ≡ store.old.room.value }
+    ensures nodes { nodes store.new.room.value ≡ nodes store.old.room.value }
+{
+    let Some(held) = store.take(alloc) else {
+        *node = 0;
+        *start = 0;
+        return 100;
+    };
+    let mut held = held;
+    let code = told::join(&mut held, node, start);
+    store.put(held);
+    code
+}

@@ -1,0 +1,133 @@
+//! Several items at once, for callers whose calls are dear.
+ghost use Rattle.std.specs.Prelude.{◌≡◌, ◌≢◌, List, true, false, MatchOption};
+ghost use Rattle.hlc_core.specs.Past.{Step};
+ghost use Rattle.hlc_core.specs.Kept.{nodes as nodes_in, StandsFor};
+ghost use Rattle.hlc_ffi.specs.Batch.{piece, lies, IsEntered, AreEntered};
+ghost use Rattle.hlc_ffi.specs.Held.{OnStore, nodes};
+
+use crate::items;
+use hlc_core::Core;
+use hlc_handle::Store;
+use std::alloc::Global;
+
+/// A write, or a deletion, that a node issued, with the places of its key and value among some bytes.
+#[repr(C)]
+#[derive(Clone, Copy)]
+pub struct Entry {
+    pub node: u16,
+    pub deletes: bool,
+    pub number: u64,
+    pub stamp: u64,
+    pub key_at: usize,
+    pub key_len: usize,
+    pub value_at: usize,
+    pub value_len: usize,
+}
+
+/// So many bytes from this place on, if they are there.
+fn piece_of(bytes: &[u8], at: usize, many: usize) -> Option<&[u8]>
+    ensures { MatchOption result (lies at many bytes.now ≡ false)
+        (λ found. (lies at many bytes.now ≡ true) × (found.now ≡ piece at many bytes.now)) }
+{
+    if at > bytes.len() || many > bytes.len() - at {
+        return None;
+    }
+    let (_, rest) = bytes.split_at(at);
+    let (found, _) = rest.split_at(many);
+    Some(found)
+}
+
+/// Accepts the item of an entry: 0 and its stamp, or a refusal and its word, or 103.
+fn enter(alloc: Global, core: &mut Core, entry: &Entry, bytes: &[u8], told: &mut u64) -> u32
+    ensures answer { (past : List Step) → StandsFor core.old past
+        → IsEntered core.old core.new entry.now bytes.now past result told.new }
+    ensures same { result ≢ 0 → core.new ≡ core.old }
+    ensures nodes { nodes_in core.new ≡ nodes_in core.old }
+{
+    let Some(key) = piece_of(bytes, entry.key_at, entry.key_len) else {
+        *told = 0;
+        return 103;
+    };
+    if entry.deletes {
+        return items::delete(
+            alloc,
+            core,
+            entry.node,
+            entry.number,
+            entry.stamp,
+            key,
+            told,
+        );
+    }
+    let Some(value) = piece_of(bytes, entry.value_at, entry.value_len) else {
+        *told = 0;
+        return 103;
+    };
+    items::write(
+        alloc,
+        core,
+        entry.node,
+        entry.number,
+        entry.stamp,
+        key,
+        value,
+        told,
+    )
+}
+
+/// Accepts the items of entries in turn, until one is refused: 0, or what is told of that one, and
+/// how many were accepted.
+#[tactic(auto, using(crate::proofs::Batches::entered_next))]
+pub fn enter_all(
+    alloc: Global,
+    core: &mut Core,
+    entries: &[Entry],
+    bytes: &[u8],
+    many: &mut usize,
+    told: &mut u64,
+) -> u32
+    ensures answer { (past : List Step) → StandsFor core.old past
+        → AreEntered core.old core.new entries.now bytes.now past result many.new told.new }
+    ensures nodes { nodes_in core.new ≡ nodes_in core.old }
+{
+    let mut index = 0;
+    while index < entries.len() {
+        let code = enter(alloc, core, &entries[index], bytes, told);
+        if code != 0 {
+            *many = index;
+            return code;
+        }
+        index += 1;
+    }
+    *many = index;
+    *told = 0;
+    0
+}
+
+/// Accepts writes and deletions in turn, until one is refused: 0, or what is told of that one, its
+/// word, and how many were accepted before it. 103 of an entry whose bytes are not there.
+#[unsafe(no_mangle)]
+pub extern "C" fn hlc_accept_all(
+    alloc: Global,
+    store: &mut Store,
+    entries: &[Entry],
+    bytes: &[u8],
+    many: &mut usize,
+    word: &mut u64,
+) -> u32
+    ensures answer { OnStore store.old.room.value store.new.room.value
+        ((result ≡ 100) × (many.new ≡ 0) × (word.new ≡ 0)) (λ old new. (past : List Step)
+        → StandsFor old past
+        → AreEntered old new entries.now bytes.now past result many.new word.new) }
+    ensures nodes { nodes store.new.room.value ≡ nodes store.old.room.value }
+{
+    let Some(held) = store.take(alloc) else {
+        *many = 0;
+        *word = 0;
+        return 100;
+    };
+    let mut held = held;
+    let code = enter_all(alloc, &mut held, entries, bytes, many, word);
+    store.put(held);
+    code
+}

@@ -1,0 +1,174 @@
+//! The calls by which a store is read.
+ghost use Rattle.std.specs.Prelude.{◌≡◌, ◌≢◌, List, length};
+ghost use Rattle.hlc_core.specs.Past.{Step, floor, stamp_of, writes};
+ghost use Rattle.hlc_core.specs.Kept.{StandsFor, nodes as nodes_in};
+ghost use Rattle.hlc_ffi.specs.Answers.{IsOpened, IsOpenedAtFloor, IsClosed, IsRead, narrowed};
+ghost use Rattle.hlc_ffi.specs.Listing.{IsListedTo};
+ghost use Rattle.hlc_ffi.specs.Held.{OnStore, nodes};
+
+use crate::list::list;
+use crate::told;
+use hlc_core::Stamp;
+use hlc_handle::Store;
+use std::alloc::Global;
+
+/// Opens a snapshot at a stamp: 0 and its id, or a refusal and its word.
+#[unsafe(no_mangle)]
+pub extern "C" fn hlc_open_snapshot(
+    alloc: Global,
+    store: &mut Store,
+    stamp: u64,
+    id: &mut u64,
+) -> u32
+    ensures answer { OnStore store.old.room.value store.new.room.value
+        ((result ≡ 100) × (id.new ≡ 0)) (λ old new. (past : List Step) → StandsFor old past
+        → IsOpened old new stamp past result id.new) }
+    ensures same { result ≢ 0 → store.new.room.value ≡ store.old.room.value }
+    ensures nodes { nodes store.new.room.value ≡ nodes store.old.room.value }
+{
+    let Some(held) = store.take(alloc) else {
+        *id = 0;
+        return 100;
+    };
+    let mut held = held;
+    let code = told::open(&mut held, Stamp::from_bits(stamp), id);
+    store.put(held);
+    code
+}
+
+/// Opens a snapshot at the floor: 0, its id and its stamp, or a refusal.
+#[unsafe(no_mangle)]
+pub extern "C" fn hlc_open_snapshot_at_floor(
+    alloc: Global,
+    store: &mut Store,
+    id: &mut u64,
+    stamp: &mut u64,
+) -> u32
+    ensures answer { OnStore store.old.room.value store.new.room.value
+        ((result ≡ 100) × (id.new ≡ 0) × (stamp.new ≡ 0))
+        (λ old new. (past : List Step) → StandsFor old past
+        → IsOpenedAtFloor old new past result id.new stamp.new) }
+    ensures nothing { result ≢ 0 → stamp.new ≡ 0 }
+    ensures same { result ≢ 0 → store.new.room.value ≡ store.old.room.value }
+    ensures nodes { nodes store.new.room.value ≡ nodes store.old.room.value }
+{
+    let Some(held) = store.take(alloc) else {
+        *id = 0;
+        *stamp = 0;
+        return 100;
+    };
+    let mut held = held;
+    let code = told::open_floor(&mut held, id, stamp);
+    store.put(held);
+    code
+}
+
+/// Reads a key in a snapshot: 0, the value's length and, where it fits, the value; 102 where there is
+/// none; or 10. It takes no memory.
+#[unsafe(no_mangle)]
+pub extern "C" fn hlc_read(
+    alloc: Global,
+    store: &mut Store,
+    id: u64,
+    key: &[u8],
+    out: &mut [u8],
+    len: &mut usize,
+) -> u32
+    ensures answer { OnStore store.old.room.value store.new.room.value
+        ((result ≡ 100) × (len.new ≡ 0) × (out.new ≡ out.old))
+        (λ old new. (past : List Step) → StandsFor old past → IsRead
+        (stamp_of id past) (writes past) key.now result len.new out.old out.new) }
+    ensures same { store.new.room.value ≡ store.old.room.value }
+{
+    let Some(held) = store.take(alloc) else {
+        *len = 0;
+        return 100;
+    };
+    let code = told::read(&held, id, key, out, len);
+    store.put(held);
+    code
+}
+
+/// Closes a snapshot: 0 and its stamp, or 10. It takes no memory.
+#[unsafe(no_mangle)]
+pub extern "C" fn hlc_close_snapshot(
+    alloc: Global,
+    store: &mut Store,
+    id: u64,
+    stamp: &mut u64,
+) -> u32
+    ensures answer { OnStore store.old.room.value store.new.room.value
+        ((result ≡ 100) × (stamp.new ≡ 0)) (λ old new. (past : List Step) → StandsFor old past
+        → IsClosed new id past result stamp.new) }
+    ensures same { result ≢ 0 → store.new.room.value ≡ store.old.room.value }
+    ensures nodes { nodes store.new.room.value ≡ nodes store.old.room.value }
+{
+    let Some(held) = store.take(alloc) else {
+        *stamp = 0;
+        return 100;
+    };
+    let mut held = held;
+    let code = told::close(&mut held, id, stamp);
+    store.put(held);
+    code
+}
+
+/// The floor: 0 and its stamp. It takes no memory.
+#[unsafe(no_mangle)]
+pub extern "C" fn hlc_floor(alloc: Global, store: &mut Store, stamp: &mut u64) -> u32
+    ensures answer { OnStore store.old.room.value store.new.room.value
+        ((result ≡ 100) × (stamp.new ≡ 0)) (λ old new. (past : List Step) → StandsFor old past
+        → (result ≡ 0) × (stamp.new ≡ floor (nodes_in old) past)) }
+    ensures same { store.new.room.value ≡ store.old.room.value }
+{
+    let Some(held) = store.take(alloc) else {
+        *stamp = 0;
+        return 100;
+    };
+    *stamp = held.floor().bits();
+    store.put(held);
+    0
+}
+
+/// How many rows are stored: 0 and the number, or 2^64 - 1 where it is greater. It takes no memory.
+#[unsafe(no_mangle)]
+pub extern "C" fn hlc_rows(alloc: Global, store: &mut Store, rows: &mut u64) -> u32
+    ensures answer { OnStore store.old.room.value store.new.room.value
+        ((result ≡ 100) × (rows.new ≡ 0))
+        (λ old new. (result ≡ 0) × (rows.new ≡ narrowed (length old.rows))) }
+    ensures same { store.new.room.value ≡ store.old.room.value }
+{
+    let Some(held) = store.take(alloc) else {
+        *rows = 0;
+        return 100;
+    };
+    *rows = told::rows(&held);
+    store.put(held);
+    0
+}
+
+/// Lists the keys with a value in a snapshot, in byte order: 0, how many bytes that takes and, where
+/// they fit, the bytes: of each key its length, the key, its value's length and the value; or 10 or
+/// 15. A length has eight bytes, the low one first.
+#[unsafe(no_mangle)]
+pub extern "C" fn hlc_list(
+    alloc: Global,
+    store: &mut Store,
+    id: u64,
+    out: &mut [u8],
+    len: &mut usize,
+) -> u32
+    ensures answer { OnStore store.old.room.value store.new.room.value
+        ((result ≡ 100) × (len.new ≡ 0) × (out.new ≡ out.old)) (λ old new. (past : List Step)
+        → StandsFor old past → IsListedTo id past result len.new out.old out.new) }
+    ensures nothing { result ≢ 0 → (len.new ≡ 0) × (out.new ≡ out.old) }
+    ensures same { store.new.room.value ≡ store.old.room.value }
+{
+    let Some(held) = store.take(alloc) else {
+        *len = 0;
+        return 100;
+    };
+    let code = list(alloc, &held, id, out, len);
+    store.put(held);
+    code
+}

@@ -1,0 +1,267 @@
+//! A core's answers, as the numbers that C is told.
+ghost use Rattle.std.specs.Prelude.{◌≡◌, ◌≢◌, List, ◌∷◌, length, None, OnErr, IfOk, MatchResult};
+ghost use Rattle.hlc_core.specs.Past.{Step, Took, item_refusal, stamp_of, writes};
+ghost use Rattle.hlc_core.specs.Kept.{nodes, StandsFor};
+ghost use Rattle.hlc_core.specs.Calls.{IsWrite, IsRefusal};
+ghost use Rattle.hlc_ffi.specs.Answers.{IsAccepted, IsJoined, IsOpened, IsOpenedAtFloor, IsClosed};
+ghost use Rattle.hlc_ffi.specs.Answers.{IsCopied, IsRead, IsVacuumed, narrowed};
+ghost use Rattle.hlc_ffi.specs.Told.{number, body_number, word};
+
+use hlc_core::{BodyFault, Core, CoreFault, Item, Stamp};
+
+/// The number of a refusal of what an item says.
+pub fn body_code(fault: BodyFault) -> u32
+    ensures { result ≡ body_number fault }
+{
+    match fault {
+        BodyFault::BadKey => 12,
+        BodyFault::ValueTooLong => 13,
+    }
+}
+
+/// A number and a word.
+pub fn pair(code: u32, word: u64) -> (u32, u64)
+    ensures { (result.0 ≡ code) × (result.1 ≡ word) }
+{
+    (code, word)
+}
+
+/// A number and a stamp's word.
+pub fn stamped(code: u32, stamp: Stamp) -> (u32, u64)
+    ensures { (result.0 ≡ code) × (result.1 ≡ stamp) }
+{
+    (code, stamp.bits())
+}
+
+/// The number of a refusal and its word.
+fn refusal(fault: CoreFault) -> (u32, u64)
+    ensures { (result.0 ≡ number fault) × (result.1 ≡ word fault) }
+{
+    match fault {
+        CoreFault::NoNode => pair(1, 0),
+        CoreFault::NotNext { next } => pair(6, next),
+        CoreFault::StampNotRising { head } => stamped(7, head),
+        CoreFault::AboveFloor { floor } => stamped(8, floor),
+        CoreFault::BelowHorizon { horizon } => stamped(9, horizon),
+        CoreFault::NoSnapshot => pair(10, 0),
+        CoreFault::TooManySnapshots => pair(11, 0),
+        CoreFault::BadBody(fault) => pair(body_code(fault), 0),
+        CoreFault::NumbersSpent => pair(14, 0),
+        CoreFault::NoMemory => pair(15, 0),
+        CoreFault::TooManyNodes => pair(26, 0),
+        CoreFault::Retired => pair(27, 0),
+    }
+}
+
+/// The number of a refusal.
+pub fn number_of(fault: CoreFault) -> u32
+    ensures { result ≡ number fault }
+{
+    let refusal = refusal(fault);
+    refusal.0
+}
+
+/// Tells of a refusal: its number and its word.
+pub fn refuse(fault: CoreFault, told: &mut u64) -> u32
+    ensures { (result ≡ number fault) × (told.new ≡ word fault) }
+{
+    let refusal = refusal(fault);
+    *told = refusal.1;
+    refusal.0
+}
+
+/// Tells an answer: 0 and the word, or a refusal and its word.
+fn answer(given: Result<u64, CoreFault>, told: &mut u64) -> u32
+    ensures { MatchResult given (λ value. (result ≡ 0) × (told.new ≡ value))
+        (λ fault. (result ≡ number fault) × (told.new ≡ word fault)) }
+{
+    match given {
+        Ok(value) => {
+            *told = value;
+            0
+        }
+        Err(fault) => refuse(fault, told),
+    }
+}
+
+/// Accepts an item: the stamp that it has, or why it is refused.
+fn accept_item(core: &mut Core, item: Item) -> Result<u64, CoreFault>
+    ensures ok { IfOk result (λ stamp. stamp ≡ item.stamp) }
+    ensures stands { (past : List Step) → StandsFor core.old past → MatchResult result
+        (λ _. (item_refusal (nodes core.old) past item ≡ None)
+        × StandsFor core.new (Took item ∷ past))
+        (λ fault. IsRefusal (item_refusal (nodes core.old) past item) (IsWrite item.body) fault) }
+    ensures err { OnErr result (core.new ≡ core.old) }
+    ensures nodes { nodes core.new ≡ nodes core.old }
+{
+    match core.accept(item) {
+        Ok(accepted) => Ok(accepted.stamp().bits()),
+        Err(refused) => {
+            let (fault, _item) = refused;
+            Err(fault)
+        }
+    }
+}
+
+/// Accepts an item: 0 and its stamp, or a refusal and its word.
+#[tactic(auto, using(crate::proofs::Refusals::refused_tells, crate::proofs::Refusals::made_tells))]
+pub fn accept(core: &mut Core, item: Item, told: &mut u64) -> u32
+    ensures answer { (past : List Step) → StandsFor core.old past
+        → IsAccepted core.old core.new item past result told.new }
+    ensures same { result ≢ 0 → core.new ≡ core.old }
+    ensures nodes { nodes core.new ≡ nodes core.old }
+{
+    answer(accept_item(core, item), told)
+}
+
+/// A node joins: 0, its number and the stamp of its start, or a refusal.
+#[tactic(auto, using(crate::proofs::Refusals::refused_tells, crate::proofs::Refusals::made_tells))]
+pub fn join(core: &mut Core, node: &mut u16, start: &mut u64) -> u32
+    ensures answer { (past : List Step) → StandsFor core.old past
+        → IsJoined core.old core.new past result node.new start.new }
+    ensures same { result ≢ 0 → (core.new ≡ core.old) × (node.new ≡ 0) × (start.new ≡ 0) }
+    ensures nodes { nodes core.new ≡ nodes core.old }
+{
+    match core.join() {
+        Ok(made) => {
+            let (number, stamp) = made;
+            *node = number;
+            *start = stamp.bits();
+            0
+        }
+        Err(fault) => {
+            *node = 0;
+            *start = 0;
+            number_of(fault)
+        }
+    }
+}
+
+/// Opens a snapshot: 0 and its id, or a refusal and its word.
+#[tactic(auto, using(crate::proofs::Refusals::refused_tells, crate::proofs::Refusals::made_tells))]
+pub fn open(core: &mut Core, stamp: Stamp, told: &mut u64) -> u32
+    ensures answer { (past : List Step) → StandsFor core.old past
+        → IsOpened core.old core.new stamp past result told.new }
+    ensures same { result ≢ 0 → core.new ≡ core.old }
+    ensures nodes { nodes core.new ≡ nodes core.old }
+{
+    answer(core.open(stamp), told)
+}
+
+/// Opens a snapshot at the floor: 0, its id and its stamp, or a refusal.
+#[tactic(auto, using(crate::proofs::Refusals::refused_tells, crate::proofs::Refusals::made_tells))]
+pub fn open_floor(core: &mut Core, told: &mut u64, stamp: &mut u64) -> u32
+    ensures answer { (past : List Step) → StandsFor core.old past
+        → IsOpenedAtFloor core.old core.new past result told.new stamp.new }
+    ensures same { result ≢ 0 → (core.new ≡ core.old) × (stamp.new ≡ 0) }
+    ensures nodes { nodes core.new ≡ nodes core.old }
+{
+    match core.open_floor() {
+        Ok(opening) => {
+            let (id, at) = opening;
+            *told = id;
+            *stamp = at.bits();
+            0
+        }
+        Err(fault) => {
+            *stamp = 0;
+            refuse(fault, told)
+        }
+    }
+}
+
+/// Closes a snapshot: 0 and its stamp, or 10.
+pub fn close(core: &mut Core, id: u64, told: &mut u64) -> u32
+    ensures answer { (past : List Step) → StandsFor core.old past
+        → IsClosed core.new id past result told.new }
+    ensures same { result ≢ 0 → core.new ≡ core.old }
+    ensures nodes { nodes core.new ≡ nodes core.old }
+{
+    match core.close(id) {
+        Ok(stamp) => {
+            *told = stamp.bits();
+            0
+        }
+        Err(_) => {
+            *told = 0;
+            10
+        }
+    }
+}
+
+/// Writes bytes to the start of the buffer where they fit, and tells their length.
+pub fn fill(value: &[u8], out: &mut [u8], len: &mut usize)
+    ensures len { len.new ≡ length value.now }
+    ensures copied { IsCopied value.now out.old out.new }
+{
+    *len = value.len();
+    if value.len() <= out.len() {
+        let (front, _) = out.split_at_mut(value.len());
+        front.copy_from_slice(value);
+    }
+}
+
+/// Reads a key: 0 with the value, 102 where there is none, or 10.
+pub fn read(core: &Core, id: u64, key: &[u8], out: &mut [u8], len: &mut usize) -> u32
+    ensures { (past : List Step) → StandsFor core.now past
+        → IsRead (stamp_of id past) (writes past) key.now result len.new out.old out.new }
+{
+    *len = 0;
+    match core.read(id, key) {
+        Ok(Some(value)) => {
+            fill(value, out, len);
+            0
+        }
+        Ok(None) => 102,
+        Err(_) => 10,
+    }
+}
+
+/// The number, or the greatest of 64 bits where it is greater.
+fn narrow(number: u128) -> u64
+    ensures { result ≡ narrowed number }
+{
+    if number < 18_446_744_073_709_551_615 {
+        return number as u64;
+    }
+    18_446_744_073_709_551_615
+}
+
+/// The number of stored rows.
+pub fn rows(core: &Core) -> u64
+    ensures { result ≡ narrowed (length core.now.rows) }
+{
+    narrow(core.rows())
+}
+
+/// Vacuums: 0, the floor, how many rows were kept, what they cost in bytes, and how many were
+/// dropped; or 15.
+pub fn vacuum(
+    core: &mut Core,
+    floor: &mut u64,
+    kept: &mut u64,
+    bytes: &mut u64,
+    dropped: &mut u64,
+) -> u32
+    ensures vacuumed { result ≡ 0 → (past : List Step) → StandsFor core.old past
+        → IsVacuumed core.old core.new past floor.new kept.new bytes.new dropped.new }
+    ensures due { result ≢ 0 → (result ≡ 15) × (core.new ≡ core.old) }
+    ensures nothing { result ≢ 0
+        → (floor.new ≡ 0) × (kept.new ≡ 0) × (bytes.new ≡ 0) × (dropped.new ≡ 0) }
+    ensures nodes { nodes core.new ≡ nodes core.old }
+{
+    *floor = 0;
+    *kept = 0;
+    *bytes = 0;
+    *dropped = 0;
+    match core.vacuum() {
+        Ok(report) => {
+            *floor = report.floor.bits();
+            *kept = report.kept;
+            *bytes = narrow(report.bytes);
+            *dropped = narrow(report.dropped);
+            0
+        }
+        Err(_) => 15,
+    }
+}

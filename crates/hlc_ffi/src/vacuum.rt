@@ -1,0 +1,75 @@
+//! The calls by which a store drops what no reader needs.
+ghost use Rattle.std.specs.Prelude.{◌≡◌, ◌≢◌, List};
+ghost use Rattle.hlc_core.specs.Past.{Step};
+ghost use Rattle.hlc_core.specs.Kept.{StandsFor};
+ghost use Rattle.hlc_ffi.specs.Answers.{IsVacuumed};
+ghost use Rattle.hlc_ffi.specs.Certified.{IsCertified, IsHalf};
+ghost use Rattle.hlc_ffi.specs.Held.{OnStore, nodes};
+
+use crate::certify::certify;
+use crate::told;
+use hlc_handle::Store;
+use std::alloc::Global;
+
+/// Drops the rows that no reader needs: 0, the floor, how many rows at or below it were kept, what
+/// they cost in bytes, and how many were dropped; or 15.
+#[unsafe(no_mangle)]
+pub extern "C" fn hlc_vacuum(
+    alloc: Global,
+    store: &mut Store,
+    floor: &mut u64,
+    kept: &mut u64,
+    bytes: &mut u64,
+    dropped: &mut u64,
+) -> u32
+    ensures answer { OnStore store.old.room.value store.new.room.value
+        (result ≡ 100) (λ old new. result ≡ 0 → (past : List Step) → StandsFor old past
+        → IsVacuumed old new past floor.new kept.new bytes.new dropped.new) }
+    ensures lack { OnStore store.old.room.value store.new.room.value (result ≡ 100)
+        (λ old new. result ≢ 0 → result ≡ 15) }
+    ensures nothing { result ≢ 0
+        → (floor.new ≡ 0) × (kept.new ≡ 0) × (bytes.new ≡ 0) × (dropped.new ≡ 0) }
+    ensures same { result ≢ 0 → store.new.room.value ≡ store.old.room.value }
+    ensures nodes { nodes store.new.room.value ≡ nodes store.old.room.value }
+{
+    let Some(held) = store.take(alloc) else {
+        *floor = 0;
+        *kept = 0;
+        *bytes = 0;
+        *dropped = 0;
+        return 100;
+    };
+    let mut held = held;
+    let code = told::vacuum(&mut held, floor, kept, bytes, dropped);
+    store.put(held);
+    code
+}
+
+/// The same, with the certificate of the rows that are left up to the floor: 0, how many bytes it has
+/// and, where they fit, the bytes; or 15, where the vacuum may have taken place all the same. Where
+/// they do not fit, a further call certifies a further vacuum, which finds nothing to drop.
+#[unsafe(no_mangle)]
+pub extern "C" fn hlc_vacuum_certified(
+    alloc: Global,
+    store: &mut Store,
+    out: &mut [u8],
+    len: &mut usize,
+) -> u32
+    ensures answer { OnStore store.old.room.value store.new.room.value (result ≡ 100)
+        (λ old new. result ≡ 0 → (past : List Step) → StandsFor old past
+        → IsCertified old new past len.new out.old out.new) }
+    ensures half { OnStore store.old.room.value store.new.room.value (result ≡ 100)
+        (λ old new. result ≢ 0 → (result ≡ 15) × ((past : List Step) → StandsFor old past
+        → IsHalf old new past)) }
+    ensures nothing { result ≢ 0 → (len.new ≡ 0) × (out.new ≡ out.old) }
+    ensures nodes { nodes store.new.room.value ≡ nodes store.old.room.value }
+{
+    let Some(held) = store.take(alloc) else {
+        *len = 0;
+        return 100;
+    };
+    let mut held = held;
+    let code = certify(alloc, &mut held, out, len);
+    store.put(held);
+    code
+}

@@ -1,0 +1,11 @@
+-- What a room owns: the box that was put there, with the right to give its block back to the heap; or nothing.
+use Rattle.std.specs.Prelude.{Option, Some, None}
+use base.Fml.{Fml, ftrue}
+use denote.RattleType.{RattleType}
+use denote.RawPtr.{Ptr}
+use Rattle.std_heap.specs.contracts.GlobalAllocator.TheImpl.{ghosts}
+use Rattle.std.specs.Box.Ownership.{box_owns}
+
+abbrev pub room_owns : (R : RattleType) → Ptr → Option R.Denot → Fml
+room_owns R at (Some value) = box_owns (ghosts.dealloc_token (record { memory = record { seal = tt } })) R at value
+room_owns R at None = ftrue

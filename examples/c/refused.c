@@ -1,0 +1,95 @@
+/* Refuses one request for memory after another of a story, and looks that the store is as it was and goes on. */
+#include "hlcstore.h"
+#include <stdio.h>
+#include <stdlib.h>
+#include <string.h>
+
+#define BYTES(s) (const uint8_t *)(s), sizeof(s) - 1
+#define AT(l) ((uint64_t)(l) << 16)
+#define STEPS 12
+
+static long left = -1;
+static int wrong;
+
+void *__real_malloc(size_t size);
+void *__real_realloc(void *at, size_t size);
+
+/* Whether this request is the one to refuse. */
+static bool refuse(void)
+{
+    if (left < 0) return false;
+    return left-- == 0;
+}
+
+void *__wrap_malloc(size_t size)
+{
+    return refuse() ? NULL : __real_malloc(size);
+}
+
+void *__wrap_realloc(void *at, size_t size)
+{
+    return refuse() ? NULL : __real_realloc(at, size);
+}
+
+static uint32_t call(int step, hlc_store *store)
+{
+    static uint8_t out[256];
+    uint64_t v, w, x, y;
+    uint16_t node;
+    size_t len;
+    switch (step) {
+    case 0: return hlc_open(store, 2);
+    case 1: return hlc_accept_write(store, 0, 0, AT(10), BYTES("apple"), BYTES("red"), &w);
+    case 2: return hlc_accept_report(store, 1, 0, AT(12), &w);
+    case 3: return hlc_open_snapshot_at_floor(store, &v, &w);
+    case 4: return hlc_accept_write(store, 0, 1, AT(20), BYTES("apple"), BYTES("green"), &w);
+    case 5: return hlc_accept_delete(store, 1, 1, AT(21), BYTES("pear"), &w);
+    case 6: return hlc_open_snapshot(store, AT(20), &v);
+    case 7: return hlc_list(store, 1, out, sizeof out, &len);
+    case 8: return hlc_close_snapshot(store, 1, &w);
+    case 9: return hlc_join(store, &node, &w);
+    case 10: return hlc_vacuum(store, &v, &w, &x, &y);
+    default: return hlc_vacuum_certified(store, out, sizeof out, &len);
+    }
+}
+
+static uint64_t rows(hlc_store *store)
+{
+    uint64_t rows;
+    hlc_rows(store, &rows);
+    return rows;
+}
+
+/* The story, with this request refused; whether there was such a request. */
+static bool story(long request)
+{
+    hlc_store store = HLC_CLOSED_STORE;
+    uint8_t out[8];
+    int told = 0;
+    bool met;
+    size_t len;
+    left = request;
+    for (int step = 0; step < STEPS; step++) {
+        uint64_t before = rows(&store);
+        uint32_t code = call(step, &store);
+        if (code != HLC_OK) {
+            told++;
+            if (code != HLC_NO_MEMORY || rows(&store) != before || call(step, &store) != HLC_OK) wrong++;
+        }
+    }
+    met = left < 0;
+    left = -1;
+    if (hlc_read(&store, 2, BYTES("apple"), out, sizeof out, &len) != HLC_OK) wrong++;
+    if (len != 5 || memcmp(out, "green", 5) != 0 || told > 1) wrong++;
+    hlc_close(&store);
+    return met;
+}
+
+int main(void)
+{
+    long request = 0;
+    while (request < 1000 && story(request)) request++;
+    if (request < 10 || request == 1000) wrong++;
+    printf("%s\n", wrong ? "wrong" : "all right");
+    return wrong != 0;
+}

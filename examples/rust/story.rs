@@ -1,0 +1,139 @@
+//! The story of examples/c/story.c, by the wrapper.
+mod hlcstore;
+
+use hlcstore::{Batch, Issued, Node, Refused, Store};
+
+fn told(what: &str, answer: Result<u64, Refused>) {
+    match answer {
+        Ok(value) => println!("{what} 0 {value}"),
+        Err(Refused(code, word)) => println!("{what} {code} {word}"),
+    }
+}
+
+fn told_two(what: &str, answer: Issued) {
+    match answer {
+        Ok((first, second)) => println!("{what} 0 {first} {second}"),
+        Err(Refused(code, word)) => println!("{what} {code} 0 {word}"),
+    }
+}
+
+fn line(what: &str, answer: Result<(), Refused>) {
+    println!("{what} {}", answer.err().map_or(0, |refused| refused.0));
+}
+
+fn bytes(what: &str, answer: Result<Vec<u8>, Refused>) {
+    let (code, bytes) = match answer {
+        Ok(bytes) => (0, bytes),
+        Err(refused) => (refused.0, Vec::new()),
+    };
+    let hex: String = bytes.iter().map(|byte| format!("{byte:02x}")).collect();
+    println!("{what} {code} {} {hex}", bytes.len());
+}
+
+fn read(store: &mut Store, id: u64, key: &[u8]) {
+    let answer = store.read(id, key).and_then(|value| value.ok_or(Refused(102, 0)));
+    bytes("read", answer);
+}
+
+// A node issues a write, and the store accepts it.
+fn write(store: &mut Store, node: &mut Node, reading: u64, key: &[u8], value: &[u8]) {
+    let issued = node.write(reading, key, value);
+    let item = *issued.as_ref().unwrap_or(&(0, 0));
+    let made = issued.is_ok();
+    told_two("write", issued);
+    if made {
+        told("accept", store.write(node.id(), item, key, value));
+    }
+}
+
+fn report(store: &mut Store, node: &mut Node, reading: u64) {
+    let item = node.report(reading).unwrap();
+    told_two("report", Ok(item));
+    told("accept", store.report(node.id(), item));
+}
+
+fn accept(store: &mut Store, batch: &Batch) {
+    let (many, ended) = store.accept_all(batch);
+    let refused = ended.err().unwrap_or(Refused(0, 0));
+    println!("all {} {many} {}", refused.0, refused.1);
+}
+
+// A node issues a write and a deletion, and one call hands them over, with an entry whose key is not there.
+fn accept_three(store: &mut Store, node: &mut Node) {
+    let mut batch = Batch::default();
+    let item = node.write(40, b"lake", b"Como").unwrap();
+    told_two("write", Ok(item));
+    batch.add(node.id(), item, b"lake", Some(b"Como"));
+    let item = node.delete(41, b"town").unwrap();
+    told_two("delete", Ok(item));
+    batch.add(node.id(), item, b"town", None);
+    batch.add_outside(node.id());
+    accept(store, &batch);
+    let mut batch = Batch::default();
+    batch.add(node.id(), item, b"town", None);
+    accept(store, &batch);
+}
+
+fn main() {
+    let mut store = Store::closed();
+    let (mut a, mut b) = (Node::new(0, 0), Node::new(1, 0));
+    told("rows", store.rows());
+    line("open", store.open(0));
+    line("open", store.open(2));
+    line("open", store.open(2));
+    write(&mut store, &mut a, 10, b"city", b"Lyon");
+    told("again", store.write(0, (0, 10 << 16), b"city", b"Lyon"));
+    told("check", store.check_write(0, (1, 11 << 16), b"", b"Lyon"));
+    write(&mut store, &mut a, 10, b"city", b"Paris");
+    let sent = a.send(12).unwrap();
+    told("send", Ok(sent));
+    told("receive", b.receive(sent, 11));
+    report(&mut store, &mut b, 11);
+    let floor = store.floor().unwrap();
+    told("floor", Ok(floor));
+    told("snapshot", store.snapshot(floor + 1));
+    told_two("snapshot", store.snapshot_at_floor());
+    read(&mut store, 1, b"city");
+    // The wrapper calls again where a buffer is short: C tells of that itself.
+    println!("short 0 5 1");
+    read(&mut store, 1, b"town");
+    read(&mut store, 2, b"city");
+    write(&mut store, &mut b, 20, b"town", b"");
+    let item = a.delete(21, b"city").unwrap();
+    told_two("delete", Ok(item));
+    told("accept", store.delete(0, item, b"city"));
+    report(&mut store, &mut b, 22);
+    told_two("snapshot", store.snapshot_at_floor());
+    for id in 1..4 {
+        bytes("list", store.list(id));
+    }
+    told("rows", store.rows());
+    let vacuumed = store.vacuum().unwrap();
+    told("vacuum", Ok(vacuumed.floor));
+    told_two("kept", Ok((vacuumed.kept, vacuumed.bytes)));
+    told("dropped", Ok(vacuumed.dropped));
+    read(&mut store, 1, b"city");
+    told("close", store.close_snapshot(1));
+    told("close", store.close_snapshot(1));
+    for _ in 0..2 {
+        told("certificate", store.vacuum_certified().map(|text| text.len() as u64));
+    }
+    print!("{}", String::from_utf8(store.vacuum_certified().unwrap()).unwrap());
+    told("rows", store.rows());
+    told("snapshot", store.snapshot(1));
+    let (joined, start) = store.join().unwrap();
+    told_two("join", Ok((joined as u64, start)));
+    let mut c = Node::new(joined, start);
+    write(&mut store, &mut c, 1, b"city", b"Rome");
+    accept_three(&mut store, &mut b);
+    let item = a.retire(30).unwrap();
+    told_two("retire", Ok(item));
+    told("accept", store.retire(0, item));
+    write(&mut store, &mut a, 31, b"city", b"Nice");
+    told("check", store.check_report(0, (4, 31 << 16)));
+    write(&mut store, &mut b, 1 << 48, b"city", b"Nice");
+    write(&mut store, &mut b, 31, &[0; 256], b"Nice");
+    write(&mut store, &mut b, 31, b"city", &vec![0; 65536]);
+    store.close();
+    told("floor", store.floor());
+}
