@@ -47,7 +47,8 @@ hlcstore.load(sys.argv[1])
 for start in range(0, WRITES, 1_000):
     pack = hlcstore.ENTRY.pack
     entries = b"".join(
-        pack(0, False, i, (i + 1) << 16, 16 * (i - start), 8, 16 * (i - start) + 8, 8) for i in range(start, start + 1_000)
+        pack(0, False, i, (i + 1) << 16, 16 * (i - start), 8, 16 * (i - start) + 8, 8)
+        for i in range(start, start + 1_000)
     )
     packed.append((entries, b"".join(KEYS[i % 1_000] + b"value000" for i in range(start, start + 1_000))))
 for _ in range(5):

@@ -1,7 +1,7 @@
 """The six kinds of script that the program is measured on, each made from a seed and of about so many bytes.
 
-scripts.py KIND SIZE FILE writes one. It is a process of its own, so that the memory it takes is not counted with that of the
-programs, whose peak would begin at that of the process that starts them.
+scripts.py KIND SIZE FILE writes one. It is a process of its own, so that the memory it takes is not counted with that
+of the programs, whose peak would begin at that of the process that starts them.
 """
 import random
 import sys

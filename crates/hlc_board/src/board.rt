@@ -41,7 +41,8 @@ impl Model for Board {
     ghost view = { λ board. board.table.shared.table_id };
 
     ghost invariant = { λ board. (board.table.shared.key ≡ board.nodes)
-        × (board.table.shared.table_id.words ≡ board.nodes) × (0 < board.nodes) × (board.nodes ≤ MOST_NODES) };
+        × (board.table.shared.table_id.words ≡ board.nodes) × (0 < board.nodes)
+        × (board.nodes ≤ MOST_NODES) };
 }
 
 /// Raises the word of one node; there is one for each node of a board. Contracts see its board, its

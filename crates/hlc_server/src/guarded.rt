@@ -44,7 +44,8 @@ impl<L: Ledger> Model for Guarded<L> {
     ghost view = { λ guarded. record { core = guarded.core; trail = entries_of guarded.trail; calls = guarded.calls } };
 
     ghost invariant = { λ guarded. (guarded.calls ≡ guarded.book.total)
-        × ForSome (entries_of guarded.trail) (λ trail. IsAudited guarded.core trail guarded.book.total) };
+        × ForSome (entries_of guarded.trail)
+        (λ trail. IsAudited guarded.core trail guarded.book.total) };
 }
 
 impl<L: Ledger> Guarded<L> {
