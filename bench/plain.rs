@@ -1,6 +1,9 @@
 //! The same job as `hlcstore run`, in plain Rust over the maps of std: a script on standard input, its replies on
 //! standard output. No proofs; growths that are refused end the process. It is what the program is measured beside, and
 //! takes as much care of bytes: no list of words for each line, and plain bytes copied whole.
+mod columns;
+
+use columns::{answer, points, Column, Columns, Stamp, Vacuumed, Value, Witness};
 use std::collections::BTreeMap;
 use std::io::{self, BufWriter, Read, Write};
 
@@ -8,14 +11,6 @@ const LIMIT: u64 = 1 << 48;
 
 /// The most bytes that an input may have.
 const LONGEST: u64 = 16_777_216;
-
-/// A stamp as its word: the physical part times 65,536 and the counter.
-type Stamp = u64;
-
-type Value = Option<Vec<u8>>;
-
-/// The versions of one key, by stamp and node.
-type Column = BTreeMap<(Stamp, u16), Value>;
 
 enum Body {
     Write(Vec<u8>, Value),
@@ -45,7 +40,7 @@ enum Refusal {
 
 #[derive(Default)]
 struct Store {
-    columns: BTreeMap<Vec<u8>, Column>,
+    columns: Columns,
     rows: u128,
     snapshots: BTreeMap<u64, Stamp>,
     opened: u64,
@@ -71,10 +66,6 @@ fn next_stamp(last: Stamp, seen: Stamp, reading: u64) -> Result<Stamp, Refusal> 
         return Err(Refusal::CounterFull(earlier));
     }
     Ok(earlier + 1)
-}
-
-fn answer(column: &Column, bound: Stamp) -> Option<&[u8]> {
-    column.range(..=(bound, u16::MAX)).next_back().and_then(|(_, value)| value.as_deref())
 }
 
 impl World {
@@ -131,8 +122,7 @@ fn issue(node: &mut Node, reading: u64, body: Body) -> Result<(Stamp, u64), Refu
 
 struct Report {
     floor: Stamp,
-    dropped: u128,
-    witnesses: Vec<(Vec<u8>, Option<Stamp>, Stamp)>,
+    done: Vacuumed,
 }
 
 impl Store {
@@ -154,37 +144,10 @@ impl Store {
     }
 
     fn vacuum(&mut self, floor: Stamp) -> Report {
-        let mut points: Vec<Stamp> = self.snapshots.values().copied().collect();
-        points.push(floor);
-        points.sort_unstable();
-        points.dedup();
-        let mut witnesses = Vec::new();
-        let before_rows = self.rows;
-        let mut dropped = 0u128;
-        self.columns.retain(|key, column| {
-            let mut keep = Vec::new();
-            let mut told: Option<&[u8]> = None;
-            let mut before = None;
-            for &point in &points {
-                let newest = column.range(..=(point, u16::MAX)).next_back();
-                let now = newest.and_then(|(_, value)| value.as_deref());
-                if now != told {
-                    witnesses.push((key.clone(), before, point));
-                    if let Some((place, _)) = newest {
-                        keep.push(*place);
-                    }
-                    told = now;
-                }
-                before = Some(point);
-            }
-            let had = column.len();
-            column.retain(|place, _| place.0 > floor || keep.binary_search(place).is_ok());
-            dropped += (had - column.len()) as u128;
-            !column.is_empty()
-        });
-        self.rows = before_rows - dropped;
+        let done = columns::vacuum(&mut self.columns, &points(&self.snapshots, floor), floor);
+        self.rows -= done.dropped;
         self.horizon = floor;
-        Report { floor, dropped, witnesses }
+        Report { floor, done }
     }
 }
 
@@ -466,8 +429,9 @@ fn listing<W: Write>(store: &Store, stamp: Stamp, out: &mut Out<W>) -> io::Resul
 
 fn vacuumed<W: Write>(report: &Report, out: &mut Out<W>) -> io::Result<()> {
     out.named("vacuum ", report.floor)?;
-    write!(out.0, " kept {} dropped {}", report.witnesses.len(), report.dropped)?;
-    for (key, before, at) in &report.witnesses {
+    let Vacuumed { witnesses, bytes, dropped } = &report.done;
+    write!(out.0, " kept {} dropped {dropped} bytes {bytes}", witnesses.len())?;
+    for Witness { key, before, at } in witnesses {
         out.0.write_all(b"\nwitness ")?;
         out.bytes(key)?;
         match before {

@@ -31,19 +31,18 @@ class Script:
     def is_full(self):
         return self.size + 64 >= self.limit
 
-    def write(self, key, value):
+    def issue(self, verb, said):
         node = self.random.randrange(self.nodes)
         self.reading += self.random.randrange(2)
-        self.add(f"write {node} {self.reading} {key} {value}")
+        self.add(f"{verb} {node} {self.reading} {said}")
         self.issued[node] += 1
         return node
 
+    def write(self, key, value):
+        return self.issue("write", f"{key} {value}")
+
     def delete(self, key):
-        node = self.random.randrange(self.nodes)
-        self.reading += self.random.randrange(2)
-        self.add(f"delete {node} {self.reading} {key}")
-        self.issued[node] += 1
-        return node
+        return self.issue("delete", key)
 
     def deliver(self, node):
         self.add(f"deliver {node} {self.delivered[node]}")

@@ -2,6 +2,9 @@
 //! one mutex round the core and the trail, a board of atomic words, receipts compared with the trail at the end, and
 //! the same printed lines. No proofs; growths that are refused end the process. It is what the program's storm is
 //! measured beside.
+mod columns;
+
+use columns::{answer, points, Column, Columns, Stamp, Vacuumed, Value};
 use std::collections::BTreeMap;
 use std::io::{self, BufWriter, Write};
 use std::process::exit;
@@ -14,13 +17,7 @@ const LIMIT: u64 = 1 << 48;
 const ROUNDS: usize = 16;
 const MOST_SNAPSHOTS: usize = 1024;
 
-/// A stamp as its word: the physical part times 65,536 and the counter.
-type Stamp = u64;
 type Bytes = Vec<u8>;
-type Value = Option<Bytes>;
-
-/// The versions of one key, by stamp and node.
-type Column = BTreeMap<(Stamp, u16), Value>;
 
 #[derive(Clone, PartialEq)]
 enum Body {
@@ -52,19 +49,11 @@ enum Event {
 }
 
 #[derive(Clone, PartialEq)]
-struct Witness {
-    key: Bytes,
-    before: Option<Stamp>,
-    at: Stamp,
-}
-
-#[derive(Clone, PartialEq)]
 struct Report {
     floor: Stamp,
     points: Vec<Stamp>,
     kept: u64,
-    dropped: u128,
-    witnesses: Vec<Witness>,
+    done: Vacuumed,
 }
 
 #[derive(Clone, Copy, PartialEq)]
@@ -100,7 +89,7 @@ struct Intake {
 
 struct Core {
     nodes: Vec<Intake>,
-    columns: BTreeMap<Bytes, Column>,
+    columns: Columns,
     snapshots: BTreeMap<u64, Stamp>,
     opened: u64,
     horizon: Stamp,
@@ -183,40 +172,11 @@ impl Core {
 
     fn vacuum(&mut self) -> Report {
         let floor = self.floor();
-        let mut points: Vec<Stamp> = self.snapshots.values().copied().collect();
-        points.push(floor);
-        points.sort_unstable();
-        points.dedup();
-        let mut witnesses = Vec::new();
-        let mut dropped = 0u128;
-        self.columns.retain(|key, column| {
-            let mut keep = Vec::new();
-            let mut told: Option<&[u8]> = None;
-            let mut before = None;
-            for &point in &points {
-                let newest = column.range(..=(point, u16::MAX)).next_back();
-                let now = newest.and_then(|(_, value)| value.as_deref());
-                if now != told {
-                    witnesses.push(Witness { key: key.clone(), before, at: point });
-                    if let Some((place, _)) = newest {
-                        keep.push(*place);
-                    }
-                    told = now;
-                }
-                before = Some(point);
-            }
-            let had = column.len();
-            column.retain(|place, _| place.0 > floor || keep.binary_search(place).is_ok());
-            dropped += (had - column.len()) as u128;
-            !column.is_empty()
-        });
+        let points = points(&self.snapshots, floor);
+        let done = columns::vacuum(&mut self.columns, &points, floor);
         self.horizon = floor;
-        Report { floor, points, kept: witnesses.len() as u64, dropped, witnesses }
+        Report { floor, points, kept: done.witnesses.len() as u64, done }
     }
-}
-
-fn answer(column: &Column, bound: Stamp) -> Option<&[u8]> {
-    column.range(..=(bound, u16::MAX)).next_back().and_then(|(_, value)| value.as_deref())
 }
 
 struct Entry {
