@@ -91,7 +91,7 @@ refused : (state : State) (s : List (Event × Reply)) (p k : ℕ) (item : Item) 
     → StandsFor state s → item_at p k s ≡ Some item → item_refusal (nodes state.core) (core_past s) item ≡ Some f
     → StandsFor state ((Deliver p k, Refused (of_core f)) ∷ s)
 refused state s p k item f h at refusal =
-    stays state s (Deliver p k) (of_core f) refl refl refl refl
+    stays state s (Deliver p k) (of_core f) refl
     (inl (due (world_nodes state) s p k item (orderly (world_nodes state) s h.legal) at ∙ ap core_refusal refusal)) h
 
 -- there is no memory for it, which a write alone may want
@@ -99,7 +99,7 @@ no_memory : (state : State) (s : List (Event × Reply)) (p k : ℕ) (item : Item
     → item_at p k s ≡ Some item → item_refusal (nodes state.core) (core_past s) item ≡ None → IsWrite item.body
     → StandsFor state ((Deliver p k, Refused NoMemory) ∷ s)
 no_memory state s p k item h at none takes =
-    stays state s (Deliver p k) NoMemory refl refl refl refl
+    stays state s (Deliver p k) NoMemory refl
     (inr (
       due (world_nodes state) s p k item (orderly (world_nodes state) s h.legal) at ∙ ap core_refusal none,
       refl,

@@ -93,7 +93,7 @@ joins state s node start core h same none is at stands =
 pub joins_full : (state : State) (s : List (Event × Reply)) → StandsFor state s → MOST_NUMBERS ≤ length state.nodes
     → StandsFor state ((Join, Refused TooManyNodes) ∷ s)
 joins_full state s h full =
-    stays state s Join TooManyNodes refl refl refl refl
+    stays state s Join TooManyNodes refl
     (inl (ap core_refusal (cond-true _ _ _ (le-leb MOST_NUMBERS (numbered (world_nodes state) (core_past s))
     (let m = h.many in omega (arith, m)))))) h
 
@@ -104,14 +104,14 @@ joins_lost state s h few =
     let none : join_refusal (world_nodes state) (core_past s) ≡ None =
     cond-false _ _ _ (lt-leb MOST_NUMBERS (numbered (world_nodes state) (core_past s))
     (let m = h.many in omega (arith, m))) in
-    stays state s Join NoMemory refl refl refl refl (inr (ap core_refusal none, refl, tt)) h
+    stays state s Join NoMemory refl (inr (ap core_refusal none, refl, tt)) h
 
 -- or the core refuses it
 pub joins_not : (state : State) (s : List (Event × Reply)) (fault : CoreFault) → StandsFor state s
     → IsRefusal (join_refusal (world_nodes state) (core_past s)) ⊤ fault
     → StandsFor state ((Join, Refused (of_core fault)) ∷ s)
 joins_not state s fault h (inl due) =
-    stays state s Join (of_core fault) refl refl refl refl (inl (ap core_refusal due)) h
+    stays state s Join (of_core fault) refl (inl (ap core_refusal due)) h
 joins_not state s fault h (inr lost) =
     subst (λ f. StandsFor state ((Join, Refused (of_core f)) ∷ s)) (sym lost.1)
-    (stays state s Join NoMemory refl refl refl refl (inr (ap core_refusal lost.0, refl, tt)) h)
+    (stays state s Join NoMemory refl (inr (ap core_refusal lost.0, refl, tt)) h)

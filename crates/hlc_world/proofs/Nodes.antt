@@ -17,13 +17,13 @@ use Rattle.hlc_core.specs.declared.reply.CoreReply.{CoreReply}
 use Rattle.hlc_core.specs.Past.{Step, numbered, stamp_of}
 use Rattle.hlc_core.specs.History.{past_of}
 use Rattle.hlc_core.specs.Kept.{Kept, nodes as core_nodes, StandsFor as CoreStandsFor}
-use Rattle.hlc_world.specs.declared.event.Event.TheVariants.{Write, Delete, Report, Retire, Send, Receive, Observe}
+use Rattle.hlc_world.specs.declared.event.Event.TheVariants.{Send, Receive, Observe}
 use Rattle.hlc_world.specs.declared.reply.Reply.{Reply}
 use Rattle.hlc_world.specs.declared.reply.Reply.TheVariants.{Stamped, Sent, Received, Observed, Refused}
 use Rattle.hlc_world.specs.declared.refusal.Refusal.{Refusal}
 use Rattle.hlc_world.specs.declared.refusal.Refusal.TheVariants.{Retired, NoMemory}
 use Rattle.hlc_world.specs.Schedule.{an_item, item_made, message_made, mark_of, with_item, ends, stamp_or, with_message}
-use Rattle.hlc_world.specs.Schedule.{Event, issued, gone, last_stamp, sent, message_at, node_of}
+use Rattle.hlc_world.specs.Schedule.{Event, issuing, issued, gone, last_stamp, sent, message_at, node_of}
 use Rattle.hlc_world.specs.Store.{asked, told, paired, with_entry, store_history, core_past}
 use Rattle.hlc_world.specs.Due.{of_node, issue_refusal, stamp_refusal, receive_refusal, observe_refusal, on_link}
 use Rattle.hlc_world.specs.Due.{on_node, refusal_due, IsReceived, IsObserved, MayLackMemory, IsGiven}
@@ -158,97 +158,65 @@ was : (state : State) (s : List (Event × Reply)) (p : ℕ) (before : KeptIssuer
     → before ≡ a_node p (last_stamp p s) (issued p s) (gone p s)
 was state s p before h inside at = some-injective _ _ (sym at ∙ h.nodes p inside)
 
--- a refused event leaves all as it was
-pub stays : (state : State) (s : List (Event × Reply)) (e : Event) (refusal : Refusal)
-    → item_made e (Refused refusal) ≡ None → mark_of e (Refused refusal) ≡ None
-    → message_made e (Refused refusal) ≡ None → told s e (Refused refusal) ≡ None
-    → IsGiven (world_nodes state) s e (Refused refusal) → StandsFor state s → StandsFor state ((e, Refused refusal) ∷ s)
-stays state s e refusal not_made not_marked not_sent not_told given h =
+-- what an event did by this reply: the item that it issued, its mark, the message that it sent, and what the store told
+abbrev Deed : Type 0
+Deed = Option Item × Option (ℕ × ℕ) × Option Message × Option CoreReply
+
+abbrev deed : List (Event × Reply) → Event → Reply → Deed
+deed s e reply = (item_made e reply, mark_of e reply, message_made e reply, told s e reply)
+
+-- an event that sent no message and was told nothing by the store leaves all but the nodes as it was
+goes-on : (state : State) (s : List (Event × Reply)) (e : Event) (reply : Reply) (item : Option Item)
+    (mark : Option (ℕ × ℕ)) (nodes : List KeptIssuer) → deed s e reply ≡ (item, mark, None, None)
+    → IsGiven (world_nodes state) s e reply → StandsFor state s → length nodes ≡ length state.nodes
+    → ((n : ℕ) → n < length nodes → slice_get nodes n ≡ Some (node_by n mark item s))
+    → StandsFor (record { core = state.core; nodes = nodes; messages = state.messages }) ((e, reply) ∷ s)
+goes-on state s e reply item mark nodes did given h same each =
     record {
       legal = (given, h.legal);
-      core = subst (λ o. CoreStandsFor state.core (past_told s e o)) (sym not_told) h.core;
-      many = subst (λ o. length state.nodes ≡ numbered (world_nodes state) (past_told s e o)) (sym not_told) h.many;
-      nodes = λ n lt.
-          subst (λ o. slice_get state.nodes n ≡ Some (node_by n o (item_made e (Refused refusal)) s)) (sym not_marked)
-          (subst (λ o. slice_get state.nodes n ≡ Some (node_by n None o s)) (sym not_made) (h.nodes n lt));
-      messages = subst (λ o. state.messages ≡ with_message o (sent s)) (sym not_sent) h.messages;
+      core = subst (λ (d : Deed). CoreStandsFor state.core (past_told s e d.3)) (sym did) h.core;
+      many = subst (λ (d : Deed). length nodes ≡ numbered (world_nodes state) (past_told s e d.3)) (sym did)
+          (same ∙ h.many);
+      nodes = λ n lt. subst (λ (d : Deed). slice_get nodes n ≡ Some (node_by n d.1 d.0 s)) (sym did) (each n lt);
+      messages = subst (λ (d : Deed). state.messages ≡ with_message d.2 (sent s)) (sym did) h.messages;
     }
+
+-- a refused event leaves all as it was
+pub stays : (state : State) (s : List (Event × Reply)) (e : Event) (refusal : Refusal)
+    → deed s e (Refused refusal) ≡ (None, None, None, None)
+    → IsGiven (world_nodes state) s e (Refused refusal) → StandsFor state s → StandsFor state ((e, Refused refusal) ∷ s)
+stays state s e refusal nothing given h =
+    goes-on state s e (Refused refusal) None None state.nodes nothing given h refl h.nodes
 
 abbrev with_node : State → ℕ → KeptIssuer → State
 with_node state p node = record { core = state.core; nodes = slice_set state.nodes p node; messages = state.messages }
 
+-- to write back what is kept of a node changes nothing
+pub put-back : (state : State) (s : List (Event × Reply)) (p : ℕ) (node : KeptIssuer)
+    → slice_get state.nodes p ≡ Some node → StandsFor state s → StandsFor (with_node state p node) s
+put-back state s p node at h =
+    subst (λ xs. StandsFor (record { core = state.core; nodes = xs; messages = state.messages }) s)
+    (sym (set-same state.nodes p node at)) h
+
 -- an event by which a node issues an item that says this
 pub record IsIssue (nodes : ℕ) (s : List (Event × Reply)) (e : Event) (p : ℕ) (body : Body) (reading : ℕ) : Type 0 where
-  pub refusal : refusal_due nodes s e ≡ on_node nodes s p (issue_refusal (issue_due (node_of p s) body reading))
-  pub makes : (st num : ℕ) → item_made e (Stamped st num) ≡ Some (an_item p num st body)
-  pub marks : (st num : ℕ) → mark_of e (Stamped st num) ≡ Some (p, st)
-  pub sends : (r : Reply) → message_made e r ≡ None
-  pub tells : (r : Reply) → told s e r ≡ None
-  pub not_made : (f : Refusal) → item_made e (Refused f) ≡ None
-  pub not_marked : (f : Refusal) → mark_of e (Refused f) ≡ None
+  pub due : refusal_due nodes s e ≡ on_node nodes s p (issue_refusal (issue_due (node_of p s) body reading))
+  pub done : (st num : ℕ) → deed s e (Stamped st num) ≡ (Some (an_item p num st body), Some (p, st), None, None)
+  pub left : (f : Refusal) → deed s e (Refused f) ≡ (None, None, None, None)
   pub given : (st num : ℕ) → refusal_due nodes s e ≡ None → issue_due (node_of p s) body reading ≡ Ok st
       → num ≡ length (issued p s) → IsGiven nodes s e (Stamped st num)
   pub may : MayLackMemory s e
 
-pub write-is : (nodes : ℕ) (s : List (Event × Reply)) (p reading : ℕ) (key value : List ℕ)
-    → IsIssue nodes s (Write p reading key value) p (a_write key (Some value)) reading
-write-is nodes s p reading key value =
-    record {
-      refusal = refl;
-      makes = λ st num. refl;
-      marks = λ st num. refl;
-      sends = λ r. refl;
-      tells = λ r. refl;
-      not_made = λ f. refl;
-      not_marked = λ f. refl;
-      given = λ st num a b c. (a, (b, c));
-      may = tt;
-    }
-
-pub delete-is : (nodes : ℕ) (s : List (Event × Reply)) (p reading : ℕ) (key : List ℕ)
-    → IsIssue nodes s (Delete p reading key) p (a_write key None) reading
-delete-is nodes s p reading key =
-    record {
-      refusal = refl;
-      makes = λ st num. refl;
-      marks = λ st num. refl;
-      sends = λ r. refl;
-      tells = λ r. refl;
-      not_made = λ f. refl;
-      not_marked = λ f. refl;
-      given = λ st num a b c. (a, (b, c));
-      may = tt;
-    }
-
-pub report-is : (nodes : ℕ) (s : List (Event × Reply)) (p reading : ℕ)
-    → IsIssue nodes s (Report p reading) p a_report reading
-report-is nodes s p reading =
-    record {
-      refusal = refl;
-      makes = λ st num. refl;
-      marks = λ st num. refl;
-      sends = λ r. refl;
-      tells = λ r. refl;
-      not_made = λ f. refl;
-      not_marked = λ f. refl;
-      given = λ st num a b c. (a, (b, c));
-      may = tt;
-    }
-
-pub retire-is : (nodes : ℕ) (s : List (Event × Reply)) (p reading : ℕ)
-    → IsIssue nodes s (Retire p reading) p a_retire reading
-retire-is nodes s p reading =
-    record {
-      refusal = refl;
-      makes = λ st num. refl;
-      marks = λ st num. refl;
-      sends = λ r. refl;
-      tells = λ r. refl;
-      not_made = λ f. refl;
-      not_marked = λ f. refl;
-      given = λ st num a b c. (a, (b, c));
-      may = tt;
-    }
+pub issuing-is : (nodes : ℕ) (s : List (Event × Reply)) (p reading : ℕ) (body : Body)
+    → IsIssue nodes s (issuing p reading body) p body reading
+issuing-is nodes s p reading (a_write key (Some value)) =
+    record { due = refl; done = λ st num. refl; left = λ f. refl; given = λ st num a b c. (a, (b, c)); may = tt }
+issuing-is nodes s p reading (a_write key None) =
+    record { due = refl; done = λ st num. refl; left = λ f. refl; given = λ st num a b c. (a, (b, c)); may = tt }
+issuing-is nodes s p reading a_report =
+    record { due = refl; done = λ st num. refl; left = λ f. refl; given = λ st num a b c. (a, (b, c)); may = tt }
+issuing-is nodes s p reading a_retire =
+    record { due = refl; done = λ st num. refl; left = λ f. refl; given = λ st num a b c. (a, (b, c)); may = tt }
 
 -- an item that a node issued
 pub issues : (state : State) (s : List (Event × Reply)) (e : Event) (p : ℕ) (body : Body) (reading : ℕ)
@@ -275,25 +243,15 @@ issues state s e p body reading before after made is h inside at taken =
       issued = issued p s ++ an_item p number st body ∷ [];
     }) (sym longer) in
     let none : refusal_due (world_nodes state) s e ≡ None =
-    is.refusal ∙ issue-due (world_nodes state) s p _ (there state s p h inside) ∙ ap issue_refusal due in
+    is.due ∙ issue-due (world_nodes state) s p _ (there state s p h inside) ∙ ap issue_refusal due in
     let same : length (slice_set state.nodes p after) ≡ length state.nodes = length-set state.nodes p after in
     subst (λ k. StandsFor (with_node state p after) ((e, Stamped st k) ∷ s)) (sym next)
-    (record {
-      legal = (is.given st number none due refl, h.legal);
-      core = subst (λ o. CoreStandsFor state.core (past_told s e o)) (sym (is.tells _)) h.core;
-      many = subst (λ o. length (slice_set state.nodes p after) ≡ numbered (world_nodes state) (past_told s e o))
-          (sym (is.tells _)) (same ∙ h.many);
-      nodes = λ n lt.
-          subst (λ o. slice_get (slice_set state.nodes p after) n
-          ≡ Some (node_by n o (item_made e (Stamped st number)) s)) (sym (is.marks st number))
-          (subst (λ o. slice_get (slice_set state.nodes p after) n ≡ Some (node_by n (Some (p, st)) o s))
-          (sym (is.makes st number))
-          (subst (λ x. slice_get (slice_set state.nodes p x) n
-          ≡ Some (node_by n (Some (p, st)) (Some (an_item p number st body)) s)) (sym came)
-          (nodes-issued state.nodes (λ k. last_stamp k s) (λ k. issued k s) (λ k. gone k s) p st
-          (an_item p number st body) refl inside h.nodes n (rw same at lt))));
-      messages = subst (λ o. state.messages ≡ with_message o (sent s)) (sym (is.sends _)) h.messages;
-    })
+    (goes-on state s e (Stamped st number) (Some (an_item p number st body)) (Some (p, st))
+    (slice_set state.nodes p after) (is.done st number) (is.given st number none due refl) h same
+    (λ n lt. subst (λ x. slice_get (slice_set state.nodes p x) n
+    ≡ Some (node_by n (Some (p, st)) (Some (an_item p number st body)) s)) (sym came)
+    (nodes-issued state.nodes (λ k. last_stamp k s) (λ k. issued k s) (λ k. gone k s) p st
+    (an_item p number st body) refl inside h.nodes n (rw same at lt))))
 
 -- an item that it did not issue
 pub issues_not : (state : State) (s : List (Event × Reply)) (e : Event) (p : ℕ) (body : Body) (reading : ℕ)
@@ -302,15 +260,12 @@ pub issues_not : (state : State) (s : List (Event × Reply)) (e : Event) (p : �
     → StandsFor (with_node state p after) ((e, Refused refusal) ∷ s)
 issues_not state s e p body reading before after refusal is h inside at left =
     let first : refusal_due (world_nodes state) s e ≡ issue_refusal (issue_due before.node body reading) =
-    is.refusal ∙ issue-due (world_nodes state) s p _ (there state s p h inside)
+    is.due ∙ issue-due (world_nodes state) s p _ (there state s p h inside)
     ∙ ap (λ issuer. issue_refusal (issue_due issuer.node body reading)) (sym (was state s p before h inside at)) in
     let given : IsGiven (world_nodes state) s e (Refused refusal) =
     elim left.0 [ inl due ↦ inl (first ∙ due) | inr lost ↦ inr (first ∙ lost.0, lost.1, is.may) ] in
-    let unchanged : slice_set state.nodes p after ≡ state.nodes = ap (λ x. slice_set state.nodes p x) left.1
-    ∙ set-same state.nodes p before at in
-    subst (λ xs. StandsFor (record { core = state.core; nodes = xs; messages = state.messages })
-    ((e, Refused refusal) ∷ s)) (sym unchanged)
-    (stays state s e refusal (is.not_made _) (is.not_marked _) (is.sends _) (is.tells _) given h)
+    subst (λ x. StandsFor (with_node state p x) ((e, Refused refusal) ∷ s)) (sym left.1)
+    (put-back state _ p before at (stays state s e refusal (is.left refusal) given h))
 
 -- a message that a node sent
 pub sends : (state : State) (s : List (Event × Reply)) (p reading : ℕ) (before : KeptIssuer) (node : Node)
@@ -369,7 +324,7 @@ pub sends_not : (state : State) (s : List (Event × Reply)) (p reading : ℕ) (b
     → event_due before.node (before.node.last ∷ []) reading ≡ Err fault
     → StandsFor state ((Send p reading, Refused (of_node fault)) ∷ s)
 sends_not state s p reading before fault h inside at due =
-    stays state s (Send p reading) (of_node fault) refl refl refl refl
+    stays state s (Send p reading) (of_node fault) refl
     (inl (sends-due state s p reading before h inside at ∙ ap issue_refusal due)) h
 
 pub sends_lost : (state : State) (s : List (Event × Reply)) (p reading st : ℕ) (before : KeptIssuer) → StandsFor state s
@@ -377,19 +332,16 @@ pub sends_lost : (state : State) (s : List (Event × Reply)) (p reading st : ℕ
     → event_due before.node (before.node.last ∷ []) reading ≡ Ok st
     → StandsFor state ((Send p reading, Refused NoMemory) ∷ s)
 sends_lost state s p reading st before h inside at due =
-    stays state s (Send p reading) NoMemory refl refl refl refl
+    stays state s (Send p reading) NoMemory refl
     (inr (sends-due state s p reading before h inside at ∙ ap issue_refusal due, refl, tt)) h
 
 -- an event by which a node sees a stamp
 pub record IsSight (nodes : ℕ) (s : List (Event × Reply)) (e : Event) (reply : ℕ → Reply)
     (p seen reading : ℕ) : Type 0 where
-  pub refusal : refusal_due nodes s e
+  pub due : refusal_due nodes s e
       ≡ on_node nodes s p (stamp_refusal (stamp_due (last_stamp p s ∷ seen ∷ []) reading))
-  pub marks : (st : ℕ) → mark_of e (reply st) ≡ Some (p, st)
-  pub makes : (r : Reply) → item_made e r ≡ None
-  pub sends : (r : Reply) → message_made e r ≡ None
-  pub tells : (r : Reply) → told s e r ≡ None
-  pub not_marked : (f : Refusal) → mark_of e (Refused f) ≡ None
+  pub done : (st : ℕ) → deed s e (reply st) ≡ (None, Some (p, st), None, None)
+  pub left : (f : Refusal) → deed s e (Refused f) ≡ (None, None, None, None)
   pub given : (st : ℕ) → refusal_due nodes s e ≡ None → stamp_due (last_stamp p s ∷ seen ∷ []) reading ≡ Ok st
       → IsGiven nodes s e (reply st)
 
@@ -397,12 +349,9 @@ pub receive-is : (nodes : ℕ) (s : List (Event × Reply)) (p reading number : �
     → message_at number s ≡ Some message → IsSight nodes s (Receive p reading number) Received p message.stamp reading
 receive-is nodes s p reading number message found =
     record {
-      refusal = ap (λ o. on_node nodes s p (receive_refusal o (last_stamp p s) reading)) found;
-      marks = λ st. refl;
-      makes = λ r. refl;
-      sends = λ r. refl;
-      tells = λ r. refl;
-      not_marked = λ f. refl;
+      due = ap (λ o. on_node nodes s p (receive_refusal o (last_stamp p s) reading)) found;
+      done = λ st. refl;
+      left = λ f. refl;
       given = λ st none due. (none, subst (λ o. IsReceived o (last_stamp p s) reading st) (sym found) due);
     }
 
@@ -410,12 +359,9 @@ pub observe-is : (nodes : ℕ) (s : List (Event × Reply)) (p reading id seen : 
     → IsSight nodes s (Observe p reading id) Observed p seen reading
 observe-is nodes s p reading id seen found =
     record {
-      refusal = ap (λ o. on_node nodes s p (observe_refusal o (last_stamp p s) reading)) found;
-      marks = λ st. refl;
-      makes = λ r. refl;
-      sends = λ r. refl;
-      tells = λ r. refl;
-      not_marked = λ f. refl;
+      due = ap (λ o. on_node nodes s p (observe_refusal o (last_stamp p s) reading)) found;
+      done = λ st. refl;
+      left = λ f. refl;
       given = λ st none due. (none, subst (λ o. IsObserved o (last_stamp p s) reading st) (sym found) due);
     }
 
@@ -431,23 +377,13 @@ sees state s e reply p seen reading st before after is h inside at saw =
     let came : after ≡ a_node p st (issued p s) (gone p s) =
     saw.1 ∙ ap (λ issuer. record { node = stamped issuer.node st; issued = issuer.issued }) so in
     let none : refusal_due (world_nodes state) s e ≡ None =
-    is.refusal ∙ sight-due (world_nodes state) s p _ (there state s p h inside) ∙ ap issue_refusal by in
+    is.due ∙ sight-due (world_nodes state) s p _ (there state s p h inside) ∙ ap issue_refusal by in
     let same : length (slice_set state.nodes p after) ≡ length state.nodes = length-set state.nodes p after in
-    record {
-      legal = (is.given st none (event-ok (gone p s) _ st by), h.legal);
-      core = subst (λ o. CoreStandsFor state.core (past_told s e o)) (sym (is.tells (reply st))) h.core;
-      many = subst (λ o. length (slice_set state.nodes p after) ≡ numbered (world_nodes state) (past_told s e o))
-          (sym (is.tells (reply st))) (same ∙ h.many);
-      nodes = λ n lt.
-          subst (λ o. slice_get (slice_set state.nodes p after) n ≡ Some (node_by n o (item_made e (reply st)) s))
-          (sym (is.marks st))
-          (subst (λ o. slice_get (slice_set state.nodes p after) n ≡ Some (node_by n (Some (p, st)) o s))
-          (sym (is.makes (reply st)))
-          (subst (λ x. slice_get (slice_set state.nodes p x) n ≡ Some (node_by n (Some (p, st)) None s)) (sym came)
-          (nodes-stamped state.nodes (λ k. last_stamp k s) (λ k. issued k s) (λ k. gone k s) p st inside
-          h.nodes n (rw same at lt))));
-      messages = subst (λ o. state.messages ≡ with_message o (sent s)) (sym (is.sends (reply st))) h.messages;
-    }
+    goes-on state s e (reply st) None (Some (p, st)) (slice_set state.nodes p after) (is.done st)
+    (is.given st none (event-ok (gone p s) _ st by)) h same
+    (λ n lt. subst (λ x. slice_get (slice_set state.nodes p x) n ≡ Some (node_by n (Some (p, st)) None s)) (sym came)
+    (nodes-stamped state.nodes (λ k. last_stamp k s) (λ k. issued k s) (λ k. gone k s) p st inside
+    h.nodes n (rw same at lt)))
 
 -- one that did not see it
 pub sees_not : (state : State) (s : List (Event × Reply)) (e : Event) (reply : ℕ → Reply) (p seen reading : ℕ)
@@ -458,12 +394,9 @@ sees_not state s e reply p seen reading before after refusal is h inside at left
     let due : issue_refusal (event_due (node_of p s) (last_stamp p s ∷ seen ∷ []) reading) ≡ Some refusal =
     ap (λ issuer. issue_refusal (event_due issuer.node (issuer.node.last ∷ seen ∷ []) reading))
     (sym (was state s p before h inside at)) ∙ left.0 in
-    let unchanged : slice_set state.nodes p after ≡ state.nodes = ap (λ x. slice_set state.nodes p x) left.1
-    ∙ set-same state.nodes p before at in
-    subst (λ xs. StandsFor (record { core = state.core; nodes = xs; messages = state.messages })
-    ((e, Refused refusal) ∷ s)) (sym unchanged)
-    (stays state s e refusal (is.makes _) (is.not_marked _) (is.sends _) (is.tells _)
-    (inl (is.refusal ∙ sight-due (world_nodes state) s p _ (there state s p h inside) ∙ due)) h)
+    subst (λ x. StandsFor (with_node state p x) ((e, Refused refusal) ∷ s)) (sym left.1)
+    (put-back state _ p before at (stays state s e refusal (is.left refusal)
+    (inl (is.due ∙ sight-due (world_nodes state) s p _ (there state s p h inside) ∙ due)) h))
 
 pub fresh-length : (n : ℕ) → length (fresh n) ≡ n
 fresh-length zero = refl

@@ -51,6 +51,21 @@ pub record FitsItsNode (nodes last next top n k : ℕ) (item : Item) : Type 0 wh
   pub low : item.stamp ≤ last
   pub ahead : next ≤ k → top < item.stamp
 
+-- and goes on being so where these still hold
+refit : {nodes last next top nodes' last' next' top' n k : ℕ} {item : Item}
+    → FitsItsNode nodes last next top n k item → n < nodes' → item.stamp ≤ last' → (next' ≤ k → top' < item.stamp)
+    → FitsItsNode nodes' last' next' top' n k item
+refit i inside low ahead =
+    record {
+      inside = inside;
+      node = i.node;
+      number = i.number;
+      left = i.left;
+      body = i.body;
+      low = low;
+      ahead = ahead;
+    }
+
 -- the issued items and what was accepted fit together
 pub record Orderly (many : ℕ) (items : ℕ → List Item) (lasts counts heads : ℕ → ℕ) : Type 0 where
   pub each : (n k : ℕ) (item : Item) → slice_get (items n) k ≡ Some item
@@ -101,15 +116,8 @@ orderly-mark many items lasts counts heads p st h inside up =
     record {
       each = λ n k item m.
           (let i = h.each n k item m in
-          record {
-            inside = i.inside;
-            node = i.node;
-            number = i.number;
-            left = i.left;
-            body = i.body;
-            low = (let g = grows n in let l : item.stamp ≤ lasts n = i.low in omega (arith, g));
-            ahead = i.ahead;
-          });
+          let g = grows n in let l : item.stamp ≤ lasts n = i.low in
+          refit i i.inside (omega (arith, g)) i.ahead);
       rising = h.rising;
       head_low = λ n. (let g = grows n in let l : heads n ≤ lasts n = h.head_low n in omega (arith, g));
       fresh = λ n out. stamp_or-other n p st (lasts n) (λ e. omega (arith, out, e)) ∙ h.fresh n out;
@@ -191,30 +199,23 @@ orderly-took nodes items lasts past p k item h at next =
     record {
       each = λ n j x m.
           (let i = h.each n j x m in
-          record {
-            inside = i.inside;
-            node = i.node;
-            number = i.number;
-            left = i.left;
-            body = i.body;
-            low = i.low;
-            ahead = λ c.
-                elim (cases_eq item.node n) [
-                  | inl same ↦
-                      (let c' : count n (Took item ∷ past) ≤ j = c in
-                      let a : count n (Took item ∷ past) ≡ count n past + 1 = count-same n item past same in
-                      let b : head n (Took item ∷ past) ≡ item.stamp = head-same n item past same in
-                      let pn : p ≡ n = sym own ∙ same in
-                      let d : count p past ≡ count n past = ap (λ q. count q past) pn in
-                      let r : item.stamp < x.stamp = h.rising n k j item x (omega arith)
-                      (subst (λ q. slice_get (items q) k ≡ Some item) pn at) m in omega arith)
-                  | inr other ↦
-                      (let c' : count n (Took item ∷ past) ≤ j = c in
-                      let a : count n (Took item ∷ past) ≡ count n past = count-other n item past other in
-                      let b : head n (Took item ∷ past) ≡ head n past = head-other n item past other in
-                      let r : head n past < x.stamp = i.ahead (omega arith) in omega arith)
-                ];
-          });
+          refit i i.inside i.low
+          (λ c.
+          elim (cases_eq item.node n) [
+            | inl same ↦
+                (let c' : count n (Took item ∷ past) ≤ j = c in
+                let a : count n (Took item ∷ past) ≡ count n past + 1 = count-same n item past same in
+                let b : head n (Took item ∷ past) ≡ item.stamp = head-same n item past same in
+                let pn : p ≡ n = sym own ∙ same in
+                let d : count p past ≡ count n past = ap (λ q. count q past) pn in
+                let r : item.stamp < x.stamp = h.rising n k j item x (omega arith)
+                (subst (λ q. slice_get (items q) k ≡ Some item) pn at) m in omega arith)
+            | inr other ↦
+                (let c' : count n (Took item ∷ past) ≤ j = c in
+                let a : count n (Took item ∷ past) ≡ count n past = count-other n item past other in
+                let b : head n (Took item ∷ past) ≡ head n past = head-other n item past other in
+                let r : head n past < x.stamp = i.ahead (omega arith) in omega arith)
+          ]));
       rising = h.rising;
       head_low = λ n.
           elim (cases_eq item.node n) [
@@ -242,15 +243,9 @@ orderly-join many items lasts counts past node start h is =
           (let i = h.each n k item m in
           let within : n < many = i.inside in
           let b = before n (λ e. omega (arith, e, is)) in
-          record {
-            inside = omega arith;
-            node = i.node;
-            number = i.number;
-            left = i.left;
-            body = i.body;
-            low = (let l : item.stamp ≤ lasts n = i.low in omega (arith, b.0));
-            ahead = λ c. (let a : head n past < item.stamp = i.ahead c in omega (arith, b.1));
-          });
+          let l : item.stamp ≤ lasts n = i.low in
+          refit i (omega arith) (omega (arith, b.0))
+          (λ c. (let a : head n past < item.stamp = i.ahead c in omega (arith, b.1))));
       rising = h.rising;
       head_low = λ n.
           elim (cases_eq node n) [

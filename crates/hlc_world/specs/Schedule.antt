@@ -17,6 +17,13 @@ use Rattle.hlc_world.specs.declared.reply.Reply.TheVariants.{Stamped, Joined, Se
 abbrev pub Event : Type 0
 Event = EventOf (List ℕ)
 
+-- the event by which a node issues an item that says this
+abbrev pub issuing : ℕ → ℕ → Body → Event
+issuing node reading (a_write key (Some value)) = Write node reading key value
+issuing node reading (a_write key None) = Delete node reading key
+issuing node reading a_report = Report node reading
+issuing node reading a_retire = Retire node reading
+
 -- Below, a schedule is the list of the events with their replies, the last one first. An event whose reply is a refusal
 -- did not take place.
 

@@ -1,15 +1,10 @@
 //! What a world keeps of a node: the node itself, and the items that it issued.
 ghost use Rattle.std.specs.Prelude.{◌≡◌, false, [], slice_get, option_copied};
-ghost use Rattle.hlc_node.specs.declared.item.Body.TheVariants.{
-  Write as a_write,
-  Report as a_report,
-  Retire as a_retire,
-};
 ghost use Rattle.hlc_world.specs.State.{Issues, Keeps, Sees};
 
 use crate::refusal::Refusal;
 use hlc_clock::Stamp;
-use hlc_node::{Bytes, Item, Message, NodeCore};
+use hlc_node::{Body, Item, Message, NodeCore};
 use std::alloc::Global;
 use std::marker::Model;
 
@@ -68,38 +63,19 @@ impl Issuer {
         self.issued.as_slice().get(number as usize)
     }
 
-    /// Issues the item of a write, or of a deletion where there is no value, and gives its stamp
-    /// and its number.
-    pub fn write(
-        &mut self,
-        reading: u64,
-        key: Bytes,
-        value: Option<Bytes>,
-    ) -> Result<(Stamp, u64), Refusal>
-        ensures { Issues self.old self.new (a_write key value) reading result }
+    /// Issues the item that says this, and gives its stamp and its number.
+    pub fn issue(&mut self, reading: u64, body: Body) -> Result<(Stamp, u64), Refusal>
+        ensures { Issues self.old self.new body reading result }
     {
         let mut node = self.node;
-        match node.write(reading, key, value) {
-            Err(refused) => Err(Refusal::from(refused.why)),
-            Ok(item) => self.keep(node, item),
-        }
-    }
-
-    /// Issues a report, and gives its stamp and its number.
-    pub fn report(&mut self, reading: u64) -> Result<(Stamp, u64), Refusal>
-        ensures { Issues self.old self.new a_report reading result }
-    {
-        let mut node = self.node;
-        let item = node.report(reading)?;
-        self.keep(node, item)
-    }
-
-    /// Issues the node's last item, and gives its stamp and its number.
-    pub fn retire(&mut self, reading: u64) -> Result<(Stamp, u64), Refusal>
-        ensures { Issues self.old self.new a_retire reading result }
-    {
-        let mut node = self.node;
-        let item = node.retire(reading)?;
+        let item = match body {
+            Body::Write { key, value } => match node.write(reading, key, value) {
+                Ok(item) => item,
+                Err(refused) => return Err(Refusal::from(refused.why)),
+            },
+            Body::Report => node.report(reading)?,
+            Body::Retire => node.retire(reading)?,
+        };
         self.keep(node, item)
     }
 
@@ -107,13 +83,9 @@ impl Issuer {
     pub fn receive(&mut self, message: &Message, reading: u64) -> Result<Stamp, Refusal>
         ensures { Sees self.old self.new message.now.stamp reading result }
     {
-        let mut node = self.node;
-        match node.receive(message, reading) {
+        match self.node.receive(message, reading) {
+            Ok(stamp) => Ok(stamp),
             Err(fault) => Err(Refusal::from(fault)),
-            Ok(stamp) => {
-                self.node = node;
-                Ok(stamp)
-            }
         }
     }
 
@@ -121,13 +93,9 @@ impl Issuer {
     pub fn observe(&mut self, seen: Stamp, reading: u64) -> Result<Stamp, Refusal>
         ensures { Sees self.old self.new seen reading result }
     {
-        let mut node = self.node;
-        match node.observe(seen, reading) {
+        match self.node.observe(seen, reading) {
+            Ok(stamp) => Ok(stamp),
             Err(fault) => Err(Refusal::from(fault)),
-            Ok(stamp) => {
-                self.node = node;
-                Ok(stamp)
-            }
         }
     }
 

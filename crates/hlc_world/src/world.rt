@@ -4,7 +4,7 @@ ghost use Rattle.std.specs.Prelude.{length};
 ghost use Rattle.hlc_core.specs.Past.{Step, Took, item_refusal};
 ghost use Rattle.hlc_core.specs.Kept.{nodes, StandsFor as CoreStandsFor};
 ghost use Rattle.hlc_core.specs.Calls.{IsRefusal, IsWrite};
-ghost use Rattle.hlc_world.specs.Schedule.{Event as AnEvent, after};
+ghost use Rattle.hlc_world.specs.Schedule.{Event as AnEvent, issuing, after};
 ghost use Rattle.hlc_world.specs.Before.{HappenedBefore, IsStamped};
 ghost use Rattle.hlc_world.specs.Due.{IsGiven, IsRefused, GoesByNumber};
 ghost use Rattle.hlc_world.specs.Floor.{IsComplete, IsBelowClocks, IsClosed};
@@ -19,7 +19,7 @@ use crate::reply::Reply;
 use hlc_clock::Stamp;
 use hlc_core::{Core, CoreFault, NoMemory};
 use hlc_floor::MOST_NUMBERS;
-use hlc_node::{Bytes, Item, Message};
+use hlc_node::{Body, Bytes, Item, Message};
 use std::alloc::{AllocError, Global};
 use std::marker::Model;
 
@@ -140,10 +140,15 @@ impl World {
                 reading,
                 key,
                 value,
-            } => self.write(node, reading, key, value),
-            Event::Delete { node, reading, key } => self.delete(node, reading, key),
-            Event::Report { node, reading } => self.report(node, reading),
-            Event::Retire { node, reading } => self.retire(node, reading),
+            } => {
+                let value = Some(value);
+                self.issue(node, reading, Body::Write { key, value })
+            }
+            Event::Delete { node, reading, key } => {
+                self.issue(node, reading, Body::Write { key, value: None })
+            }
+            Event::Report { node, reading } => self.issue(node, reading, Body::Report),
+            Event::Retire { node, reading } => self.issue(node, reading, Body::Retire),
             Event::Join => self.join(),
             Event::Send { node, reading } => self.send(node, reading),
             Event::Receive {
@@ -164,65 +169,17 @@ impl World {
         }
     }
 
-    fn write(&mut self, node: u16, reading: u64, key: Bytes, value: Bytes) -> Reply
+    /// A node issues the item that says this.
+    fn issue(&mut self, node: u16, reading: u64, body: Body) -> Reply
         ensures stands { (schedule : List (AnEvent × AReply)) → StandsFor self.old schedule
-            → StandsFor self.new ((Event.Write node reading key value, result) ∷ schedule) }
+            → StandsFor self.new ((issuing node reading body, result) ∷ schedule) }
         ensures unchanged { IsRefused result → self.new ≡ self.old }
         ensures nodes { world_nodes self.new ≡ world_nodes self.old }
     {
-        let place = node as usize;
-        if place >= self.nodes.len() {
+        let Some(issuer) = self.nodes.get_mut(node as usize) else {
             return Reply::Refused(Refusal::NoNode);
-        }
-        match self.nodes[place].write(reading, key, Some(value)) {
-            Ok((stamp, item)) => Reply::Stamped { stamp, item },
-            Err(refusal) => Reply::Refused(refusal),
-        }
-    }
-
-    fn delete(&mut self, node: u16, reading: u64, key: Bytes) -> Reply
-        ensures stands { (schedule : List (AnEvent × AReply)) → StandsFor self.old schedule
-            → StandsFor self.new ((Event.Delete node reading key, result) ∷ schedule) }
-        ensures unchanged { IsRefused result → self.new ≡ self.old }
-        ensures nodes { world_nodes self.new ≡ world_nodes self.old }
-    {
-        let place = node as usize;
-        if place >= self.nodes.len() {
-            return Reply::Refused(Refusal::NoNode);
-        }
-        match self.nodes[place].write(reading, key, None) {
-            Ok((stamp, item)) => Reply::Stamped { stamp, item },
-            Err(refusal) => Reply::Refused(refusal),
-        }
-    }
-
-    fn report(&mut self, node: u16, reading: u64) -> Reply
-        ensures stands { (schedule : List (AnEvent × AReply)) → StandsFor self.old schedule
-            → StandsFor self.new ((Event.Report node reading, result) ∷ schedule) }
-        ensures unchanged { IsRefused result → self.new ≡ self.old }
-        ensures nodes { world_nodes self.new ≡ world_nodes self.old }
-    {
-        let place = node as usize;
-        if place >= self.nodes.len() {
-            return Reply::Refused(Refusal::NoNode);
-        }
-        match self.nodes[place].report(reading) {
-            Ok((stamp, item)) => Reply::Stamped { stamp, item },
-            Err(refusal) => Reply::Refused(refusal),
-        }
-    }
-
-    fn retire(&mut self, node: u16, reading: u64) -> Reply
-        ensures stands { (schedule : List (AnEvent × AReply)) → StandsFor self.old schedule
-            → StandsFor self.new ((Event.Retire node reading, result) ∷ schedule) }
-        ensures unchanged { IsRefused result → self.new ≡ self.old }
-        ensures nodes { world_nodes self.new ≡ world_nodes self.old }
-    {
-        let place = node as usize;
-        if place >= self.nodes.len() {
-            return Reply::Refused(Refusal::NoNode);
-        }
-        match self.nodes[place].retire(reading) {
+        };
+        match issuer.issue(reading, body) {
             Ok((stamp, item)) => Reply::Stamped { stamp, item },
             Err(refusal) => Reply::Refused(refusal),
         }
@@ -259,11 +216,10 @@ impl World {
         ensures unchanged { IsRefused result → self.new ≡ self.old }
         ensures nodes { world_nodes self.new ≡ world_nodes self.old }
     {
-        let place = node as usize;
-        if place >= self.nodes.len() {
+        let Some(issuer) = self.nodes.get_mut(node as usize) else {
             return Reply::Refused(Refusal::NoNode);
-        }
-        let mut sender = self.nodes[place].node();
+        };
+        let mut sender = issuer.node();
         match sender.send(reading) {
             Err(fault) => Reply::Refused(Refusal::from(fault)),
             Ok(sent) => {
@@ -272,7 +228,7 @@ impl World {
                 if !post(&mut self.messages, sent) {
                     return Reply::Refused(Refusal::NoMemory);
                 }
-                self.nodes[place].go_on(sender);
+                issuer.go_on(sender);
                 Reply::Sent { stamp, message }
             }
         }
@@ -284,17 +240,16 @@ impl World {
         ensures unchanged { IsRefused result → self.new ≡ self.old }
         ensures nodes { world_nodes self.new ≡ world_nodes self.old }
     {
-        let place = node as usize;
-        if place >= self.nodes.len() {
+        let Some(issuer) = self.nodes.get_mut(node as usize) else {
             return Reply::Refused(Refusal::NoNode);
-        }
-        if self.nodes[place].is_retired() {
+        };
+        if issuer.is_retired() {
             return Reply::Refused(Refusal::Retired);
         }
         let Some(sent) = self.messages.as_slice().get(message as usize) else {
             return Reply::Refused(Refusal::NoMessage);
         };
-        match self.nodes[place].receive(sent, reading) {
+        match issuer.receive(sent, reading) {
             Ok(stamp) => Reply::Received { stamp },
             Err(refusal) => Reply::Refused(refusal),
         }
@@ -306,17 +261,16 @@ impl World {
         ensures unchanged { IsRefused result → self.new ≡ self.old }
         ensures nodes { world_nodes self.new ≡ world_nodes self.old }
     {
-        let place = node as usize;
-        if place >= self.nodes.len() {
+        let Some(issuer) = self.nodes.get_mut(node as usize) else {
             return Reply::Refused(Refusal::NoNode);
-        }
-        if self.nodes[place].is_retired() {
+        };
+        if issuer.is_retired() {
             return Reply::Refused(Refusal::Retired);
         }
         let Some(seen) = self.core.stamp_of(id) else {
             return Reply::Refused(Refusal::NoSnapshot);
         };
-        match self.nodes[place].observe(seen, reading) {
+        match issuer.observe(seen, reading) {
             Ok(stamp) => Reply::Observed { stamp },
             Err(refusal) => Reply::Refused(refusal),
         }
@@ -328,11 +282,10 @@ impl World {
         ensures unchanged { IsRefused result → self.new ≡ self.old }
         ensures nodes { world_nodes self.new ≡ world_nodes self.old }
     {
-        let place = node as usize;
-        if place >= self.nodes.len() {
+        let Some(issuer) = self.nodes.as_slice().get(node as usize) else {
             return Reply::Refused(Refusal::NoNode);
-        }
-        let Some(item) = self.nodes[place].item(number) else {
+        };
+        let Some(item) = issuer.item(number) else {
             return Reply::Refused(Refusal::NoItem);
         };
         match accept(&mut self.core, item) {

@@ -1,5 +1,5 @@
 -- The node sees the stamp of the open snapshot.
-use Rattle.std.proofs.Common.{◌≡◌, ◌<◌, length, refl, sym, arith, Some}
+use Rattle.std.proofs.Common.{◌≡◌, refl, sym, Some}
 use Rattle.std.proofs.lemmas.Option.{slice_get_read}
 use Rattle.hlc_core.specs.Past.{stamp_of}
 use Rattle.hlc_world.specs.Store.{core_past}
@@ -11,15 +11,14 @@ use Rattle.hlc_world.proofs.world.World.observe.Goals.{in-Ok, in-Err}
 pub returns-clause-stands : goal.returns-clause-stands
 returns-clause-stands c = λ s h.
     let h' = rw (← c.self.view_is) at h in
-    let inside : c.args.node < length c.self.inside.nodes.items = omega (arith, c.self.inside.nodes.ok.0) in
-    let at = slice_get_read c.self.inside.nodes.items
-    (length c.self.inside.nodes.items) c.args.node c.index_mut.result.now refl inside c.index_mut.ensures.value in
-    let there : stamp_of c.args.id (core_past s) ≡ Some c.in-Some.seen =
-    sym (c.in-Some.ensures (core_past s) h'.core) in
-    let is = observe-is _ s c.args.node c.args.reading c.args.id c.in-Some.seen there in
+    let lent = c.in-Some.ensures.item in
+    let at = slice_get_read c.self.inside.nodes.items _ c.args.node c.in-Some.issuer.now refl lent.3.0 lent.1 in
+    let there : stamp_of c.args.id (core_past s) ≡ Some c.in-Some-stamp_of.seen =
+    sym (c.in-Some-stamp_of.ensures (core_past s) h'.core) in
+    let is = observe-is _ s c.args.node c.args.reading c.args.id c.in-Some-stamp_of.seen there in
     elim c.match-observe.branch [
-      | in-Ok w ↦ rw w.result-is (sees _ s _ Observed c.args.node c.in-Some.seen c.args.reading w.in-Ok.stamp
-          c.index_mut.result.now c.observe.new.self is h' inside at w.in-Ok.ensures)
-      | in-Err w ↦ rw w.result-is (sees_not _ s _ Observed c.args.node c.in-Some.seen c.args.reading
-          c.index_mut.result.now c.observe.new.self _ is h' inside at w.in-Err.ensures)
+      | in-Ok w ↦ rw w.result-is (sees _ s _ Observed c.args.node c.in-Some-stamp_of.seen c.args.reading w.in-Ok.stamp
+          c.in-Some.issuer.now c.observe.new.self is h' lent.3.0 at w.in-Ok.ensures)
+      | in-Err w ↦ rw w.result-is (sees_not _ s _ Observed c.args.node c.in-Some-stamp_of.seen c.args.reading
+          c.in-Some.issuer.now c.observe.new.self _ is h' lent.3.0 at w.in-Err.ensures)
     ]

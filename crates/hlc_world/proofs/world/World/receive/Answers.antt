@@ -1,5 +1,5 @@
 -- The node sees the stamp of the message.
-use Rattle.std.proofs.Common.{◌≡◌, ◌<◌, length, refl, sym, ◌∙◌, ap, arith, Some}
+use Rattle.std.proofs.Common.{◌≡◌, refl, sym, ◌∙◌, ap, Some}
 use Rattle.std.proofs.lemmas.Option.{slice_get_read}
 use Rattle.std.specs.Prelude.{slice_get}
 use Rattle.hlc_world.specs.Schedule.{message_at}
@@ -11,17 +11,16 @@ use Rattle.hlc_world.proofs.world.World.receive.Goals.{in-Ok, in-Err}
 pub returns-clause-stands : goal.returns-clause-stands
 returns-clause-stands c = λ s h.
     let h' = rw (← c.self.view_is) at h in
-    let inside : c.args.node < length c.self.inside.nodes.items = omega (arith, c.self.inside.nodes.ok.0) in
-    let at = slice_get_read c.self.inside.nodes.items
-    (length c.self.inside.nodes.items) c.args.node c.index_mut.result.now refl inside c.index_mut.ensures.value in
-    let l = c.in-Some.ensures.lookup in
-    let there : message_at c.args.message s ≡ Some c.in-Some.sent.now =
+    let lent = c.in-Some.ensures.item in
+    let at = slice_get_read c.self.inside.nodes.items _ c.args.node c.in-Some.issuer.now refl lent.3.0 lent.1 in
+    let l = c.in-Some-get.ensures.lookup in
+    let there : message_at c.args.message s ≡ Some c.in-Some-get.sent.now =
     ap (λ xs. slice_get xs c.args.message) (sym h'.messages ∙ sym c.as_slice.ensures.value)
-    ∙ slice_get_read c.as_slice.result.now _ c.args.message c.in-Some.sent.now refl l.3.0 l.1 in
-    let is = receive-is _ s c.args.node c.args.reading c.args.message c.in-Some.sent.now there in
+    ∙ slice_get_read c.as_slice.result.now _ c.args.message c.in-Some-get.sent.now refl l.3.0 l.1 in
+    let is = receive-is _ s c.args.node c.args.reading c.args.message c.in-Some-get.sent.now there in
     elim c.match-receive.branch [
-      | in-Ok w ↦ rw w.result-is (sees _ s _ Received c.args.node c.in-Some.sent.now.stamp c.args.reading w.in-Ok.stamp
-          c.index_mut.result.now c.receive.new.self is h' inside at w.in-Ok.ensures)
-      | in-Err w ↦ rw w.result-is (sees_not _ s _ Received c.args.node c.in-Some.sent.now.stamp c.args.reading
-          c.index_mut.result.now c.receive.new.self _ is h' inside at w.in-Err.ensures)
+      | in-Ok w ↦ rw w.result-is (sees _ s _ Received c.args.node c.in-Some-get.sent.now.stamp c.args.reading
+          w.in-Ok.stamp c.in-Some.issuer.now c.receive.new.self is h' lent.3.0 at w.in-Ok.ensures)
+      | in-Err w ↦ rw w.result-is (sees_not _ s _ Received c.args.node c.in-Some-get.sent.now.stamp c.args.reading
+          c.in-Some.issuer.now c.receive.new.self _ is h' lent.3.0 at w.in-Err.ensures)
     ]
