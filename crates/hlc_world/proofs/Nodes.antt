@@ -207,7 +207,7 @@ pub record IsIssue (nodes : ℕ) (s : List (Event × Reply)) (e : Event) (p : �
       → num ≡ length (issued p s) → IsGiven nodes s e (Stamped st num)
   pub may : MayLackMemory s e
 
-pub issuing-is : (nodes : ℕ) (s : List (Event × Reply)) (p reading : ℕ) (body : Body)
+issuing-is : (nodes : ℕ) (s : List (Event × Reply)) (p reading : ℕ) (body : Body)
     → IsIssue nodes s (issuing p reading body) p body reading
 issuing-is nodes s p reading (a_write key (Some value)) =
     record { due = refl; done = λ st num. refl; left = λ f. refl; given = λ st num a b c. (a, (b, c)); may = tt }
@@ -219,11 +219,13 @@ issuing-is nodes s p reading a_retire =
     record { due = refl; done = λ st num. refl; left = λ f. refl; given = λ st num a b c. (a, (b, c)); may = tt }
 
 -- an item that a node issued
-pub issues : (state : State) (s : List (Event × Reply)) (e : Event) (p : ℕ) (body : Body) (reading : ℕ)
-    (before after : KeptIssuer) (made : ℕ × ℕ) → IsIssue (world_nodes state) s e p body reading → StandsFor state s
-    → p < length state.nodes → slice_get state.nodes p ≡ Some before → Issues before after body reading (Ok made)
-    → StandsFor (with_node state p after) ((e, Stamped made.0 made.1) ∷ s)
-issues state s e p body reading before after made is h inside at taken =
+pub issues : (state : State) (s : List (Event × Reply)) (p reading : ℕ) (body : Body) (before after : KeptIssuer)
+    (made : ℕ × ℕ) → StandsFor state s → p < length state.nodes → slice_get state.nodes p ≡ Some before
+    → Issues before after body reading (Ok made)
+    → StandsFor (with_node state p after) ((issuing p reading body, Stamped made.0 made.1) ∷ s)
+issues state s p reading body before after made h inside at taken =
+    let e : Event = issuing p reading body in
+    let is = issuing-is (world_nodes state) s p reading body in
     let st : ℕ = made.0 in
     let number : ℕ = length (issued p s) in
     let so : before ≡ a_node p (last_stamp p s) (issued p s) (gone p s) = was state s p before h inside at in
@@ -254,11 +256,13 @@ issues state s e p body reading before after made is h inside at taken =
     (an_item p number st body) refl inside h.nodes n (rw same at lt))))
 
 -- an item that it did not issue
-pub issues_not : (state : State) (s : List (Event × Reply)) (e : Event) (p : ℕ) (body : Body) (reading : ℕ)
-    (before after : KeptIssuer) (refusal : Refusal) → IsIssue (world_nodes state) s e p body reading → StandsFor state s
-    → p < length state.nodes → slice_get state.nodes p ≡ Some before → Issues before after body reading (Err refusal)
-    → StandsFor (with_node state p after) ((e, Refused refusal) ∷ s)
-issues_not state s e p body reading before after refusal is h inside at left =
+pub issues_not : (state : State) (s : List (Event × Reply)) (p reading : ℕ) (body : Body) (before after : KeptIssuer)
+    (refusal : Refusal) → StandsFor state s → p < length state.nodes → slice_get state.nodes p ≡ Some before
+    → Issues before after body reading (Err refusal)
+    → StandsFor (with_node state p after) ((issuing p reading body, Refused refusal) ∷ s)
+issues_not state s p reading body before after refusal h inside at left =
+    let e : Event = issuing p reading body in
+    let is = issuing-is (world_nodes state) s p reading body in
     let first : refusal_due (world_nodes state) s e ≡ issue_refusal (issue_due before.node body reading) =
     is.due ∙ issue-due (world_nodes state) s p _ (there state s p h inside)
     ∙ ap (λ issuer. issue_refusal (issue_due issuer.node body reading)) (sym (was state s p before h inside at)) in

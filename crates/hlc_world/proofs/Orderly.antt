@@ -56,15 +56,7 @@ refit : {nodes last next top nodes' last' next' top' n k : ℕ} {item : Item}
     → FitsItsNode nodes last next top n k item → n < nodes' → item.stamp ≤ last' → (next' ≤ k → top' < item.stamp)
     → FitsItsNode nodes' last' next' top' n k item
 refit i inside low ahead =
-    record {
-      inside = inside;
-      node = i.node;
-      number = i.number;
-      left = i.left;
-      body = i.body;
-      low = low;
-      ahead = ahead;
-    }
+    record { inside = inside; node = i.node; number = i.number; left = i.left; body = i.body; low = low; ahead = ahead }
 
 -- the issued items and what was accepted fit together
 pub record Orderly (many : ℕ) (items : ℕ → List Item) (lasts counts heads : ℕ → ℕ) : Type 0 where

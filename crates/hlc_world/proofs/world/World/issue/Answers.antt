@@ -1,7 +1,7 @@
 -- The node issues the item, or refuses as is due, and the other nodes stay.
 use Rattle.std.proofs.Common.{refl}
 use Rattle.std.proofs.lemmas.Option.{slice_get_read}
-use Rattle.hlc_world.proofs.Nodes.{issues, issues_not, issuing-is}
+use Rattle.hlc_world.proofs.Nodes.{issues, issues_not}
 use Rattle.hlc_world.proofs.world.World.issue.Goals as goal
 use Rattle.hlc_world.proofs.world.World.issue.Goals.{in-Ok, in-Err}
 
@@ -10,10 +10,9 @@ returns-clause-stands c = λ s h.
     let h' = rw (← c.self.view_is) at h in
     let lent = c.in-Some.ensures.item in
     let at = slice_get_read c.self.inside.nodes.items _ c.args.node c.in-Some.issuer.now refl lent.3.0 lent.1 in
-    let is = issuing-is _ s c.args.node c.args.reading c.args.body in
     elim c.match-issue.branch [
-      | in-Ok w ↦ rw w.result-is (issues _ s _ c.args.node c.args.body c.args.reading c.in-Some.issuer.now
-          c.issue.new.self _ is h' lent.3.0 at w.in-Ok.ensures)
-      | in-Err w ↦ rw w.result-is (issues_not _ s _ c.args.node c.args.body c.args.reading c.in-Some.issuer.now
-          c.issue.new.self _ is h' lent.3.0 at w.in-Err.ensures)
+      | in-Ok w ↦ rw w.result-is (issues _ s c.args.node c.args.reading c.args.body c.in-Some.issuer.now
+          c.issue.new.self _ h' lent.3.0 at w.in-Ok.ensures)
+      | in-Err w ↦ rw w.result-is (issues_not _ s c.args.node c.args.reading c.args.body c.in-Some.issuer.now
+          c.issue.new.self _ h' lent.3.0 at w.in-Err.ensures)
     ]
