@@ -158,14 +158,42 @@ impl World {
             } => self.receive(node, reading, message),
             Event::Observe { node, reading, id } => self.observe(node, reading, id),
             Event::Deliver { node, number } => self.deliver(node, number),
-            Event::OpenAt { stamp } => self.open_at(stamp),
-            Event::OpenFloor => self.open_floor(),
-            Event::Read { id, key } => self.read(id, key),
-            Event::List { id } => self.list(id),
-            Event::Close { id } => self.close(id),
-            Event::Floor => self.floor(),
-            Event::Vacuum => self.vacuum(),
-            Event::Rows => self.rows(),
+            Event::OpenAt { stamp } => match self.core.open(stamp) {
+                Ok(id) => Reply::Snapshot { id, stamp },
+                Err(fault) => Reply::Refused(Refusal::from(fault)),
+            },
+            Event::OpenFloor => match self.core.open_floor() {
+                Ok((id, stamp)) => Reply::Snapshot { id, stamp },
+                Err(fault) => Reply::Refused(Refusal::from(fault)),
+            },
+            Event::Read { id, key } => match self.core.read(id, key.as_slice()) {
+                Err(_) => Reply::Refused(Refusal::NoSnapshot),
+                Ok(None) => Reply::Answer { value: None },
+                Ok(Some(bytes)) => match Vec::from_slice(self.alloc, bytes) {
+                    Ok(copy) => Reply::Answer {
+                        value: Some(Bytes::from_vec(copy)),
+                    },
+                    Err(_) => Reply::Refused(Refusal::NoMemory),
+                },
+            },
+            Event::List { id } => match self.core.list(id) {
+                Ok(pairs) => Reply::Listing { pairs },
+                Err(fault) => Reply::Refused(Refusal::from(fault)),
+            },
+            Event::Close { id } => match self.core.close(id) {
+                Ok(stamp) => Reply::Closed { stamp },
+                Err(_) => Reply::Refused(Refusal::NoSnapshot),
+            },
+            Event::Floor => Reply::Floor {
+                stamp: self.core.floor(),
+            },
+            Event::Vacuum => match self.core.vacuum() {
+                Ok(report) => Reply::Vacuumed { report },
+                Err(_) => Reply::Refused(Refusal::NoMemory),
+            },
+            Event::Rows => Reply::Rows {
+                count: self.core.rows(),
+            },
         }
     }
 
@@ -291,102 +319,6 @@ impl World {
         match accept(&mut self.core, item) {
             Ok(stamp) => Reply::Accepted { stamp },
             Err(fault) => Reply::Refused(Refusal::from(fault)),
-        }
-    }
-
-    fn open_at(&mut self, stamp: Stamp) -> Reply
-        ensures stands { (schedule : List (AnEvent × AReply)) → StandsFor self.old schedule
-            → StandsFor self.new ((Event.OpenAt stamp, result) ∷ schedule) }
-        ensures unchanged { IsRefused result → self.new ≡ self.old }
-        ensures nodes { world_nodes self.new ≡ world_nodes self.old }
-    {
-        match self.core.open(stamp) {
-            Ok(id) => Reply::Snapshot { id, stamp },
-            Err(fault) => Reply::Refused(Refusal::from(fault)),
-        }
-    }
-
-    fn open_floor(&mut self) -> Reply
-        ensures stands { (schedule : List (AnEvent × AReply)) → StandsFor self.old schedule
-            → StandsFor self.new ((Event.OpenFloor, result) ∷ schedule) }
-        ensures unchanged { IsRefused result → self.new ≡ self.old }
-        ensures nodes { world_nodes self.new ≡ world_nodes self.old }
-    {
-        match self.core.open_floor() {
-            Ok((id, stamp)) => Reply::Snapshot { id, stamp },
-            Err(fault) => Reply::Refused(Refusal::from(fault)),
-        }
-    }
-
-    fn read(&mut self, id: u64, key: Bytes) -> Reply
-        ensures stands { (schedule : List (AnEvent × AReply)) → StandsFor self.old schedule
-            → StandsFor self.new ((Event.Read id key, result) ∷ schedule) }
-        ensures unchanged { self.new ≡ self.old }
-    {
-        match self.core.read(id, key.as_slice()) {
-            Err(_) => Reply::Refused(Refusal::NoSnapshot),
-            Ok(None) => Reply::Answer { value: None },
-            Ok(Some(bytes)) => match Vec::from_slice(self.alloc, bytes) {
-                Ok(copy) => Reply::Answer {
-                    value: Some(Bytes::from_vec(copy)),
-                },
-                Err(_) => Reply::Refused(Refusal::NoMemory),
-            },
-        }
-    }
-
-    fn list(&mut self, id: u64) -> Reply
-        ensures stands { (schedule : List (AnEvent × AReply)) → StandsFor self.old schedule
-            → StandsFor self.new ((Event.List id, result) ∷ schedule) }
-        ensures unchanged { self.new ≡ self.old }
-    {
-        match self.core.list(id) {
-            Ok(pairs) => Reply::Listing { pairs },
-            Err(fault) => Reply::Refused(Refusal::from(fault)),
-        }
-    }
-
-    fn close(&mut self, id: u64) -> Reply
-        ensures stands { (schedule : List (AnEvent × AReply)) → StandsFor self.old schedule
-            → StandsFor self.new ((Event.Close id, result) ∷ schedule) }
-        ensures unchanged { IsRefused result → self.new ≡ self.old }
-        ensures nodes { world_nodes self.new ≡ world_nodes self.old }
-    {
-        let Ok(stamp) = self.core.close(id) else {
-            return Reply::Refused(Refusal::NoSnapshot);
-        };
-        Reply::Closed { stamp }
-    }
-
-    fn floor(&mut self) -> Reply
-        ensures stands { (schedule : List (AnEvent × AReply)) → StandsFor self.old schedule
-            → StandsFor self.new ((Event.Floor, result) ∷ schedule) }
-        ensures unchanged { self.new ≡ self.old }
-    {
-        Reply::Floor {
-            stamp: self.core.floor(),
-        }
-    }
-
-    fn vacuum(&mut self) -> Reply
-        ensures stands { (schedule : List (AnEvent × AReply)) → StandsFor self.old schedule
-            → StandsFor self.new ((Event.Vacuum, result) ∷ schedule) }
-        ensures unchanged { IsRefused result → self.new ≡ self.old }
-        ensures nodes { world_nodes self.new ≡ world_nodes self.old }
-    {
-        match self.core.vacuum() {
-            Ok(report) => Reply::Vacuumed { report },
-            Err(_) => Reply::Refused(Refusal::NoMemory),
-        }
-    }
-
-    fn rows(&mut self) -> Reply
-        ensures stands { (schedule : List (AnEvent × AReply)) → StandsFor self.old schedule
-            → StandsFor self.new ((Event.Rows, result) ∷ schedule) }
-        ensures unchanged { self.new ≡ self.old }
-    {
-        Reply::Rows {
-            count: self.core.rows(),
         }
     }
 }
