@@ -44,93 +44,58 @@ take_more : (v : Hand) (x : Parcel) → v.end_taken ≡ false
 take_more v (parcel.Item i) e = item_more v.taken i v.end_taken e
 take_more v parcel.End e = end_more v.taken v.end_taken e
 
--- the two views know the same of what was put, or of what was taken
-abbrev SamePut : Hand → Hand → Type 0
-SamePut v w = (w.puts ≡ v.puts) × (w.put ≡ v.put) × (w.end_put ≡ v.end_put)
+-- whether a pass may put, or take, and the parcels that it knows to be put, or taken
+abbrev may_put : Hand → Bool
+may_put v = v.puts
 
-abbrev SameTaken : Hand → Hand → Type 0
-SameTaken v w = (w.takes ≡ v.takes) × (w.taken ≡ v.taken) × (w.end_taken ≡ v.end_taken)
+abbrev may_take : Hand → Bool
+may_take v = v.takes
 
-put_same : (v : Hand) (x : Parcel) → ((after_put v x).puts ≡ v.puts) × SameTaken v (after_put v x)
-put_same v (parcel.Item i) = (refl, (refl, refl, refl))
-put_same v parcel.End = (refl, (refl, refl, refl))
+abbrev put_by : Hand → List Parcel
+put_by v = stream v.put v.end_put
 
-take_same : (v : Hand) (x : Parcel) → ((after_take v x).takes ≡ v.takes) × SamePut v (after_take v x)
-take_same v (parcel.Item i) = (refl, (refl, refl, refl))
-take_same v parcel.End = (refl, (refl, refl, refl))
+abbrev taken_by : Hand → List Parcel
+taken_by v = stream v.taken v.end_taken
 
--- after one view changed, a sender was one before
-sender_was : (views : List Hand) (seat : ℕ) (v w : Hand) (s : ℕ) (a : Hand)
-    → get_elem? views seat ≡ some v → w.puts ≡ v.puts
-    → IsSender (set views seat w) s a → (b : Hand) × IsSender views s b
-sender_was views seat v w s a at same is =
+-- the seat s may do this, and has the view v
+abbrev May : (Hand → Bool) → List Hand → ℕ → Hand → Type 0
+May can views s v = (get_elem? views s ≡ some v) × (can v ≡ true)
+
+put_same : (v : Hand) (x : Parcel)
+    → (may_put (after_put v x) ≡ may_put v) × (may_take (after_put v x) ≡ may_take v)
+    × (taken_by (after_put v x) ≡ taken_by v)
+put_same v (parcel.Item i) = (refl, refl, refl)
+put_same v parcel.End = (refl, refl, refl)
+
+take_same : (v : Hand) (x : Parcel)
+    → (may_put (after_take v x) ≡ may_put v) × (may_take (after_take v x) ≡ may_take v)
+    × (put_by (after_take v x) ≡ put_by v)
+take_same v (parcel.Item i) = (refl, refl, refl)
+take_same v parcel.End = (refl, refl, refl)
+
+-- after one view changed, a seat that may do this might before; where the change left what is known, it knew the same
+kept : (can : Hand → Bool) (known : Hand → List Parcel) (views : List Hand) (seat : ℕ) (v w : Hand) (s : ℕ) (a : Hand)
+    → get_elem? views seat ≡ some v → can w ≡ can v → known w ≡ known v
+    → May can (set views seat w) s a
+    → (b : Hand) × May can views s b × (known a ≡ known b)
+kept can known views seat v w s a at may knows is =
     ⊎_elim
     (λ (t : (s ≡ seat) × (w ≡ a)). (
       v,
-      (subst (λ (j : ℕ). get_elem? views j ≡ some v) (sym t.0) at, sym same ∙ ap (λ (u : Hand). u.puts) t.1 ∙ is.1),
-    ))
-    (λ (t : (s ≢ seat) × (get_elem? views s ≡ some a)). (a, (t.1, is.1)))
-    (at_set views seat s w a is.0)
-
--- and a receiver was one before
-receiver_was : (views : List Hand) (seat : ℕ) (v w : Hand) (r : ℕ) (a : Hand) → get_elem? views seat ≡ some v
-    → w.takes ≡ v.takes
-    → IsReceiver (set views seat w) r a → (b : Hand) × IsReceiver views r b
-receiver_was views seat v w r a at same is =
-    ⊎_elim
-    (λ (t : (r ≡ seat) × (w ≡ a)). (
-      v,
-      (subst (λ (j : ℕ). get_elem? views j ≡ some v) (sym t.0) at, sym same ∙ ap (λ (u : Hand). u.takes) t.1 ∙ is.1),
-    ))
-    (λ (t : (r ≢ seat) × (get_elem? views r ≡ some a)). (a, (t.1, is.1)))
-    (at_set views seat r w a is.0)
-
--- so where there was one of either at most, there is
-one_sender : (views : List Hand) (seat : ℕ) (v w : Hand) → get_elem? views seat ≡ some v → w.puts ≡ v.puts
-    → ((s t : ℕ) (a b : Hand) → IsSender views s a → IsSender views t b → s ≡ t)
-    → (s t : ℕ) (a b : Hand) → IsSender (set views seat w) s a → IsSender (set views seat w) t b → s ≡ t
-one_sender views seat v w at same one s t a b p q =
-    let p' = sender_was views seat v w s a at same p in
-    let q' = sender_was views seat v w t b at same q in
-    one s t p'.0 q'.0 p'.1 q'.1
-
-one_receiver : (views : List Hand) (seat : ℕ) (v w : Hand) → get_elem? views seat ≡ some v → w.takes ≡ v.takes
-    → ((r t : ℕ) (a b : Hand) → IsReceiver views r a → IsReceiver views t b → r ≡ t)
-    → (r t : ℕ) (a b : Hand) → IsReceiver (set views seat w) r a → IsReceiver (set views seat w) t b → r ≡ t
-one_receiver views seat v w at same one r t a b p q =
-    let p' = receiver_was views seat v w r a at same p in
-    let q' = receiver_was views seat v w t b at same q in
-    one r t p'.0 q'.0 p'.1 q'.1
-
--- and where the change left what was put, it had put the same
-sender_kept : (views : List Hand) (seat : ℕ) (v w : Hand) (s : ℕ) (a : Hand)
-    → get_elem? views seat ≡ some v → SamePut v w
-    → IsSender (set views seat w) s a
-    → (b : Hand) × IsSender views s b × (stream a.put a.end_put ≡ stream b.put b.end_put)
-sender_kept views seat v w s a at same is =
-    ⊎_elim
-    (λ (t : (s ≡ seat) × (w ≡ a)). (
-      v,
-      (subst (λ (j : ℕ). get_elem? views j ≡ some v) (sym t.0) at, sym same.0 ∙ ap (λ (u : Hand). u.puts) t.1 ∙ is.1),
-      ap (λ (u : Hand). stream u.put u.end_put) (sym t.1) ∙ (λ i. stream (same.1 i) (same.2 i)),
+      (subst (λ (j : ℕ). get_elem? views j ≡ some v) (sym t.0) at, sym may ∙ ap can t.1 ∙ is.1),
+      ap known (sym t.1) ∙ knows,
     ))
     (λ (t : (s ≢ seat) × (get_elem? views s ≡ some a)). (a, (t.1, is.1), refl))
     (at_set views seat s w a is.0)
 
--- and where the change left what was taken, it had taken the same
-receiver_kept : (views : List Hand) (seat : ℕ) (v w : Hand) (r : ℕ) (a : Hand)
-    → get_elem? views seat ≡ some v → SameTaken v w
-    → IsReceiver (set views seat w) r a
-    → (b : Hand) × IsReceiver views r b × (stream a.taken a.end_taken ≡ stream b.taken b.end_taken)
-receiver_kept views seat v w r a at same is =
-    ⊎_elim
-    (λ (t : (r ≡ seat) × (w ≡ a)). (
-      v,
-      (subst (λ (j : ℕ). get_elem? views j ≡ some v) (sym t.0) at, sym same.0 ∙ ap (λ (u : Hand). u.takes) t.1 ∙ is.1),
-      ap (λ (u : Hand). stream u.taken u.end_taken) (sym t.1) ∙ (λ i. stream (same.1 i) (same.2 i)),
-    ))
-    (λ (t : (r ≢ seat) × (get_elem? views r ≡ some a)). (a, (t.1, is.1), refl))
-    (at_set views seat r w a is.0)
+-- so where there was one at most, there is
+one : (can : Hand → Bool) (views : List Hand) (seat : ℕ) (v w : Hand) → get_elem? views seat ≡ some v → can w ≡ can v
+    → ((s t : ℕ) (a b : Hand) → May can views s a → May can views t b → s ≡ t)
+    → (s t : ℕ) (a b : Hand) → May can (set views seat w) s a → May can (set views seat w) t b → s ≡ t
+one can views seat v w at may was s t a b p q =
+    let p' = kept can (λ u. []) views seat v w s a at may refl p in
+    let q' = kept can (λ u. []) views seat v w t b at may refl q in
+    was s t p'.0 q'.0 p'.1 q'.1
 
 -- the view that was set
 set_is : (views : List Hand) (seat : ℕ) (w : Hand) (s : ℕ) (a : Hand) → s ≡ seat
@@ -149,18 +114,18 @@ puts n seat v x may going items views room h at =
     let same = put_same v x in (
       w,
       (
-        one_sender views seat v w at same.0 h.0,
-        one_receiver views seat v w at same.1.0 h.1,
+        one may_put views seat v w at same.0 h.0,
+        one may_take views seat v w at same.1 h.1,
         (λ s r a b p q.
-            let p' = sender_was views seat v w s a at same.0 p in
+            let p' = kept may_put taken_by views seat v w s a at same.0 same.2 p in
             let here : s ≡ seat = h.0 s seat p'.0 v p'.1 (at, may) in
             let is : w ≡ a = set_is views seat w s a here p.0 in
-            let q' = receiver_kept views seat v w r b at same.1 q in
-            let taken : List Parcel = stream q'.0.taken q'.0.end_taken in
-            let old : stream v.put v.end_put ≡ taken ++ items =
+            let q' = kept may_take taken_by views seat v w r b at same.1 same.2 q in
+            let taken : List Parcel = taken_by q'.0 in
+            let old : put_by v ≡ taken ++ items =
             as_stream items v q'.0 (h.2 seat r v q'.0 (at, may) q'.1) in
             by_stream (items ++ x ∷ []) a b
-            (ap (λ (u : Hand). stream u.put u.end_put) (sym is)
+            (ap put_by (sym is)
             ∙ put_more v x going
             ∙ ap (λ (l : List Parcel). l ++ x ∷ []) old
             ∙ append_assoc taken items (x ∷ [])
@@ -177,22 +142,22 @@ takes seat v may going x items views h at =
     let same = take_same v x in (
       w,
       (
-        one_sender views seat v w at same.1.0 h.0,
-        one_receiver views seat v w at same.0 h.1,
+        one may_put views seat v w at same.0 h.0,
+        one may_take views seat v w at same.1 h.1,
         (λ s r a b p q.
-            let q' = receiver_was views seat v w r b at same.0 q in
+            let q' = kept may_take put_by views seat v w r b at same.1 same.2 q in
             let here : r ≡ seat = h.1 r seat q'.0 v q'.1 (at, may) in
             let is : w ≡ b = set_is views seat w r b here q.0 in
-            let p' = sender_kept views seat v w s a at same.1 p in
-            let put : List Parcel = stream p'.0.put p'.0.end_put in
-            let taken : List Parcel = stream v.taken v.end_taken in
+            let p' = kept may_put put_by views seat v w s a at same.0 same.2 p in
+            let put : List Parcel = put_by p'.0 in
+            let taken : List Parcel = taken_by v in
             let old : put ≡ taken ++ (x ∷ items) = as_stream (x ∷ items) p'.0 v (h.2 s seat p'.0 v p'.1 (at, may)) in
             by_stream items a b
             (p'.2
             ∙ old
             ∙ sym (append_assoc taken (x ∷ []) items)
             ∙ ap (λ (l : List Parcel). l ++ items) (sym (take_more v x going))
-            ∙ ap (λ (u : Hand). stream u.taken u.end_taken ++ items) is)),
+            ∙ ap (λ (u : Hand). taken_by u ++ items) is)),
       ),
       refl,
     )
@@ -214,11 +179,11 @@ cuts seat v may can items views h at =
     let old_sender : (s : ℕ) (a : Hand) → IsSender (vs ++ r ∷ []) s a → IsSender vs s a =
     λ s a p. ⊎_elim
     (λ (t : get_elem? vs s ≡ some a). (t, p.1))
-    (λ (t : r ≡ a). absurd (off (ap (λ (u : Hand). u.puts) t ∙ p.1)))
+    (λ (t : r ≡ a). absurd (off (ap may_put t ∙ p.1)))
     (at_snoc vs r a s p.0) in
     let no_receiver : (j : ℕ) (a : Hand) → get_elem? vs j ≡ some a → a.takes ≡ true → ⊥ =
     λ j a e c. ⊎_elim
-    (λ (t : (j ≡ seat) × (l ≡ a)). off (ap (λ (u : Hand). u.takes) t.1 ∙ c))
+    (λ (t : (j ≡ seat) × (l ≡ a)). off (ap may_take t.1 ∙ c))
     (λ (t : (j ≢ seat) × (get_elem? views j ≡ some a)). t.0 (h.1 j seat a v (t.1, c) (at, can)))
     (at_set views seat j l a e) in
     let receiver_is : (j : ℕ) (a : Hand) → IsReceiver (vs ++ r ∷ []) j a → r ≡ a =
@@ -226,24 +191,24 @@ cuts seat v may can items views h at =
     (at_snoc vs r a j p.0) in
     let receiver_at : (j : ℕ) (a : Hand) → IsReceiver (vs ++ r ∷ []) j a → j ≡ length vs =
     λ j a p. at_end vs r a j (λ e. no_receiver j a e p.1) p.0 in (
-      (λ s t a b p q. one_sender views seat v l at refl h.0 s t a b (old_sender s a p) (old_sender t b q)),
+      (λ s t a b p q. one may_put views seat v l at refl h.0 s t a b (old_sender s a p) (old_sender t b q)),
       (λ j t a b p q. receiver_at j a p ∙ sym (receiver_at t b q)),
       (λ s j a b p q.
-          let p' = sender_kept views seat v l s a at (refl, refl, refl) (old_sender s a p) in
+          let p' = kept may_put put_by views seat v l s a at refl refl (old_sender s a p) in
           by_stream items a b
           (p'.2
           ∙ as_stream items p'.0 v (h.2 s seat p'.0 v p'.1 (at, can))
-          ∙ ap (λ (u : Hand). stream u.taken u.end_taken ++ items) (receiver_is j b q))),
+          ∙ ap (λ (u : Hand). taken_by u ++ items) (receiver_is j b q))),
     )
 
 -- the steps, at a view that is known
 pub puts_as : (n seat : ℕ) (v : Hand) (x : Parcel) (items : List Item) → v ≡ sender items
     → Pushes IsInOrder n seat v x (λ w. w ≡ after_put v x)
-puts_as n seat v x items is = puts n seat v x (ap (λ (u : Hand). u.puts) is) (ap (λ (u : Hand). u.end_put) is)
+puts_as n seat v x items is = puts n seat v x (ap may_put is) (ap (λ (u : Hand). u.end_put) is)
 
 pub takes_as : (seat : ℕ) (v : Hand) (items : List Item) → v ≡ receiver items false
     → Pops IsInOrder seat v (λ x w. w ≡ after_take v x)
-takes_as seat v items is = takes seat v (ap (λ (u : Hand). u.takes) is) (ap (λ (u : Hand). u.end_taken) is)
+takes_as seat v items is = takes seat v (ap may_take is) (ap (λ (u : Hand). u.end_taken) is)
 
 pub cuts_as : (seat : ℕ) (v : Hand) → v ≡ both → Forks IsInOrder seat v (sender_of v) (receiver_of v)
-cuts_as seat v is = cuts seat v (ap (λ (u : Hand). u.puts) is) (ap (λ (u : Hand). u.takes) is)
+cuts_as seat v is = cuts seat v (ap may_put is) (ap may_take is)
