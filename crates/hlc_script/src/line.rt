@@ -1,5 +1,5 @@
 //! The lines of events, read without memory.
-ghost use Rattle.std.specs.Prelude.{◌≡◌, ◌<◌, ◌^◌, ◌∷◌, [], codes, decimal, IfOk, OnErr};
+ghost use Rattle.std.specs.Prelude.{◌≡◌, ◌≢◌, ◌<◌, ◌^◌, ◌∷◌, [], codes, decimal, ℕ, List, IfOk, MatchOption, OnErr};
 ghost use Rattle.hlc_text.specs.Text.{Reads, bytes_token, AreBytes};
 ghost use Rattle.hlc_script.specs.Line.{event_words, event_line, HasLine, BearsBytes};
 
@@ -76,141 +76,82 @@ fn event_of_words<'a>(words: &mut Words<'a>) -> Option<Event<Spelled<'a>>>
 {
     let verb = words.next()?;
     if verb == b"write".as_slice() {
-        return write_line(words);
+        let (node, reading, key, value) = node_number_pair(words)?;
+        return Some(Event::Write {
+            node,
+            reading,
+            key,
+            value,
+        });
     }
     if verb == b"delete".as_slice() {
-        return delete_line(words);
+        let (node, reading, key) = node_number_key(words)?;
+        return Some(Event::Delete { node, reading, key });
     }
     if verb == b"report".as_slice() {
-        return report_line(words);
+        let (node, reading) = node_number(words)?;
+        return Some(Event::Report { node, reading });
     }
     if verb == b"retire".as_slice() {
-        return retire_line(words);
+        let (node, reading) = node_number(words)?;
+        return Some(Event::Retire { node, reading });
     }
     if verb == b"join".as_slice() {
-        return join_line(words);
+        no_more(words)?;
+        return Some(Event::Join);
     }
     if verb == b"send".as_slice() {
-        return send_line(words);
+        let (node, reading) = node_number(words)?;
+        return Some(Event::Send { node, reading });
     }
     if verb == b"receive".as_slice() {
-        return receive_line(words);
+        let (node, reading, message) = node_two_numbers(words)?;
+        return Some(Event::Receive {
+            node,
+            reading,
+            message,
+        });
     }
     if verb == b"observe".as_slice() {
-        return observe_line(words);
+        let (node, reading, id) = node_two_numbers(words)?;
+        return Some(Event::Observe { node, reading, id });
     }
     if verb == b"deliver".as_slice() {
-        return deliver_line(words);
+        let (node, number) = node_number(words)?;
+        return Some(Event::Deliver { node, number });
     }
     if verb == b"open".as_slice() {
-        return open_line(words);
+        return opening(words);
     }
     if verb == b"read".as_slice() {
-        return read_verb_line(words);
+        let (id, key) = number_key(words)?;
+        return Some(Event::Read { id, key });
     }
     if verb == b"list".as_slice() {
-        return list_line(words);
+        let id = one_number(words)?;
+        return Some(Event::List { id });
     }
     if verb == b"close".as_slice() {
-        return close_line(words);
+        let id = one_number(words)?;
+        return Some(Event::Close { id });
     }
     if verb == b"floor".as_slice() {
-        return floor_line(words);
+        no_more(words)?;
+        return Some(Event::Floor);
     }
     if verb == b"vacuum".as_slice() {
-        return vacuum_line(words);
+        no_more(words)?;
+        return Some(Event::Vacuum);
     }
     if verb == b"rows".as_slice() {
-        return rows_line(words);
+        no_more(words)?;
+        return Some(Event::Rows);
     }
     None
 }
 
-/// The event of the words behind `write`.
-fn write_line<'a>(words: &mut Words<'a>) -> Option<Event<Spelled<'a>>>
-    ensures { Reads event_words HasLine (codes "write" ∷ words.old) result }
-{
-    let (node, reading, key, value) = node_number_pair(words)?;
-    Some(Event::Write {
-        node,
-        reading,
-        key,
-        value,
-    })
-}
-
-/// The event of the words behind `delete`.
-fn delete_line<'a>(words: &mut Words<'a>) -> Option<Event<Spelled<'a>>>
-    ensures { Reads event_words HasLine (codes "delete" ∷ words.old) result }
-{
-    let (node, reading, key) = node_number_key(words)?;
-    Some(Event::Delete { node, reading, key })
-}
-
-/// The event of the words behind `report`.
-fn report_line<'a>(words: &mut Words<'a>) -> Option<Event<Spelled<'a>>>
-    ensures { Reads event_words HasLine (codes "report" ∷ words.old) result }
-{
-    let (node, reading) = node_number(words)?;
-    Some(Event::Report { node, reading })
-}
-
-/// The event of the words behind `retire`.
-fn retire_line<'a>(words: &mut Words<'a>) -> Option<Event<Spelled<'a>>>
-    ensures { Reads event_words HasLine (codes "retire" ∷ words.old) result }
-{
-    let (node, reading) = node_number(words)?;
-    Some(Event::Retire { node, reading })
-}
-
-/// The event of the words behind `join`, where none stands.
-fn join_line<'a>(words: &mut Words<'a>) -> Option<Event<Spelled<'a>>>
-    ensures { Reads event_words HasLine (codes "join" ∷ words.old) result }
-{
-    if words.next().is_some() {
-        return None;
-    }
-    Some(Event::Join)
-}
-
-/// The event of the words behind `send`.
-fn send_line<'a>(words: &mut Words<'a>) -> Option<Event<Spelled<'a>>>
-    ensures { Reads event_words HasLine (codes "send" ∷ words.old) result }
-{
-    let (node, reading) = node_number(words)?;
-    Some(Event::Send { node, reading })
-}
-
-/// The event of the words behind `receive`.
-fn receive_line<'a>(words: &mut Words<'a>) -> Option<Event<Spelled<'a>>>
-    ensures { Reads event_words HasLine (codes "receive" ∷ words.old) result }
-{
-    let (node, reading, message) = node_two_numbers(words)?;
-    Some(Event::Receive {
-        node,
-        reading,
-        message,
-    })
-}
-
-/// The event of the words behind `observe`.
-fn observe_line<'a>(words: &mut Words<'a>) -> Option<Event<Spelled<'a>>>
-    ensures { Reads event_words HasLine (codes "observe" ∷ words.old) result }
-{
-    let (node, reading, id) = node_two_numbers(words)?;
-    Some(Event::Observe { node, reading, id })
-}
-
-/// The event of the words behind `deliver`.
-fn deliver_line<'a>(words: &mut Words<'a>) -> Option<Event<Spelled<'a>>>
-    ensures { Reads event_words HasLine (codes "deliver" ∷ words.old) result }
-{
-    let (node, number) = node_number(words)?;
-    Some(Event::Deliver { node, number })
-}
-
 /// The event of the words behind `open`.
-fn open_line<'a>(words: &mut Words<'a>) -> Option<Event<Spelled<'a>>>
+fn opening<'a>(words: &mut Words<'a>) -> Option<Event<Spelled<'a>>>
     ensures { Reads event_words HasLine (codes "open" ∷ words.old) result }
 {
     let word = words.last()?;
@@ -221,61 +162,17 @@ fn open_line<'a>(words: &mut Words<'a>) -> Option<Event<Spelled<'a>>>
     Some(Event::OpenAt { stamp })
 }
 
-/// The event of the words behind `read`.
-fn read_verb_line<'a>(words: &mut Words<'a>) -> Option<Event<Spelled<'a>>>
-    ensures { Reads event_words HasLine (codes "read" ∷ words.old) result }
-{
-    let (id, key) = number_key(words)?;
-    Some(Event::Read { id, key })
-}
-
-/// The event of the words behind `list`.
-fn list_line<'a>(words: &mut Words<'a>) -> Option<Event<Spelled<'a>>>
-    ensures { Reads event_words HasLine (codes "list" ∷ words.old) result }
-{
-    let id = one_number(words)?;
-    Some(Event::List { id })
-}
-
-/// The event of the words behind `close`.
-fn close_line<'a>(words: &mut Words<'a>) -> Option<Event<Spelled<'a>>>
-    ensures { Reads event_words HasLine (codes "close" ∷ words.old) result }
-{
-    let id = one_number(words)?;
-    Some(Event::Close { id })
-}
-
-/// The event of the words behind `floor`, where none stands.
-fn floor_line<'a>(words: &mut Words<'a>) -> Option<Event<Spelled<'a>>>
-    ensures { Reads event_words HasLine (codes "floor" ∷ words.old) result }
-{
-    if words.next().is_some() {
-        return None;
-    }
-    Some(Event::Floor)
-}
-
-/// The event of the words behind `vacuum`, where none stands.
-fn vacuum_line<'a>(words: &mut Words<'a>) -> Option<Event<Spelled<'a>>>
-    ensures { Reads event_words HasLine (codes "vacuum" ∷ words.old) result }
-{
-    if words.next().is_some() {
-        return None;
-    }
-    Some(Event::Vacuum)
-}
-
-/// The event of the words behind `rows`, where none stands.
-fn rows_line<'a>(words: &mut Words<'a>) -> Option<Event<Spelled<'a>>>
-    ensures { Reads event_words HasLine (codes "rows" ∷ words.old) result }
-{
-    if words.next().is_some() {
-        return None;
-    }
-    Some(Event::Rows)
-}
-
 // The shapes of what stands behind a verb.
+
+/// Nothing.
+fn no_more(words: &mut Words<'_>) -> Option<()>
+    ensures { MatchOption result (words.old ≢ []) (λ _. words.old ≡ []) }
+{
+    match words.next() {
+        Some(_) => None,
+        None => Some(()),
+    }
+}
 
 /// A number.
 fn one_number(words: &mut Words<'_>) -> Option<u64>
@@ -286,8 +183,9 @@ fn one_number(words: &mut Words<'_>) -> Option<u64>
 
 /// A node and a number.
 fn node_number(words: &mut Words<'_>) -> Option<(u16, u64)>
-    ensures { Reads (λ x. decimal x.0 ∷ decimal x.1 ∷ []) (λ x. (x.0 < 2 ^ 16) × (x.1 < 2 ^ 64))
-        words.old result }
+    ensures { MatchOption result
+        ((m n : ℕ) → m < 2 ^ 16 → n < 2 ^ 64 → words.old ≢ decimal m ∷ decimal n ∷ [])
+        (λ x. (x.0 < 2 ^ 16) × (x.1 < 2 ^ 64) × (words.old ≡ decimal x.0 ∷ decimal x.1 ∷ [])) }
 {
     let first = words.next()?;
     let second = words.last()?;
@@ -298,8 +196,11 @@ fn node_number(words: &mut Words<'_>) -> Option<(u16, u64)>
 
 /// A node and two numbers.
 fn node_two_numbers(words: &mut Words<'_>) -> Option<(u16, u64, u64)>
-    ensures { Reads (λ x. decimal x.0 ∷ decimal x.1 ∷ decimal x.2 ∷ [])
-        (λ x. (x.0 < 2 ^ 16) × (x.1 < 2 ^ 64) × (x.2 < 2 ^ 64)) words.old result }
+    ensures { MatchOption result
+        ((m n k : ℕ) → m < 2 ^ 16 → n < 2 ^ 64 → k < 2 ^ 64
+        → words.old ≢ decimal m ∷ decimal n ∷ decimal k ∷ [])
+        (λ x. (x.0 < 2 ^ 16) × (x.1 < 2 ^ 64) × (x.2 < 2 ^ 64)
+        × (words.old ≡ decimal x.0 ∷ decimal x.1 ∷ decimal x.2 ∷ [])) }
 {
     let first = words.next()?;
     let second = words.next()?;
@@ -312,8 +213,11 @@ fn node_two_numbers(words: &mut Words<'_>) -> Option<(u16, u64, u64)>
 
 /// A node, a number and a key.
 fn node_number_key<'a>(words: &mut Words<'a>) -> Option<(u16, u64, Spelled<'a>)>
-    ensures { Reads (λ x. decimal x.0 ∷ decimal x.1 ∷ bytes_token x.2 ∷ [])
-        (λ x. (x.0 < 2 ^ 16) × (x.1 < 2 ^ 64) × AreBytes x.2) words.old result }
+    ensures { MatchOption result
+        ((m n : ℕ) (key : List ℕ) → m < 2 ^ 16 → n < 2 ^ 64 → AreBytes key
+        → words.old ≢ decimal m ∷ decimal n ∷ bytes_token key ∷ [])
+        (λ x. (x.0 < 2 ^ 16) × (x.1 < 2 ^ 64) × AreBytes x.2
+        × (words.old ≡ decimal x.0 ∷ decimal x.1 ∷ bytes_token x.2 ∷ [])) }
 {
     let first = words.next()?;
     let second = words.next()?;
@@ -326,8 +230,11 @@ fn node_number_key<'a>(words: &mut Words<'a>) -> Option<(u16, u64, Spelled<'a>)>
 
 /// A node, a number, a key and a value.
 fn node_number_pair<'a>(words: &mut Words<'a>) -> Option<(u16, u64, Spelled<'a>, Spelled<'a>)>
-    ensures { Reads (λ x. decimal x.0 ∷ decimal x.1 ∷ bytes_token x.2 ∷ bytes_token x.3 ∷ [])
-        (λ x. (x.0 < 2 ^ 16) × (x.1 < 2 ^ 64) × AreBytes x.2 × AreBytes x.3) words.old result }
+    ensures { MatchOption result
+        ((m n : ℕ) (key value : List ℕ) → m < 2 ^ 16 → n < 2 ^ 64 → AreBytes key → AreBytes value
+        → words.old ≢ decimal m ∷ decimal n ∷ bytes_token key ∷ bytes_token value ∷ [])
+        (λ x. (x.0 < 2 ^ 16) × (x.1 < 2 ^ 64) × AreBytes x.2 × AreBytes x.3
+        × (words.old ≡ decimal x.0 ∷ decimal x.1 ∷ bytes_token x.2 ∷ bytes_token x.3 ∷ [])) }
 {
     let first = words.next()?;
     let second = words.next()?;
@@ -342,8 +249,10 @@ fn node_number_pair<'a>(words: &mut Words<'a>) -> Option<(u16, u64, Spelled<'a>,
 
 /// A number and a key.
 fn number_key<'a>(words: &mut Words<'a>) -> Option<(u64, Spelled<'a>)>
-    ensures { Reads (λ x. decimal x.0 ∷ bytes_token x.1 ∷ []) (λ x. (x.0 < 2 ^ 64) × AreBytes x.1)
-        words.old result }
+    ensures { MatchOption result
+        ((n : ℕ) (key : List ℕ) → n < 2 ^ 64 → AreBytes key
+        → words.old ≢ decimal n ∷ bytes_token key ∷ [])
+        (λ x. (x.0 < 2 ^ 64) × AreBytes x.1 × (words.old ≡ decimal x.0 ∷ bytes_token x.1 ∷ [])) }
 {
     let first = words.next()?;
     let second = words.last()?;

@@ -1,6 +1,0 @@
--- Where the words behind `report` do not fit, no event has the words.
-use Rattle.hlc_script.proofs.Lines.{no_report}
-use Rattle.hlc_script.proofs.line.report_line.Goals as goal
-
-pub returns-in_err-node : goal.returns-in_err-node
-returns-in_err-node c = rw c.from_residual.ensures (no_report c.args.words.now c.in_err-node.ensures)
