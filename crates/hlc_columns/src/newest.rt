@@ -1,6 +1,7 @@
 //! The place of the newest of some stamps and nodes, which stand side by side.
 ghost use Rattle.std.specs.Prelude.{◌≡◌, ◌↔◌, ◌≤◌, ◌<◌, ◌⊎◌, ℕ, IsTrue, Some, IfSome, MatchOption, length, slice_index};
 ghost use Rattle.std.specs.Prelude.{take, count_by, nat_le, false};
+ghost use Rattle.std.specs.List.Sorted.{IsPartitionPoint};
 ghost use Rattle.hlc_columns.specs.Newest.{NotAbove, IsNewestBelow, IsGreatestAt};
 ghost use Rattle.hlc_columns.specs.Order.{IsIndex};
 
@@ -95,32 +96,8 @@ fn is_above(stamps: &[u64], first: Option<usize>, stamp: u64) -> bool
     }
 }
 
-/// The same, by the kernels: the stamp, its greatest node, and their first place.
-fn newest_of_many(
-    stamps: &[u64],
-    nodes: &[u16],
-    from: usize,
-    bound: u64,
-    first: Option<usize>,
-) -> Option<usize>
-    requires beside { length nodes.now ≡ length stamps.now }
-    requires from { from ≤ length stamps.now }
-    requires first { IsNewestBelow stamps.now nodes.now bound from first }
-    ensures { IsNewestBelow stamps.now nodes.now bound (length stamps.now) result }
-{
-    let Some(stamp) = newest_at(&stamps[from..], bound) else {
-        return first;
-    };
-    if is_above(stamps, first, stamp) {
-        return first;
-    }
-    let Some(place) = greatest_place(&stamps[from..], &nodes[from..], stamp) else {
-        return first;
-    };
-    Some(newer(stamps, nodes, first, from + place))
-}
-
-/// The newest of all rows, where the first is that of those before a place.
+/// The newest of all rows, where the first is that of those before a place. Of many rows it is found by
+/// the kernels: the stamp, its greatest node, and their first place.
 pub(crate) fn newest_from(
     stamps: &[u64],
     nodes: &[u16],
@@ -134,13 +111,21 @@ pub(crate) fn newest_from(
     ensures { IsNewestBelow stamps.now nodes.now bound (length stamps.now) result }
 {
     if stamps.len() - from < FEW {
-        newest_of_few(stamps, nodes, from, bound, first)
-    } else {
-        newest_of_many(stamps, nodes, from, bound, first)
+        return newest_of_few(stamps, nodes, from, bound, first);
     }
+    let Some(stamp) = newest_at(&stamps[from..], bound) else {
+        return first;
+    };
+    if is_above(stamps, first, stamp) {
+        return first;
+    }
+    let Some(place) = greatest_place(&stamps[from..], &nodes[from..], stamp) else {
+        return first;
+    };
+    Some(newer(stamps, nodes, first, from + place))
 }
 
-/// The newest of the rows that an index has, by binary search.
+/// The newest of the rows that an index has.
 pub(crate) fn newest_indexed(
     stamps: &[u64],
     nodes: &[u16],
@@ -150,7 +135,7 @@ pub(crate) fn newest_indexed(
     requires { IsIndex stamps.now nodes.now order.now }
     ensures { IsNewestBelow stamps.now nodes.now bound (length order.now) result }
 {
-    let count = order.partition_point(|place| stamp_at(stamps, *place as usize) <= bound);
+    let count = count_indexed(stamps, nodes, order, bound);
     if count == 0 {
         return None;
     }
@@ -160,6 +145,8 @@ pub(crate) fn newest_indexed(
 /// How many of the rows that an index has are at or below the bound, by binary search.
 pub(crate) fn count_indexed(stamps: &[u64], nodes: &[u16], order: &[u32], bound: u64) -> usize
     requires { IsIndex stamps.now nodes.now order.now }
+    ensures point { IsPartitionPoint (λ place. IsTrue (nat_le (slice_index stamps.now place) bound))
+        (λ place. nat_le (slice_index stamps.now place) bound ≡ false) order.now result }
     ensures few { result ≤ length order.now }
     ensures count { result ≡ count_by
         (λ stamp. nat_le stamp bound) (take (length order.now) stamps.now) }

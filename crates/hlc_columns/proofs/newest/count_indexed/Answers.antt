@@ -6,13 +6,16 @@ use Rattle.hlc_columns.proofs.Places.{stamps_partitioned}
 use Rattle.hlc_columns.proofs.Counted.{index_counted}
 use Rattle.hlc_columns.proofs.newest.count_indexed.Goals as goal
 
-pub returns-clause-count : goal.returns-clause-count
-returns-clause-count c =
+pub returns : goal.returns
+returns c =
     let at = λ (p : ℕ). leb (get_or c.args.stamps.now p 0) c.args.bound in
     let point : IsPartitionPoint (λ p. leb (get_or c.args.stamps.now p 0) c.args.bound ≡ true)
     (λ p. leb (get_or c.args.stamps.now p 0) c.args.bound ≡ false) c.args.order.now c.partition_point.result =
     IsPartitionPoint-from_clause at c.args.order.now c.partition_point.result c.partition_point.ensures.partitioned
     (stamps_partitioned c.args.stamps.now c.args.nodes.now c.args.order.now c.args.bound c.requires)
-    (λ a r q k. search rules) in
-    index_counted c.args.stamps.now c.args.nodes.now c.args.order.now c.args.bound c.partition_point.result c.requires
-    c.partition_point.ensures.bound point
+    (λ a r q k. search rules) in record {
+      point = point;
+      few = c.partition_point.ensures.bound;
+      count = index_counted c.args.stamps.now c.args.nodes.now c.args.order.now c.args.bound c.partition_point.result
+          c.requires c.partition_point.ensures.bound point;
+    }

@@ -4,7 +4,7 @@ use Rattle.std.proofs.Common.{◌-◌, List, ℕ, take, drop, length, None, Some
 use Rattle.hlc_lanes.specs.Newest.{IsNewest}
 use Rattle.hlc_columns.specs.Newest.{IsGreatestAt}
 use Rattle.hlc_columns.proofs.Best.{rest_of, none_in_rest, rest_is_below, no_top, top_of_rest}
-use Rattle.hlc_columns.proofs.newest.newest_of_many.Goals as goal
+use Rattle.hlc_columns.proofs.newest.newest_from.Goals as goal
 
 pub returns-in_default : goal.returns-in_default
 returns-in_default c =
