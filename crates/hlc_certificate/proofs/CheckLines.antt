@@ -47,11 +47,6 @@ initial [] = 0
 initial (word ∷ words) = get_or word 0 0
 
 -- where the words behind the first do not fit, nothing has the words
-pub no_point : (args : List (List ℕ)) → ((x : ℕ) → x < 2 ^ 64 → args ≢ stamp_text x ∷ []) → (x : CheckLine)
-    → HasCheckLine x → codes "point" ∷ args ≢ check_words x
-no_point args none (Point stamp) has is = let rest : args ≡ stamp_text stamp ∷ [] = cc in none stamp has rest
-no_point args none x has is = absurd (omega (arith, ap initial is))
-
 pub no_row : (args : List (List ℕ))
     → ((x : List ℕ × ℕ × ℕ × Option (List ℕ)) → AreBytes x.0 × (x.1 < 2 ^ 64) × (x.2 < 2 ^ 16) × HasValueWords x.3
     → args ≢ bytes_token x.0 ∷ stamp_text x.1 ∷ decimal x.2 ∷ value_words x.3) → (x : CheckLine) → HasCheckLine x
