@@ -11,12 +11,12 @@ use Rattle.std.specs.Option.{option_map}
 use Rattle.hlc_board.specs.Views.{Post, post}
 use Rattle.hlc_workers.specs.Paid.{event_of, IsPaid, MadeNone, MadeSome}
 use Rattle.hlc_workers.specs.Feeding.{accept_of, TookAll, raised_by, highest, fed_by, fed_all}
-use Rattle.hlc_core.specs.declared.event.CoreEvent.TheVariants.{OpenAt, OpenFloor, Read}
+use Rattle.hlc_core.specs.declared.event.CoreEvent.{CoreEvent}
+use Rattle.hlc_core.specs.declared.event.CoreEvent.TheVariants.{Read}
 use Rattle.hlc_workers.specs.declared.room.WorkEnd.{WorkEnd}
 use Rattle.hlc_workers.specs.declared.room.WorkEnd.TheVariants.{Done, Held}
 use Rattle.hlc_workers.specs.declared.opening.Opening.{Opening}
-use Rattle.hlc_workers.specs.declared.opening.Opening.TheVariants.{Opened as opened, Outside as outside}
-use Rattle.hlc_workers.specs.Rounds.{opening_of, reads_of, GoesOn, AtFloor, GoesOnOrAgain, IsRound, AreRounds}
+use Rattle.hlc_workers.specs.Rounds.{opening_of, MadeOpening, IsRound, AreRounds}
 
 -- before the first call
 pub paid-none : (seat : Seat) → IsPaid seat seat []
@@ -139,24 +139,22 @@ read_more keys id i item key more r lt is copy event had =
     ∙ sym (map-append (Read id) (take i keys) (get_or keys i item ∷ []))
     ∙ sym (ap (map (Read id)) (take_more keys i item lt))
 
--- an opening at the floor, and then the reads
-pub at_floor : (keys : List (List ℕ)) (r : Receipt) (id : ℕ) (more : List Receipt) (end : Option WorkEnd)
-    → r.event ≡ OpenFloor
-    → opened id ≡ opening_of r.reply → IfNone end (map event_of more ≡ reads_of id keys)
-    → IfNone end (AtFloor keys (r ∷ more))
-at_floor keys r id more None event is h = (event, subst (λ (o : Opening). GoesOn keys o more) is h)
-at_floor keys r id more (Some end) event is h = tt
+if_none : {A B : Type 0} (end : Option WorkEnd) → (A → B) → IfNone end A → IfNone end B
+if_none None f a = f a
+if_none (Some end) f a = tt
 
--- an opening at the board's floor, and then the reads
-pub at_board : (keys : List (List ℕ)) (stamp : ℕ) (r : Receipt) (id : ℕ) (more : List Receipt) (end : Option WorkEnd)
-    → r.event ≡ OpenAt stamp → opened id ≡ opening_of r.reply → IfNone end (map event_of more ≡ reads_of id keys)
-    → IfNone end (IsRound keys stamp (r ∷ more))
-at_board keys stamp r id more None event is h = (event, subst (λ (o : Opening). GoesOnOrAgain keys o more) is h)
-at_board keys stamp r id more (Some end) event is h = tt
-
--- an opening above the floor or below the horizon, and then one at the floor
-pub again : (keys : List (List ℕ)) (stamp : ℕ) (r : Receipt) (more : List Receipt) (end : Option WorkEnd)
-    → r.event ≡ OpenAt stamp
-    → outside ≡ opening_of r.reply → IfNone end (AtFloor keys more) → IfNone end (IsRound keys stamp (r ∷ more))
-again keys stamp r more None event is h = (event, subst (λ (o : Opening). GoesOnOrAgain keys o more) is h)
-again keys stamp r more (Some end) event is h = tt
+-- an opening, and then what follows it
+pub opening_then : (Goes : Opening → List Receipt → Type 0) (Wanted : List Receipt → Type 0) (held : Type 0)
+    (event : CoreEvent) (opening : Opening) (old mid new : List Receipt) (before seat after : Seat)
+    (end : Option WorkEnd)
+    → ((r : Receipt) (more : List Receipt) → (r.event ≡ event) × Goes (opening_of r.reply) more → Wanted (r ∷ more))
+    → MadeOpening old mid before seat event opening → MadeSome mid new seat after end (Goes opening) held
+    → MadeSome old new before after end Wanted held
+opening_then Goes Wanted held event opening old mid new before seat after end all t e = (
+  t.0 ∷ e.0,
+  pushed old mid new e.0 t.0 t.1 e.1,
+  paid_all before seat after (t.0 ∷ []) e.0 (t.0 ∷ e.0) refl t.2 e.2,
+  if_none end (λ goes. all t.0 e.0 (t.3, subst (λ (o : Opening). Goes o e.0) t.4 goes)) e.3,
+  e.4,
+  e.5,
+)

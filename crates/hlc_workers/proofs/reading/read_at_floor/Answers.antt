@@ -1,7 +1,8 @@
 -- An opening at the floor, and then the reads: the receipts of both stand one behind the other.
-use Rattle.std.proofs.Common.{[], ◌∷◌, refl}
-use Rattle.hlc_workers.specs.Rounds.{AtFloor}
-use Rattle.hlc_workers.proofs.Works.{paid_all, pushed, at_floor, stopped}
+use Rattle.hlc_core.specs.declared.event.CoreEvent.TheVariants.{OpenFloor}
+use Rattle.hlc_workers.specs.declared.opening.Opening.TheVariants.{Opened as opened}
+use Rattle.hlc_workers.specs.Rounds.{GoesOn, AtFloor}
+use Rattle.hlc_workers.proofs.Works.{opening_then, stopped}
 use Rattle.hlc_workers.proofs.reading.read_at_floor.Goals as goal
 
 pub returns-in-Err : goal.returns-in-Err
@@ -12,14 +13,7 @@ returns-in-Err g c =
 
 pub returns-in-Opened : goal.returns-in-Opened
 returns-in-Opened g c =
-    let t = rw (c.in-Ok.is, c.in-Opened.is) at c.make_call-caller.ensures.told in
-    let e = c.read_and_close.ensures in (
-      t.0 ∷ e.0,
-      pushed c.args.receipts.now.items c.make_call-caller.new.receipts.items c.read_and_close.new.receipts.items
-          e.0 t.0 t.1 e.1,
-      paid_all c.args.caller c.make_call-caller.result.0 c.read_and_close.result.0 (t.0 ∷ []) e.0
-          (t.0 ∷ e.0) refl t.2 e.2,
-      at_floor c.args.keys.now t.0 c.in-Opened.id e.0 c.read_and_close.result.1 t.3 t.4 e.3,
-      e.4,
-      e.5,
-    )
+    opening_then (GoesOn c.args.keys.now) (AtFloor c.args.keys.now) _ OpenFloor (opened c.in-Opened.id) c.args.receipts.now.items
+    c.make_call-caller.new.receipts.items c.read_and_close.new.receipts.items c.args.caller c.make_call-caller.result.0
+    c.read_and_close.result.0 c.read_and_close.result.1 (λ r more has. has)
+    (rw (c.in-Ok.is, c.in-Opened.is) at c.make_call-caller.ensures.told) c.read_and_close.ensures
