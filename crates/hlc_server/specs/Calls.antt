@@ -1,10 +1,12 @@
 -- One hold of the lock, and what it tells the caller.
-use Rattle.std.specs.Prelude.{◌≡◌, ◌↔◌, ◌+◌, ◌-◌, ◌^◌, ◌≤◌, List, Result, MatchResult}
+use Rattle.std.specs.Prelude.{◌≡◌, ◌↔◌, ◌+◌, ◌-◌, ◌^◌, ◌≤◌, ℕ, List, Option, Result, MatchResult}
 use Rattle.std.specs.Option.{ForSome}
 use Rattle.hlc_core.specs.declared.event.CoreEvent.{CoreEvent}
 use Rattle.hlc_core.specs.declared.reply.CoreReply.{CoreReply}
-use Rattle.hlc_core.specs.Kept.{nodes}
+use Rattle.hlc_snapshot.specs.declared.fault.NoMemory.{NoMemory}
+use Rattle.hlc_core.specs.Kept.{Kept, nodes}
 use Rattle.hlc_core.specs.History.{StandsForHistory, IsStep, IsDue, IsReplyTo, past_of}
+use Rattle.hlc_server.specs.declared.entry.Entry.{Entry}
 use Rattle.hlc_server.specs.declared.entry.Receipt.{Receipt}
 use Rattle.hlc_server.specs.declared.entry.NotDone.{NotDone}
 use Rattle.hlc_server.specs.declared.entry.NotDone.TheVariants.{NumbersSpent}
@@ -51,3 +53,19 @@ pub record IsLeft (old new : Lock) (fault : NotDone) : Type 0 where
 -- one hold of the lock, whether the call is made or not
 abbrev pub Holds : Lock → Lock → CoreEvent → Result Receipt (NotDone × CoreEvent) → Type 0
 Holds old new event told = MatchResult told (λ receipt. IsHeld old new event receipt) (λ back. IsLeft old new back.0)
+
+-- A call of the core was made and written: its reply has the event's form, the trail has one entry more where there is
+-- one, and after each history that the core stood for, the reply is due and the core stands for the history with it.
+pub record IsWritten (old new : Kept) (before after : Option (List Entry)) (caller : ℕ) (event : CoreEvent)
+    (reply : CoreReply) : Type 0 where
+  pub form : IsReplyTo event reply
+  pub trail : after ≡ with_entry before (entry caller event reply)
+  pub step : (history : List (CoreEvent × CoreReply)) → StandsForHistory old history
+      → IsStep old new event history reply
+
+-- a call of the core and its entry; without memory neither is made
+abbrev pub Writes : Kept → Kept → Option (List Entry) → Option (List Entry) → ℕ → CoreEvent
+    → Result CoreReply NoMemory → Type 0
+Writes old new before after caller event made =
+    MatchResult made (λ reply. IsWritten old new before after caller event reply)
+    (λ lack. (new ≡ old) × (after ≡ before))

@@ -1,16 +1,15 @@
 //! What lies under the lock, and the calls there.
-ghost use Rattle.std.specs.Prelude.{◌≡◌, ◌≢◌, ◌<◌, ◌≤◌, ◌+◌, ◌-◌, ◌^◌, ◌++◌, ◌∷◌, [], ⊤, List, Some, None, IfOk, OnErr};
+ghost use Rattle.std.specs.Prelude.{◌≡◌, ◌≢◌, ◌<◌, ◌≤◌, ◌+◌, ◌-◌, ◌^◌, [], ⊤, Some, None, IfOk};
 ghost use Rattle.std.specs.Prelude.{MatchResult, map, if◌then◌else◌};
 ghost use Rattle.std.specs.Option.{ForSome};
 ghost use Rattle.std.specs.List.{range_with_len};
 ghost use Rattle.hlc_core.specs.Kept.{nodes as nodes_of};
 ghost use Rattle.hlc_core.specs.Calls.{new_refusal, IsRefusal};
-ghost use Rattle.hlc_core.specs.History.{StandsForHistory, IsStep, IsReplyTo};
+ghost use Rattle.hlc_core.specs.History.{StandsForHistory};
 ghost use Rattle.hlc_core.specs.declared.event.CoreEvent.{CoreEvent as AnEvent};
-ghost use Rattle.hlc_core.specs.declared.reply.CoreReply.{CoreReply as AReply};
 ghost use Rattle.hlc_server.specs.Seats.{fresh};
-ghost use Rattle.hlc_server.specs.Trails.{IsAudited, entry, with_entry, entries_of};
-ghost use Rattle.hlc_server.specs.Calls.{IsToldFor, Holds};
+ghost use Rattle.hlc_server.specs.Trails.{IsAudited, entries_of};
+ghost use Rattle.hlc_server.specs.Calls.{IsToldFor, Holds, Writes};
 
 use crate::caller::Caller;
 use crate::entry::{Entry, NotDone, Receipt};
@@ -208,15 +207,8 @@ fn make_call(
     caller: u16,
     event: &CoreEvent,
 ) -> Result<CoreReply, NoMemory>
-    ensures form { IfOk result (λ reply. IsReplyTo event.now reply) }
-    ensures trail { IfOk result
-        (λ reply. entries_of trail.new
-        ≡ with_entry (entries_of trail.old) (entry caller event.now reply)) }
-    ensures step { IfOk result
-        (λ reply. (history : List (AnEvent × AReply)) → StandsForHistory core.old history
-        → IsStep core.old core.new event.now history reply) }
-    ensures err { OnErr result ((core.new ≡ core.old)
-        × (entries_of trail.new ≡ entries_of trail.old)) }
+    ensures { Writes core.old core.new (entries_of trail.old) (entries_of trail.new)
+        caller event.now result }
 {
     match trail {
         None => core.step_ref(event),
@@ -236,15 +228,8 @@ fn write_call(
     event: &CoreEvent,
 ) -> Result<CoreReply, NoMemory>
     requires { event.now ≢ AnEvent.Vacuum }
-    ensures form { IfOk result (λ reply. IsReplyTo event.now reply) }
-    ensures trail { IfOk result
-        (λ reply. trail.new.entries.items
-        ≡ trail.old.entries.items ++ entry caller event.now reply ∷ []) }
-    ensures step { IfOk result
-        (λ reply. (history : List (AnEvent × AReply)) → StandsForHistory core.old history
-        → IsStep core.old core.new event.now history reply) }
-    ensures err { OnErr result ((core.new ≡ core.old)
-        × (trail.new.entries.items ≡ trail.old.entries.items)) }
+    ensures { Writes core.old core.new (Some trail.old.entries.items) (Some trail.new.entries.items)
+        caller event.now result }
 {
     let Ok(written) = event.clone() else {
         return Err(NoMemory);
@@ -266,15 +251,8 @@ fn write_call(
 
 /// Vacuums the core, and makes the entry of that. Both reports are made before anything changes.
 fn write_vacuum(core: &mut Core, trail: &mut Trail, caller: u16) -> Result<CoreReply, NoMemory>
-    ensures form { IfOk result (λ reply. IsReplyTo AnEvent.Vacuum reply) }
-    ensures trail { IfOk result
-        (λ reply. trail.new.entries.items
-        ≡ trail.old.entries.items ++ entry caller AnEvent.Vacuum reply ∷ []) }
-    ensures step { IfOk result
-        (λ reply. (history : List (AnEvent × AReply)) → StandsForHistory core.old history
-        → IsStep core.old core.new AnEvent.Vacuum history reply) }
-    ensures err { OnErr result ((core.new ≡ core.old)
-        × (trail.new.entries.items ≡ trail.old.entries.items)) }
+    ensures { Writes core.old core.new (Some trail.old.entries.items) (Some trail.new.entries.items)
+        caller AnEvent.Vacuum result }
 {
     let Ok(()) = trail.entries.reserve(1) else {
         return Err(NoMemory);
@@ -295,15 +273,8 @@ fn make_vacuum(
     trail: &mut Option<Trail>,
     caller: u16,
 ) -> Result<CoreReply, NoMemory>
-    ensures form { IfOk result (λ reply. IsReplyTo AnEvent.Vacuum reply) }
-    ensures trail { IfOk result
-        (λ reply. entries_of trail.new
-        ≡ with_entry (entries_of trail.old) (entry caller AnEvent.Vacuum reply)) }
-    ensures step { IfOk result
-        (λ reply. (history : List (AnEvent × AReply)) → StandsForHistory core.old history
-        → IsStep core.old core.new AnEvent.Vacuum history reply) }
-    ensures err { OnErr result ((core.new ≡ core.old)
-        × (entries_of trail.new ≡ entries_of trail.old)) }
+    ensures { Writes core.old core.new (entries_of trail.old) (entries_of trail.new)
+        caller AnEvent.Vacuum result }
 {
     match trail {
         None => match core.vacuum_parallel(rt) {
@@ -321,15 +292,8 @@ fn write_parallel_vacuum(
     trail: &mut Trail,
     caller: u16,
 ) -> Result<CoreReply, NoMemory>
-    ensures form { IfOk result (λ reply. IsReplyTo AnEvent.Vacuum reply) }
-    ensures trail { IfOk result
-        (λ reply. trail.new.entries.items
-        ≡ trail.old.entries.items ++ entry caller AnEvent.Vacuum reply ∷ []) }
-    ensures step { IfOk result
-        (λ reply. (history : List (AnEvent × AReply)) → StandsForHistory core.old history
-        → IsStep core.old core.new AnEvent.Vacuum history reply) }
-    ensures err { OnErr result ((core.new ≡ core.old)
-        × (trail.new.entries.items ≡ trail.old.entries.items)) }
+    ensures { Writes core.old core.new (Some trail.old.entries.items) (Some trail.new.entries.items)
+        caller AnEvent.Vacuum result }
 {
     let Ok(()) = trail.entries.reserve(1) else {
         return Err(NoMemory);

@@ -11,6 +11,6 @@ returns-then-count-eq0 c =
 
 pub returns : goal.returns
 returns c =
-    last_indexed c.args.stamps.now c.args.nodes.now c.args.order.now c.args.bound c.count_indexed-count.result c.requires
-    (let differs = c.if-count-eq0.false in omega (arith, differs)) c.count_indexed-count.ensures.few
+    last_indexed c.args.stamps.now c.args.nodes.now c.args.order.now c.args.bound c.count_indexed-count.result
+    c.requires (let differs = c.if-count-eq0.false in omega (arith, differs)) c.count_indexed-count.ensures.few
     c.count_indexed-count.ensures.point
