@@ -12,14 +12,16 @@ returns-in-Err g c =
 
 pub returns-in-Opened : goal.returns-in-Opened
 returns-in-Opened g c =
-    opening_then (GoesOnOrAgain c.args.keys.now) (IsRound c.args.keys.now c.args.stamp) _ (OpenAt c.args.stamp) (opened c.in-Opened.id) c.args.receipts.now.items
-    c.make_call-caller.new.receipts.items c.read_and_close.new.receipts.items c.args.caller c.make_call-caller.result.0
+    opening_then (GoesOnOrAgain c.args.keys.now) (IsRound c.args.keys.now c.args.stamp) _ (OpenAt c.args.stamp)
+    (opened c.in-Opened.id) c.args.receipts.now.items c.make_call-caller.new.receipts.items
+    c.read_and_close.new.receipts.items c.args.caller c.make_call-caller.result.0
     c.read_and_close.result.0 c.read_and_close.result.1 (λ r more has. has)
     (rw (c.in-Ok.is, c.in-Opened.is) at c.make_call-caller.ensures.told) c.read_and_close.ensures
 
 pub returns-in-Outside : goal.returns-in-Outside
 returns-in-Outside g c =
-    opening_then (GoesOnOrAgain c.args.keys.now) (IsRound c.args.keys.now c.args.stamp) _ (OpenAt c.args.stamp) outside c.args.receipts.now.items
-    c.make_call-caller.new.receipts.items c.read_at_floor.new.receipts.items c.args.caller c.make_call-caller.result.0
+    opening_then (GoesOnOrAgain c.args.keys.now) (IsRound c.args.keys.now c.args.stamp) _ (OpenAt c.args.stamp)
+    outside c.args.receipts.now.items c.make_call-caller.new.receipts.items
+    c.read_at_floor.new.receipts.items c.args.caller c.make_call-caller.result.0
     c.read_at_floor.result.0 c.read_at_floor.result.1 (λ r more has. has)
     (rw (c.in-Ok.is, c.in-Outside.is) at c.make_call-caller.ensures.told) c.read_at_floor.ensures

@@ -13,7 +13,8 @@ returns-in-Err g c =
 
 pub returns-in-Opened : goal.returns-in-Opened
 returns-in-Opened g c =
-    opening_then (GoesOn c.args.keys.now) (AtFloor c.args.keys.now) _ OpenFloor (opened c.in-Opened.id) c.args.receipts.now.items
-    c.make_call-caller.new.receipts.items c.read_and_close.new.receipts.items c.args.caller c.make_call-caller.result.0
+    opening_then (GoesOn c.args.keys.now) (AtFloor c.args.keys.now) _ OpenFloor (opened c.in-Opened.id)
+    c.args.receipts.now.items c.make_call-caller.new.receipts.items
+    c.read_and_close.new.receipts.items c.args.caller c.make_call-caller.result.0
     c.read_and_close.result.0 c.read_and_close.result.1 (λ r more has. has)
     (rw (c.in-Ok.is, c.in-Opened.is) at c.make_call-caller.ensures.told) c.read_and_close.ensures
