@@ -48,9 +48,10 @@ abbrev pub entered : List Entry → List ℕ → ℕ → List Step → List Step
 entered entries bytes many past = took (map (item_of bytes) (take many entries)) past
 
 -- So many entries were accepted in their order. They are all; or the next one was not, and it is told why.
-abbrev pub AreEntered : Kept → Kept → List Entry → List ℕ → List Step → ℕ → ℕ → ℕ → Type 0
-AreEntered old new entries bytes past code many told =
-    (many ≤ length entries) × StandsFor new (entered entries bytes many past)
-    × (code ≡ 0 → (many ≡ length entries) × (told ≡ 0))
-    × (code ≢ 0 → (last : Entry) × (many < length entries) × (last ≡ get_or entries many last)
-    × IsEntered new new last bytes (entered entries bytes many past) code told)
+pub record AreEntered (new : Kept) (entries : List Entry) (bytes : List ℕ) (past : List Step)
+    (code many told : ℕ) : Type 0 where
+  pub most : many ≤ length entries
+  pub stands : StandsFor new (entered entries bytes many past)
+  pub all : code ≡ 0 → (many ≡ length entries) × (told ≡ 0)
+  pub next : code ≢ 0 → (last : Entry) × (many < length entries) × (last ≡ get_or entries many last)
+      × IsEntered new new last bytes (entered entries bytes many past) code told

@@ -7,8 +7,10 @@ ghost use Rattle.hlc_core.specs.Kept.{StandsFor};
 ghost use Rattle.hlc_ffi.specs.Answers.{IsAccepted, IsChecked, IsJoined};
 ghost use Rattle.hlc_ffi.specs.Held.{OnStore, nodes, an_item};
 
+use crate::held::on_core;
+use crate::items::write_fault;
 use crate::{items, told};
-use hlc_core::{Body, Item, Stamp};
+use hlc_core::{Body, Core};
 use hlc_handle::Store;
 use std::alloc::Global;
 
@@ -32,14 +34,11 @@ pub extern "C" fn hlc_accept_write(
     ensures same { result ≢ 0 → store.new.room.value ≡ store.old.room.value }
     ensures nodes { nodes store.new.room.value ≡ nodes store.old.room.value }
 {
-    let Some(held) = store.take(alloc) else {
-        *word = 0;
-        return 100;
+    *word = 0;
+    let mut call = |core: &mut Core| {
+        items::write(alloc, core, node, number, stamp, key, Some(value), word)
     };
-    let mut held = held;
-    let code = items::write(alloc, &mut held, node, number, stamp, key, value, word);
-    store.put(held);
-    code
+    on_core(alloc, store, &mut call)
 }
 
 /// Accepts the deletion that a node issued under this number: 0 and its stamp, or a refusal and its
@@ -61,14 +60,11 @@ pub extern "C" fn hlc_accept_delete(
     ensures same { result ≢ 0 → store.new.room.value ≡ store.old.room.value }
     ensures nodes { nodes store.new.room.value ≡ nodes store.old.room.value }
 {
-    let Some(held) = store.take(alloc) else {
-        *word = 0;
-        return 100;
+    *word = 0;
+    let mut call = |core: &mut Core| {
+        items::write(alloc, core, node, number, stamp, key, None, word)
     };
-    let mut held = held;
-    let code = items::delete(alloc, &mut held, node, number, stamp, key, word);
-    store.put(held);
-    code
+    on_core(alloc, store, &mut call)
 }
 
 /// Accepts the report that a node issued under this number: 0 and its stamp, or a refusal and its
@@ -89,20 +85,9 @@ pub extern "C" fn hlc_accept_report(
     ensures same { result ≢ 0 → store.new.room.value ≡ store.old.room.value }
     ensures nodes { nodes store.new.room.value ≡ nodes store.old.room.value }
 {
-    let Some(held) = store.take(alloc) else {
-        *word = 0;
-        return 100;
-    };
-    let mut held = held;
-    let item = Item {
-        node,
-        number,
-        stamp: Stamp::from_bits(stamp),
-        body: Body::Report,
-    };
-    let code = told::accept(&mut held, item, word);
-    store.put(held);
-    code
+    *word = 0;
+    let mut call = |core: &mut Core| told::accept(core, node, number, stamp, Body::Report, word);
+    on_core(alloc, store, &mut call)
 }
 
 /// Accepts a node's last item, which it issued under this number: 0 and its stamp, or a refusal and
@@ -123,20 +108,9 @@ pub extern "C" fn hlc_accept_retire(
     ensures same { result ≢ 0 → store.new.room.value ≡ store.old.room.value }
     ensures nodes { nodes store.new.room.value ≡ nodes store.old.room.value }
 {
-    let Some(held) = store.take(alloc) else {
-        *word = 0;
-        return 100;
-    };
-    let mut held = held;
-    let item = Item {
-        node,
-        number,
-        stamp: Stamp::from_bits(stamp),
-        body: Body::Retire,
-    };
-    let code = told::accept(&mut held, item, word);
-    store.put(held);
-    code
+    *word = 0;
+    let mut call = |core: &mut Core| told::accept(core, node, number, stamp, Body::Retire, word);
+    on_core(alloc, store, &mut call)
 }
 
 /// Why `hlc_accept_write` would refuse a write, memory aside: 0, or the refusal and its word.
@@ -157,14 +131,10 @@ pub extern "C" fn hlc_check_write(
         past result word.new) }
     ensures same { store.new.room.value ≡ store.old.room.value }
 {
-    let Some(held) = store.take(alloc) else {
-        *word = 0;
-        return 100;
-    };
-    let bad = items::write_fault(key, value);
-    let code = items::tell_check(&held, node, number, stamp, bad, word);
-    store.put(held);
-    code
+    *word = 0;
+    let bad = write_fault(key, Some(value));
+    let mut call = |core: &mut Core| items::check(core, node, number, stamp, bad, word);
+    on_core(alloc, store, &mut call)
 }
 
 /// Why `hlc_accept_delete` would refuse a deletion, memory aside: 0, or the refusal and its word.
@@ -184,14 +154,10 @@ pub extern "C" fn hlc_check_delete(
         past result word.new) }
     ensures same { store.new.room.value ≡ store.old.room.value }
 {
-    let Some(held) = store.take(alloc) else {
-        *word = 0;
-        return 100;
-    };
-    let bad = items::key_fault(key);
-    let code = items::tell_check(&held, node, number, stamp, bad, word);
-    store.put(held);
-    code
+    *word = 0;
+    let bad = write_fault(key, None);
+    let mut call = |core: &mut Core| items::check(core, node, number, stamp, bad, word);
+    on_core(alloc, store, &mut call)
 }
 
 /// Why `hlc_accept_report`, or `hlc_accept_retire`, would refuse an item: 0, or the refusal and its
@@ -213,13 +179,9 @@ pub extern "C" fn hlc_check_report(
         → IsChecked old (an_item node number stamp a_retire) past result word.new) }
     ensures same { store.new.room.value ≡ store.old.room.value }
 {
-    let Some(held) = store.take(alloc) else {
-        *word = 0;
-        return 100;
-    };
-    let code = items::tell_check(&held, node, number, stamp, None, word);
-    store.put(held);
-    code
+    *word = 0;
+    let mut call = |core: &mut Core| items::check(core, node, number, stamp, None, word);
+    on_core(alloc, store, &mut call)
 }
 
 /// Lets a node join: 0, its number and the stamp that its clock starts at; or 26 or 15.
@@ -233,13 +195,8 @@ pub extern "C" fn hlc_join(alloc: Global, store: &mut Store, node: &mut u16, sta
     ensures same { result ≢ 0 → store.new.room.value ≡ store.old.room.value }
     ensures nodes { nodes store.new.room.value ≡ nodes store.old.room.value }
 {
-    let Some(held) = store.take(alloc) else {
-        *node = 0;
-        *start = 0;
-        return 100;
-    };
-    let mut held = held;
-    let code = told::join(&mut held, node, start);
-    store.put(held);
-    code
+    *node = 0;
+    *start = 0;
+    let mut call = |core: &mut Core| told::join(core, node, start);
+    on_core(alloc, store, &mut call)
 }

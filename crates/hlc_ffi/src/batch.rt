@@ -1,10 +1,11 @@
 //! Several items at once, for callers whose calls are dear.
-ghost use Rattle.std.specs.Prelude.{◌≡◌, ◌≢◌, List, true, false, MatchOption};
+ghost use Rattle.std.specs.Prelude.{◌≡◌, ◌≢◌, List, true, false, MatchOption, option_copied};
 ghost use Rattle.hlc_core.specs.Past.{Step};
 ghost use Rattle.hlc_core.specs.Kept.{nodes as nodes_in, StandsFor};
-ghost use Rattle.hlc_ffi.specs.Batch.{piece, lies, IsEntered, AreEntered};
+ghost use Rattle.hlc_ffi.specs.Batch.{piece, lies, value_of, is_within, IsEntered, AreEntered};
 ghost use Rattle.hlc_ffi.specs.Held.{OnStore, nodes};
 
+use crate::held::on_core;
 use crate::items;
 use hlc_core::Core;
 use hlc_handle::Store;
@@ -37,6 +38,21 @@ fn piece_of(bytes: &[u8], at: usize, many: usize) -> Option<&[u8]>
     Some(found)
 }
 
+/// The key of an entry and its value, none of a deletion, if they are there.
+fn parts_of<'a>(entry: &Entry, bytes: &'a [u8]) -> Option<(&'a [u8], Option<&'a [u8]>)>
+    ensures { MatchOption result (is_within bytes.now entry.now ≡ false)
+        (λ parts. (is_within bytes.now entry.now ≡ true)
+        × (parts.0.now ≡ piece entry.now.key_at entry.now.key_len bytes.now)
+        × (option_copied parts.1 ≡ value_of entry.now bytes.now)) }
+{
+    let key = piece_of(bytes, entry.key_at, entry.key_len)?;
+    if entry.deletes {
+        return Some((key, None));
+    }
+    let value = piece_of(bytes, entry.value_at, entry.value_len)?;
+    Some((key, Some(value)))
+}
+
 /// Accepts the item of an entry: 0 and its stamp, or a refusal and its word, or 103.
 fn enter(alloc: Global, core: &mut Core, entry: &Entry, bytes: &[u8], told: &mut u64) -> u32
     ensures answer { (past : List Step) → StandsFor core.old past
@@ -44,22 +60,7 @@ fn enter(alloc: Global, core: &mut Core, entry: &Entry, bytes: &[u8], told: &mut
     ensures same { result ≢ 0 → core.new ≡ core.old }
     ensures nodes { nodes_in core.new ≡ nodes_in core.old }
 {
-    let Some(key) = piece_of(bytes, entry.key_at, entry.key_len) else {
-        *told = 0;
-        return 103;
-    };
-    if entry.deletes {
-        return items::delete(
-            alloc,
-            core,
-            entry.node,
-            entry.number,
-            entry.stamp,
-            key,
-            told,
-        );
-    }
-    let Some(value) = piece_of(bytes, entry.value_at, entry.value_len) else {
+    let Some((key, value)) = parts_of(entry, bytes) else {
         *told = 0;
         return 103;
     };
@@ -87,7 +88,7 @@ pub fn enter_all(
     told: &mut u64,
 ) -> u32
     ensures answer { (past : List Step) → StandsFor core.old past
-        → AreEntered core.old core.new entries.now bytes.now past result many.new told.new }
+        → AreEntered core.new entries.now bytes.now past result many.new told.new }
     ensures nodes { nodes_in core.new ≡ nodes_in core.old }
 {
     let mut index = 0;
@@ -118,16 +119,11 @@ pub extern "C" fn hlc_accept_all(
     ensures answer { OnStore store.old.room.value store.new.room.value
         ((result ≡ 100) × (many.new ≡ 0) × (word.new ≡ 0)) (λ old new. (past : List Step)
         → StandsFor old past
-        → AreEntered old new entries.now bytes.now past result many.new word.new) }
+        → AreEntered new entries.now bytes.now past result many.new word.new) }
     ensures nodes { nodes store.new.room.value ≡ nodes store.old.room.value }
 {
-    let Some(held) = store.take(alloc) else {
-        *many = 0;
-        *word = 0;
-        return 100;
-    };
-    let mut held = held;
-    let code = enter_all(alloc, &mut held, entries, bytes, many, word);
-    store.put(held);
-    code
+    *many = 0;
+    *word = 0;
+    let mut call = |core: &mut Core| enter_all(alloc, core, entries, bytes, many, word);
+    on_core(alloc, store, &mut call)
 }

@@ -9,6 +9,7 @@ ghost use Rattle.hlc_ffi.specs.Held.{IsOpening};
 pub mod accept;
 pub mod batch;
 mod certify;
+mod held;
 mod items;
 mod list;
 pub mod node;

@@ -6,7 +6,8 @@ ghost use Rattle.hlc_node.specs.declared.item.Body.TheVariants.{Retire as a_reti
 ghost use Rattle.hlc_ffi.specs.Nodes.{clock_number, clock_word, node_number, node_word};
 ghost use Rattle.hlc_ffi.specs.Nodes.{IsStamped, IsIssued};
 
-use crate::{items, told};
+use crate::items::write_fault;
+use crate::told;
 use hlc_clock::{ClockFault, Stamp};
 use hlc_node::{BodyFault, Item, NodeCore, NodeFault};
 
@@ -32,15 +33,6 @@ fn refusal(fault: NodeFault) -> (u32, u64)
     }
 }
 
-/// Tells of a refusal: its number and its word.
-fn refuse(fault: NodeFault, word: &mut u64) -> u32
-    ensures { (result ≡ node_number fault) × (word.new ≡ node_word fault) }
-{
-    let refusal = refusal(fault);
-    *word = refusal.1;
-    refusal.0
-}
-
 /// Tells of an item: its number and its stamp, or a refusal and its word.
 fn tell(given: Result<Item, NodeFault>, number: &mut u64, word: &mut u64) -> u32
     ensures { MatchResult given
@@ -56,7 +48,7 @@ fn tell(given: Result<Item, NodeFault>, number: &mut u64, word: &mut u64) -> u32
         }
         Err(fault) => {
             *number = 0;
-            refuse(fault, word)
+            told::tell(refusal(fault), word)
         }
     }
 }
@@ -71,7 +63,7 @@ fn tell_stamp(given: Result<Stamp, NodeFault>, word: &mut u64) -> u32
             *word = stamp.bits();
             0
         }
-        Err(fault) => refuse(fault, word),
+        Err(fault) => told::tell(refusal(fault), word),
     }
 }
 
@@ -114,7 +106,7 @@ pub extern "C" fn hlc_node_write(
     ensures { IsIssued node.old node.new (a_write key.now (Some value.now)) reading
         result number.new word.new }
 {
-    let bad = items::write_fault(key, value);
+    let bad = write_fault(key, Some(value));
     tell(issue(node, reading, bad), number, word)
 }
 
@@ -130,7 +122,7 @@ pub extern "C" fn hlc_node_delete(
     ensures { IsIssued node.old node.new (a_write key.now None) reading
         result number.new word.new }
 {
-    let bad = items::key_fault(key);
+    let bad = write_fault(key, None);
     tell(issue(node, reading, bad), number, word)
 }
 

@@ -6,9 +6,10 @@ ghost use Rattle.hlc_ffi.specs.Answers.{IsOpened, IsOpenedAtFloor, IsClosed, IsR
 ghost use Rattle.hlc_ffi.specs.Listing.{IsListedTo};
 ghost use Rattle.hlc_ffi.specs.Held.{OnStore, nodes};
 
+use crate::held::on_core;
 use crate::list::list;
 use crate::told;
-use hlc_core::Stamp;
+use hlc_core::{Core, Stamp};
 use hlc_handle::Store;
 use std::alloc::Global;
 
@@ -26,14 +27,9 @@ pub extern "C" fn hlc_open_snapshot(
     ensures same { result ≢ 0 → store.new.room.value ≡ store.old.room.value }
     ensures nodes { nodes store.new.room.value ≡ nodes store.old.room.value }
 {
-    let Some(held) = store.take(alloc) else {
-        *id = 0;
-        return 100;
-    };
-    let mut held = held;
-    let code = told::open(&mut held, Stamp::from_bits(stamp), id);
-    store.put(held);
-    code
+    *id = 0;
+    let mut call = |core: &mut Core| told::open(core, Stamp::from_bits(stamp), id);
+    on_core(alloc, store, &mut call)
 }
 
 /// Opens a snapshot at the floor: 0, its id and its stamp, or a refusal.
@@ -52,15 +48,10 @@ pub extern "C" fn hlc_open_snapshot_at_floor(
     ensures same { result ≢ 0 → store.new.room.value ≡ store.old.room.value }
     ensures nodes { nodes store.new.room.value ≡ nodes store.old.room.value }
 {
-    let Some(held) = store.take(alloc) else {
-        *id = 0;
-        *stamp = 0;
-        return 100;
-    };
-    let mut held = held;
-    let code = told::open_floor(&mut held, id, stamp);
-    store.put(held);
-    code
+    *id = 0;
+    *stamp = 0;
+    let mut call = |core: &mut Core| told::open_floor(core, id, stamp);
+    on_core(alloc, store, &mut call)
 }
 
 /// Reads a key in a snapshot: 0, the value's length and, where it fits, the value; 102 where there is
@@ -80,13 +71,9 @@ pub extern "C" fn hlc_read(
         (stamp_of id past) (writes past) key.now result len.new out.old out.new) }
     ensures same { store.new.room.value ≡ store.old.room.value }
 {
-    let Some(held) = store.take(alloc) else {
-        *len = 0;
-        return 100;
-    };
-    let code = told::read(&held, id, key, out, len);
-    store.put(held);
-    code
+    *len = 0;
+    let mut call = |core: &mut Core| told::read(core, id, key, out, len);
+    on_core(alloc, store, &mut call)
 }
 
 /// Closes a snapshot: 0 and its stamp, or 10. It takes no memory.
@@ -103,14 +90,9 @@ pub extern "C" fn hlc_close_snapshot(
     ensures same { result ≢ 0 → store.new.room.value ≡ store.old.room.value }
     ensures nodes { nodes store.new.room.value ≡ nodes store.old.room.value }
 {
-    let Some(held) = store.take(alloc) else {
-        *stamp = 0;
-        return 100;
-    };
-    let mut held = held;
-    let code = told::close(&mut held, id, stamp);
-    store.put(held);
-    code
+    *stamp = 0;
+    let mut call = |core: &mut Core| told::close(core, id, stamp);
+    on_core(alloc, store, &mut call)
 }
 
 /// The floor: 0 and its stamp. It takes no memory.
@@ -121,13 +103,12 @@ pub extern "C" fn hlc_floor(alloc: Global, store: &mut Store, stamp: &mut u64) -
         → (result ≡ 0) × (stamp.new ≡ floor (nodes_in old) past)) }
     ensures same { store.new.room.value ≡ store.old.room.value }
 {
-    let Some(held) = store.take(alloc) else {
-        *stamp = 0;
-        return 100;
+    *stamp = 0;
+    let mut call = |core: &mut Core| {
+        *stamp = core.floor().bits();
+        0
     };
-    *stamp = held.floor().bits();
-    store.put(held);
-    0
+    on_core(alloc, store, &mut call)
 }
 
 /// How many rows are stored: 0 and the number, or 2^64 - 1 where it is greater. It takes no memory.
@@ -138,13 +119,12 @@ pub extern "C" fn hlc_rows(alloc: Global, store: &mut Store, rows: &mut u64) -> 
         (λ old new. (result ≡ 0) × (rows.new ≡ narrowed (length old.rows))) }
     ensures same { store.new.room.value ≡ store.old.room.value }
 {
-    let Some(held) = store.take(alloc) else {
-        *rows = 0;
-        return 100;
+    *rows = 0;
+    let mut call = |core: &mut Core| {
+        *rows = told::rows(core);
+        0
     };
-    *rows = told::rows(&held);
-    store.put(held);
-    0
+    on_core(alloc, store, &mut call)
 }
 
 /// Lists the keys with a value in a snapshot, in byte order: 0, how many bytes that takes and, where
@@ -164,11 +144,7 @@ pub extern "C" fn hlc_list(
     ensures nothing { result ≢ 0 → (len.new ≡ 0) × (out.new ≡ out.old) }
     ensures same { store.new.room.value ≡ store.old.room.value }
 {
-    let Some(held) = store.take(alloc) else {
-        *len = 0;
-        return 100;
-    };
-    let code = list(alloc, &held, id, out, len);
-    store.put(held);
-    code
+    *len = 0;
+    let mut call = |core: &mut Core| list(alloc, core, id, out, len);
+    on_core(alloc, store, &mut call)
 }

@@ -6,8 +6,9 @@ ghost use Rattle.hlc_core.specs.Calls.{IsWrite, IsRefusal};
 ghost use Rattle.hlc_ffi.specs.Answers.{IsAccepted, IsJoined, IsOpened, IsOpenedAtFloor, IsClosed};
 ghost use Rattle.hlc_ffi.specs.Answers.{IsCopied, IsRead, IsVacuumed, narrowed};
 ghost use Rattle.hlc_ffi.specs.Told.{number, body_number, word};
+ghost use Rattle.hlc_ffi.specs.Held.{an_item};
 
-use hlc_core::{BodyFault, Core, CoreFault, Item, Stamp};
+use hlc_core::{Body, BodyFault, Core, CoreFault, Item, Stamp};
 
 /// The number of a refusal of what an item says.
 pub fn body_code(fault: BodyFault) -> u32
@@ -61,13 +62,19 @@ pub fn number_of(fault: CoreFault) -> u32
     refusal.0
 }
 
+/// Tells a number and its word.
+pub fn tell(pair: (u32, u64), told: &mut u64) -> u32
+    ensures { (result ≡ pair.0) × (told.new ≡ pair.1) }
+{
+    *told = pair.1;
+    pair.0
+}
+
 /// Tells of a refusal: its number and its word.
 pub fn refuse(fault: CoreFault, told: &mut u64) -> u32
     ensures { (result ≡ number fault) × (told.new ≡ word fault) }
 {
-    let refusal = refusal(fault);
-    *told = refusal.1;
-    refusal.0
+    tell(refusal(fault), told)
 }
 
 /// Tells an answer: 0 and the word, or a refusal and its word.
@@ -103,14 +110,27 @@ fn accept_item(core: &mut Core, item: Item) -> Result<u64, CoreFault>
     }
 }
 
-/// Accepts an item: 0 and its stamp, or a refusal and its word.
+/// Accepts an item that says this: 0 and its stamp, or a refusal and its word.
 #[tactic(auto, using(crate::proofs::Refusals::refused_tells, crate::proofs::Refusals::made_tells))]
-pub fn accept(core: &mut Core, item: Item, told: &mut u64) -> u32
-    ensures answer { (past : List Step) → StandsFor core.old past
-        → IsAccepted core.old core.new item past result told.new }
+pub fn accept(
+    core: &mut Core,
+    node: u16,
+    number: u64,
+    stamp: u64,
+    body: Body,
+    told: &mut u64,
+) -> u32
+    ensures answer { (past : List Step) → StandsFor core.old past → IsAccepted core.old core.new
+        (an_item node number stamp body) past result told.new }
     ensures same { result ≢ 0 → core.new ≡ core.old }
     ensures nodes { nodes core.new ≡ nodes core.old }
 {
+    let item = Item {
+        node,
+        number,
+        stamp: Stamp::from_bits(stamp),
+        body,
+    };
     answer(accept_item(core, item), told)
 }
 

@@ -7,7 +7,9 @@ ghost use Rattle.hlc_ffi.specs.Certified.{IsCertified, IsHalf};
 ghost use Rattle.hlc_ffi.specs.Held.{OnStore, nodes};
 
 use crate::certify::certify;
+use crate::held::on_core;
 use crate::told;
+use hlc_core::Core;
 use hlc_handle::Store;
 use std::alloc::Global;
 
@@ -32,17 +34,12 @@ pub extern "C" fn hlc_vacuum(
     ensures same { result ≢ 0 → store.new.room.value ≡ store.old.room.value }
     ensures nodes { nodes store.new.room.value ≡ nodes store.old.room.value }
 {
-    let Some(held) = store.take(alloc) else {
-        *floor = 0;
-        *kept = 0;
-        *bytes = 0;
-        *dropped = 0;
-        return 100;
-    };
-    let mut held = held;
-    let code = told::vacuum(&mut held, floor, kept, bytes, dropped);
-    store.put(held);
-    code
+    *floor = 0;
+    *kept = 0;
+    *bytes = 0;
+    *dropped = 0;
+    let mut call = |core: &mut Core| told::vacuum(core, floor, kept, bytes, dropped);
+    on_core(alloc, store, &mut call)
 }
 
 /// The same, with the certificate of the rows that are left up to the floor: 0, how many bytes it has
@@ -64,12 +61,7 @@ pub extern "C" fn hlc_vacuum_certified(
     ensures nothing { result ≢ 0 → (len.new ≡ 0) × (out.new ≡ out.old) }
     ensures nodes { nodes store.new.room.value ≡ nodes store.old.room.value }
 {
-    let Some(held) = store.take(alloc) else {
-        *len = 0;
-        return 100;
-    };
-    let mut held = held;
-    let code = certify(alloc, &mut held, out, len);
-    store.put(held);
-    code
+    *len = 0;
+    let mut call = |core: &mut Core| certify(alloc, core, out, len);
+    on_core(alloc, store, &mut call)
 }
