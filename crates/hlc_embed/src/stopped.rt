@@ -1,4 +1,9 @@
 //! Why the program stopped before its end.
+ghost use Rattle.std.specs.Prelude.{◌≡◌};
+ghost use Rattle.hlc_embed.specs.declared.stopped.Stopped.TheVariants.{NotIssued, Refused, NotShown};
+ghost use Rattle.hlc_core.specs.declared.fault.CoreFault.TheVariants.{NoMemory as no_memory};
+ghost use Rattle.hlc_core.specs.declared.fault.CoreFault.TheVariants.{NoSnapshot as no_snapshot};
+
 use hlc_core::{CoreFault, Item, NoMemory, NoSnapshot};
 use hlc_node::{NodeFault, RefusedWrite};
 use hlc_witness::NotShown;
@@ -17,10 +22,6 @@ pub(crate) enum Stopped {
 }
 
 impl From<AllocError> for Stopped {
-    ghost use Rattle.std.specs.Prelude.{◌≡◌};
-    ghost use Rattle.hlc_embed.specs.declared.stopped.Stopped.TheVariants.{Refused};
-    ghost use Rattle.hlc_core.specs.declared.fault.CoreFault.TheVariants.{NoMemory as no_memory};
-
     ghost from_gives = { λ lack stopped. stopped ≡ Refused no_memory };
 
     fn from(_: AllocError) -> Stopped {
@@ -29,10 +30,6 @@ impl From<AllocError> for Stopped {
 }
 
 impl From<NoMemory> for Stopped {
-    ghost use Rattle.std.specs.Prelude.{◌≡◌};
-    ghost use Rattle.hlc_embed.specs.declared.stopped.Stopped.TheVariants.{Refused};
-    ghost use Rattle.hlc_core.specs.declared.fault.CoreFault.TheVariants.{NoMemory as no_memory};
-
     ghost from_gives = { λ lack stopped. stopped ≡ Refused no_memory };
 
     fn from(_: NoMemory) -> Stopped {
@@ -41,10 +38,6 @@ impl From<NoMemory> for Stopped {
 }
 
 impl From<NoSnapshot> for Stopped {
-    ghost use Rattle.std.specs.Prelude.{◌≡◌};
-    ghost use Rattle.hlc_embed.specs.declared.stopped.Stopped.TheVariants.{Refused};
-    ghost use Rattle.hlc_core.specs.declared.fault.CoreFault.TheVariants.{NoSnapshot as no_snapshot};
-
     ghost from_gives = { λ lack stopped. stopped ≡ Refused no_snapshot };
 
     fn from(_: NoSnapshot) -> Stopped {
@@ -53,9 +46,6 @@ impl From<NoSnapshot> for Stopped {
 }
 
 impl From<CoreFault> for Stopped {
-    ghost use Rattle.std.specs.Prelude.{◌≡◌};
-    ghost use Rattle.hlc_embed.specs.declared.stopped.Stopped.TheVariants.{Refused};
-
     ghost from_gives = { λ fault stopped. stopped ≡ Refused fault };
 
     fn from(fault: CoreFault) -> Stopped {
@@ -64,9 +54,6 @@ impl From<CoreFault> for Stopped {
 }
 
 impl From<(CoreFault, Item)> for Stopped {
-    ghost use Rattle.std.specs.Prelude.{◌≡◌};
-    ghost use Rattle.hlc_embed.specs.declared.stopped.Stopped.TheVariants.{Refused};
-
     ghost from_gives = { λ refused stopped. stopped ≡ Refused refused.0 };
 
     fn from(refused: (CoreFault, Item)) -> Stopped {
@@ -75,9 +62,6 @@ impl From<(CoreFault, Item)> for Stopped {
 }
 
 impl From<NodeFault> for Stopped {
-    ghost use Rattle.std.specs.Prelude.{◌≡◌};
-    ghost use Rattle.hlc_embed.specs.declared.stopped.Stopped.TheVariants.{NotIssued};
-
     ghost from_gives = { λ fault stopped. stopped ≡ NotIssued };
 
     fn from(_: NodeFault) -> Stopped {
@@ -86,9 +70,6 @@ impl From<NodeFault> for Stopped {
 }
 
 impl From<RefusedWrite> for Stopped {
-    ghost use Rattle.std.specs.Prelude.{◌≡◌};
-    ghost use Rattle.hlc_embed.specs.declared.stopped.Stopped.TheVariants.{NotIssued};
-
     ghost from_gives = { λ refused stopped. stopped ≡ NotIssued };
 
     fn from(_: RefusedWrite) -> Stopped {
@@ -97,9 +78,6 @@ impl From<RefusedWrite> for Stopped {
 }
 
 impl From<NotShown> for Stopped {
-    ghost use Rattle.std.specs.Prelude.{◌≡◌};
-    ghost use Rattle.hlc_embed.specs.declared.stopped.Stopped.TheVariants.{NotShown};
-
     ghost from_gives = { λ reason stopped. stopped ≡ NotShown };
 
     fn from(_: NotShown) -> Stopped {
