@@ -1,4 +1,8 @@
 //! A board, whose calls take no memory.
+ghost use Rattle.std.specs.Prelude.{◌≢◌, IsOkAnd};
+ghost use Rattle.hlc_refused.specs.declared.subject.Seen.{Seen};
+ghost use Rattle.hlc_refused.specs.Tried.{IsSeenIn};
+
 use crate::subject::{Place, Seen, seen_if};
 use crate::turn::Turn;
 use hlc_board::Board;
@@ -10,7 +14,10 @@ use std::alloc::{AllocError, Global};
 const MADE: u64 = 5;
 
 /// Raises the word of a node, looks at it, and looks at the floor, before and after.
-pub fn board(alloc: Global, turn: &mut Turn) -> Result<Seen, AllocError> {
+pub fn board(alloc: Global, turn: &mut Turn) -> Result<Seen, AllocError>
+    ensures { IsOkAnd result
+        (λ seen. IsSeenIn turn.old turn.new seen × (seen ≢ Seen.Refused)) }
+{
     let Ok(mut heads) = Heads::new(alloc, 1) else {
         return Ok(Seen::NotMade);
     };

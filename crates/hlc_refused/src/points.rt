@@ -1,11 +1,16 @@
 //! The points of a vacuum.
+ghost use Rattle.std.specs.Prelude.{IfOk};
+ghost use Rattle.hlc_refused.specs.Tried.{IsSeenIn};
+
 use crate::subject::{Place, Seen, seen_if};
 use crate::turn::Turn;
 use hlc_snapshot::{NoMemory, Registry, Stamp};
 use std::alloc::{AllocError, Global};
 
 /// Asks a registry of three snapshots for its points. A registry is not changed by that.
-pub fn points(alloc: Global, turn: &mut Turn) -> Result<Seen, AllocError> {
+pub fn points(alloc: Global, turn: &mut Turn) -> Result<Seen, AllocError>
+    ensures { IfOk result (λ seen. IsSeenIn turn.old turn.new seen) }
+{
     let mut registry = Registry::new(alloc);
     let (low, high) = (Stamp::from_bits(1), Stamp::from_bits(2));
     let due = Ok(vec![in alloc; low, high]?);

@@ -1,9 +1,10 @@
 //! A store with a past, and what it tells.
-ghost use Rattle.std.specs.Prelude.{◌≡◌, ◌≢◌, ◌^◌, ◌-◌, ◌∷◌, [], None, Some, IfOk, length};
+ghost use Rattle.std.specs.Prelude.{◌≡◌, ◌≢◌, ◌^◌, ◌-◌, ◌∷◌, [], None, Some, IfOk, IfSome, length};
 ghost use Rattle.hlc_node.specs.declared.item.Body.TheVariants.{Write as a_write};
 ghost use Rattle.hlc_floor.specs.Heads.{IsFloor};
 ghost use Rattle.hlc_core.specs.Calls.{AreRowsTo};
 ghost use Rattle.hlc_core.specs.Kept.{marks_of};
+ghost use Rattle.hlc_refused.specs.Stocked.{HasTaken};
 
 use hlc_core::{Body, Bytes, Core, CoreFault, Item, Listing, Report, Row, Stamp};
 use std::alloc::{AllocError, Global};
@@ -41,7 +42,9 @@ pub fn write(
 }
 
 /// A store of two nodes with four rows on three keys and four open snapshots.
-pub fn stocked(alloc: Global) -> Result<Option<Core>, AllocError> {
+pub fn stocked(alloc: Global) -> Result<Option<Core>, AllocError>
+    ensures { IfOk result (λ made. IfSome made (λ core. HasTaken core 4 4)) }
+{
     let Ok(mut core) = Core::new(alloc, 2) else {
         return Ok(None);
     };

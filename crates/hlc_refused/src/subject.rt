@@ -1,5 +1,6 @@
 //! What is tried: a call of a value with a past.
-ghost use Rattle.std.specs.Prelude.{◌≡◌, if◌then◌else◌};
+ghost use Rattle.std.specs.Prelude.{◌≡◌, ◌≢◌, None, if◌then◌else◌, IfOk};
+ghost use Rattle.hlc_refused.specs.Tried.{IsSeenIn};
 
 use crate::turn::Turn;
 use std::alloc::{AllocError, Global};
@@ -59,7 +60,9 @@ pub trait Subject: Drop {
 
 /// Makes the call while the request of that turn is refused, and compares with a twin on which none
 /// is.
-pub fn tried<S: Subject>(alloc: Global, line: &[u8], turn: &mut Turn) -> Result<Seen, AllocError> {
+pub fn tried<S: Subject>(alloc: Global, line: &[u8], turn: &mut Turn) -> Result<Seen, AllocError>
+    ensures { IfOk result (λ seen. IsSeenIn turn.old turn.new seen) }
+{
     let Some(mut tried) = S::new(alloc, line)? else {
         return Ok(Seen::NotMade);
     };
@@ -84,7 +87,11 @@ fn called<S: Subject>(
     tried: &mut S,
     twin: &mut S,
     answer: Option<S::Answer>,
-) -> Result<Seen, AllocError> {
+) -> Result<Seen, AllocError>
+    ensures made { IfOk result (λ seen. seen ≢ Seen.NotMade) }
+    ensures answered { IfOk result (λ seen. seen ≡ Seen.Answered → answer ≢ None) }
+    ensures refused { IfOk result (λ seen. seen ≡ Seen.Refused → answer ≡ None) }
+{
     if answer.is_some() {
         return Ok(seen_if(answer == twin.call(), Seen::Answered, Place::Answer));
     }

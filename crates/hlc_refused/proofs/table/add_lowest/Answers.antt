@@ -1,5 +1,5 @@
 -- Where no row is at or below a stamp, no row is of that stamp's version.
-use Rattle.std.proofs.Common.{◌≡◌, ◌∙◌, ◌<◌, ℕ, zero, suc, List, [], ◌∷◌, true, false, sym, ap, cond, arith, length}
+use Rattle.std.proofs.Common.{◌≡◌, ◌∙◌, ◌<◌, ℕ, zero, suc, List, [], ◌∷◌, sym, ap, cond, arith, length}
 use Rattle.std.proofs.Common.{get_or, true≢false, inl, inr, nat_le}
 use Rattle.std.specs.Prelude.{Contains, filter}
 use Rattle.std.proofs.lemmas.Bool.{cases_Bool, le-leb}

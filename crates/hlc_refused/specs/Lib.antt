@@ -1,0 +1,2 @@
+pub mod Stocked
+pub mod Tried
