@@ -20,8 +20,7 @@ one_more : (old new : Kept) (item : Item) (result : Result Acceptance (CoreFault
 one_more old new item (Ok accepted) written key value taken stands same _ body =
     let past : List Step = taken.1.0 in
     let row : length (item_rows item) ≡ 1 = ap (λ (b : Body). length (body_rows item.node item.stamp b)) body in
-    let rows : length (writes past) ≡ written = taken.1.2 in
-    (
+    let rows : length (writes past) ≡ written = taken.1.2 in (
       same ∙ taken.0,
       (
         Took item ∷ past,
