@@ -36,7 +36,7 @@ struct Outcome {
 
 /// Tries the call of this name, and compares with a twin on which none is refused. No clause says
 /// which request the run refuses, so none says what is seen; `judged` has what is said of it.
-pub fn guarded(
+pub(crate) fn guarded(
     alloc: Global,
     audit: bool,
     name: &[u8],

@@ -25,7 +25,7 @@ impl Read for GivesOnce {
 }
 
 /// Answers it on standard output.
-pub fn held(rt: &HostRuntime, alloc: Global, turn: &mut Turn) -> Seen {
+pub(crate) fn held(rt: &HostRuntime, alloc: Global, turn: &mut Turn) -> Seen {
     if !turn.begin(0) {
         return Seen::NotMade;
     }

@@ -11,10 +11,11 @@ const SCRIPT: &[u8] = b"nodes 1\nwrite 0 5 a x\ndeliver 0 0\nopen floor\nread 1 
 
 /// A certificate of two rows, which are the fewest.
 const CERTIFICATE: &[u8] =
-    b"point 1.0\npoint 2.0\npoint 3.0\nrow a 1.0 0 value x\nrow a 3.0 0 value y\nwitness a none 1.0\nwitness a 2.0 3.0\n";
+    b"point 1.0\npoint 2.0\npoint 3.0\nrow a 1.0 0 value x\nrow a 3.0 0 value y\n\
+        witness a none 1.0\nwitness a 2.0 3.0\n";
 
 /// Answers the script on standard output.
-pub fn script(rt: &HostRuntime, alloc: Global, turn: &mut Turn) -> Seen {
+pub(crate) fn script(rt: &HostRuntime, alloc: Global, turn: &mut Turn) -> Seen {
     if !turn.begin(0) {
         return Seen::NotMade;
     }
@@ -26,7 +27,7 @@ pub fn script(rt: &HostRuntime, alloc: Global, turn: &mut Turn) -> Seen {
 }
 
 /// Answers the certificate on standard output.
-pub fn check(rt: &HostRuntime, alloc: Global, turn: &mut Turn) -> Seen {
+pub(crate) fn check(rt: &HostRuntime, alloc: Global, turn: &mut Turn) -> Seen {
     if !turn.begin(0) {
         return Seen::NotMade;
     }

@@ -10,7 +10,7 @@ use std::alloc::{AllocError, Global};
 use std::thread::Threads;
 
 /// Vacuums a store while the request of that turn is refused, and compares with a twin.
-pub fn vacuum<R: Threads + Sync>(
+pub(crate) fn vacuum<R: Threads + Sync>(
     rt: &R,
     alloc: Global,
     turn: &mut Turn,

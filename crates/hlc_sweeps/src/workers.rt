@@ -42,17 +42,17 @@ struct Store<L: Ledger> {
 // seen of it. What is said for what, `seen` has.
 
 /// The link of three writes is fed into a new store.
-pub fn feeding<R: Wait>(rt: &R, alloc: Global, turn: &mut Turn) -> Result<Seen, AllocError> {
+pub(crate) fn feeding<R: Wait>(rt: &R, alloc: Global, turn: &mut Turn) -> Result<Seen, AllocError> {
     feeding_in::<Brand, R>(rt, alloc, Blank::new(1), turn)
 }
 
 /// One round of a reader over two keys.
-pub fn reading<R: Wait>(rt: &R, alloc: Global, turn: &mut Turn) -> Result<Seen, AllocError> {
+pub(crate) fn reading<R: Wait>(rt: &R, alloc: Global, turn: &mut Turn) -> Result<Seen, AllocError> {
     reading_in::<Brand, R>(rt, alloc, Blank::new(1), turn)
 }
 
 /// One vacuum.
-pub fn vacuuming<R: Wait + Threads + Sync>(
+pub(crate) fn vacuuming<R: Wait + Threads + Sync>(
     rt: &R,
     alloc: Global,
     turn: &mut Turn,

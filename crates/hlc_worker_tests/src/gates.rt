@@ -21,7 +21,7 @@ use std::thread::Threads;
 const LOOKS: u64 = 4_000_000_000;
 
 /// Looks until the flag is set. False where that was given up.
-pub fn was_set(flag: &AtomicBool) -> bool {
+pub(crate) fn was_set(flag: &AtomicBool) -> bool {
     for _ in 0..LOOKS {
         if flag.load(Ordering::SeqCst) {
             return true;
@@ -32,15 +32,15 @@ pub fn was_set(flag: &AtomicBool) -> bool {
 
 /// Two flags: turn 2 was asked for; the calls of the other thread were answered.
 #[derive(Drop)]
-pub struct Flags {
-    pub asked: AtomicBool,
-    pub answered: AtomicBool,
+pub(crate) struct Flags {
+    pub(crate) asked: AtomicBool,
+    pub(crate) answered: AtomicBool,
 }
 
 /// Holds turn 2 until the calls of the other thread were answered.
 #[derive(Drop)]
-pub struct HoldsTurnTwo<'a> {
-    pub flags: &'a Flags,
+pub(crate) struct HoldsTurnTwo<'a> {
+    pub(crate) flags: &'a Flags,
 }
 
 impl<'a> Gate for HoldsTurnTwo<'a> {
@@ -111,7 +111,7 @@ fn beside<L: Ledger + Send + Sync, R: Threads + Wait + Sync>(
 }
 
 /// Feeds the write of x at 1.0, and gives the receipts.
-pub fn feed_first<L: Ledger, R: Wait + Abort>(
+pub(crate) fn feed_first<L: Ledger, R: Wait + Abort>(
     rt: &R,
     alloc: Global,
     shared: &Shared<L>,
@@ -149,7 +149,11 @@ pub fn feed_first<L: Ledger, R: Wait + Abort>(
 }
 
 /// Looks whether a round opened at 1.0, read x twice, and closed.
-pub fn has_read_twice<R: Abort>(rt: &R, alloc: Global, reads: &[Receipt]) -> Result<(), Fail> {
+pub(crate) fn has_read_twice<R: Abort>(
+    rt: &R,
+    alloc: Global,
+    reads: &[Receipt],
+) -> Result<(), Fail> {
     assert_eq!(rt; reads.len(), 4);
     let answer = CoreReply::Answer(Some(bytes(alloc, b'x')?));
     assert_eq!(rt; reads[0].event, CoreEvent::OpenAt(at_second(1)));
