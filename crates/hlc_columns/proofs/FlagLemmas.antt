@@ -1,9 +1,9 @@
 -- The members of a list whose flags are set: of two lists one behind the other, after a map, and of a row set, which
--- they are again since each stood in it. Each is shown by going through the flags and the list.
+-- they are again since each stood in it; so are the rows that pass a test. Each is shown by going through the list.
 use Rattle.std.proofs.Common.{◌≡◌, Bool, true, false, List, [], ◌∷◌, ◌++◌, length, refl, ap, inl, inr}
-use Rattle.std.proofs.Common.{arith, Contains, map, take, drop}
+use Rattle.std.proofs.Common.{arith, cond, Contains, filter, map, take, drop}
 use Rattle.std.specs.List.{items_where_true}
-use Rattle.hlc_values.proofs.MemberLemmas.{Contains-rest, Contains-cons_cases}
+use Rattle.hlc_values.proofs.MemberLemmas.{Contains-rest, Contains-cons_cases, Contains-from_filter}
 use Rattle.hlc_node.specs.declared.row.Row.{Row}
 use Rattle.hlc_node.specs.Rows.{IsRowSet}
 
@@ -43,3 +43,11 @@ flagged-IsRowSet (b ∷ flags) [] apart = tt
 flagged-IsRowSet (true ∷ flags) (row ∷ rows) apart =
     (λ other i. apart.0 other (flagged-Contains flags rows other i), flagged-IsRowSet flags rows apart.1)
 flagged-IsRowSet (false ∷ flags) (row ∷ rows) apart = flagged-IsRowSet flags rows apart.1
+
+pub filter-IsRowSet : (p : Row → Bool) (rows : List Row) → IsRowSet rows → IsRowSet (filter p rows)
+filter-IsRowSet p [] apart = tt
+filter-IsRowSet p (row ∷ rows) apart =
+    elim (p row) as (λ b. IsRowSet (cond b (row ∷ filter p rows) (filter p rows))) [
+      | true ↦ (λ other i. apart.0 other (Contains-from_filter p rows other i).0, filter-IsRowSet p rows apart.1)
+      | false ↦ filter-IsRowSet p rows apart.1
+    ]

@@ -1,9 +1,9 @@
 -- Looking a key up: the rows of a key are those of its column, for the keys ascend,
 -- so that no other column has the key.
-use Rattle.std.proofs.Common.{◌≡◌, ◌≢◌, ℕ, zero, suc, ◌<◌, Bool, true, false, cond, List, [], ◌∷◌, ◌++◌, Option, Some}
+use Rattle.std.proofs.Common.{◌≡◌, ◌≢◌, ℕ, ◌<◌, Bool, true, false, cond, List, [], ◌∷◌, ◌++◌, Option, Some}
 use Rattle.std.proofs.Common.{None, length, refl, Bor, ◌↔◌, sym, ap, ap₂, ◌∙◌, subst, inl, inr, arith, Contains}
 use Rattle.std.proofs.Common.{true≢false, Less, nat_cmp}
-use Rattle.std.specs.Prelude.{IsNone, option_copied, IfSome, option_and_then, slice_get}
+use Rattle.std.specs.Prelude.{IsNone, option_copied, IfSome, option_and_then}
 use Rattle.std.specs.Ordering.{is_eq}
 use Rattle.std.specs.Cmp.Lexicographic.{slice_cmp, texts_ties}
 use Rattle.std.specs.List.{AllByRecursion}
@@ -11,13 +11,15 @@ use Rattle.std.specs.List.Sorted.{IsStrictlySortedBy}
 use Rattle.std.specs.Map.{lookup, keys_of}
 use Rattle.std.proofs.lemmas.Map.Keys.{sorted_head, sorted_tail}
 use Rattle.std.proofs.lemmas.Bool.{cases_Bool}
-use Rattle.std.proofs.lemmas.Option.{none-some, same_Some}
+use Rattle.std.proofs.lemmas.Option.{none-some}
 use Rattle.std.proofs.lemmas.List.{append-nil, length-map}
-use Rattle.std.proofs.lemmas.List.Elements.{filter-append}
+use Rattle.std.proofs.lemmas.List.Elements.{filter-append, Contains-append_cases}
 use Rattle.std.proofs.lemmas.Slice.Eq.{bytes_eq-Decides}
 use Rattle.hlc_node.specs.declared.row.Row.{Row}
 use Rattle.hlc_node.specs.Rows.{newest, answer}
-use Rattle.hlc_columns.proofs.First.{newest_nil, newest_other, newest_only}
+use Rattle.hlc_node.proofs.NewestLemmas.{newest_after_others, newest_before_others}
+use Rattle.hlc_columns.proofs.First.{newest_nil}
+use Rattle.hlc_columns.proofs.RowLemmas.{row_key}
 use Rattle.hlc_columns.specs.Cells.{Cell}
 use Rattle.hlc_columns.specs.Rows.{row_of, rows_of, rows_with, KeyCells, rows_in_one}
 use Rattle.hlc_columns.specs.Table.{table_rows}
@@ -38,21 +40,6 @@ cells_in (Some cells) = cells
 -- a key's test
 abbrev pub test : {K : Type 0} → (K → List ℕ) → List ℕ → K → Bool
 test f key k = is_eq (slice_cmp nat_cmp key (f k))
-
--- where a row of a column stands, it has the column's key
-pub key_at : (k : List ℕ) (cells : List Cell) (j : ℕ) (w : Row) → slice_get (rows_of k cells) j ≡ Some w → w.key ≡ k
-key_at k [] j w e = absurd (none-some w e)
-key_at k (c ∷ cs) zero w e = ap (λ (r : Row). r.key) (sym (same_Some (row_of k c) w e))
-key_at k (c ∷ cs) (suc j) w e = key_at k cs j w e
-
-no_row_on : (k key : List ℕ) (xs ys : List Row) → key ≢ k → ((i : ℕ) (v : Row) → slice_get xs i ≡ Some v → v.key ≡ k)
-    → ((i : ℕ) (v : Row) → slice_get ys i ≡ Some v → v.key ≡ key → ⊥)
-    → (j : ℕ) (w : Row) → slice_get (xs ++ ys) j ≡ Some w → w.key ≡ key → ⊥
-no_row_on k key [] ys apart keys none j w at same = none j w at same
-no_row_on k key (x ∷ xs) ys apart keys none zero w at same =
-    apart (sym same ∙ ap (λ (r : Row). r.key) (sym (same_Some x w at)) ∙ keys 0 x refl)
-no_row_on k key (x ∷ xs) ys apart keys none (suc j) w at same =
-    no_row_on k key xs ys apart (λ i v. keys (suc i) v) none j w at same
 
 -- of a column's rows, all have its key and none another
 own_rows : (key : List ℕ) (cells : List Cell) → rows_with key (rows_of key cells) ≡ rows_of key cells
@@ -85,8 +72,8 @@ module _ {K : Type 0} (f : K → List ℕ) where
   none_in_table key s [] h = newest_nil key s
   none_in_table key s (e ∷ es) h =
       let p = none_here key e es h in
-      newest_other (rows_of (f e.0) e.1) (table_rows f es) key s
-      (λ j w at same. other_key key (f e.0) p.0 (sym same ∙ key_at (f e.0) e.1 j w at))
+      newest_after_others (rows_of (f e.0) e.1) (table_rows f es) key s
+      (λ row m same. other_key key (f e.0) p.0 (sym same ∙ row_key (f e.0) e.1 row m))
       ∙ none_in_table key s es p.1
 
   none_past : (key : List ℕ) (es : List (K × List Cell))
@@ -95,13 +82,15 @@ module _ {K : Type 0} (f : K → List ℕ) where
   none_past key (e ∷ es) h = ap (λ o. cond (is_eq o) (Some e.1) (lookup (test f key) es)) h.0 ∙ none_past key es h.1
 
   -- a key that has no column has no row
-  pub no_row : (key : List ℕ) (es : List (K × List Cell)) → lookup (test f key) es ≡ None → (j : ℕ) (w : Row)
-      → slice_get (table_rows f es) j ≡ Some w → w.key ≡ key → ⊥
-  no_row key [] h j w e same = absurd (none-some w e)
-  no_row key (e ∷ es) h j w at same =
+  pub no_row : (key : List ℕ) (es : List (K × List Cell)) → lookup (test f key) es ≡ None → (row : Row)
+      → Contains (table_rows f es) row → row.key ≢ key
+  no_row key [] h row m same = Contains-none row m
+  no_row key (e ∷ es) h row m same =
       let p = none_here key e es h in
-      no_row_on (f e.0) key (rows_of (f e.0) e.1) (table_rows f es) (other_key key (f e.0) p.0) (key_at (f e.0) e.1)
-      (no_row key es p.1) j w at same
+      elim (Contains-append_cases (rows_of (f e.0) e.1) (table_rows f es) row m) [
+        | inl here ↦ other_key key (f e.0) p.0 (sym same ∙ row_key (f e.0) e.1 row here)
+        | inr there ↦ no_row key es p.1 row there same
+      ]
 
   -- the newest row of a key in the table is the newest of its column
   pub newest_in_table : (key : List ℕ) (s : ℕ) (es : List (K × List Cell))
@@ -115,12 +104,12 @@ module _ {K : Type 0} (f : K → List ℕ) where
             let past = none_past key es
             (subst (λ k. AllByRecursion (λ y. slice_cmp nat_cmp k (f y) ≡ Less) (keys_of es)) (sym same)
             (sorted_head (λ a b. slice_cmp nat_cmp (f a) (f b)) e.0 (keys_of es) up)) in
-            newest_only (rows_of (f e.0) e.1) (table_rows f es) key s (no_row key es past)
+            newest_before_others (rows_of (f e.0) e.1) (table_rows f es) key s (no_row key es past)
             ∙ ap (λ k. newest (rows_of k e.1) key s) (sym same)
             ∙ ap (λ b. newest (rows_of key (cells_in (cond b (Some e.1) (lookup (test f key) es)))) key s) (sym t)
         | inr n ↦
-            newest_other (rows_of (f e.0) e.1) (table_rows f es) key s
-            (λ j w at same. other_key key (f e.0) n (sym same ∙ key_at (f e.0) e.1 j w at))
+            newest_after_others (rows_of (f e.0) e.1) (table_rows f es) key s
+            (λ row m same. other_key key (f e.0) n (sym same ∙ row_key (f e.0) e.1 row m))
             ∙ newest_in_table key s es (sorted_tail (λ a b. slice_cmp nat_cmp (f a) (f b)) e.0 (keys_of es) up)
             ∙ ap (λ b. newest (rows_of key (cells_in (cond b (Some e.1) (lookup (test f key) es)))) key s) (sym n)
       ]
@@ -152,12 +141,12 @@ module _ {K : Type 0} (f : K → List ℕ) where
       elim (Contains-cons_cases (record { key = f e.0; cells = e.1 }) one (keyed f es) i) [
         | inl is ↦
             subst (λ (x : KeyCells). newest (table_rows f (e ∷ es)) x.key bound ≡ newest (rows_in_one x) x.key bound) is
-            (newest_only (rows_of (f e.0) e.1) (table_rows f es) (f e.0) bound
+            (newest_before_others (rows_of (f e.0) e.1) (table_rows f es) (f e.0) bound
             (no_row (f e.0) es (none_past (f e.0) es later)))
         | inr there ↦
-            newest_other (rows_of (f e.0) e.1) (table_rows f es) one.key bound
-            (λ j w at same. other_key (f e.0) one.key (ap is_eq (column_later (f e.0) es one later there))
-            (sym (key_at (f e.0) e.1 j w at) ∙ same))
+            newest_after_others (rows_of (f e.0) e.1) (table_rows f es) one.key bound
+            (λ row m same. other_key (f e.0) one.key (ap is_eq (column_later (f e.0) es one later there))
+            (sym (row_key (f e.0) e.1 row m) ∙ same))
             ∙ newest_alone es (sorted_tail (λ a b. slice_cmp nat_cmp (f a) (f b)) e.0 (keys_of es) up) one there bound
       ]
 

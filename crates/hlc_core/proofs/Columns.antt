@@ -1,35 +1,13 @@
 -- Columns, each with its key: which keys there are, and the pairs of the columns one after another.
-use Rattle.std.proofs.Common.{◌≡◌, ℕ, ◌+◌, ◌<◌, ◌≤◌, List, [], ◌∷◌, ◌++◌, Option, length, get_or, drop, sym, ap, ◌∙◌}
-use Rattle.std.proofs.Common.{subst, inl, inr}
+use Rattle.std.proofs.Common.{◌≡◌, ℕ, ◌+◌, ◌<◌, ◌≤◌, List, ◌∷◌, ◌++◌, Option, length, get_or, drop, sym, ap, ◌∙◌}
 use Rattle.std.specs.Prelude.{Contains, option_and_then}
 use Rattle.std.proofs.lemmas.List.{append-nil, drop_more, drop_all}
-use Rattle.std.proofs.lemmas.List.Elements.{Contains-append_cases}
 use Rattle.hlc_node.specs.declared.row.Row.{Row}
 use Rattle.hlc_node.specs.Rows.{answer}
-use Rattle.hlc_columns.specs.Cells.{Cell}
-use Rattle.hlc_columns.specs.Rows.{KeyCells, row_of, rows_of, rows_in_one, rows_in, keys_in, AreAlone}
+use Rattle.hlc_columns.specs.Rows.{KeyCells, rows_in_one, rows_in, keys_in, AreAlone}
 use Rattle.hlc_core.specs.declared.listing.Pair.{Pair}
 use Rattle.hlc_core.specs.Listing.{pair_of, pairs_of}
-use Rattle.hlc_core.proofs.PastLemmas.{none-contained, contained-first, contained-rest, contained-cases}
 use Rattle.hlc_core.proofs.Listed.{pairs-rest}
-
--- a row of a column has its key
-key_of : (key : List ℕ) (cells : List Cell) (row : Row) → Contains (rows_of key cells) row → row.key ≡ key
-key_of key [] row i = absurd (none-contained row i)
-key_of key (c ∷ cs) row i = elim (contained-cases (row_of key c) (rows_of key cs) row i) [
-  | inl is ↦ ap (λ (r : Row). r.key) (sym is)
-  | inr r ↦ key_of key cs row r
-]
-
--- a row of some columns has one of their keys
-pub key_among : (columns : List KeyCells) (row : Row) → Contains (rows_in columns) row
-    → Contains (keys_in columns) row.key
-key_among [] row i = absurd (none-contained row i)
-key_among (one ∷ columns) row i = elim (Contains-append_cases (rows_in_one one) (rows_in columns) row i) [
-  | inl here ↦ subst (Contains (keys_in (one ∷ columns))) (sym (key_of one.key one.cells row here))
-      (contained-first one.key (keys_in columns))
-  | inr there ↦ contained-rest one.key (keys_in columns) row.key (key_among columns row there)
-]
 
 -- one column on
 pub pair_on : (stamp : ℕ) (columns : List KeyCells) (i : ℕ) (one : KeyCells) (now new : List Pair)

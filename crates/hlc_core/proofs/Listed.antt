@@ -1,55 +1,21 @@
 -- The pairs of sorted keys, each of which stands once, are the listing, where every row's key is among them:
 -- a key with a value has a row.
-use Rattle.std.proofs.Common.{◌≡◌, ℕ, List, [], ◌∷◌, ◌++◌, map, Some, None, Option, refl, sym, ap, ◌∙◌, subst, ◌⊎◌, inl}
+use Rattle.std.proofs.Common.{◌≡◌, ℕ, List, [], ◌∷◌, ◌++◌, map, Some, None, Option, refl, sym, ap, ◌∙◌, subst, inl}
 use Rattle.std.proofs.Common.{inr, Less, Ordering, nat_cmp, append_assoc}
 use Rattle.std.specs.Prelude.{Contains, option_and_then}
 use Rattle.std.specs.List.{AllByRecursion}
 use Rattle.std.specs.List.Sorted.{IsStrictlySortedBy}
 use Rattle.std.specs.Cmp.Lexicographic.{slice_cmp}
-use Rattle.std.proofs.lemmas.Bool.{cond-true, cond-false, cases_Bool, and_parts}
 use Rattle.std.proofs.lemmas.List.Elements.{Contains-append_cases, Contains-append_left, Contains-append_right}
-use Rattle.std.proofs.lemmas.Slice.Eq.{bytes_eq-Decides}
+use Rattle.hlc_values.proofs.MemberLemmas.{Contains-none, Contains-first, Contains-cons_cases}
 use Rattle.hlc_node.specs.declared.row.Row.{Row}
-use Rattle.hlc_node.specs.Rows.{is_candidate, is_before, later, newest, answer}
+use Rattle.hlc_node.specs.Rows.{newest, answer}
+use Rattle.hlc_node.proofs.NewestLemmas.{newest_is_greatest}
 use Rattle.hlc_core.specs.declared.listing.Pair.{Pair}
 use Rattle.hlc_core.specs.Listing.{IsListing, pair_of, pairs_of}
-use Rattle.hlc_core.proofs.PastLemmas.{none-contained, contained-first, contained-rest, contained-cases}
 
 abbrev key_cmp : List ℕ → List ℕ → Ordering
 key_cmp = slice_cmp nat_cmp
-
--- the later of a row and another is one of the two
-later-cases : (row : Row) (other : Option Row) (top : Row) → later row other ≡ top → (row ≡ top) ⊎ (other ≡ Some top)
-later-cases row None top is = inl is
-later-cases row (Some other) top is =
-    elim (cases_Bool (is_before row other)) [
-      | inl before ↦ inr (ap Some (sym (cond-true _ _ _ before) ∙ is))
-      | inr not_before ↦ inl (sym (cond-false _ _ _ not_before) ∙ is)
-    ]
-
--- the newest row is one of the rows, and of the key
-newest-member : (rows : List Row) (key : List ℕ) (bound : ℕ) (top : Row) → newest rows key bound ≡ Some top
-    → Contains rows top × (top.key ≡ key)
-unfolding newest
-newest-member [] key bound top is = absurd (cc)
-newest-member (row ∷ rows) key bound top is =
-    elim (cases_Bool (is_candidate key bound row)) [
-      | inr miss ↦
-          let rest = newest-member rows key bound top (sym (cond-false _ _ _ miss) ∙ is) in
-          (contained-rest row rows top rest.0, rest.1)
-      | inl hit ↦
-          let one : Some (later row (newest rows key bound)) ≡ Some top = sym (cond-true _ _ _ hit) ∙ is in
-          let one' : later row (newest rows key bound) ≡ top = cc in
-          elim (later-cases row (newest rows key bound) top one') [
-            | inl here ↦ (
-              subst (λ x. Contains (row ∷ rows) x) here (contained-first row rows),
-              ap (λ x. x.key) (sym here) ∙ (bytes_eq-Decides row.key key).0 (and_parts _ _ hit).0,
-            )
-            | inr there ↦
-                let rest = newest-member rows key bound top there in
-                (contained-rest row rows top rest.0, rest.1)
-          ]
-    ]
 
 some-of : (o : Option Row) (value : List ℕ) → option_and_then (λ (row : Row). row.value) o ≡ Some value
     → (row : Row) × (o ≡ Some row)
@@ -61,21 +27,21 @@ has-row : (rows : List Row) (key : List ℕ) (stamp : ℕ) (value : List ℕ) �
     → (row : Row) × Contains rows row × (row.key ≡ key)
 has-row rows key stamp value is =
     let top = some-of (newest rows key stamp) value is in
-    let at = newest-member rows key stamp top.0 top.1 in (top.0, at.0, at.1)
+    let at = newest_is_greatest rows key stamp top.0 top.1 in (top.0, at.member, at.of_key)
 
 pair-value : (key : List ℕ) (o : Option (List ℕ)) (pair : Pair) → Contains (pair_of key o) pair
     → (pair.key ≡ key) × (o ≡ Some pair.value)
-pair-value key None pair m = absurd (none-contained pair m)
+pair-value key None pair m = absurd (Contains-none pair m)
 pair-value key (Some value) pair m =
-    elim (contained-cases (record { key = key; value = value }) [] pair m) [
+    elim (Contains-cons_cases (record { key = key; value = value }) pair [] m) [
       | inl same ↦ (ap (λ x. x.key) (sym same), ap (λ x. Some x.value) same)
-      | inr none ↦ absurd (none-contained pair none)
+      | inr none ↦ absurd (Contains-none pair none)
     ]
 
 -- each pair is a key with its value
 values : (rows : List Row) (stamp : ℕ) (keys : List (List ℕ)) (pair : Pair) → Contains (pairs_of rows stamp keys) pair
     → answer rows pair.key stamp ≡ Some pair.value
-values rows stamp [] pair m = absurd (none-contained pair m)
+values rows stamp [] pair m = absurd (Contains-none pair m)
 values rows stamp (key ∷ keys) pair m =
     elim (Contains-append_cases (pair_of key (answer rows key stamp)) (pairs_of rows stamp keys) pair m) [
       | inl here ↦ let is = pair-value key (answer rows key stamp) pair here in
@@ -86,13 +52,13 @@ values rows stamp (key ∷ keys) pair m =
 -- and each of the keys with a value is among them
 listed : (rows : List Row) (stamp : ℕ) (keys : List (List ℕ)) (key value : List ℕ) → Contains keys key
     → answer rows key stamp ≡ Some value → Contains (pairs_of rows stamp keys) (record { key = key; value = value })
-listed rows stamp [] key value m is = absurd (none-contained key m)
+listed rows stamp [] key value m is = absurd (Contains-none key m)
 listed rows stamp (first ∷ keys) key value m is =
-    elim (contained-cases first keys key m) [
+    elim (Contains-cons_cases first key keys m) [
       | inl here ↦
           Contains-append_left (pair_of first (answer rows first stamp)) (pairs_of rows stamp keys) _
           (subst (λ k. Contains (pair_of k (answer rows k stamp)) (record { key = key; value = value })) (sym here)
-          (subst (λ o. Contains (pair_of key o) (record { key = key; value = value })) (sym is) (contained-first _ [])))
+          (subst (λ o. Contains (pair_of key o) (record { key = key; value = value })) (sym is) (Contains-first _ [])))
       | inr there ↦ Contains-append_right (pair_of first (answer rows first stamp)) (pairs_of rows stamp keys) _
           (listed rows stamp keys key value there is)
     ]

@@ -6,10 +6,10 @@ use Rattle.std.specs.List.{AllByRecursion}
 use Rattle.std.specs.List.Sorted.{IsStrictlySortedBy}
 use Rattle.std.specs.Cmp.Lexicographic.{slice_cmp}
 use Rattle.std.proofs.lemmas.Cmp.{nat_list_cmp_total, tied_itself}
+use Rattle.hlc_values.proofs.MemberLemmas.{Contains-none, Contains-first, Contains-rest, Contains-cons_cases}
 use Rattle.hlc_node.specs.declared.row.Row.{Row}
 use Rattle.hlc_core.specs.declared.listing.Pair.{Pair}
 use Rattle.hlc_core.specs.Listing.{IsListing}
-use Rattle.hlc_core.proofs.PastLemmas.{none-contained, contained-first, contained-rest, contained-cases}
 
 -- the one key is before the other
 abbrev IsBefore : List ℕ → List ℕ → Type 0
@@ -28,9 +28,9 @@ Rises (x ∷ xs) = ((y : Pair) → Contains xs y → IsBefore x.key y.key) × Ri
 
 all-keys : (P : List ℕ → Type 0) (xs : List Pair) → AllByRecursion P (map (λ pair. pair.key) xs) → (y : Pair)
     → Contains xs y → P y.key
-all-keys P [] all' y m = absurd (none-contained y m)
+all-keys P [] all' y m = absurd (Contains-none y m)
 all-keys P (x ∷ xs) all' y m =
-    elim (contained-cases x xs y m) [
+    elim (Contains-cons_cases x y xs m) [
       | inl same ↦ subst (λ (z : Pair). P z.key) same all'.0
       | inr there ↦ all-keys P xs all'.1 y there
     ]
@@ -44,7 +44,7 @@ rises (x ∷ xs) up = (all-keys (λ k. IsBefore x.key k) xs up.0, rises xs up.1)
 rest-same : (x : Pair) (xs ys : List Pair) → ((z : Pair) → Contains xs z → IsBefore x.key z.key)
     → ((z : Pair) → Contains (x ∷ xs) z → Contains (x ∷ ys) z) → (z : Pair) → Contains xs z → Contains ys z
 rest-same x xs ys below same z m =
-    elim (contained-cases x ys z (same z (contained-rest x xs z m))) [
+    elim (Contains-cons_cases x z ys (same z (Contains-rest x z xs m))) [
       | inl is ↦ absurd (not-itself x.key (subst (λ (y : Pair). IsBefore x.key y.key) (sym is) (below z m)))
       | inr there ↦ there
     ]
@@ -52,10 +52,10 @@ rest-same x xs ys below same z m =
 heads-same : (x y : Pair) (xs ys : List Pair) → Rises (x ∷ xs) → Rises (y ∷ ys) → Contains (y ∷ ys) x
     → Contains (x ∷ xs) y → x ≡ y
 heads-same x y xs ys a b m k =
-    elim (contained-cases y ys x m) [
+    elim (Contains-cons_cases y x ys m) [
       | inl is ↦ sym is
       | inr behind ↦
-          elim (contained-cases x xs y k) [
+          elim (Contains-cons_cases x y xs k) [
             | inl is ↦ is
             | inr after ↦ absurd (not-both y.key x.key (b.0 x behind) (a.0 y after))
           ]
@@ -64,10 +64,10 @@ heads-same x y xs ys a b m k =
 same-members : (xs ys : List Pair) → Rises xs → Rises ys → ((z : Pair) → Contains xs z → Contains ys z)
     → ((z : Pair) → Contains ys z → Contains xs z) → xs ≡ ys
 same-members [] [] a b into back = cc
-same-members [] (y ∷ ys) a b into back = absurd (none-contained y (back y (contained-first y ys)))
-same-members (x ∷ xs) [] a b into back = absurd (none-contained x (into x (contained-first x xs)))
+same-members [] (y ∷ ys) a b into back = absurd (Contains-none y (back y (Contains-first y ys)))
+same-members (x ∷ xs) [] a b into back = absurd (Contains-none x (into x (Contains-first x xs)))
 same-members (x ∷ xs) (y ∷ ys) a b into back =
-    let first : x ≡ y = heads-same x y xs ys a b (into x (contained-first x xs)) (back y (contained-first y ys)) in
+    let first : x ≡ y = heads-same x y xs ys a b (into x (Contains-first x xs)) (back y (Contains-first y ys)) in
     let into' : (z : Pair) → Contains (x ∷ xs) z → Contains (x ∷ ys) z =
     λ z m. subst (λ w. Contains (w ∷ ys) z) (sym first) (into z m) in
     let back' : (z : Pair) → Contains (x ∷ ys) z → Contains (x ∷ xs) z =

@@ -1,12 +1,13 @@
 -- What holds of a legal past: an item that nothing refuses lies above its node's head, so no write is accepted twice,
 -- and the floor never falls, so no open snapshot is above it; and it says what an item may say, so no accepted write is
 -- beyond the limits.
-use Rattle.std.proofs.Common.{◌≡◌, ℕ, zero, suc, ◌+◌, ◌<◌, ◌≤◌, ◌⊎◌, List, [], ◌∷◌, ◌++◌, length, max, Bool, true}
+use Rattle.std.proofs.Common.{◌≡◌, ℕ, ◌+◌, ◌<◌, ◌≤◌, ◌⊎◌, List, [], ◌∷◌, ◌++◌, max, Bool, true}
 use Rattle.std.proofs.Common.{false, Option, Some, None, refl, ap, sym, ◌∙◌, subst, inl, inr, arith, append-nil}
 use Rattle.std.specs.Prelude.{All, Contains, ◌==◌, ◌≢◌, not}
 use Rattle.std.proofs.lemmas.Bool.{cond-true, cond-false, le-leb, lt-leb, lt-ltb, le-ltb, eq-eqb, ne_eqb, cases_lt}
 use Rattle.std.proofs.lemmas.Bool.{cases_eq}
 use Rattle.std.proofs.lemmas.List.Elements.{Contains-append_cases, All-nil, All-weaker, All-push, All-filter}
+use Rattle.hlc_values.proofs.MemberLemmas.{Contains-none, Contains-first, Contains-rest, Contains-cons_cases}
 use Rattle.hlc_node.specs.declared.row.Row.{Row}
 use Rattle.hlc_node.specs.declared.item.Item.{Item}
 use Rattle.hlc_node.specs.declared.item.Body.{Body}
@@ -123,28 +124,15 @@ fresh nodes (Took item ∷ past) n legal out =
     let rest = fresh nodes past n legal.1 out in
     (count-other n item past other ∙ rest.0, retired-other n item past other ∙ rest.1)
 
-pub none-contained : {X : Type 0} (y : X) → Contains [] y → ⊥
-none-contained y (k, lt, e) = omega (arith, lt)
-
-pub contained-cases : {X : Type 0} (x : X) (xs : List X) (y : X) → Contains (x ∷ xs) y → (x ≡ y) ⊎ Contains xs y
-contained-cases x xs y (zero, lt, e) = inl e
-contained-cases x xs y (suc k, lt, e) = inr (k, (let l : suc k < length (x ∷ xs) = lt in omega arith), e)
-
-pub contained-first : {X : Type 0} (x : X) (xs : List X) → Contains (x ∷ xs) x
-contained-first x xs = (0, omega arith, refl)
-
-pub contained-rest : {X : Type 0} (x : X) (xs : List X) (y : X) → Contains xs y → Contains (x ∷ xs) y
-contained-rest x xs y (k, lt, e) = (suc k, omega arith, e)
-
 -- the row of an item has its node and its stamp
 pub body_rows-are : (node stamp : ℕ) (body : Body) (row : Row) → Contains (body_rows node stamp body) row
     → (row.node ≡ node) × (row.stamp ≡ stamp)
-body_rows-are node stamp Report row m = absurd (none-contained row m)
-body_rows-are node stamp Retire row m = absurd (none-contained row m)
+body_rows-are node stamp Report row m = absurd (Contains-none row m)
+body_rows-are node stamp Retire row m = absurd (Contains-none row m)
 body_rows-are node stamp (Write key value) row m =
-    elim (contained-cases (record { key = key; stamp = stamp; node = node; value = value }) [] row m) [
+    elim (Contains-cons_cases (record { key = key; stamp = stamp; node = node; value = value }) row [] m) [
       | inl same ↦ (sym (ap (λ r. r.node) same), sym (ap (λ r. r.stamp) same))
-      | inr rest ↦ absurd (none-contained row rest)
+      | inr rest ↦ absurd (Contains-none row rest)
     ]
 
 head-up : (n : ℕ) (item : Item) (past : List Step) → head item.node past < item.stamp
@@ -191,7 +179,7 @@ above_floor nodes past item h =
 -- each accepted write is of a node that is there
 pub inside-row : (nodes : ℕ) (past : List Step) → IsLegal nodes past → (row : Row) → Contains (writes past) row
     → row.node < numbered nodes past
-inside-row nodes [] legal row m = absurd (none-contained row m)
+inside-row nodes [] legal row m = absurd (Contains-none row m)
 inside-row nodes (Opened stamp ∷ past) legal row m = inside-row nodes past legal.1 row m
 inside-row nodes (Closed id ∷ past) legal row m = inside-row nodes past legal.1 row m
 inside-row nodes (Vacuumed ∷ past) legal row m = inside-row nodes past legal row m
@@ -211,7 +199,7 @@ inside-row nodes (Took item ∷ past) legal row m =
 -- each accepted write lies at or below its node's head
 below_head : (nodes : ℕ) (past : List Step) → IsLegal nodes past → (row : Row) → Contains (writes past) row
     → row.stamp ≤ head row.node past
-below_head nodes [] legal row m = absurd (none-contained row m)
+below_head nodes [] legal row m = absurd (Contains-none row m)
 below_head nodes (Opened stamp ∷ past) legal row m = below_head nodes past legal.1 row m
 below_head nodes (Closed id ∷ past) legal row m = below_head nodes past legal.1 row m
 below_head nodes (Vacuumed ∷ past) legal row m = below_head nodes past legal row m
@@ -249,18 +237,18 @@ new_version nodes past item legal none row other m k v =
 
 row_set-push : (rows : List Row) (row : Row) → ((other : Row) → Contains rows other → IsSameVersion other row → ⊥)
     → IsRowSet rows → IsRowSet (rows ++ row ∷ [])
-row_set-push [] row fresh set' = ((λ other m v. none-contained other m), tt)
+row_set-push [] row fresh set' = ((λ other m v. Contains-none other m), tt)
 row_set-push (first ∷ rows) row fresh set' = (
   λ other m v.
       elim (Contains-append_cases rows (row ∷ []) other m) [
         | inl earlier ↦ set'.0 other earlier v
         | inr last ↦
-            elim (contained-cases row [] other last) [
-              | inl same ↦ fresh first (contained-first first rows) (subst (λ x. IsSameVersion first x) (sym same) v)
-              | inr none ↦ none-contained other none
+            elim (Contains-cons_cases row other [] last) [
+              | inl same ↦ fresh first (Contains-first first rows) (subst (λ x. IsSameVersion first x) (sym same) v)
+              | inr none ↦ Contains-none other none
             ]
       ],
-  row_set-push rows row (λ other m v. fresh other (contained-rest first rows other m) v) set'.1,
+  row_set-push rows row (λ other m v. fresh other (Contains-rest first other rows m) v) set'.1,
 )
 
 -- the row of an item, if it is a write, is set behind others that are not its version
@@ -270,7 +258,7 @@ pub row_set-body : (node stamp : ℕ) (body : Body) (rows : List Row)
 row_set-body node stamp Report rows fresh set' = rw append-nil set'
 row_set-body node stamp Retire rows fresh set' = rw append-nil set'
 row_set-body node stamp (Write key value) rows fresh set' =
-    row_set-push rows _ (λ other m v. fresh _ other (contained-first _ []) m v) set'
+    row_set-push rows _ (λ other m v. fresh _ other (Contains-first _ []) m v) set'
 
 -- no two accepted writes are alike in key, stamp and node
 pub writes-row_set : (nodes : ℕ) (past : List Step) → IsLegal nodes past → IsRowSet (writes past)

@@ -10,6 +10,7 @@ use Rattle.std.proofs.lemmas.Bool.{cases_eq, cases_Bool}
 use Rattle.std.proofs.lemmas.List.{get_or-map, length-map, map-set, map-append, append-nil, get_or_append_left}
 use Rattle.std.proofs.Math.Seq.{get_or-append_seam}
 use Rattle.std.proofs.lemmas.List.Elements.{All-weaker, All-contains_itself}
+use Rattle.hlc_values.proofs.MemberLemmas.{Contains-first, Contains-rest, Contains-cons_cases, Contains-map}
 use Rattle.hlc_node.specs.declared.row.Row.{Row}
 use Rattle.hlc_node.specs.declared.item.Item.{Item}
 use Rattle.hlc_node.specs.declared.item.Body.{Body}
@@ -34,14 +35,12 @@ use Rattle.hlc_snapshot.proofs.RegisterLemmas.{stamp_in-all}
 use Rattle.hlc_vacuum.proofs.StandingLemmas.{writes_keep_standing, writes_are_counted, opens_keep_standing}
 use Rattle.hlc_snapshot.specs.declared.fault.NoSnapshot.{NoSnapshot}
 use Rattle.hlc_core.specs.declared.listing.Pair.{Pair}
-use Rattle.hlc_core.proofs.Mapped.{in_map}
 use Rattle.hlc_snapshot.specs.Register.{Register, closed, stamps, stamp_in, without, room_refusal as room_in}
 use Rattle.hlc_snapshot.specs.Register.{IsRefusal as IsRoomRefusal}
 use Rattle.hlc_core.specs.Calls.{new_refusal, IsRefusal, Closes}
 use Rattle.hlc_core.specs.Listing.{IsListing}
 use Rattle.hlc_core.proofs.PastLemmas.{admissible, on_link, inside, fresh, retired-same, retired-other, head-joined}
-use Rattle.hlc_core.proofs.PastLemmas.{head-joined_other, above-horizon, open-above, writes-row_set, contained-cases}
-use Rattle.hlc_core.proofs.PastLemmas.{contained-first, contained-rest}
+use Rattle.hlc_core.proofs.PastLemmas.{head-joined_other, above-horizon, open-above, writes-row_set}
 
 abbrev a_link : ℕ → ℕ → Bool → Progress
 a_link next head gone = record { next = next; head = head; retired = gone }
@@ -432,12 +431,12 @@ still-open id stamp [] m = m
 still-open id stamp (x ∷ xs) m =
     elim (cases_Bool (not (x.id == id))) [
       | inl kept ↦
-          elim (contained-cases x.stamp (stamps (without id xs)) stamp
+          elim (Contains-cons_cases x.stamp stamp (stamps (without id xs))
           (subst (λ ys. Contains (stamps ys) stamp) (cond-true _ _ _ kept) m)) [
-            | inl here ↦ subst (λ k. Contains (stamps (x ∷ xs)) k) here (contained-first x.stamp (stamps xs))
-            | inr rest ↦ contained-rest x.stamp (stamps xs) stamp (still-open id stamp xs rest)
+            | inl here ↦ subst (λ k. Contains (stamps (x ∷ xs)) k) here (Contains-first x.stamp (stamps xs))
+            | inr rest ↦ Contains-rest x.stamp stamp (stamps xs) (still-open id stamp xs rest)
           ]
-      | inr gone ↦ contained-rest x.stamp (stamps xs) stamp
+      | inr gone ↦ Contains-rest x.stamp stamp (stamps xs)
           (still-open id stamp xs (subst (λ ys. Contains (stamps ys) stamp) (cond-false _ _ _ gone) m))
     ]
 
@@ -546,7 +545,7 @@ told-alike kept past id stamp h there key =
     h.rows.at_open key stamp
     (stamp_in-all (λ stamp. Contains (stamps (open_snapshots past)) stamp) id stamp (open_snapshots past)
     (All-weaker (Contains (open_snapshots past)) (λ snapshot. Contains (stamps (open_snapshots past)) snapshot.stamp)
-    (λ snapshot m. in_map (λ (x : Snapshot). x.stamp) (open_snapshots past) snapshot m) (open_snapshots past)
+    (λ snapshot m. Contains-map (λ (x : Snapshot). x.stamp) (open_snapshots past) snapshot m) (open_snapshots past)
     (All-contains_itself (open_snapshots past)))
     (ap (stamp_in id) (sym h.snapshots) ∙ there))
 

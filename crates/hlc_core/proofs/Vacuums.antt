@@ -18,7 +18,7 @@ use Rattle.hlc_core.specs.Stored.{AreVacuumPoints, IsReport, LeavesFewest}
 use Rattle.hlc_core.specs.Kept.{Kept, nodes, with_rows_left, StandsFor}
 use Rattle.hlc_core.specs.Calls.{Vacuums}
 use Rattle.hlc_core.proofs.PastLemmas.{horizon-low, writes-limits}
-use Rattle.hlc_core.proofs.Ascend.{filter-row_set}
+use Rattle.hlc_columns.proofs.FlagLemmas.{filter-IsRowSet}
 use Rattle.hlc_core.proofs.ReportLemmas.{open-stamps-low, one-changes}
 use Rattle.hlc_clock.proofs.PointLemmas.{points-ascend, points-last}
 
@@ -37,7 +37,7 @@ leaves-fewest kept past report h due =
     standing_rows_are_fewest kept.rows (writes past) low opened report.points report.witnesses h.rows due.points.members
     (open-stamps-low (nodes kept) past h.legal) due.witnesses count in
     record {
-      row_set = filter-row_set (λ row. leb row.stamp report.floor) kept.rows h.rows.row_set;
+      row_set = filter-IsRowSet (λ row. leb row.stamp report.floor) kept.rows h.rows.row_set;
       fewest = subst (λ f. Fewest (rows_to f kept.rows) (writes past) report.points) (sym due.at_floor) after.fewest;
       cheapest = subst (λ f. Cheapest (rows_to f kept.rows) (writes past) report.points) (sym due.at_floor)
           (fewest_rows_are_cheapest (writes past) (rows_to low kept.rows) report.points report.witnesses

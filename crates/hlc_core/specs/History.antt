@@ -108,6 +108,12 @@ Steps old new event history (Ok reply) = IsStep old new event history reply
 Steps old new event history (Err lack) =
     (refusal_due (nodes old) (past_of history) event ≡ None) × MayLackMemory (past_of history) event
 
+-- the event asks, and does nothing
+abbrev pub IsQuestion : CoreEvent → Type 0
+IsQuestion (Read id key) = ⊤
+IsQuestion (ListAll id) = ⊤
+IsQuestion _ = ⊥
+
 -- the reply is a refusal
 abbrev pub IsRefused : CoreReply → Type 0
 IsRefused (Refused fault) = ⊤

@@ -1,7 +1,7 @@
 //! The calls of a core by cases, as events with replies.
 ghost use Rattle.std.specs.Prelude.{◌≡◌, ◌≢◌, List, IfOk, IfErr, OnErr};
 ghost use Rattle.hlc_core.specs.Kept.{nodes};
-ghost use Rattle.hlc_core.specs.History.{StandsForHistory, Steps, IsRefused, IsPlain, IsReplyTo};
+ghost use Rattle.hlc_core.specs.History.{StandsForHistory, Steps, IsQuestion, IsRefused, IsPlain, IsReplyTo};
 ghost use Rattle.hlc_core.specs.declared.event.CoreEvent.{CoreEvent as AnEvent};
 ghost use Rattle.hlc_core.specs.declared.reply.CoreReply.{CoreReply as AReply};
 
@@ -15,11 +15,13 @@ use hlc_snapshot::NoMemory;
 impl Core {
     /// The call that an event asks for, and its reply.
     ///
-    /// A refusal is a reply, but for want of memory: then the event comes back, and nothing changed.
+    /// A refusal is a reply, but for want of memory: then the event comes back, and nothing changed. A read or a
+    /// listing changes nothing, whatever its reply.
     pub fn step(&mut self, event: CoreEvent) -> Result<CoreReply, (NoMemory, CoreEvent)>
         ensures stands { (history : List (AnEvent × AReply)) → StandsForHistory self.old history
             → Steps self.old self.new event history result }
         ensures err { IfErr result (λ back. (back.1 ≡ event) × (self.new ≡ self.old)) }
+        ensures asked { IsQuestion event → self.new ≡ self.old }
         ensures refused { IfOk result (λ reply. IsRefused reply → self.new ≡ self.old) }
         ensures copied { IfOk result
             (λ reply. event ≢ CoreEvent.Vacuum → (IsPlain reply → ⊥) → self.new ≡ self.old) }
@@ -46,6 +48,7 @@ impl Core {
         ensures stands { (history : List (AnEvent × AReply)) → StandsForHistory self.old history
             → Steps self.old self.new event.now history result }
         ensures err { OnErr result (self.new ≡ self.old) }
+        ensures asked { IsQuestion event.now → self.new ≡ self.old }
         ensures refused { IfOk result (λ reply. IsRefused reply → self.new ≡ self.old) }
         ensures copied { IfOk result
             (λ reply. event.now ≢ CoreEvent.Vacuum → (IsPlain reply → ⊥) → self.new ≡ self.old) }

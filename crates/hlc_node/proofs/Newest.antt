@@ -3,26 +3,14 @@
 -- so in a row set one row.
 use Rattle.std.proofs.Common.{◌≡◌, ◌≢◌, ℕ, ◌<◌, ◌≤◌, List, [], ◌∷◌, true, false, Some}
 use Rattle.std.proofs.Common.{None, Option, refl, ap, sym, ◌∙◌, subst, inl, inr, arith}
-use Rattle.std.specs.Prelude.{Contains, ◌==◌, nat_lt, nat_le}
-use Rattle.std.specs.Str.{bytes_eq}
-use Rattle.std.proofs.lemmas.Bool.{cases_Bool, cond-true, cond-false, and_parts, and_from, or_cases, leb-true, le-leb}
+use Rattle.std.specs.Prelude.{Contains, ◌==◌, nat_lt}
+use Rattle.std.proofs.lemmas.Bool.{cases_Bool, cond-true, cond-false, and_parts, and_from, or_cases}
 use Rattle.std.proofs.lemmas.Bool.{ltb-true, lt-ltb, eqb-true, eq-eqb, both_ways, cases_lt, cases_order, or_left}
 use Rattle.std.proofs.lemmas.Bool.{or_right}
-use Rattle.std.proofs.lemmas.Slice.Eq.{bytes_eq-Decides}
 use Rattle.hlc_values.proofs.MemberLemmas.{Contains-none, Contains-first, Contains-rest, Contains-cons_cases}
 use Rattle.hlc_node.specs.declared.row.Row.{Row}
 use Rattle.hlc_node.specs.Rows.{is_candidate, is_before, later, newest, IsNoLater, IsNewest, IsSameVersion, IsRowSet}
-
--- the test of a candidate says what it should
-candidate-true : (key : List ℕ) (bound : ℕ) (row : Row) → is_candidate key bound row ≡ true
-    → (row.key ≡ key) × (row.stamp ≤ bound)
-candidate-true key bound row h =
-    let both : (bytes_eq row.key key ≡ true) × (nat_le row.stamp bound ≡ true) = and_parts _ _ h in
-    ((bytes_eq-Decides row.key key).0 both.0, leb-true _ _ both.1)
-
-candidate-from : (key : List ℕ) (bound : ℕ) (row : Row) → row.key ≡ key → row.stamp ≤ bound
-    → is_candidate key bound row ≡ true
-candidate-from key bound row k s = and_from _ _ ((bytes_eq-Decides row.key key).1 k) (le-leb _ _ s)
+use Rattle.hlc_node.proofs.CandidateLemmas.{candidate_true, candidate_from}
 
 -- the test of the order says what it should
 before-true : (a b : Row) → is_before a b ≡ true → IsNoLater a b
@@ -80,8 +68,8 @@ newest-hit : (first : Row) (rows : List Row) (key : List ℕ) (bound : ℕ) (o :
 newest-hit first rows key bound None hit h =
     record {
       member = Contains-first first rows;
-      of_key = (candidate-true key bound first hit).0;
-      in_bound = (candidate-true key bound first hit).1;
+      of_key = (candidate_true key bound first hit).0;
+      in_bound = (candidate_true key bound first hit).1;
       greatest =
           greatest-of_two first first rows key bound (no_later-self first) (λ other m k s. absurd (h other m k s));
     }
@@ -99,8 +87,8 @@ newest-hit first rows key bound (Some q) hit h =
           rw (cond-false (is_before first q) q first not_before)
           (record {
             member = Contains-first first rows;
-            of_key = (candidate-true key bound first hit).0;
-            in_bound = (candidate-true key bound first hit).1;
+            of_key = (candidate_true key bound first hit).0;
+            in_bound = (candidate_true key bound first hit).1;
             greatest =
                 greatest-of_two first first rows key bound (no_later-self first)
                 (λ other m k s.
@@ -112,7 +100,7 @@ newest-miss : (first : Row) (rows : List Row) (key : List ℕ) (bound : ℕ) (o 
     → is_candidate key bound first ≡ false → NewestSays rows key bound o → NewestSays (first ∷ rows) key bound o
 newest-miss first rows key bound None miss h = λ row m k s.
     elim (Contains-cons_cases first row rows m) [
-      | inl same ↦ both_ways (is_candidate key bound first) miss (candidate-from key bound first
+      | inl same ↦ both_ways (is_candidate key bound first) miss (candidate_from key bound first
           (ap (λ r. r.key) same ∙ k) (let e : first.stamp ≡ row.stamp = ap (λ r. r.stamp) same in omega arith))
       | inr later' ↦ h row later' k s
     ]
@@ -123,7 +111,7 @@ newest-miss first rows key bound (Some q) miss h =
       in_bound = h.in_bound;
       greatest = λ other m k s.
           elim (Contains-cons_cases first other rows m) [
-            | inl same ↦ absurd (both_ways (is_candidate key bound first) miss (candidate-from key bound first
+            | inl same ↦ absurd (both_ways (is_candidate key bound first) miss (candidate_from key bound first
                 (ap (λ r. r.key) same ∙ k) (let e : first.stamp ≡ other.stamp = ap (λ r. r.stamp) same in omega arith)))
             | inr later' ↦ h.greatest other later' k s
           ];
@@ -190,11 +178,11 @@ pub candidate-same : (key : List ℕ) (low high : ℕ) (row : Row) → low ≤ h
     → (row.key ≡ key → row.stamp ≤ high → row.stamp ≤ low) → is_candidate key high row ≡ is_candidate key low row
 candidate-same key low high row le none =
     elim (cases_Bool (is_candidate key high row)) [
-      | inl hit ↦ let parts = candidate-true key high row hit in
-          hit ∙ sym (candidate-from key low row parts.0 (none parts.0 parts.1))
+      | inl hit ↦ let parts = candidate_true key high row hit in
+          hit ∙ sym (candidate_from key low row parts.0 (none parts.0 parts.1))
       | inr miss ↦ elim (cases_Bool (is_candidate key low row)) [
-        | inl hit ↦ let parts = candidate-true key low row hit in absurd (both_ways (is_candidate key high row) miss
-            (candidate-from key high row parts.0 (omega (arith, parts.1, le))))
+        | inl hit ↦ let parts = candidate_true key low row hit in absurd (both_ways (is_candidate key high row) miss
+            (candidate_from key high row parts.0 (omega (arith, parts.1, le))))
         | inr other ↦ miss ∙ sym other
       ]
     ]
@@ -202,6 +190,6 @@ candidate-same key low high row le none =
 pub other-misses : (key : List ℕ) (bound : ℕ) (row : Row) → row.key ≢ key → is_candidate key bound row ≡ false
 other-misses key bound row apart =
     elim (cases_Bool (is_candidate key bound row)) [
-      | inl hit ↦ absurd (apart (candidate-true key bound row hit).0)
+      | inl hit ↦ absurd (apart (candidate_true key bound row hit).0)
       | inr miss ↦ miss
     ]

@@ -1,7 +1,7 @@
 -- Some of the rows of a row set answer as all do where they have what is newest: at a stamp, from a stamp on above
 -- which they have all, without the rows above a stamp, and with one more row.
-use Rattle.std.proofs.Common.{Contains, Some, None, refl, sym, ap, ◌∙◌, subst, inl, inr, arith, cond, leb, true}
-use Rattle.std.proofs.Common.{false, filter, ◌≡◌, Bool, ℕ, ◌≤◌, List, [], ◌∷◌, ◌<◌, ◌++◌}
+use Rattle.std.proofs.Common.{Contains, Some, None, refl, sym, ap, ◌∙◌, subst, inl, inr, arith, leb}
+use Rattle.std.proofs.Common.{◌≡◌, ℕ, ◌≤◌, List, [], ◌∷◌, ◌<◌, ◌++◌}
 use Rattle.std.proofs.lemmas.Bool.{cases_lt, le-leb}
 use Rattle.std.proofs.lemmas.List.Elements.{Contains-push_cases, Contains-append_left, Contains-push}
 use Rattle.hlc_values.proofs.MemberLemmas.{Contains-filter, Contains-from_filter, Contains-none, Contains-cons_cases}
@@ -11,6 +11,7 @@ use Rattle.hlc_node.specs.Rows.{IsRowSet, IsSameVersion, newest, answer, IsNewes
 use Rattle.hlc_node.specs.declared.row.Row.{Row}
 use Rattle.hlc_node.proofs.NewestLemmas.{newest_is_greatest, no_newest_no_row, newest_is_unique, no_later_stamp}
 use Rattle.hlc_node.proofs.NewestLemmas.{answer_none, answer_some, answer_stays}
+use Rattle.hlc_columns.proofs.FlagLemmas.{filter-IsRowSet}
 use Rattle.hlc_vacuum.specs.Vacuumed.{rows_to}
 
 -- no row of a row set is one version with the last
@@ -174,15 +175,6 @@ same_rows rows others set' within back key stamp =
           (newest_in_part rows others key stamp row set' within is (back row is.member))
           ∙ sym (answer_some others key stamp row e)
     ] refl
-
--- some of the rows of a row set
-pub filter-IsRowSet : (p : Row → Bool) (rows : List Row) → IsRowSet rows → IsRowSet (filter p rows)
-filter-IsRowSet p [] set' = tt
-filter-IsRowSet p (row ∷ rows) set' =
-    elim (p row) as (λ b. IsRowSet (cond b (row ∷ filter p rows) (filter p rows))) [
-      | true ↦ (λ other i. set'.0 other (Contains-from_filter p rows other i).0, filter-IsRowSet p rows set'.1)
-      | false ↦ filter-IsRowSet p rows set'.1
-    ]
 
 -- of a row set, the rows above a stamp are not needed to answer at or below it
 pub answer-rows_to : (rows : List Row) (bound : ℕ) (key : List ℕ) (point : ℕ) → IsRowSet rows

@@ -13,8 +13,6 @@ use Rattle.std.proofs.lemmas.List.Elements.{All-contains, All-from_recursion, Co
 use Rattle.std.proofs.lemmas.List.Elements.{All-append, Contains-append_cases, Contains-append_left}
 use Rattle.std.proofs.lemmas.List.Elements.{recursion_from_All, Contains-append_right}
 use Rattle.std.proofs.lemmas.Map.Keys.{sorted_from_strictly_increasing}
-use Rattle.std.proofs.lemmas.Option.{none-some, same_Some}
-use Rattle.std.proofs.lemmas.Slice.Eq.{bytes_eq-Decides}
 use Rattle.hlc_values.proofs.MemberLemmas.{Contains-none, Contains-cons_cases, Contains-first, Contains-rest}
 use Rattle.hlc_clock.specs.Points.{IsPointBefore, PointsAscend}
 use Rattle.hlc_node.specs.Rows.{newest, answer}
@@ -23,19 +21,8 @@ use Rattle.hlc_node.proofs.NewestLemmas.{newest_is_greatest, no_newest_no_row, a
 use Rattle.hlc_witness.specs.AllChanges.{is_same_answer, key_changes, changes_of}
 use Rattle.hlc_witness.specs.Changes.{IsChange, change_cmp, answer_at}
 use Rattle.hlc_witness.specs.declared.witness.Witness.{Witness}
+use Rattle.hlc_witness.proofs.AnswerLemmas.{same_answer_true, same_answer_from}
 use Rattle.hlc_witness.proofs.PlaceLemmas.{first_point, next_point, before_one}
-
-pub is_same_answer-true : (a b : Option (List ℕ)) → is_same_answer a b ≡ true → a ≡ b
-is_same_answer-true None None h = refl
-is_same_answer-true None (Some y) h = absurd (true≢false (sym h))
-is_same_answer-true (Some x) None h = absurd (true≢false (sym h))
-is_same_answer-true (Some x) (Some y) h = ap Some ((bytes_eq-Decides x y).0 h)
-
-pub is_same_answer-from : (a b : Option (List ℕ)) → a ≡ b → is_same_answer a b ≡ true
-is_same_answer-from None None h = refl
-is_same_answer-from None (Some y) h = absurd (none-some y h)
-is_same_answer-from (Some x) None h = absurd (none-some x (sym h))
-is_same_answer-from (Some x) (Some y) h = (bytes_eq-Decides x y).1 (same_Some x y h)
 
 -- each is a point that comes right after the one before it
 abbrev pub Follows : List ℕ → Option ℕ → List ℕ → Type 0
@@ -107,7 +94,7 @@ key_each rows points key before (p ∷ ps) f c i =
         record {
           place = record { point = f.0; neighbour = f.1 };
           differs =
-              λ same. true≢false (sym (is_same_answer-from (answer rows key p) (answer_at rows key before) same) ∙ ne);
+              λ same. true≢false (sym (same_answer_from (answer rows key p) (answer_at rows key before) same) ∙ ne);
         },
         refl,
         Contains-first p ps,
@@ -131,7 +118,7 @@ key_every rows points key before (p ∷ ps) f c is k i =
           elim (cases_Bool (is_same_answer (answer rows key p) (answer_at rows key before))) [
             | inl t ↦ absurd
                 (is.differs (subst (λ (x : Witness). answer rows x.key x.at ≡ answer_at rows x.key x.before) same
-                (is_same_answer-true (answer rows key p) (answer_at rows key before) t)))
+                (same_answer_true (answer rows key p) (answer_at rows key before) t)))
             | inr ne ↦ subst (λ x. Contains
                 (cond x [] (record { key = key; before = before; at = p } ∷ []) ++ key_changes rows key (Some p) ps) c)
                 (sym ne)

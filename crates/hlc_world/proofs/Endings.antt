@@ -9,7 +9,7 @@ use Rattle.hlc_node.specs.declared.item.Item.{Item}
 use Rattle.hlc_node.specs.declared.item.Body.TheVariants.{Write as a_write, Report as a_report, Retire as a_retire}
 use Rattle.hlc_node.specs.Items.{retires}
 use Rattle.hlc_core.specs.Past.{Step, Took, retired, count}
-use Rattle.hlc_core.proofs.PastLemmas.{retired-same, retired-other}
+use Rattle.hlc_core.proofs.PastLemmas.{retired-same, retired-other, count-other}
 use Rattle.hlc_world.specs.declared.event.Event.TheVariants.{Write, Delete, Report, Retire, Join, Deliver, OpenAt}
 use Rattle.hlc_world.specs.declared.event.Event.TheVariants.{OpenFloor, Read, List as ListAll, Close, Vacuum}
 use Rattle.hlc_world.specs.declared.reply.Reply.{Reply}
@@ -20,7 +20,7 @@ use Rattle.hlc_world.specs.Schedule.{Event, an_item, with_item, ends, issued, go
 use Rattle.hlc_world.specs.Store.{store_history, core_past}
 use Rattle.hlc_world.specs.Due.{on_node, deliver_refusal, IsGiven, IsLegal}
 use Rattle.hlc_world.proofs.Nodes.{with_item-same, with_item-other, ends-same, ends-other}
-use Rattle.hlc_world.proofs.Orderly.{IsOrderly, orderly, get-with_item, count-same, count-other, delivered, past_taken}
+use Rattle.hlc_world.proofs.Orderly.{IsOrderly, orderly, get-with_item, count-same, delivered, past_taken}
 use Rattle.hlc_world.proofs.Orderly.{on_link-none, on_node-none}
 
 -- an item that retires its node is the node's last one; and where it was accepted, so were all

@@ -10,7 +10,7 @@ use Rattle.std.proofs.lemmas.List.Elements.{Contains-append_left, Contains-appen
 use Rattle.hlc_node.specs.declared.item.Item.{Item}
 use Rattle.hlc_core.specs.Past.{Step, Took, Opened, Closed as ClosedOf, Vacuumed as VacuumedOf, Joined as JoinedOf}
 use Rattle.hlc_core.specs.Past.{retired, count, head, floor}
-use Rattle.hlc_core.proofs.PastLemmas.{floor-le}
+use Rattle.hlc_core.proofs.PastLemmas.{floor-le, count-other}
 use Rattle.hlc_world.specs.declared.event.Event.TheVariants.{Write, Delete, Report, Retire, Join, Deliver, OpenAt}
 use Rattle.hlc_world.specs.declared.event.Event.TheVariants.{OpenFloor, Read, List as ListAll, Close, Vacuum}
 use Rattle.hlc_world.specs.declared.reply.Reply.{Reply}
@@ -22,7 +22,7 @@ use Rattle.hlc_world.specs.Due.{IsGiven, IsLegal, deliver_refusal}
 use Rattle.hlc_world.specs.Floor.{IsComplete, IsBelowClocks}
 use Rattle.hlc_world.proofs.Lists.{some-injective}
 use Rattle.hlc_world.proofs.Nodes.{with_item-same, with_item-other}
-use Rattle.hlc_world.proofs.Orderly.{IsOrderly, orderly, get-with_item, count-same, count-other, delivered, past_taken}
+use Rattle.hlc_world.proofs.Orderly.{IsOrderly, orderly, get-with_item, count-same, delivered, past_taken}
 use Rattle.hlc_world.proofs.Orderly.{on_link-none}
 use Rattle.hlc_world.proofs.Endings.{ended}
 

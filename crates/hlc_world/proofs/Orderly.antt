@@ -24,7 +24,7 @@ use Rattle.hlc_core.specs.declared.fault.CoreFault.{CoreFault}
 use Rattle.hlc_core.specs.declared.event.CoreEvent.{CoreEvent}
 use Rattle.hlc_core.specs.declared.reply.CoreReply.{CoreReply}
 use Rattle.hlc_core.specs.Past.{Step, Took, Joined as JoinedOf, numbered, retired, count, head, item_refusal}
-use Rattle.hlc_core.proofs.PastLemmas.{inside, on_link as on_its_link, admissible}
+use Rattle.hlc_core.proofs.PastLemmas.{inside, on_link as on_its_link, admissible, count-other, head-same, head-other}
 use Rattle.hlc_core.specs.History.{past_of}
 use Rattle.hlc_world.specs.declared.event.Event.TheVariants.{Write, Delete, Report, Retire, Join, Send, Receive}
 use Rattle.hlc_world.specs.declared.event.Event.TheVariants.{Observe, Deliver, OpenAt, OpenFloor, Read, List as ListAll}
@@ -171,16 +171,6 @@ orderly-issue nodes items lasts counts heads p st num body h inside is left ok u
 pub count-same : (n : ℕ) (item : Item) (past : List Step) → item.node ≡ n
     → count n (Took item ∷ past) ≡ count n past + 1
 count-same n item past e = cond-true _ _ _ (eq-eqb _ _ e)
-
-pub count-other : (n : ℕ) (item : Item) (past : List Step) → (item.node ≡ n → ⊥)
-    → count n (Took item ∷ past) ≡ count n past
-count-other n item past e = cond-false _ _ _ (ne_eqb _ _ e)
-
-head-same : (n : ℕ) (item : Item) (past : List Step) → item.node ≡ n → head n (Took item ∷ past) ≡ item.stamp
-head-same n item past e = cond-true _ _ _ (eq-eqb _ _ e)
-
-head-other : (n : ℕ) (item : Item) (past : List Step) → (item.node ≡ n → ⊥) → head n (Took item ∷ past) ≡ head n past
-head-other n item past e = cond-false _ _ _ (ne_eqb _ _ e)
 
 -- and so does the next item when it is accepted
 orderly-took : (nodes : ℕ) (items : ℕ → List Item) (lasts : ℕ → ℕ) (past : List Step) (p k : ℕ) (item : Item)

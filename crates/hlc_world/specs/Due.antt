@@ -21,7 +21,7 @@ use Rattle.hlc_core.specs.Past.{Step, numbered, count, retired, floor, stamp_of}
 use Rattle.hlc_core.specs.Stored.{IsStoredCount}
 use Rattle.hlc_core.specs.History.{refusal_due as refusal_owed, IsDueReply as IsOwedReply, MayLackMemory as CoreMayLack}
 use Rattle.hlc_world.specs.declared.event.Event.TheVariants.{Write, Delete, Report, Retire, Send, Receive, Observe}
-use Rattle.hlc_world.specs.declared.event.Event.TheVariants.{Deliver, Floor, Rows}
+use Rattle.hlc_world.specs.declared.event.Event.TheVariants.{Deliver, Read, List as ListAll, Floor, Rows}
 use Rattle.hlc_world.specs.declared.reply.Reply.{Reply}
 use Rattle.hlc_world.specs.declared.reply.Reply.TheVariants.{Stamped, Sent, Received, Observed, Floor as FloorIs}
 use Rattle.hlc_world.specs.declared.reply.Reply.TheVariants.{Rows as RowsAre, Refused}
@@ -188,6 +188,14 @@ IsGiven nodes schedule event (Refused refusal) =
     (refusal_due nodes schedule event ≡ Some refusal)
     ⊎ ((refusal_due nodes schedule event ≡ None) × (refusal ≡ NoMemory) × MayLackMemory schedule event)
 IsGiven nodes schedule event reply = (refusal_due nodes schedule event ≡ None) × IsDueReply nodes schedule event reply
+
+-- the event asks, and does nothing
+abbrev pub IsQuestion : Event → Type 0
+IsQuestion (Read id key) = ⊤
+IsQuestion (ListAll id) = ⊤
+IsQuestion Floor = ⊤
+IsQuestion Rows = ⊤
+IsQuestion _ = ⊥
 
 -- the reply is a refusal: the event did not take place
 abbrev pub IsRefused : Reply → Type 0

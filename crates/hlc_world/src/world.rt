@@ -6,7 +6,7 @@ ghost use Rattle.hlc_core.specs.Kept.{nodes, StandsFor as CoreStandsFor};
 ghost use Rattle.hlc_core.specs.Calls.{IsRefusal, IsWrite};
 ghost use Rattle.hlc_world.specs.Schedule.{Event as AnEvent, issuing, after};
 ghost use Rattle.hlc_world.specs.Before.{HappenedBefore, IsStamped};
-ghost use Rattle.hlc_world.specs.Due.{IsGiven, IsRefused, GoesByNumber};
+ghost use Rattle.hlc_world.specs.Due.{IsGiven, IsQuestion, IsRefused, GoesByNumber};
 ghost use Rattle.hlc_world.specs.Floor.{IsComplete, IsBelowClocks, IsClosed};
 ghost use Rattle.hlc_world.specs.Headline.{IsFaithful};
 ghost use Rattle.hlc_world.specs.State.{StandsFor, Makes, world_nodes, fresh};
@@ -72,7 +72,7 @@ impl World {
     /// snapshots; numbers spent. OpenFloor: the last two. Read, List, Close: no such snapshot. Last,
     /// where the event makes an item, a node, a message, a snapshot or a listing, stores a row,
     /// gives a value or is a Vacuum, want of memory. A Vacuum is refused for nothing else, and Floor
-    /// and Rows are never refused.
+    /// and Rows are never refused. Read, List, Floor and Rows change nothing, whatever the reply.
     pub fn step(&mut self, event: Event) -> Reply
         ensures stands { (schedule : List (AnEvent × AReply)) → StandsFor self.old schedule
             → StandsFor self.new ((event, result) ∷ schedule) }
@@ -95,6 +95,7 @@ impl World {
             → result ≢ Reply.Refused (Refusal.StampNotRising head) }
         ensures numbered { (schedule : List (AnEvent × AReply)) → StandsFor self.old schedule
             → GoesByNumber (world_nodes self.old) schedule }
+        ensures asked { IsQuestion event → self.new ≡ self.old }
         ensures unchanged { IsRefused result → self.new ≡ self.old }
         ensures nodes { world_nodes self.new ≡ world_nodes self.old }
     {
@@ -131,6 +132,7 @@ impl World {
     fn take_place(&mut self, event: Event) -> Reply
         ensures stands { (schedule : List (AnEvent × AReply)) → StandsFor self.old schedule
             → StandsFor self.new ((event, result) ∷ schedule) }
+        ensures asked { IsQuestion event → self.new ≡ self.old }
         ensures unchanged { IsRefused result → self.new ≡ self.old }
         ensures nodes { world_nodes self.new ≡ world_nodes self.old }
     {

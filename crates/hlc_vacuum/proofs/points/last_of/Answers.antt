@@ -1,5 +1,5 @@
 -- The last place has the last point.
-use Rattle.hlc_vacuum.proofs.Places.{last_point-is}
+use Rattle.hlc_witness.proofs.PlaceLemmas.{last_point-is}
 use Rattle.hlc_vacuum.proofs.points.last_of.Goals as goal
 
 pub returns : goal.returns

@@ -1,0 +1,18 @@
+-- The test of a candidate for a key at a stamp says what it should: the row is of the key, and at or below the stamp.
+use Rattle.std.proofs.Common.{◌≡◌, ℕ, ◌≤◌, List, true}
+use Rattle.std.specs.Prelude.{nat_le}
+use Rattle.std.specs.Str.{bytes_eq}
+use Rattle.std.proofs.lemmas.Bool.{and_parts, and_from, leb-true, le-leb}
+use Rattle.std.proofs.lemmas.Slice.Eq.{bytes_eq-Decides}
+use Rattle.hlc_node.specs.declared.row.Row.{Row}
+use Rattle.hlc_node.specs.Rows.{is_candidate}
+
+pub candidate_true : (key : List ℕ) (bound : ℕ) (row : Row) → is_candidate key bound row ≡ true
+    → (row.key ≡ key) × (row.stamp ≤ bound)
+candidate_true key bound row h =
+    let both : (bytes_eq row.key key ≡ true) × (nat_le row.stamp bound ≡ true) = and_parts _ _ h in
+    ((bytes_eq-Decides row.key key).0 both.0, leb-true _ _ both.1)
+
+pub candidate_from : (key : List ℕ) (bound : ℕ) (row : Row) → row.key ≡ key → row.stamp ≤ bound
+    → is_candidate key bound row ≡ true
+candidate_from key bound row k s = and_from _ _ ((bytes_eq-Decides row.key key).1 k) (le-leb _ _ s)
