@@ -24,26 +24,18 @@ use std::thread::{JoinHandle, Threads};
 /// How many rounds a reader makes, and how many vacuums the worker of the vacuum.
 const ROUNDS: u64 = 16;
 
-/// What is kept of a worker. Its ends of a link and of the board are dropped in its thread, so that no writer waits for
-/// a feeder that has ended.
-#[derive(Drop)]
-pub(crate) struct Worked<L: Ledger> {
-    caller: Caller<L>,
-    receipts: Vec<Receipt>,
-    end: WorkEnd,
-}
-
 /// The receipts of all callers.
 pub(crate) type Lists<L> = Vec<(Caller<L>, Vec<Receipt>)>;
 
-/// The worker of a link.
+/// The worker of a link. Its ends of the link and of the board are dropped in its thread, so that no writer waits for a
+/// feeder that has ended.
 pub(crate) fn feed_link<L: Ledger, G: Gate, R: Wait>(
     rt: &R,
     alloc: Global,
     shared: &Shared<L>,
     place: Feeding<'_, L>,
     gate: &G,
-) -> Worked<L>
+) -> Served<L>
     ensures share { IsPaid place.entry.caller result.caller result.receipts.items }
     ensures items { (link : Received) × (left : Option AnItem)
         × TookAll place.entry.link.taken link.taken result.receipts.items left
@@ -65,7 +57,7 @@ pub(crate) fn feed_link<L: Ledger, G: Gate, R: Wait>(
         left: _,
         end,
     } = feed(rt, alloc, shared, caller, link, board, Some(feeder), gate);
-    Worked {
+    Served {
         caller,
         receipts,
         end,
@@ -80,7 +72,7 @@ pub(crate) fn read_keys<L: Ledger, G: Gate, R: Wait>(
     place: Looking<'_, L>,
     keys: &[Bytes],
     gate: &G,
-) -> Worked<L>
+) -> Served<L>
     ensures share { IsPaid place.entry.caller result.caller result.receipts.items }
     ensures done { result.end ≡ WorkEnd.Done
         → (pass : Sight) × HasServed keys.now ROUNDS place.entry.pass pass result.receipts.items }
@@ -98,7 +90,7 @@ pub(crate) fn read_keys<L: Ledger, G: Gate, R: Wait>(
         receipts,
         end,
     } = serve_reader(rt, alloc, shared, caller, board, pass, keys, ROUNDS, gate);
-    Worked {
+    Served {
         caller,
         receipts,
         end,
@@ -112,23 +104,14 @@ pub(crate) fn vacuum_rows<L: Ledger, G: Gate, R: Wait + Threads + Sync>(
     shared: &Shared<L>,
     caller: Caller<L>,
     gate: &G,
-) -> Worked<L>
+) -> Served<L>
     ensures share { IsPaid caller result.caller result.receipts.items }
     ensures done { result.end ≡ WorkEnd.Done
         → map event_of result.receipts.items ≡ replicate ROUNDS AnEvent.Vacuum }
     ensures held { result.end ≡ WorkEnd.Held
         → G.may_answer gate.now (vec_len result.receipts) false }
 {
-    let Served {
-        caller,
-        receipts,
-        end,
-    } = serve_vacuum(rt, alloc, shared, caller, ROUNDS, gate);
-    Worked {
-        caller,
-        receipts,
-        end,
-    }
+    serve_vacuum(rt, alloc, shared, caller, ROUNDS, gate)
 }
 
 /// The receipts of the workers that were joined so far, from the last caller to the first.
@@ -141,23 +124,23 @@ struct Joined<L: Ledger> {
 }
 
 /// Notes what is kept of a worker. Workers are noted from the last caller to the first.
-fn note<L: Ledger>(joined: Joined<L>, worked: Worked<L>) -> Joined<L>
+fn note<L: Ledger>(joined: Joined<L>, served: Served<L>) -> Joined<L>
     ensures lists { result.lacks_memory ≡ false
-        → result.lists.items ≡ joined.lists.items ++ (worked.caller, worked.receipts) ∷ [] }
+        → result.lists.items ≡ joined.lists.items ++ (served.caller, served.receipts) ∷ [] }
     ensures lacks { result.lacks_memory ≡ false → joined.lacks_memory ≡ false }
-    ensures done { worked.end ≡ WorkEnd.Done → result.first ≡ joined.first }
-    ensures first { worked.end ≢ WorkEnd.Done → result.first ≡ Some worked.end }
+    ensures done { served.end ≡ WorkEnd.Done → result.first ≡ joined.first }
+    ensures first { served.end ≢ WorkEnd.Done → result.first ≡ Some served.end }
 {
     let Joined {
         lists,
         first,
         lacks_memory,
     } = joined;
-    let Worked {
+    let Served {
         caller,
         receipts,
         end,
-    } = worked;
+    } = served;
     let mut lists = lists;
     let lacks_memory = lists.push((caller, receipts)).is_err() || lacks_memory;
     let first = if end == WorkEnd::Done {
@@ -177,9 +160,9 @@ fn note<L: Ledger>(joined: Joined<L>, worked: Worked<L>) -> Joined<L>
 #[derive(Drop)]
 pub(crate) struct Started<L: Ledger> {
     pub(crate) writers: Vec<Option<JoinHandle<Result<(), WriteFault>>>>,
-    pub(crate) feeders: Vec<Option<JoinHandle<Worked<L>>>>,
-    pub(crate) readers: Vec<Option<JoinHandle<Worked<L>>>>,
-    pub(crate) vacuum: Option<JoinHandle<Worked<L>>>,
+    pub(crate) feeders: Vec<Option<JoinHandle<Served<L>>>>,
+    pub(crate) readers: Vec<Option<JoinHandle<Served<L>>>>,
+    pub(crate) vacuum: Option<JoinHandle<Served<L>>>,
     /// Whether a thread could not be kept in its list.
     pub(crate) lacks_memory: bool,
 }
@@ -205,7 +188,7 @@ fn join_writers<R: Threads + Wait>(
 /// Joins a worker and notes it, or that it was not started.
 fn join_worker<L: Ledger, R: Threads + Wait>(
     rt: &R,
-    worker: Option<JoinHandle<Worked<L>>>,
+    worker: Option<JoinHandle<Served<L>>>,
     joined: Joined<L>,
 ) -> Joined<L>
     ensures list { result.lacks_memory ≡ false
@@ -225,7 +208,7 @@ fn join_worker<L: Ledger, R: Threads + Wait>(
 /// Joins workers, and notes each.
 fn join_workers<L: Ledger, R: Threads + Wait>(
     rt: &R,
-    workers: Vec<Option<JoinHandle<Worked<L>>>>,
+    workers: Vec<Option<JoinHandle<Served<L>>>>,
     joined: Joined<L>,
 ) -> Joined<L>
     ensures lists { result.lacks_memory ≡ false
