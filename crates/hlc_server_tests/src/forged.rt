@@ -50,6 +50,7 @@ fn by_two<L: Ledger, R: Wait + Threads + Sync>(
     Ok(shared.settle(lists).map(|settled| settled.entries))
 }
 
+/// The two receipts as the two callers hand them in.
 fn handed_in(
     alloc: Global,
     forged: Forged,
@@ -58,105 +59,41 @@ fn handed_in(
 ) -> Result<(Vec<Receipt>, Vec<Receipt>), AllocError> {
     let mut ones = Vec::new(alloc);
     let mut others = Vec::new(alloc);
+    if let Forged::FirstTwice = forged {
+        ones.push(a.clone()?)?;
+    }
     match forged {
-        Forged::No => {
-            ones.push(a)?;
-            others.push(b)?;
-        }
-        Forged::OtherReply => {
-            ones.push(a)?;
-            others.push(with_reply(b))?;
-        }
-        Forged::OtherNumber => {
-            ones.push(a)?;
-            others.push(with_number(b, 2))?;
-        }
-        Forged::OtherEvent => {
-            ones.push(a)?;
-            others.push(with_event(b))?;
-        }
-        Forged::OtherCaller => {
-            ones.push(a)?;
-            others.push(with_caller(b, 0))?;
-        }
-        Forged::SecondMissing => {
-            ones.push(a)?;
-            drop(b);
-        }
-        Forged::BothByFirst => {
-            ones.push(a)?;
-            ones.push(b)?;
-        }
-        Forged::FirstTwice => {
-            ones.push(a.clone()?)?;
-            ones.push(a)?;
-            others.push(b)?;
-        }
-        Forged::FirstMissing => {
-            drop(a);
-            others.push(b)?;
-        }
+        Forged::FirstMissing => drop(a),
+        _ => ones.push(a)?,
+    }
+    match forged {
+        Forged::SecondMissing => drop(b),
+        Forged::BothByFirst => ones.push(b)?,
+        _ => others.push(changed(forged, b))?,
     }
     Ok((ones, others))
 }
 
-fn with_reply(receipt: Receipt) -> Receipt {
-    let Receipt {
-        caller,
-        number,
-        event,
-        reply: _,
-    } = receipt;
-    Receipt {
-        caller,
-        number,
-        event,
-        reply: CoreReply::Answer(None),
-    }
-}
-
-fn with_event(receipt: Receipt) -> Receipt {
-    let Receipt {
-        caller,
-        number,
-        event: _,
-        reply,
-    } = receipt;
-    Receipt {
-        caller,
-        number,
-        event: CoreEvent::OpenFloor,
-        reply,
-    }
-}
-
-fn with_caller(receipt: Receipt, caller: u16) -> Receipt {
-    let Receipt {
-        caller: _,
-        number,
-        event,
-        reply,
-    } = receipt;
-    Receipt {
-        caller,
-        number,
-        event,
-        reply,
-    }
-}
-
-fn with_number(receipt: Receipt, number: u64) -> Receipt {
-    let Receipt {
-        caller,
-        number: _,
-        event,
-        reply,
-    } = receipt;
-    Receipt {
-        caller,
-        number,
-        event,
-        reply,
+/// The receipt with one other field, where that is how it is forged.
+fn changed(forged: Forged, receipt: Receipt) -> Receipt {
+    match forged {
+        Forged::OtherReply => Receipt {
+            reply: CoreReply::Answer(None),
+            ..receipt
+        },
+        Forged::OtherNumber => Receipt {
+            number: 2,
+            ..receipt
+        },
+        Forged::OtherEvent => Receipt {
+            event: CoreEvent::OpenFloor,
+            ..receipt
+        },
+        Forged::OtherCaller => Receipt {
+            caller: 0,
+            ..receipt
+        },
+        _ => receipt,
     }
 }
 

@@ -13,15 +13,16 @@ use std::test::*;
 use std::thread;
 use std::thread::Threads;
 
-/// Keeps the receipt of a call that was made.
-fn note(
+/// Keeps the receipt of a call that was made, and gives the caller back.
+fn keep<L: Ledger>(
     receipts: &mut Vec<Receipt>,
-    told: Result<Receipt, (NotDone, CoreEvent)>,
-) -> Result<(), AllocError> {
+    told: (Caller<L>, Result<Receipt, (NotDone, CoreEvent)>),
+) -> Result<Caller<L>, AllocError> {
+    let (caller, told) = told;
     if let Ok(receipt) = told {
         receipts.push(receipt)?;
     }
-    Ok(())
+    Ok(caller)
 }
 
 /// The id of the snapshot that the last receipt tells, 0 where it tells none.
@@ -55,22 +56,20 @@ fn writes<L: Ledger, R: Wait + Threads + Sync>(
     let mut receipts = Vec::new(alloc);
     let mut shown = true;
     for number in 0..10u8 {
-        let (back, told) = shared.accept(rt, caller, write(alloc, 0, number)?);
-        note(&mut receipts, told)?;
-        let (back, told) = shared.open_floor(rt, back);
-        note(&mut receipts, told)?;
+        caller = keep(
+            &mut receipts,
+            shared.accept(rt, caller, write(alloc, 0, number)?),
+        )?;
+        caller = keep(&mut receipts, shared.open_floor(rt, caller))?;
         let id = opened(receipts.as_slice());
-        let (back, told) = shared.read(rt, back, id, bytes(alloc, b'k')?);
+        let told = shared.read(rt, caller, id, bytes(alloc, b'k')?);
         let due = CoreReply::Answer(Some(bytes(alloc, number)?));
-        if let Ok(receipt) = &told {
+        if let Ok(receipt) = &told.1 {
             shown = shown && receipt.reply == due;
         }
-        note(&mut receipts, told)?;
-        let (back, told) = shared.list(rt, back, id);
-        note(&mut receipts, told)?;
-        let (back, told) = shared.close(rt, back, id);
-        note(&mut receipts, told)?;
-        caller = back;
+        caller = keep(&mut receipts, told)?;
+        caller = keep(&mut receipts, shared.list(rt, caller, id))?;
+        caller = keep(&mut receipts, shared.close(rt, caller, id))?;
     }
     Ok(Done {
         caller,
@@ -89,18 +88,15 @@ fn looks<L: Ledger, R: Wait + Threads + Sync>(
     let mut caller = caller;
     let mut receipts = Vec::new(alloc);
     for number in 0..10u8 {
-        let (back, told) = shared.open(rt, caller, Stamp::from_bits(0));
-        note(&mut receipts, told)?;
+        caller = keep(&mut receipts, shared.open(rt, caller, Stamp::from_bits(0)))?;
         let id = opened(receipts.as_slice());
-        let (back, told) = shared.list(rt, back, id);
-        note(&mut receipts, told)?;
-        let (back, told) = shared.close(rt, back, id);
-        note(&mut receipts, told)?;
-        let (back, told) = shared.accept(rt, back, write(alloc, 7, number)?);
-        note(&mut receipts, told)?;
-        let (back, told) = shared.vacuum(rt, back);
-        note(&mut receipts, told)?;
-        caller = back;
+        caller = keep(&mut receipts, shared.list(rt, caller, id))?;
+        caller = keep(&mut receipts, shared.close(rt, caller, id))?;
+        caller = keep(
+            &mut receipts,
+            shared.accept(rt, caller, write(alloc, 7, number)?),
+        )?;
+        caller = keep(&mut receipts, shared.vacuum(rt, caller))?;
     }
     Ok(Done {
         caller,
