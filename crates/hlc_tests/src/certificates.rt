@@ -1,8 +1,13 @@
 //! The checker of certificates: its reasons one by one, and the happy path.
 use hlc_clock::Stamp;
 use hlc_node::{Bytes, Row};
+use hlc_witness::NotShown::{
+    CountsDiffer, NotAtPoint, PointsNotAscending, RowAboveLastPoint, RowsNotAscending, SameAnswers,
+    WitnessNotAscending,
+};
 use hlc_witness::{NotShown, Witness, check, do_points_ascend};
 use std::alloc::{AllocError, Global};
+use std::process::Abort;
 use std::test::*;
 
 /// The stamps 1.0, 1.1, 2.0, 3.0 and 5.0, as their words.
@@ -16,199 +21,150 @@ const THREE: u64 = 196_608;
 
 const FIVE: u64 = 327_680;
 
-fn bytes(alloc: Global, text: &[u8]) -> Result<Bytes, AllocError> {
-    Ok(Bytes::from_vec(Vec::from_slice(alloc, text)?))
-}
+const POINTS: [u64; 3] = [ONE, TWO, THREE];
 
-/// A row of key `a`, with a value or a deletion mark.
-fn row(alloc: Global, bits: u64, node: u16, value: Option<&[u8]>) -> Result<Row, AllocError> {
-    let key = bytes(alloc, b"a")?;
-    let value = match value {
-        None => None,
-        Some(text) => Some(bytes(alloc, text)?),
-    };
-    Ok(Row {
-        key,
-        stamp: Stamp::from_bits(bits),
-        node,
-        value,
-    })
-}
-
-/// A witness of key `a`.
-fn witness(alloc: Global, before: Option<u64>, at: u64) -> Result<Witness, AllocError> {
-    Ok(Witness {
-        key: bytes(alloc, b"a")?,
-        before: before.map(Stamp::from_bits),
-        at: Stamp::from_bits(at),
-    })
-}
-
-/// What `check` says: the count of rows, or the reason.
-fn said(rows: &[Row], points: &[Stamp], witnesses: &[Witness]) -> Result<u64, NotShown> {
-    match check(rows, points, witnesses) {
-        Ok(shown) => Ok(shown.count()),
-        Err(reason) => Err(reason),
-    }
-}
-
-fn one_two_three() -> [Stamp; 3] {
-    [
-        Stamp::from_bits(ONE),
-        Stamp::from_bits(TWO),
-        Stamp::from_bits(THREE),
-    ]
-}
+/// A row of key `a`: its stamp, its node, and its value or none for a deletion mark.
+type ARow = (u64, u16, Option<&'static str>);
 
 /// x at 1.0 and y at 3.0.
-fn two_rows(alloc: Global) -> Result<Vec<Row>, AllocError> {
-    let rows = vec![in alloc;
-        row(alloc, ONE, 0, Some(b"x"))?,
-        row(alloc, THREE, 0, Some(b"y"))?,
-    ]?;
+const ROWS: [ARow; 2] = [(ONE, 0, Some("x")), (THREE, 0, Some("y"))];
+
+/// A witness of key `a`: the point before, and its own.
+type AWitness = (Option<u64>, u64);
+
+fn bytes(alloc: Global, text: &str) -> Result<Bytes, AllocError> {
+    Ok(Bytes::from_vec(Vec::from_slice(alloc, text.as_bytes())?))
+}
+
+fn rows_of(alloc: Global, cases: &[ARow]) -> Result<Vec<Row>, AllocError> {
+    let mut rows = Vec::new(alloc);
+    for (bits, node, value) in cases {
+        let value = match value {
+            None => None,
+            Some(text) => Some(bytes(alloc, text)?),
+        };
+        rows.push(Row {
+            key: bytes(alloc, "a")?,
+            stamp: Stamp::from_bits(*bits),
+            node: *node,
+            value,
+        })?;
+    }
     Ok(rows)
+}
+
+fn witnesses_of(alloc: Global, cases: &[AWitness]) -> Result<Vec<Witness>, AllocError> {
+    let mut witnesses = Vec::new(alloc);
+    for (before, at) in cases {
+        witnesses.push(Witness {
+            key: bytes(alloc, "a")?,
+            before: before.map(Stamp::from_bits),
+            at: Stamp::from_bits(*at),
+        })?;
+    }
+    Ok(witnesses)
+}
+
+/// `check` must answer the count of rows, or the reason.
+fn must_say<H: Abort + AllocGlobal>(
+    rt: &H,
+    rows: &[ARow],
+    points: &[u64],
+    witnesses: &[AWitness],
+    due: Result<u64, NotShown>,
+) -> Result<(), AllocError> {
+    let (made, shown) = (
+        rows_of(rt.alloc(), rows)?,
+        witnesses_of(rt.alloc(), witnesses)?,
+    );
+    let points: Vec<Stamp> = points
+        .iter()
+        .map(|bits| Stamp::from_bits(*bits))
+        .collect(rt.alloc())?;
+    let said = check(made.as_slice(), points.as_slice(), shown.as_slice()).map(
+        |shown| shown.count(),
+    );
+    assert_eq!(rt; said, due, "{rows:?} {witnesses:?}");
+    Ok(())
 }
 
 #[test]
 fn two_changes_show_two_rows(rt: HostRuntime) -> Result<(), AllocError> {
-    let alloc = rt.alloc();
-    let rows = two_rows(alloc)?;
-    let witnesses = vec![in alloc;
-        witness(alloc, None, ONE)?,
-        witness(alloc, Some(TWO), THREE)?,
-    ]?;
-    assert_eq!(rt; said(&rows, &one_two_three(), &witnesses), Ok(2));
-    Ok(())
+    must_say(
+        &rt,
+        &ROWS,
+        &POINTS,
+        &[(None, ONE), (Some(TWO), THREE)],
+        Ok(2),
+    )
 }
 
 #[test]
 fn a_doubled_witness_is_not_counted(rt: HostRuntime) -> Result<(), AllocError> {
-    let alloc = rt.alloc();
-    let rows = two_rows(alloc)?;
-    let witnesses = vec![in alloc;
-        witness(alloc, None, ONE)?,
-        witness(alloc, None, ONE)?,
-        witness(alloc, Some(TWO), THREE)?,
-    ]?;
-    assert_eq!(rt;
-        said(&rows, &one_two_three(), &witnesses),
-        Err(NotShown::WitnessNotAscending)
-    );
-    Ok(())
+    let witnesses = [(None, ONE), (None, ONE), (Some(TWO), THREE)];
+    must_say(&rt, &ROWS, &POINTS, &witnesses, Err(WitnessNotAscending))
 }
 
 #[test]
 fn a_row_that_is_not_needed(rt: HostRuntime) -> Result<(), AllocError> {
-    let alloc = rt.alloc();
-    let rows = vec![in alloc;
-        row(alloc, ONE, 0, Some(b"x"))?,
-        row(alloc, TWO, 0, Some(b"x"))?,
-        row(alloc, THREE, 0, Some(b"y"))?,
-    ]?;
-    let witnesses = vec![in alloc;
-        witness(alloc, None, ONE)?,
-        witness(alloc, Some(TWO), THREE)?,
-    ]?;
-    assert_eq!(rt;
-        said(&rows, &one_two_three(), &witnesses),
-        Err(NotShown::CountsDiffer)
-    );
-    Ok(())
+    let rows = [
+        (ONE, 0, Some("x")),
+        (TWO, 0, Some("x")),
+        (THREE, 0, Some("y")),
+    ];
+    let witnesses = [(None, ONE), (Some(TWO), THREE)];
+    must_say(&rt, &rows, &POINTS, &witnesses, Err(CountsDiffer))
 }
 
 #[test]
 fn points_that_are_no_neighbours(rt: HostRuntime) -> Result<(), AllocError> {
-    let alloc = rt.alloc();
-    let rows = two_rows(alloc)?;
-    let witnesses = vec![in alloc;
-        witness(alloc, None, ONE)?,
-        witness(alloc, Some(ONE), THREE)?,
-    ]?;
-    assert_eq!(rt;
-        said(&rows, &one_two_three(), &witnesses),
-        Err(NotShown::NotAtPoint)
-    );
-    let witnesses = vec![in alloc; witness(alloc, None, ONE)?, witness(alloc, None, THREE)?]?;
-    assert_eq!(rt;
-        said(&rows, &one_two_three(), &witnesses),
-        Err(NotShown::NotAtPoint)
-    );
-    let witnesses = vec![in alloc;
-        witness(alloc, None, ONE)?,
-        witness(alloc, Some(TWO), FIVE)?,
-    ]?;
-    assert_eq!(rt;
-        said(&rows, &one_two_three(), &witnesses),
-        Err(NotShown::NotAtPoint)
-    );
+    for last in [(Some(ONE), THREE), (None, THREE), (Some(TWO), FIVE)] {
+        must_say(&rt, &ROWS, &POINTS, &[(None, ONE), last], Err(NotAtPoint))?;
+    }
     Ok(())
 }
 
 #[test]
-fn points_out_of_order(rt: HostRuntime) {
-    let one = Stamp::from_bits(ONE);
-    let two = Stamp::from_bits(TWO);
-    assert_eq!(rt; said(&[], &[], &[]), Err(NotShown::PointsNotAscending));
-    assert_eq!(rt;
-        said(&[], &[two, one], &[]),
-        Err(NotShown::PointsNotAscending)
-    );
-    assert_eq!(rt;
-        said(&[], &[one, one], &[]),
-        Err(NotShown::PointsNotAscending)
-    );
-    assert_eq!(rt; said(&[], &[Stamp::from_bits(THREE)], &[]), Ok(0));
-    assert!(rt; do_points_ascend(&[one, two]));
+fn points_out_of_order(rt: HostRuntime) -> Result<(), AllocError> {
+    must_say(&rt, &[], &[], &[], Err(PointsNotAscending))?;
+    must_say(&rt, &[], &[TWO, ONE], &[], Err(PointsNotAscending))?;
+    must_say(&rt, &[], &[ONE, ONE], &[], Err(PointsNotAscending))?;
+    must_say(&rt, &[], &[THREE], &[], Ok(0))?;
+    assert!(rt; do_points_ascend(&[Stamp::from_bits(ONE), Stamp::from_bits(TWO)]));
     assert!(rt; !do_points_ascend(&[]));
+    Ok(())
 }
 
 #[test]
 fn a_deletion_mark_changes_nothing(rt: HostRuntime) -> Result<(), AllocError> {
-    let alloc = rt.alloc();
-    let points = [Stamp::from_bits(ONE)];
-    let rows = vec![in alloc; row(alloc, ONE, 0, None)?]?;
-    assert_eq!(rt; said(&rows, &points, &[]), Err(NotShown::CountsDiffer));
-    let witnesses = vec![in alloc; witness(alloc, None, ONE)?]?;
-    assert_eq!(rt;
-        said(&rows, &points, &witnesses),
-        Err(NotShown::SameAnswers)
-    );
-    Ok(())
+    let (rows, points) = ([(ONE, 0, None)], [ONE]);
+    must_say(&rt, &rows, &points, &[], Err(CountsDiffer))?;
+    must_say(&rt, &rows, &points, &[(None, ONE)], Err(SameAnswers))
 }
 
 #[test]
 fn the_empty_value_is_a_value(rt: HostRuntime) -> Result<(), AllocError> {
-    let alloc = rt.alloc();
-    let rows = vec![in alloc; row(alloc, ONE, 0, Some(b""))?]?;
-    let witnesses = vec![in alloc; witness(alloc, None, ONE)?]?;
-    assert_eq!(rt; said(&rows, &[Stamp::from_bits(ONE)], &witnesses), Ok(1));
-    Ok(())
+    must_say(&rt, &[(ONE, 0, Some(""))], &[ONE], &[(None, ONE)], Ok(1))
 }
 
 #[test]
 fn rows_out_of_order(rt: HostRuntime) -> Result<(), AllocError> {
-    let alloc = rt.alloc();
-    let points = [Stamp::from_bits(FIVE)];
-    let rows = vec![in alloc;
-        row(alloc, FIVE, 1, Some(b"y"))?,
-        row(alloc, FIVE, 0, Some(b"x"))?,
-    ]?;
-    assert_eq!(rt; said(&rows, &points, &[]), Err(NotShown::RowsNotAscending));
-    let rows = vec![in alloc;
-        row(alloc, FIVE, 0, Some(b"x"))?,
-        row(alloc, FIVE, 0, Some(b"y"))?,
-    ]?;
-    assert_eq!(rt; said(&rows, &points, &[]), Err(NotShown::RowsNotAscending));
+    for rows in [
+        [(FIVE, 1, Some("y")), (FIVE, 0, Some("x"))],
+        [(FIVE, 0, Some("x")), (FIVE, 0, Some("y"))],
+    ] {
+        must_say(&rt, &rows, &[FIVE], &[], Err(RowsNotAscending))?;
+    }
     Ok(())
 }
 
 #[test]
 fn a_row_above_the_last_point(rt: HostRuntime) -> Result<(), AllocError> {
-    let alloc = rt.alloc();
-    let rows = vec![in alloc; row(alloc, ONE_ONE, 0, Some(b"x"))?]?;
-    assert_eq!(rt;
-        said(&rows, &[Stamp::from_bits(ONE)], &[]),
-        Err(NotShown::RowAboveLastPoint)
-    );
-    Ok(())
+    must_say(
+        &rt,
+        &[(ONE_ONE, 0, Some("x"))],
+        &[ONE],
+        &[],
+        Err(RowAboveLastPoint),
+    )
 }
