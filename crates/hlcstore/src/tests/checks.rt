@@ -1,5 +1,5 @@
 //! Whole certificates, from their bytes to the one line that answers them.
-use crate::tests::streams::answer;
+use crate::tests::answers::answer;
 use std::test::*;
 
 /// A certificate, what is written for it, and the status.

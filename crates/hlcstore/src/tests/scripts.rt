@@ -1,5 +1,5 @@
 //! Whole scripts, from their bytes to the bytes of their replies.
-use crate::tests::streams::answer;
+use crate::tests::answers::answer;
 use std::alloc::{AllocError, Global};
 use std::test::*;
 

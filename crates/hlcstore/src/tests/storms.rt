@@ -1,5 +1,7 @@
 //! Storms: what the program prints for them is the same in each schedule of their threads.
-use crate::tests::streams::{Fault, Giving, SCRIPT, Taking, run};
+use crate::tests::answers::{SCRIPT, run};
+use crate::tests::failures::writes_fail;
+use crate::tests::streams::{Fault, Giving, Taking};
 use std::io::ErrorKind;
 use std::test::*;
 
@@ -40,7 +42,7 @@ fn what_storms_print(rt: HostRuntime) {
     for (words, due) in CASES {
         let writer = Taking::whole(rt.alloc());
         let (status, reader, writer) = run(&rt, Some(words), Giving::whole(SCRIPT), writer);
-        let seen = (status, writer.taken.as_slice(), reader.calls);
+        let seen = (status, writer.taken.as_slice(), reader.calls.made);
         assert_eq!(rt; seen, (0u8, due, 0u64), "{words}");
     }
 }
@@ -67,25 +69,7 @@ fn a_writer_fails_behind_a_storm(rt: HostRuntime) {
     let (words, output) = CASES[1];
     for fault in [Fault::Error(ErrorKind::Other), Fault::TakesNone] {
         for most in [7usize, 4096] {
-            let writes = output.len().div_ceil(most) as u64;
-            for at in 1..writes + 2 {
-                let writer = Taking {
-                    taken: Vec::new(rt.alloc()),
-                    most,
-                    at,
-                    fault,
-                    calls: 0,
-                };
-                let (status, _, writer) = run(&rt, Some(words), Giving::whole(SCRIPT), writer);
-                let before = output.len().min(most.saturating_mul(at as usize - 1));
-                let seen = (status, writer.taken.as_slice(), writer.calls);
-                let due = if at <= writes {
-                    (3u8, &output[..before], at)
-                } else {
-                    (0u8, output, writes)
-                };
-                assert_eq!(rt; seen, due, "{fault:?} {most} {at}");
-            }
+            writes_fail(&rt, (words, SCRIPT, output), fault, most);
         }
     }
 }

@@ -1,5 +1,5 @@
 //! The edges of lines and words: each has one spelling.
-use crate::tests::streams::answer;
+use crate::tests::answers::answer;
 use hlc_text::Stamp;
 use hlc_text::stamp::stamp;
 use std::sync::Wait;

@@ -1,5 +1,6 @@
 //! The words behind the program's name, and the text of each refusal.
-use crate::tests::streams::{CERTIFICATE, Giving, REPLIES, SCRIPT, Taking, run, split};
+use crate::tests::answers::{CERTIFICATE, REPLIES, SCRIPT, run, split};
+use crate::tests::streams::{Giving, Taking};
 use hlc_clock::Stamp;
 use hlc_script::put_refusal;
 use hlc_text::print::finish;
@@ -51,7 +52,7 @@ fn words_of_the_program(rt: HostRuntime) {
         let writer = Taking::whole(rt.alloc());
         let (ended, reader, writer) = run(&rt, words, Giving::whole(input), writer);
         let reads = if status == 1 { 0 } else { 2 };
-        let seen = (ended, writer.taken.as_slice(), reader.calls);
+        let seen = (ended, writer.taken.as_slice(), reader.calls.made);
         assert_eq!(rt; seen, (status, due, reads), "{words:?}");
     }
 }
