@@ -6,13 +6,17 @@
 //! are missing, and then the call.
 #![tactic(auto)]
 
+mod ends;
 mod event;
 mod guarded;
-mod held;
+mod served;
+mod stores;
 mod texts;
 mod threads;
 mod workers;
 
+use crate::ends::Worker;
+use crate::workers::worked;
 use hlc_refused::subject::{Seen, tried};
 use hlc_refused::turn::{Met, Turn};
 use hlc_refused::{asking, board, calls, points, registry, table};
@@ -54,12 +58,12 @@ fn seen<R: Wait + Threads + Sync>(
         b"event" => tried::<event::Happening>(alloc, line, turn),
         b"guarded" => guarded::guarded(alloc, false, line, turn),
         b"audited" => guarded::guarded(alloc, true, line, turn),
-        b"feed" => workers::feeding(threads, alloc, turn),
-        b"reader" => workers::reading(threads, alloc, turn),
-        b"vacuums" => workers::vacuuming(threads, alloc, turn),
+        b"feed" => worked(threads, alloc, Worker::Feeds, turn),
+        b"reader" => worked(threads, alloc, Worker::Reads, turn),
+        b"vacuums" => worked(threads, alloc, Worker::Vacuums, turn),
         b"script" => Ok(texts::script(rt, alloc, turn)),
         b"check" => Ok(texts::check(rt, alloc, turn)),
-        b"held" => Ok(held::held(rt, alloc, turn)),
+        b"held" => Ok(texts::held(rt, alloc, turn)),
         _ => Ok(Seen::NotMade),
     }
 }

@@ -1,84 +1,76 @@
 //! The workers round a shared store, one at a time and in one thread.
-ghost use Rattle.std.specs.Prelude.{◌≡◌, ◌+◌, ◌<◌, ◌≤◌, ◌∷◌, [], None, true};
-ghost use Rattle.std.specs.Prelude.{List, length, IfOk, IsTrue, MatchOption};
-ghost use Rattle.hlc_refused.specs.declared.subject.Seen.{Seen};
-ghost use Rattle.hlc_workers.specs.declared.room.WorkEnd.{WorkEnd};
-ghost use Rattle.hlc_server.specs.declared.entry.Entry.{Entry};
-ghost use Rattle.hlc_server.specs.declared.entry.NotDone.{NotDone};
-ghost use Rattle.hlc_server.specs.Settling.{IsSettled, claims_of};
+ghost use Rattle.std.specs.Prelude.{◌≡◌, IfOk};
+ghost use Rattle.hlc_refused.specs.Tried.{IsSeenIn};
+ghost use Rattle.hlc_workers.specs.Paid.{IsPaid};
+ghost use Rattle.hlc_sweeps.specs.Workers.{AreJoined};
 
-use hlc_board::Board;
-use hlc_channel::{LinkReceiver, link};
+use crate::ends::{Ends, Worker, ends_of};
+use crate::served::{is_left, seen};
+use crate::stores::{Store, store_for};
+use hlc_board::{Board, Feeder, FloorPass};
+use hlc_channel::LinkReceiver;
 use hlc_core::{Bytes, Item};
-use hlc_refused::store::write;
 use hlc_refused::subject::{Place, Seen};
 use hlc_refused::turn::Turn;
-use hlc_server::{Caller, NotDone, Receipt, Shared};
-use hlc_workers::{Fed, FreeGate, Reader, Served, WorkEnd, feed, serve_reader, serve_vacuum};
+use hlc_server::{Caller, Shared};
+use hlc_workers::{Fed, FreeGate, Reader, Served, feed, serve_reader, serve_vacuum};
 use std::alloc::{AllocError, Global};
 use std::marker::Brand;
 use std::sync::Wait;
 use std::sync::ledger::{Blank, Ledger};
 use std::thread::Threads;
 
-/// How many requests are made before a link is fed.
-const BEFORE_FEED: u64 = 20;
+impl Worker {
+    /// How many requests are made before it works.
+    fn requests(self) -> u64 {
+        match self {
+            Worker::Feeds => 20,
+            Worker::Reads => 29,
+            Worker::Vacuums => 23,
+        }
+    }
 
-/// How many requests are made before a reader is served.
-const BEFORE_READER: u64 = 29;
-
-/// How many requests are made before the vacuum is served.
-const BEFORE_VACUUM: u64 = 23;
-
-/// A shared store, its caller, and the receipts so far.
-#[derive(Drop)]
-struct Store<L: Ledger> {
-    shared: Shared<L>,
-    caller: Caller<L>,
-    receipts: Vec<Receipt>,
+    /// How many receipts it gives where no request is refused.
+    fn due(self) -> usize {
+        match self {
+            Worker::Feeds => 3,
+            Worker::Reads => 4,
+            Worker::Vacuums => 1,
+        }
+    }
 }
 
-// No clause says which request the run refuses, so none of the three workers has one for what is
-// seen of it. What is said for what, `seen` has.
-
-/// The link of three writes is fed into a new store.
-pub(crate) fn feeding<R: Wait>(rt: &R, alloc: Global, turn: &mut Turn) -> Result<Seen, AllocError> {
-    feeding_in::<Brand, R>(rt, alloc, Blank::new(1), turn)
-}
-
-/// One round of a reader over two keys.
-pub(crate) fn reading<R: Wait>(rt: &R, alloc: Global, turn: &mut Turn) -> Result<Seen, AllocError> {
-    reading_in::<Brand, R>(rt, alloc, Blank::new(1), turn)
-}
-
-/// One vacuum.
-pub(crate) fn vacuuming<R: Wait + Threads + Sync>(
+/// The worker works in a store of its own while the request of that turn is refused. No clause says
+/// which request that is. What is said for what, `seen` has.
+pub(crate) fn worked<R: Wait + Threads + Sync>(
     rt: &R,
     alloc: Global,
+    worker: Worker,
     turn: &mut Turn,
-) -> Result<Seen, AllocError> {
-    vacuuming_in::<Brand, R>(rt, alloc, Blank::new(1), turn)
+) -> Result<Seen, AllocError>
+    ensures { IfOk result (λ seen. IsSeenIn turn.old turn.new seen) }
+{
+    worked_in::<Brand, R>(rt, alloc, Blank::new(1), worker, turn)
 }
 
-fn feeding_in<L: Ledger, R: Wait>(
+/// The same by a store of this ledger.
+fn worked_in<L: Ledger, R: Wait + Threads + Sync>(
     rt: &R,
     alloc: Global,
     blank: Blank,
+    worker: Worker,
     turn: &mut Turn,
 ) -> Result<Seen, AllocError>
     requires { (blank.name ≡ L.name) × (blank.parts ≡ L.parts) × (blank.parts ≡ 1) }
+    ensures { IfOk result (λ seen. IsSeenIn turn.old turn.new seen) }
 {
-    let Some(store) = new_store::<L>(alloc, blank)? else {
+    let Some(store) = store_for::<L, R>(rt, alloc, blank, worker)? else {
         return Ok(Seen::NotMade);
     };
-    let Ok((board, mut feeders, _)) = Board::new(alloc, 1, 0) else {
+    let Some(ends) = ends_of(rt, alloc, worker)? else {
         return Ok(Seen::NotMade);
     };
-    let feeder = feeders.remove(0);
-    let Some(receiver) = full_link(rt, alloc)? else {
-        return Ok(Seen::NotMade);
-    };
-    if !turn.begin(BEFORE_FEED) {
+    if !turn.begin(worker.requests()) {
         return Ok(Seen::NotMade);
     }
     let Store {
@@ -86,17 +78,64 @@ fn feeding_in<L: Ledger, R: Wait>(
         caller,
         receipts: past,
     } = store;
+    let (served, left) = work(rt, alloc, &shared, caller, ends);
+    turn.end();
+    if matches!(worker, Worker::Feeds) && !is_left(alloc, served.receipts.len(), left)? {
+        return Ok(Seen::Wrong(Place::State));
+    }
+    seen(alloc, shared, past, served, worker.due())
+}
+
+/// Lets the worker of these ends work. Gives the item too that it took and did not hand in.
+fn work<L: Ledger, R: Wait + Threads + Sync>(
+    rt: &R,
+    alloc: Global,
+    shared: &Shared<L>,
+    caller: Caller<L>,
+    ends: Ends,
+) -> (Served<L>, Option<Item>)
+    requires { AreJoined ends }
+    ensures { IsPaid caller result.0.caller result.0.receipts.items }
+{
+    match ends {
+        Ends::Feeds {
+            link,
+            board,
+            feeder,
+        } => feed_all(rt, alloc, shared, caller, link, &board, feeder),
+        Ends::Reads { keys, board, pass } => {
+            (
+                read_once(rt, alloc, shared, caller, &keys, &board, pass),
+                None,
+            )
+        }
+        Ends::Vacuums => (serve_vacuum(rt, alloc, shared, caller, 1, &FreeGate), None),
+    }
+}
+
+/// Feeds the link to its end. Gives the item too that was taken and not handed in.
+fn feed_all<L: Ledger, R: Wait>(
+    rt: &R,
+    alloc: Global,
+    shared: &Shared<L>,
+    caller: Caller<L>,
+    link: LinkReceiver,
+    board: &Board,
+    feeder: Feeder,
+) -> (Served<L>, Option<Item>)
+    requires { feeder.board ≡ board.now }
+    ensures { IsPaid caller result.0.caller result.0.receipts.items }
+{
     let fed = feed(
         rt,
         alloc,
-        &shared,
+        shared,
         caller,
-        receiver,
-        &board,
+        link,
+        board,
         Some(feeder),
         &FreeGate,
     );
-    turn.end();
     let Fed {
         caller,
         receipts,
@@ -104,233 +143,36 @@ fn feeding_in<L: Ledger, R: Wait>(
         end,
         ..
     } = fed;
-    if !is_left(alloc, receipts.len(), left)? {
-        return Ok(Seen::Wrong(Place::State));
-    }
     let served = Served {
         caller,
         receipts,
         end,
     };
-    seen(alloc, shared, past, served, 3)
+    (served, left)
 }
 
-fn reading_in<L: Ledger, R: Wait>(
+/// One round of a reader over the keys.
+fn read_once<L: Ledger, R: Wait>(
     rt: &R,
     alloc: Global,
-    blank: Blank,
-    turn: &mut Turn,
-) -> Result<Seen, AllocError>
-    requires { (blank.name ≡ L.name) × (blank.parts ≡ L.parts) × (blank.parts ≡ 1) }
+    shared: &Shared<L>,
+    caller: Caller<L>,
+    keys: &[Bytes],
+    board: &Board,
+    pass: FloorPass,
+) -> Served<L>
+    requires { pass.board ≡ board.now }
+    ensures { IsPaid caller result.caller result.receipts.items }
 {
-    let Some(store) = written::<L, R>(rt, alloc, blank)? else {
-        return Ok(Seen::NotMade);
-    };
-    let Ok((board, _, mut passes)) = Board::new(alloc, 1, 1) else {
-        return Ok(Seen::NotMade);
-    };
-    let pass = passes.remove(0);
-    let keys = [key(alloc, b"a")?, key(alloc, b"b")?];
-    if !turn.begin(BEFORE_READER) {
-        return Ok(Seen::NotMade);
-    }
-    let Store {
-        shared,
-        caller,
-        receipts: past,
-    } = store;
-    let read = serve_reader(
-        rt, alloc, &shared, caller, &board, pass, &keys, 1, &FreeGate,
-    );
-    turn.end();
     let Reader {
         caller,
         receipts,
         end,
         ..
-    } = read;
-    let served = Served {
+    } = serve_reader(rt, alloc, shared, caller, board, pass, keys, 1, &FreeGate);
+    Served {
         caller,
         receipts,
         end,
-    };
-    seen(alloc, shared, past, served, 4)
-}
-
-fn vacuuming_in<L: Ledger, R: Wait + Threads + Sync>(
-    rt: &R,
-    alloc: Global,
-    blank: Blank,
-    turn: &mut Turn,
-) -> Result<Seen, AllocError>
-    requires { (blank.name ≡ L.name) × (blank.parts ≡ L.parts) × (blank.parts ≡ 1) }
-{
-    let Some(store) = written::<L, R>(rt, alloc, blank)? else {
-        return Ok(Seen::NotMade);
-    };
-    if !turn.begin(BEFORE_VACUUM) {
-        return Ok(Seen::NotMade);
-    }
-    let Store {
-        shared,
-        caller,
-        receipts: past,
-    } = store;
-    let served = serve_vacuum(rt, alloc, &shared, caller, 1, &FreeGate);
-    turn.end();
-    seen(alloc, shared, past, served, 1)
-}
-
-/// A new store of one node, with a trail.
-fn new_store<L: Ledger>(alloc: Global, blank: Blank) -> Result<Option<Store<L>>, AllocError>
-    requires { (blank.name ≡ L.name) × (blank.parts ≡ L.parts) × (blank.parts ≡ 1) }
-{
-    let Ok((shared, mut callers)) = Shared::<L>::new(alloc, blank, 1, 1, true) else {
-        return Ok(None);
-    };
-    let Some(caller) = callers.pop() else {
-        return Ok(None);
-    };
-    Ok(Some(Store {
-        shared,
-        caller,
-        receipts: Vec::new(alloc),
-    }))
-}
-
-/// A store with three writes.
-fn written<L: Ledger, R: Wait>(
-    rt: &R,
-    alloc: Global,
-    blank: Blank,
-) -> Result<Option<Store<L>>, AllocError>
-    requires { (blank.name ≡ L.name) × (blank.parts ≡ L.parts) × (blank.parts ≡ 1) }
-{
-    let Some(store) = new_store::<L>(alloc, blank)? else {
-        return Ok(None);
-    };
-    let Store {
-        shared,
-        mut caller,
-        mut receipts,
-    } = store;
-    for number in 0..3 {
-        let (back, told) = shared.accept(rt, caller, item(alloc, number)?);
-        caller = back;
-        let Ok(receipt) = told else {
-            return Ok(None);
-        };
-        receipts.push(receipt)?;
-    }
-    Ok(Some(Store {
-        shared,
-        caller,
-        receipts,
-    }))
-}
-
-/// The write of this number on a link.
-fn item(alloc: Global, number: u8) -> Result<Item, AllocError>
-    ensures { IfOk result
-        (λ item. (item.node ≡ 0) × (item.number ≡ number) × (item.stamp ≡ number + 1)) }
-{
-    let number = u64::from(number);
-    let key: &[u8] = if number == 1 { b"b" } else { b"a" };
-    write(alloc, (0, number, number + 1), key, b"x")
-}
-
-fn key(alloc: Global, key: &[u8]) -> Result<Bytes, AllocError> {
-    Ok(Bytes::from_vec(Vec::from_slice(alloc, key)?))
-}
-
-/// The receiving end of a link that carries three writes and its end.
-fn full_link<R: Wait>(rt: &R, alloc: Global) -> Result<Option<LinkReceiver>, AllocError> {
-    let (mut sender, receiver) = link(rt, alloc, 8)?;
-    for number in 0..3 {
-        if sender.put(rt, item(alloc, number)?).is_err() {
-            return Ok(None);
-        }
-    }
-    match sender.finish(rt) {
-        Ok(_) => Ok(Some(receiver)),
-        Err(_) => Ok(None),
-    }
-}
-
-/// Whether the item that is left is the next one where so many were handed in, and none behind the
-/// last.
-fn is_left(alloc: Global, count: usize, left: Option<Item>) -> Result<bool, AllocError>
-    ensures none { IfOk result (λ same. IsTrue same → 3 ≤ count → left ≡ None) }
-    ensures next { IfOk result (λ same. IsTrue same → count < 3
-        → MatchOption left ⊥ (λ item. item.number ≡ count)) }
-{
-    match left {
-        None => Ok(count >= 3),
-        Some(_) if count >= 3 => Ok(false),
-        Some(left) => Ok(left == item(alloc, count as u8)?),
-    }
-}
-
-/// What was seen of a worker that was to give so many receipts, by its end and what settles.
-fn seen<L: Ledger>(
-    alloc: Global,
-    shared: Shared<L>,
-    past: Vec<Receipt>,
-    served: Served<L>,
-    due: usize,
-) -> Result<Seen, AllocError>
-    ensures answered { IfOk result (λ seen. seen ≡ Seen.Answered
-        → (served.end ≡ WorkEnd.Done) × (length served.receipts.items ≡ due)) }
-    ensures refused { IfOk result (λ seen. seen ≡ Seen.Refused
-        → (served.end ≡ WorkEnd.Spent NotDone.NoMemory) × (length served.receipts.items < due)) }
-{
-    let Served {
-        caller,
-        receipts: mut more,
-        end,
-    } = served;
-    let count = more.len();
-    let mut receipts = past;
-    receipts.append(&mut more)?;
-    let is_settled = settles(alloc, shared, caller, receipts)?;
-    Ok(judged(is_settled, end, count, due))
-}
-
-/// Whether these receipts of the one caller settle, so that no other call stands in the trail.
-fn settles<L: Ledger>(
-    alloc: Global,
-    shared: Shared<L>,
-    caller: Caller<L>,
-    receipts: Vec<Receipt>,
-) -> Result<bool, AllocError>
-    ensures { IfOk result (λ all. IsTrue all
-        → (trail : List Entry) × IsSettled trail (claims_of ((caller, receipts) ∷ []))) }
-{
-    let total = receipts.len() as u64;
-    let lists = vec![in alloc; (caller, receipts)]?;
-    match shared.settle(lists) {
-        Ok(settled) => Ok(settled.entries == total),
-        Err(_) => Ok(false),
-    }
-}
-
-/// What was seen of a worker that gave so many receipts where others are due.
-fn judged(is_settled: bool, end: WorkEnd, count: usize, due: usize) -> Seen
-    ensures answered { result ≡ Seen.Answered
-        → (is_settled ≡ true) × (end ≡ WorkEnd.Done) × (count ≡ due) }
-    ensures refused { result ≡ Seen.Refused
-        → (is_settled ≡ true) × (end ≡ WorkEnd.Spent NotDone.NoMemory) × (count < due) }
-    ensures done { (is_settled ≡ true) × (end ≡ WorkEnd.Done) × (count ≡ due)
-        → result ≡ Seen.Answered }
-    ensures spent { (is_settled ≡ true) × (end ≡ WorkEnd.Spent NotDone.NoMemory) × (count < due)
-        → result ≡ Seen.Refused }
-{
-    if !is_settled {
-        return Seen::Wrong(Place::Later);
-    }
-    match end {
-        WorkEnd::Done if count == due => Seen::Answered,
-        WorkEnd::Spent(NotDone::NoMemory) if count < due => Seen::Refused,
-        _ => Seen::Wrong(Place::Answer),
     }
 }
