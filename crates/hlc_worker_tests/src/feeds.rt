@@ -2,10 +2,10 @@
 ghost use Rattle.std.specs.Prelude.{◌≡◌};
 
 use crate::makers::{at_second, report};
-use hlc_board::Board;
-use hlc_channel::link;
+use crate::scenes::{Scene, new_scene};
+use crate::sources::full_link;
 use hlc_core::{CoreFault, CoreReply, Item, Stamp};
-use hlc_server::{Receipt, Shared};
+use hlc_server::Receipt;
 use hlc_workers::{Fed, FreeGate, Gate, WorkEnd, feed};
 use std::alloc::Global;
 use std::marker::Brand;
@@ -44,31 +44,17 @@ fn fed<L: Ledger, G: Gate, R: Wait>(
 ) -> Result<Told, Fail>
     requires { (blank.name ≡ L.name) × (blank.parts ≡ L.parts) × (blank.parts ≡ 1) }
 {
-    let (shared, mut callers) = Shared::<L>::new(alloc, blank, 1, 1, false)
-        .ok()
-        .ok_or("a store")?;
-    let (board, mut feeders, _) = Board::new(alloc, 1, 0)?;
+    let Scene {
+        shared,
+        mut callers,
+        board,
+        feeder,
+        ..
+    } = new_scene::<L>(alloc, blank, 1, false)?;
     let caller = callers.pop().ok_or("a caller")?;
-    let feeder = feeders.remove(0);
-    let (mut sender, receiver) = link(rt, alloc, 8)?;
-    for number in numbers {
-        sender.put(rt, report(number)).ok().ok_or("an item")?;
-    }
-    if ends {
-        sender.finish(rt).ok().ok_or("the end")?;
-    } else {
-        drop(sender);
-    }
-    let fed = feed(
-        rt,
-        alloc,
-        &shared,
-        caller,
-        receiver,
-        &board,
-        Some(feeder),
-        gate,
-    );
+    let items = vec![in alloc; report(numbers[0]), report(numbers[1]), report(numbers[2])]?;
+    let link = full_link(rt, alloc, items, ends).ok_or("a link")?;
+    let fed = feed(rt, alloc, &shared, caller, link, &board, Some(feeder), gate);
     let Fed {
         receipts,
         left,

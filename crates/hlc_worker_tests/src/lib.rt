@@ -10,8 +10,18 @@ mod feeds;
 #[cfg(test)]
 mod gates;
 #[cfg(test)]
+mod held;
+#[cfg(test)]
 mod joins;
 #[cfg(test)]
 mod links;
 #[cfg(test)]
 mod makers;
+#[cfg(test)]
+mod newcomers;
+#[cfg(test)]
+mod rounds;
+#[cfg(test)]
+mod scenes;
+#[cfg(test)]
+mod sources;
