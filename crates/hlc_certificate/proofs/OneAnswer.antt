@@ -1,12 +1,8 @@
 -- An input has one answer: its lines say one certificate, which is one or has one first reason, and no good line is a
 -- bad one.
-use Rattle.std.proofs.Common.{◌≡◌, ℕ, ◌+◌, ◌<◌, ◌∙◌, sym, ap, ap₂, refl, subst, List, [], ◌∷◌, ◌++◌, length}
-use Rattle.std.proofs.Common.{length-append}
-use Rattle.std.proofs.Common.{map, get_or, All, append_assoc, arith, ◌⊎◌, inl, inr}
+use Rattle.std.proofs.Common.{◌≡◌, ℕ, ◌+◌, ◌∙◌, sym, ap, ap₂, refl, subst, List, [], ◌∷◌, ◌++◌, length}
+use Rattle.std.proofs.Common.{map, All, append_assoc, arith, ◌⊎◌, inl, inr}
 use Rattle.std.specs.Prelude.{◌≢◌}
-use Rattle.std.proofs.Math.Seq.{get_or-append_seam}
-use Rattle.std.proofs.lemmas.List.{get_or_append_left}
-use Rattle.std.proofs.lemmas.Map.Keys.{Less-from_sorted}
 use Rattle.hlc_node.specs.declared.row.Row.{Row as ARow}
 use Rattle.hlc_witness.specs.declared.witness.Witness.{Witness as AWitness}
 use Rattle.hlc_witness.specs.declared.reason.NotShown.{NotShown as AReason}
@@ -14,10 +10,11 @@ use Rattle.hlc_witness.specs.declared.reason.NotShown.TheVariants.{PointsNotAsce
 use Rattle.hlc_witness.specs.declared.reason.NotShown.TheVariants.{RowAboveLastPoint, WitnessNotAscending, NotAtPoint}
 use Rattle.hlc_witness.specs.declared.reason.NotShown.TheVariants.{SameAnswers, CountsDiffer, RowOutOfLimits}
 use Rattle.hlc_clock.specs.Points.{PointsAscend}
-use Rattle.hlc_witness.specs.Changes.{ChangesAscend, IsChange, change_cmp}
+use Rattle.hlc_witness.specs.Changes.{ChangesAscend, IsChange}
 use Rattle.hlc_witness.specs.Certificate.{IsCertificate, RowsAscend, NoneAbove}
 use Rattle.hlc_witness.specs.Cost.{AreInLimits, rows_cost}
-use Rattle.hlc_witness.specs.Reasons.{IsAbove, IsFault, IsFirstFault, IsFirstReason, AreSorted}
+use Rattle.hlc_witness.specs.Reasons.{IsFault, IsFirstFault, IsFirstReason, AreSorted}
+use Rattle.hlc_witness.proofs.FaultLemmas.{changes_no_fault}
 use Rattle.hlc_certificate.specs.declared.check.CheckEnd.TheVariants.{Fewest, NotShown, BadLine, NoMemory, NotHeld}
 use Rattle.hlc_certificate.specs.declared.check.CheckEnd.TheVariants.{WriteFault}
 use Rattle.hlc_text.specs.declared.input.InputFault.TheVariants.{NoMemory as no_memory, ReadFault, TooLong}
@@ -50,36 +47,6 @@ places {X} (z ∷ front) (u ∷ other) x y back rest same =
     let more : front ++ x ∷ back ≡ other ++ y ∷ rest = cc in
     subst (λ (w : X). Places (z ∷ front) x (w ∷ other) y) first
     (further z front other x y (places front other x y back rest more))
-
--- a witness that is a change, above those before it, has no fault
-no_fault : (rows : List ARow) (points : List ℕ) (front : List AWitness) (witness : AWitness) (reason : AReason)
-    → IsAbove front witness → IsChange rows points witness → IsFault rows points front witness reason → ⊥
-no_fault rows points front witness PointsNotAscending above is fault = fault
-no_fault rows points front witness RowsNotAscending above is fault = fault
-no_fault rows points front witness RowAboveLastPoint above is fault = fault
-no_fault rows points front witness WitnessNotAscending above is fault = fault above
-no_fault rows points front witness NotAtPoint above is fault = fault.1 is.place
-no_fault rows points front witness SameAnswers above is fault = is.differs fault.2
-no_fault rows points front witness CountsDiffer above is fault = fault
-no_fault rows points front witness RowOutOfLimits above is fault = fault
-
--- in ascending changes no witness has a fault
-none_within : (rows : List ARow) (points : List ℕ) (all front mid : List AWitness) (witness : AWitness)
-    (reason : AReason) → all ≡ front ++ witness ∷ mid → ChangesAscend all → All (IsChange rows points) all
-    → IsFault rows points front witness reason → ⊥
-none_within rows points all front mid witness reason is up each =
-    let up_here : ChangesAscend (front ++ witness ∷ mid) = subst ChangesAscend is up in
-    let each_here : All (IsChange rows points) (front ++ witness ∷ mid) =
-    subst (All (IsChange rows points)) is each in
-    let within : length front < length (front ++ witness ∷ mid) =
-    omega (arith, length-append front (witness ∷ mid)) in
-    no_fault rows points front witness reason
-    (λ k d lt.
-    ap (λ (w : AWitness). change_cmp w witness) (sym (get_or_append_left front (witness ∷ mid) d k lt))
-    ∙ ap (change_cmp (get_or (front ++ witness ∷ mid) k d)) (sym (get_or-append_seam front witness mid d))
-    ∙ Less-from_sorted change_cmp (front ++ witness ∷ mid) k (length front) d up_here lt within)
-    (subst (IsChange rows points) (get_or-append_seam front witness mid witness)
-    (each_here (length front) witness within))
 
 -- one witness has one first fault
 same_fault : (rows : List ARow) (points : List ℕ) (front : List AWitness) (witness : AWitness)
@@ -117,10 +84,10 @@ one_fault rows points witnesses reason other first also =
           same_fault rows points also.front also.witness reason other (subst G same.1 (subst F same.0 first.fault))
           also.fault
       | inr (inl before) ↦ absurd
-          (none_within rows points also.front first.front before.0 first.witness reason before.1 also.ascend also.each
+          (changes_no_fault rows points also.front first.front before.0 first.witness reason before.1 also.ascend also.each
           first.fault)
       | inr (inr behind) ↦ absurd
-          (none_within rows points first.front also.front behind.0 also.witness other behind.1 first.ascend first.each
+          (changes_no_fault rows points first.front also.front behind.0 also.witness other behind.1 first.ascend first.each
           also.fault)
     ]
 
@@ -173,11 +140,11 @@ by_fault rows points witnesses fault SameAnswers sorted found first =
     one_fault rows points witnesses fault SameAnswers found first.1
 by_fault rows points witnesses fault CountsDiffer sorted found first =
     absurd
-    (none_within rows points witnesses found.front found.back found.witness fault found.order first.1 first.2
+    (changes_no_fault rows points witnesses found.front found.back found.witness fault found.order first.1 first.2
     found.fault)
 by_fault rows points witnesses fault RowOutOfLimits sorted found first =
     absurd
-    (none_within rows points witnesses found.front found.back found.witness fault found.order first.1 first.2
+    (changes_no_fault rows points witnesses found.front found.back found.witness fault found.order first.1 first.2
     found.fault)
 
 by_count : (rows : List ARow) (points : List ℕ) (witnesses : List AWitness) (reason : AReason) → AreSorted rows points
@@ -188,15 +155,15 @@ by_count rows points witnesses RowsNotAscending sorted up each differ first = ab
 by_count rows points witnesses RowAboveLastPoint sorted up each differ first = absurd (first.2 sorted.2)
 by_count rows points witnesses WitnessNotAscending sorted up each differ first =
     absurd
-    (none_within rows points witnesses first.1.front first.1.back first.1.witness WitnessNotAscending first.1.order up
+    (changes_no_fault rows points witnesses first.1.front first.1.back first.1.witness WitnessNotAscending first.1.order up
     each first.1.fault)
 by_count rows points witnesses NotAtPoint sorted up each differ first =
     absurd
-    (none_within rows points witnesses first.1.front first.1.back first.1.witness NotAtPoint first.1.order up each
+    (changes_no_fault rows points witnesses first.1.front first.1.back first.1.witness NotAtPoint first.1.order up each
     first.1.fault)
 by_count rows points witnesses SameAnswers sorted up each differ first =
     absurd
-    (none_within rows points witnesses first.1.front first.1.back first.1.witness SameAnswers first.1.order up each
+    (changes_no_fault rows points witnesses first.1.front first.1.back first.1.witness SameAnswers first.1.order up each
     first.1.fault)
 by_count rows points witnesses CountsDiffer sorted up each differ first = refl
 by_count rows points witnesses RowOutOfLimits sorted up each differ first = absurd (differ first.3)
@@ -210,15 +177,15 @@ by_limits rows points witnesses RowsNotAscending sorted up each same out first =
 by_limits rows points witnesses RowAboveLastPoint sorted up each same out first = absurd (first.2 sorted.2)
 by_limits rows points witnesses WitnessNotAscending sorted up each same out first =
     absurd
-    (none_within rows points witnesses first.1.front first.1.back first.1.witness WitnessNotAscending first.1.order up
+    (changes_no_fault rows points witnesses first.1.front first.1.back first.1.witness WitnessNotAscending first.1.order up
     each first.1.fault)
 by_limits rows points witnesses NotAtPoint sorted up each same out first =
     absurd
-    (none_within rows points witnesses first.1.front first.1.back first.1.witness NotAtPoint first.1.order up each
+    (changes_no_fault rows points witnesses first.1.front first.1.back first.1.witness NotAtPoint first.1.order up each
     first.1.fault)
 by_limits rows points witnesses SameAnswers sorted up each same out first =
     absurd
-    (none_within rows points witnesses first.1.front first.1.back first.1.witness SameAnswers first.1.order up each
+    (changes_no_fault rows points witnesses first.1.front first.1.back first.1.witness SameAnswers first.1.order up each
     first.1.fault)
 by_limits rows points witnesses CountsDiffer sorted up each same out first = absurd (first.3 same)
 by_limits rows points witnesses RowOutOfLimits sorted up each same out first = refl

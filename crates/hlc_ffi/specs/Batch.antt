@@ -7,7 +7,7 @@ use Rattle.hlc_core.specs.Past.{Step, Took}
 use Rattle.hlc_core.specs.Kept.{Kept, StandsFor}
 use Rattle.hlc_ffi.specs.declared.batch.Entry.{Entry}
 use Rattle.hlc_ffi.specs.Answers.{IsAccepted}
-use Rattle.hlc_ffi.specs.Held.{an_item}
+use Rattle.hlc_node.specs.Items.{an_item}
 
 -- so many bytes from this place on
 abbrev pub piece : ℕ → ℕ → List ℕ → List ℕ

@@ -2,8 +2,6 @@
 use Rattle.std.specs.Prelude.{◌≡◌, ℕ, [], Option, Some, None, MatchOption, ⊤}
 use Rattle.hlc_core.specs.Kept.{Kept, StandsFor, nodes as nodes_in}
 use Rattle.hlc_core.specs.Calls.{new_refusal}
-use Rattle.hlc_node.specs.declared.item.Item.{Item}
-use Rattle.hlc_node.specs.declared.item.Body.{Body}
 use Rattle.hlc_ffi.specs.Told.{IsAnswered}
 
 -- an open store is told of and stays open; a closed one stays closed, and its answer is this
@@ -23,7 +21,3 @@ IsOpening None new count code =
 abbrev pub nodes : Option Kept → ℕ
 nodes None = 0
 nodes (Some kept) = nodes_in kept
-
--- an item
-abbrev pub an_item : ℕ → ℕ → ℕ → Body → Item
-an_item node number stamp body = record { node = node; number = number; stamp = stamp; body = body }

@@ -2,10 +2,11 @@
 ghost use Rattle.std.specs.Prelude.{◌≡◌, ◌≢◌, List, Some, None};
 ghost use Rattle.hlc_node.specs.declared.item.Body.TheVariants.{Write as a_write, Report as a_report};
 ghost use Rattle.hlc_node.specs.declared.item.Body.TheVariants.{Retire as a_retire};
+ghost use Rattle.hlc_node.specs.Items.{an_item};
 ghost use Rattle.hlc_core.specs.Past.{Step};
 ghost use Rattle.hlc_core.specs.Kept.{StandsFor};
 ghost use Rattle.hlc_ffi.specs.Answers.{IsAccepted, IsChecked, IsJoined};
-ghost use Rattle.hlc_ffi.specs.Held.{OnStore, nodes, an_item};
+ghost use Rattle.hlc_ffi.specs.Held.{OnStore, nodes};
 
 use crate::held::on_core;
 use crate::items::write_fault;

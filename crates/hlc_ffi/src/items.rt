@@ -2,12 +2,11 @@
 ghost use Rattle.std.specs.Prelude.{◌≡◌, ◌≢◌, List, IfSome, option_copied};
 ghost use Rattle.hlc_node.specs.declared.item.Body.{Body as ABody};
 ghost use Rattle.hlc_node.specs.declared.item.Body.TheVariants.{Write as a_write};
-ghost use Rattle.hlc_node.specs.Items.{body_refusal};
+ghost use Rattle.hlc_node.specs.Items.{an_item, body_refusal};
 ghost use Rattle.hlc_core.specs.Past.{Step};
 ghost use Rattle.hlc_core.specs.Kept.{nodes, StandsFor};
 ghost use Rattle.hlc_core.specs.Calls.{Checks};
 ghost use Rattle.hlc_ffi.specs.Answers.{IsAccepted, IsChecked};
-ghost use Rattle.hlc_ffi.specs.Held.{an_item};
 
 use crate::told;
 use hlc_core::{Body, BodyFault, Bytes, Core, CoreFault, Item, Stamp};

@@ -1,12 +1,12 @@
 //! A core's answers, as the numbers that C is told.
 ghost use Rattle.std.specs.Prelude.{◌≡◌, ◌≢◌, List, ◌∷◌, length, None, OnErr, IfOk, MatchResult};
+ghost use Rattle.hlc_node.specs.Items.{an_item};
 ghost use Rattle.hlc_core.specs.Past.{Step, Took, item_refusal, stamp_of, writes};
 ghost use Rattle.hlc_core.specs.Kept.{nodes, StandsFor};
 ghost use Rattle.hlc_core.specs.Calls.{IsWrite, IsRefusal};
 ghost use Rattle.hlc_ffi.specs.Answers.{IsAccepted, IsJoined, IsOpened, IsOpenedAtFloor, IsClosed};
 ghost use Rattle.hlc_ffi.specs.Answers.{IsCopied, IsRead, IsVacuumed, narrowed};
 ghost use Rattle.hlc_ffi.specs.Told.{number, body_number, word};
-ghost use Rattle.hlc_ffi.specs.Held.{an_item};
 
 use hlc_core::{Body, BodyFault, Core, CoreFault, Item, Stamp};
 

@@ -1,5 +1,6 @@
--- What an item may say.
+-- An item, and what it may say.
 use Rattle.std.specs.Prelude.{ℕ, Bool, true, false, List, length, ◌==◌, ◌||◌, nat_lt, Option, Some, None, if◌then◌else◌}
+use Rattle.hlc_node.specs.declared.item.Item.{Item}
 use Rattle.hlc_node.specs.declared.item.Body.{Body}
 use Rattle.hlc_node.specs.declared.item.Body.TheVariants.{Write, Report, Retire}
 use Rattle.hlc_node.specs.declared.item.BodyFault.{BodyFault}
@@ -17,6 +18,10 @@ body_refusal (Write key value) =
     if length key == 0 || nat_lt MOST_KEY_BYTES (length key) then Some BadKey else value_refusal value
 body_refusal Report = None
 body_refusal Retire = None
+
+-- an item with these parts
+abbrev pub an_item : ℕ → ℕ → ℕ → Body → Item
+an_item node number stamp body = record { node = node; number = number; stamp = stamp; body = body }
 
 -- an item that says this is its node's last one
 abbrev pub retires : Body → Bool

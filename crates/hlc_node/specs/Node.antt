@@ -7,7 +7,7 @@ use Rattle.hlc_node.specs.declared.item.Body.{Body}
 use Rattle.hlc_node.specs.declared.item.BodyFault.{BodyFault}
 use Rattle.hlc_node.specs.declared.node.NodeFault.{NodeFault}
 use Rattle.hlc_node.specs.declared.node.NodeFault.TheVariants.{Retired, BadBody, NumbersSpent, NoStamp}
-use Rattle.hlc_node.specs.Items.{body_refusal, retires}
+use Rattle.hlc_node.specs.Items.{an_item, body_refusal, retires}
 
 -- a node: its own number, the stamp of its last event or else of its start, the link number of its next item, and
 -- whether it retired
@@ -27,7 +27,7 @@ after_issue node body stamp = record { id = node.id; last = stamp; next = node.n
 
 -- the node's next item, if it says this and is stamped so
 abbrev pub next_item : Node → Body → ℕ → Item
-next_item node body stamp = record { node = node.id; number = node.next; stamp = stamp; body = body }
+next_item node body stamp = an_item node.id node.next stamp body
 
 -- the clock's answer, as a node's
 abbrev pub clocked : Result ℕ ClockFault → Result ℕ NodeFault

@@ -1,6 +1,6 @@
 -- Bytes that each stand as themselves are read as themselves, since the first does and the rest are such bytes.
 use Rattle.std.proofs.Common.{◌<◌, ◌∙◌, if◌then◌else◌, length, arith, nat_eq, ne_eqb, sym, ◌≡◌, ℕ, List, [], ◌∷◌, Bool}
-use Rattle.std.proofs.Common.{true, false, ◌&&◌, Some, ap, refl}
+use Rattle.std.proofs.Common.{true, false, Some, ap, refl}
 use Rattle.std.specs.Prelude.{unwrap_or}
 use Rattle.std.proofs.lemmas.Bool.{and_parts, false≢true}
 use Rattle.std.specs.List.{list_all}

@@ -17,6 +17,19 @@ AreApart {X} D (x ∷ xs) = ((y : X) → Contains xs y → D x y) × AreApart D 
 abbrev pub Served : {X Y : Type 0} → (X → Y → Type 0) → List Y → X → Type 0
 Served {X} {Y} R ys x = (y : Y) × Contains ys y × R x y
 
+-- where the one that serves the first thing is taken out, the rest are served still
+rest_served : {X Y : Type 0} (D : X → X → Type 0) (R : X → Y → Type 0)
+    → ((x z : X) (y : Y) → D x z → R x y → R z y → ⊥)
+    → (x : X) (xs : List X) (ys : List Y) → AreApart D (x ∷ xs) → ((z : X) → Contains (x ∷ xs) z → Served R ys z)
+    → (s : Served R ys x) (z : X) → Contains xs z → Served R (remove ys s.1.0) z
+rest_served {X} {Y} D R once x xs ys apart each s z i =
+    let t : Served R ys z = each z (Contains-rest x z xs i) in (
+      t.0,
+      Contains-remove ys s.1.0 s.0 t.0 s.1.1 s.1.2 t.1
+          (λ e. once x z s.0 (apart.0 z i) s.2 (subst (λ w. R z w) (sym e) t.2)),
+      t.2,
+    )
+
 pub served : {X Y : Type 0} (D : X → X → Type 0) (R : X → Y → Type 0) (f : X → ℕ) (g : Y → ℕ)
     → ((x : X) (y : Y) → R x y → f x ≤ g y)
     → ((x z : X) (y : Y) → D x z → R x y → R z y → ⊥)
@@ -29,12 +42,7 @@ served {X} {Y} D R f g le once (x ∷ xs) ys apart each =
     let k : ℕ = s.1.0 in
     let l : k < length ys = s.1.1 in
     let here : get_or ys k y ≡ y = s.1.2 in
-    let rest : (z : X) → Contains xs z → Served R (remove ys k) z =
-    λ z i. let t : Served R ys z = each z (Contains-rest x z xs i) in (
-      t.0,
-      Contains-remove ys k y t.0 l here t.1 (λ e. once x z y (apart.0 z i) s.2 (subst (λ w. R z w) (sym e) t.2)),
-      t.2,
-    ) in
+    let rest = rest_served D R once x xs ys apart each s in
     let h : sum_by f xs ≤ sum_by g (remove ys k) = served D R f g le once xs (remove ys k) apart.1 rest in
     let m : sum_by g (remove ys k) + g (get_or ys k y) ≡ sum_by g ys = sum_by-remove g ys k y l in
     let e : g (get_or ys k y) ≡ g y = ap g here in
@@ -60,12 +68,7 @@ served_all {X} {Y} D R f g same once (x ∷ xs) ys apart each e =
     let k : ℕ = s.1.0 in
     let l : k < length ys = s.1.1 in
     let here : get_or ys k y ≡ y = s.1.2 in
-    let rest : (z : X) → Contains xs z → Served R (remove ys k) z =
-    λ z i. let t : Served R ys z = each z (Contains-rest x z xs i) in (
-      t.0,
-      Contains-remove ys k y t.0 l here t.1 (λ q. once x z y (apart.0 z i) s.2 (subst (λ w. R z w) (sym q) t.2)),
-      t.2,
-    ) in
+    let rest = rest_served D R once x xs ys apart each s in
     let n : length (remove ys k) + 1 ≡ length ys = length-remove ys k l in
     let h : sum_by f xs ≡ sum_by g (remove ys k) =
     served_all D R f g same once xs (remove ys k) apart.1 rest (omega arith) in

@@ -1,51 +1,27 @@
 -- The first fault of a witness, with those before it changes and ascending, is the first reason of all;
 -- and a certificate has none.
-use Rattle.std.proofs.Common.{All, length, get_or, drop, sym, ap, ◌∙◌, subst, arith, take, ◌≡◌, ℕ, List, [], ◌∷◌}
+use Rattle.std.proofs.Common.{All, length, get_or, drop, sym, ap, ◌∙◌, subst, take, ◌≡◌, ℕ, List, [], ◌∷◌}
 use Rattle.std.proofs.Common.{◌<◌, ◌+◌, ◌++◌}
-use Rattle.std.proofs.lemmas.List.{get_or-take, length-take-le, get_or_default, take_more}
-use Rattle.std.proofs.lemmas.List.Elements.{All-contains, All-push}
-use Rattle.std.proofs.lemmas.Map.Keys.{Less-from_sorted}
+use Rattle.std.proofs.lemmas.List.{take_more}
+use Rattle.std.proofs.lemmas.List.Elements.{All-push}
 use Rattle.hlc_node.specs.declared.row.Row.{Row}
 use Rattle.hlc_witness.specs.Certificate.{IsCertificate}
-use Rattle.hlc_witness.specs.Changes.{ChangesAscend, IsChange, change_cmp}
-use Rattle.hlc_witness.specs.Reasons.{IsAbove, IsFault, IsFirstFault, IsFirstReason, AreSorted}
+use Rattle.hlc_witness.specs.Changes.{ChangesAscend, IsChange}
+use Rattle.hlc_witness.specs.Reasons.{IsFault, IsFirstFault, IsFirstReason, AreSorted}
 use Rattle.hlc_witness.specs.declared.reason.NotShown.{NotShown}
 use Rattle.hlc_witness.specs.declared.reason.NotShown.TheVariants.{PointsNotAscending, RowsNotAscending}
 use Rattle.hlc_witness.specs.declared.reason.NotShown.TheVariants.{RowAboveLastPoint, WitnessNotAscending, NotAtPoint}
 use Rattle.hlc_witness.specs.declared.reason.NotShown.TheVariants.{SameAnswers, CountsDiffer, RowOutOfLimits}
 use Rattle.hlc_witness.specs.declared.witness.Witness.{Witness}
 use Rattle.hlc_witness.proofs.Ascending.{around}
-
--- in an ascending list each is above those before it
-pub front_below : (witnesses : List Witness) (i : ℕ) (witness : Witness) → ChangesAscend witnesses
-    → i < length witnesses → witness ≡ get_or witnesses i witness → IsAbove (take i witnesses) witness
-front_below witnesses i witness up lt is k d below =
-    let short : length (take i witnesses) ≡ i = length-take-le i witnesses (omega arith) in
-    let before : k < i = omega arith in
-    ap (λ w. change_cmp w witness) (get_or-take i witnesses k d before)
-    ∙ ap (change_cmp (get_or witnesses k d)) (is ∙ get_or_default witnesses i witness d lt)
-    ∙ Less-from_sorted change_cmp witnesses k i d up before lt
-
--- a certificate's witness has no fault
-no_fault : (rows : List Row) (points : List ℕ) (front : List Witness) (witness : Witness) (reason : NotShown)
-    → IsAbove front witness → IsChange rows points witness → IsFault rows points front witness reason → ⊥
-no_fault rows points front witness PointsNotAscending above is fault = fault
-no_fault rows points front witness RowsNotAscending above is fault = fault
-no_fault rows points front witness RowAboveLastPoint above is fault = fault
-no_fault rows points front witness WitnessNotAscending above is fault = fault above
-no_fault rows points front witness NotAtPoint above is fault = fault.1 is.place
-no_fault rows points front witness SameAnswers above is fault = is.differs fault.2
-no_fault rows points front witness CountsDiffer above is fault = fault
-no_fault rows points front witness RowOutOfLimits above is fault = fault
+use Rattle.hlc_witness.proofs.FaultLemmas.{changes_no_fault}
 
 pub certificate_no_fault : (rows : List Row) (points : List ℕ) (witnesses : List Witness) (i : ℕ)
     (witness : Witness) (reason : NotShown) → i < length witnesses → witness ≡ get_or witnesses i witness
     → IsFault rows points (take i witnesses) witness reason → IsCertificate rows points witnesses → ⊥
 certificate_no_fault rows points witnesses i witness reason lt is fault certificate =
-    no_fault rows points (take i witnesses) witness reason
-    (front_below witnesses i witness certificate.witnesses_ascend lt is)
-    (All-contains (IsChange rows points) witnesses witness certificate.each (i, lt, sym is))
-    fault
+    changes_no_fault rows points witnesses (take i witnesses) (drop (i + 1) witnesses) witness reason
+    (around witnesses i witness lt is) certificate.witnesses_ascend certificate.each fault
 
 -- the fault of a witness, where those before it have none
 pub first_fault : (rows : List Row) (points : List ℕ) (witnesses : List Witness) (i : ℕ) (witness : Witness)

@@ -14,7 +14,8 @@ use Rattle.hlc_core.proofs.PastLemmas.{open-low}
 use Rattle.hlc_world.specs.declared.event.Event.TheVariants.{Write, Delete, Report, Retire}
 use Rattle.hlc_world.specs.declared.reply.Reply.{Reply}
 use Rattle.hlc_world.specs.declared.reply.Reply.TheVariants.{Stamped}
-use Rattle.hlc_world.specs.Schedule.{Event, an_item, item_made, stamping_of, with_item, issued}
+use Rattle.hlc_node.specs.Items.{an_item}
+use Rattle.hlc_world.specs.Schedule.{Event, item_made, stamping_of, with_item, issued}
 use Rattle.hlc_world.specs.Store.{core_past}
 use Rattle.hlc_world.specs.Due.{IsLegal}
 use Rattle.hlc_world.specs.Before.{entry_at, IsStamped}

@@ -7,7 +7,7 @@ use Rattle.std.proofs.lemmas.Option.{slice_get_within}
 use Rattle.std.proofs.lemmas.Bool.{cases_eq}
 use Rattle.hlc_node.specs.declared.item.Item.{Item}
 use Rattle.hlc_node.specs.declared.item.Body.TheVariants.{Write as a_write, Report as a_report, Retire as a_retire}
-use Rattle.hlc_node.specs.Items.{retires}
+use Rattle.hlc_node.specs.Items.{an_item, retires}
 use Rattle.hlc_core.specs.Past.{Step, Took, retired, count}
 use Rattle.hlc_core.proofs.PastLemmas.{retired-same, retired-other, count-other}
 use Rattle.hlc_world.specs.declared.event.Event.TheVariants.{Write, Delete, Report, Retire, Join, Deliver, OpenAt}
@@ -16,7 +16,7 @@ use Rattle.hlc_world.specs.declared.reply.Reply.{Reply}
 use Rattle.hlc_world.specs.declared.reply.Reply.TheVariants.{Stamped, Joined, Accepted, Snapshot, Answer, Listing}
 use Rattle.hlc_world.specs.declared.reply.Reply.TheVariants.{Closed, Vacuumed}
 use Rattle.hlc_world.specs.declared.refusal.Refusal.{Refusal}
-use Rattle.hlc_world.specs.Schedule.{Event, an_item, with_item, ends, issued, gone}
+use Rattle.hlc_world.specs.Schedule.{Event, with_item, ends, issued, gone}
 use Rattle.hlc_world.specs.Store.{store_history, core_past}
 use Rattle.hlc_world.specs.Due.{on_node, deliver_refusal, IsGiven, IsLegal}
 use Rattle.hlc_world.proofs.Nodes.{with_item-same, with_item-other, ends-same, ends-other}

@@ -11,7 +11,7 @@ use Rattle.hlc_node.specs.declared.item.Message.{Message}
 use Rattle.hlc_node.specs.declared.item.Body.{Body}
 use Rattle.hlc_node.specs.declared.item.Body.TheVariants.{Write as a_write, Report as a_report, Retire as a_retire}
 use Rattle.hlc_node.specs.declared.node.NodeFault.{NodeFault}
-use Rattle.hlc_node.specs.Items.{retires}
+use Rattle.hlc_node.specs.Items.{an_item, retires}
 use Rattle.hlc_node.specs.Node.{Node, clocked, unless_retired, event_due, issue_due, next_item, stamped, after_issue}
 use Rattle.hlc_core.specs.declared.reply.CoreReply.{CoreReply}
 use Rattle.hlc_core.specs.Past.{Step, numbered, stamp_of}
@@ -22,7 +22,7 @@ use Rattle.hlc_world.specs.declared.reply.Reply.{Reply}
 use Rattle.hlc_world.specs.declared.reply.Reply.TheVariants.{Stamped, Sent, Received, Observed, Refused}
 use Rattle.hlc_world.specs.declared.refusal.Refusal.{Refusal}
 use Rattle.hlc_world.specs.declared.refusal.Refusal.TheVariants.{Retired, NoMemory}
-use Rattle.hlc_world.specs.Schedule.{an_item, item_made, message_made, mark_of, with_item, ends, stamp_or, with_message}
+use Rattle.hlc_world.specs.Schedule.{item_made, message_made, mark_of, with_item, ends, stamp_or, with_message}
 use Rattle.hlc_world.specs.Schedule.{Event, issuing, issued, gone, last_stamp, sent, message_at, node_of}
 use Rattle.hlc_world.specs.Store.{asked, told, paired, with_entry, store_history, core_past}
 use Rattle.hlc_world.specs.Due.{of_node, issue_refusal, stamp_refusal, receive_refusal, observe_refusal, on_link}

@@ -18,7 +18,7 @@ use Rattle.hlc_node.specs.declared.item.BodyFault.{BodyFault}
 use Rattle.hlc_node.specs.declared.item.Message.{Message}
 use Rattle.hlc_node.specs.declared.node.NodeFault.{NodeFault}
 use Rattle.hlc_node.specs.declared.node.NodeFault.TheVariants.{NumbersSpent}
-use Rattle.hlc_node.specs.Items.{body_refusal}
+use Rattle.hlc_node.specs.Items.{an_item, body_refusal}
 use Rattle.hlc_node.specs.Node.{Node, clocked, unless_retired, unless_bad, issue_due}
 use Rattle.hlc_core.specs.declared.fault.CoreFault.{CoreFault}
 use Rattle.hlc_core.specs.declared.event.CoreEvent.{CoreEvent}
@@ -34,7 +34,7 @@ use Rattle.hlc_world.specs.declared.reply.Reply.TheVariants.{Stamped, Joined, Se
 use Rattle.hlc_world.specs.declared.reply.Reply.TheVariants.{Snapshot, Answer, Listing, Closed, Vacuumed}
 use Rattle.hlc_world.specs.declared.refusal.Refusal.{Refusal}
 use Rattle.hlc_world.specs.declared.refusal.Refusal.TheVariants.{NoNode, Retired as IsRetired}
-use Rattle.hlc_world.specs.Schedule.{Event, an_item, with_item, stamp_or, issued, gone, last_stamp, node_of}
+use Rattle.hlc_world.specs.Schedule.{Event, with_item, stamp_or, issued, gone, last_stamp, node_of}
 use Rattle.hlc_world.specs.Store.{accepting, accepted, paired, with_entry, store_history, core_past}
 use Rattle.hlc_world.specs.Due.{core_refusal, on_link, on_node, deliver_refusal, IsReceived, IsObserved, IsGiven}
 use Rattle.hlc_world.specs.Due.{IsLegal}

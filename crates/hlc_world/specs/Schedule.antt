@@ -4,7 +4,7 @@ use Rattle.std.specs.Prelude.{slice_get}
 use Rattle.hlc_node.specs.declared.item.Item.{Item}
 use Rattle.hlc_node.specs.declared.item.Body.{Body}
 use Rattle.hlc_node.specs.declared.item.Body.TheVariants.{Write as a_write, Report as a_report, Retire as a_retire}
-use Rattle.hlc_node.specs.Items.{retires}
+use Rattle.hlc_node.specs.Items.{an_item, retires}
 use Rattle.hlc_node.specs.declared.item.Message.{Message}
 use Rattle.hlc_node.specs.Node.{Node}
 use Rattle.hlc_world.specs.declared.event.Event.{Event as EventOf}
@@ -26,10 +26,6 @@ issuing node reading a_retire = Retire node reading
 
 -- Below, a schedule is the list of the events with their replies, the last one first. An event whose reply is a refusal
 -- did not take place.
-
--- an item with these parts
-abbrev pub an_item : ℕ → ℕ → ℕ → Body → Item
-an_item node number stamp body = record { node = node; number = number; stamp = stamp; body = body }
 
 -- the item that an event issued
 abbrev pub item_made : Event → Reply → Option Item

@@ -1,8 +1,6 @@
 -- At each place the row there is added, if its flag is set and it is at or below the bound.
-use Rattle.std.proofs.Common.{◌≡◌, ◌∙◌, ◌≤◌, ◌<◌, ◌+◌, ◌*◌, ℕ, List, get_or, map, ap, sym, subst, arith, option_copied}
+use Rattle.std.proofs.Common.{◌∙◌, ◌≤◌, ◌<◌, ◌+◌, get_or, ap, subst, arith}
 use Rattle.hlc_witness.specs.Cost.{cost_of}
-use Rattle.hlc_columns.specs.Cells.{Cell}
-use Rattle.hlc_columns.specs.Rows.{rows_of}
 use Rattle.hlc_vacuum.proofs.Costs.{counted, above, unflagged}
 use Rattle.hlc_vacuum.proofs.cost.column_cost.Goals as goal
 use Rattle.hlc_vacuum.proofs.cost.column_cost.Goals.{then-keep-place+then-stamps-place, else-keep-place}

@@ -1,7 +1,6 @@
 -- Each column takes the flags of its rows, which stand first among those that are left.
-use Rattle.std.proofs.Common.{◌≡◌, ◌∙◌, ◌+◌, ◌++◌, ℕ, List, length, drop, sym, ap, ap₂, arith}
+use Rattle.std.proofs.Common.{◌≡◌, ◌∙◌, ◌+◌, length, drop, sym, ap, ap₂, arith}
 use Rattle.std.proofs.lemmas.List.{length-append, length-map}
-use Rattle.hlc_columns.specs.Cells.{Cell}
 use Rattle.hlc_columns.specs.Rows.{row_of, rows_of, rows_in_one, rows_in}
 use Rattle.hlc_vacuum.proofs.Costs.{cost_to, column_on, length_on}
 use Rattle.hlc_vacuum.proofs.cost.kept_cost.Goals as goal
