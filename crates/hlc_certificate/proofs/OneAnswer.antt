@@ -84,11 +84,11 @@ one_fault rows points witnesses reason other first also =
           same_fault rows points also.front also.witness reason other (subst G same.1 (subst F same.0 first.fault))
           also.fault
       | inr (inl before) ↦ absurd
-          (changes_no_fault rows points also.front first.front before.0 first.witness reason before.1 also.ascend also.each
-          first.fault)
+          (changes_no_fault rows points also.front first.front before.0 first.witness reason before.1 also.ascend
+          also.each first.fault)
       | inr (inr behind) ↦ absurd
-          (changes_no_fault rows points first.front also.front behind.0 also.witness other behind.1 first.ascend first.each
-          also.fault)
+          (changes_no_fault rows points first.front also.front behind.0 also.witness other behind.1 first.ascend
+          first.each also.fault)
     ]
 
 -- each kind of first reason leaves no other
@@ -155,8 +155,8 @@ by_count rows points witnesses RowsNotAscending sorted up each differ first = ab
 by_count rows points witnesses RowAboveLastPoint sorted up each differ first = absurd (first.2 sorted.2)
 by_count rows points witnesses WitnessNotAscending sorted up each differ first =
     absurd
-    (changes_no_fault rows points witnesses first.1.front first.1.back first.1.witness WitnessNotAscending first.1.order up
-    each first.1.fault)
+    (changes_no_fault rows points witnesses first.1.front first.1.back first.1.witness WitnessNotAscending first.1.order
+    up each first.1.fault)
 by_count rows points witnesses NotAtPoint sorted up each differ first =
     absurd
     (changes_no_fault rows points witnesses first.1.front first.1.back first.1.witness NotAtPoint first.1.order up each
@@ -177,8 +177,8 @@ by_limits rows points witnesses RowsNotAscending sorted up each same out first =
 by_limits rows points witnesses RowAboveLastPoint sorted up each same out first = absurd (first.2 sorted.2)
 by_limits rows points witnesses WitnessNotAscending sorted up each same out first =
     absurd
-    (changes_no_fault rows points witnesses first.1.front first.1.back first.1.witness WitnessNotAscending first.1.order up
-    each first.1.fault)
+    (changes_no_fault rows points witnesses first.1.front first.1.back first.1.witness WitnessNotAscending first.1.order
+    up each first.1.fault)
 by_limits rows points witnesses NotAtPoint sorted up each same out first =
     absurd
     (changes_no_fault rows points witnesses first.1.front first.1.back first.1.witness NotAtPoint first.1.order up each

@@ -1,6 +1,7 @@
 -- A witness that is a change, and above those before it, has no fault, since each fault denies one of the two; so in
 -- ascending changes none has one.
-use Rattle.std.proofs.Common.{All, length, get_or, sym, ap, ◌∙◌, subst, arith, ◌≡◌, ◌<◌, ◌++◌, ℕ, List, ◌∷◌, length-append}
+use Rattle.std.proofs.Common.{All, length, get_or, sym, ap, ◌∙◌, subst, arith, ◌≡◌, ◌<◌, ◌++◌, ℕ, List, ◌∷◌}
+use Rattle.std.proofs.Common.{length-append}
 use Rattle.std.proofs.Math.Seq.{get_or-append_seam}
 use Rattle.std.proofs.lemmas.List.{get_or_append_left}
 use Rattle.std.proofs.lemmas.Map.Keys.{Less-from_sorted}
