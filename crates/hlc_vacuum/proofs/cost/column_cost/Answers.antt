@@ -1,5 +1,5 @@
 -- At each place the row there is added, if its flag is set and it is at or below the bound.
-use Rattle.std.proofs.Common.{◌∙◌, ◌≤◌, ◌<◌, ◌+◌, get_or, ap, subst, arith}
+use Rattle.std.proofs.Common.{◌∙◌, ◌≤◌, ◌<◌, get_or, ap, subst, arith}
 use Rattle.hlc_witness.specs.Cost.{cost_of}
 use Rattle.hlc_vacuum.proofs.Costs.{counted, above, unflagged}
 use Rattle.hlc_vacuum.proofs.cost.column_cost.Goals as goal
