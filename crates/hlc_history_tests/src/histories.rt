@@ -2,6 +2,7 @@
 use hlc_core::{Body, Item, Row};
 use hlc_world::{Bytes, Event, Points, Refusal, Reply, Report, Stamp, Witness, Witnesses, World};
 use std::alloc::{AllocError, Global};
+use std::process::Abort;
 use std::test::*;
 
 /// The text, as bytes of their own.
@@ -364,14 +365,45 @@ fn count_of(reply: Reply) -> Option<u128> {
     }
 }
 
-/// 600 events on two nodes, a vacuum after every 16. After each event a key is read in each snapshot
-/// that was ever opened: the reply is the value of the newest row in the plain list of all accepted
-/// writes at or below the snapshot's stamp, none at a deletion mark or where there is no such row, and
-/// a refusal exactly where the snapshot is not open. What is stored in the end and all that was
-/// dropped are as many rows as the list.
-#[test]
-fn a_history_with_vacuums(rt: HostRuntime) -> Result<(), Fail> {
-    let alloc = rt.alloc();
+/// What is done in a turn: an opening or the like at each third one, else what a node does.
+fn event_at(
+    alloc: Global,
+    lots: &mut Lots,
+    course: &Course,
+    node: u16,
+    turn: u64,
+) -> Result<Event, AllocError> {
+    if turn % 3 == 2 {
+        Ok(opening_of(lots, course))
+    } else {
+        event_of(alloc, lots, course, node, turn / 4)
+    }
+}
+
+/// One event on one of two nodes, and a vacuum after every 16th.
+fn take_turn(
+    alloc: Global,
+    history: &mut History,
+    lots: &mut Lots,
+    course: &mut Course,
+    turn: u64,
+) -> Result<(), Fail> {
+    let node = (lots.below(2) % 2) as u16;
+    let event = event_at(alloc, lots, course, node, turn)?;
+    let reply = history.step(event)?;
+    course.follow(node, &reply);
+    if turn % 16 == 15 {
+        course.horizon = history.vacuum().ok_or("a vacuum")?;
+        course.floor = course.horizon;
+    }
+    Ok(())
+}
+
+/// 600 turns. After each one a key is read in each snapshot that was ever opened: the reply is the
+/// value of the newest row in the plain list of all accepted writes at or below the snapshot's stamp,
+/// none at a deletion mark or where there is no such row, and a refusal exactly where the snapshot is
+/// not open.
+fn take_turns<R: Abort>(rt: &R, alloc: Global, history: &mut History) -> Result<(), Fail> {
     let mut lots = Lots { state: 1 };
     let mut course = Course {
         accepted: [0, 0],
@@ -379,28 +411,16 @@ fn a_history_with_vacuums(rt: HostRuntime) -> Result<(), Fail> {
         horizon: 0,
         opened: 0,
     };
-    let mut history = History {
-        world: World::new(alloc, 2).ok().ok_or("a world")?,
-        plain: Plain::new(alloc),
-        dropped: 0,
-        values: 0,
-    };
     for turn in 0..600u64 {
-        let node = (lots.below(2) % 2) as u16;
-        let event = if turn % 3 == 2 {
-            opening_of(&mut lots, &course)
-        } else {
-            event_of(alloc, &mut lots, &course, node, turn / 4)?
-        };
-        let reply = history.step(event)?;
-        course.follow(node, &reply);
-        if turn % 16 == 15 {
-            course.horizon = history.vacuum().ok_or("a vacuum")?;
-            course.floor = course.horizon;
-        }
+        take_turn(alloc, history, &mut lots, &mut course, turn)?;
         let key = letter(alloc, &mut lots, b'a', 4)?;
         assert!(rt; history.are_reads_right(&key, course.opened)?, "{turn}");
     }
+    Ok(())
+}
+
+/// What is stored in the end and all that was dropped are as many rows as the plain list.
+fn loses_no_row<R: Abort>(rt: &R, history: &mut History) -> Result<(), Fail> {
     let kept = count_of(history.world.step(Event::Rows)).ok_or("rows")?;
     let dropped = history.dropped;
     assert_eq!(rt;
@@ -409,6 +429,19 @@ fn a_history_with_vacuums(rt: HostRuntime) -> Result<(), Fail> {
     );
     assert!(rt; 0 < dropped && 1_000 < history.values);
     Ok(())
+}
+
+#[test]
+fn a_history_with_vacuums(rt: HostRuntime) -> Result<(), Fail> {
+    let alloc = rt.alloc();
+    let mut history = History {
+        world: World::new(alloc, 2).ok().ok_or("a world")?,
+        plain: Plain::new(alloc),
+        dropped: 0,
+        values: 0,
+    };
+    take_turns(&rt, alloc, &mut history)?;
+    loses_no_row(&rt, &mut history)
 }
 
 /// Two writes of a key, deliveries early, repeated and unknown, and a vacuum.
@@ -449,12 +482,12 @@ fn report_of_them(alloc: Global, floor: Stamp) -> Result<Report, AllocError> {
     })
 }
 
-#[test]
-fn a_run_is_its_events_in_turn(rt: HostRuntime) -> Result<(), Fail> {
-    let alloc = rt.alloc();
+/// The replies that are due to them, in turn.
+fn replies_to_them(alloc: Global) -> Result<Vec<Reply>, AllocError> {
     let first = Stamp::from_bits(65_536);
     let second = Stamp::from_bits(131_072);
-    let due = [
+    let report = report_of_them(alloc, second)?;
+    Ok(vec![in alloc;
         Reply::Stamped {
             stamp: first,
             item: 0,
@@ -469,14 +502,21 @@ fn a_run_is_its_events_in_turn(rt: HostRuntime) -> Result<(), Fail> {
         Reply::Accepted { stamp: second },
         Reply::Refused(Refusal::NoItem),
         Reply::Refused(Refusal::NoNode),
-        Reply::Vacuumed {
-            report: report_of_them(alloc, second)?,
-        },
-    ];
-    let mut world = World::new(alloc, 1).ok().ok_or("a world")?;
-    let Ok(replies) = world.run(deliveries(alloc)?) else {
-        return Err(Fail::from("no room"));
-    };
+        Reply::Vacuumed { report },
+    ]?)
+}
+
+#[test]
+fn a_run_is_its_events_in_turn(rt: HostRuntime) -> Result<(), Fail> {
+    let due = replies_to_them(rt.alloc())?;
+    let replies = run_them(rt.alloc())?;
     assert!(rt; replies.as_slice() == due.as_slice());
     Ok(())
+}
+
+/// What a world of one node replies to them.
+fn run_them(alloc: Global) -> Result<Vec<Reply>, Fail> {
+    let mut world = World::new(alloc, 1).ok().ok_or("a world")?;
+    let replies = world.run(deliveries(alloc)?);
+    Ok(replies.ok().ok_or("no room")?)
 }

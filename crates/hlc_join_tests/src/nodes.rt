@@ -2,38 +2,56 @@
 use hlc_clock::{ClockFault, Stamp};
 use hlc_link::{Intake, LinkFault};
 use hlc_node::{Body, Bytes, Item, Message, NodeCore, NodeFault};
+use std::alloc::Global;
+use std::process::Abort;
 use std::test::*;
 
-#[test]
-fn a_node_that_retired_has_no_event(rt: HostRuntime) -> Result<(), Fail> {
-    let alloc = rt.alloc();
-    let mut node = NodeCore::new(70, Stamp::from_bits(196_608));
-    assert!(rt; !node.is_retired());
-    let stamp = Stamp::from_bits(196_609);
+/// The node retires at a reading below its clock: its last item is its first, at 3.1.
+fn retires<R: Abort>(rt: &R, node: &mut NodeCore) {
     let last = Item {
         node: 70,
         number: 0,
-        stamp,
+        stamp: Stamp::from_bits(196_609),
         body: Body::Retire,
     };
     assert_eq!(rt; node.retire(2), Ok(last));
     assert!(rt; node.is_retired());
-    let message = Message {
-        from: 0,
-        stamp: Stamp::from_bits(1),
-    };
-    // Each is refused for what comes behind as well: a reading too large, and a key of no bytes.
-    let large = 1 << 48;
-    assert_eq!(rt; node.retire(large), Err(NodeFault::Retired));
-    assert_eq!(rt; node.report(large), Err(NodeFault::Retired));
-    assert_eq!(rt; node.send(large), Err(NodeFault::Retired));
-    assert_eq!(rt; node.receive(&message, large), Err(NodeFault::Retired));
-    assert_eq!(rt; node.observe(stamp, large), Err(NodeFault::Retired));
-    let Err(refused) = node.write(large, Bytes::from_vec(Vec::new(alloc)), None) else {
+}
+
+/// A node that retired issues no item.
+fn issues_nothing<R: Abort>(
+    rt: &R,
+    alloc: Global,
+    node: &mut NodeCore,
+    reading: u64,
+) -> Result<(), Fail> {
+    assert_eq!(rt; node.retire(reading), Err(NodeFault::Retired));
+    assert_eq!(rt; node.report(reading), Err(NodeFault::Retired));
+    let Err(refused) = node.write(reading, Bytes::from_vec(Vec::new(alloc)), None) else {
         return Err(Fail::from("a node that retired wrote"));
     };
     assert_eq!(rt; refused.why, NodeFault::Retired);
-    assert_eq!(rt; (node.now(), node.next()), (stamp, 1));
+    Ok(())
+}
+
+/// A node that retired sends, receives and observes nothing.
+fn hears_nothing<R: Abort>(rt: &R, node: &mut NodeCore, reading: u64) {
+    let stamp = Stamp::from_bits(1);
+    let message = Message { from: 0, stamp };
+    assert_eq!(rt; node.send(reading), Err(NodeFault::Retired));
+    assert_eq!(rt; node.receive(&message, reading), Err(NodeFault::Retired));
+    assert_eq!(rt; node.observe(stamp, reading), Err(NodeFault::Retired));
+}
+
+/// Each event is refused for what comes behind as well: a reading too large, and a key of no bytes.
+#[test]
+fn a_node_that_retired_has_no_event(rt: HostRuntime) -> Result<(), Fail> {
+    let mut node = NodeCore::new(70, Stamp::from_bits(196_608));
+    assert!(rt; !node.is_retired());
+    retires(&rt, &mut node);
+    issues_nothing(&rt, rt.alloc(), &mut node, 1 << 48)?;
+    hears_nothing(&rt, &mut node, 1 << 48);
+    assert_eq!(rt; (node.now(), node.next()), (Stamp::from_bits(196_609), 1));
     Ok(())
 }
 
@@ -47,6 +65,25 @@ fn a_refused_retire_changes_nothing(rt: HostRuntime) {
     assert_eq!(rt; node.next(), 1);
 }
 
+/// The link answers so to an item of this number and stamp, which may be its node's last.
+fn admits<R: Abort>(
+    rt: &R,
+    intake: &mut Intake,
+    item: (u64, Stamp, bool),
+    due: Result<(), LinkFault>,
+) {
+    let (number, stamp, last) = item;
+    assert_eq!(rt; intake.admit(number, stamp, last), due, "{number} {stamp}");
+}
+
+/// The link has come to this number and head, and may have come to its end.
+fn has_come_to<R: Abort>(rt: &R, intake: &Intake, next: u64, head: Stamp, retired: bool) {
+    assert_eq!(rt;
+        (intake.next(), intake.head(), intake.retired()),
+        (next, head, retired)
+    );
+}
+
 #[test]
 fn a_link_ends_with_its_last_item(rt: HostRuntime) {
     let start = Stamp::from_bits(327_680);
@@ -54,29 +91,19 @@ fn a_link_ends_with_its_last_item(rt: HostRuntime) {
     let last = Stamp::from_bits(327_682);
     let later = Stamp::from_bits(327_683);
     let mut intake = Intake::starting_at(start);
-    assert_eq!(rt;
-        (intake.next(), intake.head(), intake.retired()),
-        (0, start, false)
-    );
+    has_come_to(&rt, &intake, 0, start, false);
     let rising = LinkFault::StampNotRising { head: start };
     let cases = [
-        (0, start, false, Err(rising)),
-        (0, first, false, Ok(())),
-        (0, last, true, Err(LinkFault::NotNext { next: 1 })),
-        (1, last, true, Ok(())),
-        (2, later, false, Err(LinkFault::Retired)),
-        (1, last, true, Err(LinkFault::Retired)),
-        (u64::MAX, later, true, Err(LinkFault::Retired)),
+        ((0, start, false), Err(rising)),
+        ((0, first, false), Ok(())),
+        ((0, last, true), Err(LinkFault::NotNext { next: 1 })),
+        ((1, last, true), Ok(())),
+        ((2, later, false), Err(LinkFault::Retired)),
+        ((1, last, true), Err(LinkFault::Retired)),
+        ((u64::MAX, later, true), Err(LinkFault::Retired)),
     ];
-    for (number, stamp, retires, due) in cases {
-        assert_eq!(rt;
-            intake.admit(number, stamp, retires),
-            due,
-            "{number} {stamp}"
-        );
+    for (item, due) in cases {
+        admits(&rt, &mut intake, item, due);
     }
-    assert_eq!(rt;
-        (intake.next(), intake.head(), intake.retired()),
-        (2, last, true)
-    );
+    has_come_to(&rt, &intake, 2, last, true);
 }

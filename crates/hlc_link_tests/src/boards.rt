@@ -1,38 +1,118 @@
 //! The floor that a board shows.
+ghost use Rattle.std.specs.Prelude.{◌≡◌, ◌<◌, false, true, IfOk};
+ghost use Rattle.hlc_board.specs.Views.{posts};
+
 use crate::makers::at_second;
-use hlc_board::Board;
-use hlc_core::Stamp;
-use hlc_floor::Heads;
+use hlc_board::{Board, Feeder, FloorPass};
+use hlc_clock::Stamp;
+use hlc_floor::{Accepted, Heads};
+use std::alloc::Global;
+use std::process::Abort;
 use std::test::*;
+
+/// Looks whether a board shows this floor.
+fn shows<R: Abort>(rt: &R, board: &Board, pass: &mut FloorPass, floor: Stamp)
+    requires { pass.old.board ≡ board.now }
+    ensures { pass.new.board ≡ pass.old.board }
+{
+    assert_eq!(rt; board.floor(pass), floor);
+}
+
+/// Looks whether this is the word of a node.
+fn tells<R: Abort>(rt: &R, board: &Board, pass: &mut FloorPass, node: u16, word: Stamp)
+    requires board { pass.old.board ≡ board.now }
+    requires node { node < board.now.words }
+    ensures { pass.new.board ≡ pass.old.board }
+{
+    assert_eq!(rt; board.heard(pass, node), word);
+}
+
+/// Looks whether the heads have this floor.
+fn have_floor<R: Abort>(rt: &R, heads: &Heads, floor: Stamp) {
+    assert_eq!(rt; heads.floor(), floor);
+}
+
+/// The items of two nodes: the first one's at 5.0 was accepted, and then the other one's at 3.0, which
+/// is the floor.
+fn two_accepted<R: Abort>(rt: &R, alloc: Global) -> Result<(Accepted, Accepted), Fail>
+    ensures { IfOk result (λ items.
+        (items.0 ≡ record { node = 0; stamp = 327680; retires = false })
+        × (items.1 ≡ record { node = 1; stamp = 196608; retires = false })) }
+{
+    let mut heads = Heads::new(alloc, 2)?;
+    let first = heads.raise(0, Stamp::from_bits(5 * 65_536));
+    let other = heads.raise(1, Stamp::from_bits(3 * 65_536));
+    have_floor(rt, &heads, at_second(3));
+    Ok((first, other))
+}
+
+/// The items of two nodes: the first one's last at 2.0 was accepted, and then the other one's at 4.0.
+fn last_and_other(alloc: Global) -> Result<(Accepted, Accepted), Fail>
+    ensures { IfOk result (λ items.
+        (items.0 ≡ record { node = 0; stamp = 131072; retires = true })
+        × (items.1 ≡ record { node = 1; stamp = 262144; retires = false })) }
+{
+    let mut heads = Heads::new(alloc, 2)?;
+    let last = heads.retire(0, Stamp::from_bits(2 * 65_536));
+    let other = heads.raise(1, Stamp::from_bits(4 * 65_536));
+    Ok((last, other))
+}
+
+/// Raises a new board with an item of the first node and then one of the other, and looks at it before
+/// and after each.
+fn raise_one_and_then_the_other<R: Abort>(
+    rt: &R,
+    board: &Board,
+    feeders: &mut [Feeder],
+    pass: &mut FloorPass,
+    items: (Accepted, Accepted),
+)
+    requires board { (board.now.words ≡ 2) × (pass.old.board ≡ board.now) }
+    requires feeders { feeders.old ≡ posts board.now 2 }
+    requires first { (items.0.node ≡ 0) × (0 < items.0.stamp) }
+    requires other { (items.1.node ≡ 1) × (0 < items.1.stamp) }
+{
+    shows(rt, board, pass, at_second(0));
+    board.raise(&mut feeders[0], &items.0);
+    shows(rt, board, pass, at_second(0));
+    tells(rt, board, pass, 0, at_second(5));
+    board.raise(&mut feeders[1], &items.1);
+    shows(rt, board, pass, at_second(3));
+}
+
+/// Raises a new board with the last item of the first node and then with one of the other, and looks at
+/// it after each.
+fn retire_one_and_raise_the_other<R: Abort>(
+    rt: &R,
+    board: &Board,
+    feeders: &mut [Feeder],
+    pass: &mut FloorPass,
+    items: (Accepted, Accepted),
+)
+    requires board { (board.now.words ≡ 2) × (pass.old.board ≡ board.now) }
+    requires feeders { feeders.old ≡ posts board.now 2 }
+    requires last { (items.0.node ≡ 0) × (0 < items.0.stamp) }
+    requires other { (items.1.node ≡ 1) × (0 < items.1.stamp) }
+{
+    board.raise(&mut feeders[0], &items.0);
+    tells(rt, board, pass, 0, Stamp::from_bits(u64::MAX));
+    shows(rt, board, pass, at_second(0));
+    board.raise(&mut feeders[1], &items.1);
+    shows(rt, board, pass, at_second(4));
+}
 
 #[test]
 fn one_node_and_then_the_other(rt: HostRuntime) -> Result<(), Fail> {
-    let mut heads = Heads::new(rt.alloc(), 2)?;
+    let items = two_accepted(&rt, rt.alloc())?;
     let (board, mut feeders, mut passes) = Board::new(rt.alloc(), 2, 1)?;
-    let pass = &mut passes[0];
-    assert_eq!(rt; board.floor(pass), at_second(0));
-    let accepted = heads.raise(0, Stamp::from_bits(5 * 65_536));
-    board.raise(&mut feeders[0], &accepted);
-    assert_eq!(rt; board.floor(pass), at_second(0));
-    assert_eq!(rt; board.heard(pass, 0), at_second(5));
-    let accepted = heads.raise(1, Stamp::from_bits(3 * 65_536));
-    board.raise(&mut feeders[1], &accepted);
-    assert_eq!(rt; board.floor(pass), at_second(3));
-    assert_eq!(rt; heads.floor(), at_second(3));
+    raise_one_and_then_the_other(&rt, &board, &mut feeders, &mut passes[0], items);
     Ok(())
 }
 
 #[test]
 fn a_node_that_retired(rt: HostRuntime) -> Result<(), Fail> {
-    let mut heads = Heads::new(rt.alloc(), 2)?;
+    let items = last_and_other(rt.alloc())?;
     let (board, mut feeders, mut passes) = Board::new(rt.alloc(), 2, 1)?;
-    let pass = &mut passes[0];
-    let accepted = heads.retire(0, Stamp::from_bits(2 * 65_536));
-    board.raise(&mut feeders[0], &accepted);
-    assert_eq!(rt; board.heard(pass, 0), Stamp::from_bits(u64::MAX));
-    assert_eq!(rt; board.floor(pass), at_second(0));
-    let accepted = heads.raise(1, Stamp::from_bits(4 * 65_536));
-    board.raise(&mut feeders[1], &accepted);
-    assert_eq!(rt; board.floor(pass), at_second(4));
+    retire_one_and_raise_the_other(&rt, &board, &mut feeders, &mut passes[0], items);
     Ok(())
 }

@@ -1,6 +1,7 @@
 //! Links between two threads.
 use crate::makers::report;
 use hlc_channel::{LinkClosed, LinkReceiver, LinkSender, Parcel, PutFault, link};
+use std::process::Abort;
 use std::sync::Wait;
 use std::test::*;
 use std::thread;
@@ -16,7 +17,7 @@ fn put_three<R: Wait>(rt: &R, mut sender: LinkSender) -> Option<u64> {
 }
 
 /// The number of an item that was taken; 100 for the end, 200 where nothing was taken.
-fn number_of(parcel: Result<Parcel, LinkClosed>) -> u64 {
+fn number_of(parcel: &Result<Parcel, LinkClosed>) -> u64 {
     match parcel {
         Ok(Parcel::Item(item)) => item.number,
         Ok(Parcel::End) => 100,
@@ -28,7 +29,7 @@ fn number_of(parcel: Result<Parcel, LinkClosed>) -> u64 {
 fn take_five<R: Wait>(rt: &R, mut receiver: LinkReceiver) -> [u64; 5] {
     let mut numbers = [0; 5];
     for i in 0..5 {
-        numbers[i] = number_of(receiver.take(rt));
+        numbers[i] = number_of(&receiver.take(rt));
     }
     numbers
 }
@@ -46,15 +47,26 @@ fn three_items_and_the_end(rt: HostRuntime) -> Result<(), Fail> {
     Ok(())
 }
 
-#[test]
-fn an_end_that_is_gone(rt: HostRuntime) -> Result<(), Fail> {
-    let (mut sender, receiver) = link(&rt, rt.alloc(), 1)?;
-    drop(receiver);
-    let refused = sender.put(&rt, report(7));
+/// Looks whether nothing can be put, nor the end.
+fn is_closed<R: Wait + Abort>(rt: &R, sender: LinkSender) {
+    let mut sender = sender;
+    let refused = sender.put(rt, report(7));
     assert_eq!(rt; refused, Err((PutFault::Closed, report(7))));
-    assert_eq!(rt; sender.finish(&rt), Err(LinkClosed));
+    assert_eq!(rt; sender.finish(rt), Err(LinkClosed));
+}
+
+#[test]
+fn a_receiver_that_is_gone(rt: HostRuntime) -> Result<(), Fail> {
+    let (sender, receiver) = link(&rt, rt.alloc(), 1)?;
+    drop(receiver);
+    is_closed(&rt, sender);
+    Ok(())
+}
+
+#[test]
+fn a_sender_that_is_gone(rt: HostRuntime) -> Result<(), Fail> {
     let (sender, mut receiver) = link(&rt, rt.alloc(), 1)?;
     drop(sender);
-    assert_eq!(rt; number_of(receiver.take(&rt)), 200);
+    assert_eq!(rt; number_of(&receiver.take(&rt)), 200);
     Ok(())
 }

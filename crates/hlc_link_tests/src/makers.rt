@@ -2,7 +2,8 @@
 ghost use Rattle.std.specs.Prelude.{◌≡◌, ◌+◌, ◌*◌, ◌∷◌, [], Some, IfOk};
 ghost use Rattle.hlc_node.specs.declared.item.Body.TheVariants.{Write as a_write, Report as a_report};
 
-use hlc_core::{Body, Bytes, Item, Stamp};
+use hlc_clock::Stamp;
+use hlc_node::{Body, Bytes, Item};
 use std::alloc::{AllocError, Global};
 
 /// The stamp of a second, with the counter at 0.
@@ -27,14 +28,13 @@ pub fn write(alloc: Global, number: u8, value: u8) -> Result<Item, AllocError>
         × (item.stamp ≡ (number + 1) * 65536)
         × (item.body ≡ a_write (97 ∷ []) (Some (value ∷ [])))) }
 {
+    let key = bytes(alloc, b'a')?;
+    let value = Some(bytes(alloc, value)?);
     Ok(Item {
         node: 0,
         number: u64::from(number),
         stamp: Stamp::from_bits((u64::from(number) + 1) * 65_536),
-        body: Body::Write {
-            key: bytes(alloc, b'a')?,
-            value: Some(bytes(alloc, value)?),
-        },
+        body: Body::Write { key, value },
     })
 }
 

@@ -3,7 +3,7 @@ ghost use Rattle.std.specs.Prelude.{◌≡◌};
 
 use crate::makers::write;
 use hlc_core::{CoreEvent, CoreReply};
-use hlc_server::{Receipt, SettleFault, Shared};
+use hlc_server::{Caller, NotDone, Receipt, SettleFault, Shared};
 use std::alloc::{AllocError, Global};
 use std::marker::Brand;
 use std::sync::Wait;
@@ -25,6 +25,96 @@ enum Forged {
     FirstMissing,
 }
 
+/// A store of one node, by a new ledger of two callers.
+fn store<L: Ledger>(
+    alloc: Global,
+    blank: Blank,
+    audit: bool,
+) -> Result<(Shared<L>, Vec<Caller<L>>), Fail>
+    requires { (blank.name ≡ L.name) × (blank.parts ≡ L.parts) × (blank.parts ≡ 2) }
+{
+    Ok(
+        Shared::<L>::new(alloc, blank, 1, 2, audit)
+            .ok()
+            .ok_or("a store")?,
+    )
+}
+
+/// The two callers.
+fn both<L: Ledger>(callers: Vec<Caller<L>>) -> Result<(Caller<L>, Caller<L>), Fail> {
+    let mut callers = callers;
+    let second = callers.pop().ok_or("two callers")?;
+    let first = callers.pop().ok_or("two callers")?;
+    Ok((first, second))
+}
+
+/// A caller with the receipt of a call that was made.
+fn made<L: Ledger>(
+    told: (Caller<L>, Result<Receipt, (NotDone, CoreEvent)>),
+) -> Result<(Caller<L>, Receipt), Fail> {
+    let (caller, told) = told;
+    match told {
+        Ok(receipt) => Ok((caller, receipt)),
+        Err(_) => Err("made")?,
+    }
+}
+
+/// Hands in the first write of the node.
+fn writes<L: Ledger, R: Wait>(
+    rt: &R,
+    alloc: Global,
+    shared: &Shared<L>,
+    caller: Caller<L>,
+) -> Result<(Caller<L>, Receipt), Fail> {
+    let item = write(alloc, 0, 0)?;
+    made(shared.accept(rt, caller, item))
+}
+
+/// Vacuums.
+fn vacuums<L: Ledger, R: Wait + Threads + Sync>(
+    rt: &R,
+    shared: &Shared<L>,
+    caller: Caller<L>,
+) -> Result<(Caller<L>, Receipt), Fail> {
+    made(shared.vacuum(rt, caller))
+}
+
+/// The two callers with what each hands in.
+fn lists<L: Ledger>(
+    alloc: Global,
+    first: (Caller<L>, Vec<Receipt>),
+    second: (Caller<L>, Vec<Receipt>),
+) -> Result<Vec<(Caller<L>, Vec<Receipt>)>, AllocError> {
+    let mut lists = Vec::new(alloc);
+    lists.push(first)?;
+    lists.push(second)?;
+    Ok(lists)
+}
+
+/// How many calls settle.
+fn settled<L: Ledger>(
+    shared: Shared<L>,
+    lists: Vec<(Caller<L>, Vec<Receipt>)>,
+) -> Result<u64, SettleFault> {
+    shared.settle(lists).map(|settled| settled.entries)
+}
+
+/// The two callers make one call each, and hand in their receipts.
+fn called<L: Ledger, R: Wait + Threads + Sync>(
+    rt: &R,
+    alloc: Global,
+    shared: &Shared<L>,
+    callers: Vec<Caller<L>>,
+    forged: Forged,
+) -> Result<Vec<(Caller<L>, Vec<Receipt>)>, Fail> {
+    let (first, second) = both(callers)?;
+    let (first, a) = writes(rt, alloc, shared, first)?;
+    let (second, b) = vacuums(rt, shared, second)?;
+    let (ones, others) = handed_in(alloc, forged, a, b)?;
+    Ok(lists(alloc, (first, ones), (second, others))?)
+}
+
+/// What settles of the calls of two callers whose receipts are forged so.
 fn by_two<L: Ledger, R: Wait + Threads + Sync>(
     rt: &R,
     alloc: Global,
@@ -34,20 +124,9 @@ fn by_two<L: Ledger, R: Wait + Threads + Sync>(
 ) -> Result<Result<u64, SettleFault>, Fail>
     requires { (blank.name ≡ L.name) × (blank.parts ≡ L.parts) × (blank.parts ≡ 2) }
 {
-    let (shared, mut callers) = Shared::<L>::new(alloc, blank, 1, 2, audit)
-        .ok()
-        .ok_or("a store")?;
-    let second = callers.pop().ok_or("two callers")?;
-    let first = callers.pop().ok_or("two callers")?;
-    let (first, a) = shared.accept(rt, first, write(alloc, 0, 0)?);
-    let (second, b) = shared.vacuum(rt, second);
-    let a = a.map_err(|_| "made")?;
-    let b = b.map_err(|_| "made")?;
-    let (ones, others) = handed_in(alloc, forged, a, b)?;
-    let mut lists = Vec::new(alloc);
-    lists.push((first, ones))?;
-    lists.push((second, others))?;
-    Ok(shared.settle(lists).map(|settled| settled.entries))
+    let (shared, callers) = store::<L>(alloc, blank, audit)?;
+    let lists = called(rt, alloc, &shared, callers, forged)?;
+    Ok(settled(shared, lists))
 }
 
 /// The two receipts as the two callers hand them in.
@@ -77,24 +156,32 @@ fn handed_in(
 /// The receipt with one other field, where that is how it is forged.
 fn changed(forged: Forged, receipt: Receipt) -> Receipt {
     match forged {
-        Forged::OtherReply => Receipt {
-            reply: CoreReply::Answer(None),
-            ..receipt
-        },
-        Forged::OtherNumber => Receipt {
-            number: 2,
-            ..receipt
-        },
-        Forged::OtherEvent => Receipt {
-            event: CoreEvent::OpenFloor,
-            ..receipt
-        },
-        Forged::OtherCaller => Receipt {
-            caller: 0,
-            ..receipt
-        },
+        Forged::OtherReply => with_reply(receipt, CoreReply::Answer(None)),
+        Forged::OtherNumber => with_number(receipt, 2),
+        Forged::OtherEvent => with_event(receipt, CoreEvent::OpenFloor),
+        Forged::OtherCaller => with_caller(receipt, 0),
         _ => receipt,
     }
+}
+
+/// The receipt with this reply.
+fn with_reply(receipt: Receipt, reply: CoreReply) -> Receipt {
+    Receipt { reply, ..receipt }
+}
+
+/// The receipt with this number.
+fn with_number(receipt: Receipt, number: u64) -> Receipt {
+    Receipt { number, ..receipt }
+}
+
+/// The receipt with this event.
+fn with_event(receipt: Receipt, event: CoreEvent) -> Receipt {
+    Receipt { event, ..receipt }
+}
+
+/// The receipt of this caller.
+fn with_caller(receipt: Receipt, caller: u16) -> Receipt {
+    Receipt { caller, ..receipt }
 }
 
 #[test]

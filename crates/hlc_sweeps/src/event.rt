@@ -78,15 +78,8 @@ impl Subject for Happening {
         };
         let event = owned_event(alloc, event)?;
         let requests = MADE + 1 + 2 * u64::from(requests_of(&event));
-        let events = vec![in alloc; event.clone()?, event]?;
-        match world(alloc)? {
-            None => Ok(None),
-            Some(world) => Ok(Some(Happening {
-                world,
-                events,
-                requests,
-            })),
-        }
+        let events = twice(alloc, event)?;
+        make_happening(alloc, events, requests)
     }
 
     fn requests(&self) -> u64 {
@@ -114,6 +107,28 @@ impl Subject for Happening {
     }
 }
 
+/// The event, twice.
+fn twice(alloc: Global, event: Event) -> Result<Vec<Event>, AllocError> {
+    let again = event.clone()?;
+    Ok(vec![in alloc; again, event]?)
+}
+
+/// These events of a world with a past.
+fn make_happening(
+    alloc: Global,
+    events: Vec<Event>,
+    requests: u64,
+) -> Result<Option<Happening>, AllocError> {
+    match world(alloc)? {
+        None => Ok(None),
+        Some(world) => Ok(Some(Happening {
+            world,
+            events,
+            requests,
+        })),
+    }
+}
+
 /// A world with a past.
 fn world(alloc: Global) -> Result<Option<World>, AllocError> {
     let Ok(mut world) = World::new(alloc, 2) else {
@@ -128,11 +143,18 @@ fn replies(alloc: Global, world: &mut World, lines: &[&[u8]]) -> Result<Vec<Repl
     let mut replies = Vec::new(alloc);
     for line in lines {
         if let Some(event) = read_line(*line) {
-            let reply = world.step(owned_event(alloc, event)?);
-            replies.push(reply)?;
+            let event = owned_event(alloc, event)?;
+            add_reply(world, event, &mut replies)?;
         }
     }
     Ok(replies)
+}
+
+/// Puts the reply to an event behind the others.
+fn add_reply(world: &mut World, event: Event, replies: &mut Vec<Reply>) -> Result<(), AllocError> {
+    let reply = world.step(event);
+    replies.push(reply)?;
+    Ok(())
 }
 
 /// How many requests the key and the value of an event make.

@@ -4,11 +4,13 @@ ghost use Rattle.std.specs.Prelude.{IfOk, IfSome, IsTrue, MatchOption, MatchResu
 ghost use Rattle.hlc_refused.specs.declared.subject.Seen.{Seen};
 ghost use Rattle.hlc_server.specs.declared.entry.NotDone.{NotDone};
 
-use hlc_core::{Bytes, CoreEvent};
+use hlc_core::{Bytes, Core, CoreEvent};
 use hlc_refused::store::{Answers, ask, write};
 use hlc_refused::subject::{Place, Seen};
 use hlc_refused::turn::{REFUSED, Turn};
-use hlc_server::{Caller, Guarded, NotDone, Receipt, SettleFault, settle_guarded, step_guarded};
+use hlc_server::{
+    Caller, Guarded, NotDone, Receipt, SettleFault, Settled, settle_guarded, step_guarded,
+};
 use std::alloc::{AllocError, Global};
 use std::marker::Brand;
 use std::sync::ledger::{Blank, Ledger};
@@ -93,9 +95,36 @@ fn told_in<L: Ledger>(
 ) -> Result<Option<(bool, Outcome)>, AllocError>
     requires { (blank.name ≡ L.name) × (blank.parts ≡ L.parts) × (blank.parts ≡ 1) }
 {
-    let Some(mut desk) = set_up::<L>(alloc, blank, audit)? else {
-        return Ok(None);
-    };
+    match set_up::<L>(alloc, blank, audit)? {
+        Some(desk) => told_on(alloc, desk, audit, name, turn),
+        None => Ok(None),
+    }
+}
+
+/// The same on this store.
+fn told_on<L: Ledger>(
+    alloc: Global,
+    desk: Desk<L>,
+    audit: bool,
+    name: &[u8],
+    turn: &mut Turn,
+) -> Result<Option<(bool, Outcome)>, AllocError> {
+    let mut desk = desk;
+    match called(alloc, &mut desk, audit, name, turn)? {
+        Some((refused, wrong)) => Ok(Some((refused, settled(alloc, desk, wrong)?))),
+        None => Ok(None),
+    }
+}
+
+/// Makes the call and all that come behind it. Says whether it was refused memory, and where
+/// something else was seen than is due.
+fn called<L: Ledger>(
+    alloc: Global,
+    desk: &mut Desk<L>,
+    audit: bool,
+    name: &[u8],
+    turn: &mut Turn,
+) -> Result<Option<(bool, Option<Place>)>, AllocError> {
     let Some(event) = event_of(alloc, name)? else {
         return Ok(None);
     };
@@ -104,10 +133,7 @@ fn told_in<L: Ledger>(
     }
     let answer = desk.step(event);
     turn.end();
-    let refused = !matches!(answer, Some(Ok(_)));
-    let wrong = desk.again(alloc, name, answer)?;
-    desk.go_on(alloc)?;
-    Ok(Some((refused, settled(alloc, desk, wrong)?)))
+    Ok(Some(desk.all_later(alloc, name, answer)?))
 }
 
 /// A store of one node under no lock, with three rows and four snapshots. Eight calls are behind it,
@@ -119,39 +145,62 @@ fn set_up<L: Ledger>(
 ) -> Result<Option<Desk<L>>, AllocError>
     requires { (blank.name ≡ L.name) × (blank.parts ≡ L.parts) × (blank.parts ≡ 1) }
 {
+    match new_desk::<L>(alloc, blank, audit) {
+        Some(desk) => with_past(alloc, desk),
+        None => Ok(None),
+    }
+}
+
+/// A store of one node under no lock, and its caller.
+fn new_desk<L: Ledger>(alloc: Global, blank: Blank, audit: bool) -> Option<Desk<L>>
+    requires { (blank.name ≡ L.name) × (blank.parts ≡ L.parts) × (blank.parts ≡ 1) }
+{
     let Ok((guarded, mut callers)) = Guarded::<L>::new(alloc, blank, 1, 1, audit) else {
-        return Ok(None);
+        return None;
     };
-    let caller = callers.pop();
-    let receipts = Vec::new(alloc);
-    let mut desk = Desk {
+    Some(Desk {
         guarded,
-        caller,
-        receipts,
-    };
-    desk.make(CoreEvent::Accept(write(alloc, (0, 0, 1), b"a", b"x")?))?;
-    desk.make(CoreEvent::Accept(write(alloc, (0, 1, 2), b"b", b"y")?))?;
-    desk.make(CoreEvent::Accept(write(alloc, (0, 2, 3), b"a", b"z")?))?;
-    desk.open_four()?;
-    desk.make(CoreEvent::Close(9))?;
+        caller: callers.pop(),
+        receipts: Vec::new(alloc),
+    })
+}
+
+/// The store once the eight calls are made.
+fn with_past<L: Ledger>(alloc: Global, desk: Desk<L>) -> Result<Option<Desk<L>>, AllocError> {
+    let mut desk = desk;
+    desk.make_past(alloc)?;
     Ok(Some(desk))
 }
 
 /// The event of this name.
 fn event_of(alloc: Global, name: &[u8]) -> Result<Option<CoreEvent>, AllocError> {
     Ok(Some(match name {
-        b"accept" => CoreEvent::Accept(write(alloc, (0, 3, 4), b"c", b"w")?),
+        b"accept" => accepting(alloc)?,
         b"open" => CoreEvent::OpenFloor,
-        b"read" => CoreEvent::Read {
-            id: 1,
-            key: Bytes::from_vec(Vec::from_slice(alloc, b"a")?),
-        },
+        b"read" => reading(alloc)?,
         b"list" => CoreEvent::List(1),
         b"close" => CoreEvent::Close(1),
         b"join" => CoreEvent::Join,
         b"vacuum" => CoreEvent::Vacuum,
         _ => return Ok(None),
     }))
+}
+
+/// Whether this is the event of that name.
+fn is_event(alloc: Global, name: &[u8], event: &CoreEvent) -> Result<bool, AllocError> {
+    let due = event_of(alloc, name)?;
+    Ok(due == Some(event.clone()?))
+}
+
+/// The handing in of a fourth write.
+fn accepting(alloc: Global) -> Result<CoreEvent, AllocError> {
+    Ok(CoreEvent::Accept(write(alloc, (0, 3, 4), b"c", b"w")?))
+}
+
+/// The reading of a key in the second snapshot.
+fn reading(alloc: Global) -> Result<CoreEvent, AllocError> {
+    let key = Bytes::from_vec(Vec::from_slice(alloc, b"a")?);
+    Ok(CoreEvent::Read { id: 1, key })
 }
 
 /// How many requests the event makes, and the trail so far.
@@ -164,11 +213,20 @@ fn requests_of(name: &[u8], audit: bool) -> u64 {
     if audit { own + 8 } else { own }
 }
 
+/// Makes a call.
+fn step_of<L: Ledger>(
+    guarded: &mut Guarded<L>,
+    caller: Caller<L>,
+    event: CoreEvent,
+) -> (Caller<L>, Result<Receipt, (NotDone, CoreEvent)>) {
+    step_guarded(guarded, caller, event)
+}
+
 impl<L: Ledger> Desk<L> {
     /// Makes a call. None where the caller is gone.
     fn step(&mut self, event: CoreEvent) -> Option<Result<Receipt, (NotDone, CoreEvent)>> {
         let caller = self.caller.take()?;
-        let (caller, told) = step_guarded(&mut self.guarded, caller, event);
+        let (caller, told) = step_of(&mut self.guarded, caller, event);
         self.caller = Some(caller);
         Some(told)
     }
@@ -179,6 +237,27 @@ impl<L: Ledger> Desk<L> {
             Some(Ok(receipt)) => Ok(self.receipts.push(receipt)?),
             _ => Err(AllocError),
         }
+    }
+
+    /// Hands in a write of the one node: its number and stamp, its key and its value.
+    fn hand_in(
+        &mut self,
+        alloc: Global,
+        at: (u64, u64),
+        key: &[u8],
+        value: &[u8],
+    ) -> Result<(), AllocError> {
+        let item = write(alloc, (0, at.0, at.1), key, value)?;
+        self.make(CoreEvent::Accept(item))
+    }
+
+    /// Makes eight calls: three writes, four snapshots, and the closing of one that is not open.
+    fn make_past(&mut self, alloc: Global) -> Result<(), AllocError> {
+        self.hand_in(alloc, (0, 1), b"a", b"x")?;
+        self.hand_in(alloc, (1, 2), b"b", b"y")?;
+        self.hand_in(alloc, (2, 3), b"a", b"z")?;
+        self.open_four()?;
+        self.make(CoreEvent::Close(9))
     }
 
     /// Opens four snapshots at the floor.
@@ -208,22 +287,47 @@ impl<L: Ledger> Desk<L> {
                 self.receipts.push(receipt)?;
                 Ok(None)
             }
-            Some(Err((why, event))) => {
-                let due = event_of(alloc, name)?;
-                let is_back = due == Some(event.clone()?);
-                self.make(event)?;
-                Ok(match why {
-                    NotDone::NoMemory if is_back => None,
-                    _ => Some(Place::Answer),
-                })
-            }
+            Some(Err(refused)) => self.make_again(alloc, name, refused),
         }
+    }
+
+    /// Makes the call of this name again with the event that came back. Says where something else was
+    /// seen than is due.
+    fn make_again(
+        &mut self,
+        alloc: Global,
+        name: &[u8],
+        refused: (NotDone, CoreEvent),
+    ) -> Result<Option<Place>, AllocError>
+        ensures { IfOk result (λ place. place ≡ None → refused.0 ≡ NotDone.NoMemory) }
+    {
+        let (why, event) = refused;
+        let is_back = is_event(alloc, name, &event)?;
+        self.make(event)?;
+        Ok(match why {
+            NotDone::NoMemory if is_back => None,
+            _ => Some(Place::Answer),
+        })
+    }
+
+    /// What is seen once the call has this answer: whether it was refused memory, and where something
+    /// else is seen than is due. Makes the further calls.
+    fn all_later(
+        &mut self,
+        alloc: Global,
+        name: &[u8],
+        answer: Option<Result<Receipt, (NotDone, CoreEvent)>>,
+    ) -> Result<(bool, Option<Place>), AllocError> {
+        let refused = !matches!(answer, Some(Ok(_)));
+        let wrong = self.again(alloc, name, answer)?;
+        self.go_on(alloc)?;
+        Ok((refused, wrong))
     }
 
     /// Makes further calls.
     fn go_on(&mut self, alloc: Global) -> Result<(), AllocError> {
         self.make(CoreEvent::List(1))?;
-        self.make(CoreEvent::Accept(write(alloc, (0, 3, 9), b"d", b"u")?))?;
+        self.hand_in(alloc, (3, 9), b"d", b"u")?;
         self.make(CoreEvent::OpenFloor)?;
         self.make(CoreEvent::Vacuum)?;
         self.make(CoreEvent::List(2))
@@ -244,14 +348,40 @@ fn settled<L: Ledger>(
     let Some(caller) = caller else {
         return Err(AllocError);
     };
-    let lists = vec![in alloc; (caller, receipts.clone()?)]?;
-    let settled = match settle_guarded(guarded, lists) {
-        Ok(settled) => Ok((ask(alloc, &settled.core)?, settled.entries)),
-        Err(fault) => Err(fault),
-    };
+    let settled = settled_by(alloc, guarded, caller, receipts.clone()?)?;
     Ok(Outcome {
         wrong,
         receipts,
         settled,
     })
+}
+
+/// Settles these receipts of the one caller, and asks the store.
+fn settled_by<L: Ledger>(
+    alloc: Global,
+    guarded: Guarded<L>,
+    caller: Caller<L>,
+    receipts: Vec<Receipt>,
+) -> Result<Result<(Answers, u64), SettleFault>, AllocError> {
+    let lists = vec![in alloc; (caller, receipts)]?;
+    told_by(alloc, settle_guarded(guarded, lists))
+}
+
+/// What the store tells where the calls settled.
+fn told_by(
+    alloc: Global,
+    settled: Result<Settled, SettleFault>,
+) -> Result<Result<(Answers, u64), SettleFault>, AllocError> {
+    match settled {
+        Ok(settled) => {
+            let answers = asked(alloc, &settled.core)?;
+            Ok(Ok((answers, settled.entries)))
+        }
+        Err(fault) => Ok(Err(fault)),
+    }
+}
+
+/// What the store tells.
+fn asked(alloc: Global, core: &Core) -> Result<Answers, AllocError> {
+    ask(alloc, core)
 }

@@ -46,16 +46,9 @@ fn seen<R: Wait + Threads + Sync>(
     turn: &mut Turn,
 ) -> Result<Seen, AllocError> {
     match name {
-        b"registry" => tried::<registry::Opening>(alloc, line, turn),
-        b"accept" => tried::<calls::Accepting>(alloc, line, turn),
-        b"open" => tried::<calls::Opening>(alloc, line, turn),
-        b"core" => tried::<asking::Asking>(alloc, line, turn),
-        b"table" => tried::<table::Inserting>(alloc, line, turn),
-        b"plan" => tried::<table::Planning>(alloc, line, turn),
         b"threads" => threads::vacuum(threads, alloc, turn),
         b"points" => points::points(alloc, turn),
         b"board" => board::board(alloc, turn),
-        b"event" => tried::<event::Happening>(alloc, line, turn),
         b"guarded" => guarded::guarded(alloc, false, line, turn),
         b"audited" => guarded::guarded(alloc, true, line, turn),
         b"feed" => worked(threads, alloc, Worker::Feeds, turn),
@@ -64,6 +57,25 @@ fn seen<R: Wait + Threads + Sync>(
         b"script" => Ok(texts::script(rt, alloc, turn)),
         b"check" => Ok(texts::check(rt, alloc, turn)),
         b"held" => Ok(texts::held(rt, alloc, turn)),
+        _ => seen_of_subject(alloc, name, line, turn),
+    }
+}
+
+/// Tries the call of this name where it is a subject's.
+fn seen_of_subject(
+    alloc: Global,
+    name: &[u8],
+    line: &[u8],
+    turn: &mut Turn,
+) -> Result<Seen, AllocError> {
+    match name {
+        b"registry" => tried::<registry::Opening>(alloc, line, turn),
+        b"accept" => tried::<calls::Accepting>(alloc, line, turn),
+        b"open" => tried::<calls::Opening>(alloc, line, turn),
+        b"core" => tried::<asking::Asking>(alloc, line, turn),
+        b"table" => tried::<table::Inserting>(alloc, line, turn),
+        b"plan" => tried::<table::Planning>(alloc, line, turn),
+        b"event" => tried::<event::Happening>(alloc, line, turn),
         _ => Ok(Seen::NotMade),
     }
 }

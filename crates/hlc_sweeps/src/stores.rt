@@ -63,18 +63,34 @@ fn written<L: Ledger, R: Wait>(
         mut receipts,
     } = store;
     for number in 0..3 {
-        let (back, told) = shared.accept(rt, caller, item(alloc, number)?);
-        caller = back;
-        let Ok(receipt) = told else {
-            return Ok(None);
-        };
-        receipts.push(receipt)?;
+        match writes(rt, alloc, &shared, caller, &mut receipts, number)? {
+            Some(back) => caller = back,
+            None => return Ok(None),
+        }
     }
     Ok(Some(Store {
         shared,
         caller,
         receipts,
     }))
+}
+
+/// Makes one write and keeps its receipt. Gives the caller back, or none where it was not made.
+fn writes<L: Ledger, R: Wait>(
+    rt: &R,
+    alloc: Global,
+    shared: &Shared<L>,
+    caller: Caller<L>,
+    receipts: &mut Vec<Receipt>,
+    number: u8,
+) -> Result<Option<Caller<L>>, AllocError> {
+    let item = item(alloc, number)?;
+    let (caller, told) = shared.accept(rt, caller, item);
+    let Ok(receipt) = told else {
+        return Ok(None);
+    };
+    receipts.push(receipt)?;
+    Ok(Some(caller))
 }
 
 /// The write of this number on a link.

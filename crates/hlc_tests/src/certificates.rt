@@ -81,11 +81,14 @@ fn must_say<H: Abort + AllocGlobal>(
         .iter()
         .map(|bits| Stamp::from_bits(*bits))
         .collect(rt.alloc())?;
-    let said = check(made.as_slice(), points.as_slice(), shown.as_slice()).map(
-        |shown| shown.count(),
-    );
+    let said = count(made.as_slice(), points.as_slice(), shown.as_slice());
     assert_eq!(rt; said, due, "{rows:?} {witnesses:?}");
     Ok(())
+}
+
+/// The count of rows that `check` answers, or the reason.
+fn count(rows: &[Row], points: &[Stamp], witnesses: &[Witness]) -> Result<u64, NotShown> {
+    Ok(check(rows, points, witnesses)?.count())
 }
 
 #[test]

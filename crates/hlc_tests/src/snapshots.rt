@@ -1,17 +1,23 @@
 //! The registry of open snapshots by itself.
 use hlc_snapshot::{NoSnapshot, Registry, SnapshotFault, Stamp};
+use std::process::Abort;
 use std::test::*;
 
 #[test]
 fn opens_looks_up_and_closes(rt: HostRuntime) {
     let mut registry = Registry::new(rt.alloc());
+    opens_and_closes(&rt, &mut registry);
+}
+
+/// Opens and closes snapshots of a new registry.
+fn opens_and_closes<R: Abort>(rt: &R, registry: &mut Registry) {
     let (low, high) = (Stamp::from_bits(65_536), Stamp::from_bits(131_072));
-    assert_eq!(rt; registry.stamp_of(1), None);
-    assert_eq!(rt; registry.close(1), Err(NoSnapshot));
+    are_stamps(rt, registry, &[(1, None)]);
+    closes(rt, registry, 1, Err(NoSnapshot));
     // Several may be open at one stamp, and a later one at a lower stamp.
-    assert_eq!(rt; registry.open(high), Ok(1));
-    assert_eq!(rt; registry.open(low), Ok(2));
-    assert_eq!(rt; registry.open(high), Ok(3));
+    opens(rt, registry, high, 1);
+    opens(rt, registry, low, 2);
+    opens(rt, registry, high, 3);
     let found = [
         (0, None),
         (1, Some(high)),
@@ -19,12 +25,10 @@ fn opens_looks_up_and_closes(rt: HostRuntime) {
         (3, Some(high)),
         (4, None),
     ];
-    for (id, stamp) in found {
-        assert_eq!(rt; registry.stamp_of(id), stamp, "{id}");
-    }
-    assert_eq!(rt; registry.close(2), Ok(low));
-    assert_eq!(rt; registry.close(2), Err(NoSnapshot));
-    assert_eq!(rt; registry.open(low), Ok(4));
+    are_stamps(rt, registry, &found);
+    closes(rt, registry, 2, Ok(low));
+    closes(rt, registry, 2, Err(NoSnapshot));
+    opens(rt, registry, low, 4);
     let found = [
         (1, Some(high)),
         (2, None),
@@ -32,8 +36,23 @@ fn opens_looks_up_and_closes(rt: HostRuntime) {
         (4, Some(low)),
         (5, None),
     ];
+    are_stamps(rt, registry, &found);
+}
+
+/// Opens a snapshot at a stamp, with this id.
+fn opens<R: Abort>(rt: &R, registry: &mut Registry, stamp: Stamp, id: u64) {
+    assert_eq!(rt; registry.open(stamp), Ok(id));
+}
+
+/// Closes a snapshot, or is refused.
+fn closes<R: Abort>(rt: &R, registry: &mut Registry, id: u64, due: Result<Stamp, NoSnapshot>) {
+    assert_eq!(rt; registry.close(id), due);
+}
+
+/// The ids, and the stamps of the snapshots that are open with them.
+fn are_stamps<R: Abort>(rt: &R, registry: &Registry, found: &[(u64, Option<Stamp>)]) {
     for (id, stamp) in found {
-        assert_eq!(rt; registry.stamp_of(id), stamp, "{id}");
+        assert_eq!(rt; registry.stamp_of(*id), *stamp, "{id}");
     }
 }
 
@@ -45,28 +64,49 @@ fn points_are_distinct_and_end_at_the_floor(rt: HostRuntime) -> Result<(), Fail>
         Stamp::from_bits(2),
         Stamp::from_bits(3),
     );
-    assert!(rt; registry.points(floor) == Ok(vec![in rt.alloc(); floor]?));
+    are_points(&rt, &registry.points(floor)?, &[floor]);
     registry.open(high)?;
     registry.open(low)?;
     registry.open(high)?;
-    assert!(rt; registry.points(floor) == Ok(vec![in rt.alloc(); low, high, floor]?));
+    are_points(&rt, &registry.points(floor)?, &[low, high, floor]);
     // The floor may be an open stamp itself, and is then named once.
-    assert!(rt; registry.points(high) == Ok(vec![in rt.alloc(); low, high]?));
+    are_points(&rt, &registry.points(high)?, &[low, high]);
     Ok(())
 }
 
+/// The points are these.
+fn are_points<R: Abort>(rt: &R, points: &Vec<Stamp>, due: &[Stamp]) {
+    assert!(rt; points.as_slice() == due);
+}
+
 #[test]
-fn opens_1024_and_no_more(rt: HostRuntime) -> Result<(), Fail> {
+fn opens_1024_and_no_more(rt: HostRuntime) {
     let mut registry = Registry::new(rt.alloc());
-    let zero = Stamp::from_bits(0);
+    opens_the_most(&rt, &mut registry);
+    opens_one_for_a_closed(&rt, &mut registry);
+}
+
+/// Opens 1,024 snapshots of a new registry, and no more.
+fn opens_the_most<R: Abort>(rt: &R, registry: &mut Registry) {
     for id in 1..1_025 {
-        assert_eq!(rt; registry.open(zero), Ok(id));
+        opens(rt, registry, Stamp::from_bits(0), id);
     }
-    assert_eq!(rt; registry.open(zero), Err(SnapshotFault::TooManySnapshots));
-    assert_eq!(rt; registry.close(7), Ok(zero));
-    assert_eq!(rt; registry.open(zero), Ok(1_025));
-    assert_eq!(rt; registry.open(zero), Err(SnapshotFault::TooManySnapshots));
-    assert_eq!(rt; registry.stamp_of(7), None);
-    assert_eq!(rt; registry.stamp_of(1_025), Some(zero));
-    Ok(())
+    is_spent(rt, registry);
+}
+
+/// No snapshot is opened above so many.
+fn is_spent<R: Abort>(rt: &R, registry: &mut Registry) {
+    assert_eq!(rt;
+        registry.open(Stamp::from_bits(0)),
+        Err(SnapshotFault::TooManySnapshots)
+    );
+}
+
+/// Where the most snapshots are open, one is opened for one that is closed.
+fn opens_one_for_a_closed<R: Abort>(rt: &R, registry: &mut Registry) {
+    let zero = Stamp::from_bits(0);
+    closes(rt, registry, 7, Ok(zero));
+    opens(rt, registry, zero, 1_025);
+    is_spent(rt, registry);
+    are_stamps(rt, registry, &[(7, None), (1_025, Some(zero))]);
 }

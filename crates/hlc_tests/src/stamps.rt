@@ -2,11 +2,15 @@
 ghost use Rattle.std.specs.Prelude.{◌<◌};
 
 use hlc_clock::{Clock, ClockFault, ReadingTooLarge, Stamp};
+use std::process::Abort;
 use std::test::*;
+
+/// The parts of a stamp, its word and its text.
+type Case = (u64, u16, u64, &'static str);
 
 #[test]
 fn words_of_stamps(rt: HostRuntime) -> Result<(), Fail> {
-    let cases: [(u64, u16, u64, &str); 9] = [
+    let cases: [Case; 9] = [
         (0, 0, 0, "0.0"),
         (0, 1, 1, "0.1"),
         (1, 0, 65_536, "1.0"),
@@ -27,32 +31,53 @@ fn words_of_stamps(rt: HostRuntime) -> Result<(), Fail> {
             "281474976710655.65535",
         ),
     ];
-    for (l, c, bits, text) in cases {
-        let stamp = Stamp::from_bits(bits);
-        assert_eq!(rt; Stamp::new(l, c), Ok(stamp), "{text}");
-        assert_eq!(rt;
-            (stamp.bits(), stamp.l(), stamp.c()),
-            (bits, l, c),
-            "{text}"
-        );
-        let printed = format!(in rt.alloc(); "{stamp}")?;
-        assert_eq!(rt; printed.as_str(), text);
+    for case in cases {
+        is_spelled(&rt, case)?;
     }
     assert_eq!(rt; Stamp::new(281_474_976_710_656, 0), Err(ReadingTooLarge));
     Ok(())
+}
+
+/// A stamp of two parts has this word and this text.
+fn is_spelled<R: Abort + AllocGlobal>(rt: &R, case: Case) -> Result<(), Fail> {
+    let (l, c, bits, text) = case;
+    let stamp = Stamp::from_bits(bits);
+    is_made(rt, l, c, stamp);
+    has_parts(rt, stamp, case);
+    let printed = format!(in rt.alloc(); "{stamp}")?;
+    assert_eq!(rt; printed.as_str(), text);
+    Ok(())
+}
+
+/// A stamp is made of these parts.
+fn is_made<R: Abort>(rt: &R, l: u64, c: u16, stamp: Stamp) {
+    assert_eq!(rt; Stamp::new(l, c), Ok(stamp), "{l} {c}");
+}
+
+/// A stamp has this word and these parts.
+fn has_parts<R: Abort>(rt: &R, stamp: Stamp, case: Case) {
+    let (l, c, bits, text) = case;
+    assert_eq!(rt;
+        (stamp.bits(), stamp.l(), stamp.c()),
+        (bits, l, c),
+        "{text}"
+    );
 }
 
 #[test]
 fn a_clock_at_its_edges(rt: HostRuntime) {
     let full = Stamp::from_bits(524_287);
     let mut clock = Clock::starting_at(full);
-    assert_eq!(rt; clock.tick(7), Err(ClockFault::CounterFull { at: full }));
-    assert_eq!(rt; clock.now(), full);
-    assert_eq!(rt; clock.tick(8), Ok(Stamp::from_bits(524_288)));
-    assert_eq!(rt;
-        clock.tick(281_474_976_710_656),
-        Err(ClockFault::ReadingTooLarge)
+    ticks(
+        &rt,
+        &mut clock,
+        7,
+        Err(ClockFault::CounterFull { at: full }),
     );
+    assert_eq!(rt; clock.now(), full);
+    ticks(&rt, &mut clock, 8, Ok(Stamp::from_bits(524_288)));
+    let too_large = ClockFault::ReadingTooLarge;
+    ticks(&rt, &mut clock, 281_474_976_710_656, Err(too_large));
     assert_eq!(rt; clock.now(), Stamp::from_bits(524_288));
 }
 
@@ -61,40 +86,44 @@ fn a_receipt_at_its_edges(rt: HostRuntime) {
     let seen = Stamp::from_bits(524_287);
     let mut clock = Clock::starting_at(Stamp::from_bits(0));
     let full = ClockFault::CounterFull { at: seen };
-    assert_eq!(rt; clock.receive(seen, 7), Err(full));
+    receives(&rt, &mut clock, seen, 7, Err(full));
     assert_eq!(rt; clock.now(), Stamp::from_bits(0));
-    assert_eq!(rt; clock.receive(seen, 8), Ok(Stamp::from_bits(524_288)));
+    receives(&rt, &mut clock, seen, 8, Ok(Stamp::from_bits(524_288)));
     let too_large = ClockFault::ReadingTooLarge;
-    assert_eq!(rt; clock.receive(seen, 281_474_976_710_656), Err(too_large));
+    receives(&rt, &mut clock, seen, 281_474_976_710_656, Err(too_large));
 }
 
 #[test]
 fn a_clock_at_the_greatest_stamp(rt: HostRuntime) {
     let last = Stamp::from_bits(u64::MAX);
     let mut clock = Clock::starting_at(last);
+    let early = Stamp::from_bits(1);
     for reading in [0, 1, 281_474_976_710_655] {
-        assert_eq!(rt;
-            clock.tick(reading),
-            Err(ClockFault::CounterFull { at: last }),
-            "{reading}"
-        );
-        assert_eq!(rt;
-            clock.receive(Stamp::from_bits(1), reading),
-            Err(ClockFault::CounterFull { at: last }),
-            "{reading}"
-        );
+        let full = ClockFault::CounterFull { at: last };
+        ticks(&rt, &mut clock, reading, Err(full));
+        let full = ClockFault::CounterFull { at: last };
+        receives(&rt, &mut clock, early, reading, Err(full));
     }
     for reading in [281_474_976_710_656, u64::MAX] {
-        assert_eq!(rt;
-            clock.tick(reading),
-            Err(ClockFault::ReadingTooLarge),
-            "{reading}"
-        );
-        assert_eq!(rt;
-            clock.receive(Stamp::from_bits(1), reading),
-            Err(ClockFault::ReadingTooLarge),
-            "{reading}"
-        );
+        ticks(&rt, &mut clock, reading, Err(ClockFault::ReadingTooLarge));
+        let too_large = ClockFault::ReadingTooLarge;
+        receives(&rt, &mut clock, early, reading, Err(too_large));
     }
     assert_eq!(rt; clock.now(), last);
+}
+
+/// The clock ticks at a reading, or is refused.
+fn ticks<R: Abort>(rt: &R, clock: &mut Clock, reading: u64, due: Result<Stamp, ClockFault>) {
+    assert_eq!(rt; clock.tick(reading), due, "{reading}");
+}
+
+/// The clock receives a stamp at a reading, or is refused.
+fn receives<R: Abort>(
+    rt: &R,
+    clock: &mut Clock,
+    stamp: Stamp,
+    reading: u64,
+    due: Result<Stamp, ClockFault>,
+) {
+    assert_eq!(rt; clock.receive(stamp, reading), due, "{reading}");
 }

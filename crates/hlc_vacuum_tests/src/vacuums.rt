@@ -4,6 +4,7 @@ use crate::items::{bytes, item};
 use hlc_core::{Bytes, Core, Item, Pair, Report, Stamp, Witness};
 use hlc_witness::check;
 use std::alloc::{AllocError, Global};
+use std::process::Abort;
 use std::test::*;
 
 fn stamp(reading: u64) -> Stamp {
@@ -62,39 +63,96 @@ fn certified_report(
 /// A store of one node, with x at 1.0, another value or none at 2.0, and a value at 3.0.
 fn three_versions(alloc: Global, second: Option<&[u8]>, third: &[u8]) -> Result<Core, Fail> {
     let mut core = Core::new(alloc, 1).ok().ok_or("a store")?;
-    let first = is_accepted(&mut core, alloc, (0, 0, 1), Some(b"x"))?;
-    let second = is_accepted(&mut core, alloc, (0, 1, 2), second)?;
-    let third = is_accepted(&mut core, alloc, (0, 2, 3), Some(third))?;
-    if first && second && third {
-        Ok(core)
+    takes(&mut core, alloc, (0, 0, 1), Some(b"x"))?;
+    takes(&mut core, alloc, (0, 1, 2), second)?;
+    takes(&mut core, alloc, (0, 2, 3), Some(third))?;
+    Ok(core)
+}
+
+/// The store takes an item as `is_accepted` makes it.
+fn takes(
+    core: &mut Core,
+    alloc: Global,
+    at: (u16, u64, u64),
+    value: Option<&[u8]>,
+) -> Result<(), Fail> {
+    if is_accepted(core, alloc, at, value)? {
+        Ok(())
     } else {
-        Err(Fail::from("three items"))
+        Err(Fail::from("an item"))
     }
+}
+
+/// A snapshot opens at a reading, with this id.
+fn opens<R: Abort>(rt: &R, core: &mut Core, reading: u64, id: u64) {
+    assert_eq!(rt; core.open(stamp(reading)), Ok(id));
+}
+
+/// The snapshot of this id closes, which was open at a reading.
+fn closes<R: Abort>(rt: &R, core: &mut Core, id: u64, reading: u64) {
+    assert_eq!(rt; core.close(id), Ok(stamp(reading)));
+}
+
+/// A read of key `a` answers so.
+fn reads<R: Abort>(rt: &R, core: &Core, id: u64, value: &[u8]) {
+    assert_eq!(rt; core.read(id, b"a"), Ok(Some(value)));
+}
+
+/// The small caller counts so many rows.
+fn least_rows<R: Abort>(rt: &R, core: &mut Core, count: u64) -> Result<(), Fail> {
+    let shown = vacuum_and_check(core)?;
+    assert_eq!(rt; shown.map(|shown| shown.count()), Ok(count));
+    Ok(())
+}
+
+/// The report has these changes of key `a` as its witnesses, and no others.
+fn has_changes<R: Abort>(
+    rt: &R,
+    alloc: Global,
+    report: &Report,
+    changes: &[(Option<u64>, u64)],
+) -> Result<(), AllocError> {
+    assert_eq!(rt; report.witnesses.len(), changes.len());
+    for (place, change) in changes.iter().enumerate() {
+        let due = witness(alloc, change.0, change.1)?;
+        assert!(rt; report.witnesses.as_slice()[place] == due);
+    }
+    Ok(())
+}
+
+/// What the vacuum at 3.0 keeps, with its cost, and what it drops.
+fn leaves(core: &mut Core, kept: (u64, u128), dropped: u128) -> Result<Report, Fail> {
+    Ok(certified_report(core, 3, kept, dropped).ok_or("what is kept, and what is dropped")?)
 }
 
 #[test]
 fn a_value_written_twice_is_kept_once(rt: HostRuntime) -> Result<(), Fail> {
-    let alloc = rt.alloc();
-    let mut core = three_versions(alloc, Some(b"x"), b"y")?;
-    assert_eq!(rt; core.open(stamp(1)), Ok(1));
-    assert_eq!(rt; core.open(stamp(2)), Ok(2));
-    let report = certified_report(&mut core, 3, (2, 24), 1).ok_or("kept 2, dropped 1")?;
-    let due = vec![in alloc; witness(alloc, None, 1)?, witness(alloc, Some(2), 3)?]?;
-    assert!(rt; report.witnesses.as_slice() == due.as_slice());
+    let mut core = three_versions(rt.alloc(), Some(b"x"), b"y")?;
+    keeps_it_once(&rt, rt.alloc(), &mut core)
+}
+
+fn keeps_it_once<R: Abort>(rt: &R, alloc: Global, core: &mut Core) -> Result<(), Fail> {
+    opens(rt, core, 1, 1);
+    opens(rt, core, 2, 2);
+    let report = leaves(core, (2, 24), 1)?;
+    has_changes(rt, alloc, &report, &[(None, 1), (Some(2), 3)])?;
     assert!(rt; report.points.as_slice() == [stamp(1), stamp(2), stamp(3)].as_slice());
     assert_eq!(rt; core.rows(), 2);
-    let again = certified_report(&mut core, 3, (2, 24), 0).ok_or("kept 2, dropped 0")?;
+    let again = leaves(core, (2, 24), 0)?;
     assert!(rt; again.witnesses == report.witnesses);
     Ok(())
 }
 
 #[test]
 fn a_leading_deletion_mark_is_dropped(rt: HostRuntime) -> Result<(), Fail> {
-    let alloc = rt.alloc();
-    let mut core = Core::new(alloc, 2).ok().ok_or("a store")?;
-    assert!(rt; is_accepted(&mut core, alloc, (0, 0, 1), None)?);
-    assert!(rt; is_accepted(&mut core, alloc, (1, 0, 9), Some(b"y"))?);
-    certified_report(&mut core, 1, (0, 0), 1).ok_or("kept 0, dropped 1")?;
+    let mut core = Core::new(rt.alloc(), 2).ok().ok_or("a store")?;
+    drops_the_mark(&rt, rt.alloc(), &mut core)
+}
+
+fn drops_the_mark<R: Abort>(rt: &R, alloc: Global, core: &mut Core) -> Result<(), Fail> {
+    takes(core, alloc, (0, 0, 1), None)?;
+    takes(core, alloc, (1, 0, 9), Some(b"y"))?;
+    certified_report(core, 1, (0, 0), 1).ok_or("kept 0, dropped 1")?;
     assert_eq!(rt; core.rows(), 1);
     // The row above the floor is no part of the rows up to it, and all rows are those up to 9.0.
     let below = core.rows_to(stamp(8))?;
@@ -105,22 +163,19 @@ fn a_leading_deletion_mark_is_dropped(rt: HostRuntime) -> Result<(), Fail> {
 
 #[test]
 fn snapshots_hold_what_they_see(rt: HostRuntime) -> Result<(), Fail> {
-    let alloc = rt.alloc();
-    let mut core = three_versions(alloc, None, b"x")?;
-    assert_eq!(rt; core.open(stamp(1)), Ok(1));
-    assert_eq!(rt; core.open(stamp(2)), Ok(2));
-    let report = certified_report(&mut core, 3, (3, 35), 0).ok_or("kept 3, dropped 0")?;
-    let due = vec![in alloc;
-        witness(alloc, None, 1)?,
-        witness(alloc, Some(1), 2)?,
-        witness(alloc, Some(2), 3)?,
-    ]?;
-    assert!(rt; report.witnesses.as_slice() == due.as_slice());
-    assert_eq!(rt; core.close(2), Ok(stamp(2)));
-    certified_report(&mut core, 3, (1, 12), 2).ok_or("kept 1, dropped 2")?;
-    assert_eq!(rt; core.read(1, b"a"), Ok(Some(b"x".as_slice())));
-    let shown = vacuum_and_check(&mut core)?;
-    assert_eq!(rt; shown.map(|shown| shown.count()), Ok(1));
+    let mut core = three_versions(rt.alloc(), None, b"x")?;
+    hold_what_they_see(&rt, rt.alloc(), &mut core)
+}
+
+fn hold_what_they_see<R: Abort>(rt: &R, alloc: Global, core: &mut Core) -> Result<(), Fail> {
+    opens(rt, core, 1, 1);
+    opens(rt, core, 2, 2);
+    let report = leaves(core, (3, 35), 0)?;
+    has_changes(rt, alloc, &report, &[(None, 1), (Some(1), 2), (Some(2), 3)])?;
+    closes(rt, core, 2, 2);
+    leaves(core, (1, 12), 2)?;
+    reads(rt, core, 1, b"x");
+    least_rows(rt, core, 1)?;
     Ok(())
 }
 
@@ -128,8 +183,7 @@ fn snapshots_hold_what_they_see(rt: HostRuntime) -> Result<(), Fail> {
 fn a_store_without_rows(rt: HostRuntime) -> Result<(), Fail> {
     let mut core = Core::new(rt.alloc(), 3).ok().ok_or("a store")?;
     certified_report(&mut core, 0, (0, 0), 0).ok_or("kept 0, dropped 0")?;
-    let shown = vacuum_and_check(&mut core)?;
-    assert_eq!(rt; shown.map(|shown| shown.count()), Ok(0));
+    least_rows(&rt, &mut core, 0)?;
     Ok(())
 }
 
@@ -154,21 +208,42 @@ fn write_of(alloc: Global, number: u64, pair: &Pair) -> Result<Item, AllocError>
     item(alloc, (0, number, bits), pair.key.as_slice(), value)
 }
 
-#[test]
-fn the_longest_keys_and_values(rt: HostRuntime) -> Result<(), Fail> {
-    let alloc = rt.alloc();
-    let mut core = Core::new(alloc, 1).ok().ok_or("a store")?;
-    let pairs = [longest(alloc, b'a')?, longest(alloc, b'b')?];
-    for (number, pair) in [(0u64, &pairs[1]), (1, &pairs[0]), (2, &pairs[0])] {
-        assert!(rt; core.accept(write_of(alloc, number, pair)?).is_ok());
-    }
-    assert_eq!(rt; core.open(stamp(2)), Ok(1));
-    certified_report(&mut core, 3, (2, 131_600), 1).ok_or("kept 2, dropped 1")?;
+/// The store takes an item.
+fn takes_item(core: &mut Core, item: Item) -> Result<(), Fail> {
+    core.accept(item).ok().ok_or("an item")?;
+    Ok(())
+}
+
+/// The first snapshot lists these pairs, and reads the value of the first.
+fn shows<R: Abort>(rt: &R, core: &Core, pairs: &[Pair; 2]) -> Result<(), Fail> {
     let listing = core.list(1).ok().ok_or("a listing")?;
     assert!(rt; listing.as_slice() == pairs.as_slice());
     let value = core.read(1, pairs[0].key.as_slice());
     assert!(rt; value == Ok(Some(pairs[0].value.as_slice())));
     Ok(())
+}
+
+#[test]
+fn the_longest_keys_and_values(rt: HostRuntime) -> Result<(), Fail> {
+    let alloc = rt.alloc();
+    let first = longest(alloc, b'a')?;
+    let second = longest(alloc, b'b')?;
+    let mut core = Core::new(alloc, 1).ok().ok_or("a store")?;
+    are_kept_whole(&rt, alloc, &mut core, &[first, second])
+}
+
+fn are_kept_whole<R: Abort>(
+    rt: &R,
+    alloc: Global,
+    core: &mut Core,
+    pairs: &[Pair; 2],
+) -> Result<(), Fail> {
+    takes_item(core, write_of(alloc, 0, &pairs[1])?)?;
+    takes_item(core, write_of(alloc, 1, &pairs[0])?)?;
+    takes_item(core, write_of(alloc, 2, &pairs[0])?)?;
+    opens(rt, core, 2, 1);
+    leaves(core, (2, 131_600), 1)?;
+    shows(rt, core, pairs)
 }
 
 /// The write of version `turn / 2000` of key `turn % 2000`, whose value is half of that version.
@@ -185,18 +260,27 @@ fn turn_of(alloc: Global, turn: u64) -> Result<Item, AllocError> {
 /// is a change, and no other version is.
 #[test]
 fn twenty_thousand_rows(rt: HostRuntime) -> Result<(), Fail> {
-    let alloc = rt.alloc();
-    let mut core = Core::new(alloc, 1).ok().ok_or("a store")?;
-    for turn in 0..20_000 {
-        let item = turn_of(alloc, turn)?;
-        assert!(rt; core.accept(item).is_ok());
-        if turn % 312 == 311 {
-            assert!(rt; core.open_floor().is_ok());
-        }
-    }
+    let mut core = Core::new(rt.alloc(), 1).ok().ok_or("a store")?;
+    take_turns(&rt, rt.alloc(), &mut core)?;
     certified_report(&mut core, 20_000, (10_000, 130_000), 10_000).ok_or(
         "kept 10000, dropped 10000",
     )?;
     assert_eq!(rt; core.rows(), 10_000);
     Ok(())
+}
+
+/// The store takes 20,000 turns, and a snapshot opens after every 312 of them.
+fn take_turns<R: Abort>(rt: &R, alloc: Global, core: &mut Core) -> Result<(), Fail> {
+    for turn in 0..20_000 {
+        takes_item(core, turn_of(alloc, turn)?)?;
+        if turn % 312 == 311 {
+            opens_at_floor(rt, core);
+        }
+    }
+    Ok(())
+}
+
+/// A snapshot opens at the floor.
+fn opens_at_floor<R: Abort>(rt: &R, core: &mut Core) {
+    assert!(rt; core.open_floor().is_ok());
 }

@@ -2,11 +2,11 @@
 ghost use Rattle.std.specs.Prelude.{◌≡◌};
 ghost use Rattle.hlc_workers.specs.Paid.{IsPaid};
 
-use crate::makers::{at_second, bytes};
 use hlc_board::{Board, FloorPass};
 use hlc_core::{Bytes, CoreEvent, CoreReply};
+use hlc_link_tests::makers::{at_second, bytes};
 use hlc_server::{Caller, Receipt, Shared};
-use hlc_workers::{Gate, Reader, serve_reader};
+use hlc_workers::{Gate, Reader, WorkEnd, serve_reader};
 use std::alloc::Global;
 use std::process::Abort;
 use std::sync::Wait;
@@ -26,7 +26,7 @@ pub struct Flags {
 
 impl Flags {
     /// Nothing was asked for or answered yet.
-    pub fn new() -> Flags {
+    pub(crate) fn new() -> Flags {
         Flags {
             asked: AtomicBool::new(false),
             answered: AtomicBool::new(false),
@@ -35,7 +35,7 @@ impl Flags {
 }
 
 /// Looks until the flag is set. False where that was given up.
-pub fn was_set(flag: &AtomicBool) -> bool {
+pub(crate) fn was_set(flag: &AtomicBool) -> bool {
     for _ in 0..LOOKS {
         if flag.load(Ordering::SeqCst) {
             return true;
@@ -80,13 +80,42 @@ pub fn read_held<L: Ledger, R: Wait>(
     serve_reader(rt, alloc, shared, caller, board, pass, keys, 1, &gate)
 }
 
+/// So often the key `a`.
+pub(crate) fn keys_of(alloc: Global, count: u8) -> Result<Vec<Bytes>, Fail> {
+    let mut keys = Vec::new(alloc);
+    for _ in 0..count {
+        keys.push(bytes(alloc, b'a')?)?;
+    }
+    Ok(keys)
+}
+
+/// Looks whether a reply is this one.
+pub(crate) fn is_reply<R: Abort>(rt: &R, reply: &CoreReply, wanted: &CoreReply) {
+    assert_eq!(rt; *reply, *wanted);
+}
+
+/// Looks whether a round opened at 1.0, and closed.
+fn has_opened_and_closed<R: Abort>(rt: &R, open: &Receipt, close: &Receipt) {
+    assert_eq!(rt; open.event, CoreEvent::OpenAt(at_second(1)));
+    is_reply(rt, &close.reply, &CoreReply::Closed(at_second(1)));
+}
+
 /// Looks whether a round opened at 1.0, read x twice, and closed.
-pub fn has_read_twice<R: Abort>(rt: &R, alloc: Global, reads: &[Receipt]) -> Result<(), Fail> {
-    assert_eq!(rt; reads.len(), 4);
+fn has_read_twice<R: Abort>(rt: &R, alloc: Global, reads: &[Receipt]) -> Result<(), Fail> {
     let answer = CoreReply::Answer(Some(bytes(alloc, b'x')?));
-    assert_eq!(rt; reads[0].event, CoreEvent::OpenAt(at_second(1)));
-    assert_eq!(rt; reads[1].reply, answer);
-    assert_eq!(rt; reads[2].reply, answer);
-    assert_eq!(rt; reads[3].reply, CoreReply::Closed(at_second(1)));
+    assert_eq!(rt; reads.len(), 4);
+    has_opened_and_closed(rt, &reads[0], &reads[3]);
+    is_reply(rt, &reads[1].reply, &answer);
+    is_reply(rt, &reads[2].reply, &answer);
     Ok(())
+}
+
+/// Looks whether the reader did all of its work, and read x twice.
+pub(crate) fn has_read_all<L: Ledger, R: Abort>(
+    rt: &R,
+    alloc: Global,
+    read: &Reader<L>,
+) -> Result<(), Fail> {
+    assert_eq!(rt; read.end, WorkEnd::Done);
+    has_read_twice(rt, alloc, read.receipts.as_slice())
 }

@@ -1,9 +1,6 @@
-//! Tests of links, of the board and of the workers, by their public calls, and the small callers of their
-//! pages. There is nothing else here.
+//! Tests of the workers, by their public calls, and the small caller of their page. There is nothing else here.
 #![tactic(auto)]
 
-#[cfg(test)]
-mod boards;
 pub mod callers;
 #[cfg(test)]
 mod feeds;
@@ -13,10 +10,6 @@ mod gates;
 mod held;
 #[cfg(test)]
 mod joins;
-#[cfg(test)]
-mod links;
-#[cfg(test)]
-mod makers;
 #[cfg(test)]
 mod newcomers;
 #[cfg(test)]

@@ -1,8 +1,9 @@
 //! A node that joins a store.
-use crate::makers::bytes;
+use crate::scenes::Paid;
 use crate::sources::feed_all;
 use hlc_board::Board;
 use hlc_core::{CoreReply, Item};
+use hlc_link_tests::makers::bytes;
 use hlc_node::NodeCore;
 use hlc_server::{Caller, Receipt, Shared};
 use std::alloc::Global;
@@ -17,8 +18,16 @@ pub struct Newcomer<L: Ledger> {
     pub node: NodeCore,
 }
 
+/// The side of a node that joined, by what the store replied.
+fn side_of(reply: &CoreReply) -> Option<NodeCore> {
+    match reply {
+        CoreReply::Joined { node, start } => Some(NodeCore::new(*node, *start)),
+        _ => None,
+    }
+}
+
 /// Lets a node join, and makes its side of what the store replied.
-pub fn join_one<L: Ledger, R: Wait>(
+pub(crate) fn join_one<L: Ledger, R: Wait>(
     rt: &R,
     alloc: Global,
     shared: &Shared<L>,
@@ -26,10 +35,7 @@ pub fn join_one<L: Ledger, R: Wait>(
 ) -> Option<Newcomer<L>> {
     let (caller, told) = shared.join(rt, caller);
     let receipt = told.ok()?;
-    let CoreReply::Joined { node, start } = &receipt.reply else {
-        return None;
-    };
-    let node = NodeCore::new(*node, *start);
+    let node = side_of(&receipt.reply)?;
     let mut receipts = Vec::new(alloc);
     receipts.push(receipt).ok()?;
     Some(Newcomer {
@@ -39,9 +45,22 @@ pub fn join_one<L: Ledger, R: Wait>(
     })
 }
 
+/// Feeds items, and then the end, with no feeder. Gives the caller back, and the receipts.
+fn feed_without<L: Ledger, R: Wait>(
+    rt: &R,
+    alloc: Global,
+    shared: &Shared<L>,
+    caller: Caller<L>,
+    items: Vec<Item>,
+    board: &Board,
+) -> Option<Paid<L>> {
+    let fed = feed_all(rt, alloc, shared, caller, items, board, None)?;
+    Some((fed.caller, fed.receipts))
+}
+
 /// Feeds items of a node that joined, and then the end, with no feeder. Puts the receipts behind the
 /// others.
-pub fn feed_newcomer<L: Ledger, R: Wait>(
+pub(crate) fn feed_newcomer<L: Ledger, R: Wait>(
     rt: &R,
     alloc: Global,
     shared: &Shared<L>,
@@ -54,17 +73,17 @@ pub fn feed_newcomer<L: Ledger, R: Wait>(
         mut receipts,
         node,
     } = newcomer;
-    let mut fed = feed_all(rt, alloc, shared, caller, items, board, None)?;
-    receipts.append(&mut fed.receipts).ok()?;
+    let (caller, mut more) = feed_without(rt, alloc, shared, caller, items, board)?;
+    receipts.append(&mut more).ok()?;
     Some(Newcomer {
-        caller: fed.caller,
+        caller,
         receipts,
         node,
     })
 }
 
 /// Lets a node join, and feeds its writes of y and z in second 2 and its last item at 3.0.
-pub fn join_and_retire<L: Ledger, R: Wait>(
+pub(crate) fn join_and_retire<L: Ledger, R: Wait>(
     rt: &R,
     alloc: Global,
     shared: &Shared<L>,

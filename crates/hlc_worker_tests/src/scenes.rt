@@ -2,10 +2,10 @@
 ghost use Rattle.std.specs.Prelude.{◌≡◌, ◌<◌, IfOk, true};
 ghost use Rattle.hlc_workers.specs.Paid.{IsPaid};
 
-use crate::makers::{at_second, write};
 use crate::sources::feed_all;
 use hlc_board::{Board, Feeder, FloorPass};
-use hlc_server::{Caller, Receipt, Shared};
+use hlc_link_tests::makers::{at_second, write};
+use hlc_server::{Caller, Receipt, SettleFault, Shared};
 use hlc_workers::WorkEnd;
 use std::alloc::Global;
 use std::process::Abort;
@@ -65,4 +65,40 @@ pub fn feed_first<L: Ledger, R: Wait + Abort>(
     assert_eq!(rt; fed.end, WorkEnd::Done);
     assert_eq!(rt; fed.feeder.ok_or("a feeder")?.raised(), at_second(1));
     Ok((fed.caller, fed.receipts))
+}
+
+/// What a caller was told: the caller, and its receipts.
+pub type Paid<L> = (Caller<L>, Vec<Receipt>);
+
+/// Three callers, the first one first.
+pub(crate) fn three_callers<L: Ledger>(
+    callers: Vec<Caller<L>>,
+) -> Result<(Caller<L>, Caller<L>, Caller<L>), Fail> {
+    let mut callers = callers;
+    let third = callers.pop().ok_or("three callers")?;
+    let second = callers.pop().ok_or("three callers")?;
+    let first = callers.pop().ok_or("three callers")?;
+    Ok((first, second, third))
+}
+
+/// A list of three.
+pub(crate) fn three_lists<L: Ledger>(
+    alloc: Global,
+    first: Paid<L>,
+    second: Paid<L>,
+    third: Paid<L>,
+) -> Result<Vec<Paid<L>>, Fail> {
+    let mut lists = Vec::with_capacity(alloc, 3)?;
+    lists.push(first)?;
+    lists.push(second)?;
+    lists.push(third)?;
+    Ok(lists)
+}
+
+/// Settles, and says how many calls there were.
+pub(crate) fn settled_calls<L: Ledger>(
+    shared: Shared<L>,
+    lists: Vec<Paid<L>>,
+) -> Result<u64, SettleFault> {
+    shared.settle(lists).map(|settled| settled.entries)
 }

@@ -15,7 +15,7 @@ pub const REPLIES: &[u8] = b"nodes 1\nstamp 5.0 item 0\naccepted 5.0\nsnapshot 1
 pub const CERTIFICATE: &[u8] = b"point 1.0\nrow a 1.0 0 value x\nwitness a none 1.0\n";
 
 /// The words of a text.
-pub fn split(alloc: Global, text: &str) -> Result<Vec<String>, AllocError> {
+pub(crate) fn split(alloc: Global, text: &str) -> Result<Vec<String>, AllocError> {
     let mut words = Vec::new(alloc);
     for word in text.split_whitespace() {
         words.push(String::from_str(alloc, word)?)?;
@@ -25,7 +25,7 @@ pub fn split(alloc: Global, text: &str) -> Result<Vec<String>, AllocError> {
 
 /// Runs the program for the words of a text, or for words that could not be held, and gives its
 /// status with the reader and the writer.
-pub fn run<H: Threads + Wait + Sync + AllocGlobal, R: Read + Drop>(
+pub(crate) fn run<H: Threads + Wait + Sync + AllocGlobal, R: Read + Drop>(
     rt: &H,
     text: Option<&str>,
     reader: R,
@@ -41,7 +41,7 @@ pub fn run<H: Threads + Wait + Sync + AllocGlobal, R: Read + Drop>(
 }
 
 /// Runs the program for one word, over an input that is read and written without a failure.
-pub fn answer<H: Threads + Wait + Sync + AllocGlobal>(
+pub(crate) fn answer<H: Threads + Wait + Sync + AllocGlobal>(
     rt: &H,
     word: &str,
     input: &[u8],

@@ -86,7 +86,7 @@ fn reads_fail<H: Threads + Wait + Sync + AllocGlobal + Abort>(
 }
 
 /// Each write fails once, and what came before it was taken.
-pub fn writes_fail<H: Threads + Wait + Sync + AllocGlobal + Abort>(
+pub(crate) fn writes_fail<H: Threads + Wait + Sync + AllocGlobal + Abort>(
     rt: &H,
     case: Case,
     fault: Fault,
