@@ -1,9 +1,10 @@
 //! Receipts that are handed in otherwise than they were given.
 ghost use Rattle.std.specs.Prelude.{◌≡◌};
 
+use crate::clients::Client;
 use crate::makers::write;
 use hlc_core::{CoreEvent, CoreReply};
-use hlc_server::{Caller, NotDone, Receipt, SettleFault, Shared};
+use hlc_server::{Caller, Receipt, SettleFault, Shared};
 use std::alloc::{AllocError, Global};
 use std::marker::Brand;
 use std::sync::Wait;
@@ -48,35 +49,20 @@ fn both<L: Ledger>(callers: Vec<Caller<L>>) -> Result<(Caller<L>, Caller<L>), Fa
     Ok((first, second))
 }
 
-/// A caller with the receipt of a call that was made.
-fn made<L: Ledger>(
-    told: (Caller<L>, Result<Receipt, (NotDone, CoreEvent)>),
-) -> Result<(Caller<L>, Receipt), Fail> {
-    let (caller, told) = told;
-    match told {
-        Ok(receipt) => Ok((caller, receipt)),
-        Err(_) => Err("made")?,
-    }
-}
-
-/// Hands in the first write of the node.
-fn writes<L: Ledger, R: Wait>(
+/// The caller with the receipt of its one call, which asks for this.
+fn made<L: Ledger, R: Wait + Threads + Sync>(
     rt: &R,
     alloc: Global,
     shared: &Shared<L>,
     caller: Caller<L>,
+    event: CoreEvent,
 ) -> Result<(Caller<L>, Receipt), Fail> {
-    let item = write(alloc, 0, 0)?;
-    made(shared.accept(rt, caller, item))
-}
-
-/// Vacuums.
-fn vacuums<L: Ledger, R: Wait + Threads + Sync>(
-    rt: &R,
-    shared: &Shared<L>,
-    caller: Caller<L>,
-) -> Result<(Caller<L>, Receipt), Fail> {
-    made(shared.vacuum(rt, caller))
+    let Client {
+        caller,
+        mut receipts,
+    } = Client::new(alloc, caller).asks(rt, shared, event)?;
+    let receipt = receipts.pop().ok_or("a call that was made")?;
+    Ok((caller, receipt))
 }
 
 /// The two callers with what each hands in.
@@ -108,8 +94,9 @@ fn called<L: Ledger, R: Wait + Threads + Sync>(
     forged: Forged,
 ) -> Result<Vec<(Caller<L>, Vec<Receipt>)>, Fail> {
     let (first, second) = both(callers)?;
-    let (first, a) = writes(rt, alloc, shared, first)?;
-    let (second, b) = vacuums(rt, shared, second)?;
+    let item = write(alloc, 0, 0)?;
+    let (first, a) = made(rt, alloc, shared, first, CoreEvent::Accept(item))?;
+    let (second, b) = made(rt, alloc, shared, second, CoreEvent::Vacuum)?;
     let (ones, others) = handed_in(alloc, forged, a, b)?;
     Ok(lists(alloc, (first, ones), (second, others))?)
 }

@@ -4,6 +4,8 @@
 
 pub mod callers;
 #[cfg(test)]
+mod clients;
+#[cfg(test)]
 mod forged;
 #[cfg(test)]
 mod joins;
