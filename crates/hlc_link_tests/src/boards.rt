@@ -58,14 +58,16 @@ fn last_and_other(alloc: Global) -> Result<(Accepted, Accepted), Fail>
     Ok((last, other))
 }
 
-/// Raises a new board with an item of the first node and then one of the other, and looks at it before
-/// and after each.
-fn raise_one_and_then_the_other<R: Abort>(
+/// Raises a new board of two nodes with an item of the first and then with one of the other, and looks
+/// at it before and after each: the first item leaves this word, and the other one this floor.
+fn raise_both<R: Abort>(
     rt: &R,
     board: &Board,
     feeders: &mut [Feeder],
     pass: &mut FloorPass,
     items: (Accepted, Accepted),
+    word: Stamp,
+    floor: Stamp,
 )
     requires board { (board.now.words ≡ 2) × (pass.old.board ≡ board.now) }
     requires feeders { feeders.old ≡ posts board.now 2 }
@@ -75,37 +77,25 @@ fn raise_one_and_then_the_other<R: Abort>(
     shows(rt, board, pass, at_second(0));
     board.raise(&mut feeders[0], &items.0);
     shows(rt, board, pass, at_second(0));
-    tells(rt, board, pass, 0, at_second(5));
+    tells(rt, board, pass, 0, word);
     board.raise(&mut feeders[1], &items.1);
-    shows(rt, board, pass, at_second(3));
-}
-
-/// Raises a new board with the last item of the first node and then with one of the other, and looks at
-/// it after each.
-fn retire_one_and_raise_the_other<R: Abort>(
-    rt: &R,
-    board: &Board,
-    feeders: &mut [Feeder],
-    pass: &mut FloorPass,
-    items: (Accepted, Accepted),
-)
-    requires board { (board.now.words ≡ 2) × (pass.old.board ≡ board.now) }
-    requires feeders { feeders.old ≡ posts board.now 2 }
-    requires last { (items.0.node ≡ 0) × (0 < items.0.stamp) }
-    requires other { (items.1.node ≡ 1) × (0 < items.1.stamp) }
-{
-    board.raise(&mut feeders[0], &items.0);
-    tells(rt, board, pass, 0, Stamp::from_bits(u64::MAX));
-    shows(rt, board, pass, at_second(0));
-    board.raise(&mut feeders[1], &items.1);
-    shows(rt, board, pass, at_second(4));
+    shows(rt, board, pass, floor);
 }
 
 #[test]
 fn one_node_and_then_the_other(rt: HostRuntime) -> Result<(), Fail> {
     let items = two_accepted(&rt, rt.alloc())?;
     let (board, mut feeders, mut passes) = Board::new(rt.alloc(), 2, 1)?;
-    raise_one_and_then_the_other(&rt, &board, &mut feeders, &mut passes[0], items);
+    let (word, floor) = (at_second(5), at_second(3));
+    raise_both(
+        &rt,
+        &board,
+        &mut feeders,
+        &mut passes[0],
+        items,
+        word,
+        floor,
+    );
     Ok(())
 }
 
@@ -113,6 +103,15 @@ fn one_node_and_then_the_other(rt: HostRuntime) -> Result<(), Fail> {
 fn a_node_that_retired(rt: HostRuntime) -> Result<(), Fail> {
     let items = last_and_other(rt.alloc())?;
     let (board, mut feeders, mut passes) = Board::new(rt.alloc(), 2, 1)?;
-    retire_one_and_raise_the_other(&rt, &board, &mut feeders, &mut passes[0], items);
+    let (word, floor) = (Stamp::from_bits(u64::MAX), at_second(4));
+    raise_both(
+        &rt,
+        &board,
+        &mut feeders,
+        &mut passes[0],
+        items,
+        word,
+        floor,
+    );
     Ok(())
 }
