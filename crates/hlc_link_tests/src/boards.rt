@@ -82,36 +82,31 @@ fn raise_both<R: Abort>(
     shows(rt, board, pass, floor);
 }
 
+/// Does so with a board of its own.
+fn raise_new<R: Abort>(
+    rt: &R,
+    alloc: Global,
+    items: (Accepted, Accepted),
+    word: Stamp,
+    floor: Stamp,
+) -> Result<(), Fail>
+    requires first { (items.0.node ≡ 0) × (0 < items.0.stamp) }
+    requires other { (items.1.node ≡ 1) × (0 < items.1.stamp) }
+{
+    let (board, mut feeders, mut passes) = Board::new(alloc, 2, 1)?;
+    raise_both(rt, &board, &mut feeders, &mut passes[0], items, word, floor);
+    Ok(())
+}
+
 #[test]
 fn one_node_and_then_the_other(rt: HostRuntime) -> Result<(), Fail> {
     let items = two_accepted(&rt, rt.alloc())?;
-    let (board, mut feeders, mut passes) = Board::new(rt.alloc(), 2, 1)?;
-    let (word, floor) = (at_second(5), at_second(3));
-    raise_both(
-        &rt,
-        &board,
-        &mut feeders,
-        &mut passes[0],
-        items,
-        word,
-        floor,
-    );
-    Ok(())
+    raise_new(&rt, rt.alloc(), items, at_second(5), at_second(3))
 }
 
 #[test]
 fn a_node_that_retired(rt: HostRuntime) -> Result<(), Fail> {
     let items = last_and_other(rt.alloc())?;
-    let (board, mut feeders, mut passes) = Board::new(rt.alloc(), 2, 1)?;
-    let (word, floor) = (Stamp::from_bits(u64::MAX), at_second(4));
-    raise_both(
-        &rt,
-        &board,
-        &mut feeders,
-        &mut passes[0],
-        items,
-        word,
-        floor,
-    );
-    Ok(())
+    let word = Stamp::from_bits(u64::MAX);
+    raise_new(&rt, rt.alloc(), items, word, at_second(4))
 }
