@@ -1,9 +1,9 @@
 //! A link that is fed into a store.
 ghost use Rattle.std.specs.Prelude.{◌≡◌};
 
-use crate::held::is_reply;
-use crate::scenes::{Scene, new_scene};
-use crate::sources::full_link;
+use crate::rounds::is_reply;
+use crate::scenes::{Scene, Seats, new_scene};
+use crate::writers::full_link;
 use hlc_channel::LinkReceiver;
 use hlc_core::{CoreFault, CoreReply, Item, Stamp};
 use hlc_link_tests::makers::{at_second, report};
@@ -72,21 +72,29 @@ fn told_of<L: Ledger>(fed: Fed<L>) -> Result<Told, Fail> {
 fn fed_from<L: Ledger, G: Gate, R: Wait>(
     rt: &R,
     alloc: Global,
-    scene: Scene<L>,
+    scene: &Scene<L>,
+    seats: Seats<L>,
     link: LinkReceiver,
     gate: &G,
 ) -> Result<Told, Fail>
-    requires { scene.feeder.board ≡ scene.board }
+    requires { seats.feeder.board ≡ scene.now.board }
 {
-    let Scene {
-        shared,
+    let Seats {
         mut callers,
-        board,
         feeder,
         ..
-    } = scene;
+    } = seats;
     let caller = callers.pop().ok_or("a caller")?;
-    let fed = feed(rt, alloc, &shared, caller, link, &board, Some(feeder), gate);
+    let fed = feed(
+        rt,
+        alloc,
+        &scene.shared,
+        caller,
+        link,
+        &scene.board,
+        Some(feeder),
+        gate,
+    );
     told_of(fed)
 }
 
@@ -102,8 +110,8 @@ fn fed<L: Ledger, G: Gate, R: Wait>(
     requires { (blank.name ≡ L.name) × (blank.parts ≡ L.parts) × (blank.parts ≡ 1) }
 {
     let link = link_of(rt, alloc, numbers, ends)?;
-    let scene = new_scene::<L>(alloc, blank, 1, false)?;
-    fed_from(rt, alloc, scene, link, gate)
+    let (scene, seats) = new_scene::<L>(alloc, blank, 1, false)?;
+    fed_from(rt, alloc, &scene, seats, link, gate)
 }
 
 /// Looks whether the feeding ended so, with so many receipts, and left this.

@@ -1,41 +1,32 @@
-//! A reader that is held between two reads.
+//! A reader that is held between two reads, while another thread makes its calls.
 ghost use Rattle.std.specs.Prelude.{◌≡◌};
-ghost use Rattle.hlc_workers.specs.Paid.{IsPaid};
 
-use hlc_board::{Board, FloorPass};
+use crate::rounds::{Reading, is_reply, keys_of};
 use hlc_core::{Bytes, CoreEvent, CoreReply};
 use hlc_link_tests::makers::{at_second, bytes};
-use hlc_server::{Caller, Receipt, Shared};
-use hlc_workers::{Gate, Reader, WorkEnd, serve_reader};
+use hlc_server::Receipt;
+use hlc_workers::Gate;
 use std::alloc::Global;
 use std::process::Abort;
 use std::sync::Wait;
 use std::sync::atomic::{AtomicBool, Ordering};
 use std::sync::ledger::Ledger;
 use std::test::*;
+use std::thread;
+use std::thread::Threads;
 
 /// As many looks as are made before a wait is given up. Each is one load.
 const LOOKS: u64 = 4_000_000_000;
 
 /// Two flags: turn 2 was asked for; the calls of the other thread were answered.
 #[derive(Drop)]
-pub struct Flags {
-    pub asked: AtomicBool,
-    pub answered: AtomicBool,
-}
-
-impl Flags {
-    /// Nothing was asked for or answered yet.
-    pub(crate) fn new() -> Flags {
-        Flags {
-            asked: AtomicBool::new(false),
-            answered: AtomicBool::new(false),
-        }
-    }
+struct Flags {
+    asked: AtomicBool,
+    answered: AtomicBool,
 }
 
 /// Looks until the flag is set. False where that was given up.
-pub(crate) fn was_set(flag: &AtomicBool) -> bool {
+fn was_set(flag: &AtomicBool) -> bool {
     for _ in 0..LOOKS {
         if flag.load(Ordering::SeqCst) {
             return true;
@@ -63,35 +54,50 @@ impl<'a> Gate for HoldsTurnTwo<'a> {
 }
 
 /// One round of a reader over two keys, held between the two reads.
-pub fn read_held<L: Ledger, R: Wait>(
+fn read_held<'a, L: Ledger, R: Wait>(
     rt: &R,
     alloc: Global,
-    shared: &Shared<L>,
-    caller: Caller<L>,
-    board: &Board,
-    pass: FloorPass,
+    reading: Reading<'a, L>,
     keys: &[Bytes],
     flags: &Flags,
-) -> Reader<L>
-    requires { pass.board ≡ board.now }
-    ensures { IsPaid caller result.caller result.receipts.items }
+) -> Option<Reading<'a, L>> {
+    reading.reads(rt, alloc, keys, &HoldsTurnTwo { flags })
+}
+
+/// Makes the calls of the other thread once turn 2 was asked for, and lets it go on.
+fn call_between<T: Drop, F: FnOnce() -> Option<T>>(flags: &Flags, calls: F) -> Option<T>
+    requires { F.IsAlwaysCallable calls }
 {
-    let gate = HoldsTurnTwo { flags };
-    serve_reader(rt, alloc, shared, caller, board, pass, keys, 1, &gate)
-}
-
-/// So often the key `a`.
-pub(crate) fn keys_of(alloc: Global, count: u8) -> Result<Vec<Bytes>, Fail> {
-    let mut keys = Vec::new(alloc);
-    for _ in 0..count {
-        keys.push(bytes(alloc, b'a')?)?;
+    if !was_set(&flags.asked) {
+        return None;
     }
-    Ok(keys)
+    let made = calls();
+    flags.answered.store(true, Ordering::SeqCst);
+    made
 }
 
-/// Looks whether a reply is this one.
-pub(crate) fn is_reply<R: Abort>(rt: &R, reply: &CoreReply, wanted: &CoreReply) {
-    assert_eq!(rt; *reply, *wanted);
+/// A reader reads the key `a` twice, and between the two another thread makes these calls.
+pub(crate) fn read_beside<
+    'a,
+    L: Ledger + Send + Sync,
+    R: Threads + Wait + Sync,
+    T: Send + Drop,
+    F: FnOnce() -> Option<T> + Send,
+>(rt: &R, alloc: Global, reading: Reading<'a, L>, calls: F) -> Result<(Reading<'a, L>, T), Fail>
+    requires { F.IsAlwaysCallable calls }
+{
+    let keys = keys_of(alloc, 2)?;
+    let flags = Flags {
+        asked: AtomicBool::new(false),
+        answered: AtomicBool::new(false),
+    };
+    let (read, made) = thread::join(
+        rt,
+        || read_held(rt, alloc, reading, keys.as_slice(), &flags),
+        || call_between(&flags, calls),
+    );
+    let read = read.ok_or("two reads")?;
+    Ok((read, made.ok_or("the calls between them")?))
 }
 
 /// Looks whether a round opened at 1.0, and closed.
@@ -101,21 +107,15 @@ fn has_opened_and_closed<R: Abort>(rt: &R, open: &Receipt, close: &Receipt) {
 }
 
 /// Looks whether a round opened at 1.0, read x twice, and closed.
-fn has_read_twice<R: Abort>(rt: &R, alloc: Global, reads: &[Receipt]) -> Result<(), Fail> {
+pub(crate) fn has_read_twice<R: Abort>(
+    rt: &R,
+    alloc: Global,
+    reads: &[Receipt],
+) -> Result<(), Fail> {
     let answer = CoreReply::Answer(Some(bytes(alloc, b'x')?));
     assert_eq!(rt; reads.len(), 4);
     has_opened_and_closed(rt, &reads[0], &reads[3]);
     is_reply(rt, &reads[1].reply, &answer);
     is_reply(rt, &reads[2].reply, &answer);
     Ok(())
-}
-
-/// Looks whether the reader did all of its work, and read x twice.
-pub(crate) fn has_read_all<L: Ledger, R: Abort>(
-    rt: &R,
-    alloc: Global,
-    read: &Reader<L>,
-) -> Result<(), Fail> {
-    assert_eq!(rt; read.end, WorkEnd::Done);
-    has_read_twice(rt, alloc, read.receipts.as_slice())
 }

@@ -3,6 +3,8 @@
 
 pub mod callers;
 #[cfg(test)]
+mod clients;
+#[cfg(test)]
 mod feeds;
 #[cfg(test)]
 mod gates;
@@ -17,4 +19,4 @@ mod rounds;
 #[cfg(test)]
 mod scenes;
 #[cfg(test)]
-mod sources;
+mod writers;
