@@ -13,8 +13,8 @@ use Rattle.hlc_certificate.specs.declared.check_line.CheckLine.TheVariants.{Poin
 use Rattle.hlc_certificate.specs.declared.certificate.Certificate.{Certificate}
 use Rattle.hlc_text.specs.Lines.{lines_of}
 use Rattle.hlc_certificate.specs.CheckLine.{check_line, HasCheckLine, section_of, says_point, says_row, says_witness}
-use Rattle.hlc_certificate.specs.CheckLine.{all_said, AreLinesOf, IsFirstBad}
-use Rattle.hlc_certificate.specs.CheckLists.{Holds, AddsLine}
+use Rattle.hlc_certificate.specs.CheckLine.{all_said, AreLinesOf, IsFirstBadLine}
+use Rattle.hlc_certificate.specs.CheckLists.{HasLists, AddsLine}
 
 -- a line tells its section by its first byte
 abbrev section_at : List ℕ → ℕ
@@ -100,13 +100,13 @@ pub record Going (text rest : List ℕ) (number section : ℕ) (kept : Option Ce
   pub no_witnesses : section < 2 → witnesses ≡ []
   pub reached : (latest : ℕ) → NoneLater latest front → section ≤ latest
   pub count : number ≡ length front + 1
-  pub held : IfSome kept (λ certificate. Holds certificate points rows witnesses)
+  pub held : IfSome kept (λ certificate. HasLists certificate points rows witnesses)
   pub lost : kept ≡ None → 0 < length front
 
 some_not_none : (certificate : Certificate) → Some certificate ≡ None → ⊥
 some_not_none certificate same = cc
 
-pub going_first : (text : List ℕ) (certificate : Certificate) → Holds certificate [] [] []
+pub going_first : (text : List ℕ) (certificate : Certificate) → HasLists certificate [] [] []
     → Going text text 1 0 (Some certificate)
 going_first text certificate empty = record {
   points = [];
@@ -127,7 +127,7 @@ going_first text certificate empty = record {
 pub going_bad : (text rest after line : List ℕ) (number section : ℕ) (kept : Option Certificate)
     → Going text rest number section kept → lines_of rest ≡ line ∷ lines_of after
     → ((x : CheckLine) → HasCheckLine x × (section ≤ section_of x) → line ≢ check_line x)
-    → IsFirstBad (lines_of text) number
+    → IsFirstBadLine (lines_of text) number
 going_bad text rest after line number section kept going first none = record {
   front = going.front;
   line = line;
@@ -187,9 +187,9 @@ row_more points rows (w ∷ witnesses) r no_witnesses = absurd (omega (arith, ap
 
 -- the lists hold what is said, if there are lists
 held_point : (kept new : Option Certificate) (points : List ℕ) (rows : List ARow) (witnesses : List AWitness) (p : ℕ)
-    → IfSome kept (λ c. Holds c points rows witnesses)
+    → IfSome kept (λ c. HasLists c points rows witnesses)
     → IfSome new (λ c. IsSomeAnd kept (λ old. AddsLine old c (says_point p)))
-    → IfSome new (λ c. Holds c (points ++ p ∷ []) rows witnesses)
+    → IfSome new (λ c. HasLists c (points ++ p ∷ []) rows witnesses)
 held_point kept None points rows witnesses p held adds = tt
 held_point None (Some c) points rows witnesses p held adds = absurd adds
 held_point (Some old) (Some c) points rows witnesses p held adds =
@@ -201,9 +201,9 @@ held_point (Some old) (Some c) points rows witnesses p held adds =
     }
 
 held_row : (kept new : Option Certificate) (points : List ℕ) (rows : List ARow) (witnesses : List AWitness) (r : ARow)
-    → IfSome kept (λ c. Holds c points rows witnesses)
+    → IfSome kept (λ c. HasLists c points rows witnesses)
     → IfSome new (λ c. IsSomeAnd kept (λ old. AddsLine old c (says_row r)))
-    → IfSome new (λ c. Holds c points (rows ++ r ∷ []) witnesses)
+    → IfSome new (λ c. HasLists c points (rows ++ r ∷ []) witnesses)
 held_row kept None points rows witnesses r held adds = tt
 held_row None (Some c) points rows witnesses r held adds = absurd adds
 held_row (Some old) (Some c) points rows witnesses r held adds =
@@ -215,9 +215,9 @@ held_row (Some old) (Some c) points rows witnesses r held adds =
     }
 
 held_witness : (kept new : Option Certificate) (points : List ℕ) (rows : List ARow) (witnesses : List AWitness)
-    (w : AWitness) → IfSome kept (λ c. Holds c points rows witnesses)
+    (w : AWitness) → IfSome kept (λ c. HasLists c points rows witnesses)
     → IfSome new (λ c. IsSomeAnd kept (λ old. AddsLine old c (says_witness w)))
-    → IfSome new (λ c. Holds c points rows (witnesses ++ w ∷ []))
+    → IfSome new (λ c. HasLists c points rows (witnesses ++ w ∷ []))
 held_witness kept None points rows witnesses w held adds = tt
 held_witness None (Some c) points rows witnesses w held adds = absurd adds
 held_witness (Some old) (Some c) points rows witnesses w held adds =

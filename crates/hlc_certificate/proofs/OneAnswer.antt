@@ -20,7 +20,7 @@ use Rattle.hlc_certificate.specs.declared.check.CheckEnd.TheVariants.{WriteFault
 use Rattle.hlc_text.specs.declared.input.InputFault.TheVariants.{NoMemory as no_memory, ReadFault, TooLong}
 use Rattle.hlc_text.specs.Lines.{lines_of}
 use Rattle.hlc_certificate.specs.CheckLine.{check_line, HasCheckLine, says_point, says_row, says_witness, all_said}
-use Rattle.hlc_certificate.specs.CheckLine.{AreLinesOf, AreGood, IsFirstBad}
+use Rattle.hlc_certificate.specs.CheckLine.{AreLinesOf, AreGoodLines, IsFirstBadLine}
 use Rattle.hlc_certificate.specs.Check.{ShowsFewest, ShowsReason}
 use Rattle.hlc_certificate.specs.OneAnswer.{OneAnswer}
 use Rattle.hlc_certificate.proofs.OneCertificate.{one_certificate}
@@ -276,7 +276,7 @@ one_row_more r line front has one (some, others, are) = (
 )
 
 one_point_more : (p : ℕ) (line : List ℕ) (front : List (List ℕ)) → HasCheckLine (says_point p)
-    → line ≡ check_line (says_point p) → AreGood front → AreGood (line ∷ front)
+    → line ≡ check_line (says_point p) → AreGoodLines front → AreGoodLines (line ∷ front)
 one_point_more p line front has one (points, rows, witnesses, are) = (
   p ∷ points,
   rows,
@@ -309,7 +309,7 @@ good_rows (line ∷ front) back (r ∷ rows) witnesses are =
     one_row_more r line front are.0.0 one (good_rows front back rows witnesses (are.0.1, more))
 
 good_lines : (front back : List (List ℕ)) (points : List ℕ) (rows : List ARow) (witnesses : List AWitness)
-    → AreLinesOf points rows witnesses (front ++ back) → AreGood front
+    → AreLinesOf points rows witnesses (front ++ back) → AreGoodLines front
 good_lines front back [] rows witnesses are = let found = good_rows front back rows witnesses are in
     ([], found.0, found.1, found.2)
 good_lines [] back (p ∷ points) rows witnesses are = ([], [], [], (tt, refl))
@@ -320,16 +320,16 @@ good_lines (line ∷ front) back (p ∷ points) rows witnesses are =
 
 -- a line that is bad behind those before it is bad in all that begin so
 no_good : (front mid : List (List ℕ)) (line : List ℕ) (lines : List (List ℕ)) → lines ≡ front ++ line ∷ mid
-    → (AreGood (front ++ line ∷ []) → ⊥) → AreGood lines → ⊥
+    → (AreGoodLines (front ++ line ∷ []) → ⊥) → AreGoodLines lines → ⊥
 no_good front mid line lines is bad (points, rows, witnesses, are) =
     bad
     (good_lines (front ++ line ∷ []) mid points rows witnesses
     (subst (AreLinesOf points rows witnesses) (is ∙ sym (append_assoc front (line ∷ []) mid)) are))
 
-bad_not_good : (lines : List (List ℕ)) (number : ℕ) → IsFirstBad lines number → AreGood lines → ⊥
+bad_not_good : (lines : List (List ℕ)) (number : ℕ) → IsFirstBadLine lines number → AreGoodLines lines → ⊥
 bad_not_good lines number first good = no_good first.front first.back first.line lines first.order first.bad good
 
-bad_once : (lines : List (List ℕ)) (number other : ℕ) → IsFirstBad lines number → IsFirstBad lines other
+bad_once : (lines : List (List ℕ)) (number other : ℕ) → IsFirstBadLine lines number → IsFirstBadLine lines other
     → number ≡ other
 bad_once lines number other first also =
     elim (places first.front also.front first.line also.line first.back also.back (sym first.order ∙ also.order)) [
@@ -338,10 +338,10 @@ bad_once lines number other first also =
       | inr (inr behind) ↦ absurd (no_good also.front behind.0 also.line first.front behind.1 also.bad first.good)
     ]
 
-fewest_good : (lines : List (List ℕ)) (count bytes : ℕ) → ShowsFewest lines count bytes → AreGood lines
+fewest_good : (lines : List (List ℕ)) (count bytes : ℕ) → ShowsFewest lines count bytes → AreGoodLines lines
 fewest_good lines count bytes is = (is.points, is.rows, is.witnesses, is.lines_are)
 
-reason_good : (lines : List (List ℕ)) (reason : AReason) → ShowsReason lines reason → AreGood lines
+reason_good : (lines : List (List ℕ)) (reason : AReason) → ShowsReason lines reason → AreGoodLines lines
 reason_good lines reason is = (is.points, is.rows, is.witnesses, is.lines_are)
 
 pub one_answer : OneAnswer

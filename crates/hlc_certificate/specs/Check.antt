@@ -22,7 +22,7 @@ use Rattle.hlc_certificate.specs.declared.check.CheckEnd.TheVariants.{WriteFault
 use Rattle.hlc_text.specs.declared.input.InputFault.TheVariants.{ReadFault}
 use Rattle.hlc_text.specs.Input.{IsInput, MayFault, FaultTakes, fault_line}
 use Rattle.hlc_text.specs.Lines.{lines_of}
-use Rattle.hlc_certificate.specs.CheckLine.{AreLinesOf, AreGood, IsFirstBad}
+use Rattle.hlc_certificate.specs.CheckLine.{AreLinesOf, AreGoodLines, IsFirstBadLine}
 use Rattle.hlc_text.specs.Lines.{bad_line}
 
 -- the rows of a certificate are the fewest and the cheapest of all that answer as they do at its points
@@ -51,8 +51,8 @@ pub record ShowsReason (lines : List (List ℕ)) (reason : AReason) : Type 0 whe
 abbrev pub MayAnswer : List ℕ → CheckEnd → Type 0
 MayAnswer input (Fewest count bytes) = (length input ≤ INPUT_LIMIT) × ShowsFewest (lines_of input) count bytes
 MayAnswer input (NotShown reason) = (length input ≤ INPUT_LIMIT) × ShowsReason (lines_of input) reason
-MayAnswer input (BadLine number) = (length input ≤ INPUT_LIMIT) × IsFirstBad (lines_of input) number
-MayAnswer input NoMemory = (length input ≤ INPUT_LIMIT) × (0 < length (lines_of input)) × AreGood (lines_of input)
+MayAnswer input (BadLine number) = (length input ≤ INPUT_LIMIT) × IsFirstBadLine (lines_of input) number
+MayAnswer input NoMemory = (length input ≤ INPUT_LIMIT) × (0 < length (lines_of input)) × AreGoodLines (lines_of input)
 MayAnswer input (NotHeld fault) = MayFault input fault
 -- a failed write is no answer: it cuts that off
 MayAnswer input WriteFault = ⊥

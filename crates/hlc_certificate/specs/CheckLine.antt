@@ -76,16 +76,16 @@ AreLinesOf points rows witnesses lines =
     × (lines ≡ map check_line (all_said points rows witnesses))
 
 -- no line is bad
-abbrev pub AreGood : List (List ℕ) → Type 0
-AreGood lines = (points : List ℕ) × (rows : List ARow) × (witnesses : List AWitness)
+abbrev pub AreGoodLines : List (List ℕ) → Type 0
+AreGoodLines lines = (points : List ℕ) × (rows : List ARow) × (witnesses : List AWitness)
     × AreLinesOf points rows witnesses lines
 
 -- the line of this number is the first bad one: those before it are good, and with it they are not
-pub record IsFirstBad (lines : List (List ℕ)) (number : ℕ) : Type 0 where
+pub record IsFirstBadLine (lines : List (List ℕ)) (number : ℕ) : Type 0 where
   pub front : List (List ℕ)
   pub line : List ℕ
   pub back : List (List ℕ)
   pub order : lines ≡ front ++ line ∷ back
-  pub good : AreGood front
-  pub bad : AreGood (front ++ line ∷ []) → ⊥
+  pub good : AreGoodLines front
+  pub bad : AreGoodLines (front ++ line ∷ []) → ⊥
   pub count : number ≡ length front + 1

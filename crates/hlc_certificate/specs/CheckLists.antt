@@ -7,27 +7,27 @@ use Rattle.hlc_certificate.specs.declared.check_line.CheckLine.TheVariants.{Poin
 use Rattle.hlc_certificate.specs.declared.certificate.Certificate.{Certificate}
 use Rattle.hlc_certificate.specs.declared.certificate.NoCertificate.{NoCertificate}
 use Rattle.hlc_certificate.specs.declared.certificate.NoCertificate.TheVariants.{BadLine, NoMemory}
-use Rattle.hlc_certificate.specs.CheckLine.{AreGood, IsFirstBad}
+use Rattle.hlc_certificate.specs.CheckLine.{AreGoodLines, IsFirstBadLine}
 
 -- these are the lists
-pub record Holds (certificate : Certificate) (points : List ℕ) (rows : List ARow) (witnesses : List AWitness) : Type 0
-  where
-    pub points_are : certificate.points.items ≡ points
-    pub rows_are : certificate.rows.items ≡ rows
-    pub witnesses_are : certificate.witnesses.items ≡ witnesses
+pub record HasLists (certificate : Certificate) (points : List ℕ) (rows : List ARow) (witnesses : List AWitness)
+    : Type 0 where
+  pub points_are : certificate.points.items ≡ points
+  pub rows_are : certificate.rows.items ≡ rows
+  pub witnesses_are : certificate.witnesses.items ≡ witnesses
 
 -- the lists are the old ones, with what a line says at the end of one of them
 abbrev pub AddsLine : Certificate → Certificate → CheckLine → Type 0
-AddsLine old new (Point stamp) = Holds new (old.points.items ++ stamp ∷ []) old.rows.items old.witnesses.items
+AddsLine old new (Point stamp) = HasLists new (old.points.items ++ stamp ∷ []) old.rows.items old.witnesses.items
 AddsLine old new (Row key stamp node value) =
-    Holds new old.points.items
+    HasLists new old.points.items
     (old.rows.items ++ record { key = key; stamp = stamp; node = node; value = value } ∷ []) old.witnesses.items
 AddsLine old new (Witness key before at) =
-    Holds new old.points.items old.rows.items
+    HasLists new old.points.items old.rows.items
     (old.witnesses.items ++ record { key = key; before = before; at = at } ∷ [])
 
 -- why the lines give no lists: the line of this number is the first bad one; or there are lines, none of them bad,
 -- and there was no memory for what they say
 abbrev pub IsNoCertificate : List (List ℕ) → NoCertificate → Type 0
-IsNoCertificate lines (BadLine number) = IsFirstBad lines number
-IsNoCertificate lines NoMemory = (0 < length lines) × AreGood lines
+IsNoCertificate lines (BadLine number) = IsFirstBadLine lines number
+IsNoCertificate lines NoMemory = (0 < length lines) × AreGoodLines lines

@@ -4,7 +4,7 @@ ghost use Rattle.hlc_text.specs.declared.input.TheConstants.{INPUT_LIMIT};
 ghost use Rattle.hlc_text.specs.Text.{Reads};
 ghost use Rattle.hlc_text.specs.Lines.{lines_of};
 ghost use Rattle.hlc_certificate.specs.CheckLine.{check_line, HasCheckLine, section_of, AreLinesOf};
-ghost use Rattle.hlc_certificate.specs.CheckLists.{Holds, AddsLine, IsNoCertificate};
+ghost use Rattle.hlc_certificate.specs.CheckLists.{HasLists, AddsLine, IsNoCertificate};
 
 use crate::check_line::{CheckLine, read_check_line};
 use hlc_clock::Stamp;
@@ -34,7 +34,7 @@ pub(crate) enum NoCertificate {
 impl Certificate {
     /// No line says anything yet.
     fn new(alloc: Global) -> Certificate
-        ensures { Holds result [] [] [] }
+        ensures { HasLists result [] [] [] }
     {
         Certificate {
             points: Vec::new(alloc),

@@ -10,8 +10,8 @@ use Rattle.hlc_embed.specs.declared.stopped.Stopped.{Stopped}
 use Rattle.hlc_embed.specs.declared.stopped.Stopped.TheVariants.{NotIssued, Refused, NotShown}
 
 -- the store stands for some past
-abbrev pub Stands : Kept → Type 0
-Stands core = (past : List Step) × StandsFor core past
+abbrev pub IsStanding : Kept → Type 0
+IsStanding core = (past : List Step) × StandsFor core past
 
 -- the node issued no item, since it may issue none; or the store refused it, for the first reason or for want of memory
 abbrev pub IsStopped : Kept → List Step → Node → Body → ℕ → Stopped → Type 0

@@ -17,14 +17,14 @@ use Rattle.hlc_certificate.specs.CertificateText.{certificate_text}
 use Rattle.hlc_certificate.specs.ReadBack.{IsAnsweredFewest}
 
 -- a value, or that there is none, behind a space
-abbrev pub value_text : Option (List ℕ) → List ℕ
-value_text None = codes " none"
-value_text (Some value) = codes " value " ++ bytes_token value
+abbrev pub told_value : Option (List ℕ) → List ℕ
+told_value None = codes " none"
+told_value (Some value) = codes " value " ++ bytes_token value
 
 -- the line of a read: the key, the snapshot's stamp, and the answer there
 abbrev pub read_line : List ℕ → ℕ → Option (List ℕ) → List ℕ
 read_line key stamp value =
-    ((codes "read " ++ bytes_token key) ++ (codes " at " ++ stamp_text stamp)) ++ value_text value
+    ((codes "read " ++ bytes_token key) ++ (codes " at " ++ stamp_text stamp)) ++ told_value value
 
 -- the read of a key at a stamp, as all accepted writes answer it
 abbrev pub told_read : List Step → List ℕ → ℕ → List ℕ

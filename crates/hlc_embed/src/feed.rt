@@ -4,7 +4,7 @@ ghost use Rattle.std.specs.Prelude.{List, IfOk, Some};
 ghost use Rattle.hlc_node.specs.declared.item.Body.TheVariants.{Write as a_write, Report as a_report};
 ghost use Rattle.hlc_core.specs.Past.{Step};
 ghost use Rattle.hlc_core.specs.Kept.{StandsFor};
-ghost use Rattle.hlc_embed.specs.Fed.{Feeds, Stands};
+ghost use Rattle.hlc_embed.specs.Fed.{Feeds, IsStanding};
 
 use crate::stopped::Stopped;
 use hlc_core::{Bytes, Core, Stamp};
@@ -18,7 +18,7 @@ pub(crate) fn write(
     key: Bytes,
     value: Bytes,
 ) -> Result<Stamp, Stopped>
-    ensures keeps { Stands core.old → IfOk result (λ _. Stands core.new) }
+    ensures keeps { IsStanding core.old → IfOk result (λ _. IsStanding core.new) }
     ensures feeds { (past : List Step) → StandsFor core.old past
         → Feeds core.old core.new past node.old (a_write key (Some value)) reading result }
 {
@@ -30,7 +30,7 @@ pub(crate) fn write(
 
 /// Lets a node tell how far its stamps have come, and delivers the item.
 pub(crate) fn report(core: &mut Core, node: &mut NodeCore, reading: u64) -> Result<Stamp, Stopped>
-    ensures keeps { Stands core.old → IfOk result (λ _. Stands core.new) }
+    ensures keeps { IsStanding core.old → IfOk result (λ _. IsStanding core.new) }
     ensures feeds { (past : List Step) → StandsFor core.old past
         → Feeds core.old core.new past node.old a_report reading result }
 {

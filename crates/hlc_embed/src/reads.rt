@@ -4,7 +4,7 @@ ghost use Rattle.hlc_text.specs.Printing.{Prints};
 ghost use Rattle.hlc_text.specs.Text.{printed};
 ghost use Rattle.hlc_core.specs.Past.{Step, stamp_of};
 ghost use Rattle.hlc_core.specs.Kept.{StandsFor};
-ghost use Rattle.hlc_embed.specs.Told.{read_line, told_read, value_text};
+ghost use Rattle.hlc_embed.specs.Told.{read_line, told_read, told_value};
 
 use hlc_core::{Core, NoSnapshot, Stamp};
 use hlc_text::print::{put, put_named_bytes, put_named_stamp};
@@ -55,7 +55,7 @@ fn put_answer<W: Write>(
 /// Prints a value, or that there is none, behind a space.
 fn put_value<W: Write>(writer: &mut Watched<W>, waiting: &mut Waiting, value: Option<&[u8]>)
     ensures { Prints W.contents writer.old writer.new waiting.old waiting.new
-        (value_text (option_copied value.entry)) }
+        (told_value (option_copied value.entry)) }
 {
     match value {
         None => put(writer, waiting, b" none"),

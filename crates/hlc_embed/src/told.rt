@@ -1,6 +1,6 @@
 //! The whole way: two nodes write, the store is read in two snapshots, and a vacuum is certified.
 ghost use Rattle.std.specs.Prelude.{◌≡◌, IfOk};
-ghost use Rattle.hlc_embed.specs.Fed.{Stands};
+ghost use Rattle.hlc_embed.specs.Fed.{IsStanding};
 ghost use Rattle.hlc_embed.specs.Told.{Tells};
 
 use crate::feed::{report, write};
@@ -40,7 +40,7 @@ pub(crate) fn tell<W: Write>(alloc: Global, writer: &mut Watched<W>) -> Result<S
 /// Lets two nodes write what a city and its river are, and opens a snapshot on the way and one at the
 /// end.
 fn fill(alloc: Global, core: &mut Core) -> Result<(u64, u64), Stopped>
-    ensures { Stands core.old → IfOk result (λ _. Stands core.new) }
+    ensures { IsStanding core.old → IfOk result (λ _. IsStanding core.new) }
 {
     let start = Stamp::from_bits(0);
     let (mut west, mut east) = (NodeCore::new(0, start), NodeCore::new(1, start));
@@ -66,7 +66,7 @@ fn say(
     key: &[u8],
     value: &[u8],
 ) -> Result<Stamp, Stopped>
-    ensures { Stands core.old → IfOk result (λ _. Stands core.new) }
+    ensures { IsStanding core.old → IfOk result (λ _. IsStanding core.new) }
 {
     write(
         core,

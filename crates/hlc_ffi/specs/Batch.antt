@@ -6,7 +6,7 @@ use Rattle.hlc_node.specs.declared.item.Body.TheVariants.{Write}
 use Rattle.hlc_core.specs.Past.{Step, Took}
 use Rattle.hlc_core.specs.Kept.{Kept, StandsFor}
 use Rattle.hlc_ffi.specs.declared.batch.Entry.{Entry}
-use Rattle.hlc_ffi.specs.Answers.{IsAccepted}
+use Rattle.hlc_ffi.specs.Answers.{TellsAccepted}
 use Rattle.hlc_node.specs.Items.{an_item}
 
 -- so many bytes from this place on
@@ -35,7 +35,7 @@ is_within bytes entry =
 -- the item of the entry was accepted, or refused; or it is told that its bytes are not there
 abbrev pub IsEntered : Kept → Kept → Entry → List ℕ → List Step → ℕ → ℕ → Type 0
 IsEntered old new entry bytes past code told =
-    (is_within bytes entry ≡ true → IsAccepted old new (item_of bytes entry) past code told)
+    (is_within bytes entry ≡ true → TellsAccepted old new (item_of bytes entry) past code told)
     × (is_within bytes entry ≡ false → (code ≡ 103) × (told ≡ 0))
 
 -- the past after these items were accepted too, one after another

@@ -1,6 +1,6 @@
 -- What a handle holds before and after a call.
 use Rattle.std.specs.Prelude.{◌≡◌, ℕ, [], Option, Some, None, MatchOption, ⊤}
-use Rattle.hlc_core.specs.Kept.{Kept, StandsFor, nodes as nodes_in}
+use Rattle.hlc_core.specs.Kept.{Kept, StandsFor, nodes}
 use Rattle.hlc_core.specs.Calls.{new_refusal}
 use Rattle.hlc_ffi.specs.Told.{IsAnswered}
 
@@ -14,10 +14,10 @@ OnStore old new Closed Open =
 abbrev pub IsOpening : Option Kept → Option Kept → ℕ → ℕ → Type 0
 IsOpening (Some before) new count code = (code ≡ 101) × (new ≡ Some before)
 IsOpening None new count code =
-    MatchOption new (IsAnswered (new_refusal count) ⊤ ⊥ code 0) (λ core. (code ≡ 0) × (nodes_in core ≡ count)
+    MatchOption new (IsAnswered (new_refusal count) ⊤ ⊥ code 0) (λ core. (code ≡ 0) × (nodes core ≡ count)
     × (new_refusal count ≡ None) × StandsFor core [])
 
 -- how many nodes there were at the start, 0 where it is closed
-abbrev pub nodes : Option Kept → ℕ
-nodes None = 0
-nodes (Some kept) = nodes_in kept
+abbrev pub nodes_held : Option Kept → ℕ
+nodes_held None = 0
+nodes_held (Some kept) = nodes kept

@@ -33,17 +33,18 @@ node_word NumbersSpent = 0
 node_word (NoStamp fault) = clock_word fault
 
 -- the event took place with the stamp that is due, or was refused as is due
-abbrev pub IsStamped : Node → Node → Result ℕ NodeFault → ℕ → ℕ → Type 0
-IsStamped old new (Ok stamp) code told = (code ≡ 0) × (told ≡ stamp) × (new ≡ stamped old stamp)
-IsStamped old new (Err fault) code told = (code ≡ node_number fault) × (told ≡ node_word fault) × (new ≡ old)
+abbrev pub TellsStamped : Node → Node → Result ℕ NodeFault → ℕ → ℕ → Type 0
+TellsStamped old new (Ok stamp) code told = (code ≡ 0) × (told ≡ stamp) × (new ≡ stamped old stamp)
+TellsStamped old new (Err fault) code told = (code ≡ node_number fault) × (told ≡ node_word fault) × (new ≡ old)
 
 -- the item was issued with the stamp that is due, or refused as is due
-abbrev pub IsGiven : Node → Node → Body → Result ℕ NodeFault → ℕ → ℕ → ℕ → Type 0
-IsGiven old new body (Ok stamp) code number told =
+abbrev pub TellsGiven : Node → Node → Body → Result ℕ NodeFault → ℕ → ℕ → ℕ → Type 0
+TellsGiven old new body (Ok stamp) code number told =
     (code ≡ 0) × (number ≡ old.next) × (told ≡ stamp) × (new ≡ after_issue old body stamp)
-IsGiven old new body (Err fault) code number told =
+TellsGiven old new body (Err fault) code number told =
     (code ≡ node_number fault) × (number ≡ 0) × (told ≡ node_word fault) × (new ≡ old)
 
 -- the next item, which says this, was issued, and its number and its stamp are told; or it was refused
-abbrev pub IsIssued : Node → Node → Body → ℕ → ℕ → ℕ → ℕ → Type 0
-IsIssued old new body reading code number told = IsGiven old new body (issue_due old body reading) code number told
+abbrev pub TellsIssued : Node → Node → Body → ℕ → ℕ → ℕ → ℕ → Type 0
+TellsIssued old new body reading code number told =
+    TellsGiven old new body (issue_due old body reading) code number told

@@ -5,8 +5,8 @@ ghost use Rattle.hlc_node.specs.declared.item.Body.TheVariants.{Retire as a_reti
 ghost use Rattle.hlc_node.specs.Items.{an_item};
 ghost use Rattle.hlc_core.specs.Past.{Step};
 ghost use Rattle.hlc_core.specs.Kept.{StandsFor};
-ghost use Rattle.hlc_ffi.specs.Answers.{IsAccepted, IsChecked, IsJoined};
-ghost use Rattle.hlc_ffi.specs.Held.{OnStore, nodes};
+ghost use Rattle.hlc_ffi.specs.Answers.{TellsAccepted, TellsChecked, TellsJoined};
+ghost use Rattle.hlc_ffi.specs.Held.{OnStore, nodes_held};
 
 use crate::held::on_core;
 use crate::items::write_fault;
@@ -30,10 +30,10 @@ pub extern "C" fn hlc_accept_write(
 ) -> u32
     ensures answer { OnStore store.old.room.value store.new.room.value
         ((result ≡ 100) × (word.new ≡ 0)) (λ old new. (past : List Step) → StandsFor old past
-        → IsAccepted old new (an_item node number stamp (a_write key.now (Some value.now)))
+        → TellsAccepted old new (an_item node number stamp (a_write key.now (Some value.now)))
         past result word.new) }
     ensures same { result ≢ 0 → store.new.room.value ≡ store.old.room.value }
-    ensures nodes { nodes store.new.room.value ≡ nodes store.old.room.value }
+    ensures nodes { nodes_held store.new.room.value ≡ nodes_held store.old.room.value }
 {
     *word = 0;
     let mut call = |core: &mut Core| {
@@ -56,10 +56,10 @@ pub extern "C" fn hlc_accept_delete(
 ) -> u32
     ensures answer { OnStore store.old.room.value store.new.room.value
         ((result ≡ 100) × (word.new ≡ 0)) (λ old new. (past : List Step) → StandsFor old past
-        → IsAccepted old new (an_item node number stamp (a_write key.now None))
+        → TellsAccepted old new (an_item node number stamp (a_write key.now None))
         past result word.new) }
     ensures same { result ≢ 0 → store.new.room.value ≡ store.old.room.value }
-    ensures nodes { nodes store.new.room.value ≡ nodes store.old.room.value }
+    ensures nodes { nodes_held store.new.room.value ≡ nodes_held store.old.room.value }
 {
     *word = 0;
     let mut call = |core: &mut Core| {
@@ -81,10 +81,10 @@ pub extern "C" fn hlc_accept_report(
 ) -> u32
     ensures answer { OnStore store.old.room.value store.new.room.value
         ((result ≡ 100) × (word.new ≡ 0)) (λ old new. (past : List Step) → StandsFor old past
-        → IsAccepted old new (an_item node number stamp a_report)
+        → TellsAccepted old new (an_item node number stamp a_report)
         past result word.new) }
     ensures same { result ≢ 0 → store.new.room.value ≡ store.old.room.value }
-    ensures nodes { nodes store.new.room.value ≡ nodes store.old.room.value }
+    ensures nodes { nodes_held store.new.room.value ≡ nodes_held store.old.room.value }
 {
     *word = 0;
     let mut call = |core: &mut Core| told::accept(core, node, number, stamp, Body::Report, word);
@@ -104,10 +104,10 @@ pub extern "C" fn hlc_accept_retire(
 ) -> u32
     ensures answer { OnStore store.old.room.value store.new.room.value
         ((result ≡ 100) × (word.new ≡ 0)) (λ old new. (past : List Step) → StandsFor old past
-        → IsAccepted old new (an_item node number stamp a_retire)
+        → TellsAccepted old new (an_item node number stamp a_retire)
         past result word.new) }
     ensures same { result ≢ 0 → store.new.room.value ≡ store.old.room.value }
-    ensures nodes { nodes store.new.room.value ≡ nodes store.old.room.value }
+    ensures nodes { nodes_held store.new.room.value ≡ nodes_held store.old.room.value }
 {
     *word = 0;
     let mut call = |core: &mut Core| told::accept(core, node, number, stamp, Body::Retire, word);
@@ -128,7 +128,7 @@ pub extern "C" fn hlc_check_write(
 ) -> u32
     ensures answer { OnStore store.old.room.value store.new.room.value
         ((result ≡ 100) × (word.new ≡ 0)) (λ old new. (past : List Step) → StandsFor old past
-        → IsChecked old (an_item node number stamp (a_write key.now (Some value.now)))
+        → TellsChecked old (an_item node number stamp (a_write key.now (Some value.now)))
         past result word.new) }
     ensures same { store.new.room.value ≡ store.old.room.value }
 {
@@ -151,7 +151,7 @@ pub extern "C" fn hlc_check_delete(
 ) -> u32
     ensures answer { OnStore store.old.room.value store.new.room.value
         ((result ≡ 100) × (word.new ≡ 0)) (λ old new. (past : List Step) → StandsFor old past
-        → IsChecked old (an_item node number stamp (a_write key.now None))
+        → TellsChecked old (an_item node number stamp (a_write key.now None))
         past result word.new) }
     ensures same { store.new.room.value ≡ store.old.room.value }
 {
@@ -174,10 +174,10 @@ pub extern "C" fn hlc_check_report(
 ) -> u32
     ensures answer { OnStore store.old.room.value store.new.room.value
         ((result ≡ 100) × (word.new ≡ 0)) (λ old new. (past : List Step) → StandsFor old past
-        → IsChecked old (an_item node number stamp a_report) past result word.new) }
+        → TellsChecked old (an_item node number stamp a_report) past result word.new) }
     ensures retire { OnStore store.old.room.value store.new.room.value
         ((result ≡ 100) × (word.new ≡ 0)) (λ old new. (past : List Step) → StandsFor old past
-        → IsChecked old (an_item node number stamp a_retire) past result word.new) }
+        → TellsChecked old (an_item node number stamp a_retire) past result word.new) }
     ensures same { store.new.room.value ≡ store.old.room.value }
 {
     *word = 0;
@@ -191,10 +191,10 @@ pub extern "C" fn hlc_join(alloc: Global, store: &mut Store, node: &mut u16, sta
     ensures answer { OnStore store.old.room.value store.new.room.value
         ((result ≡ 100) × (node.new ≡ 0) × (start.new ≡ 0))
         (λ old new. (past : List Step) → StandsFor old past
-        → IsJoined old new past result node.new start.new) }
+        → TellsJoined old new past result node.new start.new) }
     ensures nothing { result ≢ 0 → (node.new ≡ 0) × (start.new ≡ 0) }
     ensures same { result ≢ 0 → store.new.room.value ≡ store.old.room.value }
-    ensures nodes { nodes store.new.room.value ≡ nodes store.old.room.value }
+    ensures nodes { nodes_held store.new.room.value ≡ nodes_held store.old.room.value }
 {
     *node = 0;
     *start = 0;

@@ -1,9 +1,9 @@
 //! Several items at once, for callers whose calls are dear.
 ghost use Rattle.std.specs.Prelude.{◌≡◌, ◌≢◌, List, true, false, MatchOption, option_copied};
 ghost use Rattle.hlc_core.specs.Past.{Step};
-ghost use Rattle.hlc_core.specs.Kept.{nodes as nodes_in, StandsFor};
+ghost use Rattle.hlc_core.specs.Kept.{nodes, StandsFor};
 ghost use Rattle.hlc_ffi.specs.Batch.{piece, lies, value_of, is_within, IsEntered, AreEntered};
-ghost use Rattle.hlc_ffi.specs.Held.{OnStore, nodes};
+ghost use Rattle.hlc_ffi.specs.Held.{OnStore, nodes_held};
 
 use crate::held::on_core;
 use crate::items;
@@ -58,7 +58,7 @@ fn enter(alloc: Global, core: &mut Core, entry: &Entry, bytes: &[u8], told: &mut
     ensures answer { (past : List Step) → StandsFor core.old past
         → IsEntered core.old core.new entry.now bytes.now past result told.new }
     ensures same { result ≢ 0 → core.new ≡ core.old }
-    ensures nodes { nodes_in core.new ≡ nodes_in core.old }
+    ensures nodes { nodes core.new ≡ nodes core.old }
 {
     let Some((key, value)) = parts_of(entry, bytes) else {
         *told = 0;
@@ -89,7 +89,7 @@ pub fn enter_all(
 ) -> u32
     ensures answer { (past : List Step) → StandsFor core.old past
         → AreEntered core.new entries.now bytes.now past result many.new told.new }
-    ensures nodes { nodes_in core.new ≡ nodes_in core.old }
+    ensures nodes { nodes core.new ≡ nodes core.old }
 {
     let mut index = 0;
     while index < entries.len() {
@@ -120,7 +120,7 @@ pub extern "C" fn hlc_accept_all(
         ((result ≡ 100) × (many.new ≡ 0) × (word.new ≡ 0)) (λ old new. (past : List Step)
         → StandsFor old past
         → AreEntered new entries.now bytes.now past result many.new word.new) }
-    ensures nodes { nodes store.new.room.value ≡ nodes store.old.room.value }
+    ensures nodes { nodes_held store.new.room.value ≡ nodes_held store.old.room.value }
 {
     *many = 0;
     *word = 0;

@@ -6,7 +6,7 @@ ghost use Rattle.hlc_node.specs.Items.{an_item, body_refusal};
 ghost use Rattle.hlc_core.specs.Past.{Step};
 ghost use Rattle.hlc_core.specs.Kept.{nodes, StandsFor};
 ghost use Rattle.hlc_core.specs.Calls.{Checks};
-ghost use Rattle.hlc_ffi.specs.Answers.{IsAccepted, IsChecked};
+ghost use Rattle.hlc_ffi.specs.Answers.{TellsAccepted, TellsChecked};
 
 use crate::told;
 use hlc_core::{Body, BodyFault, Bytes, Core, CoreFault, Item, Stamp};
@@ -61,7 +61,7 @@ pub fn check(
 ) -> u32
     ensures { (body : ABody) → body_refusal body ≡ bad → (past : List Step)
         → StandsFor core.now past
-        → IsChecked core.now (an_item node number stamp body) past result told.new }
+        → TellsChecked core.now (an_item node number stamp body) past result told.new }
 {
     match fault_of(core, node, number, stamp, bad) {
         Ok(()) => {
@@ -122,7 +122,7 @@ pub fn write(
     value: Option<&[u8]>,
     told: &mut u64,
 ) -> u32
-    ensures answer { (past : List Step) → StandsFor core.old past → IsAccepted core.old core.new
+    ensures answer { (past : List Step) → StandsFor core.old past → TellsAccepted core.old core.new
         (an_item node number stamp (a_write key.now (option_copied value.entry)))
         past result told.new }
     ensures same { result ≢ 0 → core.new ≡ core.old }

@@ -4,7 +4,7 @@ ghost use Rattle.hlc_node.specs.Node.{event_due, issue_after, after_issue, stamp
 ghost use Rattle.hlc_node.specs.declared.item.Body.TheVariants.{Write as a_write, Report as a_report};
 ghost use Rattle.hlc_node.specs.declared.item.Body.TheVariants.{Retire as a_retire};
 ghost use Rattle.hlc_ffi.specs.Nodes.{clock_number, clock_word, node_number, node_word};
-ghost use Rattle.hlc_ffi.specs.Nodes.{IsStamped, IsIssued};
+ghost use Rattle.hlc_ffi.specs.Nodes.{TellsStamped, TellsIssued};
 
 use crate::items::write_fault;
 use crate::told;
@@ -103,7 +103,7 @@ pub extern "C" fn hlc_node_write(
     number: &mut u64,
     word: &mut u64,
 ) -> u32
-    ensures { IsIssued node.old node.new (a_write key.now (Some value.now)) reading
+    ensures { TellsIssued node.old node.new (a_write key.now (Some value.now)) reading
         result number.new word.new }
 {
     let bad = write_fault(key, Some(value));
@@ -119,7 +119,7 @@ pub extern "C" fn hlc_node_delete(
     number: &mut u64,
     word: &mut u64,
 ) -> u32
-    ensures { IsIssued node.old node.new (a_write key.now None) reading
+    ensures { TellsIssued node.old node.new (a_write key.now None) reading
         result number.new word.new }
 {
     let bad = write_fault(key, None);
@@ -135,7 +135,7 @@ pub extern "C" fn hlc_node_report(
     number: &mut u64,
     word: &mut u64,
 ) -> u32
-    ensures { IsIssued node.old node.new a_report reading result number.new word.new }
+    ensures { TellsIssued node.old node.new a_report reading result number.new word.new }
 {
     tell(node.report(reading), number, word)
 }
@@ -148,7 +148,7 @@ pub extern "C" fn hlc_node_retire(
     number: &mut u64,
     word: &mut u64,
 ) -> u32
-    ensures { IsIssued node.old node.new a_retire reading result number.new word.new }
+    ensures { TellsIssued node.old node.new a_retire reading result number.new word.new }
 {
     tell(node.retire(reading), number, word)
 }
@@ -156,7 +156,7 @@ pub extern "C" fn hlc_node_retire(
 /// Sends a message: 0 and its stamp, or a refusal and its word.
 #[unsafe(no_mangle)]
 pub extern "C" fn hlc_node_send(node: &mut NodeCore, reading: u64, word: &mut u64) -> u32
-    ensures { IsStamped node.old node.new (event_due node.old (node.old.last ∷ []) reading)
+    ensures { TellsStamped node.old node.new (event_due node.old (node.old.last ∷ []) reading)
         result word.new }
 {
     let given = match node.send(reading) {
@@ -175,7 +175,7 @@ pub extern "C" fn hlc_node_receive(
     reading: u64,
     word: &mut u64,
 ) -> u32
-    ensures { IsStamped node.old node.new (event_due node.old (node.old.last ∷ seen ∷ []) reading)
+    ensures { TellsStamped node.old node.new (event_due node.old (node.old.last ∷ seen ∷ []) reading)
         result word.new }
 {
     tell_stamp(node.observe(Stamp::from_bits(seen), reading), word)

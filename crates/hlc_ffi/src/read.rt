@@ -1,10 +1,10 @@
 //! The calls by which a store is read.
 ghost use Rattle.std.specs.Prelude.{◌≡◌, ◌≢◌, List, length};
 ghost use Rattle.hlc_core.specs.Past.{Step, floor, stamp_of, writes};
-ghost use Rattle.hlc_core.specs.Kept.{StandsFor, nodes as nodes_in};
-ghost use Rattle.hlc_ffi.specs.Answers.{IsOpened, IsOpenedAtFloor, IsClosed, IsRead, narrowed};
+ghost use Rattle.hlc_core.specs.Kept.{StandsFor, nodes};
+ghost use Rattle.hlc_ffi.specs.Answers.{TellsOpened, TellsOpenedAtFloor, TellsClosed, TellsRead, narrowed};
 ghost use Rattle.hlc_ffi.specs.Listing.{IsListedTo};
-ghost use Rattle.hlc_ffi.specs.Held.{OnStore, nodes};
+ghost use Rattle.hlc_ffi.specs.Held.{OnStore, nodes_held};
 
 use crate::held::on_core;
 use crate::list::list;
@@ -23,9 +23,9 @@ pub extern "C" fn hlc_open_snapshot(
 ) -> u32
     ensures answer { OnStore store.old.room.value store.new.room.value
         ((result ≡ 100) × (id.new ≡ 0)) (λ old new. (past : List Step) → StandsFor old past
-        → IsOpened old new stamp past result id.new) }
+        → TellsOpened old new stamp past result id.new) }
     ensures same { result ≢ 0 → store.new.room.value ≡ store.old.room.value }
-    ensures nodes { nodes store.new.room.value ≡ nodes store.old.room.value }
+    ensures nodes { nodes_held store.new.room.value ≡ nodes_held store.old.room.value }
 {
     *id = 0;
     let mut call = |core: &mut Core| told::open(core, Stamp::from_bits(stamp), id);
@@ -43,10 +43,10 @@ pub extern "C" fn hlc_open_snapshot_at_floor(
     ensures answer { OnStore store.old.room.value store.new.room.value
         ((result ≡ 100) × (id.new ≡ 0) × (stamp.new ≡ 0))
         (λ old new. (past : List Step) → StandsFor old past
-        → IsOpenedAtFloor old new past result id.new stamp.new) }
+        → TellsOpenedAtFloor old new past result id.new stamp.new) }
     ensures nothing { result ≢ 0 → stamp.new ≡ 0 }
     ensures same { result ≢ 0 → store.new.room.value ≡ store.old.room.value }
-    ensures nodes { nodes store.new.room.value ≡ nodes store.old.room.value }
+    ensures nodes { nodes_held store.new.room.value ≡ nodes_held store.old.room.value }
 {
     *id = 0;
     *stamp = 0;
@@ -67,7 +67,7 @@ pub extern "C" fn hlc_read(
 ) -> u32
     ensures answer { OnStore store.old.room.value store.new.room.value
         ((result ≡ 100) × (len.new ≡ 0) × (out.new ≡ out.old))
-        (λ old new. (past : List Step) → StandsFor old past → IsRead
+        (λ old new. (past : List Step) → StandsFor old past → TellsRead
         (stamp_of id past) (writes past) key.now result len.new out.old out.new) }
     ensures same { store.new.room.value ≡ store.old.room.value }
 {
@@ -86,9 +86,9 @@ pub extern "C" fn hlc_close_snapshot(
 ) -> u32
     ensures answer { OnStore store.old.room.value store.new.room.value
         ((result ≡ 100) × (stamp.new ≡ 0)) (λ old new. (past : List Step) → StandsFor old past
-        → IsClosed new id past result stamp.new) }
+        → TellsClosed new id past result stamp.new) }
     ensures same { result ≢ 0 → store.new.room.value ≡ store.old.room.value }
-    ensures nodes { nodes store.new.room.value ≡ nodes store.old.room.value }
+    ensures nodes { nodes_held store.new.room.value ≡ nodes_held store.old.room.value }
 {
     *stamp = 0;
     let mut call = |core: &mut Core| told::close(core, id, stamp);
@@ -100,7 +100,7 @@ pub extern "C" fn hlc_close_snapshot(
 pub extern "C" fn hlc_floor(alloc: Global, store: &mut Store, stamp: &mut u64) -> u32
     ensures answer { OnStore store.old.room.value store.new.room.value
         ((result ≡ 100) × (stamp.new ≡ 0)) (λ old new. (past : List Step) → StandsFor old past
-        → (result ≡ 0) × (stamp.new ≡ floor (nodes_in old) past)) }
+        → (result ≡ 0) × (stamp.new ≡ floor (nodes old) past)) }
     ensures same { store.new.room.value ≡ store.old.room.value }
 {
     *stamp = 0;

@@ -4,8 +4,8 @@ ghost use Rattle.hlc_node.specs.Items.{an_item};
 ghost use Rattle.hlc_core.specs.Past.{Step, Took, item_refusal, stamp_of, writes};
 ghost use Rattle.hlc_core.specs.Kept.{nodes, StandsFor};
 ghost use Rattle.hlc_core.specs.Calls.{IsWrite, IsRefusal};
-ghost use Rattle.hlc_ffi.specs.Answers.{IsAccepted, IsJoined, IsOpened, IsOpenedAtFloor, IsClosed};
-ghost use Rattle.hlc_ffi.specs.Answers.{IsCopied, IsRead, IsVacuumed, narrowed};
+ghost use Rattle.hlc_ffi.specs.Answers.{TellsAccepted, TellsJoined, TellsOpened, TellsOpenedAtFloor, TellsClosed};
+ghost use Rattle.hlc_ffi.specs.Answers.{IsCopied, TellsRead, TellsVacuumed, narrowed};
 ghost use Rattle.hlc_ffi.specs.Told.{number, body_number, word};
 
 use hlc_core::{Body, BodyFault, Core, CoreFault, Item, Stamp};
@@ -120,7 +120,7 @@ pub fn accept(
     body: Body,
     told: &mut u64,
 ) -> u32
-    ensures answer { (past : List Step) → StandsFor core.old past → IsAccepted core.old core.new
+    ensures answer { (past : List Step) → StandsFor core.old past → TellsAccepted core.old core.new
         (an_item node number stamp body) past result told.new }
     ensures same { result ≢ 0 → core.new ≡ core.old }
     ensures nodes { nodes core.new ≡ nodes core.old }
@@ -138,7 +138,7 @@ pub fn accept(
 #[tactic(auto, using(crate::proofs::Refusals::refused_tells, crate::proofs::Refusals::made_tells))]
 pub fn join(core: &mut Core, node: &mut u16, start: &mut u64) -> u32
     ensures answer { (past : List Step) → StandsFor core.old past
-        → IsJoined core.old core.new past result node.new start.new }
+        → TellsJoined core.old core.new past result node.new start.new }
     ensures same { result ≢ 0 → (core.new ≡ core.old) × (node.new ≡ 0) × (start.new ≡ 0) }
     ensures nodes { nodes core.new ≡ nodes core.old }
 {
@@ -161,7 +161,7 @@ pub fn join(core: &mut Core, node: &mut u16, start: &mut u64) -> u32
 #[tactic(auto, using(crate::proofs::Refusals::refused_tells, crate::proofs::Refusals::made_tells))]
 pub fn open(core: &mut Core, stamp: Stamp, told: &mut u64) -> u32
     ensures answer { (past : List Step) → StandsFor core.old past
-        → IsOpened core.old core.new stamp past result told.new }
+        → TellsOpened core.old core.new stamp past result told.new }
     ensures same { result ≢ 0 → core.new ≡ core.old }
     ensures nodes { nodes core.new ≡ nodes core.old }
 {
@@ -172,7 +172,7 @@ pub fn open(core: &mut Core, stamp: Stamp, told: &mut u64) -> u32
 #[tactic(auto, using(crate::proofs::Refusals::refused_tells, crate::proofs::Refusals::made_tells))]
 pub fn open_floor(core: &mut Core, told: &mut u64, stamp: &mut u64) -> u32
     ensures answer { (past : List Step) → StandsFor core.old past
-        → IsOpenedAtFloor core.old core.new past result told.new stamp.new }
+        → TellsOpenedAtFloor core.old core.new past result told.new stamp.new }
     ensures same { result ≢ 0 → (core.new ≡ core.old) × (stamp.new ≡ 0) }
     ensures nodes { nodes core.new ≡ nodes core.old }
 {
@@ -193,7 +193,7 @@ pub fn open_floor(core: &mut Core, told: &mut u64, stamp: &mut u64) -> u32
 /// Closes a snapshot: 0 and its stamp, or 10.
 pub fn close(core: &mut Core, id: u64, told: &mut u64) -> u32
     ensures answer { (past : List Step) → StandsFor core.old past
-        → IsClosed core.new id past result told.new }
+        → TellsClosed core.new id past result told.new }
     ensures same { result ≢ 0 → core.new ≡ core.old }
     ensures nodes { nodes core.new ≡ nodes core.old }
 {
@@ -224,7 +224,7 @@ pub fn fill(value: &[u8], out: &mut [u8], len: &mut usize)
 /// Reads a key: 0 with the value, 102 where there is none, or 10.
 pub fn read(core: &Core, id: u64, key: &[u8], out: &mut [u8], len: &mut usize) -> u32
     ensures { (past : List Step) → StandsFor core.now past
-        → IsRead (stamp_of id past) (writes past) key.now result len.new out.old out.new }
+        → TellsRead (stamp_of id past) (writes past) key.now result len.new out.old out.new }
 {
     *len = 0;
     match core.read(id, key) {
@@ -264,7 +264,7 @@ pub fn vacuum(
     dropped: &mut u64,
 ) -> u32
     ensures vacuumed { result ≡ 0 → (past : List Step) → StandsFor core.old past
-        → IsVacuumed core.old core.new past floor.new kept.new bytes.new dropped.new }
+        → TellsVacuumed core.old core.new past floor.new kept.new bytes.new dropped.new }
     ensures due { result ≢ 0 → (result ≡ 15) × (core.new ≡ core.old) }
     ensures nothing { result ≢ 0
         → (floor.new ≡ 0) × (kept.new ≡ 0) × (bytes.new ≡ 0) × (dropped.new ≡ 0) }

@@ -2,9 +2,9 @@
 ghost use Rattle.std.specs.Prelude.{◌≡◌, ◌≢◌, List};
 ghost use Rattle.hlc_core.specs.Past.{Step};
 ghost use Rattle.hlc_core.specs.Kept.{StandsFor};
-ghost use Rattle.hlc_ffi.specs.Answers.{IsVacuumed};
+ghost use Rattle.hlc_ffi.specs.Answers.{TellsVacuumed};
 ghost use Rattle.hlc_ffi.specs.Certified.{IsCertified, IsHalf};
-ghost use Rattle.hlc_ffi.specs.Held.{OnStore, nodes};
+ghost use Rattle.hlc_ffi.specs.Held.{OnStore, nodes_held};
 
 use crate::certify::certify;
 use crate::held::on_core;
@@ -26,13 +26,13 @@ pub extern "C" fn hlc_vacuum(
 ) -> u32
     ensures answer { OnStore store.old.room.value store.new.room.value
         (result ≡ 100) (λ old new. result ≡ 0 → (past : List Step) → StandsFor old past
-        → IsVacuumed old new past floor.new kept.new bytes.new dropped.new) }
+        → TellsVacuumed old new past floor.new kept.new bytes.new dropped.new) }
     ensures lack { OnStore store.old.room.value store.new.room.value (result ≡ 100)
         (λ old new. result ≢ 0 → result ≡ 15) }
     ensures nothing { result ≢ 0
         → (floor.new ≡ 0) × (kept.new ≡ 0) × (bytes.new ≡ 0) × (dropped.new ≡ 0) }
     ensures same { result ≢ 0 → store.new.room.value ≡ store.old.room.value }
-    ensures nodes { nodes store.new.room.value ≡ nodes store.old.room.value }
+    ensures nodes { nodes_held store.new.room.value ≡ nodes_held store.old.room.value }
 {
     *floor = 0;
     *kept = 0;
@@ -59,7 +59,7 @@ pub extern "C" fn hlc_vacuum_certified(
         (λ old new. result ≢ 0 → (result ≡ 15) × ((past : List Step) → StandsFor old past
         → IsHalf old new past)) }
     ensures nothing { result ≢ 0 → (len.new ≡ 0) × (out.new ≡ out.old) }
-    ensures nodes { nodes store.new.room.value ≡ nodes store.old.room.value }
+    ensures nodes { nodes_held store.new.room.value ≡ nodes_held store.old.room.value }
 {
     *len = 0;
     let mut call = |core: &mut Core| certify(alloc, core, out, len);

@@ -6,7 +6,7 @@ ghost use Rattle.hlc_script.specs.Line.{event_words, event_line, HasLine, BearsB
 use hlc_text::bytes::{Spelled, bytes};
 use hlc_text::number;
 use hlc_text::stamp::stamp;
-use hlc_text::words::Words;
+use hlc_text::words::LineWords;
 use hlc_world::{Bytes, Event};
 use std::alloc::{AllocError, Global};
 
@@ -15,7 +15,7 @@ use std::alloc::{AllocError, Global};
 pub fn read_line(line: &[u8]) -> Option<Event<Spelled<'_>>>
     ensures { Reads event_line HasLine line.now result }
 {
-    let mut words = Words::of(line);
+    let mut words = LineWords::of(line);
     event_of_words(&mut words)
 }
 
@@ -71,7 +71,7 @@ pub fn owned_event(alloc: Global, event: Event<Spelled<'_>>) -> Result<Event, Al
 }
 
 /// The event of the words.
-fn event_of_words<'a>(words: &mut Words<'a>) -> Option<Event<Spelled<'a>>>
+fn event_of_words<'a>(words: &mut LineWords<'a>) -> Option<Event<Spelled<'a>>>
     ensures { Reads event_words HasLine words.old result }
 {
     let verb = words.next()?;
@@ -151,7 +151,7 @@ fn event_of_words<'a>(words: &mut Words<'a>) -> Option<Event<Spelled<'a>>>
 }
 
 /// The event of the words behind `open`.
-fn opening<'a>(words: &mut Words<'a>) -> Option<Event<Spelled<'a>>>
+fn opening<'a>(words: &mut LineWords<'a>) -> Option<Event<Spelled<'a>>>
     ensures { Reads event_words HasLine (codes "open" ∷ words.old) result }
 {
     let word = words.last()?;
@@ -165,7 +165,7 @@ fn opening<'a>(words: &mut Words<'a>) -> Option<Event<Spelled<'a>>>
 // The shapes of what stands behind a verb.
 
 /// Nothing.
-fn no_more(words: &mut Words<'_>) -> Option<()>
+fn no_more(words: &mut LineWords<'_>) -> Option<()>
     ensures { MatchOption result (words.old ≢ []) (λ _. words.old ≡ []) }
 {
     match words.next() {
@@ -175,14 +175,14 @@ fn no_more(words: &mut Words<'_>) -> Option<()>
 }
 
 /// A number.
-fn one_number(words: &mut Words<'_>) -> Option<u64>
+fn one_number(words: &mut LineWords<'_>) -> Option<u64>
     ensures { Reads (λ x. decimal x ∷ []) (λ x. x < 2 ^ 64) words.old result }
 {
     number::number(words.last()?)
 }
 
 /// A node and a number.
-fn node_number(words: &mut Words<'_>) -> Option<(u16, u64)>
+fn node_number(words: &mut LineWords<'_>) -> Option<(u16, u64)>
     ensures { MatchOption result
         ((m n : ℕ) → m < 2 ^ 16 → n < 2 ^ 64 → words.old ≢ decimal m ∷ decimal n ∷ [])
         (λ x. (x.0 < 2 ^ 16) × (x.1 < 2 ^ 64) × (words.old ≡ decimal x.0 ∷ decimal x.1 ∷ [])) }
@@ -195,7 +195,7 @@ fn node_number(words: &mut Words<'_>) -> Option<(u16, u64)>
 }
 
 /// A node and two numbers.
-fn node_two_numbers(words: &mut Words<'_>) -> Option<(u16, u64, u64)>
+fn node_two_numbers(words: &mut LineWords<'_>) -> Option<(u16, u64, u64)>
     ensures { MatchOption result
         ((m n k : ℕ) → m < 2 ^ 16 → n < 2 ^ 64 → k < 2 ^ 64
         → words.old ≢ decimal m ∷ decimal n ∷ decimal k ∷ [])
@@ -212,7 +212,7 @@ fn node_two_numbers(words: &mut Words<'_>) -> Option<(u16, u64, u64)>
 }
 
 /// A node, a number and a key.
-fn node_number_key<'a>(words: &mut Words<'a>) -> Option<(u16, u64, Spelled<'a>)>
+fn node_number_key<'a>(words: &mut LineWords<'a>) -> Option<(u16, u64, Spelled<'a>)>
     ensures { MatchOption result
         ((m n : ℕ) (key : List ℕ) → m < 2 ^ 16 → n < 2 ^ 64 → AreBytes key
         → words.old ≢ decimal m ∷ decimal n ∷ bytes_token key ∷ [])
@@ -229,7 +229,7 @@ fn node_number_key<'a>(words: &mut Words<'a>) -> Option<(u16, u64, Spelled<'a>)>
 }
 
 /// A node, a number, a key and a value.
-fn node_number_pair<'a>(words: &mut Words<'a>) -> Option<(u16, u64, Spelled<'a>, Spelled<'a>)>
+fn node_number_pair<'a>(words: &mut LineWords<'a>) -> Option<(u16, u64, Spelled<'a>, Spelled<'a>)>
     ensures { MatchOption result
         ((m n : ℕ) (key value : List ℕ) → m < 2 ^ 16 → n < 2 ^ 64 → AreBytes key → AreBytes value
         → words.old ≢ decimal m ∷ decimal n ∷ bytes_token key ∷ bytes_token value ∷ [])
@@ -248,7 +248,7 @@ fn node_number_pair<'a>(words: &mut Words<'a>) -> Option<(u16, u64, Spelled<'a>,
 }
 
 /// A number and a key.
-fn number_key<'a>(words: &mut Words<'a>) -> Option<(u64, Spelled<'a>)>
+fn number_key<'a>(words: &mut LineWords<'a>) -> Option<(u64, Spelled<'a>)>
     ensures { MatchOption result
         ((n : ℕ) (key : List ℕ) → n < 2 ^ 64 → AreBytes key
         → words.old ≢ decimal n ∷ bytes_token key ∷ [])

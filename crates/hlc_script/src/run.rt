@@ -21,7 +21,7 @@ use hlc_text::number;
 use hlc_text::print::{finish, put, put_named_number};
 use hlc_text::waiting::Waiting;
 use hlc_text::watched::Watched;
-use hlc_text::words::Words;
+use hlc_text::words::LineWords;
 use hlc_values::Exact;
 use hlc_world::{Event, Refusal, Reply, World};
 use std::alloc::Global;
@@ -158,11 +158,11 @@ fn split_header(input: &[u8]) -> Option<(u16, &[u8])>
 fn read_header(line: &[u8]) -> Option<u16>
     ensures { Reads header_line HasHeader line.now result }
 {
-    let mut words = Words::of(line);
+    let mut words = LineWords::of(line);
     header_of_words(&mut words)
 }
 
-fn header_of_words(words: &mut Words<'_>) -> Option<u16>
+fn header_of_words(words: &mut LineWords<'_>) -> Option<u16>
     ensures { Reads header_words HasHeader words.old result }
 {
     let verb = words.next()?;

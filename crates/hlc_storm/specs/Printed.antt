@@ -22,15 +22,15 @@ accepted_lines node [] = []
 accepted_lines node (count ∷ counts) = accepted_line node count ∷ accepted_lines (node + 1) counts
 
 -- a key that has a value at the floor, with that value
-abbrev pub pair_line : Pair → List ℕ
-pair_line pair = bytes_token pair.key ++ (codes " " ++ bytes_token pair.value)
+abbrev pub storm_pair_line : Pair → List ℕ
+storm_pair_line pair = bytes_token pair.key ++ (codes " " ++ bytes_token pair.value)
 
 -- what is printed of a storm that settled
 abbrev pub report_text : StormReport → List ℕ
 report_text report =
     flat_map printed (accepted_lines 0 report.accepted.items)
     ++ (printed (codes "floor " ++ stamp_text report.floor)
-    ++ (flat_map printed (map pair_line report.pairs)
+    ++ (flat_map printed (map storm_pair_line report.pairs)
     ++ (printed (codes "kept " ++ decimal report.kept) ++ printed (codes "history legal"))))
 
 -- the refusal of a worker that was not done
@@ -40,16 +40,16 @@ work_line (Spent NoGrowth) = codes "refused 15"
 work_line _ = codes "refused 23"
 
 -- the refusal of a storm that did not settle
-abbrev pub fault_line : StormFault → List ℕ
-fault_line (Work end) = work_line end
-fault_line (Settle NoTrail) = codes "refused 24"
-fault_line (Settle (ReceiptMismatch index)) = codes "refused 21 index " ++ decimal index
-fault_line NoMemory = codes "refused 15"
+abbrev pub storm_fault_line : StormFault → List ℕ
+storm_fault_line (Work end) = work_line end
+storm_fault_line (Settle NoTrail) = codes "refused 24"
+storm_fault_line (Settle (ReceiptMismatch index)) = codes "refused 21 index " ++ decimal index
+storm_fault_line NoMemory = codes "refused 15"
 
 -- all that is printed of a storm
 abbrev pub storm_text : Result StormReport StormFault → List ℕ
 storm_text (Ok report) = report_text report
-storm_text (Err fault) = printed (fault_line fault)
+storm_text (Err fault) = printed (storm_fault_line fault)
 
 -- the exit status: 3 where the writer failed, else 0 of a storm that settled, and 2 of one that did not
 abbrev pub storm_status : Bool → Result StormReport StormFault → ℕ

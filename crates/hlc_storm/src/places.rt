@@ -24,7 +24,7 @@ pub(crate) struct Feeding<'a, L: Ledger> {
 
 /// The places of a node's two threads: its number and the end of its link for the writer, and the feeder's.
 #[derive(Drop)]
-pub(crate) struct Node<'a, L: Ledger> {
+pub(crate) struct NodePlace<'a, L: Ledger> {
     pub(crate) number: u16,
     pub(crate) link: LinkSender,
     pub(crate) feeding: Feeding<'a, L>,
@@ -46,7 +46,7 @@ pub(crate) fn node_places<'a, L: Ledger, R: Wait>(
     board: &'a Board,
     feeders: Vec<Feeder>,
     callers: &mut Vec<Caller<L>>,
-) -> Result<Vec<Node<'a, L>>, AllocError>
+) -> Result<Vec<NodePlace<'a, L>>, AllocError>
     requires { FeedersOf board.now feeders.items }
     ensures left { IfOk result
         (λ places. length callers.old.items ≡ length callers.new.items + length places.items) }
@@ -65,7 +65,7 @@ pub(crate) fn node_places<'a, L: Ledger, R: Wait>(
         };
         let (sender, receiver) = link(rt, alloc, CAPACITY)?;
         let number = feeder.node();
-        places.push(Node {
+        places.push(NodePlace {
             number,
             link: sender,
             feeding: Feeding {

@@ -4,7 +4,8 @@ ghost use Rattle.std.specs.List.{flat_map};
 ghost use Rattle.hlc_text.specs.Text.{printed};
 ghost use Rattle.hlc_text.specs.Watched.{has_failed};
 ghost use Rattle.hlc_text.specs.Printing.{Prints, Writes};
-ghost use Rattle.hlc_storm.specs.Printed.{accepted_line, accepted_lines, pair_line, report_text, work_line, fault_line};
+ghost use Rattle.hlc_storm.specs.Printed.{accepted_line, accepted_lines, storm_pair_line};
+ghost use Rattle.hlc_storm.specs.Printed.{report_text, work_line, storm_fault_line};
 ghost use Rattle.hlc_storm.specs.Printed.{storm_text, storm_status};
 
 use crate::report::{StormFault, StormReport};
@@ -94,7 +95,7 @@ fn put_count<W: Write>(writer: &mut Watched<W>, waiting: &mut Waiting, node: u64
 /// Prints the keys with their values.
 fn put_pairs<W: Write>(writer: &mut Watched<W>, waiting: &mut Waiting, pairs: &[Pair])
     ensures { Prints W.contents writer.old writer.new waiting.old waiting.new
-        (flat_map printed (map pair_line pairs.now)) }
+        (flat_map printed (map storm_pair_line pairs.now)) }
 {
     for pair in pairs {
         put_pair(writer, waiting, pair);
@@ -103,7 +104,7 @@ fn put_pairs<W: Write>(writer: &mut Watched<W>, waiting: &mut Waiting, pairs: &[
 
 fn put_pair<W: Write>(writer: &mut Watched<W>, waiting: &mut Waiting, pair: &Pair)
     ensures { Prints W.contents writer.old writer.new waiting.old waiting.new
-        (printed (pair_line pair.now)) }
+        (printed (storm_pair_line pair.now)) }
 {
     put_bytes(writer, waiting, pair.key.as_slice());
     put_named_bytes(writer, waiting, b" ", pair.value.as_slice());
@@ -112,7 +113,7 @@ fn put_pair<W: Write>(writer: &mut Watched<W>, waiting: &mut Waiting, pair: &Pai
 
 /// Prints the text of a refusal.
 fn put_fault<W: Write>(writer: &mut Watched<W>, waiting: &mut Waiting, fault: StormFault)
-    ensures { Prints W.contents writer.old writer.new waiting.old waiting.new (fault_line fault) }
+    ensures { Prints W.contents writer.old writer.new waiting.old waiting.new (storm_fault_line fault) }
 {
     match fault {
         StormFault::Work(end) => put_end(writer, waiting, end),

@@ -3,7 +3,7 @@ ghost use Rattle.std.specs.Prelude.{◌≡◌, ◌+◌, IfOk, length};
 ghost use Rattle.hlc_storm.specs.Found.{MayTell};
 
 use crate::found::report_of;
-use crate::places::{Looking, Node, node_places, reader_places};
+use crate::places::{Looking, NodePlace, node_places, reader_places};
 use crate::report::{StormFault, StormGates, StormReport};
 use crate::working::{Lists, Started, feed_link, join_all, read_keys, vacuum_rows};
 use crate::writing::{all_keys, write_all};
@@ -145,7 +145,7 @@ fn run_all<
     shared: &Shared<L>,
     caller: Caller<L>,
     looking: Vec<Looking<'a, L>>,
-    nodes: Vec<Node<'a, L>>,
+    nodes: Vec<NodePlace<'a, L>>,
     keys: &[Bytes],
     plan: StormPlan,
     gates: &StormGates<F, D, V>,
@@ -177,7 +177,7 @@ fn run_all<
                     .ok();
                 lacks_memory = readers.push(reader).is_err() || lacks_memory;
             }
-            for Node {
+            for NodePlace {
                 number,
                 link,
                 feeding,
