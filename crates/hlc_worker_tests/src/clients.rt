@@ -1,5 +1,5 @@
 //! Those who call in a scene.
-ghost use Rattle.std.specs.Prelude.{◌≡◌, IfOk, IfSome};
+ghost use Rattle.std.specs.Prelude.{◌≡◌, IfSome};
 
 use crate::rounds::Reading;
 use crate::scenes::{Paid, Scene, Seats};

@@ -1,6 +1,4 @@
 //! A reader that is held between two reads, while another thread makes its calls.
-ghost use Rattle.std.specs.Prelude.{◌≡◌};
-
 use crate::rounds::{Reading, is_reply, keys_of};
 use hlc_core::{Bytes, CoreEvent, CoreReply};
 use hlc_link_tests::makers::{at_second, bytes};
