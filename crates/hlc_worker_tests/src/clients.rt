@@ -49,14 +49,14 @@ fn new_client<'a, L: Ledger>(alloc: Global, scene: &'a Scene<L>, caller: Caller<
     }
 }
 
-/// The next of the others.
+/// The next of the others, in the order of the callers.
 pub(crate) fn next_of<'a, L: Ledger>(
     others: &mut Vec<Client<'a, L>>,
 ) -> Result<Client<'a, L>, Fail> {
     Ok(others.pop().ok_or("one more caller")?)
 }
 
-/// Gives the seats of a scene to those who call there.
+/// Gives the seats of a scene to those who call there: the first caller writes, and the second reads.
 pub(crate) fn take_seats<'a, L: Ledger>(
     alloc: Global,
     scene: &'a Scene<L>,
@@ -70,8 +70,9 @@ pub(crate) fn take_seats<'a, L: Ledger>(
         feeder,
         pass,
     } = seats;
-    let reader = new_client(alloc, scene, callers.pop().ok_or("a reader")?);
+    callers.reverse();
     let writer = new_client(alloc, scene, callers.pop().ok_or("a writer")?);
+    let reader = new_client(alloc, scene, callers.pop().ok_or("a reader")?);
     let others = new_clients(alloc, scene, callers)?;
     Ok(Cast {
         writer: Writer::new(writer, Some(feeder)),
@@ -112,7 +113,7 @@ pub(crate) fn put<'a, L: Ledger>(
     Ok(lists.push((caller, receipts))?)
 }
 
-/// The lists of three clients.
+/// The lists of three clients, in the order of their callers.
 pub(crate) fn three_lists<'a, L: Ledger>(
     alloc: Global,
     first: Client<'a, L>,

@@ -188,7 +188,7 @@ fn call_by_three<'a, L: Ledger, R: Wait + Abort>(
     let reading = read_as_due(rt, alloc, reading, 4, round(2, false, 2, b'y'))?;
     let writer = feed_last(rt, alloc, writer)?;
     let reading = read_as_due(rt, alloc, reading, 7, round(3, true, 5, b'y'))?;
-    three_lists(alloc, writer.client, newcomer.client, reading.client)
+    three_lists(alloc, writer.client, reading.client, newcomer.client)
 }
 
 /// A round of this number, behind a refusal or not, in which this value is read at this second.
