@@ -83,7 +83,8 @@ impl Model for FloorPass {
 
     ghost view = { λ pass. sight pass.seat.table_id pass.seat.me.0.seen pass.seat.me.0.looks };
 
-    ghost invariant = { λ pass. (pass.seat.me ≡ (pass_place pass.seat.me.0.seen pass.seat.me.0.looks, []))
+    ghost invariant = { λ pass.
+        (pass.seat.me ≡ (pass_place pass.seat.me.0.seen pass.seat.me.0.looks, []))
         × (length pass.seat.me.0.seen ≡ pass.seat.table_id.words)
         × (length pass.seat.me.0.looks ≡ pass.seat.table_id.words) };
 }

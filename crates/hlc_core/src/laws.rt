@@ -52,7 +52,8 @@ pub fn floor_is_the_least_head()
 /// The floor never falls: not by an item that is accepted, be it a node's last or not, nor by a node
 /// that joins. No other step moves it.
 pub fn the_floor_never_falls()
-    ensures took { (nodes : ℕ) (past : List Step) (item : AnItem) → item_refusal nodes past item ≡ None
+    ensures took { (nodes : ℕ) (past : List Step) (item : AnItem)
+        → item_refusal nodes past item ≡ None
         → floor nodes past ≤ floor nodes (Took item ∷ past) }
     ensures joined { (nodes : ℕ) (past : List Step) (node start : ℕ)
         → IsLegal nodes (Joined node start ∷ past)

@@ -175,8 +175,8 @@ pub extern "C" fn hlc_node_receive(
     reading: u64,
     word: &mut u64,
 ) -> u32
-    ensures { TellsStamped node.old node.new (event_due node.old (node.old.last ∷ seen ∷ []) reading)
-        result word.new }
+    ensures { TellsStamped node.old node.new
+        (event_due node.old (node.old.last ∷ seen ∷ []) reading) result word.new }
 {
     tell_stamp(node.observe(Stamp::from_bits(seen), reading), word)
 }

@@ -40,7 +40,8 @@ impl<L: Ledger> Model for Guarded<L> {
 
     ghost Value = { Lock };
 
-    ghost view = { λ guarded. record { core = guarded.core; trail = entries_of guarded.trail; calls = guarded.calls } };
+    ghost view = { λ guarded.
+        record { core = guarded.core; trail = entries_of guarded.trail; calls = guarded.calls } };
 
     ghost invariant = { λ guarded. (guarded.calls ≡ guarded.book.total)
         × ForSome (entries_of guarded.trail)

@@ -26,7 +26,8 @@ impl Model for Registry {
 
     ghost Value = { Register };
 
-    ghost view = { λ registry. record { snapshots = registry.snapshots.items; opened = registry.opened } };
+    ghost view = { λ registry.
+        record { snapshots = registry.snapshots.items; opened = registry.opened } };
 
     ghost invariant = { λ registry.
         IsRegister (record { snapshots = registry.snapshots.items; opened = registry.opened }) };

@@ -113,7 +113,8 @@ fn put_pair<W: Write>(writer: &mut Watched<W>, waiting: &mut Waiting, pair: &Pai
 
 /// Prints the text of a refusal.
 fn put_fault<W: Write>(writer: &mut Watched<W>, waiting: &mut Waiting, fault: StormFault)
-    ensures { Prints W.contents writer.old writer.new waiting.old waiting.new (storm_fault_line fault) }
+    ensures { Prints W.contents writer.old writer.new waiting.old waiting.new
+        (storm_fault_line fault) }
 {
     match fault {
         StormFault::Work(end) => put_end(writer, waiting, end),

@@ -41,7 +41,8 @@ impl Model for World {
 
     ghost Value = { State };
 
-    ghost view = { λ world. record { core = world.core; nodes = world.nodes.items; messages = world.messages.items } };
+    ghost view = { λ world.
+        record { core = world.core; nodes = world.nodes.items; messages = world.messages.items } };
 }
 
 impl World {
