@@ -37,7 +37,7 @@ IsToldFor caller event told =
 -- has one entry more: this caller, the event and the reply of the receipt. The reply is due after the history that the
 -- trail tells, and so with no trail: after each history that the core stood for,
 -- the reply is due and the core stands for the history with it.
-pub record IsHeld (old new : Lock) (event : CoreEvent) (receipt : Receipt) : Type 0 where
+pub record IsOneHold (old new : Lock) (event : CoreEvent) (receipt : Receipt) : Type 0 where
   pub number : receipt.number ≡ old.calls
   pub calls : new.calls ≡ old.calls + 1
   pub trail : new.trail ≡ with_entry old.trail (entry receipt.caller receipt.event receipt.reply)
@@ -52,11 +52,11 @@ pub record IsLeft (old new : Lock) (fault : NotDone) : Type 0 where
 
 -- one hold of the lock, whether the call is made or not
 abbrev pub Holds : Lock → Lock → CoreEvent → Result Receipt (NotDone × CoreEvent) → Type 0
-Holds old new event told = MatchResult told (λ receipt. IsHeld old new event receipt) (λ back. IsLeft old new back.0)
+Holds old new event told = MatchResult told (λ receipt. IsOneHold old new event receipt) (λ back. IsLeft old new back.0)
 
 -- A call of the core was made and written: its reply has the event's form, the trail has one entry more where there is
 -- one, and after each history that the core stood for, the reply is due and the core stands for the history with it.
-pub record IsWritten (old new : Kept) (before after : Option (List Entry)) (caller : ℕ) (event : CoreEvent)
+pub record IsEntered (old new : Kept) (before after : Option (List Entry)) (caller : ℕ) (event : CoreEvent)
     (reply : CoreReply) : Type 0 where
   pub form : IsReplyTo event reply
   pub trail : after ≡ with_entry before (entry caller event reply)
@@ -64,8 +64,8 @@ pub record IsWritten (old new : Kept) (before after : Option (List Entry)) (call
       → IsStep old new event history reply
 
 -- a call of the core and its entry; without memory neither is made
-abbrev pub Writes : Kept → Kept → Option (List Entry) → Option (List Entry) → ℕ → CoreEvent
+abbrev pub Enters : Kept → Kept → Option (List Entry) → Option (List Entry) → ℕ → CoreEvent
     → Result CoreReply NoMemory → Type 0
-Writes old new before after caller event made =
-    MatchResult made (λ reply. IsWritten old new before after caller event reply)
+Enters old new before after caller event made =
+    MatchResult made (λ reply. IsEntered old new before after caller event reply)
     (λ lack. (new ≡ old) × (after ≡ before))

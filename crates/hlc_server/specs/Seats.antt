@@ -7,5 +7,5 @@ pub record Seat : Type 0 where
   pub share : ℕ
 
 -- a caller that made no call
-abbrev pub fresh : ℕ → Seat
-fresh number = record { number = number; share = 0 }
+abbrev pub fresh_seat : ℕ → Seat
+fresh_seat number = record { number = number; share = 0 }

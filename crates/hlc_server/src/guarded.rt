@@ -7,9 +7,9 @@ ghost use Rattle.hlc_core.specs.Kept.{nodes as nodes_of};
 ghost use Rattle.hlc_core.specs.Calls.{new_refusal, IsRefusal};
 ghost use Rattle.hlc_core.specs.History.{StandsForHistory};
 ghost use Rattle.hlc_core.specs.declared.event.CoreEvent.{CoreEvent as AnEvent};
-ghost use Rattle.hlc_server.specs.Seats.{fresh};
+ghost use Rattle.hlc_server.specs.Seats.{fresh_seat};
 ghost use Rattle.hlc_server.specs.Trails.{IsAudited, entries_of};
-ghost use Rattle.hlc_server.specs.Calls.{IsToldFor, Holds, Writes};
+ghost use Rattle.hlc_server.specs.Calls.{IsToldFor, Holds, Enters};
 
 use crate::caller::Caller;
 use crate::entry::{Entry, NotDone, Receipt};
@@ -65,7 +65,7 @@ impl<L: Ledger> Guarded<L> {
         ensures made { MatchResult result (λ made. new_refusal nodes ≡ None)
             (λ fault. IsRefusal (new_refusal nodes) ⊤ fault) }
         ensures callers { IfOk result
-            (λ made. made.1.items ≡ map fresh (range_with_len 0 callers)) }
+            (λ made. made.1.items ≡ map fresh_seat (range_with_len 0 callers)) }
         ensures fresh { IfOk result
             (λ made. (nodes_of made.0.core ≡ nodes) × StandsForHistory made.0.core []
             × (made.0.trail ≡ (if audit then Some [] else None)) × (made.0.calls ≡ 0)) }
@@ -113,7 +113,7 @@ fn callers_of<L: Ledger>(
     callers: u16,
 ) -> Result<Vec<Caller<L>>, AllocError>
     requires { (share.parts ≡ callers) × (share.amount ≡ 0) × (0 < callers) }
-    ensures { IfOk result (λ made. made.items ≡ map fresh (range_with_len 0 callers)) }
+    ensures { IfOk result (λ made. made.items ≡ map fresh_seat (range_with_len 0 callers)) }
 {
     let mut rest = share;
     let mut made = Vec::with_capacity(alloc, usize::from(callers))?;
@@ -208,7 +208,7 @@ fn make_call(
     caller: u16,
     event: &CoreEvent,
 ) -> Result<CoreReply, NoMemory>
-    ensures { Writes core.old core.new (entries_of trail.old) (entries_of trail.new)
+    ensures { Enters core.old core.new (entries_of trail.old) (entries_of trail.new)
         caller event.now result }
 {
     match trail {
@@ -229,7 +229,7 @@ fn write_call(
     event: &CoreEvent,
 ) -> Result<CoreReply, NoMemory>
     requires { event.now ≢ AnEvent.Vacuum }
-    ensures { Writes core.old core.new (Some trail.old.entries.items) (Some trail.new.entries.items)
+    ensures { Enters core.old core.new (Some trail.old.entries.items) (Some trail.new.entries.items)
         caller event.now result }
 {
     let Ok(written) = event.clone() else {
@@ -252,7 +252,7 @@ fn write_call(
 
 /// Vacuums the core, and makes the entry of that. Both reports are made before anything changes.
 fn write_vacuum(core: &mut Core, trail: &mut Trail, caller: u16) -> Result<CoreReply, NoMemory>
-    ensures { Writes core.old core.new (Some trail.old.entries.items) (Some trail.new.entries.items)
+    ensures { Enters core.old core.new (Some trail.old.entries.items) (Some trail.new.entries.items)
         caller AnEvent.Vacuum result }
 {
     let Ok(()) = trail.entries.reserve(1) else {
@@ -274,7 +274,7 @@ fn make_vacuum(
     trail: &mut Option<Trail>,
     caller: u16,
 ) -> Result<CoreReply, NoMemory>
-    ensures { Writes core.old core.new (entries_of trail.old) (entries_of trail.new)
+    ensures { Enters core.old core.new (entries_of trail.old) (entries_of trail.new)
         caller AnEvent.Vacuum result }
 {
     match trail {
@@ -293,7 +293,7 @@ fn write_parallel_vacuum(
     trail: &mut Trail,
     caller: u16,
 ) -> Result<CoreReply, NoMemory>
-    ensures { Writes core.old core.new (Some trail.old.entries.items) (Some trail.new.entries.items)
+    ensures { Enters core.old core.new (Some trail.old.entries.items) (Some trail.new.entries.items)
         caller AnEvent.Vacuum result }
 {
     let Ok(()) = trail.entries.reserve(1) else {

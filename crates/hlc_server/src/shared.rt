@@ -3,7 +3,7 @@ ghost use Rattle.std.specs.Prelude.{◌≡◌, ◌<◌, ⊤, MatchResult, map};
 ghost use Rattle.std.specs.List.{range_with_len};
 ghost use Rattle.hlc_core.specs.Calls.{new_refusal, IsRefusal};
 ghost use Rattle.hlc_core.specs.declared.event.CoreEvent.{CoreEvent as AnEvent};
-ghost use Rattle.hlc_server.specs.Seats.{fresh};
+ghost use Rattle.hlc_server.specs.Seats.{fresh_seat};
 ghost use Rattle.hlc_server.specs.Calls.{IsToldFor};
 
 use crate::caller::Caller;
@@ -40,7 +40,7 @@ impl<L: Ledger> Shared<L> {
         requires callers { (0 < callers) × (blank.parts ≡ callers) }
         ensures { MatchResult result
             (λ made. (new_refusal nodes ≡ None)
-            × (made.1.items ≡ map fresh (range_with_len 0 callers)))
+            × (made.1.items ≡ map fresh_seat (range_with_len 0 callers)))
             (λ fault. IsRefusal (new_refusal nodes) ⊤ fault) }
     {
         let (guarded, callers) = Guarded::new(alloc, blank, nodes, callers, audit)?;

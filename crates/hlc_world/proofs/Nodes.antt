@@ -27,7 +27,7 @@ use Rattle.hlc_world.specs.Schedule.{Event, issuing, issued, gone, last_stamp, s
 use Rattle.hlc_world.specs.Store.{asked, told, paired, with_entry, store_history, core_past}
 use Rattle.hlc_world.specs.Due.{of_node, issue_refusal, stamp_refusal, receive_refusal, observe_refusal, on_link}
 use Rattle.hlc_world.specs.Due.{on_node, refusal_due, IsReceived, IsObserved, MayLackMemory, IsGiven}
-use Rattle.hlc_world.specs.State.{KeptIssuer, State, world_nodes, StandsFor, fresh, Issues, Sees}
+use Rattle.hlc_world.specs.State.{KeptIssuer, State, world_nodes, StandsFor, fresh_issuers, Issues, Sees}
 use Rattle.hlc_world.proofs.Lists.{some-injective, get-set_at, get-set_other, set-same, get-append_left, get-push}
 
 -- what is kept of a node
@@ -402,23 +402,24 @@ sees_not state s e reply p seen reading before after refusal is h inside at left
     (put-back state _ p before at (stays state s e refusal (is.left refusal)
     (inl (is.due ∙ sight-due (world_nodes state) s p _ (there state s p h inside) ∙ due)) h))
 
-pub fresh-length : (n : ℕ) → length (fresh n) ≡ n
+pub fresh-length : (n : ℕ) → length (fresh_issuers n) ≡ n
 fresh-length zero = refl
-fresh-length (suc n) = length-append (fresh n) _ ∙ (let e = fresh-length n in omega (arith, e))
+fresh-length (suc n) = length-append (fresh_issuers n) _ ∙ (let e = fresh-length n in omega (arith, e))
 
-fresh-at : (n k : ℕ) → k < n → slice_get (fresh n) k ≡ Some (a_node k 0 [] false)
+fresh-at : (n k : ℕ) → k < n → slice_get (fresh_issuers n) k ≡ Some (a_node k 0 [] false)
 fresh-at zero k h = absurd (omega arith)
 fresh-at (suc n) k h =
     elim (cases_eq k n) [
-      | inl same ↦ ap (λ j. slice_get (fresh (suc n)) j) (same ∙ sym (fresh-length n))
-          ∙ get-push (fresh n) (a_node n 0 [] false) ∙ ap (λ j. Some (a_node j 0 [] false)) (sym same)
-      | inr other ↦ get-append_left (fresh n) (a_node n 0 [] false ∷ []) k (let e = fresh-length n in omega (arith, e))
+      | inl same ↦ ap (λ j. slice_get (fresh_issuers (suc n)) j) (same ∙ sym (fresh-length n))
+          ∙ get-push (fresh_issuers n) (a_node n 0 [] false) ∙ ap (λ j. Some (a_node j 0 [] false)) (sym same)
+      | inr other ↦
+          get-append_left (fresh_issuers n) (a_node n 0 [] false ∷ []) k (let e = fresh-length n in omega (arith, e))
           ∙ fresh-at n k (omega arith)
     ]
 
 -- a new world
 pub starts : (n : ℕ) (core : Kept) → core_nodes core ≡ n → CoreStandsFor core []
-    → StandsFor (record { core = core; nodes = fresh n; messages = [] }) []
+    → StandsFor (record { core = core; nodes = fresh_issuers n; messages = [] }) []
 starts n core is h = record {
   legal = tt;
   core = h;

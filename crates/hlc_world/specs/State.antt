@@ -40,9 +40,10 @@ pub record StandsFor (state : State) (schedule : List (Event × Reply)) : Type 0
   pub messages : state.messages ≡ sent schedule
 
 -- so many nodes, on which nothing took place
-abbrev pub fresh : ℕ → List KeptIssuer
-fresh zero = []
-fresh (suc n) = fresh n ++ record { node = record { id = n; last = 0; next = 0; retired = false }; issued = [] } ∷ []
+abbrev pub fresh_issuers : ℕ → List KeptIssuer
+fresh_issuers zero = []
+fresh_issuers (suc n) =
+    fresh_issuers n ++ record { node = record { id = n; last = 0; next = 0; retired = false }; issued = [] } ∷ []
 
 -- a new world has these nodes and stands for the empty schedule; or the number of nodes is refused,
 -- or there is no memory

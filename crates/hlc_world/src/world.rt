@@ -9,7 +9,7 @@ ghost use Rattle.hlc_world.specs.Before.{HappenedBefore, IsStamped};
 ghost use Rattle.hlc_world.specs.Due.{IsGiven, IsQuestion, IsRefused, GoesByNumber};
 ghost use Rattle.hlc_world.specs.Floor.{IsComplete, IsBelowClocks, IsClosed};
 ghost use Rattle.hlc_world.specs.Headline.{IsFaithful};
-ghost use Rattle.hlc_world.specs.State.{StandsFor, Makes, world_nodes, fresh};
+ghost use Rattle.hlc_world.specs.State.{StandsFor, Makes, world_nodes, fresh_issuers};
 ghost use Rattle.hlc_world.specs.declared.reply.Reply.{Reply as AReply};
 
 use crate::event::Event;
@@ -328,7 +328,7 @@ impl World {
 
 /// So many nodes, on which nothing took place.
 fn fresh_nodes(alloc: Global, count: u16) -> Result<Vec<Issuer>, AllocError>
-    ensures { IfOk result (λ made. made.items ≡ fresh count) }
+    ensures { IfOk result (λ made. made.items ≡ fresh_issuers count) }
 {
     let mut made = Vec::new(alloc);
     for id in 0..count {

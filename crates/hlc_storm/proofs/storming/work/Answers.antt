@@ -4,7 +4,7 @@ use Rattle.std.proofs.Common.{◌≡◌, ◌∙◌, ◌+◌, ap, arith, length}
 use Rattle.std.proofs.lemmas.List.{length-replicate}
 use Rattle.std.proofs.lemmas.List.FromFn.{length-map-range_with_len}
 use Rattle.hlc_board.specs.Views.{blind}
-use Rattle.hlc_server.specs.Seats.{fresh}
+use Rattle.hlc_server.specs.Seats.{fresh_seat}
 use Rattle.hlc_storm.proofs.Lengths.{last_off, posts_length}
 use Rattle.hlc_storm.proofs.storming.work.Goals as goal
 
@@ -13,7 +13,7 @@ returns g c =
     let nodes = c.args.plan.nodes in
     let readers = c.args.plan.readers in
     let callers : length c.in-Ok.callers.items ≡ nodes + readers + 1 =
-    ap length c.in-Ok.ensures.1 ∙ length-map-range_with_len fresh 0 (nodes + readers + 1) in
+    ap length c.in-Ok.ensures.1 ∙ length-map-range_with_len fresh_seat 0 (nodes + readers + 1) in
     let one = last_off _ _ _ c.in-Some.ensures.items in
     let passes : length c.in-Ok-new.passes.items ≡ readers =
     ap length c.in-Ok-new.ensures.passes ∙ length-replicate readers (blind c.in-Ok-new.board) in

@@ -1,7 +1,7 @@
 -- So many new nodes are made.
 use Rattle.std.proofs.Common.{◌≡◌}
-use Rattle.hlc_world.specs.State.{fresh}
+use Rattle.hlc_world.specs.State.{fresh_issuers}
 use Rattle.hlc_world.proofs.world.fresh_nodes.Given as goal
 
 abbrev pub invariant-loop-id : goal.invariant-loop-id
-invariant-loop-id l = l.made.items ≡ fresh l.id
+invariant-loop-id l = l.made.items ≡ fresh_issuers l.id
