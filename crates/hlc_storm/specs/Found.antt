@@ -1,5 +1,5 @@
 -- What a storm's report says: it is that of some legal history of calls, in which each reply was due.
-use Rattle.std.specs.Prelude.{◌≡◌, ℕ, ◌+◌, List, ◌∷◌, map, Result, Ok, Err, ⊤}
+use Rattle.std.specs.Prelude.{◌≡◌, ◌≢◌, ℕ, ◌+◌, List, ◌∷◌, map, Result, Ok, Err}
 use Rattle.std.specs.List.{range_with_len}
 use Rattle.hlc_vacuum.specs.declared.report.Report.{Report}
 use Rattle.hlc_core.specs.declared.event.CoreEvent.{CoreEvent}
@@ -11,6 +11,8 @@ use Rattle.hlc_core.specs.History.{IsLegalHistory, past_of}
 use Rattle.hlc_words.specs.declared.plan.StormPlan.{StormPlan}
 use Rattle.hlc_storm.specs.declared.report.StormReport.{StormReport}
 use Rattle.hlc_storm.specs.declared.report.StormFault.{StormFault}
+use Rattle.hlc_storm.specs.declared.report.StormFault.TheVariants.{Work}
+use Rattle.hlc_workers.specs.declared.room.WorkEnd.TheVariants.{Done}
 
 -- Of a past of a core of so many nodes: the number of accepted items of each node of the plan, the floor, the keys that
 -- have a value there, with the newest accepted one, and the rows that a vacuum keeps,
@@ -23,9 +25,9 @@ pub record IsFoundIn (plan : StormPlan) (nodes : ℕ) (past : List Step) (report
   pub due : IsReport nodes (Closed (opened past + 1) ∷ Opened report.floor ∷ past) vacuum
   pub kept : report.kept ≡ vacuum.kept
 
--- what a storm may tell
+-- what a storm may tell: a refusal names no worker that was done
 abbrev pub MayTell : StormPlan → Result StormReport StormFault → Type 0
 MayTell plan (Ok report) =
     (nodes : ℕ) × (history : List (CoreEvent × CoreReply))
     × IsLegalHistory nodes history × IsFoundIn plan nodes (past_of history) report
-MayTell plan (Err fault) = ⊤
+MayTell plan (Err fault) = fault ≢ Work Done

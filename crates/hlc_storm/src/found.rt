@@ -1,5 +1,5 @@
 //! What a storm found.
-ghost use Rattle.std.specs.Prelude.{◌≡◌, ◌≤◌, List, map, IfOk};
+ghost use Rattle.std.specs.Prelude.{◌≡◌, ◌≤◌, List, map, IfOk, IfErr};
 ghost use Rattle.std.specs.List.{range_with_len};
 ghost use Rattle.hlc_core.specs.Past.{Step, count};
 ghost use Rattle.hlc_core.specs.Kept.{nodes, StandsFor};
@@ -16,9 +16,10 @@ pub(crate) fn report_of(
     core: Core,
     plan: StormPlan,
 ) -> Result<StormReport, StormFault>
-    ensures { IfOk result
+    ensures found { IfOk result
         (λ report. (past : List Step) → StandsFor core past
         → IsFoundIn plan (nodes core) past report) }
+    ensures memory { IfErr result (λ fault. fault ≡ StormFault.NoMemory) }
 {
     let mut core = core;
     let accepted = counts_of(alloc, &core, plan.nodes)?;
@@ -45,8 +46,9 @@ pub(crate) fn report_of(
 
 /// How many items of each of so many nodes the core accepted.
 fn counts_of(alloc: Global, core: &Core, count_of_nodes: u16) -> Result<Vec<u64>, StormFault>
-    ensures { IfOk result (λ counts. (past : List Step) → StandsFor core.now past
+    ensures counts { IfOk result (λ counts. (past : List Step) → StandsFor core.now past
         → counts.items ≡ map (λ node. count node past) (range_with_len 0 count_of_nodes)) }
+    ensures memory { IfErr result (λ fault. fault ≡ StormFault.NoMemory) }
 {
     let mut counts = Vec::new(alloc);
     for node in 0..count_of_nodes {

@@ -1,5 +1,6 @@
 //! A storm by a scope of threads.
-ghost use Rattle.std.specs.Prelude.{◌≡◌, ◌+◌, IfOk, length};
+ghost use Rattle.std.specs.Prelude.{◌≡◌, ◌≢◌, ◌+◌, IfOk, IfErr, length};
+ghost use Rattle.hlc_workers.specs.declared.room.WorkEnd.{WorkEnd};
 ghost use Rattle.hlc_storm.specs.Found.{MayTell};
 
 use crate::found::report_of;
@@ -100,7 +101,8 @@ pub(crate) fn work<
 ) -> Result<(Shared<L>, Lists<L>), StormFault>
     requires ledger { (blank.name ≡ L.name) × (blank.parts ≡ L.parts) }
     requires callers { blank.parts ≡ plan.nodes + plan.readers + 1 }
-    ensures { IfOk result (λ told. length told.1.items ≡ plan.nodes + plan.readers + 1) }
+    ensures lists { IfOk result (λ told. length told.1.items ≡ plan.nodes + plan.readers + 1) }
+    ensures faults { IfErr result (λ fault. fault ≢ StormFault.Work WorkEnd.Done) }
 {
     let count = plan.nodes + plan.readers + 1;
     let Ok((shared, callers)) = Shared::<L>::new(alloc, blank, plan.nodes, count, true) else {
@@ -150,8 +152,9 @@ fn run_all<
     plan: StormPlan,
     gates: &StormGates<F, D, V>,
 ) -> Result<Lists<L>, StormFault>
-    ensures { IfOk result
+    ensures lists { IfOk result
         (λ lists. length lists.items ≡ length nodes.entry.items + length looking.entry.items + 1) }
+    ensures faults { IfErr result (λ fault. fault ≢ StormFault.Work WorkEnd.Done) }
 {
     let to_feed = &gates.feeders;
     let to_read = &gates.readers;
@@ -160,9 +163,10 @@ fn run_all<
         thread::scope_env(),
         rt,
         |scope| -> Result<Lists<L>, StormFault>
-            ensures { IfOk result
+            ensures lists { IfOk result
                 (λ lists. length lists.items
                 ≡ length nodes.entry.items + length looking.entry.items + 1) }
+            ensures faults { IfErr result (λ fault. fault ≢ StormFault.Work WorkEnd.Done) }
         {
             let mut writers = Vec::new(alloc);
             let mut feeders = Vec::new(alloc);

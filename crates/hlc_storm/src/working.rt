@@ -1,14 +1,16 @@
 //! The workers of a storm, and what is kept of their work.
 ghost use Rattle.std.specs.Prelude.{◌≡◌, ◌≢◌, ◌+◌, ◌∷◌, [], ◌++◌, false, true, None, Some, IfOk, All, length, map};
-ghost use Rattle.std.specs.Prelude.{replicate, Option, vec_len};
+ghost use Rattle.std.specs.Prelude.{replicate, Option, IfErr, vec_len};
 ghost use Rattle.hlc_node.specs.declared.item.Item.{Item as AnItem};
 ghost use Rattle.hlc_board.specs.Views.{Sight};
 ghost use Rattle.hlc_channel.specs.Ends.{Received};
 ghost use Rattle.hlc_core.specs.declared.event.CoreEvent.{CoreEvent as AnEvent};
+ghost use Rattle.hlc_workers.specs.declared.room.WorkEnd.{WorkEnd};
 ghost use Rattle.hlc_workers.specs.Paid.{IsPaid, event_of};
 ghost use Rattle.hlc_workers.specs.Feeding.{TookAll};
 ghost use Rattle.hlc_workers.specs.Rounds.{HasServed};
 ghost use Rattle.hlc_storm.specs.declared.working.TheConstants.{ROUNDS};
+ghost use Rattle.std.proofs.Props.{props};
 
 use crate::places::{Feeding, Looking};
 use crate::report::StormFault;
@@ -121,6 +123,7 @@ struct Joined<L: Ledger> {
     /// The end of the worker with the lowest caller that was not done.
     first: Option<WorkEnd>,
     lacks_memory: bool,
+    ghost not_done: { first ≢ Some WorkEnd.Done } by { Prim.hlevel props },
 }
 
 /// Notes what is kept of a worker. Workers are noted from the last caller to the first.
@@ -232,6 +235,7 @@ pub(crate) fn join_all<L: Ledger, R: Threads + Wait>(
         (λ lists. length lists.items
         ≡ length started.feeders.items + length started.readers.items + 1) }
     ensures memory { IfOk result (λ _. started.lacks_memory ≡ false) }
+    ensures faults { IfErr result (λ fault. fault ≢ StormFault.Work WorkEnd.Done) }
 {
     let Started {
         writers,

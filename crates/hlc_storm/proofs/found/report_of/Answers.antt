@@ -9,8 +9,8 @@ use Rattle.hlc_core.specs.Stored.{IsReport}
 use Rattle.hlc_storm.proofs.Opening.{just_opened}
 use Rattle.hlc_storm.proofs.found.report_of.Goals as goal
 
-pub returns : goal.returns
-returns c past stands =
+pub returns-clause-found : goal.returns-clause-found
+returns-clause-found c past stands =
     let n = nodes c.args.core in
     let opening = c.in-Ok.ensures.stands past stands in
     let then = Opened (floor n past) ∷ past in
@@ -25,7 +25,7 @@ returns c past stands =
     let due = subst (λ k. IsReport k (Closed c.in-Ok.opening.0 ∷ then) c.in-Ok-vacuum.report) same made.due in
     let told = subst (λ i. IsReport n (Closed i ∷ then) c.in-Ok-vacuum.report) id due in
     record {
-      accepted = c.in_ok-accepted.ensures past stands;
+      accepted = c.in_ok-accepted.ensures.counts past stands;
       floor = at;
       pairs = subst (λ s. IsListing (writes past) s c.in-Ok-list.pairs) (sym at) listed;
       vacuum = c.in-Ok-vacuum.report;

@@ -8,8 +8,8 @@ use Rattle.hlc_server.specs.Seats.{fresh_seat}
 use Rattle.hlc_storm.proofs.Lengths.{last_off, posts_length}
 use Rattle.hlc_storm.proofs.storming.work.Goals as goal
 
-pub returns : goal.returns
-returns g c =
+pub returns-clause-lists : goal.returns-clause-lists
+returns-clause-lists g c =
     let nodes = c.args.plan.nodes in
     let readers = c.args.plan.readers in
     let callers : length c.in-Ok.callers.items ≡ nodes + readers + 1 =
@@ -22,5 +22,5 @@ returns g c =
     let left = c.in_ok-readers.ensures.left in
     let looking = c.in_ok-readers.ensures.all (omega (arith, callers, one, passes)) in
     let feeding = c.in_ok-nodes.ensures.all (omega (arith, callers, one, passes, feeders, looking, left)) in
-    let lists = c.in_ok-lists.ensures in
+    let lists = c.in_ok-lists.ensures.lists in
     omega (arith, lists, feeding, looking, passes, feeders)
