@@ -1,5 +1,5 @@
 -- Where no row of the key stands, no row is of this version.
-use Rattle.std.proofs.Common.{◌≡◌, ◌∙◌, ◌<◌, ℕ, zero, suc, List, [], ◌∷◌, true, false, sym, ap, cond, arith, length}
+use Rattle.std.proofs.Common.{◌≡◌, ◌∙◌, ◌<◌, ℕ, zero, suc, List, [], ◌∷◌, sym, ap, cond, arith, length}
 use Rattle.std.proofs.Common.{get_or, true≢false, inl, inr, rules}
 use Rattle.std.specs.Prelude.{Contains}
 use Rattle.std.specs.Str.{bytes_eq}

@@ -24,4 +24,5 @@ found plan core history legal stands (Err fault) is lacks =
 pub returns-in-Ok : goal.returns-in-Ok
 returns-in-Ok g c =
     let settles = c.in-Ok.ensures.1 in
-    found c.args.plan _ _ settles.legal settles.stands.core c.report_of.result c.report_of.ensures.found c.report_of.ensures.memory
+    found c.args.plan _ _ settles.legal settles.stands.core c.report_of.result c.report_of.ensures.found
+    c.report_of.ensures.memory
