@@ -54,7 +54,7 @@ pub record IsLeft (old new : Lock) (fault : NotDone) : Type 0 where
 abbrev pub Holds : Lock → Lock → CoreEvent → Result Receipt (NotDone × CoreEvent) → Type 0
 Holds old new event told = MatchResult told (λ receipt. IsOneHold old new event receipt) (λ back. IsLeft old new back.0)
 
--- A call of the core was made and written: its reply has the event's form, the trail has one entry more where there is
+-- A call of the core was made and entered: its reply has the event's form, the trail has one entry more where there is
 -- one, and after each history that the core stood for, the reply is due and the core stands for the history with it.
 pub record IsEntered (old new : Kept) (before after : Option (List Entry)) (caller : ℕ) (event : CoreEvent)
     (reply : CoreReply) : Type 0 where
