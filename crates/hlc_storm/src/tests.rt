@@ -2,17 +2,19 @@
 ghost use Rattle.std.specs.Prelude.{◌≡◌, ◌+◌};
 
 use crate::storming::{storm_gated, work};
-use crate::{StormGates, StormPlan};
+use crate::working::{Started, join_all};
+use crate::{StormFault, StormGates, StormPlan};
 use hlc_core::{CoreFault, CoreReply};
-use hlc_server::Receipt;
-use hlc_workers::{FreeGate, Gate};
+use hlc_server::{Caller, NotDone, Receipt, Shared};
+use hlc_workers::{FreeGate, Gate, Served, WorkEnd};
 use std::alloc::Global;
 use std::marker::Brand;
 use std::sync::Wait;
 use std::sync::atomic::{AtomicBool, Ordering};
 use std::sync::ledger::{Blank, Ledger};
 use std::test::*;
-use std::thread::Threads;
+use std::thread;
+use std::thread::{JoinHandle, Scope, Threads};
 
 /// As many looks as are made before a wait is given up. Each is one load.
 const LOOKS: u64 = 4_000_000_000;
@@ -137,5 +139,152 @@ fn the_board_is_never_ahead(rt: HostRuntime) -> Result<(), Fail> {
     assert!(rt; !above);
     // 3 x 201 items, 16 vacuums, and of each round an opening or two, 2 reads and a close.
     assert!(rt; (875..=939).contains(&calls));
+    Ok(())
+}
+
+/// Answers no at one turn.
+#[derive(Drop)]
+struct HoldsAt(u64);
+
+impl Gate for HoldsAt {
+    ghost may_answer = { λ gate turn answer. Unit {0} };
+
+    fn pass<R: Wait>(&self, _rt: &R, turn: u64) -> bool {
+        turn != self.0
+    }
+}
+
+/// Why a storm of two nodes and a reader has no report whose feeders, reader and vacuum are held at these turns.
+fn fault_of_held<R: Threads + Wait + Sync>(
+    rt: &R,
+    alloc: Global,
+    turns: (u64, u64, u64),
+) -> Option<StormFault> {
+    let (feeders, readers, vacuum) = turns;
+    let gates = StormGates {
+        feeders: HoldsAt(feeders),
+        readers: HoldsAt(readers),
+        vacuum: HoldsAt(vacuum),
+    };
+    let plan = StormPlan {
+        nodes: 2,
+        writes: 20,
+        keys: 1,
+        readers: 1,
+    };
+    storm_gated(rt, alloc, plan, &gates).err()
+}
+
+/// Feeders, readers and the vacuum that are held, at their first call or at their last, are told as held. A writer
+/// whose feeder is held finds its link closed, and ends. Behind its last call no worker is asked.
+#[test]
+fn held_workers_are_told(rt: HostRuntime) -> Result<(), Fail> {
+    let never = u64::MAX;
+    for turns in [
+        (0, never, never),
+        (20, never, never),
+        (never, 0, never),
+        (never, 47, never),
+        (never, never, 0),
+        (never, never, 15),
+    ] {
+        let told = fault_of_held(&rt, rt.alloc(), turns);
+        assert_eq!(rt; told, Some(StormFault::Work(WorkEnd::Held)));
+    }
+    assert_eq!(rt; fault_of_held(&rt, rt.alloc(), (21, 64, 16)), None);
+    Ok(())
+}
+
+/// Starts a worker that makes no call and ends so.
+fn start<'s, E, L: Ledger + Send + Sync + 's>(
+    scope: &Scope<'s, E>,
+    alloc: Global,
+    caller: Option<Caller<L>>,
+    end: WorkEnd,
+) -> Option<JoinHandle<Served<L>>> {
+    let caller = caller?;
+    let receipts = Vec::new(alloc);
+    let ends = move || Served {
+        caller,
+        receipts,
+        end,
+    };
+    scope.spawn(ends).ok()
+}
+
+/// What the join of two feeders, two readers and a vacuum tells that end so, by caller.
+fn join_ended<L: Ledger + Send + Sync, R: Threads + Wait + Sync>(
+    rt: &R,
+    alloc: Global,
+    blank: Blank,
+    ends: [WorkEnd; 5],
+    lacks_memory: bool,
+) -> Result<(), StormFault>
+    requires ledger { (blank.name ≡ L.name) × (blank.parts ≡ L.parts) }
+    requires callers { blank.parts ≡ 5 }
+{
+    let Ok((_, callers)) = Shared::<L>::new(alloc, blank, 2, 5, false) else {
+        return Err(StormFault::NoMemory);
+    };
+    let mut callers = callers;
+    let mut lacks_memory = lacks_memory;
+    thread::scope(thread::scope_env(), rt, |scope| -> Result<(), StormFault> {
+        let vacuum = start(scope, alloc, callers.pop(), ends[4]);
+        let mut readers = Vec::new(alloc);
+        for end in [ends[3], ends[2]] {
+            let reader = start(scope, alloc, callers.pop(), end);
+            lacks_memory = readers.push(reader).is_err() || lacks_memory;
+        }
+        let mut feeders = Vec::new(alloc);
+        for end in [ends[1], ends[0]] {
+            let feeder = start(scope, alloc, callers.pop(), end);
+            lacks_memory = feeders.push(feeder).is_err() || lacks_memory;
+        }
+        let started = Started {
+            writers: Vec::new(alloc),
+            feeders,
+            readers,
+            vacuum,
+            lacks_memory,
+        };
+        join_all(rt, alloc, started)?;
+        Ok(())
+    })
+}
+
+/// Of several workers that are not done the first is told: feeders by node, then readers, then the vacuum. Before all of
+/// them comes want of memory.
+#[test]
+fn the_first_worker_is_told(rt: HostRuntime) -> Result<(), Fail> {
+    let done = WorkEnd::Done;
+    let held = WorkEnd::Held;
+    let closed = WorkEnd::Closed;
+    let spent = WorkEnd::Spent(NotDone::NoMemory);
+    for (ends, due) in [
+        ([done, done, done, done, done], Ok(())),
+        ([done, done, done, done, held], Err(StormFault::Work(held))),
+        (
+            [done, done, done, closed, held],
+            Err(StormFault::Work(closed)),
+        ),
+        (
+            [done, done, spent, closed, held],
+            Err(StormFault::Work(spent)),
+        ),
+        (
+            [done, held, spent, closed, closed],
+            Err(StormFault::Work(held)),
+        ),
+        (
+            [closed, held, spent, done, held],
+            Err(StormFault::Work(closed)),
+        ),
+    ] {
+        let told = join_ended::<Brand, _>(&rt, rt.alloc(), Blank::new(5), ends, false);
+        assert_eq!(rt; told, due);
+    }
+    let ends = [held, done, done, done, done];
+    let told = join_ended::<Brand, _>(&rt, rt.alloc(), Blank::new(5), ends, true);
+    assert_eq!(rt; told, Err(StormFault::NoMemory));
     Ok(())
 }
