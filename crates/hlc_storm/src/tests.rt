@@ -252,6 +252,16 @@ fn join_ended<L: Ledger + Send + Sync, R: Threads + Wait + Sync>(
     })
 }
 
+/// What is told of workers that end so, with memory or without.
+fn told_of_ended<R: Threads + Wait + Sync>(
+    rt: &R,
+    alloc: Global,
+    ends: [WorkEnd; 5],
+    lacks_memory: bool,
+) -> Result<(), StormFault> {
+    join_ended::<Brand, R>(rt, alloc, Blank::new(5), ends, lacks_memory)
+}
+
 /// Of several workers that are not done the first is told: feeders by node, then readers, then the vacuum. Before all of
 /// them comes want of memory.
 #[test]
@@ -260,31 +270,19 @@ fn the_first_worker_is_told(rt: HostRuntime) -> Result<(), Fail> {
     let held = WorkEnd::Held;
     let closed = WorkEnd::Closed;
     let spent = WorkEnd::Spent(NotDone::NoMemory);
-    for (ends, due) in [
-        ([done, done, done, done, done], Ok(())),
-        ([done, done, done, done, held], Err(StormFault::Work(held))),
-        (
-            [done, done, done, closed, held],
-            Err(StormFault::Work(closed)),
-        ),
-        (
-            [done, done, spent, closed, held],
-            Err(StormFault::Work(spent)),
-        ),
-        (
-            [done, held, spent, closed, closed],
-            Err(StormFault::Work(held)),
-        ),
-        (
-            [closed, held, spent, done, held],
-            Err(StormFault::Work(closed)),
-        ),
+    for (ends, first) in [
+        ([done, done, done, done, held], held),
+        ([done, done, done, closed, held], closed),
+        ([done, done, spent, closed, held], spent),
+        ([done, held, spent, closed, closed], held),
+        ([closed, held, spent, done, held], closed),
     ] {
-        let told = join_ended::<Brand, _>(&rt, rt.alloc(), Blank::new(5), ends, false);
-        assert_eq!(rt; told, due);
+        let told = told_of_ended(&rt, rt.alloc(), ends, false);
+        assert_eq!(rt; told, Err(StormFault::Work(first)));
     }
+    assert_eq!(rt; told_of_ended(&rt, rt.alloc(), [done; 5], false), Ok(()));
     let ends = [held, done, done, done, done];
-    let told = join_ended::<Brand, _>(&rt, rt.alloc(), Blank::new(5), ends, true);
+    let told = told_of_ended(&rt, rt.alloc(), ends, true);
     assert_eq!(rt; told, Err(StormFault::NoMemory));
     Ok(())
 }
