@@ -175,8 +175,9 @@ fn fault_of_held<R: Threads + Wait + Sync>(
     storm_gated(rt, alloc, plan, &gates).err()
 }
 
-/// Feeders, readers and the vacuum that are held, at their first call or at their last, are told as held. A writer
-/// whose feeder is held finds its link closed, and ends. Behind its last call no worker is asked.
+/// Feeders, readers and the vacuum that are held are told as held: at their first call, at the last of a feeder and of
+/// the vacuum, and at the 48th of a reader, which makes 48 to 64. A writer whose feeder is held finds its link closed,
+/// and ends. Behind its last call no worker is asked.
 #[test]
 fn held_workers_are_told(rt: HostRuntime) -> Result<(), Fail> {
     let never = u64::MAX;
