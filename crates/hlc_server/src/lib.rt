@@ -5,6 +5,8 @@
 mod caller;
 mod entry;
 mod guarded;
+mod lock;
+mod locked;
 mod settle;
 mod shared;
 mod trail;

@@ -1,5 +1,6 @@
 //! Compares the receipts of all callers with the trail, once all threads have ended.
 ghost use Rattle.std.specs.Prelude.{◌≡◌, ◌+◌, ◌<◌, ◌↔◌, length, map, take, IsTrue, IfOk, IfErr, IfSome, IfNone};
+ghost use Rattle.std.specs.Option.{is_some};
 ghost use Rattle.hlc_server.specs.Trails.{Lock};
 ghost use Rattle.hlc_server.specs.Settling.{claim, claims_of, StandsIn, key_of, IsBelow, IsGood, AreGood, IsSettled};
 ghost use Rattle.hlc_server.specs.Settling.{IsFirstBad, IsSettlement, last_key};
@@ -70,7 +71,8 @@ pub fn settle_guarded<L: Ledger>(
 impl<L: Ledger> Shared<L> {
     /// The same for a shared store, once all threads have ended: what its lock kept is taken out.
     pub fn settle(self, lists: Vec<(Caller<L>, Vec<Receipt>)>) -> Result<Settled, SettleFault>
-        ensures { (lock : Lock) × IsSettlement lock (claims_of lists.items) result }
+        ensures { (lock : Lock) × (is_some lock.trail ≡ self.audited)
+            × IsSettlement lock (claims_of lists.items) result }
     {
         let Shared { lock } = self;
         settle_guarded(lock.into_inner(), lists)

@@ -1,5 +1,5 @@
 //! A store that threads share.
-ghost use Rattle.std.specs.Prelude.{◌≡◌, ◌<◌, ⊤, MatchResult, map};
+ghost use Rattle.std.specs.Prelude.{◌≡◌, ◌<◌, ⊤, IfOk, MatchResult, map};
 ghost use Rattle.std.specs.List.{range_with_len};
 ghost use Rattle.hlc_core.specs.Calls.{new_refusal, IsRefusal};
 ghost use Rattle.hlc_core.specs.declared.event.CoreEvent.{CoreEvent as AnEvent};
@@ -8,11 +8,13 @@ ghost use Rattle.hlc_server.specs.Calls.{IsToldFor};
 
 use crate::caller::Caller;
 use crate::entry::{NotDone, Receipt};
-use crate::guarded::{Guarded, step_guarded, vacuum_guarded};
+use crate::guarded::Guarded;
+use crate::lock::StoreLock;
 use hlc_core::{Bytes, CoreEvent, CoreFault, Item, Stamp};
 use std::alloc::Global;
+use std::marker::Model;
+use std::sync::Wait;
 use std::sync::ledger::{Blank, Ledger};
-use std::sync::{Mutex, Wait};
 use std::thread::Threads;
 
 /// A store that threads share, behind one lock. Each call holds the lock once.
@@ -21,7 +23,15 @@ use std::thread::Threads;
 /// What a caller was told can be checked afterwards, by `settle`.
 #[derive(Drop)]
 pub struct Shared<L: Ledger> {
-    pub(crate) lock: Mutex<Guarded<L>>,
+    pub(crate) lock: StoreLock<L>,
+}
+
+impl<L: Ledger> Model for Shared<L> {
+    ghost use Rattle.hlc_server.specs.Sharing.{Sharing, keeps_trail};
+
+    ghost Value = { Sharing };
+
+    ghost view = { λ shared. record { audited = keeps_trail shared.lock } };
 }
 
 impl<L: Ledger> Shared<L> {
@@ -38,13 +48,14 @@ impl<L: Ledger> Shared<L> {
     ) -> Result<(Shared<L>, Vec<Caller<L>>), CoreFault>
         requires ledger { (blank.name ≡ L.name) × (blank.parts ≡ L.parts) }
         requires callers { (0 < callers) × (blank.parts ≡ callers) }
-        ensures { MatchResult result
-            (λ made. (new_refusal nodes ≡ None)
-            × (made.1.items ≡ map fresh_seat (range_with_len 0 callers)))
+        ensures made { MatchResult result (λ made. new_refusal nodes ≡ None)
             (λ fault. IsRefusal (new_refusal nodes) ⊤ fault) }
+        ensures callers { IfOk result
+            (λ made. made.1.items ≡ map fresh_seat (range_with_len 0 callers)) }
+        ensures audited { IfOk result (λ made. made.0.audited ≡ audit) }
     {
         let (guarded, callers) = Guarded::new(alloc, blank, nodes, callers, audit)?;
-        let lock = Mutex::new(guarded);
+        let lock = StoreLock::new(guarded);
         Ok((Shared { lock }, callers))
     }
 
@@ -58,7 +69,10 @@ impl<L: Ledger> Shared<L> {
     ) -> (Caller<L>, Result<Receipt, (NotDone, CoreEvent)>)
         ensures { IsToldFor caller event result }
     {
-        step_guarded(&mut self.lock.lock(rt), caller, event)
+        match &self.lock {
+            StoreLock::Audited(lock) => lock.lock(rt).step(caller, event),
+            StoreLock::Plain(lock) => lock.lock(rt).step(caller, event),
+        }
     }
 
     /// Takes the next item of a link.
@@ -154,6 +168,9 @@ impl<L: Ledger> Shared<L> {
     ) -> (Caller<L>, Result<Receipt, (NotDone, CoreEvent)>)
         ensures { IsToldFor caller AnEvent.Vacuum result }
     {
-        vacuum_guarded(rt, &mut self.lock.lock(rt), caller)
+        match &self.lock {
+            StoreLock::Audited(lock) => lock.lock(rt).vacuum(rt, caller),
+            StoreLock::Plain(lock) => lock.lock(rt).vacuum(rt, caller),
+        }
     }
 }

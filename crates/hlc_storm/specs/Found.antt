@@ -8,10 +8,11 @@ use Rattle.hlc_core.specs.Past.{Step, Opened, Closed, count, floor, opened, writ
 use Rattle.hlc_core.specs.Stored.{IsReport}
 use Rattle.hlc_core.specs.Listing.{IsListing}
 use Rattle.hlc_core.specs.History.{IsLegalHistory, past_of}
+use Rattle.hlc_server.specs.declared.settle.SettleFault.TheVariants.{NoTrail}
 use Rattle.hlc_words.specs.declared.plan.StormPlan.{StormPlan}
 use Rattle.hlc_storm.specs.declared.report.StormReport.{StormReport}
 use Rattle.hlc_storm.specs.declared.report.StormFault.{StormFault}
-use Rattle.hlc_storm.specs.declared.report.StormFault.TheVariants.{Work}
+use Rattle.hlc_storm.specs.declared.report.StormFault.TheVariants.{Work, Settle}
 use Rattle.hlc_workers.specs.declared.room.WorkEnd.TheVariants.{Done}
 
 -- Of a past of a core of so many nodes: the number of accepted items of each node of the plan, the floor, the keys that
@@ -25,9 +26,13 @@ pub record IsFoundIn (plan : StormPlan) (nodes : ℕ) (past : List Step) (report
   pub due : IsReport nodes (Closed (opened past + 1) ∷ Opened report.floor ∷ past) vacuum
   pub kept : report.kept ≡ vacuum.kept
 
--- what a storm may tell: a refusal names no worker that was done
+-- why a storm may have no report: for no worker that was done, and never for want of a trail, since it keeps one
+abbrev pub MayRefuse : StormFault → Type 0
+MayRefuse fault = (fault ≢ Work Done) × (fault ≢ Settle NoTrail)
+
+-- what a storm may tell
 abbrev pub MayTell : StormPlan → Result StormReport StormFault → Type 0
 MayTell plan (Ok report) =
     (nodes : ℕ) × (history : List (CoreEvent × CoreReply))
     × IsLegalHistory nodes history × IsFoundIn plan nodes (past_of history) report
-MayTell plan (Err fault) = fault ≢ Work Done
+MayTell plan (Err fault) = MayRefuse fault

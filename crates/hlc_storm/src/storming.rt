@@ -1,7 +1,6 @@
 //! A storm by a scope of threads.
-ghost use Rattle.std.specs.Prelude.{◌≡◌, ◌≢◌, ◌+◌, IfOk, IfErr, length};
-ghost use Rattle.hlc_workers.specs.declared.room.WorkEnd.{WorkEnd};
-ghost use Rattle.hlc_storm.specs.Found.{MayTell};
+ghost use Rattle.std.specs.Prelude.{◌≡◌, ◌+◌, true, IfOk, IfErr, length};
+ghost use Rattle.hlc_storm.specs.Found.{MayRefuse, MayTell};
 
 use crate::found::report_of;
 use crate::places::{Looking, NodePlace, node_places, reader_places};
@@ -101,8 +100,9 @@ pub(crate) fn work<
 ) -> Result<(Shared<L>, Lists<L>), StormFault>
     requires ledger { (blank.name ≡ L.name) × (blank.parts ≡ L.parts) }
     requires callers { blank.parts ≡ plan.nodes + plan.readers + 1 }
+    ensures audited { IfOk result (λ told. told.0.audited ≡ true) }
     ensures lists { IfOk result (λ told. length told.1.items ≡ plan.nodes + plan.readers + 1) }
-    ensures faults { IfErr result (λ fault. fault ≢ StormFault.Work WorkEnd.Done) }
+    ensures faults { IfErr result MayRefuse }
 {
     let count = plan.nodes + plan.readers + 1;
     let Ok((shared, callers)) = Shared::<L>::new(alloc, blank, plan.nodes, count, true) else {
@@ -154,7 +154,7 @@ fn run_all<
 ) -> Result<Lists<L>, StormFault>
     ensures lists { IfOk result
         (λ lists. length lists.items ≡ length nodes.entry.items + length looking.entry.items + 1) }
-    ensures faults { IfErr result (λ fault. fault ≢ StormFault.Work WorkEnd.Done) }
+    ensures faults { IfErr result MayRefuse }
 {
     let to_feed = &gates.feeders;
     let to_read = &gates.readers;
@@ -166,7 +166,7 @@ fn run_all<
             ensures lists { IfOk result
                 (λ lists. length lists.items
                 ≡ length nodes.entry.items + length looking.entry.items + 1) }
-            ensures faults { IfErr result (λ fault. fault ≢ StormFault.Work WorkEnd.Done) }
+            ensures faults { IfErr result MayRefuse }
         {
             let mut writers = Vec::new(alloc);
             let mut feeders = Vec::new(alloc);

@@ -263,8 +263,8 @@ fn told_of_ended<R: Threads + Wait + Sync>(
     join_ended::<Brand, R>(rt, alloc, Blank::new(5), ends, lacks_memory)
 }
 
-/// Of several workers that are not done the first is told: feeders by node, then readers, then the vacuum. Before all of
-/// them comes want of memory.
+/// Of several workers that are not done the first is told: feeders by node, then readers, then the vacuum. Want of
+/// memory comes before all of them.
 #[test]
 fn the_first_worker_is_told(rt: HostRuntime) -> Result<(), Fail> {
     let done = WorkEnd::Done;

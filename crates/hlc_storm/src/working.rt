@@ -9,6 +9,7 @@ ghost use Rattle.hlc_workers.specs.declared.room.WorkEnd.{WorkEnd};
 ghost use Rattle.hlc_workers.specs.Paid.{IsPaid, event_of};
 ghost use Rattle.hlc_workers.specs.Feeding.{TookAll};
 ghost use Rattle.hlc_workers.specs.Rounds.{HasServed};
+ghost use Rattle.hlc_storm.specs.Found.{MayRefuse};
 ghost use Rattle.hlc_storm.specs.declared.working.TheConstants.{ROUNDS};
 ghost use Rattle.std.proofs.Props.{props};
 
@@ -235,7 +236,7 @@ pub(crate) fn join_all<L: Ledger, R: Threads + Wait>(
         (λ lists. length lists.items
         ≡ length started.feeders.items + length started.readers.items + 1) }
     ensures memory { IfOk result (λ _. started.lacks_memory ≡ false) }
-    ensures faults { IfErr result (λ fault. fault ≢ StormFault.Work WorkEnd.Done) }
+    ensures faults { IfErr result MayRefuse }
 {
     let Started {
         writers,

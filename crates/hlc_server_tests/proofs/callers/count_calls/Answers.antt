@@ -37,7 +37,7 @@ returns g c =
     let one = c.in_ok-push.ensures.items
     ∙ ap (λ l. l ++ (c.args.caller, c.args.receipts) ∷ []) c.new-lists.ensures.items in
     told c.settle.result c.map.result (length (claims_of c.push.new.self.items)) (length c.args.receipts.items)
-    (counted c.settle.ensures.0 (claims_of c.push.new.self.items) c.settle.result c.settle.ensures.1)
+    (counted c.settle.ensures.0 (claims_of c.push.new.self.items) c.settle.result c.settle.ensures.2)
     (ap (λ l. length (claims_of l)) one ∙ claimed c.args.caller.number c.args.receipts.items)
     c.map.ensures.cases
     (λ s calls post. Prim.search (rules, post))

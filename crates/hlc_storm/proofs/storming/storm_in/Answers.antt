@@ -5,11 +5,12 @@ use Rattle.hlc_core.specs.declared.reply.CoreReply.{CoreReply}
 use Rattle.hlc_core.specs.Past.{Step}
 use Rattle.hlc_core.specs.Kept.{Kept, nodes, StandsFor}
 use Rattle.hlc_core.specs.History.{IsLegalHistory, past_of}
+use Rattle.hlc_server.specs.declared.settle.SettleFault.TheVariants.{NoTrail}
 use Rattle.hlc_workers.specs.declared.room.WorkEnd.TheVariants.{Done}
 use Rattle.hlc_words.specs.declared.plan.StormPlan.{StormPlan}
 use Rattle.hlc_storm.specs.declared.report.StormReport.{StormReport}
 use Rattle.hlc_storm.specs.declared.report.StormFault.{StormFault}
-use Rattle.hlc_storm.specs.declared.report.StormFault.TheVariants.{Work, NoMemory}
+use Rattle.hlc_storm.specs.declared.report.StormFault.TheVariants.{Work, Settle, NoMemory}
 use Rattle.hlc_storm.specs.Found.{IsFoundIn, MayTell}
 use Rattle.hlc_storm.proofs.storming.storm_in.Goals as goal
 
@@ -19,10 +20,10 @@ found : (plan : StormPlan) (core : Kept) (history : List (CoreEvent × CoreReply
     → IfErr result (λ fault. fault ≡ NoMemory) → MayTell plan result
 found plan core history legal stands (Ok report) is lacks = (nodes core, history, legal, is (past_of history) stands)
 found plan core history legal stands (Err fault) is lacks =
-    λ (done : fault ≡ Work Done). let lack : fault ≡ NoMemory = lacks in cc
+    let lack : fault ≡ NoMemory = lacks in (λ (done : fault ≡ Work Done). cc, λ (none : fault ≡ Settle NoTrail). cc)
 
 pub returns-in-Ok : goal.returns-in-Ok
 returns-in-Ok g c =
-    let settles = c.in-Ok.ensures.1 in
+    let settles = c.in-Ok.ensures.2 in
     found c.args.plan _ _ settles.legal settles.stands.core c.report_of.result c.report_of.ensures.found
     c.report_of.ensures.memory

@@ -13,7 +13,7 @@ returns-clause-lists g c =
     let nodes = c.args.plan.nodes in
     let readers = c.args.plan.readers in
     let callers : length c.in-Ok.callers.items ≡ nodes + readers + 1 =
-    ap length c.in-Ok.ensures.1 ∙ length-map-range_with_len fresh_seat 0 (nodes + readers + 1) in
+    ap length c.in-Ok.ensures.callers ∙ length-map-range_with_len fresh_seat 0 (nodes + readers + 1) in
     let one = last_off _ _ _ c.in-Some.ensures.items in
     let passes : length c.in-Ok-new.passes.items ≡ readers =
     ap length c.in-Ok-new.ensures.passes ∙ length-replicate readers (blind c.in-Ok-new.board) in

@@ -1,0 +1,41 @@
+//! The lock of a shared store, by whether a trail is kept under it.
+ghost use Rattle.std.specs.Prelude.{◌≡◌};
+ghost use Rattle.std.specs.Option.{is_some};
+ghost use Rattle.hlc_server.specs.Sharing.{keeps_trail};
+
+use crate::guarded::Guarded;
+use crate::locked::Locked;
+use std::sync::Mutex;
+use std::sync::ledger::Ledger;
+
+/// The lock of a shared store.
+#[derive(Drop)]
+pub(crate) enum StoreLock<L: Ledger> {
+    /// A trail is kept under it.
+    Audited(Mutex<Locked<L, 1>>),
+    /// None is.
+    Plain(Mutex<Locked<L, 0>>),
+}
+
+impl<L: Ledger> StoreLock<L> {
+    /// A lock round this.
+    pub(crate) fn new(guarded: Guarded<L>) -> StoreLock<L>
+        ensures { keeps_trail result ≡ is_some guarded.trail }
+    {
+        if guarded.trail.is_some() {
+            StoreLock::Audited(Mutex::new(Locked { guarded }))
+        } else {
+            StoreLock::Plain(Mutex::new(Locked { guarded }))
+        }
+    }
+
+    /// Takes out what the lock kept.
+    pub(crate) fn into_inner(self) -> Guarded<L>
+        ensures { is_some result.trail ≡ keeps_trail self }
+    {
+        match self {
+            StoreLock::Audited(lock) => lock.into_inner().guarded,
+            StoreLock::Plain(lock) => lock.into_inner().guarded,
+        }
+    }
+}
