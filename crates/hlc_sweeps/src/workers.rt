@@ -1,7 +1,10 @@
 //! The workers round a shared store, one at a time and in one thread.
 ghost use Rattle.std.specs.Prelude.{◌≡◌, IfOk};
 ghost use Rattle.hlc_refused.specs.Tried.{IsSeenIn};
+ghost use Rattle.hlc_refused.specs.declared.subject.Seen.{Seen};
+ghost use Rattle.hlc_server.specs.declared.entry.NotDone.{NotDone};
 ghost use Rattle.hlc_workers.specs.Paid.{IsPaid};
+ghost use Rattle.hlc_workers.specs.declared.room.WorkEnd.{WorkEnd};
 ghost use Rattle.hlc_sweeps.specs.Workers.{AreJoined};
 
 use crate::ends::{Ends, Worker, ends_of};
@@ -12,7 +15,7 @@ use hlc_channel::LinkReceiver;
 use hlc_core::{Bytes, Item};
 use hlc_refused::subject::{Place, Seen};
 use hlc_refused::turn::Turn;
-use hlc_server::{Caller, Shared};
+use hlc_server::{Caller, Receipt, Shared};
 use hlc_workers::{Fed, FreeGate, Reader, Served, feed, serve_reader, serve_vacuum};
 use std::alloc::{AllocError, Global};
 use std::marker::Brand;
@@ -80,6 +83,22 @@ fn worked_in<L: Ledger, R: Wait + Threads + Sync>(
     } = store;
     let (served, left) = work(rt, alloc, &shared, caller, ends);
     turn.end();
+    seen_of(alloc, worker, shared, past, served, left)
+}
+
+/// What was seen of a worker, by its end, by the item that it left, and by what settles.
+fn seen_of<L: Ledger>(
+    alloc: Global,
+    worker: Worker,
+    shared: Shared<L>,
+    past: Vec<Receipt>,
+    served: Served<L>,
+    left: Option<Item>,
+) -> Result<Seen, AllocError>
+    ensures answered { IfOk result (λ seen. seen ≡ Seen.Answered → served.end ≡ WorkEnd.Done) }
+    ensures refused { IfOk result
+        (λ seen. seen ≡ Seen.Refused → served.end ≡ WorkEnd.Spent NotDone.NoMemory) }
+{
     if matches!(worker, Worker::Feeds) && !is_left(alloc, served.receipts.len(), left)? {
         return Ok(Seen::Wrong(Place::State));
     }
