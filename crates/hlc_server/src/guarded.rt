@@ -128,6 +128,7 @@ fn callers_of<L: Ledger>(
 ///
 /// It is not made where no number is left, or where memory lacks: all that it wants is taken before
 /// anything changes. Any other refusal is the reply of a call that was made.
+#[inline(always)]
 pub fn step_guarded<L: Ledger>(
     guarded: &mut Guarded<L>,
     caller: Caller<L>,
