@@ -4,7 +4,7 @@ ghost use Rattle.std.specs.Prelude.{◌≡◌, ◌<◌, ◌≤◌, ◌+◌};
 ghost use Rattle.hlc_board.specs.Views.{FeedersOf, PassesOf};
 
 use hlc_board::{Board, Feeder, FloorPass};
-use hlc_core::{Body, Core, CoreFault, CoreReply, Item, Stamp};
+use hlc_core::{Accepted, Body, Core, CoreFault, CoreReply, Item, Stamp};
 use hlc_server::{Caller, Shared};
 use std::alloc::{AllocError, Global};
 use std::rt::Clock;
@@ -99,18 +99,39 @@ fn report(node: u16, number: u64) -> Item
     }
 }
 
-/// Raises the board where the reply says that an item of the feeder's node was accepted, above what the
-/// feeder raised.
-fn raise_if(raising: &mut Raising<'_>, reply: &CoreReply) {
-    if let CoreReply::Accepted(accepted) = reply {
+/// What was accepted, by a reply.
+fn accepted_in(reply: &CoreReply) -> Option<Accepted> {
+    match reply {
+        CoreReply::Accepted(accepted) => Some(*accepted),
+        _ => None,
+    }
+}
+
+/// Hands in an item. Returns the caller, and what was accepted.
+pub(crate) fn hand_in<L: Ledger, R: Wait>(
+    rt: &R,
+    shared: &Shared<L>,
+    caller: Caller<L>,
+    item: Item,
+) -> (Caller<L>, Option<Accepted>) {
+    let (caller, answer) = shared.accept(rt, caller, item);
+    match answer {
+        Ok(receipt) => (caller, accepted_in(&receipt.reply)),
+        Err(_) => (caller, None),
+    }
+}
+
+/// Raises the board where what was accepted is of the feeder's node, and above what the feeder raised.
+fn raise_if(raising: &mut Raising<'_>, accepted: Option<Accepted>) {
+    if let Some(accepted) = accepted {
         if accepted.node() == raising.feeder.node() && raising.feeder.raised() < accepted.stamp() {
-            raising.board.raise(&mut raising.feeder, accepted);
+            raising.board.raise(&mut raising.feeder, &accepted);
         }
     }
 }
 
 /// Hands in reports of all nodes in turn, and raises the board with each after the lock is free, until
-/// told to stop. Gives how many.
+/// it is stopped. Returns how many.
 fn hand_in_until<L: Ledger, R: Wait>(
     rt: &R,
     shared: &Shared<L>,
@@ -127,11 +148,9 @@ fn hand_in_until<L: Ledger, R: Wait>(
         }
         for i in 0..nodes {
             let item = report(raising[i].feeder.node(), number);
-            let (back, told) = shared.accept(rt, caller, item);
+            let (back, accepted) = hand_in(rt, shared, caller, item);
             caller = back;
-            if let Ok(receipt) = told {
-                raise_if(&mut raising[i], &receipt.reply);
-            }
+            raise_if(&mut raising[i], accepted);
         }
     }
     (caller, 0)
@@ -185,7 +204,6 @@ fn stopped<R: Clock>(rt: &R, start: Instant, stop: &AtomicBool) -> io::Result<u1
 
 /// What looks by so many readers at the floor of a board of so many nodes take. The writer hands in at a
 /// shared store, which keeps no trail.
-#[tactic(auto, using(hlc_board::proofs::PlaceLemmas::feeders_new, hlc_board::proofs::PlaceLemmas::passes_new))]
 pub(crate) fn on_a_board<L: Ledger + Send + Sync, R: Threads + Wait + Sync + Clock>(
     rt: &R,
     alloc: Global,
@@ -199,23 +217,37 @@ pub(crate) fn on_a_board<L: Ledger + Send + Sync, R: Threads + Wait + Sync + Clo
     let Ok((shared, mut callers)) = Shared::<L>::new(alloc, blank, nodes, 1, false) else {
         return Ok(None);
     };
+    match callers.pop() {
+        Some(writer) => look_on_board(rt, alloc, &shared, writer, nodes, readers),
+        None => Ok(None),
+    }
+}
+
+/// What looks at the floor of a board take while this caller writes.
+#[tactic(auto, using(hlc_board::proofs::PlaceLemmas::feeders_new, hlc_board::proofs::PlaceLemmas::passes_new))]
+fn look_on_board<L: Ledger + Send + Sync, R: Threads + Wait + Sync + Clock>(
+    rt: &R,
+    alloc: Global,
+    shared: &Shared<L>,
+    writer: Caller<L>,
+    nodes: u16,
+    readers: u16,
+) -> io::Result<Option<Looked>>
+    requires { readers ≤ 64 }
+{
     let Ok((board, feeders, passes)) = Board::new(alloc, nodes, usize::from(readers)) else {
         return Ok(None);
     };
-    let Some(writer) = callers.pop() else {
-        return Ok(None);
-    };
-    let raising = raising_all(alloc, &board, feeders)?;
     let looking = looking_all(alloc, &board, passes)?;
-    let store = &shared;
+    let raising = raising_all(alloc, &board, feeders)?;
     timed_beside(
         rt,
-        |stop: &AtomicBool| hand_in_until(rt, store, writer, raising, stop).1,
+        |stop: &AtomicBool| hand_in_until(rt, shared, writer, raising, stop).1,
         || thread::map_vec(rt, looking, &|one| look_often(one)),
     )
 }
 
-/// The floor that a refused opening tells; 0 where the reply is another.
+/// The floor that a refused opening names; 0 where the reply is another.
 fn floor_in(reply: &CoreReply) -> u64 {
     match reply {
         CoreReply::Refused(CoreFault::AboveFloor { floor }) => floor.bits(),
@@ -223,8 +255,17 @@ fn floor_in(reply: &CoreReply) -> u64 {
     }
 }
 
-/// Looks often at the floor by an opening that is refused since its stamp is above it, and gives the
-/// greatest that was seen. Each look holds the lock once, takes no memory and opens nothing.
+/// Looks at the floor by an opening that is refused since its stamp is above it.
+fn ask<L: Ledger, R: Wait>(rt: &R, shared: &Shared<L>, caller: Caller<L>) -> (Caller<L>, u64) {
+    let (caller, answer) = shared.open(rt, caller, Stamp::from_bits(u64::MAX));
+    match answer {
+        Ok(receipt) => (caller, floor_in(&receipt.reply)),
+        Err(_) => (caller, 0),
+    }
+}
+
+/// Looks often at the floor, and returns the greatest that was seen. Each look holds the lock once, takes no memory
+/// and opens nothing.
 fn ask_often<L: Ledger, R: Wait>(
     rt: &R,
     shared: &Shared<L>,
@@ -233,18 +274,15 @@ fn ask_often<L: Ledger, R: Wait>(
     let mut caller = caller;
     let mut greatest = 0;
     for _ in 0..LOOKS {
-        let (back, told) = shared.open(rt, caller, Stamp::from_bits(u64::MAX));
+        let (back, floor) = ask(rt, shared, caller);
         caller = back;
-        if let Ok(receipt) = told {
-            greatest = greatest.max(floor_in(&receipt.reply));
-        }
+        greatest = greatest.max(floor);
     }
     (caller, greatest)
 }
 
 /// What looks by so many readers at the floor of a shared store of so many nodes take. It keeps no trail,
 /// and its writer raises a board too.
-#[tactic(auto, using(hlc_board::proofs::PlaceLemmas::feeders_new))]
 pub(crate) fn in_a_shared_store<L: Ledger + Send + Sync, R: Threads + Wait + Sync + Clock>(
     rt: &R,
     alloc: Global,
@@ -258,18 +296,30 @@ pub(crate) fn in_a_shared_store<L: Ledger + Send + Sync, R: Threads + Wait + Syn
     let Ok((shared, mut callers)) = Shared::<L>::new(alloc, blank, nodes, readers + 1, false) else {
         return Ok(None);
     };
+    match callers.pop() {
+        Some(writer) => look_in_store(rt, alloc, &shared, writer, callers, nodes),
+        None => Ok(None),
+    }
+}
+
+/// What these callers' looks at the floor of a shared store take while another caller writes.
+#[tactic(auto, using(hlc_board::proofs::PlaceLemmas::feeders_new))]
+fn look_in_store<L: Ledger + Send + Sync, R: Threads + Wait + Sync + Clock>(
+    rt: &R,
+    alloc: Global,
+    shared: &Shared<L>,
+    writer: Caller<L>,
+    readers: Vec<Caller<L>>,
+    nodes: u16,
+) -> io::Result<Option<Looked>> {
     let Ok((board, feeders, _)) = Board::new(alloc, nodes, 0) else {
         return Ok(None);
     };
-    let Some(writer) = callers.pop() else {
-        return Ok(None);
-    };
     let raising = raising_all(alloc, &board, feeders)?;
-    let store = &shared;
     timed_beside(
         rt,
-        |stop: &AtomicBool| hand_in_until(rt, store, writer, raising, stop).1,
-        || thread::map_vec(rt, callers, &|caller| ask_often(rt, store, caller)),
+        |stop: &AtomicBool| hand_in_until(rt, shared, writer, raising, stop).1,
+        || thread::map_vec(rt, readers, &|caller| ask_often(rt, shared, caller)),
     )
 }
 

@@ -30,42 +30,56 @@ fn item(node: u16, number: u64, body: Body) -> Item
     }
 }
 
-/// A store to which so many nodes were given numbers, of which the first ones retired.
-fn store_of(alloc: Global, nodes: u16, gone: u16) -> Option<Core> {
-    let mut core = Core::new(alloc, nodes.min(64)).ok()?;
+/// Assigns numbers to so many nodes, of which the first ones retire. Returns whether memory was enough.
+fn join_all(core: &mut Core, nodes: u16, gone: u16) -> bool {
     for _ in 64..nodes {
-        core.join().ok()?;
+        if core.join().is_err() {
+            return false;
+        }
     }
     for node in 0..gone {
         drop(core.accept(item(node, 0, Body::Retire)));
     }
-    Some(core)
+    true
+}
+
+/// A store to which so many nodes were assigned numbers, of which the first ones retired.
+fn store_of(alloc: Global, nodes: u16, gone: u16) -> Option<Core> {
+    let mut core = Core::new(alloc, nodes.min(64)).ok()?;
+    if join_all(&mut core, nodes, gone) {
+        Some(core)
+    } else {
+        None
+    }
 }
 
 /// What reports take of all nodes that have not retired, in turn, each with a question for the floor.
-pub(crate) fn deliver_all<R: Clock>(
-    rt: &R,
-    alloc: Global,
-    nodes: u16,
-    gone: u16,
-) -> io::Result<Option<Delivered>> {
-    let Some(core) = store_of(alloc, nodes, gone) else {
-        return Ok(None);
-    };
-    let mut core = core;
+fn deliver<R: Clock>(rt: &R, core: &mut Core, nodes: u16, gone: u16) -> io::Result<Delivered> {
     let mut greatest = 0;
-    let start = Instant::now(rt)?;
     let left = u64::from(nodes.saturating_sub(gone)).max(1);
+    let start = Instant::now(rt)?;
     for number in 0..DELIVERIES / left {
         for node in gone..nodes {
             drop(core.accept(item(node, number, Body::Report)));
             greatest = greatest.max(core.floor().bits());
         }
     }
-    let took = start.elapsed(rt)?;
-    Ok(Some(Delivered {
+    Ok(Delivered {
         items: DELIVERIES / left * left,
-        nanos: took.as_nanos(),
+        nanos: start.elapsed(rt)?.as_nanos(),
         floor: Stamp::from_bits(greatest),
-    }))
+    })
+}
+
+/// Deliveries to a store of so many nodes, of which so many retired, timed. None where memory runs out.
+pub(crate) fn deliver_all<R: Clock>(
+    rt: &R,
+    alloc: Global,
+    nodes: u16,
+    gone: u16,
+) -> io::Result<Option<Delivered>> {
+    match store_of(alloc, nodes, gone) {
+        Some(mut core) => Ok(Some(deliver(rt, &mut core, nodes, gone)?)),
+        None => Ok(None),
+    }
 }

@@ -1,122 +1,43 @@
-//! Calls of a shared store, timed: reads of 64 keys by so many threads, without a trail or with one; looks
-//! at the floor, on a board and behind a lock; and deliveries to a store to which many nodes came, and left.
+//! Calls, timed: reads of a shared store by several threads; looks at a floor, on a board and behind a lock;
+//! deliveries to a store to which many nodes came, and left; and writes and reads of one store in one thread.
 #![tactic(auto)]
 
-ghost use Rattle.std.specs.Prelude.{◌≡◌, ◌<◌, ◌≤◌};
+ghost use Rattle.std.specs.Prelude.{◌<◌, ◌≤◌};
 
+mod core_calls;
 mod floors;
 mod joined;
+mod reads;
 
-use floors::Looked;
-use hlc_core::{Body, Bytes, Item, Stamp};
-use hlc_server::{Caller, Receipt, Shared};
+use core_calls::Timed;
+use floors::{Looked, NODES};
 use joined::Delivered;
-use std::alloc::{AllocError, Global};
+use reads::CALLS;
 use std::marker::Brand;
 use std::rt::Clock;
 use std::sync::Wait;
-use std::sync::ledger::{Blank, Ledger};
+use std::sync::ledger::Blank;
 use std::thread::Threads;
-use std::time::Instant;
-use std::{env, io, thread};
-
-/// How many keys are written, and read in turn.
-const KEYS: u8 = 64;
-
-/// How many calls all threads make.
-const CALLS: u64 = 400_000;
-
-/// A key or a value of one byte.
-fn bytes(alloc: Global, byte: u8) -> Result<Bytes, AllocError> {
-    let mut bytes = Vec::new(alloc);
-    bytes.push(byte)?;
-    Ok(Bytes::from_vec(bytes))
-}
-
-/// The write of this number on the only node's link, to a key of its own.
-fn write(alloc: Global, number: u8) -> Result<Item, AllocError> {
-    Ok(Item {
-        node: 0,
-        number: u64::from(number),
-        stamp: Stamp::from_bits((u64::from(number) + 1) * 65_536),
-        body: Body::Write {
-            key: bytes(alloc, number)?,
-            value: Some(bytes(alloc, 7)?),
-        },
-    })
-}
-
-/// So many reads in the first snapshot, and their receipts.
-fn read_all<L: Ledger, R: Wait>(
-    rt: &R,
-    alloc: Global,
-    shared: &Shared<L>,
-    caller: Caller<L>,
-    calls: u64,
-) -> Result<(Caller<L>, Vec<Receipt>), AllocError> {
-    let mut caller = caller;
-    let mut receipts = Vec::new(alloc);
-    for round in 0..calls {
-        let key = bytes(alloc, (round % u64::from(KEYS)) as u8)?;
-        let (back, told) = shared.read(rt, caller, 1, key);
-        caller = back;
-        if let Ok(receipt) = told {
-            receipts.push(receipt)?;
-        }
-    }
-    Ok((caller, receipts))
-}
-
-/// The microseconds that all calls take, by so many threads.
-fn timed<L: Ledger + Send + Sync, R: Threads + Wait + Sync + Clock>(
-    rt: &R,
-    alloc: Global,
-    blank: Blank,
-    threads: u16,
-    trail: bool,
-) -> io::Result<u128>
-    requires { (blank.name ≡ L.name) × (blank.parts ≡ L.parts) × (blank.parts ≡ threads)
-        × (0 < threads) }
-{
-    let Ok((shared, mut callers)) = Shared::<L>::new(alloc, blank, 1, threads, trail) else {
-        return Ok(0);
-    };
-    let Some(first) = callers.pop() else {
-        return Ok(0);
-    };
-    let mut first = first;
-    for number in 0..KEYS {
-        let (back, _) = shared.accept(rt, first, write(alloc, number)?);
-        first = back;
-    }
-    let (first, _) = shared.open_floor(rt, first);
-    callers.push(first)?;
-    let store = &shared;
-    let share = CALLS / u64::from(threads);
-    let start = Instant::now(rt)?;
-    let done = thread::map_vec(
-        rt,
-        callers,
-        &|caller| read_all(rt, alloc, store, caller, share),
-    )?;
-    let took = start.elapsed(rt)?;
-    drop(done);
-    Ok(took.as_micros())
-}
+use std::{env, io};
 
 /// The word at a place; the program's name is at 0.
 fn word(rt: &HostRuntime, place: usize) -> Option<String> {
     env::args(rt).ok()?.nth(place)
 }
 
+/// The text of a word; none where there is no such word.
+fn text(word: &Option<String>) -> &str {
+    match word {
+        Some(word) => word.as_str(),
+        None => "",
+    }
+}
+
 /// The number of threads that a word names; 1 where it names none of 1 to 4.
-fn threads_in(word: Option<String>) -> u16
+fn threads_in(word: &str) -> u16
     ensures { (0 < result) × (result ≤ 4) }
 {
-    let Some(word) = word else {
-        return 1;
-    };
-    match word.as_str() {
+    match word {
         "2" => 2,
         "3" => 3,
         "4" => 4,
@@ -124,33 +45,9 @@ fn threads_in(word: Option<String>) -> u16
     }
 }
 
-/// Times looks at a floor by so many readers: `board`, `shared` or `lock`.
-fn looked<R: Threads + Wait + Sync + Clock>(
-    rt: &R,
-    alloc: Global,
-    place: &str,
-    readers: u16,
-) -> io::Result<Option<Looked>>
-    requires { readers ≤ 4 }
-{
-    let nodes = floors::NODES;
-    match place {
-        "board" => floors::on_a_board::<Brand, _>(rt, alloc, Blank::new(1), nodes, readers),
-        "shared" => {
-            let blank = Blank::new(u64::from(readers) + 1);
-            floors::in_a_shared_store::<Brand, _>(rt, alloc, blank, nodes, readers)
-        }
-        "lock" => floors::behind_a_lock(rt, alloc, readers),
-        _ => Ok(None),
-    }
-}
-
-/// The count that a word names; 0 where it names none of those that are measured.
-fn count_in(word: Option<String>) -> u16 {
-    let Some(word) = word else {
-        return 0;
-    };
-    match word.as_str() {
+/// The number of nodes that a word names; 0 where it names none of those that are measured.
+fn nodes_in(word: &str) -> u16 {
+    match word {
         "64" => 64,
         "960" => 960,
         "1024" => 1_024,
@@ -158,50 +55,130 @@ fn count_in(word: Option<String>) -> u16 {
     }
 }
 
-/// With `nodes`, how many numbers were given and how many of those nodes retired, it times deliveries to
-/// such a store. With `board`, `shared` or `lock` and a number of readers it times their looks at a floor
-/// there. Else it times the calls of as many threads as the first word says, with a trail where the second
-/// is `on`.
-/// With no word it times nothing.
-fn main(rt: HostRuntime) -> io::Result<()> {
-    let alloc = rt.alloc();
-    let Some(first) = word(&rt, 1) else {
-        return Ok(());
-    };
-    let second = word(&rt, 2);
-    let place = first.as_str();
-    if place == "nodes" {
-        let (nodes, gone) = (count_in(second), count_in(word(&rt, 3)));
-        let Some(
-            Delivered {
-                items,
-                nanos,
-                floor,
-            },
-        ) = joined::deliver_all(&rt, alloc, nodes, gone)?
-        else {
-            return Ok(());
-        };
-        return println!(rt; "nodes {nodes} gone {gone} items {items} nanos {nanos} floor {floor}");
-    }
-    if place == "board" || place == "shared" || place == "lock" {
-        let readers = threads_in(second);
-        let Some(
+/// Prints what looks at a floor took.
+fn print_looks(
+    rt: &HostRuntime,
+    place: &str,
+    readers: u16,
+    looked: Option<Looked>,
+) -> io::Result<()> {
+    match looked {
+        Some(
             Looked {
                 looks,
                 nanos,
                 raises,
             },
-        ) = looked(&rt, alloc, place, readers)?
-        else {
-            return Ok(());
-        };
-        return println!(rt;
-            "{place} readers {readers} looks {looks} nanos {nanos} raises {raises}"
-        );
+        ) => {
+            println!(rt; "{place} readers {readers} looks {looks} nanos {nanos} raises {raises}")
+        }
+        None => Ok(()),
     }
-    let trail = second.is_some_and(|word| word.as_str() == "on");
-    let threads = threads_in(Some(first));
-    let took = timed::<Brand, _>(&rt, alloc, Blank::new(u64::from(threads)), threads, trail)?;
-    println!(rt; "threads {threads} trail {trail} calls {CALLS} micros {took}")
+}
+
+/// Times looks at a floor on a board, by so many readers.
+fn time_board<R: Threads + Wait + Sync + Clock>(
+    host: &HostRuntime,
+    rt: &R,
+    readers: u16,
+) -> io::Result<()>
+    requires { readers ≤ 4 }
+{
+    let blank = Blank::new(1);
+    let looked = floors::on_a_board::<Brand, _>(rt, host.alloc(), blank, NODES, readers)?;
+    print_looks(host, "board", readers, looked)
+}
+
+/// Times looks at a floor through a shared store, by so many readers.
+fn time_shared<R: Threads + Wait + Sync + Clock>(
+    host: &HostRuntime,
+    rt: &R,
+    readers: u16,
+) -> io::Result<()>
+    requires { readers ≤ 4 }
+{
+    let blank = Blank::new(u64::from(readers) + 1);
+    let looked = floors::in_a_shared_store::<Brand, _>(rt, host.alloc(), blank, NODES, readers)?;
+    print_looks(host, "shared", readers, looked)
+}
+
+/// Times looks at a floor behind a lock, by so many readers.
+fn time_lock<R: Threads + Wait + Sync + Clock>(
+    host: &HostRuntime,
+    rt: &R,
+    readers: u16,
+) -> io::Result<()> {
+    let looked = floors::behind_a_lock(rt, host.alloc(), readers)?;
+    print_looks(host, "lock", readers, looked)
+}
+
+/// Times deliveries to a store of so many nodes, of which so many retired.
+fn time_deliveries(rt: &HostRuntime, nodes: u16, gone: u16) -> io::Result<()> {
+    match joined::deliver_all(rt, rt.alloc(), nodes, gone)? {
+        Some(
+            Delivered {
+                items,
+                nanos,
+                floor,
+            },
+        ) => { println!(rt; "nodes {nodes} gone {gone} items {items} nanos {nanos} floor {floor}") }
+        None => Ok(()),
+    }
+}
+
+/// Times writes and reads of one store in one thread.
+fn time_core(rt: &HostRuntime) -> io::Result<()> {
+    let calls = core_calls::CALLS;
+    match core_calls::measure(rt, rt.alloc())? {
+        Some(
+            Timed {
+                accept,
+                read,
+                found,
+            },
+        ) => { println!(rt; "calls {calls} accept nanos {accept} read nanos {read} found {found}") }
+        None => Ok(()),
+    }
+}
+
+/// Times reads of a shared store by so many threads, with a trail or without.
+fn time_reads<R: Threads + Wait + Sync + Clock>(
+    host: &HostRuntime,
+    rt: &R,
+    threads: u16,
+    trail: bool,
+) -> io::Result<()>
+    requires { 0 < threads }
+{
+    let blank = Blank::new(u64::from(threads));
+    let took = reads::timed::<Brand, _>(rt, host.alloc(), blank, threads, trail)?;
+    println!(host; "threads {threads} trail {trail} calls {CALLS} micros {took}")
+}
+
+/// Times what the words ask for.
+fn time<R: Threads + Wait + Sync + Clock>(
+    host: &HostRuntime,
+    rt: &R,
+    first: &str,
+    second: &str,
+    third: &str,
+) -> io::Result<()> {
+    match first {
+        "" => Ok(()),
+        "core" => time_core(host),
+        "nodes" => time_deliveries(host, nodes_in(second), nodes_in(third)),
+        "board" => time_board(host, rt, threads_in(second)),
+        "shared" => time_shared(host, rt, threads_in(second)),
+        "lock" => time_lock(host, rt, threads_in(second)),
+        threads => time_reads(host, rt, threads_in(threads), second == "on"),
+    }
+}
+
+/// `core` times writes and reads of one store in one thread. `nodes`, how many numbers were assigned and how many of
+/// those nodes retired, times deliveries to such a store. `board`, `shared` or `lock` and a number of readers times
+/// their looks at a floor there. A number of threads times the reads of so many, with a trail where the second word is
+/// `on`. With no word nothing is timed.
+fn main(rt: HostRuntime) -> io::Result<()> {
+    let (first, second, third) = (word(&rt, 1), word(&rt, 2), word(&rt, 3));
+    time(&rt, &rt, text(&first), text(&second), text(&third))
 }

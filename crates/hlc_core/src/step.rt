@@ -72,14 +72,7 @@ impl Core {
                 Ok((id, stamp)) => Ok(CoreReply::Opened { id, stamp }),
                 Err(fault) => told(fault),
             },
-            CoreEvent::Read { id, key } => match self.read(*id, key.as_slice()) {
-                Err(_) => Ok(CoreReply::Refused(CoreFault::NoSnapshot)),
-                Ok(None) => Ok(CoreReply::Answer(None)),
-                Ok(Some(bytes)) => match Vec::from_slice(self.alloc, bytes) {
-                    Ok(copy) => Ok(CoreReply::Answer(Some(Bytes::from_vec(copy)))),
-                    Err(_) => Err(NoMemory),
-                },
-            },
+            CoreEvent::Read { id, key } => self.read_copy(*id, key.as_slice()),
             CoreEvent::List(id) => match self.list(*id) {
                 Ok(pairs) => Ok(CoreReply::Listing(pairs)),
                 Err(fault) => told(fault),
@@ -89,6 +82,22 @@ impl Core {
                 Err(_) => Ok(CoreReply::Refused(CoreFault::NoSnapshot)),
             },
             CoreEvent::Vacuum => Ok(CoreReply::Vacuumed(self.vacuum()?)),
+        }
+    }
+
+    /// The reply to a read, with a copy of the value.
+    fn read_copy(&self, id: u64, key: &[u8]) -> Result<CoreReply, NoMemory>
+        ensures stands { (history : List (AnEvent × AReply)) → StandsForHistory self.now history
+            → Steps self.now self.now (CoreEvent.Read id key.now) history result }
+        ensures form { IfOk result (λ reply. IsReplyTo (CoreEvent.Read id key.now) reply) }
+    {
+        match self.read(id, key) {
+            Err(_) => Ok(CoreReply::Refused(CoreFault::NoSnapshot)),
+            Ok(None) => Ok(CoreReply::Answer(None)),
+            Ok(Some(bytes)) => match Vec::from_slice(self.alloc, bytes) {
+                Ok(copy) => Ok(CoreReply::Answer(Some(Bytes::from_vec(copy)))),
+                Err(_) => Err(NoMemory),
+            },
         }
     }
 }

@@ -23,16 +23,28 @@ fn bytes(alloc: Global, text: &[u8]) -> Result<Bytes, AllocError>
     Ok(Bytes::from_vec(Vec::from_slice(alloc, text)?))
 }
 
-/// Reads a city in an old snapshot and in a new one, and vacuums.
+/// Reads a city of a new store in an old snapshot and in a new one, and vacuums.
 pub(crate) fn tell<W: Write>(alloc: Global, writer: &mut Watched<W>) -> Result<Shown, Stopped>
     ensures { IfOk result (λ shown. Tells W.contents writer.old writer.new shown) }
 {
     let mut core = Core::new(alloc, 2)?;
-    let (early, late) = fill(alloc, &mut core)?;
+    tell_of(alloc, &mut core, writer)
+}
+
+/// The same of a store that is there.
+fn tell_of<W: Write>(
+    alloc: Global,
+    core: &mut Core,
+    writer: &mut Watched<W>,
+) -> Result<Shown, Stopped>
+    ensures { IsStanding core.old
+        → IfOk result (λ shown. Tells W.contents writer.old writer.new shown) }
+{
+    let (early, late) = fill(alloc, core)?;
     let mut waiting = Waiting::new();
-    put_read(writer, &mut waiting, &core, early, b"city")?;
-    put_read(writer, &mut waiting, &core, late, b"city")?;
-    let shown = put_vacuum(writer, &mut waiting, &mut core)?;
+    put_read(writer, &mut waiting, core, early, b"city")?;
+    put_read(writer, &mut waiting, core, late, b"city")?;
+    let shown = put_vacuum(writer, &mut waiting, core)?;
     finish(writer, &mut waiting);
     Ok(shown)
 }

@@ -2,7 +2,7 @@
 use Rattle.std.specs.Prelude.{◌≡◌, ℕ, [], Option, Some, None, MatchOption, ⊤}
 use Rattle.hlc_core.specs.Kept.{Kept, StandsFor, nodes}
 use Rattle.hlc_core.specs.Calls.{new_refusal}
-use Rattle.hlc_ffi.specs.Told.{IsAnswered}
+use Rattle.hlc_calls.specs.Told.{IsAnswered}
 
 -- an open store is told of and stays open; a closed one stays closed, and its answer is this
 abbrev pub OnStore : Option Kept → Option Kept → Type 0 → (Kept → Kept → Type 0) → Type 0

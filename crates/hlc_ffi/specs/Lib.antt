@@ -1,7 +1,1 @@
-pub mod Answers
-pub mod Batch
-pub mod Certified
 pub mod Held
-pub mod Listing
-pub mod Nodes
-pub mod Told

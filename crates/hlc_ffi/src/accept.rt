@@ -5,12 +5,12 @@ ghost use Rattle.hlc_node.specs.declared.item.Body.TheVariants.{Retire as a_reti
 ghost use Rattle.hlc_node.specs.Items.{an_item};
 ghost use Rattle.hlc_core.specs.Past.{Step};
 ghost use Rattle.hlc_core.specs.Kept.{StandsFor};
-ghost use Rattle.hlc_ffi.specs.Answers.{TellsAccepted, TellsChecked, TellsJoined};
+ghost use Rattle.hlc_calls.specs.Answers.{TellsAccepted, TellsChecked, TellsJoined};
 ghost use Rattle.hlc_ffi.specs.Held.{OnStore, nodes_held};
 
 use crate::held::on_core;
-use crate::items::write_fault;
-use crate::{items, told};
+use hlc_calls::items::write_fault;
+use hlc_calls::{items, open_store};
 use hlc_core::{Body, Core};
 use hlc_handle::Store;
 use std::alloc::Global;
@@ -36,10 +36,9 @@ pub extern "C" fn hlc_accept_write(
     ensures nodes { nodes_held store.new.room.value ≡ nodes_held store.old.room.value }
 {
     *word = 0;
-    let mut call = |core: &mut Core| {
+    on_core!(alloc, store, |core| {
         items::write(alloc, core, node, number, stamp, key, Some(value), word)
-    };
-    on_core(alloc, store, &mut call)
+    })
 }
 
 /// Accepts the deletion that a node issued under this number: 0 and its stamp, or a refusal and its
@@ -62,10 +61,9 @@ pub extern "C" fn hlc_accept_delete(
     ensures nodes { nodes_held store.new.room.value ≡ nodes_held store.old.room.value }
 {
     *word = 0;
-    let mut call = |core: &mut Core| {
+    on_core!(alloc, store, |core| {
         items::write(alloc, core, node, number, stamp, key, None, word)
-    };
-    on_core(alloc, store, &mut call)
+    })
 }
 
 /// Accepts the report that a node issued under this number: 0 and its stamp, or a refusal and its
@@ -87,8 +85,11 @@ pub extern "C" fn hlc_accept_report(
     ensures nodes { nodes_held store.new.room.value ≡ nodes_held store.old.room.value }
 {
     *word = 0;
-    let mut call = |core: &mut Core| told::accept(core, node, number, stamp, Body::Report, word);
-    on_core(alloc, store, &mut call)
+    on_core!(
+        alloc,
+        store,
+        |core| open_store::accept(core, node, number, stamp, Body::Report, word)
+    )
 }
 
 /// Accepts a node's last item, which it issued under this number: 0 and its stamp, or a refusal and
@@ -110,8 +111,11 @@ pub extern "C" fn hlc_accept_retire(
     ensures nodes { nodes_held store.new.room.value ≡ nodes_held store.old.room.value }
 {
     *word = 0;
-    let mut call = |core: &mut Core| told::accept(core, node, number, stamp, Body::Retire, word);
-    on_core(alloc, store, &mut call)
+    on_core!(
+        alloc,
+        store,
+        |core| open_store::accept(core, node, number, stamp, Body::Retire, word)
+    )
 }
 
 /// Why `hlc_accept_write` would refuse a write, memory aside: 0, or the refusal and its word.
@@ -134,8 +138,11 @@ pub extern "C" fn hlc_check_write(
 {
     *word = 0;
     let bad = write_fault(key, Some(value));
-    let mut call = |core: &mut Core| items::check(core, node, number, stamp, bad, word);
-    on_core(alloc, store, &mut call)
+    on_core!(
+        alloc,
+        store,
+        |core| items::check(core, node, number, stamp, bad, word)
+    )
 }
 
 /// Why `hlc_accept_delete` would refuse a deletion, memory aside: 0, or the refusal and its word.
@@ -157,8 +164,11 @@ pub extern "C" fn hlc_check_delete(
 {
     *word = 0;
     let bad = write_fault(key, None);
-    let mut call = |core: &mut Core| items::check(core, node, number, stamp, bad, word);
-    on_core(alloc, store, &mut call)
+    on_core!(
+        alloc,
+        store,
+        |core| items::check(core, node, number, stamp, bad, word)
+    )
 }
 
 /// Why `hlc_accept_report`, or `hlc_accept_retire`, would refuse an item: 0, or the refusal and its
@@ -181,8 +191,11 @@ pub extern "C" fn hlc_check_report(
     ensures same { store.new.room.value ≡ store.old.room.value }
 {
     *word = 0;
-    let mut call = |core: &mut Core| items::check(core, node, number, stamp, None, word);
-    on_core(alloc, store, &mut call)
+    on_core!(
+        alloc,
+        store,
+        |core| items::check(core, node, number, stamp, None, word)
+    )
 }
 
 /// Lets a node join: 0, its number and the stamp that its clock starts at; or 26 or 15.
@@ -198,6 +211,5 @@ pub extern "C" fn hlc_join(alloc: Global, store: &mut Store, node: &mut u16, sta
 {
     *node = 0;
     *start = 0;
-    let mut call = |core: &mut Core| told::join(core, node, start);
-    on_core(alloc, store, &mut call)
+    on_core!(alloc, store, |core| open_store::join(core, node, start))
 }

@@ -1,24 +1,19 @@
 //! What a handle holds, for one call.
-ghost use Rattle.std.specs.Prelude.{◌≡◌};
-ghost use Rattle.std.specs.Fn.{CalledAtMut};
-ghost use Rattle.hlc_ffi.specs.Held.{OnStore};
 
-use hlc_core::Core;
-use hlc_handle::Store;
-use std::alloc::Global;
-
-/// Makes a call on the core of an open store, and answers 100 of a closed one.
-pub fn on_core<F: FnMut(&mut Core) -> u32>(alloc: Global, store: &mut Store, call: &mut F) -> u32
-    requires { F.IsAlwaysCallable call.old }
-    ensures { OnStore store.old.room.value store.new.room.value
-        ((result ≡ 100) × (call.new ≡ call.old))
-        (λ old new. CalledAtMut F.FnMut call.old old result call.new new) }
-{
-    let Some(held) = store.take(alloc) else {
-        return 100;
+/// Makes a call on the core of an open store, and puts the core back. Returns 100 for a closed store.
+macro_rules! on_core {
+    ($alloc:expr, $store:expr, |$core:ident| $call:expr) => {
+        match $store.take($alloc) {
+            None => 100,
+            Some(taken) => {
+                let mut held = taken;
+                let $core: &mut hlc_core::Core = &mut held;
+                let code = $call;
+                $store.put(held);
+                code
+            }
+        }
     };
-    let mut held = held;
-    let code = call(&mut held);
-    store.put(held);
-    code
 }
+
+pub(crate) use on_core;

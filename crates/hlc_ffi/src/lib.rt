@@ -8,15 +8,12 @@ ghost use Rattle.hlc_ffi.specs.Held.{IsOpening};
 
 pub mod accept;
 pub mod batch;
-mod certify;
 mod held;
-mod items;
-mod list;
 pub mod node;
 pub mod read;
-mod told;
 pub mod vacuum;
 
+use hlc_calls::codes::number_of;
 use hlc_core::Core;
 pub use hlc_handle::Store;
 use std::alloc::Global;
@@ -33,7 +30,7 @@ pub extern "C" fn hlc_open(alloc: Global, store: &mut Store, count: u16) -> u32
     }
     let core = match Core::new(alloc, count) {
         Ok(core) => core,
-        Err(fault) => return told::number_of(fault),
+        Err(fault) => return number_of(fault),
     };
     match Box::new(alloc, core) {
         Ok(held) => {

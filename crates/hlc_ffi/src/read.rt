@@ -2,13 +2,13 @@
 ghost use Rattle.std.specs.Prelude.{◌≡◌, ◌≢◌, List, length};
 ghost use Rattle.hlc_core.specs.Past.{Step, floor, stamp_of, writes};
 ghost use Rattle.hlc_core.specs.Kept.{StandsFor, nodes};
-ghost use Rattle.hlc_ffi.specs.Answers.{TellsOpened, TellsOpenedAtFloor, TellsClosed, TellsRead, narrowed};
-ghost use Rattle.hlc_ffi.specs.Listing.{IsListedTo};
+ghost use Rattle.hlc_calls.specs.Answers.{TellsOpened, TellsOpenedAtFloor, TellsClosed, TellsRead, narrowed};
+ghost use Rattle.hlc_calls.specs.Listing.{IsListedTo};
 ghost use Rattle.hlc_ffi.specs.Held.{OnStore, nodes_held};
 
 use crate::held::on_core;
-use crate::list::list;
-use crate::told;
+use hlc_calls::list::list;
+use hlc_calls::open_store;
 use hlc_core::{Core, Stamp};
 use hlc_handle::Store;
 use std::alloc::Global;
@@ -28,8 +28,11 @@ pub extern "C" fn hlc_open_snapshot(
     ensures nodes { nodes_held store.new.room.value ≡ nodes_held store.old.room.value }
 {
     *id = 0;
-    let mut call = |core: &mut Core| told::open(core, Stamp::from_bits(stamp), id);
-    on_core(alloc, store, &mut call)
+    on_core!(
+        alloc,
+        store,
+        |core| open_store::open(core, Stamp::from_bits(stamp), id)
+    )
 }
 
 /// Opens a snapshot at the floor: 0, its id and its stamp, or a refusal.
@@ -50,8 +53,7 @@ pub extern "C" fn hlc_open_snapshot_at_floor(
 {
     *id = 0;
     *stamp = 0;
-    let mut call = |core: &mut Core| told::open_floor(core, id, stamp);
-    on_core(alloc, store, &mut call)
+    on_core!(alloc, store, |core| open_store::open_floor(core, id, stamp))
 }
 
 /// Reads a key in a snapshot: 0, the value's length and, where it fits, the value; 102 where there is
@@ -72,8 +74,11 @@ pub extern "C" fn hlc_read(
     ensures same { store.new.room.value ≡ store.old.room.value }
 {
     *len = 0;
-    let mut call = |core: &mut Core| told::read(core, id, key, out, len);
-    on_core(alloc, store, &mut call)
+    on_core!(
+        alloc,
+        store,
+        |core| open_store::read(core, id, key, out, len)
+    )
 }
 
 /// Closes a snapshot: 0 and its stamp, or 10. It takes no memory.
@@ -91,8 +96,7 @@ pub extern "C" fn hlc_close_snapshot(
     ensures nodes { nodes_held store.new.room.value ≡ nodes_held store.old.room.value }
 {
     *stamp = 0;
-    let mut call = |core: &mut Core| told::close(core, id, stamp);
-    on_core(alloc, store, &mut call)
+    on_core!(alloc, store, |core| open_store::close(core, id, stamp))
 }
 
 /// The floor: 0 and its stamp. It takes no memory.
@@ -104,11 +108,10 @@ pub extern "C" fn hlc_floor(alloc: Global, store: &mut Store, stamp: &mut u64) -
     ensures same { store.new.room.value ≡ store.old.room.value }
 {
     *stamp = 0;
-    let mut call = |core: &mut Core| {
+    on_core!(alloc, store, |core| {
         *stamp = core.floor().bits();
         0
-    };
-    on_core(alloc, store, &mut call)
+    })
 }
 
 /// How many rows are stored: 0 and the number, or 2^64 - 1 where it is greater. It takes no memory.
@@ -120,11 +123,10 @@ pub extern "C" fn hlc_rows(alloc: Global, store: &mut Store, rows: &mut u64) -> 
     ensures same { store.new.room.value ≡ store.old.room.value }
 {
     *rows = 0;
-    let mut call = |core: &mut Core| {
-        *rows = told::rows(core);
+    on_core!(alloc, store, |core| {
+        *rows = open_store::rows(core);
         0
-    };
-    on_core(alloc, store, &mut call)
+    })
 }
 
 /// Lists the keys with a value in a snapshot, in byte order: 0, how many bytes that takes and, where
@@ -145,6 +147,5 @@ pub extern "C" fn hlc_list(
     ensures same { store.new.room.value ≡ store.old.room.value }
 {
     *len = 0;
-    let mut call = |core: &mut Core| list(alloc, core, id, out, len);
-    on_core(alloc, store, &mut call)
+    on_core!(alloc, store, |core| list(alloc, core, id, out, len))
 }

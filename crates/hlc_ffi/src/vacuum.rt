@@ -2,14 +2,13 @@
 ghost use Rattle.std.specs.Prelude.{◌≡◌, ◌≢◌, List};
 ghost use Rattle.hlc_core.specs.Past.{Step};
 ghost use Rattle.hlc_core.specs.Kept.{StandsFor};
-ghost use Rattle.hlc_ffi.specs.Answers.{TellsVacuumed};
-ghost use Rattle.hlc_ffi.specs.Certified.{IsCertified, IsHalf};
+ghost use Rattle.hlc_calls.specs.Answers.{TellsVacuumed};
+ghost use Rattle.hlc_calls.specs.Certified.{IsCertified, IsHalf};
 ghost use Rattle.hlc_ffi.specs.Held.{OnStore, nodes_held};
 
-use crate::certify::certify;
 use crate::held::on_core;
-use crate::told;
-use hlc_core::Core;
+use hlc_calls::certify::certify;
+use hlc_calls::open_store;
 use hlc_handle::Store;
 use std::alloc::Global;
 
@@ -38,8 +37,11 @@ pub extern "C" fn hlc_vacuum(
     *kept = 0;
     *bytes = 0;
     *dropped = 0;
-    let mut call = |core: &mut Core| told::vacuum(core, floor, kept, bytes, dropped);
-    on_core(alloc, store, &mut call)
+    on_core!(
+        alloc,
+        store,
+        |core| open_store::vacuum(core, floor, kept, bytes, dropped)
+    )
 }
 
 /// The same, with the certificate of the rows that are left up to the floor: 0, how many bytes it has
@@ -62,6 +64,5 @@ pub extern "C" fn hlc_vacuum_certified(
     ensures nodes { nodes_held store.new.room.value ≡ nodes_held store.old.room.value }
 {
     *len = 0;
-    let mut call = |core: &mut Core| certify(alloc, core, out, len);
-    on_core(alloc, store, &mut call)
+    on_core!(alloc, store, |core| certify(alloc, core, out, len))
 }

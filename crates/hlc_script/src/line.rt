@@ -1,6 +1,6 @@
 //! The lines of events, read without memory.
-ghost use Rattle.std.specs.Prelude.{◌≡◌, ◌≢◌, ◌<◌, ◌^◌, ◌∷◌, [], codes, decimal, ℕ, List, IfOk, MatchOption, OnErr};
-ghost use Rattle.hlc_text.specs.Text.{Reads, bytes_token, AreBytes};
+ghost use Rattle.std.specs.Prelude.{◌≡◌, ◌≢◌, ◌<◌, ◌^◌, ◌∷◌, [], codes, decimal, ℕ, IfOk, MatchOption, OnErr};
+ghost use Rattle.hlc_text.specs.Text.{Reads};
 ghost use Rattle.hlc_script.specs.Line.{event_words, event_line, HasLine, BearsBytes};
 
 use hlc_text::bytes::{Spelled, bytes};
@@ -76,82 +76,150 @@ fn event_of_words<'a>(words: &mut LineWords<'a>) -> Option<Event<Spelled<'a>>>
 {
     let verb = words.next()?;
     if verb == b"write".as_slice() {
-        let (node, reading, key, value) = node_number_pair(words)?;
-        return Some(Event::Write {
-            node,
-            reading,
-            key,
-            value,
-        });
+        return write(words);
     }
     if verb == b"delete".as_slice() {
-        let (node, reading, key) = node_number_key(words)?;
-        return Some(Event::Delete { node, reading, key });
+        return delete(words);
     }
     if verb == b"report".as_slice() {
-        let (node, reading) = node_number(words)?;
-        return Some(Event::Report { node, reading });
+        return report(words);
     }
     if verb == b"retire".as_slice() {
-        let (node, reading) = node_number(words)?;
-        return Some(Event::Retire { node, reading });
+        return retire(words);
     }
     if verb == b"join".as_slice() {
-        no_more(words)?;
-        return Some(Event::Join);
+        return join(words);
     }
     if verb == b"send".as_slice() {
-        let (node, reading) = node_number(words)?;
-        return Some(Event::Send { node, reading });
+        return send(words);
     }
     if verb == b"receive".as_slice() {
-        let (node, reading, message) = node_two_numbers(words)?;
-        return Some(Event::Receive {
-            node,
-            reading,
-            message,
-        });
+        return receive(words);
     }
     if verb == b"observe".as_slice() {
-        let (node, reading, id) = node_two_numbers(words)?;
-        return Some(Event::Observe { node, reading, id });
+        return observe(words);
     }
     if verb == b"deliver".as_slice() {
-        let (node, number) = node_number(words)?;
-        return Some(Event::Deliver { node, number });
+        return deliver(words);
     }
     if verb == b"open".as_slice() {
-        return opening(words);
+        return open(words);
     }
     if verb == b"read".as_slice() {
-        let (id, key) = number_key(words)?;
-        return Some(Event::Read { id, key });
+        return read(words);
     }
     if verb == b"list".as_slice() {
-        let id = one_number(words)?;
-        return Some(Event::List { id });
+        return list(words);
     }
     if verb == b"close".as_slice() {
-        let id = one_number(words)?;
-        return Some(Event::Close { id });
+        return close(words);
     }
     if verb == b"floor".as_slice() {
-        no_more(words)?;
-        return Some(Event::Floor);
+        return floor(words);
     }
     if verb == b"vacuum".as_slice() {
-        no_more(words)?;
-        return Some(Event::Vacuum);
+        return vacuum(words);
     }
     if verb == b"rows".as_slice() {
-        no_more(words)?;
-        return Some(Event::Rows);
+        return rows(words);
     }
     None
 }
 
-/// The event of the words behind `open`.
-fn opening<'a>(words: &mut LineWords<'a>) -> Option<Event<Spelled<'a>>>
+// The event of each verb, of the words after it.
+
+/// A write: its node, reading, key and value.
+fn write<'a>(words: &mut LineWords<'a>) -> Option<Event<Spelled<'a>>>
+    ensures { Reads event_words HasLine (codes "write" ∷ words.old) result }
+{
+    let node = words.next()?;
+    let reading = words.next()?;
+    let key = words.next()?;
+    let value = words.last()?;
+    Some(Event::Write {
+        node: number::node(node)?,
+        reading: number::number(reading)?,
+        key: bytes(key)?,
+        value: bytes(value)?,
+    })
+}
+
+/// A deletion: its node, reading and key.
+fn delete<'a>(words: &mut LineWords<'a>) -> Option<Event<Spelled<'a>>>
+    ensures { Reads event_words HasLine (codes "delete" ∷ words.old) result }
+{
+    let node = words.next()?;
+    let reading = words.next()?;
+    let key = words.last()?;
+    Some(Event::Delete {
+        node: number::node(node)?,
+        reading: number::number(reading)?,
+        key: bytes(key)?,
+    })
+}
+
+/// A report: its node and reading.
+fn report<'a>(words: &mut LineWords<'a>) -> Option<Event<Spelled<'a>>>
+    ensures { Reads event_words HasLine (codes "report" ∷ words.old) result }
+{
+    let (node, reading) = node_number(words)?;
+    Some(Event::Report { node, reading })
+}
+
+/// A retirement: its node and reading.
+fn retire<'a>(words: &mut LineWords<'a>) -> Option<Event<Spelled<'a>>>
+    ensures { Reads event_words HasLine (codes "retire" ∷ words.old) result }
+{
+    let (node, reading) = node_number(words)?;
+    Some(Event::Retire { node, reading })
+}
+
+/// A join.
+fn join<'a>(words: &mut LineWords<'a>) -> Option<Event<Spelled<'a>>>
+    ensures { Reads event_words HasLine (codes "join" ∷ words.old) result }
+{
+    no_more(words)?;
+    Some(Event::Join)
+}
+
+/// A message sent: its node and reading.
+fn send<'a>(words: &mut LineWords<'a>) -> Option<Event<Spelled<'a>>>
+    ensures { Reads event_words HasLine (codes "send" ∷ words.old) result }
+{
+    let (node, reading) = node_number(words)?;
+    Some(Event::Send { node, reading })
+}
+
+/// A message received: its node, reading and the number of the message.
+fn receive<'a>(words: &mut LineWords<'a>) -> Option<Event<Spelled<'a>>>
+    ensures { Reads event_words HasLine (codes "receive" ∷ words.old) result }
+{
+    let (node, reading, message) = node_two_numbers(words)?;
+    Some(Event::Receive {
+        node,
+        reading,
+        message,
+    })
+}
+
+/// A snapshot observed: its node, reading and id.
+fn observe<'a>(words: &mut LineWords<'a>) -> Option<Event<Spelled<'a>>>
+    ensures { Reads event_words HasLine (codes "observe" ∷ words.old) result }
+{
+    let (node, reading, id) = node_two_numbers(words)?;
+    Some(Event::Observe { node, reading, id })
+}
+
+/// A delivery: the node and number of an item.
+fn deliver<'a>(words: &mut LineWords<'a>) -> Option<Event<Spelled<'a>>>
+    ensures { Reads event_words HasLine (codes "deliver" ∷ words.old) result }
+{
+    let (node, number) = node_number(words)?;
+    Some(Event::Deliver { node, number })
+}
+
+/// The opening of a snapshot, at the floor or at a stamp.
+fn open<'a>(words: &mut LineWords<'a>) -> Option<Event<Spelled<'a>>>
     ensures { Reads event_words HasLine (codes "open" ∷ words.old) result }
 {
     let word = words.last()?;
@@ -162,7 +230,59 @@ fn opening<'a>(words: &mut LineWords<'a>) -> Option<Event<Spelled<'a>>>
     Some(Event::OpenAt { stamp })
 }
 
-// The shapes of what stands behind a verb.
+/// A read: its snapshot and key.
+fn read<'a>(words: &mut LineWords<'a>) -> Option<Event<Spelled<'a>>>
+    ensures { Reads event_words HasLine (codes "read" ∷ words.old) result }
+{
+    let id = words.next()?;
+    let key = words.last()?;
+    Some(Event::Read {
+        id: number::number(id)?,
+        key: bytes(key)?,
+    })
+}
+
+/// A listing: its snapshot.
+fn list<'a>(words: &mut LineWords<'a>) -> Option<Event<Spelled<'a>>>
+    ensures { Reads event_words HasLine (codes "list" ∷ words.old) result }
+{
+    let id = one_number(words)?;
+    Some(Event::List { id })
+}
+
+/// The closing of a snapshot.
+fn close<'a>(words: &mut LineWords<'a>) -> Option<Event<Spelled<'a>>>
+    ensures { Reads event_words HasLine (codes "close" ∷ words.old) result }
+{
+    let id = one_number(words)?;
+    Some(Event::Close { id })
+}
+
+/// A question for the floor.
+fn floor<'a>(words: &mut LineWords<'a>) -> Option<Event<Spelled<'a>>>
+    ensures { Reads event_words HasLine (codes "floor" ∷ words.old) result }
+{
+    no_more(words)?;
+    Some(Event::Floor)
+}
+
+/// A vacuum.
+fn vacuum<'a>(words: &mut LineWords<'a>) -> Option<Event<Spelled<'a>>>
+    ensures { Reads event_words HasLine (codes "vacuum" ∷ words.old) result }
+{
+    no_more(words)?;
+    Some(Event::Vacuum)
+}
+
+/// A question for the number of stored rows.
+fn rows<'a>(words: &mut LineWords<'a>) -> Option<Event<Spelled<'a>>>
+    ensures { Reads event_words HasLine (codes "rows" ∷ words.old) result }
+{
+    no_more(words)?;
+    Some(Event::Rows)
+}
+
+// What several verbs are followed by.
 
 /// Nothing.
 fn no_more(words: &mut LineWords<'_>) -> Option<()>
@@ -209,54 +329,4 @@ fn node_two_numbers(words: &mut LineWords<'_>) -> Option<(u16, u64, u64)>
     let second = number::number(second)?;
     let third = number::number(third)?;
     Some((first, second, third))
-}
-
-/// A node, a number and a key.
-fn node_number_key<'a>(words: &mut LineWords<'a>) -> Option<(u16, u64, Spelled<'a>)>
-    ensures { MatchOption result
-        ((m n : ℕ) (key : List ℕ) → m < 2 ^ 16 → n < 2 ^ 64 → AreBytes key
-        → words.old ≢ decimal m ∷ decimal n ∷ bytes_token key ∷ [])
-        (λ x. (x.0 < 2 ^ 16) × (x.1 < 2 ^ 64) × AreBytes x.2
-        × (words.old ≡ decimal x.0 ∷ decimal x.1 ∷ bytes_token x.2 ∷ [])) }
-{
-    let first = words.next()?;
-    let second = words.next()?;
-    let third = words.last()?;
-    let first = number::node(first)?;
-    let second = number::number(second)?;
-    let third = bytes(third)?;
-    Some((first, second, third))
-}
-
-/// A node, a number, a key and a value.
-fn node_number_pair<'a>(words: &mut LineWords<'a>) -> Option<(u16, u64, Spelled<'a>, Spelled<'a>)>
-    ensures { MatchOption result
-        ((m n : ℕ) (key value : List ℕ) → m < 2 ^ 16 → n < 2 ^ 64 → AreBytes key → AreBytes value
-        → words.old ≢ decimal m ∷ decimal n ∷ bytes_token key ∷ bytes_token value ∷ [])
-        (λ x. (x.0 < 2 ^ 16) × (x.1 < 2 ^ 64) × AreBytes x.2 × AreBytes x.3
-        × (words.old ≡ decimal x.0 ∷ decimal x.1 ∷ bytes_token x.2 ∷ bytes_token x.3 ∷ [])) }
-{
-    let first = words.next()?;
-    let second = words.next()?;
-    let third = words.next()?;
-    let fourth = words.last()?;
-    let first = number::node(first)?;
-    let second = number::number(second)?;
-    let third = bytes(third)?;
-    let fourth = bytes(fourth)?;
-    Some((first, second, third, fourth))
-}
-
-/// A number and a key.
-fn number_key<'a>(words: &mut LineWords<'a>) -> Option<(u64, Spelled<'a>)>
-    ensures { MatchOption result
-        ((n : ℕ) (key : List ℕ) → n < 2 ^ 64 → AreBytes key
-        → words.old ≢ decimal n ∷ bytes_token key ∷ [])
-        (λ x. (x.0 < 2 ^ 64) × AreBytes x.1 × (words.old ≡ decimal x.0 ∷ bytes_token x.1 ∷ [])) }
-{
-    let first = words.next()?;
-    let second = words.last()?;
-    let first = number::number(first)?;
-    let second = bytes(second)?;
-    Some((first, second))
 }

@@ -2,17 +2,16 @@
 //! their receipts are settled, and the store is asked what it holds.
 #![tactic(auto)]
 
-mod found;
+mod gates;
+mod joining;
 mod places;
-mod printing;
-mod report;
+mod starting;
 mod storming;
-#[cfg(test)]
-mod tests;
 mod working;
 mod writing;
 
-pub use hlc_words::StormPlan;
-pub use printing::print_storm;
-pub use report::{StormFault, StormGates, StormReport};
-pub use storming::{storm, storm_gated};
+pub use gates::StormGates;
+pub use hlc_storm_report::{StormFault, StormPlan, StormReport, print_storm};
+pub use joining::{Lists, Started, join_all};
+pub use storming::{storm, storm_gated, work};
+pub use writing::WriteFault;

@@ -1,10 +1,12 @@
 //! The places of a storm's workers: what each of them starts with.
-ghost use Rattle.std.specs.Prelude.{◌≡◌, ◌+◌, ◌≤◌, IfOk, length};
+ghost use Rattle.std.specs.Prelude.{◌≡◌, ◌+◌, ◌≤◌, IfOk, IfErr, length};
 ghost use Rattle.hlc_board.specs.Views.{FeedersOf, PassesOf};
+ghost use Rattle.hlc_storm_report.specs.Found.{MayRefuse};
 
 use hlc_board::{Board, Feeder, FloorPass};
 use hlc_channel::{LinkReceiver, LinkSender, link};
 use hlc_server::Caller;
+use hlc_storm_report::StormFault;
 use std::alloc::{AllocError, Global};
 use std::sync::Wait;
 use std::sync::ledger::Ledger;
@@ -39,8 +41,45 @@ pub(crate) struct Looking<'a, L: Ledger> {
     ghost of_board: { pass.board ≡ board.now },
 }
 
+/// The places of all workers of a storm.
+#[derive(Drop)]
+pub(crate) struct Places<'a, L: Ledger> {
+    pub(crate) vacuum: Caller<L>,
+    pub(crate) readers: Vec<Looking<'a, L>>,
+    pub(crate) nodes: Vec<NodePlace<'a, L>>,
+}
+
+/// The places of all workers: of the callers the vacuum has the last, then come the readers, then the nodes.
+pub(crate) fn all_places<'a, L: Ledger, R: Wait>(
+    rt: &R,
+    alloc: Global,
+    board: &'a Board,
+    feeders: Vec<Feeder>,
+    passes: Vec<FloorPass>,
+    callers: &mut Vec<Caller<L>>,
+) -> Result<Places<'a, L>, StormFault>
+    requires feeders { FeedersOf board.now feeders.items }
+    requires passes { PassesOf board.now passes.items }
+    ensures nodes { length callers.old.items ≡ length feeders.items + length passes.items + 1
+        → IfOk result (λ places. length places.nodes.items ≡ length feeders.items) }
+    ensures readers { length callers.old.items ≡ length feeders.items + length passes.items + 1
+        → IfOk result (λ places. length places.readers.items ≡ length passes.items) }
+    ensures faults { IfErr result MayRefuse }
+{
+    let Some(vacuum) = callers.pop() else {
+        return Err(StormFault::NoMemory);
+    };
+    let readers = reader_places(alloc, board, passes, callers)?;
+    let nodes = node_places(rt, alloc, board, feeders, callers)?;
+    Ok(Places {
+        vacuum,
+        readers,
+        nodes,
+    })
+}
+
 /// The places of all nodes, that of the last one first, each with the last of the callers that are left.
-pub(crate) fn node_places<'a, L: Ledger, R: Wait>(
+fn node_places<'a, L: Ledger, R: Wait>(
     rt: &R,
     alloc: Global,
     board: &'a Board,
@@ -56,6 +95,27 @@ pub(crate) fn node_places<'a, L: Ledger, R: Wait>(
 {
     let mut feeders = feeders;
     let mut places = Vec::with_capacity(alloc, feeders.len())?;
+    add_nodes(rt, alloc, board, &mut feeders, callers, &mut places)?;
+    Ok(places)
+}
+
+/// Adds a place for each feeder that is left, as long as there are callers.
+fn add_nodes<'a, L: Ledger, R: Wait>(
+    rt: &R,
+    alloc: Global,
+    board: &'a Board,
+    feeders: &mut Vec<Feeder>,
+    callers: &mut Vec<Caller<L>>,
+    places: &mut Vec<NodePlace<'a, L>>,
+) -> Result<(), AllocError>
+    requires { FeedersOf board.now feeders.old.items }
+    ensures left { IfOk result
+        (λ _. length callers.old.items + length places.old.items
+        ≡ length callers.new.items + length places.new.items) }
+    ensures all { IfOk result
+        (λ _. length feeders.old.items ≤ length callers.old.items
+        → length places.new.items ≡ length places.old.items + length feeders.old.items) }
+{
     for _place in 0..feeders.len() {
         let Some(feeder) = feeders.pop() else {
             break;
@@ -63,24 +123,38 @@ pub(crate) fn node_places<'a, L: Ledger, R: Wait>(
         let Some(caller) = callers.pop() else {
             break;
         };
-        let (sender, receiver) = link(rt, alloc, CAPACITY)?;
-        let number = feeder.node();
-        places.push(NodePlace {
-            number,
-            link: sender,
-            feeding: Feeding {
-                caller,
-                link: receiver,
-                board,
-                feeder,
-            },
-        })?;
+        let place = node_place(rt, alloc, board, feeder, caller)?;
+        places.push(place)?;
     }
-    Ok(places)
+    Ok(())
+}
+
+/// The place of a feeder's node, with a new link.
+fn node_place<'a, L: Ledger, R: Wait>(
+    rt: &R,
+    alloc: Global,
+    board: &'a Board,
+    feeder: Feeder,
+    caller: Caller<L>,
+) -> Result<NodePlace<'a, L>, AllocError>
+    requires { feeder.board ≡ board.now }
+{
+    let (sender, receiver) = link(rt, alloc, CAPACITY)?;
+    let number = feeder.node();
+    Ok(NodePlace {
+        number,
+        link: sender,
+        feeding: Feeding {
+            caller,
+            link: receiver,
+            board,
+            feeder,
+        },
+    })
 }
 
 /// The places of all readers, each with the last of the callers that are left.
-pub(crate) fn reader_places<'a, L: Ledger>(
+fn reader_places<'a, L: Ledger>(
     alloc: Global,
     board: &'a Board,
     passes: Vec<FloorPass>,
@@ -95,6 +169,25 @@ pub(crate) fn reader_places<'a, L: Ledger>(
 {
     let mut passes = passes;
     let mut places = Vec::with_capacity(alloc, passes.len())?;
+    add_readers(board, &mut passes, callers, &mut places)?;
+    Ok(places)
+}
+
+/// Adds a place for each pass that is left, as long as there are callers.
+fn add_readers<'a, L: Ledger>(
+    board: &'a Board,
+    passes: &mut Vec<FloorPass>,
+    callers: &mut Vec<Caller<L>>,
+    places: &mut Vec<Looking<'a, L>>,
+) -> Result<(), AllocError>
+    requires { PassesOf board.now passes.old.items }
+    ensures left { IfOk result
+        (λ _. length callers.old.items + length places.old.items
+        ≡ length callers.new.items + length places.new.items) }
+    ensures all { IfOk result
+        (λ _. length passes.old.items ≤ length callers.old.items
+        → length places.new.items ≡ length places.old.items + length passes.old.items) }
+{
     for _place in 0..passes.len() {
         let Some(pass) = passes.pop() else {
             break;
@@ -108,5 +201,5 @@ pub(crate) fn reader_places<'a, L: Ledger>(
             pass,
         })?;
     }
-    Ok(places)
+    Ok(())
 }

@@ -1,16 +1,16 @@
 //! A storm by a scope of threads.
 ghost use Rattle.std.specs.Prelude.{◌≡◌, ◌+◌, true, IfOk, IfErr, length};
-ghost use Rattle.hlc_storm.specs.Found.{MayRefuse, MayTell};
+ghost use Rattle.hlc_storm_report.specs.Found.{MayRefuse, MayTell};
 
-use crate::found::report_of;
-use crate::places::{Looking, NodePlace, node_places, reader_places};
-use crate::report::{StormFault, StormGates, StormReport};
-use crate::working::{Lists, Started, feed_link, join_all, read_keys, vacuum_rows};
-use crate::writing::{all_keys, write_all};
+use crate::gates::StormGates;
+use crate::joining::{Lists, Started, join_all};
+use crate::places::{Looking, NodePlace, Places, all_places};
+use crate::starting::{start_nodes, start_readers, start_vacuum};
+use crate::writing::all_keys;
 use hlc_board::Board;
 use hlc_core::Bytes;
 use hlc_server::{Caller, Shared};
-use hlc_words::StormPlan;
+use hlc_storm_report::{StormFault, StormPlan, StormReport, report_of};
 use hlc_workers::{FreeGate, Gate};
 use std::alloc::Global;
 use std::marker::Brand;
@@ -39,13 +39,13 @@ pub fn storm<R: Threads + Wait + Sync>(
 /// floor and makes a last vacuum.
 ///
 /// Node i makes its write of number j, from 0, of the value `i.j` to the key `k` with j modulo the number of keys
-/// behind it, at reading j + 1. Behind its last write it reports at the reading after it. Its link holds 8 parcels.
+/// behind it, at reading j + 1. After its last write it reports at the reading after it. Its link holds 8 parcels.
 /// Each reader makes 16 rounds over all keys, at the floor of a board that the feeders raise,
 /// and one worker makes 16 vacuums.
 ///
-/// Refused, in this order: want of memory, of a writer too, or of a thread; the first worker that was not done, feeders
-/// by node, then readers, then the vacuum; receipts that don't settle;
-/// want of memory for what is asked of the store then.
+/// Refused, in this order: out of memory, a writer too, or a thread could not be started; the first worker that was not
+/// done, feeders by node, then readers, then the vacuum; receipts that don't settle; out of memory for what is asked of
+/// the store then.
 pub fn storm_gated<F: Gate + Sync, D: Gate + Sync, V: Gate + Sync, R: Threads + Wait + Sync>(
     rt: &R,
     alloc: Global,
@@ -84,8 +84,7 @@ fn storm_in<
 }
 
 /// The work of a storm: a new store after it, and the receipts by caller, one list for each.
-#[tactic(auto, using(hlc_board::proofs::PlaceLemmas::feeders_new, hlc_board::proofs::PlaceLemmas::passes_new))]
-pub(crate) fn work<
+pub fn work<
     L: Ledger + Send + Sync,
     F: Gate + Sync,
     D: Gate + Sync,
@@ -108,28 +107,77 @@ pub(crate) fn work<
     let Ok((shared, callers)) = Shared::<L>::new(alloc, blank, plan.nodes, count, true) else {
         return Err(StormFault::NoMemory);
     };
+    let lists = work_of(rt, alloc, &shared, callers, plan, gates)?;
+    Ok((shared, lists))
+}
+
+/// The work of these callers of a store, beside a new board: the receipts by caller, one list for each.
+#[tactic(auto, using(hlc_board::proofs::PlaceLemmas::feeders_new, hlc_board::proofs::PlaceLemmas::passes_new))]
+fn work_of<
+    L: Ledger + Send + Sync,
+    F: Gate + Sync,
+    D: Gate + Sync,
+    V: Gate + Sync,
+    R: Threads + Wait + Sync,
+>(
+    rt: &R,
+    alloc: Global,
+    shared: &Shared<L>,
+    callers: Vec<Caller<L>>,
+    plan: StormPlan,
+    gates: &StormGates<F, D, V>,
+) -> Result<Lists<L>, StormFault>
+    ensures lists { length callers.items ≡ plan.nodes + plan.readers + 1
+        → IfOk result (λ lists. length lists.items ≡ plan.nodes + plan.readers + 1) }
+    ensures faults { IfErr result MayRefuse }
+{
     let Ok((board, feeders, passes)) = Board::new(alloc, plan.nodes, plan.readers as usize) else {
         return Err(StormFault::NoMemory);
     };
     let mut callers = callers;
-    let Some(caller) = callers.pop() else {
-        return Err(StormFault::NoMemory);
-    };
-    let readers = reader_places(alloc, &board, passes, &mut callers)?;
-    let nodes = node_places(rt, alloc, &board, feeders, &mut callers)?;
+    let places = all_places(rt, alloc, &board, feeders, passes, &mut callers)?;
+    let lists = work_at(rt, alloc, shared, places, plan, gates)?;
+    Ok(lists)
+}
+
+/// The work at these places.
+fn work_at<
+    'a,
+    L: Ledger + Send + Sync,
+    F: Gate + Sync,
+    D: Gate + Sync,
+    V: Gate + Sync,
+    R: Threads + Wait + Sync,
+>(
+    rt: &R,
+    alloc: Global,
+    shared: &Shared<L>,
+    places: Places<'a, L>,
+    plan: StormPlan,
+    gates: &StormGates<F, D, V>,
+) -> Result<Lists<L>, StormFault>
+    ensures lists { IfOk result
+        (λ lists. length lists.items
+        ≡ length places.entry.nodes.items + length places.entry.readers.items + 1) }
+    ensures faults { IfErr result MayRefuse }
+{
     let keys = all_keys(alloc, &plan)?;
-    let lists = run_all(
+    let Places {
+        vacuum,
+        readers,
+        nodes,
+    } = places;
+    run_all(
         rt,
         alloc,
-        &shared,
-        caller,
+        shared,
+        vacuum,
         readers,
         nodes,
         keys.as_slice(),
         plan,
         gates,
-    )?;
-    Ok((shared, lists))
+    )
 }
 
 /// Runs all threads of a storm, and gives the receipts by caller, one list for each place. No clause says what is in
@@ -168,39 +216,19 @@ fn run_all<
                 ≡ length nodes.entry.items + length looking.entry.items + 1) }
             ensures faults { IfErr result MayRefuse }
         {
-            let mut writers = Vec::new(alloc);
-            let mut feeders = Vec::new(alloc);
-            let mut readers = Vec::new(alloc);
-            let mut lacks_memory = false;
-            let vacuum = scope
-                .spawn(move || vacuum_rows(rt, alloc, shared, caller, to_vacuum))
-                .ok();
-            for place in looking {
-                let reader = scope
-                    .spawn(move || read_keys(rt, alloc, shared, place, keys, to_read))
-                    .ok();
-                lacks_memory = readers.push(reader).is_err() || lacks_memory;
-            }
-            for NodePlace {
-                number,
-                link,
-                feeding,
-            } in nodes {
-                let writer = scope
-                    .spawn(move || write_all(rt, alloc, link, number, plan))
-                    .ok();
-                lacks_memory = writers.push(writer).is_err() || lacks_memory;
-                let feeder = scope
-                    .spawn(move || feed_link(rt, alloc, shared, feeding, to_feed))
-                    .ok();
-                lacks_memory = feeders.push(feeder).is_err() || lacks_memory;
-            }
+            let vacuum = start_vacuum(scope, rt, alloc, shared, caller, to_vacuum);
+            let (readers, lacks_reader) = start_readers(
+                scope, rt, alloc, shared, looking, keys, to_read,
+            );
+            let (writers, feeders, lacks_node) = start_nodes(
+                scope, rt, alloc, shared, nodes, plan, to_feed,
+            );
             let started = Started {
                 writers,
                 feeders,
                 readers,
                 vacuum,
-                lacks_memory,
+                lacks_memory: lacks_reader || lacks_node,
             };
             join_all(rt, alloc, started)
         },

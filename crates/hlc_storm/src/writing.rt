@@ -12,7 +12,7 @@ use std::sync::Wait;
 
 /// Why a writer gave up.
 #[derive(Clone, Copy, Debug, PartialEq, Eq)]
-pub(crate) enum WriteFault {
+pub enum WriteFault {
     NoMemory,
     /// The node issued no item, or the link is closed.
     Stopped,

@@ -1,197 +1,278 @@
 //! The workers round a shared store, one at a time and in one thread.
-ghost use Rattle.std.specs.Prelude.{◌≡◌, IfOk};
-ghost use Rattle.hlc_refused.specs.Tried.{IsSeenIn};
-ghost use Rattle.hlc_refused.specs.declared.subject.Seen.{Seen};
-ghost use Rattle.hlc_server.specs.declared.entry.NotDone.{NotDone};
-ghost use Rattle.hlc_workers.specs.Paid.{IsPaid};
-ghost use Rattle.hlc_workers.specs.declared.room.WorkEnd.{WorkEnd};
-ghost use Rattle.hlc_sweeps.specs.Workers.{AreJoined};
+ghost use Rattle.std.specs.Prelude.{◌≡◌, IfSome};
 
-use crate::ends::{Ends, Worker, ends_of};
-use crate::served::{is_left, seen};
-use crate::stores::{Store, store_for};
+use crate::items::{bytes, write_of};
+use crate::requests::{REFUSED, spend};
+use crate::screen::Screen;
+use crate::settling;
 use hlc_board::{Board, Feeder, FloorPass};
-use hlc_channel::LinkReceiver;
-use hlc_core::{Bytes, Item};
-use hlc_refused::subject::{Place, Seen};
-use hlc_refused::turn::Turn;
+use hlc_channel::{LinkReceiver, LinkSender, link};
+use hlc_core::Bytes;
 use hlc_server::{Caller, Receipt, Shared};
-use hlc_workers::{Fed, FreeGate, Reader, Served, feed, serve_reader, serve_vacuum};
+use hlc_workers::{Fed, FreeGate, Reader, Served, WorkEnd, feed, serve_reader, serve_vacuum};
 use std::alloc::{AllocError, Global};
 use std::marker::Brand;
 use std::sync::Wait;
 use std::sync::ledger::{Blank, Ledger};
 use std::thread::Threads;
 
-impl Worker {
-    /// How many requests are made before it works.
-    fn requests(self) -> u64 {
-        match self {
-            Worker::Feeds => 20,
-            Worker::Reads => 29,
-            Worker::Vacuums => 23,
-        }
-    }
+/// The writes of the one node: each its number, its stamp, its key and its value.
+const WRITES: [&[u8]; 3] = [b"0 0 1 a x", b"0 1 2 b x", b"0 2 3 a x"];
 
-    /// How many receipts it gives where no request is refused.
-    fn due(self) -> usize {
-        match self {
-            Worker::Feeds => 3,
-            Worker::Reads => 4,
-            Worker::Vacuums => 1,
-        }
-    }
+/// Which worker, and on what.
+#[derive(Clone, Copy, Debug, PartialEq, Eq)]
+pub(crate) enum Worker {
+    /// A link of three writes is fed into a new store.
+    Feeds,
+    /// One round of a reader over two keys, in a store with three writes.
+    Reads,
+    /// One vacuum of such a store.
+    Vacuums,
 }
 
-/// The worker works in a store of its own while the request of that turn is refused. No clause says
-/// which request that is. What is said for what, `seen` has.
-pub(crate) fn worked<R: Wait + Threads + Sync>(
-    rt: &R,
-    alloc: Global,
+/// Lets the worker work once so many requests are made, and settles.
+pub(crate) fn answer<R: Wait + Threads + Sync>(
+    screen: &mut Screen<'_>,
+    threads: &R,
     worker: Worker,
-    turn: &mut Turn,
-) -> Result<Seen, AllocError>
-    ensures { IfOk result (λ seen. IsSeenIn turn.old turn.new seen) }
-{
-    worked_in::<Brand, R>(rt, alloc, Blank::new(1), worker, turn)
+    requests: u64,
+) {
+    answer_in::<Brand, R>(screen, threads, Blank::new(1), worker, requests);
 }
 
 /// The same by a store of this ledger.
-fn worked_in<L: Ledger, R: Wait + Threads + Sync>(
-    rt: &R,
-    alloc: Global,
+fn answer_in<L: Ledger, R: Wait + Threads + Sync>(
+    screen: &mut Screen<'_>,
+    threads: &R,
     blank: Blank,
     worker: Worker,
-    turn: &mut Turn,
-) -> Result<Seen, AllocError>
+    requests: u64,
+)
     requires { (blank.name ≡ L.name) × (blank.parts ≡ L.parts) × (blank.parts ≡ 1) }
-    ensures { IfOk result (λ seen. IsSeenIn turn.old turn.new seen) }
 {
-    let Some(store) = store_for::<L, R>(rt, alloc, blank, worker)? else {
-        return Ok(Seen::NotMade);
+    let Ok((shared, mut callers)) = Shared::<L>::new(screen.alloc(), blank, 1, 1, true) else {
+        return;
     };
-    let Some(ends) = ends_of(rt, alloc, worker)? else {
-        return Ok(Seen::NotMade);
-    };
-    if !turn.begin(worker.requests()) {
-        return Ok(Seen::NotMade);
+    if let Some(caller) = callers.pop() {
+        let mut receipts = Vec::new(screen.alloc());
+        let caller = work(
+            screen,
+            threads,
+            worker,
+            requests,
+            &shared,
+            caller,
+            &mut receipts,
+        );
+        settle(screen, shared, caller, receipts);
     }
-    let Store {
-        shared,
-        caller,
-        receipts: past,
-    } = store;
-    let (served, left) = work(rt, alloc, &shared, caller, ends);
-    turn.end();
-    seen_of(alloc, worker, shared, past, served, left)
 }
 
-/// What was seen of a worker, by its end, by the item that it left, and by what settles.
-fn seen_of<L: Ledger>(
-    alloc: Global,
-    worker: Worker,
+/// Settles the receipts.
+fn settle<L: Ledger>(
+    screen: &mut Screen<'_>,
     shared: Shared<L>,
-    past: Vec<Receipt>,
-    served: Served<L>,
-    left: Option<Item>,
-) -> Result<Seen, AllocError>
-    ensures answered { IfOk result (λ seen. seen ≡ Seen.Answered → served.end ≡ WorkEnd.Done) }
-    ensures refused { IfOk result
-        (λ seen. seen ≡ Seen.Refused → served.end ≡ WorkEnd.Spent NotDone.NoMemory) }
-{
-    if matches!(worker, Worker::Feeds) && !is_left(alloc, served.receipts.len(), left)? {
-        return Ok(Seen::Wrong(Place::State));
-    }
-    seen(alloc, shared, past, served, worker.due())
+    caller: Caller<L>,
+    receipts: Vec<Receipt>,
+) {
+    let lists = settling::lists_of(screen.alloc(), Some(caller), receipts);
+    settling::answer(screen, shared.settle(lists), b"");
 }
 
-/// Lets the worker of these ends work. Gives the item too that it took and did not hand in.
+/// Lets the worker work in this store.
 fn work<L: Ledger, R: Wait + Threads + Sync>(
-    rt: &R,
-    alloc: Global,
+    screen: &mut Screen<'_>,
+    threads: &R,
+    worker: Worker,
+    requests: u64,
     shared: &Shared<L>,
     caller: Caller<L>,
-    ends: Ends,
-) -> (Served<L>, Option<Item>)
-    requires { AreJoined ends }
-    ensures { IsPaid caller result.0.caller result.0.receipts.items }
-{
-    match ends {
-        Ends::Feeds {
-            link,
-            board,
-            feeder,
-        } => feed_all(rt, alloc, shared, caller, link, &board, feeder),
-        Ends::Reads { keys, board, pass } => {
-            (
-                read_once(rt, alloc, shared, caller, &keys, &board, pass),
-                None,
-            )
+    receipts: &mut Vec<Receipt>,
+) -> Caller<L> {
+    match worker {
+        Worker::Feeds => feed_all(screen, threads, requests, shared, caller, receipts),
+        Worker::Reads => {
+            let caller = write_all(screen, threads, shared, caller, receipts);
+            read_once(screen, threads, requests, shared, caller, receipts)
         }
-        Ends::Vacuums => (serve_vacuum(rt, alloc, shared, caller, 1, &FreeGate), None),
+        Worker::Vacuums => {
+            let caller = write_all(screen, threads, shared, caller, receipts);
+            vacuum_once(screen, threads, requests, shared, caller, receipts)
+        }
     }
 }
 
-/// Feeds the link to its end. Gives the item too that was taken and not handed in.
-fn feed_all<L: Ledger, R: Wait>(
-    rt: &R,
-    alloc: Global,
+/// Makes the three writes.
+fn write_all<L: Ledger, R: Wait>(
+    screen: &mut Screen<'_>,
+    threads: &R,
     shared: &Shared<L>,
     caller: Caller<L>,
-    link: LinkReceiver,
-    board: &Board,
-    feeder: Feeder,
-) -> (Served<L>, Option<Item>)
-    requires { feeder.board ≡ board.now }
-    ensures { IsPaid caller result.0.caller result.0.receipts.items }
-{
-    let fed = feed(
-        rt,
-        alloc,
-        shared,
-        caller,
-        link,
-        board,
-        Some(feeder),
-        &FreeGate,
-    );
+    receipts: &mut Vec<Receipt>,
+) -> Caller<L> {
+    let mut caller = caller;
+    for line in WRITES {
+        caller = write(screen, threads, shared, caller, receipts, line);
+    }
+    caller
+}
+
+/// Makes one write, and keeps its receipt.
+fn write<L: Ledger, R: Wait>(
+    screen: &mut Screen<'_>,
+    threads: &R,
+    shared: &Shared<L>,
+    caller: Caller<L>,
+    receipts: &mut Vec<Receipt>,
+    line: &[u8],
+) -> Caller<L> {
+    let Ok(item) = write_of(screen.alloc(), line) else {
+        return caller;
+    };
+    let (caller, told) = shared.accept(threads, caller, item);
+    if let Ok(receipt) = told {
+        let _ = receipts.push(receipt);
+    }
+    caller
+}
+
+/// Feeds a link of three writes to its end.
+fn feed_all<L: Ledger, R: Wait>(
+    screen: &mut Screen<'_>,
+    threads: &R,
+    requests: u64,
+    shared: &Shared<L>,
+    caller: Caller<L>,
+    receipts: &mut Vec<Receipt>,
+) -> Caller<L> {
+    let Some((board, feeder)) = fed_board(screen.alloc()) else {
+        return caller;
+    };
+    let Ok(link) = full_link(threads, screen.alloc()) else {
+        return caller;
+    };
+    spend(screen, requests);
     let Fed {
         caller,
-        receipts,
+        receipts: made,
         left,
         end,
         ..
-    } = fed;
-    let served = Served {
+    } = feed(
+        threads,
+        screen.alloc(),
+        shared,
         caller,
-        receipts,
-        end,
-    };
-    (served, left)
+        link,
+        &board,
+        Some(feeder),
+        &FreeGate,
+    );
+    tell(screen, end, made, receipts);
+    screen.say(&left);
+    caller
 }
 
-/// One round of a reader over the keys.
+/// One round of a reader over two keys.
 fn read_once<L: Ledger, R: Wait>(
-    rt: &R,
-    alloc: Global,
+    screen: &mut Screen<'_>,
+    threads: &R,
+    requests: u64,
     shared: &Shared<L>,
     caller: Caller<L>,
-    keys: &[Bytes],
-    board: &Board,
-    pass: FloorPass,
-) -> Served<L>
-    requires { pass.board ≡ board.now }
-    ensures { IsPaid caller result.caller result.receipts.items }
-{
+    receipts: &mut Vec<Receipt>,
+) -> Caller<L> {
+    let Some((board, pass)) = read_board(screen.alloc()) else {
+        return caller;
+    };
+    let Ok(keys) = keys(screen.alloc()) else {
+        return caller;
+    };
+    spend(screen, requests);
     let Reader {
         caller,
-        receipts,
+        receipts: made,
         end,
         ..
-    } = serve_reader(rt, alloc, shared, caller, board, pass, keys, 1, &FreeGate);
-    Served {
+    } = serve_reader(
+        threads,
+        screen.alloc(),
+        shared,
         caller,
-        receipts,
+        &board,
+        pass,
+        &keys,
+        1,
+        &FreeGate,
+    );
+    tell(screen, end, made, receipts);
+    caller
+}
+
+/// One vacuum.
+fn vacuum_once<L: Ledger, R: Wait + Threads + Sync>(
+    screen: &mut Screen<'_>,
+    threads: &R,
+    requests: u64,
+    shared: &Shared<L>,
+    caller: Caller<L>,
+    receipts: &mut Vec<Receipt>,
+) -> Caller<L> {
+    spend(screen, requests);
+    let Served {
+        caller,
+        receipts: made,
         end,
+    } = serve_vacuum(threads, screen.alloc(), shared, caller, 1, &FreeGate);
+    tell(screen, end, made, receipts);
+    caller
+}
+
+/// Prints how a worker ended and what receipts it gave, and keeps those.
+fn tell(screen: &mut Screen<'_>, end: WorkEnd, made: Vec<Receipt>, receipts: &mut Vec<Receipt>) {
+    let mut made = made;
+    spend(screen, REFUSED);
+    screen.say(&end);
+    screen.say(&made);
+    let _ = receipts.append(&mut made);
+}
+
+/// A board of one node, and its feeder.
+fn fed_board(alloc: Global) -> Option<(Board, Feeder)>
+    ensures { IfSome result (λ made. made.1.board ≡ made.0) }
+{
+    let (board, mut feeders, _) = Board::new(alloc, 1, 0).ok()?;
+    let feeder = feeders.remove(0);
+    Some((board, feeder))
+}
+
+/// A board of one node, and its pass.
+fn read_board(alloc: Global) -> Option<(Board, FloorPass)>
+    ensures { IfSome result (λ made. made.1.board ≡ made.0) }
+{
+    let (board, _, mut passes) = Board::new(alloc, 1, 1).ok()?;
+    let pass = passes.remove(0);
+    Some((board, pass))
+}
+
+/// The keys that are read.
+fn keys(alloc: Global) -> Result<[Bytes; 2], AllocError> {
+    Ok([bytes(alloc, b"a")?, bytes(alloc, b"b")?])
+}
+
+/// The receiving end of a link that carries the three writes and its end.
+fn full_link<R: Wait>(threads: &R, alloc: Global) -> Result<LinkReceiver, AllocError> {
+    let (mut sender, receiver) = link(threads, alloc, 8)?;
+    for line in WRITES {
+        put(threads, alloc, &mut sender, line);
+    }
+    let _ = sender.finish(threads);
+    Ok(receiver)
+}
+
+/// Puts a write onto a link.
+fn put<R: Wait>(threads: &R, alloc: Global, sender: &mut LinkSender, line: &[u8]) {
+    if let Ok(item) = write_of(alloc, line) {
+        let _ = sender.put(threads, item);
     }
 }

@@ -1,7 +1,9 @@
-//! The small callers of the pages of values, clock, node, link, floor, snapshot, witness and world, each with what it
-//! may rely on.
-ghost use Rattle.std.specs.Prelude.{ℕ, ◌≡◌, ◌<◌, ◌≤◌, ◌↔◌, List, ◌∷◌, None, Some, true};
-ghost use Rattle.std.specs.Prelude.{length, false, IsTrue, IfOk, IfSome, IsErr};
+//! The small callers of the pages of values, clock, node, link, floor, snapshot, witness, lanes, columns, vacuum and
+//! world, each with what it may rely on.
+ghost use Rattle.std.specs.Prelude.{ℕ, ◌≡◌, ◌<◌, ◌≤◌, ◌↔◌, ◌+◌, ◌++◌, List, ◌∷◌, [], None, Some, true};
+ghost use Rattle.std.specs.Prelude.{length, false, IsTrue, IfOk, IfSome, IsErr, OnOk, count_by, nat_le};
+ghost use Rattle.std.specs.List.Sorted.{IsPermutation};
+ghost use Rattle.hlc_clock.specs.Points.{PointsAscend};
 ghost use Rattle.hlc_floor.specs.Heads.{head_at};
 ghost use Rattle.hlc_node.specs.Items.{body_refusal};
 ghost use Rattle.hlc_node.specs.Rows.{IsRowSet};
@@ -13,13 +15,17 @@ ghost use Rattle.hlc_world.specs.declared.reply.Reply.{Reply as AReply};
 ghost use Rattle.hlc_world.specs.State.{StandsFor};
 
 use hlc_clock::{Clock, ClockFault, Stamp};
+use hlc_columns::Table;
 use hlc_floor::Heads;
+use hlc_lanes::count_at;
 use hlc_link::{Intake, LinkFault};
 use hlc_node::{Body, Bytes, Row, body_fault};
 use hlc_snapshot::{Registry, SnapshotFault};
+use hlc_vacuum::{apply, plan_table};
 use hlc_values::Exact;
 use hlc_witness::{Witness, check};
 use hlc_world::{Event, Reply, World};
+use std::alloc::{AllocError, AllocFailed, Global};
 
 /// Whether two values are equal.
 pub fn are_equal<T: Exact>(a: &T, b: &T) -> bool
@@ -100,4 +106,33 @@ pub fn least_count(rows: &[Row], points: &[Stamp], witnesses: &[Witness]) -> Opt
         Ok(shown) => Some(shown.count()),
         Err(_) => None,
     }
+}
+
+/// How many stamps are above a bound.
+pub fn count_above(stamps: &[u64], bound: u64) -> usize
+    ensures { result + count_by (λ stamp. nat_le stamp bound) stamps.now ≡ length stamps.now }
+{
+    stamps.len() - count_at(stamps, bound)
+}
+
+/// Adds a row, if its key has none yet, and answers whether it did.
+pub fn add_first(table: &mut Table, row: Row) -> Result<bool, AllocFailed<Row>>
+    ensures added { IfOk result
+        (λ added. IsTrue added → IsPermutation (table.old ++ row ∷ []) table.new) }
+    ensures known { IfOk result (λ added. added ≡ false → table.new ≡ table.old) }
+{
+    if table.column(row.key.as_slice()).is_some() {
+        return Ok(false);
+    }
+    table.insert(row)?;
+    Ok(true)
+}
+
+/// Drops the rows that no reader at these points needs, and answers how many they were.
+pub fn drop_unread(alloc: Global, table: &mut Table, points: &[Stamp]) -> Result<u128, AllocError>
+    requires { PointsAscend points.now }
+    ensures { OnOk result (Alike table.new table.old points.now) }
+{
+    let plan = plan_table(alloc, table, points)?;
+    Ok(apply(table, plan).dropped)
 }

@@ -1,12 +1,14 @@
 //! The checker of certificates: its reasons one by one, and the happy path.
+use crate::expected::must_be;
+use crate::makers::bytes;
 use hlc_clock::Stamp;
-use hlc_node::{Bytes, Row};
+use hlc_node::Row;
 use hlc_witness::NotShown::{
     CountsDiffer, NotAtPoint, PointsNotAscending, RowAboveLastPoint, RowsNotAscending, SameAnswers,
     WitnessNotAscending,
 };
 use hlc_witness::{NotShown, Witness, check, do_points_ascend};
-use std::alloc::{AllocError, Global};
+use std::alloc::Global;
 use std::process::Abort;
 use std::test::*;
 
@@ -32,37 +34,44 @@ const ROWS: [ARow; 2] = [(ONE, 0, Some("x")), (THREE, 0, Some("y"))];
 /// A witness of key `a`: the point before, and its own.
 type AWitness = (Option<u64>, u64);
 
-fn bytes(alloc: Global, text: &str) -> Result<Bytes, AllocError> {
-    Ok(Bytes::from_vec(Vec::from_slice(alloc, text.as_bytes())?))
-}
-
-fn rows_of(alloc: Global, cases: &[ARow]) -> Result<Vec<Row>, AllocError> {
-    let mut rows = Vec::new(alloc);
-    for (bits, node, value) in cases {
-        let value = match value {
-            None => None,
-            Some(text) => Some(bytes(alloc, text)?),
-        };
-        rows.push(Row {
-            key: bytes(alloc, "a")?,
-            stamp: Stamp::from_bits(*bits),
-            node: *node,
-            value,
-        })?;
+/// The row of a case.
+fn row_of<R: Abort>(rt: &R, alloc: Global, case: &ARow) -> Row {
+    let (bits, node, value) = case;
+    Row {
+        key: bytes(rt, alloc, b"a"),
+        stamp: Stamp::from_bits(*bits),
+        node: *node,
+        value: value.map(|text| bytes(rt, alloc, text.as_bytes())),
     }
-    Ok(rows)
 }
 
-fn witnesses_of(alloc: Global, cases: &[AWitness]) -> Result<Vec<Witness>, AllocError> {
+fn rows_of<R: Abort>(rt: &R, alloc: Global, cases: &[ARow]) -> Vec<Row> {
+    let mut rows = Vec::new(alloc);
+    for case in cases {
+        rows.push(row_of(rt, alloc, case)).ok().expect(rt, "memory");
+    }
+    rows
+}
+
+fn witnesses_of<R: Abort>(rt: &R, alloc: Global, cases: &[AWitness]) -> Vec<Witness> {
     let mut witnesses = Vec::new(alloc);
     for (before, at) in cases {
-        witnesses.push(Witness {
-            key: bytes(alloc, "a")?,
+        let witness = Witness {
+            key: bytes(rt, alloc, b"a"),
             before: before.map(Stamp::from_bits),
             at: Stamp::from_bits(*at),
-        })?;
+        };
+        witnesses.push(witness).ok().expect(rt, "memory");
     }
-    Ok(witnesses)
+    witnesses
+}
+
+fn stamps_of<R: Abort>(rt: &R, alloc: Global, words: &[u64]) -> Vec<Stamp> {
+    let stamps = words
+        .iter()
+        .map(|bits| Stamp::from_bits(*bits))
+        .collect(alloc);
+    stamps.expect(rt, "memory")
 }
 
 /// `check` must answer the count of rows, or the reason.
@@ -72,18 +81,12 @@ fn must_say<H: Abort + AllocGlobal>(
     points: &[u64],
     witnesses: &[AWitness],
     due: Result<u64, NotShown>,
-) -> Result<(), AllocError> {
-    let (made, shown) = (
-        rows_of(rt.alloc(), rows)?,
-        witnesses_of(rt.alloc(), witnesses)?,
-    );
-    let points: Vec<Stamp> = points
-        .iter()
-        .map(|bits| Stamp::from_bits(*bits))
-        .collect(rt.alloc())?;
+) {
+    let made = rows_of(rt, rt.alloc(), rows);
+    let shown = witnesses_of(rt, rt.alloc(), witnesses);
+    let points = stamps_of(rt, rt.alloc(), points);
     let said = count(made.as_slice(), points.as_slice(), shown.as_slice());
-    assert_eq!(rt; said, due, "{rows:?} {witnesses:?}");
-    Ok(())
+    must_be(rt, (rows, witnesses, said), (rows, witnesses, due));
 }
 
 /// The count of rows that `check` answers, or the reason.
@@ -92,82 +95,79 @@ fn count(rows: &[Row], points: &[Stamp], witnesses: &[Witness]) -> Result<u64, N
 }
 
 #[test]
-fn two_changes_show_two_rows(rt: HostRuntime) -> Result<(), AllocError> {
+fn two_changes_show_two_rows(rt: HostRuntime) {
     must_say(
         &rt,
         &ROWS,
         &POINTS,
         &[(None, ONE), (Some(TWO), THREE)],
         Ok(2),
-    )
+    );
 }
 
 #[test]
-fn a_doubled_witness_is_not_counted(rt: HostRuntime) -> Result<(), AllocError> {
+fn a_doubled_witness_is_not_counted(rt: HostRuntime) {
     let witnesses = [(None, ONE), (None, ONE), (Some(TWO), THREE)];
-    must_say(&rt, &ROWS, &POINTS, &witnesses, Err(WitnessNotAscending))
+    must_say(&rt, &ROWS, &POINTS, &witnesses, Err(WitnessNotAscending));
 }
 
 #[test]
-fn a_row_that_is_not_needed(rt: HostRuntime) -> Result<(), AllocError> {
+fn a_row_that_is_not_needed(rt: HostRuntime) {
     let rows = [
         (ONE, 0, Some("x")),
         (TWO, 0, Some("x")),
         (THREE, 0, Some("y")),
     ];
     let witnesses = [(None, ONE), (Some(TWO), THREE)];
-    must_say(&rt, &rows, &POINTS, &witnesses, Err(CountsDiffer))
+    must_say(&rt, &rows, &POINTS, &witnesses, Err(CountsDiffer));
 }
 
 #[test]
-fn points_that_are_no_neighbours(rt: HostRuntime) -> Result<(), AllocError> {
+fn points_that_are_no_neighbours(rt: HostRuntime) {
     for last in [(Some(ONE), THREE), (None, THREE), (Some(TWO), FIVE)] {
-        must_say(&rt, &ROWS, &POINTS, &[(None, ONE), last], Err(NotAtPoint))?;
+        must_say(&rt, &ROWS, &POINTS, &[(None, ONE), last], Err(NotAtPoint));
     }
-    Ok(())
 }
 
 #[test]
-fn points_out_of_order(rt: HostRuntime) -> Result<(), AllocError> {
-    must_say(&rt, &[], &[], &[], Err(PointsNotAscending))?;
-    must_say(&rt, &[], &[TWO, ONE], &[], Err(PointsNotAscending))?;
-    must_say(&rt, &[], &[ONE, ONE], &[], Err(PointsNotAscending))?;
-    must_say(&rt, &[], &[THREE], &[], Ok(0))?;
+fn points_out_of_order(rt: HostRuntime) {
+    must_say(&rt, &[], &[], &[], Err(PointsNotAscending));
+    must_say(&rt, &[], &[TWO, ONE], &[], Err(PointsNotAscending));
+    must_say(&rt, &[], &[ONE, ONE], &[], Err(PointsNotAscending));
+    must_say(&rt, &[], &[THREE], &[], Ok(0));
     assert!(rt; do_points_ascend(&[Stamp::from_bits(ONE), Stamp::from_bits(TWO)]));
     assert!(rt; !do_points_ascend(&[]));
-    Ok(())
 }
 
 #[test]
-fn a_deletion_mark_changes_nothing(rt: HostRuntime) -> Result<(), AllocError> {
+fn a_deletion_mark_changes_nothing(rt: HostRuntime) {
     let (rows, points) = ([(ONE, 0, None)], [ONE]);
-    must_say(&rt, &rows, &points, &[], Err(CountsDiffer))?;
-    must_say(&rt, &rows, &points, &[(None, ONE)], Err(SameAnswers))
+    must_say(&rt, &rows, &points, &[], Err(CountsDiffer));
+    must_say(&rt, &rows, &points, &[(None, ONE)], Err(SameAnswers));
 }
 
 #[test]
-fn the_empty_value_is_a_value(rt: HostRuntime) -> Result<(), AllocError> {
-    must_say(&rt, &[(ONE, 0, Some(""))], &[ONE], &[(None, ONE)], Ok(1))
+fn the_empty_value_is_a_value(rt: HostRuntime) {
+    must_say(&rt, &[(ONE, 0, Some(""))], &[ONE], &[(None, ONE)], Ok(1));
 }
 
 #[test]
-fn rows_out_of_order(rt: HostRuntime) -> Result<(), AllocError> {
+fn rows_out_of_order(rt: HostRuntime) {
     for rows in [
         [(FIVE, 1, Some("y")), (FIVE, 0, Some("x"))],
         [(FIVE, 0, Some("x")), (FIVE, 0, Some("y"))],
     ] {
-        must_say(&rt, &rows, &[FIVE], &[], Err(RowsNotAscending))?;
+        must_say(&rt, &rows, &[FIVE], &[], Err(RowsNotAscending));
     }
-    Ok(())
 }
 
 #[test]
-fn a_row_above_the_last_point(rt: HostRuntime) -> Result<(), AllocError> {
+fn a_row_above_the_last_point(rt: HostRuntime) {
     must_say(
         &rt,
         &[(ONE_ONE, 0, Some("x"))],
         &[ONE],
         &[],
         Err(RowAboveLastPoint),
-    )
+    );
 }

@@ -1,5 +1,6 @@
-//! Tests of clocks, nodes, links, the floor, snapshots and certificates, by their public calls, and the small callers
-//! of those libraries' pages and of the page of `hlc_world`. There is nothing else here.
+//! Tests of what stands below the store, by public calls: clocks, nodes, links, heads and the floor, snapshots,
+//! certificates, kernels and columns; and the small callers of those libraries' pages and of the page of `hlc_world`.
+//! There is nothing else here.
 #![tactic(auto)]
 
 #[cfg(test)]
@@ -8,7 +9,19 @@ pub mod callers;
 #[cfg(test)]
 mod certificates;
 #[cfg(test)]
+mod columns;
+#[cfg(test)]
+mod expected;
+#[cfg(test)]
+mod heads;
+#[cfg(test)]
+mod kernels;
+#[cfg(test)]
+mod makers;
+#[cfg(test)]
 mod nodes;
+#[cfg(test)]
+mod retired;
 #[cfg(test)]
 mod snapshots;
 #[cfg(test)]

@@ -1,4 +1,5 @@
 //! The registry of open snapshots by itself.
+use crate::expected::must_be;
 use hlc_snapshot::{NoSnapshot, Registry, SnapshotFault, Stamp};
 use std::process::Abort;
 use std::test::*;
@@ -41,18 +42,18 @@ fn opens_and_closes<R: Abort>(rt: &R, registry: &mut Registry) {
 
 /// Opens a snapshot at a stamp, with this id.
 fn opens<R: Abort>(rt: &R, registry: &mut Registry, stamp: Stamp, id: u64) {
-    assert_eq!(rt; registry.open(stamp), Ok(id));
+    must_be(rt, registry.open(stamp), Ok(id));
 }
 
 /// Closes a snapshot, or is refused.
 fn closes<R: Abort>(rt: &R, registry: &mut Registry, id: u64, due: Result<Stamp, NoSnapshot>) {
-    assert_eq!(rt; registry.close(id), due);
+    must_be(rt, registry.close(id), due);
 }
 
 /// The ids, and the stamps of the snapshots that are open with them.
 fn are_stamps<R: Abort>(rt: &R, registry: &Registry, found: &[(u64, Option<Stamp>)]) {
     for (id, stamp) in found {
-        assert_eq!(rt; registry.stamp_of(*id), *stamp, "{id}");
+        must_be(rt, (id, registry.stamp_of(*id)), (id, *stamp));
     }
 }
 
@@ -96,9 +97,10 @@ fn opens_the_most<R: Abort>(rt: &R, registry: &mut Registry) {
 
 /// No snapshot is opened above so many.
 fn is_spent<R: Abort>(rt: &R, registry: &mut Registry) {
-    assert_eq!(rt;
+    must_be(
+        rt,
         registry.open(Stamp::from_bits(0)),
-        Err(SnapshotFault::TooManySnapshots)
+        Err(SnapshotFault::TooManySnapshots),
     );
 }
 

@@ -1,6 +1,7 @@
 //! Stamps as words and as text, and the clock at its edges.
 ghost use Rattle.std.specs.Prelude.{◌<◌};
 
+use crate::expected::must_be;
 use hlc_clock::{Clock, ClockFault, ReadingTooLarge, Stamp};
 use std::process::Abort;
 use std::test::*;
@@ -9,7 +10,7 @@ use std::test::*;
 type Case = (u64, u16, u64, &'static str);
 
 #[test]
-fn words_of_stamps(rt: HostRuntime) -> Result<(), Fail> {
+fn words_of_stamps(rt: HostRuntime) {
     let cases: [Case; 9] = [
         (0, 0, 0, "0.0"),
         (0, 1, 1, "0.1"),
@@ -32,35 +33,37 @@ fn words_of_stamps(rt: HostRuntime) -> Result<(), Fail> {
         ),
     ];
     for case in cases {
-        is_spelled(&rt, case)?;
+        is_spelled(&rt, case);
     }
-    assert_eq!(rt; Stamp::new(281_474_976_710_656, 0), Err(ReadingTooLarge));
-    Ok(())
+    must_be(
+        &rt,
+        Stamp::new(281_474_976_710_656, 0),
+        Err(ReadingTooLarge),
+    );
 }
 
 /// A stamp of two parts has this word and this text.
-fn is_spelled<R: Abort + AllocGlobal>(rt: &R, case: Case) -> Result<(), Fail> {
+fn is_spelled<R: Abort + AllocGlobal>(rt: &R, case: Case) {
     let (l, c, bits, text) = case;
     let stamp = Stamp::from_bits(bits);
     is_made(rt, l, c, stamp);
     has_parts(rt, stamp, case);
-    let printed = format!(in rt.alloc(); "{stamp}")?;
-    assert_eq!(rt; printed.as_str(), text);
-    Ok(())
+    let printed = format!(in rt.alloc(); "{stamp}").expect(rt, "memory");
+    must_be(rt, printed.as_str(), text);
 }
 
 /// A stamp is made of these parts.
 fn is_made<R: Abort>(rt: &R, l: u64, c: u16, stamp: Stamp) {
-    assert_eq!(rt; Stamp::new(l, c), Ok(stamp), "{l} {c}");
+    must_be(rt, (l, c, Stamp::new(l, c)), (l, c, Ok(stamp)));
 }
 
 /// A stamp has this word and these parts.
 fn has_parts<R: Abort>(rt: &R, stamp: Stamp, case: Case) {
     let (l, c, bits, text) = case;
-    assert_eq!(rt;
-        (stamp.bits(), stamp.l(), stamp.c()),
-        (bits, l, c),
-        "{text}"
+    must_be(
+        rt,
+        (text, (stamp.bits(), stamp.l(), stamp.c())),
+        (text, (bits, l, c)),
     );
 }
 
@@ -74,11 +77,11 @@ fn a_clock_at_its_edges(rt: HostRuntime) {
         7,
         Err(ClockFault::CounterFull { at: full }),
     );
-    assert_eq!(rt; clock.now(), full);
+    must_be(&rt, clock.now(), full);
     ticks(&rt, &mut clock, 8, Ok(Stamp::from_bits(524_288)));
     let too_large = ClockFault::ReadingTooLarge;
     ticks(&rt, &mut clock, 281_474_976_710_656, Err(too_large));
-    assert_eq!(rt; clock.now(), Stamp::from_bits(524_288));
+    must_be(&rt, clock.now(), Stamp::from_bits(524_288));
 }
 
 #[test]
@@ -87,7 +90,7 @@ fn a_receipt_at_its_edges(rt: HostRuntime) {
     let mut clock = Clock::starting_at(Stamp::from_bits(0));
     let full = ClockFault::CounterFull { at: seen };
     receives(&rt, &mut clock, seen, 7, Err(full));
-    assert_eq!(rt; clock.now(), Stamp::from_bits(0));
+    must_be(&rt, clock.now(), Stamp::from_bits(0));
     receives(&rt, &mut clock, seen, 8, Ok(Stamp::from_bits(524_288)));
     let too_large = ClockFault::ReadingTooLarge;
     receives(&rt, &mut clock, seen, 281_474_976_710_656, Err(too_large));
@@ -109,12 +112,12 @@ fn a_clock_at_the_greatest_stamp(rt: HostRuntime) {
         let too_large = ClockFault::ReadingTooLarge;
         receives(&rt, &mut clock, early, reading, Err(too_large));
     }
-    assert_eq!(rt; clock.now(), last);
+    must_be(&rt, clock.now(), last);
 }
 
 /// The clock ticks at a reading, or is refused.
 fn ticks<R: Abort>(rt: &R, clock: &mut Clock, reading: u64, due: Result<Stamp, ClockFault>) {
-    assert_eq!(rt; clock.tick(reading), due, "{reading}");
+    must_be(rt, (reading, clock.tick(reading)), (reading, due));
 }
 
 /// The clock receives a stamp at a reading, or is refused.
@@ -125,5 +128,5 @@ fn receives<R: Abort>(
     reading: u64,
     due: Result<Stamp, ClockFault>,
 ) {
-    assert_eq!(rt; clock.receive(stamp, reading), due, "{reading}");
+    must_be(rt, (reading, clock.receive(stamp, reading)), (reading, due));
 }

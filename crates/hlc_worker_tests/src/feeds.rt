@@ -1,13 +1,13 @@
 //! A link that is fed into a store.
 ghost use Rattle.std.specs.Prelude.{◌≡◌};
 
-use crate::rounds::is_reply;
+use crate::expected::must_be;
 use crate::scenes::{Scene, Seats, new_scene};
 use crate::writers::full_link;
 use hlc_channel::LinkReceiver;
-use hlc_core::{CoreFault, CoreReply, Item, Stamp};
-use hlc_link_tests::makers::{at_second, report};
+use hlc_core::{Body, CoreFault, CoreReply, Item, Stamp};
 use hlc_server::Receipt;
+use hlc_shared_tests::makers::{at_second, said};
 use hlc_workers::{Fed, FreeGate, Gate, WorkEnd, feed};
 use std::alloc::Global;
 use std::marker::Brand;
@@ -37,21 +37,21 @@ struct Told {
 }
 
 /// A link of the items of these numbers, and the end where there is one.
-fn link_of<R: Wait>(
-    rt: &R,
-    alloc: Global,
-    numbers: [u8; 3],
-    ends: bool,
-) -> Result<LinkReceiver, Fail> {
+fn link_of<R: Wait + Abort>(rt: &R, alloc: Global, numbers: [u8; 3], ends: bool) -> LinkReceiver {
     let mut items = Vec::new(alloc);
     for number in numbers {
-        items.push(report(number))?;
+        items.push(report(number)).ok().expect(rt, "memory");
     }
-    Ok(full_link(rt, alloc, items, ends).ok_or("a link")?)
+    full_link(rt, alloc, items, ends)
+}
+
+/// A report of node 0 of this number.
+fn report(number: u8) -> Item {
+    said(0, number, Body::Report)
 }
 
 /// What is told of a feeding.
-fn told_of<L: Ledger>(fed: Fed<L>) -> Result<Told, Fail> {
+fn told_of<L: Ledger, R: Abort>(rt: &R, fed: Fed<L>) -> Told {
     let Fed {
         receipts,
         left,
@@ -59,24 +59,24 @@ fn told_of<L: Ledger>(fed: Fed<L>) -> Result<Told, Fail> {
         feeder,
         ..
     } = fed;
-    let raised = feeder.ok_or("a feeder")?.raised();
-    Ok(Told {
+    let raised = feeder.expect(rt, "a feeder").raised();
+    Told {
         receipts,
         left,
         end,
         raised,
-    })
+    }
 }
 
 /// Feeds a link into a new store.
-fn fed_from<L: Ledger, G: Gate, R: Wait>(
+fn fed_from<L: Ledger, G: Gate, R: Wait + Abort>(
     rt: &R,
     alloc: Global,
     scene: &Scene<L>,
     seats: Seats<L>,
     link: LinkReceiver,
     gate: &G,
-) -> Result<Told, Fail>
+) -> Told
     requires { seats.feeder.board ≡ scene.now.board }
 {
     let Seats {
@@ -84,7 +84,7 @@ fn fed_from<L: Ledger, G: Gate, R: Wait>(
         feeder,
         ..
     } = seats;
-    let caller = callers.pop().ok_or("a caller")?;
+    let caller = callers.pop().expect(rt, "a caller");
     let fed = feed(
         rt,
         alloc,
@@ -95,59 +95,56 @@ fn fed_from<L: Ledger, G: Gate, R: Wait>(
         Some(feeder),
         gate,
     );
-    told_of(fed)
+    told_of(rt, fed)
 }
 
 /// Feeds the items of these numbers, and then the end where there is one, into a new store.
-fn fed<L: Ledger, G: Gate, R: Wait>(
+fn fed<L: Ledger, G: Gate, R: Wait + Abort>(
     rt: &R,
     alloc: Global,
     blank: Blank,
     numbers: [u8; 3],
     ends: bool,
     gate: &G,
-) -> Result<Told, Fail>
+) -> Told
     requires { (blank.name ≡ L.name) × (blank.parts ≡ L.parts) × (blank.parts ≡ 1) }
 {
-    let link = link_of(rt, alloc, numbers, ends)?;
-    let (scene, seats) = new_scene::<L>(alloc, blank, 1, false)?;
+    let link = link_of(rt, alloc, numbers, ends);
+    let (scene, seats) = new_scene::<L, R>(rt, alloc, blank, 1, false);
     fed_from(rt, alloc, &scene, seats, link, gate)
 }
 
 /// Looks whether the feeding ended so, with so many receipts, and left this.
 fn has_ended<R: Abort>(rt: &R, told: &Told, end: WorkEnd, left: &Option<Item>, receipts: usize) {
-    assert_eq!(rt; told.end, end);
-    assert_eq!(rt; told.left, *left);
-    assert_eq!(rt; told.receipts.len(), receipts);
+    must_be(rt, told.end, end);
+    must_be(rt, &told.left, left);
+    must_be(rt, told.receipts.len(), receipts);
 }
 
 /// Looks whether the second item was refused, since number 1 is the next.
 fn second_is_refused<R: Abort>(rt: &R, receipts: &[Receipt]) {
-    assert_eq!(rt; receipts.len(), 3);
+    assert!(rt; receipts.len() == 3);
     let refused = CoreReply::Refused(CoreFault::NotNext { next: 1 });
-    is_reply(rt, &receipts[1].reply, &refused);
+    must_be(rt, &receipts[1].reply, &refused);
 }
 
 #[test]
-fn a_refusal_does_not_end_it(rt: HostRuntime) -> Result<(), Fail> {
-    let told = fed::<Brand, _, _>(&rt, rt.alloc(), Blank::new(1), [0, 2, 1], true, &FreeGate)?;
+fn a_refusal_does_not_end_it(rt: HostRuntime) {
+    let told = fed::<Brand, _, _>(&rt, rt.alloc(), Blank::new(1), [0, 2, 1], true, &FreeGate);
     has_ended(&rt, &told, WorkEnd::Done, &None, 3);
     second_is_refused(&rt, told.receipts.as_slice());
-    assert_eq!(rt; told.raised, at_second(2));
-    Ok(())
+    must_be(&rt, told.raised, at_second(2));
 }
 
 #[test]
-fn a_link_that_is_closed(rt: HostRuntime) -> Result<(), Fail> {
-    let told = fed::<Brand, _, _>(&rt, rt.alloc(), Blank::new(1), [0, 1, 2], false, &FreeGate)?;
+fn a_link_that_is_closed(rt: HostRuntime) {
+    let told = fed::<Brand, _, _>(&rt, rt.alloc(), Blank::new(1), [0, 1, 2], false, &FreeGate);
     has_ended(&rt, &told, WorkEnd::Closed, &None, 3);
-    Ok(())
 }
 
 #[test]
-fn a_gate_that_holds(rt: HostRuntime) -> Result<(), Fail> {
-    let told = fed::<Brand, _, _>(&rt, rt.alloc(), Blank::new(1), [0, 1, 2], true, &Once)?;
+fn a_gate_that_holds(rt: HostRuntime) {
+    let told = fed::<Brand, _, _>(&rt, rt.alloc(), Blank::new(1), [0, 1, 2], true, &Once);
     has_ended(&rt, &told, WorkEnd::Held, &Some(report(1)), 1);
-    assert_eq!(rt; told.raised, at_second(1));
-    Ok(())
+    must_be(&rt, told.raised, at_second(1));
 }

@@ -1,12 +1,13 @@
 //! A vacuum and a write while a reader is held between two reads.
 ghost use Rattle.std.specs.Prelude.{◌≡◌};
 
-use crate::clients::{Cast, Client, next_of, take_seats, three_lists};
+use crate::clients::{Cast, Client, paid, take_seats};
+use crate::expected::must_be;
 use crate::held::{has_read_twice, read_beside};
 use crate::scenes::{Paid, new_scene, settled_calls};
 use crate::writers::feed_first;
 use hlc_core::Item;
-use hlc_link_tests::makers::write;
+use hlc_shared_tests::makers::write;
 use std::alloc::Global;
 use std::marker::Brand;
 use std::process::Abort;
@@ -16,25 +17,31 @@ use std::test::*;
 use std::thread::Threads;
 
 /// Makes a vacuum and hands in an item.
-fn vacuum_then_accept<'a, L: Ledger, R: Wait + Threads + Sync>(
+fn vacuum_then_accept<'a, L: Ledger, R: Wait + Threads + Abort + Sync>(
     rt: &R,
     client: Client<'a, L>,
     item: Item,
-) -> Option<Client<'a, L>> {
+) -> Client<'a, L> {
     let Client {
         scene,
         caller,
         mut receipts,
     } = client;
     let (caller, told) = scene.shared.vacuum(rt, caller);
-    receipts.push(told.ok()?).ok()?;
+    receipts
+        .push(told.ok().expect(rt, "a vacuum"))
+        .ok()
+        .expect(rt, "memory");
     let (caller, told) = scene.shared.accept(rt, caller, item);
-    receipts.push(told.ok()?).ok()?;
-    Some(Client {
+    receipts
+        .push(told.ok().expect(rt, "an item"))
+        .ok()
+        .expect(rt, "memory");
+    Client {
         scene,
         caller,
         receipts,
-    })
+    }
 }
 
 /// The calls of three callers: the write of x, the reads, and between these a vacuum and the write of y.
@@ -42,19 +49,19 @@ fn call_by_three<'a, L: Ledger + Send + Sync, R: Threads + Wait + Abort + Sync>(
     rt: &R,
     alloc: Global,
     cast: Cast<'a, L>,
-) -> Result<Vec<Paid<L>>, Fail> {
-    let mut others = cast.others;
-    let third = next_of(&mut others)?;
-    let item = write(alloc, 1, b'y')?;
-    let writer = feed_first(rt, alloc, cast.writer)?;
-    let (reading, third) = read_beside(
-        rt,
-        alloc,
-        cast.reading,
-        || vacuum_then_accept(rt, third, item),
-    )?;
-    has_read_twice(rt, alloc, reading.client.receipts.as_slice())?;
-    three_lists(alloc, writer.client, reading.client, third)
+) -> Vec<Paid<L>> {
+    let Cast {
+        writer,
+        reading,
+        mut others,
+    } = cast;
+    let third = others.pop().expect(rt, "a third caller");
+    let item = write(alloc, 0, 1, b'a', b'y').expect(rt, "memory");
+    let writer = feed_first(rt, alloc, writer);
+    let (reading, third) = read_beside(rt, alloc, reading, || vacuum_then_accept(rt, third, item));
+    has_read_twice(rt, alloc, reading.client.receipts.as_slice());
+    let lists = vec![in alloc; paid(writer.client), paid(reading.client), paid(third)];
+    lists.ok().expect(rt, "memory")
 }
 
 /// The write of x is fed in; then a reader reads its key twice, and between the two the store is
@@ -63,16 +70,15 @@ fn by_three<L: Ledger + Send + Sync, R: Threads + Wait + Abort + Sync>(
     rt: &R,
     alloc: Global,
     blank: Blank,
-) -> Result<(), Fail>
+)
     requires { (blank.name ≡ L.name) × (blank.parts ≡ L.parts) × (blank.parts ≡ 3) }
 {
-    let (scene, seats) = new_scene::<L>(alloc, blank, 3, true)?;
-    let lists = call_by_three(rt, alloc, take_seats(alloc, &scene, seats)?)?;
-    assert_eq!(rt; settled_calls(scene.shared, lists), Ok(7));
-    Ok(())
+    let (scene, seats) = new_scene::<L, R>(rt, alloc, blank, 3, true);
+    let lists = call_by_three(rt, alloc, take_seats(rt, alloc, &scene, seats));
+    must_be(rt, settled_calls(scene.shared, lists), Ok(7));
 }
 
 #[test]
-fn both_reads_answer_the_same(rt: HostRuntime) -> Result<(), Fail> {
-    by_three::<Brand, _>(&rt, rt.alloc(), Blank::new(3))
+fn both_reads_answer_the_same(rt: HostRuntime) {
+    by_three::<Brand, _>(&rt, rt.alloc(), Blank::new(3));
 }

@@ -1,8 +1,9 @@
 //! A reader that is held between two reads, while another thread makes its calls.
-use crate::rounds::{Reading, is_reply, keys_of};
+use crate::expected::must_be;
+use crate::rounds::{Reading, keys_of};
 use hlc_core::{Bytes, CoreEvent, CoreReply};
-use hlc_link_tests::makers::{at_second, bytes};
 use hlc_server::Receipt;
+use hlc_shared_tests::makers::{at_second, bytes};
 use hlc_workers::Gate;
 use std::alloc::Global;
 use std::process::Abort;
@@ -52,23 +53,21 @@ impl<'a> Gate for HoldsTurnTwo<'a> {
 }
 
 /// One round of a reader over two keys, held between the two reads.
-fn read_held<'a, L: Ledger, R: Wait>(
+fn read_held<'a, L: Ledger, R: Wait + Abort>(
     rt: &R,
     alloc: Global,
     reading: Reading<'a, L>,
     keys: &[Bytes],
     flags: &Flags,
-) -> Option<Reading<'a, L>> {
+) -> Reading<'a, L> {
     reading.reads(rt, alloc, keys, &HoldsTurnTwo { flags })
 }
 
 /// Makes the calls of the other thread once turn 2 was asked for, and lets it go on.
-fn call_between<T: Drop, F: FnOnce() -> Option<T>>(flags: &Flags, calls: F) -> Option<T>
+fn call_between<R: Abort, T: Drop, F: FnOnce() -> T>(rt: &R, flags: &Flags, calls: F) -> T
     requires { F.IsAlwaysCallable calls }
 {
-    if !was_set(&flags.asked) {
-        return None;
-    }
+    assert!(rt; was_set(&flags.asked), "turn 2 was not asked for");
     let made = calls();
     flags.answered.store(true, Ordering::SeqCst);
     made
@@ -78,42 +77,35 @@ fn call_between<T: Drop, F: FnOnce() -> Option<T>>(flags: &Flags, calls: F) -> O
 pub(crate) fn read_beside<
     'a,
     L: Ledger + Send + Sync,
-    R: Threads + Wait + Sync,
+    R: Threads + Wait + Abort + Sync,
     T: Send + Drop,
-    F: FnOnce() -> Option<T> + Send,
->(rt: &R, alloc: Global, reading: Reading<'a, L>, calls: F) -> Result<(Reading<'a, L>, T), Fail>
+    F: FnOnce() -> T + Send,
+>(rt: &R, alloc: Global, reading: Reading<'a, L>, calls: F) -> (Reading<'a, L>, T)
     requires { F.IsAlwaysCallable calls }
 {
-    let keys = keys_of(alloc, 2)?;
+    let keys = keys_of(rt, alloc, 2);
     let flags = Flags {
         asked: AtomicBool::new(false),
         answered: AtomicBool::new(false),
     };
-    let (read, made) = thread::join(
+    thread::join(
         rt,
         || read_held(rt, alloc, reading, keys.as_slice(), &flags),
-        || call_between(&flags, calls),
-    );
-    let read = read.ok_or("two reads")?;
-    Ok((read, made.ok_or("the calls between them")?))
+        || call_between(rt, &flags, calls),
+    )
 }
 
 /// Looks whether a round opened at 1.0, and closed.
 fn has_opened_and_closed<R: Abort>(rt: &R, open: &Receipt, close: &Receipt) {
-    assert_eq!(rt; open.event, CoreEvent::OpenAt(at_second(1)));
-    is_reply(rt, &close.reply, &CoreReply::Closed(at_second(1)));
+    must_be(rt, &open.event, &CoreEvent::OpenAt(at_second(1)));
+    must_be(rt, &close.reply, &CoreReply::Closed(at_second(1)));
 }
 
 /// Looks whether a round opened at 1.0, read x twice, and closed.
-pub(crate) fn has_read_twice<R: Abort>(
-    rt: &R,
-    alloc: Global,
-    reads: &[Receipt],
-) -> Result<(), Fail> {
-    let answer = CoreReply::Answer(Some(bytes(alloc, b'x')?));
-    assert_eq!(rt; reads.len(), 4);
+pub(crate) fn has_read_twice<R: Abort>(rt: &R, alloc: Global, reads: &[Receipt]) {
+    let answer = CoreReply::Answer(Some(bytes(alloc, b'x').expect(rt, "memory")));
+    assert!(rt; reads.len() == 4);
     has_opened_and_closed(rt, &reads[0], &reads[3]);
-    is_reply(rt, &reads[1].reply, &answer);
-    is_reply(rt, &reads[2].reply, &answer);
-    Ok(())
+    must_be(rt, &reads[1].reply, &answer);
+    must_be(rt, &reads[2].reply, &answer);
 }

@@ -5,6 +5,8 @@ pub mod callers;
 #[cfg(test)]
 mod clients;
 #[cfg(test)]
+mod expected;
+#[cfg(test)]
 mod feeds;
 #[cfg(test)]
 mod gates;
@@ -18,5 +20,7 @@ mod newcomers;
 mod rounds;
 #[cfg(test)]
 mod scenes;
+#[cfg(test)]
+mod storms;
 #[cfg(test)]
 mod writers;

@@ -2,11 +2,13 @@
 use crate::clients::Client;
 use crate::writers::Writer;
 use hlc_core::{CoreReply, Item};
-use hlc_link_tests::makers::bytes;
 use hlc_node::NodeCore;
+use hlc_shared_tests::makers::bytes;
 use std::alloc::Global;
+use std::process::Abort;
 use std::sync::Wait;
 use std::sync::ledger::Ledger;
+use std::test::*;
 
 /// A node that joined: who calls for it, and its side.
 #[derive(Drop)]
@@ -24,69 +26,66 @@ fn side_of(reply: &CoreReply) -> Option<NodeCore> {
 }
 
 /// Lets a node join, and makes its side of what the store replied.
-pub(crate) fn join_one<'a, L: Ledger, R: Wait>(
+pub(crate) fn join_one<'a, L: Ledger, R: Wait + Abort>(
     rt: &R,
     client: Client<'a, L>,
-) -> Option<Newcomer<'a, L>> {
+) -> Newcomer<'a, L> {
     let Client {
         scene,
         caller,
         mut receipts,
     } = client;
     let (caller, told) = scene.shared.join(rt, caller);
-    let receipt = told.ok()?;
-    let node = side_of(&receipt.reply)?;
-    receipts.push(receipt).ok()?;
+    let receipt = told.ok().expect(rt, "a join");
+    let node = side_of(&receipt.reply).expect(rt, "a node that joined");
+    receipts.push(receipt).ok().expect(rt, "memory");
     let client = Client {
         scene,
         caller,
         receipts,
     };
-    Some(Newcomer { client, node })
+    Newcomer { client, node }
 }
 
-/// Feeds items of a node that joined, which has no word on the board.
-fn feed_newcomer<'a, L: Ledger, R: Wait>(
-    rt: &R,
-    alloc: Global,
-    newcomer: Newcomer<'a, L>,
-    items: Vec<Item>,
-) -> Option<Newcomer<'a, L>> {
-    let Newcomer { client, node } = newcomer;
-    let Writer { client, .. } = Writer::new(client, None).feeds(rt, alloc, items)?;
-    Some(Newcomer { client, node })
-}
-
-/// Feeds the writes of these values in second 2, and the last item at 3.0.
-pub(crate) fn write_and_retire<'a, L: Ledger, R: Wait>(
+/// Feeds the writes of these values in second 2, and the last item at 3.0. The node has no word on the
+/// board.
+pub(crate) fn write_and_retire<'a, L: Ledger, R: Wait + Abort>(
     rt: &R,
     alloc: Global,
     newcomer: Newcomer<'a, L>,
     values: &[u8],
-) -> Option<Newcomer<'a, L>> {
-    let mut newcomer = newcomer;
-    let items = items_of(alloc, &mut newcomer.node, values)?;
-    feed_newcomer(rt, alloc, newcomer, items)
+) -> Newcomer<'a, L> {
+    let Newcomer { client, mut node } = newcomer;
+    let items = items_of(rt, alloc, &mut node, values);
+    let Writer { client, .. } = Writer::new(client, None).feeds(rt, alloc, items);
+    Newcomer { client, node }
 }
 
 /// The writes of these values in second 2, and the last item at 3.0.
-fn items_of(alloc: Global, node: &mut NodeCore, values: &[u8]) -> Option<Vec<Item>> {
+fn items_of<R: Abort>(rt: &R, alloc: Global, node: &mut NodeCore, values: &[u8]) -> Vec<Item> {
     let mut items = Vec::new(alloc);
     for value in values {
-        let key = bytes(alloc, b'a').ok()?;
-        let value = bytes(alloc, *value).ok()?;
-        items.push(node.write(2, key, Some(value)).ok()?).ok()?;
+        let item = write_of(rt, alloc, node, *value);
+        items.push(item).ok().expect(rt, "memory");
     }
-    items.push(node.retire(3).ok()?).ok()?;
-    Some(items)
+    let last = node.retire(3).expect(rt, "the last item");
+    items.push(last).ok().expect(rt, "memory");
+    items
+}
+
+/// The write of a value in second 2.
+fn write_of<R: Abort>(rt: &R, alloc: Global, node: &mut NodeCore, value: u8) -> Item {
+    let key = bytes(alloc, b'a').expect(rt, "memory");
+    let value = bytes(alloc, value).expect(rt, "memory");
+    node.write(2, key, Some(value)).ok().expect(rt, "a write")
 }
 
 /// Lets a node join, and feeds its writes of y and z in second 2 and its last item at 3.0.
-pub(crate) fn join_and_retire<'a, L: Ledger, R: Wait>(
+pub(crate) fn join_and_retire<'a, L: Ledger, R: Wait + Abort>(
     rt: &R,
     alloc: Global,
     client: Client<'a, L>,
-) -> Option<Newcomer<'a, L>> {
-    let newcomer = join_one(rt, client)?;
+) -> Newcomer<'a, L> {
+    let newcomer = join_one(rt, client);
     write_and_retire(rt, alloc, newcomer, b"yz")
 }

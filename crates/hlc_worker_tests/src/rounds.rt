@@ -2,11 +2,12 @@
 ghost use Rattle.std.specs.Prelude.{◌≡◌, ◌≤◌};
 
 use crate::clients::{Client, client_after};
+use crate::expected::must_be;
 use crate::scenes::Scene;
 use hlc_board::FloorPass;
 use hlc_core::{Bytes, CoreFault, CoreReply, Stamp};
-use hlc_link_tests::makers::bytes;
 use hlc_server::Receipt;
+use hlc_shared_tests::makers::bytes;
 use hlc_workers::{FreeGate, Gate, Reader, WorkEnd, serve_reader};
 use std::alloc::Global;
 use std::process::Abort;
@@ -23,11 +24,12 @@ pub(crate) struct Reading<'a, L: Ledger> {
 }
 
 /// The reader after a round that was done.
-fn reading_after<'a, L: Ledger>(
+fn reading_after<'a, L: Ledger, R: Abort>(
+    rt: &R,
     scene: &'a Scene<L>,
     receipts: Vec<Receipt>,
     read: Reader<L>,
-) -> Option<Reading<'a, L>>
+) -> Reading<'a, L>
     requires { read.pass.board ≡ scene.now.board }
 {
     let Reader {
@@ -36,11 +38,9 @@ fn reading_after<'a, L: Ledger>(
         receipts: more,
         end,
     } = read;
-    if end != WorkEnd::Done {
-        return None;
-    }
-    let client = client_after(scene, receipts, caller, more)?;
-    Some(Reading { client, pass })
+    must_be(rt, end, WorkEnd::Done);
+    let client = client_after(rt, scene, receipts, caller, more);
+    Reading { client, pass }
 }
 
 impl<'a, L: Ledger> Reading<'a, L> {
@@ -51,14 +51,14 @@ impl<'a, L: Ledger> Reading<'a, L> {
         Reading { client, pass }
     }
 
-    /// One round over these keys. None where it was not done.
-    pub(crate) fn reads<R: Wait, G: Gate>(
+    /// One round over these keys.
+    pub(crate) fn reads<R: Wait + Abort, G: Gate>(
         self,
         rt: &R,
         alloc: Global,
         keys: &[Bytes],
         gate: &G,
-    ) -> Option<Reading<'a, L>> {
+    ) -> Reading<'a, L> {
         let Reading { client, pass } = self;
         let Client {
             scene,
@@ -76,36 +76,28 @@ impl<'a, L: Ledger> Reading<'a, L> {
             1,
             gate,
         );
-        reading_after(scene, receipts, read)
+        reading_after(rt, scene, receipts, read)
     }
 }
 
 /// So often the key `a`.
-pub(crate) fn keys_of(alloc: Global, count: u8) -> Result<Vec<Bytes>, Fail> {
+pub(crate) fn keys_of<R: Abort>(rt: &R, alloc: Global, count: u8) -> Vec<Bytes> {
     let mut keys = Vec::new(alloc);
     for _ in 0..count {
-        keys.push(bytes(alloc, b'a')?)?;
+        let key = bytes(alloc, b'a').expect(rt, "memory");
+        keys.push(key).ok().expect(rt, "memory");
     }
-    Ok(keys)
+    keys
 }
 
 /// One round of a reader over the key.
-fn read_round<'a, L: Ledger, R: Wait>(
+fn read_round<'a, L: Ledger, R: Wait + Abort>(
     rt: &R,
     alloc: Global,
     reading: Reading<'a, L>,
-) -> Result<Reading<'a, L>, Fail> {
-    let keys = keys_of(alloc, 1)?;
-    Ok(
-        reading
-            .reads(rt, alloc, keys.as_slice(), &FreeGate)
-            .ok_or("a round")?,
-    )
-}
-
-/// Looks whether a reply is this one.
-pub(crate) fn is_reply<R: Abort>(rt: &R, reply: &CoreReply, wanted: &CoreReply) {
-    assert_eq!(rt; *reply, *wanted);
+) -> Reading<'a, L> {
+    let keys = keys_of(rt, alloc, 1);
+    reading.reads(rt, alloc, keys.as_slice(), &FreeGate)
 }
 
 /// What a round is to come to: the id of its snapshot, whether the first stamp that it asks for is
@@ -119,33 +111,23 @@ pub(crate) struct Round {
 }
 
 /// Looks whether the receipts end, behind so many, in those of an opening, a read and the close.
-fn has_read<R: Abort>(
-    rt: &R,
-    alloc: Global,
-    receipts: &[Receipt],
-    before: usize,
-    due: Round,
-) -> Result<(), Fail>
+fn has_read<R: Abort>(rt: &R, alloc: Global, receipts: &[Receipt], before: usize, due: Round)
     requires { before ≤ 256 }
 {
     let (id, stamp) = (due.id, due.stamp);
-    let answer = CoreReply::Answer(Some(bytes(alloc, due.value)?));
-    assert_eq!(rt; receipts.len(), before + 3);
-    is_reply(
-        rt,
-        &receipts[before].reply,
-        &CoreReply::Opened { id, stamp },
-    );
-    is_reply(rt, &receipts[before + 1].reply, &answer);
-    is_reply(rt, &receipts[before + 2].reply, &CoreReply::Closed(stamp));
-    Ok(())
+    let answer = CoreReply::Answer(Some(bytes(alloc, due.value).expect(rt, "memory")));
+    assert!(rt; receipts.len() == before + 3);
+    let opened = CoreReply::Opened { id, stamp };
+    must_be(rt, &receipts[before].reply, &opened);
+    must_be(rt, &receipts[before + 1].reply, &answer);
+    must_be(rt, &receipts[before + 2].reply, &CoreReply::Closed(stamp));
 }
 
 /// Looks whether the receipt behind so many refuses a stamp above this floor.
 fn is_above_floor<R: Abort>(rt: &R, receipts: &[Receipt], before: usize, floor: Stamp) {
     assert!(rt; before < receipts.len(), "a receipt behind {before}");
     let refused = CoreReply::Refused(CoreFault::AboveFloor { floor });
-    is_reply(rt, &receipts[before].reply, &refused);
+    must_be(rt, &receipts[before].reply, &refused);
 }
 
 /// Makes a round that comes to what is due. So many receipts were there before.
@@ -155,14 +137,18 @@ pub(crate) fn read_as_due<'a, L: Ledger, R: Wait + Abort>(
     reading: Reading<'a, L>,
     before: u8,
     due: Round,
-) -> Result<Reading<'a, L>, Fail> {
-    let reading = read_round(rt, alloc, reading)?;
-    let receipts = reading.client.receipts.as_slice();
+) -> Reading<'a, L> {
+    let reading = read_round(rt, alloc, reading);
+    is_due(rt, alloc, reading.client.receipts.as_slice(), before, due);
+    reading
+}
+
+/// Looks whether the receipts behind so many are those of a round that is due.
+fn is_due<R: Abort>(rt: &R, alloc: Global, receipts: &[Receipt], before: u8, due: Round) {
     let mut before = usize::from(before);
     if due.refused {
         is_above_floor(rt, receipts, before, due.stamp);
         before += 1;
     }
-    has_read(rt, alloc, receipts, before, due)?;
-    Ok(reading)
+    has_read(rt, alloc, receipts, before, due);
 }

@@ -1,9 +1,10 @@
 //! A store and a board of one node, and what is given out with them.
-ghost use Rattle.std.specs.Prelude.{◌≡◌, ◌<◌, IfOk};
+ghost use Rattle.std.specs.Prelude.{◌≡◌, ◌<◌};
 
 use hlc_board::{Board, Feeder, FloorPass};
 use hlc_server::{Caller, Receipt, SettleFault, Shared};
 use std::alloc::Global;
+use std::process::Abort;
 use std::sync::ledger::{Blank, Ledger};
 use std::test::*;
 
@@ -26,21 +27,20 @@ pub struct Seats<L: Ledger> {
 pub type Paid<L> = (Caller<L>, Vec<Receipt>);
 
 /// A new store with so many callers, and a new board.
-pub fn new_scene<L: Ledger>(
+pub fn new_scene<L: Ledger, R: Abort>(
+    rt: &R,
     alloc: Global,
     blank: Blank,
     callers: u16,
     audit: bool,
-) -> Result<(Scene<L>, Seats<L>), Fail>
+) -> (Scene<L>, Seats<L>)
     requires ledger { (blank.name ≡ L.name) × (blank.parts ≡ L.parts) }
     requires callers { (0 < callers) × (blank.parts ≡ callers) }
-    ensures feeder { IfOk result (λ made. made.1.feeder.board ≡ made.0.board) }
-    ensures pass { IfOk result (λ made. made.1.pass.board ≡ made.0.board) }
+    ensures feeder { result.1.feeder.board ≡ result.0.board }
+    ensures pass { result.1.pass.board ≡ result.0.board }
 {
-    let (board, mut feeders, mut passes) = Board::new(alloc, 1, 1)?;
-    let (shared, callers) = Shared::<L>::new(alloc, blank, 1, callers, audit)
-        .ok()
-        .ok_or("a store")?;
+    let (board, mut feeders, mut passes) = Board::new(alloc, 1, 1).expect(rt, "a board");
+    let (shared, callers) = Shared::<L>::new(alloc, blank, 1, callers, audit).expect(rt, "a store");
     let feeder = feeders.remove(0);
     let pass = passes.remove(0);
     let seats = Seats {
@@ -48,7 +48,7 @@ pub fn new_scene<L: Ledger>(
         feeder,
         pass,
     };
-    Ok((Scene { shared, board }, seats))
+    (Scene { shared, board }, seats)
 }
 
 /// Settles, and says how many calls there were.

@@ -4,12 +4,13 @@ ghost use Rattle.std.proofs.Props.{props};
 ghost use Rattle.hlc_channel.specs.Ends.{received};
 
 use crate::clients::{Client, client_after};
+use crate::expected::must_be;
 use crate::scenes::Scene;
 use hlc_board::Feeder;
-use hlc_channel::{LinkReceiver, link};
+use hlc_channel::{LinkReceiver, LinkSender, link};
 use hlc_core::{Item, Stamp};
-use hlc_link_tests::makers::{at_second, write};
 use hlc_server::Receipt;
+use hlc_shared_tests::makers::{at_second, write};
 use hlc_workers::{Fed, FreeGate, WorkEnd, feed};
 use std::alloc::Global;
 use std::process::Abort;
@@ -19,24 +20,28 @@ use std::test::*;
 
 /// The receiving end of a link that carries these items, at most eight, and behind them the end where
 /// it ends. Where it does not the sending end is gone.
-pub fn full_link<R: Wait>(
+pub fn full_link<R: Wait + Abort>(
     rt: &R,
     alloc: Global,
     items: Vec<Item>,
     ends: bool,
-) -> Option<LinkReceiver>
-    ensures { IfSome result (λ receiver. receiver ≡ received [] false) }
+) -> LinkReceiver
+    ensures { result ≡ received [] false }
 {
-    let (mut sender, receiver) = link(rt, alloc, 8).ok()?;
+    let (sender, receiver) = link(rt, alloc, 8).expect(rt, "a link");
+    fill(rt, sender, items, ends);
+    receiver
+}
+
+/// Puts these items into a link, and behind them the end where it ends.
+fn fill<R: Wait + Abort>(rt: &R, sender: LinkSender, items: Vec<Item>, ends: bool) {
+    let mut sender = sender;
     for item in items {
-        sender.put(rt, item).ok()?;
+        assert!(rt; sender.put(rt, item).is_ok());
     }
     if ends {
-        sender.finish(rt).ok()?;
-    } else {
-        drop(sender);
+        assert!(rt; sender.finish(rt).is_ok());
     }
-    Some(receiver)
 }
 
 /// One who feeds items into the store of a scene, and raises its board where it has a feeder.
@@ -48,11 +53,12 @@ pub(crate) struct Writer<'a, L: Ledger> {
 }
 
 /// The writer after a feeding that was done.
-fn writer_after<'a, L: Ledger>(
+fn writer_after<'a, L: Ledger, R: Abort>(
+    rt: &R,
     scene: &'a Scene<L>,
     receipts: Vec<Receipt>,
     fed: Fed<L>,
-) -> Option<Writer<'a, L>>
+) -> Writer<'a, L>
     requires { IfSome fed.feeder (λ feeder. feeder.board ≡ scene.now.board) }
 {
     let Fed {
@@ -62,11 +68,9 @@ fn writer_after<'a, L: Ledger>(
         end,
         ..
     } = fed;
-    if end != WorkEnd::Done {
-        return None;
-    }
-    let client = client_after(scene, receipts, caller, more)?;
-    Some(Writer { client, feeder })
+    must_be(rt, end, WorkEnd::Done);
+    let client = client_after(rt, scene, receipts, caller, more);
+    Writer { client, feeder }
 }
 
 impl<'a, L: Ledger> Writer<'a, L> {
@@ -77,20 +81,20 @@ impl<'a, L: Ledger> Writer<'a, L> {
         Writer { client, feeder }
     }
 
-    /// Feeds these items, at most eight, and then the end. None where the feeding was not done.
-    pub(crate) fn feeds<R: Wait>(
+    /// Feeds these items, at most eight, and then the end.
+    pub(crate) fn feeds<R: Wait + Abort>(
         self,
         rt: &R,
         alloc: Global,
         items: Vec<Item>,
-    ) -> Option<Writer<'a, L>> {
+    ) -> Writer<'a, L> {
         let Writer { client, feeder } = self;
         let Client {
             scene,
             caller,
             receipts,
         } = client;
-        let link = full_link(rt, alloc, items, true)?;
+        let link = full_link(rt, alloc, items, true);
         let fed = feed(
             rt,
             alloc,
@@ -101,7 +105,7 @@ impl<'a, L: Ledger> Writer<'a, L> {
             feeder,
             &FreeGate,
         );
-        writer_after(scene, receipts, fed)
+        writer_after(rt, scene, receipts, fed)
     }
 
     /// The word that was raised on the board.
@@ -113,16 +117,18 @@ impl<'a, L: Ledger> Writer<'a, L> {
     }
 }
 
-/// Feeds one item.
-pub(crate) fn feed_item<'a, L: Ledger, R: Wait>(
+/// Feeds one item, and looks whether this word was raised on the board.
+pub(crate) fn feed_item<'a, L: Ledger, R: Wait + Abort>(
     rt: &R,
     alloc: Global,
     writer: Writer<'a, L>,
     item: Item,
-) -> Result<Writer<'a, L>, Fail> {
-    let mut items = Vec::new(alloc);
-    items.push(item)?;
-    Ok(writer.feeds(rt, alloc, items).ok_or("a link that is fed")?)
+    word: Stamp,
+) -> Writer<'a, L> {
+    let items = vec![in alloc; item].ok().expect(rt, "memory");
+    let writer = writer.feeds(rt, alloc, items);
+    must_be(rt, writer.raised(), Some(word));
+    writer
 }
 
 /// Feeds the write of x at 1.0, and looks whether that was raised.
@@ -130,9 +136,7 @@ pub(crate) fn feed_first<'a, L: Ledger, R: Wait + Abort>(
     rt: &R,
     alloc: Global,
     writer: Writer<'a, L>,
-) -> Result<Writer<'a, L>, Fail> {
-    let item = write(alloc, 0, b'x')?;
-    let writer = feed_item(rt, alloc, writer, item)?;
-    assert_eq!(rt; writer.raised(), Some(at_second(1)));
-    Ok(writer)
+) -> Writer<'a, L> {
+    let item = write(alloc, 0, 0, b'a', b'x').expect(rt, "memory");
+    feed_item(rt, alloc, writer, item, at_second(1))
 }

@@ -130,6 +130,23 @@ impl World {
         Ok(replies)
     }
 
+    /// The reply to a read, with a copy of the value.
+    fn read(&self, id: u64, key: &[u8]) -> Reply
+        ensures { (schedule : List (AnEvent × AReply)) → StandsFor self.now schedule
+            → StandsFor self.now ((Event.Read id key.now, result) ∷ schedule) }
+    {
+        match self.core.read(id, key) {
+            Err(_) => Reply::Refused(Refusal::NoSnapshot),
+            Ok(None) => Reply::Answer { value: None },
+            Ok(Some(bytes)) => match Vec::from_slice(self.alloc, bytes) {
+                Ok(copy) => Reply::Answer {
+                    value: Some(Bytes::from_vec(copy)),
+                },
+                Err(_) => Reply::Refused(Refusal::NoMemory),
+            },
+        }
+    }
+
     fn take_place(&mut self, event: Event) -> Reply
         ensures stands { (schedule : List (AnEvent × AReply)) → StandsFor self.old schedule
             → StandsFor self.new ((event, result) ∷ schedule) }
@@ -169,16 +186,7 @@ impl World {
                 Ok((id, stamp)) => Reply::Snapshot { id, stamp },
                 Err(fault) => Reply::Refused(Refusal::from(fault)),
             },
-            Event::Read { id, key } => match self.core.read(id, key.as_slice()) {
-                Err(_) => Reply::Refused(Refusal::NoSnapshot),
-                Ok(None) => Reply::Answer { value: None },
-                Ok(Some(bytes)) => match Vec::from_slice(self.alloc, bytes) {
-                    Ok(copy) => Reply::Answer {
-                        value: Some(Bytes::from_vec(copy)),
-                    },
-                    Err(_) => Reply::Refused(Refusal::NoMemory),
-                },
-            },
+            Event::Read { id, key } => self.read(id, key.as_slice()),
             Event::List { id } => match self.core.list(id) {
                 Ok(pairs) => Reply::Listing { pairs },
                 Err(fault) => Reply::Refused(Refusal::from(fault)),

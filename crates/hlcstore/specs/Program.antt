@@ -11,10 +11,10 @@ use Rattle.hlc_script.specs.declared.run.RunEnd.{RunEnd}
 use Rattle.hlc_certificate.specs.declared.check.CheckEnd.{CheckEnd}
 use Rattle.hlc_script.specs.Run.{RunsScript, status_of}
 use Rattle.hlc_certificate.specs.Check.{RunsCheck, check_status}
-use Rattle.hlc_storm.specs.declared.report.StormReport.{StormReport}
-use Rattle.hlc_storm.specs.declared.report.StormFault.{StormFault}
-use Rattle.hlc_storm.specs.Found.{MayTell}
-use Rattle.hlc_storm.specs.Printed.{storm_text, storm_status}
+use Rattle.hlc_storm_report.specs.declared.report.StormReport.{StormReport}
+use Rattle.hlc_storm_report.specs.declared.report.StormFault.{StormFault}
+use Rattle.hlc_storm_report.specs.Found.{MayTell}
+use Rattle.hlc_storm_report.specs.Printed.{storm_text, storm_status}
 
 -- what the words ask for; words that could not be held ask for nothing
 abbrev pub Asks : Option (List (List ℕ)) → Option Words → Type 0

@@ -8,10 +8,8 @@ use std::env;
 use std::process::ExitCode;
 
 mod program;
-#[cfg(test)]
-mod tests;
 
-/// The words behind the program's name, or none where they can't be held.
+/// The words after the program's name, or none where they can't be held.
 fn words(rt: &HostRuntime) -> Option<Vec<String>> {
     let words = env::args(rt).ok()?;
     words.skip(1).collect(rt.alloc()).ok()

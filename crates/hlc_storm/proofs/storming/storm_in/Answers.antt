@@ -8,10 +8,10 @@ use Rattle.hlc_core.specs.History.{IsLegalHistory, past_of}
 use Rattle.hlc_server.specs.declared.settle.SettleFault.TheVariants.{NoTrail}
 use Rattle.hlc_workers.specs.declared.room.WorkEnd.TheVariants.{Done}
 use Rattle.hlc_words.specs.declared.plan.StormPlan.{StormPlan}
-use Rattle.hlc_storm.specs.declared.report.StormReport.{StormReport}
-use Rattle.hlc_storm.specs.declared.report.StormFault.{StormFault}
-use Rattle.hlc_storm.specs.declared.report.StormFault.TheVariants.{Work, Settle, NoMemory}
-use Rattle.hlc_storm.specs.Found.{IsFoundIn, MayTell}
+use Rattle.hlc_storm_report.specs.declared.report.StormReport.{StormReport}
+use Rattle.hlc_storm_report.specs.declared.report.StormFault.{StormFault}
+use Rattle.hlc_storm_report.specs.declared.report.StormFault.TheVariants.{Work, Settle, NoMemory}
+use Rattle.hlc_storm_report.specs.Found.{IsFoundIn, MayTell}
 use Rattle.hlc_storm.proofs.storming.storm_in.Goals as goal
 
 found : (plan : StormPlan) (core : Kept) (history : List (CoreEvent × CoreReply)) → IsLegalHistory (nodes core) history

@@ -1,0 +1,6 @@
+pub mod Answers
+pub mod Batch
+pub mod Certified
+pub mod Listing
+pub mod Nodes
+pub mod Told

@@ -1,0 +1,66 @@
+//! The certificate of a vacuum, as text.
+ghost use Rattle.std.specs.Prelude.{◌≡◌, ◌≢◌, List, IfSome};
+ghost use Rattle.hlc_node.specs.declared.row.Row.{Row as ARow};
+ghost use Rattle.hlc_core.specs.Past.{Step};
+ghost use Rattle.hlc_core.specs.Kept.{nodes, StandsFor};
+ghost use Rattle.hlc_core.specs.Calls.{AreRowsTo};
+ghost use Rattle.hlc_certificate.specs.CertificateText.{certificate_text};
+ghost use Rattle.hlc_calls.specs.Certified.{IsCertified, IsHalf};
+
+use crate::open_store;
+use hlc_certificate::put_certificate;
+use hlc_core::{Core, Report, Row, Stamp, Witness};
+use hlc_text::print::finish;
+use hlc_text::waiting::Waiting;
+use hlc_text::watched::Watched;
+use std::alloc::Global;
+
+/// The text of a certificate, or nothing where memory is refused.
+#[tactic(auto, using(crate::proofs::Whole::printed_whole))]
+fn text_of(alloc: Global, points: &[Stamp], rows: &[Row], witnesses: &[Witness]) -> Option<Vec<u8>>
+    ensures { IfSome result
+        (λ text. text.items ≡ certificate_text points.now rows.now witnesses.now) }
+{
+    let mut writer = Watched::new(Vec::new(alloc));
+    let mut waiting = Waiting::new();
+    put_certificate(&mut writer, &mut waiting, points, rows, witnesses);
+    finish(&mut writer, &mut waiting);
+    if writer.failed() {
+        return None;
+    }
+    Some(writer.into_inner())
+}
+
+/// The text of the certificate of the rows up to a report's floor, or nothing where memory is refused.
+fn certificate_of(alloc: Global, core: &Core, report: &Report) -> Option<Vec<u8>>
+    ensures { IfSome result (λ text. (rows : List ARow)
+        × AreRowsTo core.now.rows report.now.floor rows
+        × (text.items ≡ certificate_text report.now.points rows report.now.witnesses)) }
+{
+    let rows = core.rows_to(report.floor).ok()?;
+    let points = report.points.as_slice();
+    text_of(alloc, points, rows.as_slice(), report.witnesses.as_slice())
+}
+
+/// Vacuums: 0, how many bytes the certificate has and, where they fit, the bytes; or 15, where the
+/// vacuum may have taken place.
+pub fn certify(alloc: Global, core: &mut Core, out: &mut [u8], len: &mut usize) -> u32
+    ensures certified { result ≡ 0 → (past : List Step) → StandsFor core.old past
+        → IsCertified core.old core.new past len.new out.old out.new }
+    ensures lack { result ≢ 0 → (result ≡ 15) × (len.new ≡ 0) × (out.new ≡ out.old) }
+    ensures half { result ≢ 0 → (past : List Step) → StandsFor core.old past
+        → IsHalf core.old core.new past }
+    ensures nodes { nodes core.new ≡ nodes core.old }
+{
+    *len = 0;
+    let Ok(report) = core.vacuum() else {
+        return 15;
+    };
+    match certificate_of(alloc, core, &report) {
+        Some(text) => {
+            open_store::fill(text.as_slice(), out, len);
+            0
+        }
+        None => 15,
+    }
+}

@@ -1,0 +1,11 @@
+//! What the calls of the C library do with an open store and with a node: each answer is 0, the number
+//! of a refusal, or a number above 100, and what it says besides stands in a word or in bytes.
+#![tactic(auto)]
+
+pub mod batch;
+pub mod certify;
+pub mod codes;
+pub mod items;
+pub mod list;
+pub mod node;
+pub mod open_store;

@@ -1,0 +1,206 @@
+//! The calls of an open store, with their answers as the numbers that C is told.
+ghost use Rattle.std.specs.Prelude.{◌≡◌, ◌≢◌, List, ◌∷◌, length, None, OnErr, IfOk, MatchResult};
+ghost use Rattle.hlc_node.specs.Items.{an_item};
+ghost use Rattle.hlc_core.specs.Past.{Step, Took, item_refusal, stamp_of, writes};
+ghost use Rattle.hlc_core.specs.Kept.{nodes, StandsFor};
+ghost use Rattle.hlc_core.specs.Calls.{IsWrite, IsRefusal};
+ghost use Rattle.hlc_calls.specs.Answers.{TellsAccepted, TellsJoined, TellsOpened, TellsOpenedAtFloor, TellsClosed};
+ghost use Rattle.hlc_calls.specs.Answers.{IsCopied, TellsRead, TellsVacuumed, narrowed};
+
+use crate::codes::{answer, number_of, refuse};
+use hlc_core::{Body, Core, CoreFault, Item, Stamp};
+
+/// Accepts an item: the stamp that it has, or why it is refused.
+fn accept_item(core: &mut Core, item: Item) -> Result<u64, CoreFault>
+    ensures ok { IfOk result (λ stamp. stamp ≡ item.stamp) }
+    ensures stands { (past : List Step) → StandsFor core.old past → MatchResult result
+        (λ _. (item_refusal (nodes core.old) past item ≡ None)
+        × StandsFor core.new (Took item ∷ past))
+        (λ fault. IsRefusal (item_refusal (nodes core.old) past item) (IsWrite item.body) fault) }
+    ensures err { OnErr result (core.new ≡ core.old) }
+    ensures nodes { nodes core.new ≡ nodes core.old }
+{
+    match core.accept(item) {
+        Ok(accepted) => Ok(accepted.stamp().bits()),
+        Err(refused) => {
+            let (fault, _item) = refused;
+            Err(fault)
+        }
+    }
+}
+
+/// Accepts an item that says this: 0 and its stamp, or a refusal and its word.
+#[tactic(auto, using(crate::proofs::Refusals::refused_tells, crate::proofs::Refusals::made_tells))]
+pub fn accept(
+    core: &mut Core,
+    node: u16,
+    number: u64,
+    stamp: u64,
+    body: Body,
+    told: &mut u64,
+) -> u32
+    ensures answer { (past : List Step) → StandsFor core.old past → TellsAccepted core.old core.new
+        (an_item node number stamp body) past result told.new }
+    ensures same { result ≢ 0 → core.new ≡ core.old }
+    ensures nodes { nodes core.new ≡ nodes core.old }
+{
+    let item = Item {
+        node,
+        number,
+        stamp: Stamp::from_bits(stamp),
+        body,
+    };
+    answer(accept_item(core, item), told)
+}
+
+/// A node joins: 0, its number and the stamp of its start, or a refusal.
+#[tactic(auto, using(crate::proofs::Refusals::refused_tells, crate::proofs::Refusals::made_tells))]
+pub fn join(core: &mut Core, node: &mut u16, start: &mut u64) -> u32
+    ensures answer { (past : List Step) → StandsFor core.old past
+        → TellsJoined core.old core.new past result node.new start.new }
+    ensures same { result ≢ 0 → (core.new ≡ core.old) × (node.new ≡ 0) × (start.new ≡ 0) }
+    ensures nodes { nodes core.new ≡ nodes core.old }
+{
+    match core.join() {
+        Ok(made) => {
+            let (number, stamp) = made;
+            *node = number;
+            *start = stamp.bits();
+            0
+        }
+        Err(fault) => {
+            *node = 0;
+            *start = 0;
+            number_of(fault)
+        }
+    }
+}
+
+/// Opens a snapshot: 0 and its id, or a refusal and its word.
+#[tactic(auto, using(crate::proofs::Refusals::refused_tells, crate::proofs::Refusals::made_tells))]
+pub fn open(core: &mut Core, stamp: Stamp, told: &mut u64) -> u32
+    ensures answer { (past : List Step) → StandsFor core.old past
+        → TellsOpened core.old core.new stamp past result told.new }
+    ensures same { result ≢ 0 → core.new ≡ core.old }
+    ensures nodes { nodes core.new ≡ nodes core.old }
+{
+    answer(core.open(stamp), told)
+}
+
+/// Opens a snapshot at the floor: 0, its id and its stamp, or a refusal.
+#[tactic(auto, using(crate::proofs::Refusals::refused_tells, crate::proofs::Refusals::made_tells))]
+pub fn open_floor(core: &mut Core, told: &mut u64, stamp: &mut u64) -> u32
+    ensures answer { (past : List Step) → StandsFor core.old past
+        → TellsOpenedAtFloor core.old core.new past result told.new stamp.new }
+    ensures same { result ≢ 0 → (core.new ≡ core.old) × (stamp.new ≡ 0) }
+    ensures nodes { nodes core.new ≡ nodes core.old }
+{
+    match core.open_floor() {
+        Ok(opening) => {
+            let (id, at) = opening;
+            *told = id;
+            *stamp = at.bits();
+            0
+        }
+        Err(fault) => {
+            *stamp = 0;
+            refuse(fault, told)
+        }
+    }
+}
+
+/// Closes a snapshot: 0 and its stamp, or 10.
+pub fn close(core: &mut Core, id: u64, told: &mut u64) -> u32
+    ensures answer { (past : List Step) → StandsFor core.old past
+        → TellsClosed core.new id past result told.new }
+    ensures same { result ≢ 0 → core.new ≡ core.old }
+    ensures nodes { nodes core.new ≡ nodes core.old }
+{
+    match core.close(id) {
+        Ok(stamp) => {
+            *told = stamp.bits();
+            0
+        }
+        Err(_) => {
+            *told = 0;
+            10
+        }
+    }
+}
+
+/// Writes bytes to the start of the buffer where they fit, and tells their length.
+pub fn fill(value: &[u8], out: &mut [u8], len: &mut usize)
+    ensures len { len.new ≡ length value.now }
+    ensures copied { IsCopied value.now out.old out.new }
+{
+    *len = value.len();
+    if value.len() <= out.len() {
+        let (front, _) = out.split_at_mut(value.len());
+        front.copy_from_slice(value);
+    }
+}
+
+/// Reads a key: 0 with the value, 102 where there is none, or 10.
+pub fn read(core: &Core, id: u64, key: &[u8], out: &mut [u8], len: &mut usize) -> u32
+    ensures { (past : List Step) → StandsFor core.now past
+        → TellsRead (stamp_of id past) (writes past) key.now result len.new out.old out.new }
+{
+    *len = 0;
+    match core.read(id, key) {
+        Ok(Some(value)) => {
+            fill(value, out, len);
+            0
+        }
+        Ok(None) => 102,
+        Err(_) => 10,
+    }
+}
+
+/// The number, or the greatest of 64 bits where it is greater.
+fn narrow(number: u128) -> u64
+    ensures { result ≡ narrowed number }
+{
+    if number < 18_446_744_073_709_551_615 {
+        return number as u64;
+    }
+    18_446_744_073_709_551_615
+}
+
+/// The number of stored rows.
+pub fn rows(core: &Core) -> u64
+    ensures { result ≡ narrowed (length core.now.rows) }
+{
+    narrow(core.rows())
+}
+
+/// Vacuums: 0, the floor, how many rows were kept, what they cost in bytes, and how many were
+/// dropped; or 15.
+pub fn vacuum(
+    core: &mut Core,
+    floor: &mut u64,
+    kept: &mut u64,
+    bytes: &mut u64,
+    dropped: &mut u64,
+) -> u32
+    ensures vacuumed { result ≡ 0 → (past : List Step) → StandsFor core.old past
+        → TellsVacuumed core.old core.new past floor.new kept.new bytes.new dropped.new }
+    ensures due { result ≢ 0 → (result ≡ 15) × (core.new ≡ core.old) }
+    ensures nothing { result ≢ 0
+        → (floor.new ≡ 0) × (kept.new ≡ 0) × (bytes.new ≡ 0) × (dropped.new ≡ 0) }
+    ensures nodes { nodes core.new ≡ nodes core.old }
+{
+    *floor = 0;
+    *kept = 0;
+    *bytes = 0;
+    *dropped = 0;
+    match core.vacuum() {
+        Ok(report) => {
+            *floor = report.floor.bits();
+            *kept = report.kept;
+            *bytes = narrow(report.bytes);
+            *dropped = narrow(report.dropped);
+            0
+        }
+        Err(_) => 15,
+    }
+}

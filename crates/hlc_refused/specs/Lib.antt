@@ -1,2 +1,0 @@
-pub mod Stocked
-pub mod Tried

@@ -1,0 +1,101 @@
+//! A caller of a shared store, with its receipts.
+use hlc_core::{CoreEvent, CoreReply};
+use hlc_server::{Caller, NotDone, Receipt, Shared};
+use std::alloc::Global;
+use std::process::Abort;
+use std::sync::Wait;
+use std::sync::ledger::Ledger;
+use std::test::*;
+use std::thread::Threads;
+
+/// A caller with the receipts of the calls that it made so far.
+#[derive(Drop)]
+pub(crate) struct Client<L: Ledger> {
+    pub(crate) caller: Caller<L>,
+    pub(crate) receipts: Vec<Receipt>,
+}
+
+/// Makes the call that asks for this.
+fn call<L: Ledger, R: Wait + Threads + Sync>(
+    rt: &R,
+    shared: &Shared<L>,
+    caller: Caller<L>,
+    event: CoreEvent,
+) -> (Caller<L>, Result<Receipt, (NotDone, CoreEvent)>) {
+    match event {
+        CoreEvent::Accept(item) => shared.accept(rt, caller, item),
+        CoreEvent::Join => shared.join(rt, caller),
+        CoreEvent::OpenAt(stamp) => shared.open(rt, caller, stamp),
+        CoreEvent::OpenFloor => shared.open_floor(rt, caller),
+        CoreEvent::Read { id, key } => shared.read(rt, caller, id, key),
+        CoreEvent::List(id) => shared.list(rt, caller, id),
+        CoreEvent::Close(id) => shared.close(rt, caller, id),
+        CoreEvent::Vacuum => shared.vacuum(rt, caller),
+    }
+}
+
+impl<L: Ledger> Client<L> {
+    /// A caller that made no call yet.
+    pub(crate) fn new(alloc: Global, caller: Caller<L>) -> Client<L> {
+        Client {
+            caller,
+            receipts: Vec::new(alloc),
+        }
+    }
+
+    /// Makes the call that asks for this, and keeps its receipt where it was made.
+    pub(crate) fn asks<R: Wait + Threads + Abort + Sync>(
+        self,
+        rt: &R,
+        shared: &Shared<L>,
+        event: CoreEvent,
+    ) -> Client<L> {
+        let Client {
+            caller,
+            mut receipts,
+        } = self;
+        let (caller, told) = call(rt, shared, caller, event);
+        keep(rt, &mut receipts, told.ok());
+        Client { caller, receipts }
+    }
+
+    /// Whether this is the last reply that was told.
+    pub(crate) fn was_told(&self, due: &CoreReply) -> bool {
+        match self.receipts.last() {
+            Some(receipt) => receipt.reply == *due,
+            None => false,
+        }
+    }
+
+    /// The id of the snapshot that the last reply tells, 0 where it tells none.
+    pub(crate) fn opened(&self) -> u64 {
+        match self.receipts.last() {
+            Some(receipt) => match &receipt.reply {
+                CoreReply::Opened { id, stamp: _ } => *id,
+                _ => 0,
+            },
+            None => 0,
+        }
+    }
+}
+
+/// Keeps the receipt of a call, where it was made.
+fn keep<R: Abort>(rt: &R, receipts: &mut Vec<Receipt>, told: Option<Receipt>) {
+    if let Some(receipt) = told {
+        receipts.push(receipt).ok().expect(rt, "memory");
+    }
+}
+
+/// The lists of these clients, which are to settle.
+pub(crate) fn lists_of<L: Ledger, R: Abort>(
+    rt: &R,
+    alloc: Global,
+    clients: Vec<Client<L>>,
+) -> Vec<(Caller<L>, Vec<Receipt>)> {
+    let mut lists = Vec::new(alloc);
+    for client in clients {
+        let Client { caller, receipts } = client;
+        lists.push((caller, receipts)).ok().expect(rt, "memory");
+    }
+    lists
+}

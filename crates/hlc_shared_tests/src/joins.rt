@@ -1,0 +1,105 @@
+//! Nodes that join a shared store.
+ghost use Rattle.std.specs.Prelude.{◌≡◌};
+
+use crate::clients::{Client, lists_of};
+use crate::expected::must_be;
+use crate::makers::write;
+use hlc_core::{CoreEvent, CoreFault, CoreReply, NoNode, Stamp};
+use hlc_server::{Caller, Core, Receipt, Shared};
+use std::alloc::Global;
+use std::marker::Brand;
+use std::process::Abort;
+use std::sync::Wait;
+use std::sync::ledger::{Blank, Ledger};
+use std::test::*;
+use std::thread::Threads;
+
+/// Looks whether this was replied.
+fn was_told<L: Ledger, R: Abort>(rt: &R, client: &Client<L>, due: &CoreReply) {
+    assert!(rt; client.was_told(due), "{due:?} was due");
+}
+
+/// A node joins: it has this number, and its clock starts at this stamp.
+fn joins<L: Ledger, R: Wait + Threads + Abort + Sync>(
+    rt: &R,
+    shared: &Shared<L>,
+    client: Client<L>,
+    node: u16,
+    start: u64,
+) -> Client<L> {
+    let client = client.asks(rt, shared, CoreEvent::Join);
+    let start = Stamp::from_bits(start);
+    was_told(rt, &client, &CoreReply::Joined { node, start });
+    client
+}
+
+/// The first write of this node is handed in.
+fn writes<L: Ledger, R: Wait + Threads + Abort + Sync>(
+    rt: &R,
+    alloc: Global,
+    shared: &Shared<L>,
+    client: Client<L>,
+    node: u16,
+) -> Client<L> {
+    let item = write(alloc, node, 0, b'k', 0).expect(rt, "memory");
+    client.asks(rt, shared, CoreEvent::Accept(item))
+}
+
+/// A node joins at 0.0; an item of a node that did not join is refused; both nodes write at 1.0, and
+/// the next node joins there.
+fn calls<L: Ledger, R: Wait + Threads + Abort + Sync>(
+    rt: &R,
+    alloc: Global,
+    shared: &Shared<L>,
+    client: Client<L>,
+) -> Client<L> {
+    let client = joins(rt, shared, client, 1, 0);
+    let client = writes(rt, alloc, shared, client, 2);
+    was_told(rt, &client, &CoreReply::Refused(CoreFault::NoNode));
+    let client = writes(rt, alloc, shared, client, 1);
+    let client = writes(rt, alloc, shared, client, 0);
+    joins(rt, shared, client, 2, 65_536)
+}
+
+/// The core of three nodes, of which the second wrote once and the third did not.
+fn has_counts<R: Abort>(rt: &R, core: &Core) {
+    must_be(rt, core.count(1), Ok(1));
+    must_be(rt, core.count(2), Ok(0));
+    must_be(rt, core.count(3), Err(NoNode));
+}
+
+/// The receipts of five calls settle.
+fn settles<L: Ledger, R: Abort>(rt: &R, shared: Shared<L>, lists: Vec<(Caller<L>, Vec<Receipt>)>) {
+    let settled = shared.settle(lists).ok().expect(rt, "receipts that settle");
+    must_be(rt, settled.entries, 5);
+    has_counts(rt, &settled.core);
+}
+
+/// The one caller makes its calls. Gives its receipts in a list of one.
+fn called<L: Ledger, R: Wait + Threads + Abort + Sync>(
+    rt: &R,
+    alloc: Global,
+    shared: &Shared<L>,
+    callers: Vec<Caller<L>>,
+) -> Vec<(Caller<L>, Vec<Receipt>)> {
+    let mut clients = Vec::new(alloc);
+    for caller in callers {
+        let client = calls(rt, alloc, shared, Client::new(alloc, caller));
+        clients.push(client).ok().expect(rt, "memory");
+    }
+    lists_of(rt, alloc, clients)
+}
+
+/// A store of one node, which a caller lets others join. Its receipts settle.
+fn by_one<L: Ledger, R: Wait + Threads + Abort + Sync>(rt: &R, alloc: Global, blank: Blank)
+    requires { (blank.name ≡ L.name) × (blank.parts ≡ L.parts) × (blank.parts ≡ 1) }
+{
+    let (shared, callers) = Shared::<L>::new(alloc, blank, 1, 1, true).expect(rt, "a store");
+    let lists = called(rt, alloc, &shared, callers);
+    settles(rt, shared, lists);
+}
+
+#[test]
+fn nodes_join(rt: HostRuntime) {
+    by_one::<Brand, _>(&rt, rt.alloc(), Blank::new(1));
+}

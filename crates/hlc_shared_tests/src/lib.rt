@@ -1,0 +1,21 @@
+//! Tests of links, of the board and of the shared store, by their public calls, with the items that the tests of the
+//! workers are fed too, and the small callers of the pages of `hlc_channel`, `hlc_board` and `hlc_server`. There is
+//! nothing else here.
+#![tactic(auto)]
+
+#[cfg(test)]
+mod boards;
+pub mod callers;
+#[cfg(test)]
+mod clients;
+#[cfg(test)]
+mod expected;
+#[cfg(test)]
+mod forged;
+#[cfg(test)]
+mod joins;
+#[cfg(test)]
+mod links;
+pub mod makers;
+#[cfg(test)]
+mod threads;

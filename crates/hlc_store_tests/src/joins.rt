@@ -1,0 +1,101 @@
+//! A store of nodes that join and retire, fed items that no world makes.
+use crate::expected::must_be;
+use crate::items::{item, said, stamp};
+use hlc_core::{Body, Core, CoreFault, Item, NoNode};
+use std::alloc::Global;
+use std::process::Abort;
+use std::test::*;
+
+/// The item of a node, with this number and reading, that writes nothing and says this.
+fn says(at: (u16, u64, u64), body: Body) -> Item {
+    let (node, number, reading) = at;
+    said((node, number, stamp(reading).bits()), body)
+}
+
+/// The item of a write of `a`.
+fn write<R: Abort>(rt: &R, alloc: Global, at: (u16, u64, u64), value: &[u8]) -> Item {
+    let (node, number, reading) = at;
+    let at = (node, number, stamp(reading).bits());
+    item(rt, alloc, at, b"a", Some(value))
+}
+
+/// What a store says of an item beforehand, and whether it refuses it then.
+fn told(core: &mut Core, item: Item) -> (Result<(), CoreFault>, bool) {
+    (core.check_item(&item), core.accept(item).is_err())
+}
+
+/// The store takes a write of `a`.
+fn writes<R: Abort>(rt: &R, alloc: Global, core: &mut Core, at: (u16, u64, u64), value: &[u8]) {
+    assert!(rt; core.accept(write(rt, alloc, at, value)).is_ok());
+}
+
+/// The store takes the last item of a node, and says so.
+fn retires<R: Abort>(rt: &R, core: &mut Core, at: (u16, u64, u64)) {
+    let retired = core
+        .accept(says(at, Body::Retire))
+        .ok()
+        .expect(rt, "the last item");
+    assert!(rt; retired.retires());
+}
+
+/// The store refuses an item, and tells so beforehand.
+fn refuses<R: Abort>(rt: &R, core: &mut Core, item: Item, due: CoreFault) {
+    must_be(rt, told(core, item), (Err(due), true));
+}
+
+/// A node joins, with this number and its start at a reading, and nothing of it was accepted.
+fn joins<R: Abort>(rt: &R, core: &mut Core, node: u16, start: u64) {
+    must_be(rt, core.join(), Ok((node, stamp(start))));
+    must_be(rt, core.count(node), Ok(0));
+    must_be(rt, core.count(node.wrapping_add(1)), Err(NoNode));
+}
+
+/// The floor is at a reading.
+fn has_come_to<R: Abort>(rt: &R, core: &Core, floor: u64) {
+    must_be(rt, core.floor(), stamp(floor));
+}
+
+/// A snapshot at the floor reads this value of `a`.
+fn reads_at_floor<R: Abort>(rt: &R, core: &mut Core, floor: u64, value: &[u8]) {
+    must_be(rt, core.open_floor(), Ok((1, stamp(floor))));
+    must_be(rt, core.read(1, b"a"), Ok(Some(value)));
+}
+
+#[test]
+fn a_node_joins_and_the_first_one_retires(rt: HostRuntime) {
+    let mut core = Core::new(rt.alloc(), 1).expect(&rt, "a store");
+    join_and_retire(&rt, rt.alloc(), &mut core);
+}
+
+fn join_and_retire<R: Abort>(rt: &R, alloc: Global, core: &mut Core) {
+    writes(rt, alloc, core, (0, 0, 5), b"x");
+    joins(rt, core, 1, 5);
+    let rising = CoreFault::StampNotRising { head: stamp(5) };
+    refuses(rt, core, write(rt, alloc, (1, 0, 5), b"y"), rising);
+    retires(rt, core, (0, 1, 7));
+    has_come_to(rt, core, 5);
+    writes(rt, alloc, core, (1, 0, 6), b"y");
+    has_come_to(rt, core, 6);
+    reads_at_floor(rt, core, 6, b"y");
+    refuses(rt, core, says((0, 2, 8), Body::Report), CoreFault::Retired);
+    retires(rt, core, (1, 1, 9));
+    has_come_to(rt, core, 9);
+    joins(rt, core, 2, 9);
+    refuses(rt, core, says((3, 0, 10), Body::Report), CoreFault::NoNode);
+}
+
+#[test]
+fn a_store_has_1024_numbers(rt: HostRuntime) {
+    let mut core = Core::new(rt.alloc(), 64).expect(&rt, "a store");
+    take_all_numbers(&rt, &mut core);
+}
+
+/// Nodes join a store of 64 nodes until there is no number left.
+fn take_all_numbers<R: Abort>(rt: &R, core: &mut Core) {
+    for number in 64..1_024 {
+        must_be(rt, core.join(), Ok((number, stamp(0))));
+    }
+    must_be(rt, core.join(), Err(CoreFault::TooManyNodes));
+    must_be(rt, core.count(1_023), Ok(0));
+    must_be(rt, core.count(1_024), Err(NoNode));
+}

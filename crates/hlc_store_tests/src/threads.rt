@@ -1,0 +1,76 @@
+//! Vacuums of a store by one thread and by several.
+use crate::items::{item, stamp};
+use hlc_core::{Core, Item, Report};
+use std::alloc::Global;
+use std::process::Abort;
+use std::test::*;
+use std::thread::Threads;
+
+/// The item of a node's write of its own: the turns below 3,000 write a key each, and those from
+/// 3,000 on write them again, with the same value.
+fn item_of<R: Abort>(rt: &R, alloc: Global, turn: u64) -> Item {
+    let key = turn % 3_000;
+    let key = [(key / 256) as u8, (key % 256) as u8];
+    let bits = stamp(turn.wrapping_add(1)).bits();
+    item(rt, alloc, (0, turn, bits), &key, Some(b"v"))
+}
+
+/// A store of one node with 3,000 keys, each written twice with one value.
+fn store<R: Abort>(rt: &R, alloc: Global) -> Core {
+    let mut core = Core::new(alloc, 1).expect(rt, "a store");
+    write_all(rt, alloc, &mut core);
+    core
+}
+
+/// The store takes 6,000 turns.
+fn write_all<R: Abort>(rt: &R, alloc: Global, core: &mut Core) {
+    for turn in 0..6_000 {
+        assert!(rt; core.accept(item_of(rt, alloc, turn)).is_ok());
+    }
+}
+
+/// Whether a report counts 3,000 rows kept, of 13 bytes each, and 3,000 dropped, with the changes of
+/// another.
+fn is_due(report: &Report, other: &Report) -> bool {
+    let counted = report.kept == 3_000 && report.bytes == 39_000 && report.dropped == 3_000;
+    counted && report.witnesses == other.witnesses
+}
+
+/// The report of a vacuum of such a store.
+fn report<R: Abort>(rt: &R, alloc: Global) -> Report {
+    let mut core = store(rt, alloc);
+    core.vacuum().expect(rt, "memory")
+}
+
+/// The report of a vacuum of such a store by several threads.
+fn parallel<R: Threads + Abort + Sync>(rt: &R, alloc: Global) -> Report {
+    let mut core = store(rt, alloc);
+    core.vacuum_parallel(rt).expect(rt, "memory")
+}
+
+/// The two reports of a vacuum of such a store by several threads.
+fn parallel_pair<R: Threads + Abort + Sync>(rt: &R, alloc: Global) -> (Report, Report) {
+    let mut core = store(rt, alloc);
+    core.vacuum_pair_parallel(rt).expect(rt, "memory")
+}
+
+/// No snapshot is open, so the floor is the one point: at it each key has its second version, and
+/// the first is dropped.
+#[test]
+fn three_thousand_keys(rt: HostRuntime) {
+    let alloc = rt.alloc();
+    let due = report(&rt, alloc);
+    assert!(rt; is_due(&due, &due));
+    let told = parallel(&rt, alloc);
+    assert!(rt; is_due(&told, &due));
+    let (first, second) = parallel_pair(&rt, alloc);
+    assert!(rt; is_due(&first, &due) && is_due(&second, &due));
+}
+
+/// A pair of one thread, of a store without rows.
+#[test]
+fn two_reports_of_nothing(rt: HostRuntime) {
+    let mut core = Core::new(rt.alloc(), 1).expect(&rt, "a store");
+    let (first, second) = core.vacuum_pair().expect(&rt, "memory");
+    assert!(rt; first == second && first.kept == 0);
+}

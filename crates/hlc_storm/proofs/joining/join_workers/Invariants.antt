@@ -1,0 +1,9 @@
+-- Where none lacked memory so far, each of those that were joined has its list.
+use Rattle.std.proofs.Common.{◌≡◌, ◌+◌, false, length}
+use Rattle.hlc_storm.proofs.joining.join_workers.Given as goal
+
+abbrev pub invariant-loop-worker : goal.invariant-loop-worker
+invariant-loop-worker g l =
+    l.joined.lacks_memory ≡ false
+    → (l.initial.joined.lacks_memory ≡ false)
+    × (length l.joined.lists.items ≡ length l.initial.joined.lists.items + length l.yielded)

@@ -1,6 +1,0 @@
--- Where none lacked memory so far, each of those that were joined had been started.
-use Rattle.std.proofs.Common.{◌≡◌, ◌≢◌, false, None, All}
-use Rattle.hlc_storm.proofs.working.join_writers.Given as goal
-
-abbrev pub invariant-loop-writer : goal.invariant-loop-writer
-invariant-loop-writer g l = l.lacks_memory ≡ false → All (λ writer. writer ≢ None) l.yielded

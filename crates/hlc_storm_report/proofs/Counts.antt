@@ -1,0 +1,40 @@
+-- The lines of the nodes are printed one by one: one count more gives one line more, numbered by how many there were.
+use Rattle.std.proofs.Common.{◌≡◌, ℕ, ◌+◌, ◌<◌, get_or, ◌∙◌, sym, ap, subst, arith, Bool, List, [], ◌∷◌, ◌++◌}
+use Rattle.std.proofs.Common.{take, length, Option}
+use Rattle.std.specs.List.{flat_map}
+use Rattle.std.proofs.lemmas.List.{take_more, length-take-le}
+use Rattle.std.proofs.lemmas.List.Concat.{flat_map-append}
+use Rattle.hlc_text.specs.Text.{printed}
+use Rattle.hlc_text.specs.Printing.{Printed}
+use Rattle.hlc_text.proofs.PrintLemmas.{printed_then}
+use Rattle.std.proofs.Common.{append-nil}
+use Rattle.hlc_storm_report.specs.Printed.{accepted_line, accepted_lines}
+
+lines_more : (node : ℕ) (xs : List ℕ) (x : ℕ)
+    → accepted_lines node (xs ++ x ∷ []) ≡ accepted_lines node xs ++ accepted_line (node + length xs) x ∷ []
+lines_more node [] x = ap (λ n. accepted_line n x ∷ []) (let e : node ≡ node + 0 = omega arith in e)
+lines_more node (y ∷ ys) x =
+    ap (λ l. accepted_line node y ∷ l) (lines_more (node + 1) ys x
+    ∙ ap (λ n. accepted_lines (node + 1) ys ++ accepted_line n x ∷ [])
+    (let e : node + 1 + length ys ≡ node + length (y ∷ ys) = omega arith in e))
+
+text_more : (xs : List ℕ) (i d : ℕ) → i < length xs → flat_map printed (accepted_lines 0 (take (i + 1) xs))
+    ≡ flat_map printed (accepted_lines 0 (take i xs)) ++ printed (accepted_line i (get_or xs i d))
+text_more xs i d within =
+    let lines : accepted_lines 0 (take (i + 1) xs)
+    ≡ accepted_lines 0 (take i xs) ++ accepted_line i (get_or xs i d) ∷ [] =
+    ap (accepted_lines 0) (take_more xs i d within) ∙ lines_more 0 (take i xs) (get_or xs i d)
+    ∙ ap (λ n. accepted_lines 0 (take i xs) ++ accepted_line n (get_or xs i d) ∷ [])
+    (let taken = length-take-le i xs (omega (arith, within)) in
+    let e : 0 + length (take i xs) ≡ i = omega (arith, taken) in e) in
+    ap (flat_map printed) lines
+    ∙ flat_map-append printed (accepted_lines 0 (take i xs)) (accepted_line i (get_or xs i d) ∷ [])
+    ∙ ap (λ l. flat_map printed (accepted_lines 0 (take i xs)) ++ l)
+    (append-nil (printed (accepted_line i (get_or xs i d))))
+
+pub counted_more : {f g h : Bool} {a b c : Option (List ℕ)} {u v w : List ℕ} (xs : List ℕ) (i d : ℕ) → i < length xs
+    → Printed f g a b u v (flat_map printed (accepted_lines 0 (take i xs)))
+    → Printed g h b c v w (printed (accepted_line i (get_or xs i d)))
+    → Printed f h a c u w (flat_map printed (accepted_lines 0 (take (i + 1) xs)))
+counted_more {f} {g} {h} {a} {b} {c} {u} {v} {w} xs i d within first second =
+    subst (λ (zs : List ℕ). Printed f h a c u w zs) (sym (text_more xs i d within)) (printed_then first second)

@@ -1,0 +1,14 @@
+-- The count of the next node is that of its number.
+use Rattle.std.proofs.Common.{◌∙◌, ap, sym, arith, ◌++◌, ◌∷◌, [], map}
+use Rattle.std.specs.List.{range_with_len}
+use Rattle.std.proofs.lemmas.List.FromFn.{map-range_with_len_more}
+use Rattle.hlc_core.specs.Past.{count}
+use Rattle.hlc_storm_report.proofs.found.counts_of.Goals as goal
+
+pub loop-node-preserved : goal.loop-node-preserved
+loop-node-preserved c past stands =
+    let number = (c.in-Ok.ensures past stands).1 in
+    c.push_reserved.ensures.items ∙ ap (λ l. l ++ c.in-Ok.number ∷ []) c.reserve.ensures.items
+    ∙ ap (λ l. l ++ c.in-Ok.number ∷ []) (c.loop-node.invariant past stands)
+    ∙ ap (λ n. map (λ node. count node past) (range_with_len 0 c.loop-node.node) ++ n ∷ []) number
+    ∙ sym (map-range_with_len_more (λ node. count node past) 0 c.loop-node.node c.loop-node.node (omega arith))

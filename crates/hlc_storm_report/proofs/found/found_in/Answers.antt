@@ -1,0 +1,20 @@
+-- Each call says what it did to the past that the core stood for before it: the listing at the floor, and then the
+-- vacuum.
+use Rattle.std.proofs.Common.{◌+◌, ◌∷◌, subst}
+use Rattle.hlc_core.specs.Past.{Opened, Closed, opened}
+use Rattle.hlc_core.specs.Stored.{IsReport}
+use Rattle.hlc_storm_report.proofs.found.found_in.Goals as goal
+
+pub returns-clause-found : goal.returns-clause-found
+returns-clause-found c past stands =
+    let listed = c.in_ok-listed.ensures.found past stands in
+    let made = c.in_ok-kept.ensures.kept _ listed.2 in
+    record {
+      accepted = c.in_ok-accepted.ensures.counts past stands;
+      floor = listed.0;
+      pairs = listed.1;
+      vacuum = made.0;
+      due = subst (λ n. IsReport n (Closed (opened past + 1) ∷ Opened c.in_ok-listed.listed.0 ∷ past) made.0)
+          c.in_ok-listed.ensures.nodes made.1;
+      kept = made.2;
+    }

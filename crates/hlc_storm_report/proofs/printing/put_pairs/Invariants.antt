@@ -1,0 +1,12 @@
+-- The lines of the pairs so far are printed.
+use Rattle.std.proofs.Common.{map, take}
+use Rattle.std.specs.List.{flat_map}
+use Rattle.hlc_text.specs.Text.{printed}
+use Rattle.hlc_text.specs.Printing.{Prints}
+use Rattle.hlc_storm_report.specs.Printed.{storm_pair_line}
+use Rattle.hlc_storm_report.proofs.printing.put_pairs.Given as goal
+
+abbrev pub invariant-loop-pair : goal.invariant-loop-pair
+invariant-loop-pair g l =
+    Prints g.W.Write.contents l.fn.writer l.writer l.fn.waiting l.waiting
+    (flat_map printed (map storm_pair_line (take l.pair-index l.pairs)))

@@ -1,0 +1,38 @@
+-- What a storm's report says: it is that of some legal history of calls, in which each reply was due.
+use Rattle.std.specs.Prelude.{◌≡◌, ◌≢◌, ℕ, ◌+◌, List, ◌∷◌, map, Result, Ok, Err}
+use Rattle.std.specs.List.{range_with_len}
+use Rattle.hlc_vacuum.specs.declared.report.Report.{Report}
+use Rattle.hlc_core.specs.declared.event.CoreEvent.{CoreEvent}
+use Rattle.hlc_core.specs.declared.reply.CoreReply.{CoreReply}
+use Rattle.hlc_core.specs.Past.{Step, Opened, Closed, count, floor, opened, writes}
+use Rattle.hlc_core.specs.Stored.{IsReport}
+use Rattle.hlc_core.specs.Listing.{IsListing}
+use Rattle.hlc_core.specs.History.{IsLegalHistory, past_of}
+use Rattle.hlc_server.specs.declared.settle.SettleFault.TheVariants.{NoTrail}
+use Rattle.hlc_words.specs.declared.plan.StormPlan.{StormPlan}
+use Rattle.hlc_storm_report.specs.declared.report.StormReport.{StormReport}
+use Rattle.hlc_storm_report.specs.declared.report.StormFault.{StormFault}
+use Rattle.hlc_storm_report.specs.declared.report.StormFault.TheVariants.{Work, Settle}
+use Rattle.hlc_workers.specs.declared.room.WorkEnd.TheVariants.{Done}
+
+-- Of a past of a core of so many nodes: the number of accepted items of each node of the plan, the floor, the keys that
+-- have a value there, with the newest accepted one, and the rows that a vacuum keeps,
+-- made once the snapshot of the listing is closed.
+pub record IsFoundIn (plan : StormPlan) (nodes : ℕ) (past : List Step) (report : StormReport) : Type 0 where
+  pub accepted : report.accepted.items ≡ map (λ node. count node past) (range_with_len 0 plan.nodes)
+  pub floor : report.floor ≡ floor nodes past
+  pub pairs : IsListing (writes past) report.floor report.pairs
+  pub vacuum : Report
+  pub due : IsReport nodes (Closed (opened past + 1) ∷ Opened report.floor ∷ past) vacuum
+  pub kept : report.kept ≡ vacuum.kept
+
+-- why a storm may have no report: for no worker that was done, and never for want of a trail, since it keeps one
+abbrev pub MayRefuse : StormFault → Type 0
+MayRefuse fault = (fault ≢ Work Done) × (fault ≢ Settle NoTrail)
+
+-- what a storm may tell
+abbrev pub MayTell : StormPlan → Result StormReport StormFault → Type 0
+MayTell plan (Ok report) =
+    (nodes : ℕ) × (history : List (CoreEvent × CoreReply))
+    × IsLegalHistory nodes history × IsFoundIn plan nodes (past_of history) report
+MayTell plan (Err fault) = MayRefuse fault

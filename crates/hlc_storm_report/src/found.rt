@@ -1,0 +1,98 @@
+//! What a storm found.
+ghost use Rattle.std.specs.Prelude.{◌≡◌, ◌+◌, ◌∷◌, List, map, IfOk, IfErr};
+ghost use Rattle.std.specs.List.{range_with_len};
+ghost use Rattle.hlc_vacuum.specs.declared.report.Report.{Report as AReport};
+ghost use Rattle.hlc_core.specs.Past.{Step, Opened, Closed, count, floor, opened, writes};
+ghost use Rattle.hlc_core.specs.Listing.{IsListing};
+ghost use Rattle.hlc_core.specs.Stored.{IsReport};
+ghost use Rattle.hlc_core.specs.Kept.{nodes, StandsFor};
+ghost use Rattle.hlc_storm_report.specs.Found.{IsFoundIn};
+
+use crate::report::{StormFault, StormReport};
+use hlc_core::{Core, Listing, Stamp};
+use hlc_words::StormPlan;
+use std::alloc::Global;
+
+/// What the settled core tells. Refused where it is out of memory.
+pub fn report_of(alloc: Global, core: Core, plan: StormPlan) -> Result<StormReport, StormFault>
+    ensures found { IfOk result
+        (λ report. (past : List Step) → StandsFor core past
+        → IsFoundIn plan (nodes core) past report) }
+    ensures memory { IfErr result (λ fault. fault ≡ StormFault.NoMemory) }
+{
+    let mut core = core;
+    found_in(alloc, &mut core, plan)
+}
+
+/// The same of a core that is kept.
+fn found_in(alloc: Global, core: &mut Core, plan: StormPlan) -> Result<StormReport, StormFault>
+    ensures found { IfOk result
+        (λ report. (past : List Step) → StandsFor core.old past
+        → IsFoundIn plan (nodes core.old) past report) }
+    ensures memory { IfErr result (λ fault. fault ≡ StormFault.NoMemory) }
+{
+    let accepted = counts_of(alloc, core, plan.nodes)?;
+    let listed = listed_at_floor(core)?;
+    let kept = kept_by_vacuum(core)?;
+    let (floor, pairs) = listed;
+    Ok(StormReport {
+        accepted,
+        floor,
+        pairs,
+        kept,
+    })
+}
+
+/// The floor, and the keys that have a value there. A snapshot is opened for that, and closed again.
+fn listed_at_floor(core: &mut Core) -> Result<(Stamp, Listing), StormFault>
+    ensures found { IfOk result
+        (λ found. (past : List Step) → StandsFor core.old past
+        → (found.0 ≡ floor (nodes core.old) past) × IsListing (writes past) found.0 found.1
+        × StandsFor core.new (Closed (opened past + 1) ∷ Opened found.0 ∷ past)) }
+    ensures nodes { nodes core.new ≡ nodes core.old }
+    ensures memory { IfErr result (λ fault. fault ≡ StormFault.NoMemory) }
+{
+    let Ok(opening) = core.open_floor() else {
+        return Err(StormFault::NoMemory);
+    };
+    let (id, floor) = opening;
+    let Ok(pairs) = core.list(id) else {
+        return Err(StormFault::NoMemory);
+    };
+    let Ok(_) = core.close(id) else {
+        return Err(StormFault::NoMemory);
+    };
+    Ok((floor, pairs))
+}
+
+/// How many rows a vacuum keeps.
+fn kept_by_vacuum(core: &mut Core) -> Result<u64, StormFault>
+    ensures kept { IfOk result
+        (λ kept. (past : List Step) → StandsFor core.old past
+        → (report : AReport) × IsReport (nodes core.old) past report × (kept ≡ report.kept)) }
+    ensures memory { IfErr result (λ fault. fault ≡ StormFault.NoMemory) }
+{
+    match core.vacuum() {
+        Ok(report) => Ok(report.kept),
+        Err(_) => Err(StormFault::NoMemory),
+    }
+}
+
+/// How many items of each of so many nodes the core accepted.
+fn counts_of(alloc: Global, core: &Core, count_of_nodes: u16) -> Result<Vec<u64>, StormFault>
+    ensures counts { IfOk result (λ counts. (past : List Step) → StandsFor core.now past
+        → counts.items ≡ map (λ node. count node past) (range_with_len 0 count_of_nodes)) }
+    ensures memory { IfErr result (λ fault. fault ≡ StormFault.NoMemory) }
+{
+    let mut counts = Vec::new(alloc);
+    for node in 0..count_of_nodes {
+        let Ok(number) = core.count(node) else {
+            return Err(StormFault::NoMemory);
+        };
+        if counts.reserve(1).is_err() {
+            return Err(StormFault::NoMemory);
+        }
+        counts.push_reserved(number);
+    }
+    Ok(counts)
+}

@@ -1,0 +1,65 @@
+//! Items and rows, of the words of a line.
+use crate::lines::{next_number, next_text};
+use hlc_core::{Body, Bytes, Item, Row, Stamp};
+use hlc_text::words::LineWords;
+use std::alloc::{AllocError, Global};
+
+/// These bytes, as a key or a value.
+pub(crate) fn bytes(alloc: Global, text: &[u8]) -> Result<Bytes, AllocError> {
+    Ok(Bytes::from_vec(Vec::from_slice(alloc, text)?))
+}
+
+/// The next word as a node, or 0.
+pub(crate) fn next_node(words: &mut LineWords<'_>) -> u16 {
+    u16::try_from(next_number(words)).unwrap_or(0)
+}
+
+/// The next word as the bits of a stamp, or 0.0.
+pub(crate) fn next_stamp(words: &mut LineWords<'_>) -> Stamp {
+    Stamp::from_bits(next_number(words))
+}
+
+/// The write of a line: its node, its number, its stamp, its key and its value.
+pub(crate) fn write_of(alloc: Global, rest: &[u8]) -> Result<Item, AllocError> {
+    let item = item_of(rest, Body::Report);
+    let mut words = LineWords::of(rest);
+    for _ in 0..3u8 {
+        let _ = words.next();
+    }
+    let key = bytes(alloc, next_text(&mut words))?;
+    let value = Some(bytes(alloc, next_text(&mut words))?);
+    Ok(Item {
+        node: item.node,
+        number: item.number,
+        stamp: item.stamp,
+        body: Body::Write { key, value },
+    })
+}
+
+/// The item of a line that says this: its node, its number, its stamp.
+pub(crate) fn item_of(rest: &[u8], body: Body) -> Item {
+    let mut words = LineWords::of(rest);
+    let node = next_node(&mut words);
+    let number = next_number(&mut words);
+    let stamp = next_stamp(&mut words);
+    Item {
+        node,
+        number,
+        stamp,
+        body,
+    }
+}
+
+/// The row of a line: its key, its stamp and its value.
+pub(crate) fn row_of(alloc: Global, rest: &[u8]) -> Result<Row, AllocError> {
+    let mut words = LineWords::of(rest);
+    let key = bytes(alloc, next_text(&mut words))?;
+    let stamp = next_stamp(&mut words);
+    let value = Some(bytes(alloc, next_text(&mut words))?);
+    Ok(Row {
+        key,
+        stamp,
+        node: 0,
+        value,
+    })
+}

@@ -1,0 +1,151 @@
+//! The calls of a store in one thread.
+use crate::asking::ask_store;
+use crate::items::{item_of, next_node, next_stamp, write_of};
+use crate::lines::{Called, call_all, next_number, next_text, number_of, parts};
+use crate::screen::Screen;
+use hlc_core::{Body, Core, Item, NoMemory, Report, Stamp};
+use hlc_text::words::LineWords;
+use std::thread::Threads;
+
+/// A store, and the item that is held.
+#[derive(Drop)]
+pub(crate) struct Stored {
+    core: Core,
+    /// Until it is accepted. A refused one comes back.
+    held: Option<Item>,
+}
+
+/// Answers the calls of a store of two nodes.
+pub(crate) fn answer(screen: &mut Screen<'_>, calls: &[u8]) {
+    if let Ok(core) = Core::new(screen.alloc(), 2) {
+        answer_of(screen, core, calls);
+    }
+}
+
+/// The same, with a vacuum at each equals sign, which threads plan.
+pub(crate) fn answer_by<R: Threads + Sync>(screen: &mut Screen<'_>, threads: &R, calls: &[u8]) {
+    if let Ok(core) = Core::new(screen.alloc(), 2) {
+        let mut stored = Stored { core, held: None };
+        call_between(screen, threads, &mut stored, calls);
+    }
+}
+
+/// Makes the calls before, between and behind equals signs, and at each of these a vacuum.
+fn call_between<R: Threads + Sync>(
+    screen: &mut Screen<'_>,
+    threads: &R,
+    stored: &mut Stored,
+    calls: &[u8],
+) {
+    let mut rest = calls;
+    for _ in 0..calls.len() {
+        let (before, behind) = parts(rest, b'=');
+        call_all(screen, stored, before);
+        if behind.is_empty() {
+            return;
+        }
+        put_report(screen, stored.core.vacuum_parallel(threads));
+        rest = behind;
+    }
+}
+
+/// Answers the calls of this store.
+pub(crate) fn answer_of(screen: &mut Screen<'_>, core: Core, calls: &[u8]) {
+    let mut stored = Stored { core, held: None };
+    call_all(screen, &mut stored, calls);
+}
+
+/// Prints what a vacuum did.
+fn put_report(screen: &mut Screen<'_>, report: Result<Report, NoMemory>) {
+    match report {
+        Ok(report) => screen.report(&report),
+        Err(NoMemory) => screen.text(b"no memory\n"),
+    }
+    screen.finish();
+}
+
+impl Called for Stored {
+    fn call(&mut self, screen: &mut Screen<'_>, letter: u8, rest: &[u8]) {
+        match letter {
+            b'w' => self.held = write_of(screen.alloc(), rest).ok(),
+            b'p' => self.held = Some(item_of(rest, Body::Report)),
+            b't' => self.held = Some(item_of(rest, Body::Retire)),
+            b'i' => self.hand_in(screen),
+            b'q' => self.check_item(screen),
+            b'o' => screen.say(&self.core.open(Stamp::from_bits(number_of(rest)))),
+            b'f' => screen.say(&self.core.open_floor()),
+            b'c' => screen.say(&self.core.close(number_of(rest))),
+            b'j' => screen.say(&self.core.join()),
+            b'v' => put_report(screen, self.core.vacuum()),
+            _ => self.ask(screen, letter, &mut LineWords::of(rest)),
+        }
+    }
+}
+
+impl Stored {
+    /// Asks what changes nothing.
+    fn ask(&self, screen: &mut Screen<'_>, letter: u8, words: &mut LineWords<'_>) {
+        match letter {
+            b'?' => self.ask_all(screen),
+            b'r' => self.read(screen, words),
+            b's' => screen.say(&self.core.stamp_of(next_number(words))),
+            b'l' => self.list(screen, next_number(words)),
+            b'n' => screen.say(&self.core.count(next_node(words))),
+            b'R' => screen.say(&self.core.rows()),
+            b'b' => self.rows_to(screen, next_stamp(words)),
+            b'F' => screen.say(&self.core.floor()),
+            b'z' => screen.say(&self.core.horizon()),
+            _ => {},
+        }
+    }
+
+    /// The rows at or below a stamp.
+    fn rows_to(&self, screen: &mut Screen<'_>, bound: Stamp) {
+        match self.core.rows_to(bound) {
+            Ok(rows) => screen.rows(rows.as_slice()),
+            Err(NoMemory) => screen.text(b"no memory\n"),
+        }
+        screen.finish();
+    }
+
+    /// The listing of a snapshot.
+    fn list(&self, screen: &mut Screen<'_>, id: u64) {
+        match self.core.list(id) {
+            Ok(listing) => screen.listing(&listing),
+            Err(fault) => screen.fault(fault),
+        }
+        screen.end_line();
+    }
+
+    /// Hands in the item that is held. A refused one is printed too, and held again.
+    fn hand_in(&mut self, screen: &mut Screen<'_>) {
+        if let Some(item) = self.held.take() {
+            match self.core.accept(item) {
+                Ok(accepted) => screen.say(&accepted),
+                Err(refused) => {
+                    screen.say(&refused);
+                    self.held = Some(refused.1);
+                }
+            }
+        }
+    }
+
+    /// Why the item that is held would be refused.
+    fn check_item(&self, screen: &mut Screen<'_>) {
+        if let Some(item) = &self.held {
+            screen.say(&self.core.check_item(item));
+        }
+    }
+
+    /// All that can be asked.
+    fn ask_all(&self, screen: &mut Screen<'_>) {
+        ask_store(screen, &self.core);
+        screen.finish();
+    }
+
+    /// The value of a key in a snapshot.
+    fn read(&self, screen: &mut Screen<'_>, words: &mut LineWords<'_>) {
+        let id = next_number(words);
+        screen.say(&self.core.read(id, next_text(words)));
+    }
+}

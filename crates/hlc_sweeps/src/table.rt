@@ -1,0 +1,102 @@
+//! The calls of a table by itself, and the plan of its vacuum.
+ghost use Rattle.std.specs.Prelude.{IfOk};
+ghost use Rattle.hlc_vacuum.specs.Plan.{IsPlanOf};
+
+use crate::asking::ask_table;
+use crate::items::row_of;
+use crate::lines::{Called, call_all};
+use crate::screen::Screen;
+use hlc_columns::{Row, Stamp, Table};
+use hlc_vacuum::{Plan, Report, apply, plan_table};
+use std::alloc::{AllocError, Global};
+
+/// A table, and the row that is held.
+#[derive(Drop)]
+struct Tabled {
+    table: Table,
+    /// Until it is stored. A refused one comes back.
+    held: Option<Row>,
+}
+
+/// Answers the calls of a table.
+pub(crate) fn answer(screen: &mut Screen<'_>, calls: &[u8]) {
+    let mut tabled = Tabled {
+        table: Table::new(screen.alloc()),
+        held: None,
+    };
+    call_all(screen, &mut tabled, calls);
+}
+
+/// Prints a report.
+fn put_report(screen: &mut Screen<'_>, report: Result<Report, AllocError>) {
+    match report {
+        Ok(report) => screen.report(&report),
+        Err(_) => screen.text(b"no memory\n"),
+    }
+    screen.finish();
+}
+
+impl Called for Tabled {
+    fn call(&mut self, screen: &mut Screen<'_>, letter: u8, rest: &[u8]) {
+        match letter {
+            b'w' => self.held = row_of(screen.alloc(), rest).ok(),
+            b'i' => self.hand_in(screen),
+            b'v' => put_report(screen, vacuum(screen.alloc(), &mut self.table)),
+            b'p' => put_report(screen, report(screen.alloc(), &self.table)),
+            b'?' => self.ask(screen),
+            _ => {}
+        }
+    }
+}
+
+impl Tabled {
+    /// Adds the row that is held where it is below all others, and prints whether it is. Where memory
+    /// lacks, the row is printed and held again.
+    fn hand_in(&mut self, screen: &mut Screen<'_>) {
+        if let Some(row) = self.held.take() {
+            let added = add_lowest(&mut self.table, row);
+            screen.say(&added);
+            self.held = added.err();
+        }
+    }
+
+    /// All that can be asked.
+    fn ask(&self, screen: &mut Screen<'_>) {
+        ask_table(screen, &self.table);
+        screen.finish();
+    }
+}
+
+/// Adds a row that is below all others, and says whether it is. Where memory lacks, it comes back.
+fn add_lowest(table: &mut Table, row: Row) -> Result<bool, Row> {
+    if table.rows_at(row.stamp) > 0 {
+        return Ok(false);
+    }
+    match table.insert(row) {
+        Ok(()) => Ok(true),
+        Err(failed) => Err(failed.value),
+    }
+}
+
+/// Plans a vacuum at three points.
+fn plan(alloc: Global, table: &Table) -> Result<Plan, AllocError>
+    ensures { IfOk result (λ plan. IsPlanOf plan table.now) }
+{
+    let points = [
+        Stamp::from_bits(6),
+        Stamp::from_bits(8),
+        Stamp::from_bits(9),
+    ];
+    plan_table(alloc, table, &points)
+}
+
+/// The report of such a plan.
+fn report(alloc: Global, table: &Table) -> Result<Report, AllocError> {
+    plan(alloc, table)?.report()
+}
+
+/// Vacuums a table, and gives the report of that.
+fn vacuum(alloc: Global, table: &mut Table) -> Result<Report, AllocError> {
+    let plan = plan(alloc, table)?;
+    Ok(apply(table, plan))
+}

@@ -1,0 +1,10 @@
+//! What the tests hand in.
+use hlc_node::Bytes;
+use std::alloc::Global;
+use std::process::Abort;
+use std::test::*;
+
+/// The bytes of a text.
+pub(crate) fn bytes<R: Abort>(rt: &R, alloc: Global, text: &[u8]) -> Bytes {
+    Bytes::from_vec(Vec::from_slice(alloc, text).expect(rt, "memory"))
+}

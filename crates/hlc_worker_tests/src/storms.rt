@@ -1,0 +1,314 @@
+//! Storms whose workers meet, and what is reported of those that were held.
+ghost use Rattle.std.specs.Prelude.{◌≡◌, ◌+◌};
+
+use hlc_core::{CoreFault, CoreReply};
+use hlc_server::{Caller, NotDone, Receipt, Shared};
+use hlc_storm::{
+    Lists, Started, StormFault, StormGates, StormPlan, StormReport, join_all, storm_gated, work,
+};
+use hlc_workers::{FreeGate, Gate, Served, WorkEnd};
+use std::alloc::Global;
+use std::marker::Brand;
+use std::sync::Wait;
+use std::sync::atomic::{AtomicBool, Ordering};
+use std::sync::ledger::{Blank, Ledger};
+use std::test::*;
+use std::thread;
+use std::thread::{JoinHandle, Scope, Threads};
+
+/// As many looks as are made before a wait is given up. Each is one load.
+const LOOKS: u64 = 4_000_000_000;
+
+/// Looks until the flag is set. False where that was given up.
+fn was_set(flag: &AtomicBool) -> bool {
+    for _ in 0..LOOKS {
+        if flag.load(Ordering::SeqCst) {
+            return true;
+        }
+    }
+    false
+}
+
+/// At one turn it sets a flag; at one it waits until another gate has set its own.
+#[derive(Drop)]
+struct Meets<'a> {
+    sets_at: u64,
+    asked: &'a AtomicBool,
+    waits_at: u64,
+    other: &'a AtomicBool,
+}
+
+impl<'a> Gate for Meets<'a> {
+    ghost may_answer = { λ gate turn answer. Unit {0} };
+
+    fn pass<R: Wait>(&self, _rt: &R, turn: u64) -> bool {
+        if turn == self.sets_at {
+            self.asked.store(true, Ordering::SeqCst);
+        }
+        turn != self.waits_at || was_set(self.other)
+    }
+}
+
+/// A storm of one node and a reader. The reader's first read waits for the second vacuum, and the first vacuum for the
+/// reader's first read.
+fn meeting<R: Threads + Wait + Sync>(rt: &R, alloc: Global) -> Result<StormReport, StormFault> {
+    let (reads, vacuums) = (AtomicBool::new(false), AtomicBool::new(false));
+    let gates = StormGates {
+        feeders: FreeGate,
+        readers: Meets {
+            sets_at: 1,
+            asked: &reads,
+            waits_at: 1,
+            other: &vacuums,
+        },
+        vacuum: Meets {
+            sets_at: 1,
+            asked: &vacuums,
+            waits_at: 0,
+            other: &reads,
+        },
+    };
+    let plan = StormPlan {
+        nodes: 1,
+        writes: 1,
+        keys: 1,
+        readers: 1,
+    };
+    storm_gated(rt, alloc, plan, &gates)
+}
+
+/// Workers one after the other, or a lock that is held over a round, never end.
+#[test]
+fn a_reader_and_the_vacuum_meet(rt: HostRuntime) -> Result<(), Fail> {
+    let report = meeting(&rt, rt.alloc()).ok().ok_or("a report")?;
+    assert_eq!(rt; report.accepted.as_slice(), [2].as_slice());
+    assert_eq!(rt; (report.floor.l(), report.floor.c()), (2, 0));
+    assert_eq!(rt; report.pairs.len(), 1);
+    assert_eq!(rt; report.pairs.as_slice()[0].key.as_slice(), b"k0".as_slice());
+    assert_eq!(rt;
+        report.pairs.as_slice()[0].value.as_slice(),
+        b"0.0".as_slice()
+    );
+    assert_eq!(rt; report.kept, 1);
+    Ok(())
+}
+
+/// Whether a call was refused since its opening was above the floor.
+fn is_above_floor(receipt: &Receipt) -> bool {
+    matches!(
+        receipt.reply,
+        CoreReply::Refused(CoreFault::AboveFloor { floor: _ })
+    )
+}
+
+/// Whether any call was refused so, and how many calls there were.
+fn calls_in<L: Ledger>(lists: &Lists<L>) -> (bool, u64) {
+    let mut above = false;
+    let mut calls = 0u64;
+    for (_, receipts) in lists {
+        above = above || receipts.iter().any(|receipt| is_above_floor(receipt));
+        calls = calls.saturating_add(receipts.len() as u64);
+    }
+    (above, calls)
+}
+
+/// The same of a storm whose workers are never held.
+fn calls_of_storm<L: Ledger + Send + Sync, R: Threads + Wait + Sync>(
+    rt: &R,
+    alloc: Global,
+    blank: Blank,
+    plan: StormPlan,
+) -> Option<(bool, u64)>
+    requires ledger { (blank.name ≡ L.name) × (blank.parts ≡ L.parts) }
+    requires callers { blank.parts ≡ plan.nodes + plan.readers + 1 }
+{
+    let gates = StormGates {
+        feeders: FreeGate,
+        readers: FreeGate,
+        vacuum: FreeGate,
+    };
+    let (_, lists) = work::<L, _, _, _, R>(rt, alloc, blank, plan, &gates).ok()?;
+    Some(calls_in(&lists))
+}
+
+/// The board never runs ahead of the store: no reader that opens at the board's floor finds it above the store's.
+#[test]
+fn the_board_is_never_ahead(rt: HostRuntime) -> Result<(), Fail> {
+    let plan = StormPlan {
+        nodes: 3,
+        writes: 200,
+        keys: 2,
+        readers: 4,
+    };
+    let seen = calls_of_storm::<Brand, _>(&rt, rt.alloc(), Blank::new(8), plan);
+    let (above, calls) = seen.ok_or("receipts")?;
+    assert!(rt; !above);
+    // 3 x 201 items, 16 vacuums, and of each round an opening or two, 2 reads and a close.
+    assert!(rt; (875..=939).contains(&calls));
+    Ok(())
+}
+
+/// Answers no at one turn.
+#[derive(Drop)]
+struct HoldsAt(u64);
+
+impl Gate for HoldsAt {
+    ghost may_answer = { λ gate turn answer. Unit {0} };
+
+    fn pass<R: Wait>(&self, _rt: &R, turn: u64) -> bool {
+        turn != self.0
+    }
+}
+
+/// Why a storm of two nodes and a reader has no report whose feeders, reader and vacuum are held at these turns.
+fn fault_of_held<R: Threads + Wait + Sync>(
+    rt: &R,
+    alloc: Global,
+    turns: (u64, u64, u64),
+) -> Option<StormFault> {
+    let (feeders, readers, vacuum) = turns;
+    let gates = StormGates {
+        feeders: HoldsAt(feeders),
+        readers: HoldsAt(readers),
+        vacuum: HoldsAt(vacuum),
+    };
+    let plan = StormPlan {
+        nodes: 2,
+        writes: 20,
+        keys: 1,
+        readers: 1,
+    };
+    storm_gated(rt, alloc, plan, &gates).err()
+}
+
+/// Feeders, readers and the vacuum that are held are reported as held: at their first call, at the last of a feeder and
+/// of the vacuum, and at the 48th of a reader, which makes 48 to 64. A writer whose feeder is held finds its link closed,
+/// and ends. After its last call no worker is asked.
+#[test]
+fn held_workers_are_reported(rt: HostRuntime) -> Result<(), Fail> {
+    let never = u64::MAX;
+    for turns in [
+        (0, never, never),
+        (20, never, never),
+        (never, 0, never),
+        (never, 47, never),
+        (never, never, 0),
+        (never, never, 15),
+    ] {
+        let fault = fault_of_held(&rt, rt.alloc(), turns);
+        assert_eq!(rt; fault, Some(StormFault::Work(WorkEnd::Held)));
+    }
+    assert_eq!(rt; fault_of_held(&rt, rt.alloc(), (21, 64, 16)), None);
+    Ok(())
+}
+
+/// The thread of a worker.
+type Worker<L> = Option<JoinHandle<Served<L>>>;
+
+/// Starts a worker that makes no call and ends so.
+fn start<'s, E, L: Ledger + Send + Sync + 's>(
+    scope: &Scope<'s, E>,
+    alloc: Global,
+    caller: Option<Caller<L>>,
+    end: WorkEnd,
+) -> Worker<L> {
+    let caller = caller?;
+    let receipts = Vec::new(alloc);
+    let ends = move || Served {
+        caller,
+        receipts,
+        end,
+    };
+    scope.spawn(ends).ok()
+}
+
+/// Starts two, the last one first, and says whether one could not be kept.
+fn start_two<'s, E, L: Ledger + Send + Sync + 's>(
+    scope: &Scope<'s, E>,
+    alloc: Global,
+    callers: &mut Vec<Caller<L>>,
+    ends: [WorkEnd; 2],
+) -> (Vec<Worker<L>>, bool) {
+    let mut workers = Vec::new(alloc);
+    let mut lacks_memory = false;
+    for end in [ends[1], ends[0]] {
+        let worker = start(scope, alloc, callers.pop(), end);
+        lacks_memory = workers.push(worker).is_err() || lacks_memory;
+    }
+    (workers, lacks_memory)
+}
+
+/// Joins two feeders, two readers and a vacuum that end so, by caller.
+fn join_ended<L: Ledger + Send + Sync, R: Threads + Wait + Sync>(
+    rt: &R,
+    alloc: Global,
+    callers: &mut Vec<Caller<L>>,
+    ends: [WorkEnd; 5],
+    lacks_memory: bool,
+) -> Result<(), StormFault> {
+    thread::scope(thread::scope_env(), rt, |scope| -> Result<(), StormFault> {
+        let vacuum = start(scope, alloc, callers.pop(), ends[4]);
+        let (readers, lacks_reader) = start_two(scope, alloc, callers, [ends[2], ends[3]]);
+        let (feeders, lacks_feeder) = start_two(scope, alloc, callers, [ends[0], ends[1]]);
+        let started = Started {
+            writers: Vec::new(alloc),
+            feeders,
+            readers,
+            vacuum,
+            lacks_memory: lacks_memory || lacks_reader || lacks_feeder,
+        };
+        join_all(rt, alloc, started).map(|_| ())
+    })
+}
+
+/// The same by callers of a new store.
+fn join_new<L: Ledger + Send + Sync, R: Threads + Wait + Sync>(
+    rt: &R,
+    alloc: Global,
+    blank: Blank,
+    ends: [WorkEnd; 5],
+    lacks_memory: bool,
+) -> Result<(), StormFault>
+    requires ledger { (blank.name ≡ L.name) × (blank.parts ≡ L.parts) }
+    requires callers { blank.parts ≡ 5 }
+{
+    let Ok((_, mut callers)) = Shared::<L>::new(alloc, blank, 2, 5, false) else {
+        return Err(StormFault::NoMemory);
+    };
+    join_ended(rt, alloc, &mut callers, ends, lacks_memory)
+}
+
+/// What the join of workers that end so gives, with memory or without.
+fn end_of<R: Threads + Wait + Sync>(
+    rt: &R,
+    alloc: Global,
+    ends: [WorkEnd; 5],
+    lacks_memory: bool,
+) -> Result<(), StormFault> {
+    join_new::<Brand, R>(rt, alloc, Blank::new(5), ends, lacks_memory)
+}
+
+/// Of several workers that are not done the first is reported: feeders by node, then readers, then the vacuum. Out of
+/// memory comes before all of them.
+#[test]
+fn the_first_worker_is_reported(rt: HostRuntime) -> Result<(), Fail> {
+    let done = WorkEnd::Done;
+    let held = WorkEnd::Held;
+    let closed = WorkEnd::Closed;
+    let spent = WorkEnd::Spent(NotDone::NoMemory);
+    for (ends, first) in [
+        ([done, done, done, done, held], held),
+        ([done, done, done, closed, held], closed),
+        ([done, done, spent, closed, held], spent),
+        ([done, held, spent, closed, closed], held),
+        ([closed, held, spent, done, held], closed),
+    ] {
+        let end = end_of(&rt, rt.alloc(), ends, false);
+        assert_eq!(rt; end, Err(StormFault::Work(first)));
+    }
+    assert_eq!(rt; end_of(&rt, rt.alloc(), [done; 5], false), Ok(()));
+    let ends = [held, done, done, done, done];
+    let end = end_of(&rt, rt.alloc(), ends, true);
+    assert_eq!(rt; end, Err(StormFault::NoMemory));
+    Ok(())
+}
