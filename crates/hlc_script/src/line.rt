@@ -102,6 +102,17 @@ fn event_of_words<'a>(words: &mut LineWords<'a>) -> Option<Event<Spelled<'a>>>
     if verb == b"deliver".as_slice() {
         return deliver(words);
     }
+    store_event(verb, words)
+}
+
+/// The event of a verb that is none of those of nodes, and of the words after it.
+fn store_event<'a>(verb: &[u8], words: &mut LineWords<'a>) -> Option<Event<Spelled<'a>>>
+    requires no_node { (verb.now ≢ codes "write") × (verb.now ≢ codes "delete")
+        × (verb.now ≢ codes "report") × (verb.now ≢ codes "retire") × (verb.now ≢ codes "join")
+        × (verb.now ≢ codes "send") × (verb.now ≢ codes "receive")
+        × (verb.now ≢ codes "observe") × (verb.now ≢ codes "deliver") }
+    ensures { Reads event_words HasLine (verb.now ∷ words.old) result }
+{
     if verb == b"open".as_slice() {
         return open(words);
     }

@@ -1,5 +1,5 @@
 //! Tests of the store and of worlds, by their public calls: single calls, vacuums, nodes that join and retire, and
-//! whole histories; of scripts and certificates, with streams that fail; and the small caller of the page of
+//! a whole run; of scripts and certificates, with streams that fail; and the small caller of the page of
 //! `hlc_core`. There is nothing else here.
 #![tactic(auto)]
 
