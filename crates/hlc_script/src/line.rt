@@ -1,5 +1,6 @@
 //! The lines of events, read without memory.
-ghost use Rattle.std.specs.Prelude.{◌≡◌, ◌≢◌, ◌<◌, ◌^◌, ◌∷◌, [], codes, decimal, ℕ, IfOk, MatchOption, OnErr};
+ghost use Rattle.std.specs.Prelude.{◌≡◌, ◌≢◌, ◌<◌, ◌^◌, ◌∷◌, [], codes, decimal, ℕ};
+ghost use Rattle.std.specs.Prelude.{IfOk, MatchOption, OnErr};
 ghost use Rattle.hlc_text.specs.Text.{Reads};
 ghost use Rattle.hlc_script.specs.Line.{event_words, event_line, HasLine, BearsBytes};
 

@@ -1,5 +1,6 @@
 //! The end of a storm's workers: all are joined, and what they did is noted.
-ghost use Rattle.std.specs.Prelude.{◌≡◌, ◌≢◌, ◌+◌, ◌∷◌, [], ◌++◌, false, None, Some, IfOk, IfErr, All, length};
+ghost use Rattle.std.specs.Prelude.{◌≡◌, ◌≢◌, ◌+◌, ◌∷◌, [], ◌++◌, All, length};
+ghost use Rattle.std.specs.Prelude.{false, None, Some, IfOk, IfErr};
 ghost use Rattle.hlc_workers.specs.declared.room.WorkEnd.{WorkEnd};
 ghost use Rattle.hlc_storm_report.specs.Found.{MayRefuse};
 ghost use Rattle.std.proofs.Props.{props};

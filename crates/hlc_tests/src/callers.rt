@@ -1,6 +1,7 @@
 //! The small callers of the pages of values, clock, node, link, floor, snapshot, witness, lanes, columns, vacuum and
 //! world, each with what it may rely on.
-ghost use Rattle.std.specs.Prelude.{ℕ, ◌≡◌, ◌<◌, ◌≤◌, ◌↔◌, ◌+◌, ◌++◌, List, ◌∷◌, [], None, Some, true};
+ghost use Rattle.std.specs.Prelude.{ℕ, ◌≡◌, ◌<◌, ◌≤◌, ◌↔◌, ◌+◌, ◌++◌, ◌∷◌, []};
+ghost use Rattle.std.specs.Prelude.{List, None, Some, true};
 ghost use Rattle.std.specs.Prelude.{length, false, IsTrue, IfOk, IfSome, IsErr, OnOk, count_by, nat_le};
 ghost use Rattle.std.specs.List.Sorted.{IsPermutation};
 ghost use Rattle.hlc_clock.specs.Points.{PointsAscend};
