@@ -1,6 +1,7 @@
--- The feeders and passes that are made with a board are of that board, and stay so where the last one is taken off:
--- each by going through the list.
+-- The feeders and passes that are made with a board are of that board, and stay so where the last one is taken off.
+-- That has one proof at most, so a ghost field may say it. Each by going through the list.
 use Rattle.std.proofs.Common.{◌≡◌, ℕ, zero, suc, List, [], ◌∷◌, ◌++◌, replicate, refl}
+use Rattle.std.proofs.Props.{props}
 use Rattle.atomic_table.specs.Seated.{TableId}
 use Rattle.hlc_board.specs.Views.{Post, Sight, post, posts, blind, FeedersOf, PassesOf}
 
@@ -26,3 +27,11 @@ feeders_new board (suc n) = feeders_more board (posts board n) (post board n 0) 
 pub passes_new : (board : TableId) (n : ℕ) → PassesOf board (replicate n (blind board))
 passes_new board zero = tt
 passes_new board (suc n) = (refl, passes_new board n)
+
+pub feeders_prop : (board : TableId) (xs : List Post) → IsProp (FeedersOf board xs)
+feeders_prop board [] = Prim.hlevel props
+feeders_prop board (x ∷ xs) = let rest = feeders_prop board xs in Prim.hlevel (props, rest)
+
+pub passes_prop : (board : TableId) (xs : List Sight) → IsProp (PassesOf board xs)
+passes_prop board [] = Prim.hlevel props
+passes_prop board (x ∷ xs) = let rest = passes_prop board xs in Prim.hlevel (props, rest)

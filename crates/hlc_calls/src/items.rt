@@ -1,7 +1,8 @@
 //! Items that C hands in as numbers and bytes.
 ghost use Rattle.std.specs.Prelude.{◌≡◌, ◌≢◌, List, IfSome, option_copied};
 ghost use Rattle.hlc_node.specs.declared.item.Body.{Body as ABody};
-ghost use Rattle.hlc_node.specs.declared.item.Body.TheVariants.{Write as a_write};
+ghost use Rattle.hlc_node.specs.declared.item.Body.TheVariants.{Write as a_write, Report as a_report};
+ghost use Rattle.hlc_node.specs.declared.item.Body.TheVariants.{Retire as a_retire};
 ghost use Rattle.hlc_node.specs.Items.{an_item, body_refusal};
 ghost use Rattle.hlc_core.specs.Past.{Step};
 ghost use Rattle.hlc_core.specs.Kept.{nodes, StandsFor};
@@ -107,6 +108,26 @@ fn write_body(alloc: Global, key: &[u8], value: Option<&[u8]>) -> Option<Body>
         None => None,
     };
     Some(Body::Write { key, value })
+}
+
+/// Accepts a report: 0 and its stamp, or a refusal and its word. It takes no memory.
+pub fn report(core: &mut Core, node: u16, number: u64, stamp: u64, told: &mut u64) -> u32
+    ensures answer { (past : List Step) → StandsFor core.old past → TellsAccepted core.old core.new
+        (an_item node number stamp a_report) past result told.new }
+    ensures same { result ≢ 0 → core.new ≡ core.old }
+    ensures nodes { nodes core.new ≡ nodes core.old }
+{
+    open_store::accept(core, node, number, stamp, Body::Report, told)
+}
+
+/// Accepts a node's last item: 0 and its stamp, or a refusal and its word. It takes no memory.
+pub fn retire(core: &mut Core, node: u16, number: u64, stamp: u64, told: &mut u64) -> u32
+    ensures answer { (past : List Step) → StandsFor core.old past → TellsAccepted core.old core.new
+        (an_item node number stamp a_retire) past result told.new }
+    ensures same { result ≢ 0 → core.new ≡ core.old }
+    ensures nodes { nodes core.new ≡ nodes core.old }
+{
+    open_store::accept(core, node, number, stamp, Body::Retire, told)
 }
 
 /// Accepts a write, or a deletion: 0 and its stamp, or a refusal and its word. A refusal that is due

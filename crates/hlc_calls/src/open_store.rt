@@ -31,7 +31,7 @@ fn accept_item(core: &mut Core, item: Item) -> Result<u64, CoreFault>
 
 /// Accepts an item that says this: 0 and its stamp, or a refusal and its word.
 #[tactic(auto, using(crate::proofs::Refusals::refused_tells, crate::proofs::Refusals::made_tells))]
-pub fn accept(
+pub(crate) fn accept(
     core: &mut Core,
     node: u16,
     number: u64,

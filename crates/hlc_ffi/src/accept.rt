@@ -11,7 +11,7 @@ ghost use Rattle.hlc_ffi.specs.Held.{OnStore, nodes_held};
 use crate::held::on_core;
 use hlc_calls::items::write_fault;
 use hlc_calls::{items, open_store};
-use hlc_core::{Body, Core};
+use hlc_core::Core;
 use hlc_handle::Store;
 use std::alloc::Global;
 
@@ -88,7 +88,7 @@ pub extern "C" fn hlc_accept_report(
     on_core!(
         alloc,
         store,
-        |core| open_store::accept(core, node, number, stamp, Body::Report, word)
+        |core| items::report(core, node, number, stamp, word)
     )
 }
 
@@ -114,7 +114,7 @@ pub extern "C" fn hlc_accept_retire(
     on_core!(
         alloc,
         store,
-        |core| open_store::accept(core, node, number, stamp, Body::Retire, word)
+        |core| items::retire(core, node, number, stamp, word)
     )
 }
 

@@ -25,50 +25,70 @@ pub fn owned_event(alloc: Global, event: Event<Spelled<'_>>) -> Result<Event, Al
     ensures ok { IfOk result (λ owned. owned ≡ event.entry) }
     ensures err { OnErr result (BearsBytes event.entry) }
 {
-    Ok(match event {
+    match event {
         Event::Write {
             node,
             reading,
             key,
             value,
-        } => Event::Write {
+        } => owned_write(alloc, node, reading, key, value),
+        Event::Delete { node, reading, key } => Ok(Event::Delete {
             node,
             reading,
-            key: Bytes::from_vec(key.to_vec(alloc)?),
-            value: Bytes::from_vec(value.to_vec(alloc)?),
-        },
-        Event::Delete { node, reading, key } => Event::Delete {
-            node,
-            reading,
-            key: Bytes::from_vec(key.to_vec(alloc)?),
-        },
-        Event::Read { id, key } => Event::Read {
+            key: owned(alloc, key)?,
+        }),
+        Event::Read { id, key } => Ok(Event::Read {
             id,
-            key: Bytes::from_vec(key.to_vec(alloc)?),
-        },
-        Event::Report { node, reading } => Event::Report { node, reading },
-        Event::Retire { node, reading } => Event::Retire { node, reading },
-        Event::Join => Event::Join,
-        Event::Send { node, reading } => Event::Send { node, reading },
+            key: owned(alloc, key)?,
+        }),
+        Event::Report { node, reading } => Ok(Event::Report { node, reading }),
+        Event::Retire { node, reading } => Ok(Event::Retire { node, reading }),
+        Event::Join => Ok(Event::Join),
+        Event::Send { node, reading } => Ok(Event::Send { node, reading }),
         Event::Receive {
             node,
             reading,
             message,
-        } => Event::Receive {
+        } => Ok(Event::Receive {
             node,
             reading,
             message,
-        },
-        Event::Observe { node, reading, id } => Event::Observe { node, reading, id },
-        Event::Deliver { node, number } => Event::Deliver { node, number },
-        Event::OpenAt { stamp } => Event::OpenAt { stamp },
-        Event::OpenFloor => Event::OpenFloor,
-        Event::List { id } => Event::List { id },
-        Event::Close { id } => Event::Close { id },
-        Event::Floor => Event::Floor,
-        Event::Vacuum => Event::Vacuum,
-        Event::Rows => Event::Rows,
+        }),
+        Event::Observe { node, reading, id } => Ok(Event::Observe { node, reading, id }),
+        Event::Deliver { node, number } => Ok(Event::Deliver { node, number }),
+        Event::OpenAt { stamp } => Ok(Event::OpenAt { stamp }),
+        Event::OpenFloor => Ok(Event::OpenFloor),
+        Event::List { id } => Ok(Event::List { id }),
+        Event::Close { id } => Ok(Event::Close { id }),
+        Event::Floor => Ok(Event::Floor),
+        Event::Vacuum => Ok(Event::Vacuum),
+        Event::Rows => Ok(Event::Rows),
+    }
+}
+
+/// The write with its key and its value in memory of their own.
+fn owned_write(
+    alloc: Global,
+    node: u16,
+    reading: u64,
+    key: Spelled<'_>,
+    value: Spelled<'_>,
+) -> Result<Event, AllocError>
+    ensures { IfOk result (λ owned. owned ≡ Event.Write node reading key.entry value.entry) }
+{
+    Ok(Event::Write {
+        node,
+        reading,
+        key: owned(alloc, key)?,
+        value: owned(alloc, value)?,
     })
+}
+
+/// The bytes in memory of their own.
+fn owned(alloc: Global, spelled: Spelled<'_>) -> Result<Bytes, AllocError>
+    ensures { IfOk result (λ owned. owned ≡ spelled.entry) }
+{
+    Ok(Bytes::from_vec(spelled.to_vec(alloc)?))
 }
 
 /// The event of the words.

@@ -12,7 +12,7 @@ use std::sync::Wait;
 use std::sync::ledger::Ledger;
 
 /// Puts one item more and then the end, and says how many items the link carries.
-pub fn put_last<R: Wait>(rt: &R, sender: LinkSender, item: Item) -> Option<u64>
+pub(crate) fn put_last<R: Wait>(rt: &R, sender: LinkSender, item: Item) -> Option<u64>
     ensures { IfSome result (λ count. count ≡ length sender + 1) }
 {
     let mut sender = sender;
@@ -21,7 +21,7 @@ pub fn put_last<R: Wait>(rt: &R, sender: LinkSender, item: Item) -> Option<u64>
 }
 
 /// Whether every node of a board has come so far.
-pub fn has_come(board: &Board, pass: &mut FloorPass, stamp: Stamp) -> bool
+pub(crate) fn has_come(board: &Board, pass: &mut FloorPass, stamp: Stamp) -> bool
     requires { pass.old.board ≡ board.now }
     ensures { IsTrue result
         ↔ ((node : ℕ) → node < board.now.words → stamp ≤ slice_index pass.new.seen node) }
@@ -31,7 +31,7 @@ pub fn has_come(board: &Board, pass: &mut FloorPass, stamp: Stamp) -> bool
 
 /// Settles the receipts of a store with one caller, and says how many calls there were. Where they
 /// settle, none is missing.
-pub fn count_calls<L: Ledger>(
+pub(crate) fn count_calls<L: Ledger>(
     alloc: Global,
     shared: Shared<L>,
     caller: Caller<L>,

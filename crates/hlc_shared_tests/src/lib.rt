@@ -5,7 +5,8 @@
 
 #[cfg(test)]
 mod boards;
-pub mod callers;
+#[cfg(test)]
+mod callers;
 #[cfg(test)]
 mod clients;
 #[cfg(test)]

@@ -9,7 +9,7 @@ use hlc_witness::{NotShown, Shown, check};
 
 /// Vacuums a store, and checks by the report alone that the rows left up to its floor are the
 /// fewest, and the cheapest. They always are.
-pub fn vacuum_and_check(core: &mut Core) -> Result<Result<Shown, NotShown>, NoMemory>
+pub(crate) fn vacuum_and_check(core: &mut Core) -> Result<Result<Shown, NotShown>, NoMemory>
     ensures { (past : List Step) → StandsFor core.old past → IfOk result
         (λ shown. IsOkAnd shown
         (λ least. least.rows ≡ length (rows_to (floor (nodes core.old) past) core.new.rows))) }

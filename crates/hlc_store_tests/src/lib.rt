@@ -3,7 +3,8 @@
 //! `hlc_core`. There is nothing else here.
 #![tactic(auto)]
 
-pub mod callers;
+#[cfg(test)]
+mod callers;
 #[cfg(test)]
 mod certified;
 #[cfg(test)]

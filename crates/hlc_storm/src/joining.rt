@@ -59,24 +59,27 @@ fn note<L: Ledger>(joined: Joined<L>, served: Served<L>) -> Joined<L>
     }
 }
 
+/// The thread of a worker.
+pub type Worker<L> = Option<JoinHandle<Served<L>>>;
+
+/// The thread of a writer.
+pub type Writer = Option<JoinHandle<Result<(), WriteFault>>>;
+
 /// The threads of a storm. None stands for a thread that was not started. Each list of workers has the one with the
 /// last caller first.
 #[derive(Drop)]
 pub struct Started<L: Ledger> {
-    pub writers: Vec<Option<JoinHandle<Result<(), WriteFault>>>>,
-    pub feeders: Vec<Option<JoinHandle<Served<L>>>>,
-    pub readers: Vec<Option<JoinHandle<Served<L>>>>,
-    pub vacuum: Option<JoinHandle<Served<L>>>,
+    pub writers: Vec<Writer>,
+    pub feeders: Vec<Worker<L>>,
+    pub readers: Vec<Worker<L>>,
+    pub vacuum: Worker<L>,
     /// Whether a thread could not be kept in its list.
     pub lacks_memory: bool,
 }
 
 /// Joins the writers, and says whether one was not started, or found no memory. How a writer that was started ended is
 /// not said, since a join says nothing of it.
-fn join_writers<R: Threads + Wait>(
-    rt: &R,
-    writers: Vec<Option<JoinHandle<Result<(), WriteFault>>>>,
-) -> bool
+fn join_writers<R: Threads + Wait>(rt: &R, writers: Vec<Writer>) -> bool
     ensures { result ≡ false → All (λ writer. writer ≢ None) writers.items }
 {
     let mut lacks_memory = false;
@@ -92,7 +95,7 @@ fn join_writers<R: Threads + Wait>(
 /// Joins a worker and notes it, or that it was not started.
 fn join_worker<L: Ledger, R: Threads + Wait>(
     rt: &R,
-    worker: Option<JoinHandle<Served<L>>>,
+    worker: Worker<L>,
     joined: Joined<L>,
 ) -> Joined<L>
     ensures list { result.lacks_memory ≡ false
@@ -112,7 +115,7 @@ fn join_worker<L: Ledger, R: Threads + Wait>(
 /// Joins workers, and notes each.
 fn join_workers<L: Ledger, R: Threads + Wait>(
     rt: &R,
-    workers: Vec<Option<JoinHandle<Served<L>>>>,
+    workers: Vec<Worker<L>>,
     joined: Joined<L>,
 ) -> Joined<L>
     ensures lists { result.lacks_memory ≡ false

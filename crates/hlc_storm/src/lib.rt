@@ -4,7 +4,6 @@
 
 mod gates;
 mod joining;
-mod places;
 mod starting;
 mod storming;
 mod working;

@@ -1,26 +1,101 @@
 //! The start of a storm's threads. None stands for a thread that was not started.
-ghost use Rattle.std.specs.Prelude.{◌≡◌, false, length};
+ghost use Rattle.std.specs.Prelude.{◌≡◌, ◌+◌, false, length};
+ghost use Rattle.hlc_board.specs.Views.{FeedersOf, PassesOf};
+ghost use Rattle.hlc_board.proofs.PlaceLemmas.{feeders_prop, passes_prop};
 
-use crate::places::{Looking, NodePlace};
-use crate::working::{feed_link, read_keys, vacuum_rows};
-use crate::writing::{WriteFault, write_all};
+use crate::gates::StormGates;
+use crate::joining::{Started, Worker, Writer};
+use crate::working::{Feeding, Looking, feed_link, read_keys, vacuum_rows};
+use crate::writing::write_all;
+use hlc_board::{Board, Feeder, FloorPass};
+use hlc_channel::link;
 use hlc_core::Bytes;
 use hlc_server::{Caller, Shared};
 use hlc_storm_report::StormPlan;
-use hlc_workers::{Gate, Served};
+use hlc_workers::Gate;
 use std::alloc::Global;
 use std::sync::Wait;
 use std::sync::ledger::Ledger;
-use std::thread::{JoinHandle, Scope, Threads};
+use std::thread::{Scope, Threads};
 
-/// The thread of a worker.
-type Worker<L> = Option<JoinHandle<Served<L>>>;
+/// How many parcels a link holds.
+const CAPACITY: usize = 8;
 
-/// The thread of a writer.
-type Writer = Option<JoinHandle<Result<(), WriteFault>>>;
+/// The feeders and the passes of a board.
+#[derive(Drop)]
+pub(crate) struct Seats<'a> {
+    pub(crate) board: &'a Board,
+    pub(crate) feeders: Vec<Feeder>,
+    pub(crate) passes: Vec<FloorPass>,
+    ghost feeders_of: { FeedersOf board.now feeders.items } by { feeders_prop board.now feeders.items },
+    ghost passes_of: { PassesOf board.now passes.items } by { passes_prop board.now passes.items },
+}
 
-/// Starts the worker of the vacuum.
-pub(crate) fn start_vacuum<
+/// Starts all threads of a storm. Of the callers the vacuum has the last, then come the readers, then the feeders.
+pub(crate) fn start_all<
+    's,
+    E,
+    L: Ledger + Send + Sync + 's,
+    F: Gate + Sync + 's,
+    D: Gate + Sync + 's,
+    V: Gate + Sync + 's,
+    R: Threads + Wait + Sync + 's,
+>(
+    scope: &Scope<'s, E>,
+    rt: &'s R,
+    alloc: Global,
+    shared: &'s Shared<L>,
+    callers: Vec<Caller<L>>,
+    seats: Seats<'s>,
+    keys: &'s [Bytes],
+    plan: StormPlan,
+    gates: &'s StormGates<F, D, V>,
+) -> Started<L>
+    ensures feeders { result.lacks_memory ≡ false
+        → length result.feeders.items ≡ length seats.entry.feeders.items }
+    ensures readers { result.lacks_memory ≡ false
+        → length result.readers.items ≡ length seats.entry.passes.items }
+{
+    let mut callers = callers;
+    let Seats {
+        board,
+        feeders,
+        passes,
+    } = seats;
+    let vacuum = start_vacuum(scope, rt, alloc, shared, callers.pop(), &gates.vacuum);
+    let (readers, lacks_reader) = start_readers(
+        scope,
+        rt,
+        alloc,
+        shared,
+        &mut callers,
+        board,
+        passes,
+        keys,
+        &gates.readers,
+    );
+    let (writers, feeders, lacks_node) = start_nodes(
+        scope,
+        rt,
+        alloc,
+        shared,
+        &mut callers,
+        board,
+        feeders,
+        plan,
+        &gates.feeders,
+    );
+    Started {
+        writers,
+        feeders,
+        readers,
+        vacuum,
+        lacks_memory: lacks_reader || lacks_node,
+    }
+}
+
+/// Starts the worker of the vacuum, if there is a caller for it.
+fn start_vacuum<
     's,
     E,
     L: Ledger + Send + Sync + 's,
@@ -31,16 +106,18 @@ pub(crate) fn start_vacuum<
     rt: &'s R,
     alloc: Global,
     shared: &'s Shared<L>,
-    caller: Caller<L>,
+    caller: Option<Caller<L>>,
     gate: &'s G,
 ) -> Worker<L> {
+    let caller = caller?;
     scope
         .spawn(move || vacuum_rows(rt, alloc, shared, caller, gate))
         .ok()
 }
 
-/// Starts a reader at each place, and says whether one of them could not be kept in the list.
-pub(crate) fn start_readers<
+/// Starts a reader for each pass, the last one first, each with the last of the callers that are left. Says whether one
+/// of them could not be kept in the list.
+fn start_readers<
     's,
     E,
     L: Ledger + Send + Sync + 's,
@@ -51,22 +128,39 @@ pub(crate) fn start_readers<
     rt: &'s R,
     alloc: Global,
     shared: &'s Shared<L>,
-    looking: Vec<Looking<'s, L>>,
+    callers: &mut Vec<Caller<L>>,
+    board: &'s Board,
+    passes: Vec<FloorPass>,
     keys: &'s [Bytes],
     gate: &'s G,
 ) -> (Vec<Worker<L>>, bool)
-    ensures { result.1 ≡ false → length result.0.items ≡ length looking.entry.items }
+    requires { PassesOf board.now passes.items }
+    ensures { result.1 ≡ false → length result.0.items ≡ length passes.items }
 {
+    let mut passes = passes;
     let mut readers = Vec::new(alloc);
     let mut lacks_memory = false;
-    for place in looking {
-        let reader = start_reader(scope, rt, alloc, shared, place, keys, gate);
-        lacks_memory = readers.push(reader).is_err() || lacks_memory;
+    for _place in 0..passes.len() {
+        let Some(pass) = passes.pop() else {
+            break;
+        };
+        let reader = start_reader(
+            scope,
+            rt,
+            alloc,
+            shared,
+            callers.pop(),
+            board,
+            pass,
+            keys,
+            gate,
+        );
+        lacks_memory = is_one_lost(&mut readers, reader, lacks_memory);
     }
     (readers, lacks_memory)
 }
 
-/// Starts a reader.
+/// Starts a reader, if there is a caller for it.
 fn start_reader<
     's,
     E,
@@ -78,17 +172,28 @@ fn start_reader<
     rt: &'s R,
     alloc: Global,
     shared: &'s Shared<L>,
-    place: Looking<'s, L>,
+    caller: Option<Caller<L>>,
+    board: &'s Board,
+    pass: FloorPass,
     keys: &'s [Bytes],
     gate: &'s G,
-) -> Worker<L> {
+) -> Worker<L>
+    requires { pass.board ≡ board.now }
+{
+    let caller = caller?;
+    let looking = Looking {
+        caller,
+        board,
+        pass,
+    };
     scope
-        .spawn(move || read_keys(rt, alloc, shared, place, keys, gate))
+        .spawn(move || read_keys(rt, alloc, shared, looking, keys, gate))
         .ok()
 }
 
-/// Starts a writer and a feeder at each place, and says whether one of them could not be kept in its list.
-pub(crate) fn start_nodes<
+/// Starts a writer and a feeder for each node, the last one first, each feeder with the last of the callers that are
+/// left. Says whether one of them could not be kept in its list.
+fn start_nodes<
     's,
     E,
     L: Ledger + Send + Sync + 's,
@@ -99,24 +204,41 @@ pub(crate) fn start_nodes<
     rt: &'s R,
     alloc: Global,
     shared: &'s Shared<L>,
-    nodes: Vec<NodePlace<'s, L>>,
+    callers: &mut Vec<Caller<L>>,
+    board: &'s Board,
+    feeders: Vec<Feeder>,
     plan: StormPlan,
     gate: &'s G,
 ) -> (Vec<Writer>, Vec<Worker<L>>, bool)
-    ensures { result.2 ≡ false → length result.1.items ≡ length nodes.entry.items }
+    requires { FeedersOf board.now feeders.items }
+    ensures { result.2 ≡ false → length result.1.items ≡ length feeders.items }
 {
+    let mut feeders = feeders;
     let mut writers = Vec::new(alloc);
-    let mut feeders = Vec::new(alloc);
+    let mut workers = Vec::new(alloc);
     let mut lacks_memory = false;
-    for place in nodes {
-        let (writer, feeder) = start_node(scope, rt, alloc, shared, place, plan, gate);
-        lacks_memory = writers.push(writer).is_err() || lacks_memory;
-        lacks_memory = feeders.push(feeder).is_err() || lacks_memory;
+    for _place in 0..feeders.len() {
+        let Some(feeder) = feeders.pop() else {
+            break;
+        };
+        let (writer, worker) = start_node(
+            scope,
+            rt,
+            alloc,
+            shared,
+            callers.pop(),
+            board,
+            feeder,
+            plan,
+            gate,
+        );
+        lacks_memory = is_one_lost(&mut writers, writer, lacks_memory);
+        lacks_memory = is_one_lost(&mut workers, worker, lacks_memory);
     }
-    (writers, feeders, lacks_memory)
+    (writers, workers, lacks_memory)
 }
 
-/// Starts the writer and the feeder of a node.
+/// Starts the writer and the feeder of a node, with a new link between them, if there are memory for that and a caller.
 fn start_node<
     's,
     E,
@@ -128,20 +250,37 @@ fn start_node<
     rt: &'s R,
     alloc: Global,
     shared: &'s Shared<L>,
-    place: NodePlace<'s, L>,
+    caller: Option<Caller<L>>,
+    board: &'s Board,
+    feeder: Feeder,
     plan: StormPlan,
     gate: &'s G,
-) -> (Writer, Worker<L>) {
-    let NodePlace {
-        number,
-        link,
-        feeding,
-    } = place;
+) -> (Writer, Worker<L>)
+    requires { feeder.board ≡ board.now }
+{
+    let (Some(caller), Ok((sender, receiver))) = (caller, link(rt, alloc, CAPACITY)) else {
+        return (None, None);
+    };
+    let node = feeder.node();
+    let feeding = Feeding {
+        caller,
+        link: receiver,
+        board,
+        feeder,
+    };
     let writer = scope
-        .spawn(move || write_all(rt, alloc, link, number, plan))
+        .spawn(move || write_all(rt, alloc, sender, node, plan))
         .ok();
-    let feeder = scope
+    let worker = scope
         .spawn(move || feed_link(rt, alloc, shared, feeding, gate))
         .ok();
-    (writer, feeder)
+    (writer, worker)
+}
+
+/// Keeps a thread in its list. Says whether one was lost before, or this one is, since there is no memory for it.
+fn is_one_lost<T: Drop>(threads: &mut Vec<T>, thread: T, lost: bool) -> bool
+    ensures { result ≡ false
+        → (lost ≡ false) × (length threads.new.items ≡ length threads.old.items + 1) }
+{
+    threads.push(thread).is_err() || lost
 }

@@ -3,9 +3,8 @@ ghost use Rattle.std.specs.Prelude.{◌≡◌, ◌+◌, true, IfOk, IfErr, lengt
 ghost use Rattle.hlc_storm_report.specs.Found.{MayRefuse, MayTell};
 
 use crate::gates::StormGates;
-use crate::joining::{Lists, Started, join_all};
-use crate::places::{Looking, NodePlace, Places, all_places};
-use crate::starting::{start_nodes, start_readers, start_vacuum};
+use crate::joining::{Lists, join_all};
+use crate::starting::{Seats, start_all};
 use crate::writing::all_keys;
 use hlc_board::Board;
 use hlc_core::Bytes;
@@ -127,63 +126,32 @@ fn work_of<
     plan: StormPlan,
     gates: &StormGates<F, D, V>,
 ) -> Result<Lists<L>, StormFault>
-    ensures lists { length callers.items ≡ plan.nodes + plan.readers + 1
-        → IfOk result (λ lists. length lists.items ≡ plan.nodes + plan.readers + 1) }
-    ensures faults { IfErr result MayRefuse }
-{
-    let Ok((board, feeders, passes)) = Board::new(alloc, plan.nodes, plan.readers as usize) else {
-        return Err(StormFault::NoMemory);
-    };
-    let mut callers = callers;
-    let places = all_places(rt, alloc, &board, feeders, passes, &mut callers)?;
-    let lists = work_at(rt, alloc, shared, places, plan, gates)?;
-    Ok(lists)
-}
-
-/// The work at these places.
-fn work_at<
-    'a,
-    L: Ledger + Send + Sync,
-    F: Gate + Sync,
-    D: Gate + Sync,
-    V: Gate + Sync,
-    R: Threads + Wait + Sync,
->(
-    rt: &R,
-    alloc: Global,
-    shared: &Shared<L>,
-    places: Places<'a, L>,
-    plan: StormPlan,
-    gates: &StormGates<F, D, V>,
-) -> Result<Lists<L>, StormFault>
-    ensures lists { IfOk result
-        (λ lists. length lists.items
-        ≡ length places.entry.nodes.items + length places.entry.readers.items + 1) }
+    ensures lists { IfOk result (λ lists. length lists.items ≡ plan.nodes + plan.readers + 1) }
     ensures faults { IfErr result MayRefuse }
 {
     let keys = all_keys(alloc, &plan)?;
-    let Places {
-        vacuum,
-        readers,
-        nodes,
-    } = places;
-    run_all(
-        rt,
-        alloc,
-        shared,
-        vacuum,
-        readers,
-        nodes,
-        keys.as_slice(),
-        plan,
-        gates,
-    )
+    match Board::new(alloc, plan.nodes, plan.readers as usize) {
+        Ok((board, feeders, passes)) => run_all(
+            rt,
+            alloc,
+            shared,
+            callers,
+            Seats {
+                board: &board,
+                feeders,
+                passes,
+            },
+            keys.as_slice(),
+            plan,
+            gates,
+        ),
+        Err(_) => Err(StormFault::NoMemory),
+    }
 }
 
-/// Runs all threads of a storm, and gives the receipts by caller, one list for each place. No clause says what is in
-/// them: the join of a thread says nothing of its result, and the settling looks at each.
+/// Runs all threads of a storm, and gives the receipts by caller, one list for each feeder, each reader and the vacuum.
+/// No clause says what is in the lists: the join of a thread says nothing of its result, and the settling looks at each.
 fn run_all<
-    'a,
     L: Ledger + Send + Sync,
     F: Gate + Sync,
     D: Gate + Sync,
@@ -193,43 +161,27 @@ fn run_all<
     rt: &R,
     alloc: Global,
     shared: &Shared<L>,
-    caller: Caller<L>,
-    looking: Vec<Looking<'a, L>>,
-    nodes: Vec<NodePlace<'a, L>>,
+    callers: Vec<Caller<L>>,
+    seats: Seats<'_>,
     keys: &[Bytes],
     plan: StormPlan,
     gates: &StormGates<F, D, V>,
 ) -> Result<Lists<L>, StormFault>
     ensures lists { IfOk result
-        (λ lists. length lists.items ≡ length nodes.entry.items + length looking.entry.items + 1) }
+        (λ lists. length lists.items
+        ≡ length seats.entry.feeders.items + length seats.entry.passes.items + 1) }
     ensures faults { IfErr result MayRefuse }
 {
-    let to_feed = &gates.feeders;
-    let to_read = &gates.readers;
-    let to_vacuum = &gates.vacuum;
     thread::scope(
         thread::scope_env(),
         rt,
         |scope| -> Result<Lists<L>, StormFault>
             ensures lists { IfOk result
                 (λ lists. length lists.items
-                ≡ length nodes.entry.items + length looking.entry.items + 1) }
+                ≡ length seats.entry.feeders.items + length seats.entry.passes.items + 1) }
             ensures faults { IfErr result MayRefuse }
         {
-            let vacuum = start_vacuum(scope, rt, alloc, shared, caller, to_vacuum);
-            let (readers, lacks_reader) = start_readers(
-                scope, rt, alloc, shared, looking, keys, to_read,
-            );
-            let (writers, feeders, lacks_node) = start_nodes(
-                scope, rt, alloc, shared, nodes, plan, to_feed,
-            );
-            let started = Started {
-                writers,
-                feeders,
-                readers,
-                vacuum,
-                lacks_memory: lacks_reader || lacks_node,
-            };
+            let started = start_all(scope, rt, alloc, shared, callers, seats, keys, plan, gates);
             join_all(rt, alloc, started)
         },
     )

@@ -11,7 +11,8 @@ ghost use Rattle.hlc_workers.specs.Feeding.{TookAll};
 ghost use Rattle.hlc_workers.specs.Rounds.{HasServed};
 ghost use Rattle.hlc_storm.specs.declared.working.TheConstants.{ROUNDS};
 
-use crate::places::{Feeding, Looking};
+use hlc_board::{Board, Feeder, FloorPass};
+use hlc_channel::LinkReceiver;
 use hlc_core::Bytes;
 use hlc_server::{Caller, Shared};
 use hlc_workers::{Fed, Gate, Reader, Served, feed, serve_reader, serve_vacuum};
@@ -22,6 +23,25 @@ use std::thread::Threads;
 
 /// How many rounds a reader makes, and how many vacuums the worker of the vacuum.
 const ROUNDS: u64 = 16;
+
+/// What the worker of a link starts with: its caller, the receiving end, and its feeder of the board.
+#[derive(Drop)]
+pub(crate) struct Feeding<'a, L: Ledger> {
+    pub(crate) caller: Caller<L>,
+    pub(crate) link: LinkReceiver,
+    pub(crate) board: &'a Board,
+    pub(crate) feeder: Feeder,
+    ghost of_board: { feeder.board ≡ board.now },
+}
+
+/// What a reader starts with: its caller, and its pass of the board.
+#[derive(Drop)]
+pub(crate) struct Looking<'a, L: Ledger> {
+    pub(crate) caller: Caller<L>,
+    pub(crate) board: &'a Board,
+    pub(crate) pass: FloorPass,
+    ghost of_board: { pass.board ≡ board.now },
+}
 
 /// The worker of a link. Its ends of the link and of the board are dropped in its thread, so that no writer waits for a
 /// feeder that has ended.

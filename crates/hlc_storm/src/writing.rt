@@ -1,11 +1,11 @@
 //! What the nodes of a storm write, and how.
-ghost use Rattle.std.specs.Prelude.{◌≡◌, IfOk, map};
+ghost use Rattle.std.specs.Prelude.{◌≡◌, ◌<◌, IfOk, map};
 ghost use Rattle.std.specs.List.{range_with_len};
 ghost use Rattle.hlc_storm.specs.Written.{key_text, value_text};
 
 use hlc_channel::LinkSender;
 use hlc_core::{Bytes, Stamp};
-use hlc_node::NodeCore;
+use hlc_node::{Item, NodeCore};
 use hlc_words::StormPlan;
 use std::alloc::{AllocError, Global};
 use std::sync::Wait;
@@ -70,21 +70,55 @@ pub(crate) fn write_all<R: Wait>(
 ) -> Result<(), WriteFault> {
     let mut sender = sender;
     let mut core = NodeCore::new(node, Stamp::from_bits(0));
-    for number in 0..plan.writes {
-        let key = key_of(alloc, number % plan.keys)?;
-        let value = value_of(alloc, node, number)?;
-        let Ok(item) = core.write(number + 1, key, Some(value)) else {
-            return Err(WriteFault::Stopped);
-        };
-        if sender.put(rt, item).is_err() {
-            return Err(WriteFault::Stopped);
-        }
-    }
-    let Ok(item) = core.report(plan.writes + 1) else {
+    put_writes(rt, alloc, &mut sender, &mut core, node, &plan)?;
+    let Ok(report) = core.report(plan.writes + 1) else {
         return Err(WriteFault::Stopped);
     };
-    if sender.put(rt, item).is_err() || sender.finish(rt).is_err() {
+    put(rt, &mut sender, report)?;
+    if sender.finish(rt).is_err() {
         return Err(WriteFault::Stopped);
     }
     Ok(())
+}
+
+/// Issues the writes of a node, and puts each on its link.
+fn put_writes<R: Wait>(
+    rt: &R,
+    alloc: Global,
+    sender: &mut LinkSender,
+    core: &mut NodeCore,
+    node: u16,
+    plan: &StormPlan,
+) -> Result<(), WriteFault> {
+    for number in 0..plan.writes {
+        let write = write_of(alloc, core, node, plan, number)?;
+        put(rt, sender, write)?;
+    }
+    Ok(())
+}
+
+/// Issues the write of this number.
+fn write_of(
+    alloc: Global,
+    core: &mut NodeCore,
+    node: u16,
+    plan: &StormPlan,
+    number: u64,
+) -> Result<Item, WriteFault>
+    requires { number < 1000 }
+{
+    let key = key_of(alloc, number % plan.keys)?;
+    let value = value_of(alloc, node, number)?;
+    match core.write(number + 1, key, Some(value)) {
+        Ok(item) => Ok(item),
+        Err(_) => Err(WriteFault::Stopped),
+    }
+}
+
+/// Puts an item on its link.
+fn put<R: Wait>(rt: &R, sender: &mut LinkSender, item: Item) -> Result<(), WriteFault> {
+    match sender.put(rt, item) {
+        Ok(()) => Ok(()),
+        Err(_) => Err(WriteFault::Stopped),
+    }
 }

@@ -29,14 +29,14 @@ use hlc_world::{Event, Reply, World};
 use std::alloc::{AllocError, AllocFailed, Global};
 
 /// Whether two values are equal.
-pub fn are_equal<T: Exact>(a: &T, b: &T) -> bool
+pub(crate) fn are_equal<T: Exact>(a: &T, b: &T) -> bool
     ensures { IsTrue result ↔ (a.now ≡ b.now) }
 {
     *a == *b
 }
 
 /// Stamps two events at one reading, the second later than the first.
-pub fn two_events(clock: &mut Clock, reading: u64) -> Result<(Stamp, Stamp), ClockFault>
+pub(crate) fn two_events(clock: &mut Clock, reading: u64) -> Result<(Stamp, Stamp), ClockFault>
     ensures { IfOk result (λ stamps. stamps.0 < stamps.1) }
 {
     let first = clock.tick(reading)?;
@@ -45,7 +45,7 @@ pub fn two_events(clock: &mut Clock, reading: u64) -> Result<(Stamp, Stamp), Clo
 }
 
 /// A write that an item may say, or none.
-pub fn write_of(key: Bytes, value: Bytes) -> Option<Body>
+pub(crate) fn write_of(key: Bytes, value: Bytes) -> Option<Body>
     ensures { IfSome result (λ body. body_refusal body ≡ None) }
 {
     let body = Body::Write {
@@ -59,7 +59,7 @@ pub fn write_of(key: Bytes, value: Bytes) -> Option<Body>
 }
 
 /// Hands an intake one item twice, as a link that repeats would: the second time it is refused.
-pub fn admit_twice(intake: &mut Intake, number: u64, stamp: Stamp) -> Result<(), LinkFault>
+pub(crate) fn admit_twice(intake: &mut Intake, number: u64, stamp: Stamp) -> Result<(), LinkFault>
     ensures { IsErr result }
 {
     let _first = intake.admit(number, stamp, false);
@@ -67,7 +67,7 @@ pub fn admit_twice(intake: &mut Intake, number: u64, stamp: Stamp) -> Result<(),
 }
 
 /// Whether every node has come so far that no item at or below this stamp is still to come.
-pub fn is_complete(heads: &Heads, stamp: Stamp) -> bool
+pub(crate) fn is_complete(heads: &Heads, stamp: Stamp) -> bool
     ensures { result ≡ true → (k : ℕ) → k < length heads.now.heads
         → (head_at heads.now.heads k).retired ≡ false
         → stamp ≤ (head_at heads.now.heads k).stamp }
@@ -76,7 +76,7 @@ pub fn is_complete(heads: &Heads, stamp: Stamp) -> bool
 }
 
 /// Opens two snapshots at one stamp. Each has an id of its own.
-pub fn open_twice(registry: &mut Registry, stamp: Stamp) -> Result<(u64, u64), SnapshotFault>
+pub(crate) fn open_twice(registry: &mut Registry, stamp: Stamp) -> Result<(u64, u64), SnapshotFault>
     ensures { IfOk result
         (λ ids. (ids.0 < ids.1) × (stamp_in ids.0 registry.new.snapshots ≡ Some stamp)
         × (stamp_in ids.1 registry.new.snapshots ≡ Some stamp)) }
@@ -87,7 +87,7 @@ pub fn open_twice(registry: &mut Registry, stamp: Stamp) -> Result<(u64, u64), S
 }
 
 /// Delivers an item twice, and gives both replies.
-pub fn deliver_twice(world: &mut World, node: u16, number: u64) -> (Reply, Reply)
+pub(crate) fn deliver_twice(world: &mut World, node: u16, number: u64) -> (Reply, Reply)
     ensures { (schedule : List (AnEvent × AReply)) → StandsFor world.old schedule
         → StandsFor world.new
         ((Event.Deliver node number, result.1) ∷ (Event.Deliver node number, result.0) ∷ schedule) }
@@ -98,7 +98,7 @@ pub fn deliver_twice(world: &mut World, node: u16, number: u64) -> (Reply, Reply
 }
 
 /// How many rows answer so at least, if the witnesses show it.
-pub fn least_count(rows: &[Row], points: &[Stamp], witnesses: &[Witness]) -> Option<u64>
+pub(crate) fn least_count(rows: &[Row], points: &[Stamp], witnesses: &[Witness]) -> Option<u64>
     ensures { IfSome result
         (λ count. (others : List ARow) → IsRowSet others → Alike others rows.now points.now
         → count ≤ length others) }
@@ -110,14 +110,14 @@ pub fn least_count(rows: &[Row], points: &[Stamp], witnesses: &[Witness]) -> Opt
 }
 
 /// How many stamps are above a bound.
-pub fn count_above(stamps: &[u64], bound: u64) -> usize
+pub(crate) fn count_above(stamps: &[u64], bound: u64) -> usize
     ensures { result + count_by (λ stamp. nat_le stamp bound) stamps.now ≡ length stamps.now }
 {
     stamps.len() - count_at(stamps, bound)
 }
 
 /// Adds a row, if its key has none yet, and answers whether it did.
-pub fn add_first(table: &mut Table, row: Row) -> Result<bool, AllocFailed<Row>>
+pub(crate) fn add_first(table: &mut Table, row: Row) -> Result<bool, AllocFailed<Row>>
     ensures added { IfOk result
         (λ added. IsTrue added → IsPermutation (table.old ++ row ∷ []) table.new) }
     ensures known { IfOk result (λ added. added ≡ false → table.new ≡ table.old) }
@@ -130,7 +130,7 @@ pub fn add_first(table: &mut Table, row: Row) -> Result<bool, AllocFailed<Row>>
 }
 
 /// Drops the rows that no reader at these points needs, and answers how many they were.
-pub fn drop_unread(alloc: Global, table: &mut Table, points: &[Stamp]) -> Result<u128, AllocError>
+pub(crate) fn drop_unread(alloc: Global, table: &mut Table, points: &[Stamp]) -> Result<u128, AllocError>
     requires { PointsAscend points.now }
     ensures { OnOk result (Alike table.new table.old points.now) }
 {

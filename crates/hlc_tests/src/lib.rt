@@ -5,7 +5,8 @@
 
 #[cfg(test)]
 mod called;
-pub mod callers;
+#[cfg(test)]
+mod callers;
 #[cfg(test)]
 mod certificates;
 #[cfg(test)]

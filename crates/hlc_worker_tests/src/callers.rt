@@ -10,7 +10,7 @@ use std::sync::ledger::Ledger;
 use std::thread::Threads;
 
 /// Vacuums a store four times, with no gate.
-pub fn vacuum_often<L: Ledger, R: Wait + Threads + Sync>(
+pub(crate) fn vacuum_often<L: Ledger, R: Wait + Threads + Sync>(
     rt: &R,
     alloc: Global,
     shared: &Shared<L>,

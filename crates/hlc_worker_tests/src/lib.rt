@@ -1,7 +1,8 @@
 //! Tests of the workers, by their public calls, and the small caller of their page. There is nothing else here.
 #![tactic(auto)]
 
-pub mod callers;
+#[cfg(test)]
+mod callers;
 #[cfg(test)]
 mod clients;
 #[cfg(test)]

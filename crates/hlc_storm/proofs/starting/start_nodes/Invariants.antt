@@ -1,6 +1,12 @@
--- Where none lacked memory so far, each place has its feeder in the list.
-use Rattle.std.proofs.Common.{◌≡◌, false, length}
+-- The feeders that are left are of the board. Where none lacked memory so far, each of the others has its thread in the
+-- list.
+use Rattle.std.proofs.Common.{◌≡◌, ◌+◌, false, length}
+use Rattle.hlc_board.specs.Views.{FeedersOf}
 use Rattle.hlc_storm.proofs.starting.start_nodes.Given as goal
 
 abbrev pub invariant-loop-place : goal.invariant-loop-place
-invariant-loop-place g l = l.lacks_memory ≡ false → length l.feeders.items ≡ length l.yielded
+invariant-loop-place g l = record {
+  board : FeedersOf l.board l.feeders.items;
+  left : length l.feeders.items + l._place ≡ length l.fn.feeders.items;
+  kept : l.lacks_memory ≡ false → length l.workers.items ≡ l._place;
+}

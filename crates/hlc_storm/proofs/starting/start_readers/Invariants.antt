@@ -1,6 +1,12 @@
--- Where none lacked memory so far, each place has its thread in the list.
-use Rattle.std.proofs.Common.{◌≡◌, false, length}
+-- The passes that are left are of the board. Where none lacked memory so far, each of the others has its thread in the
+-- list.
+use Rattle.std.proofs.Common.{◌≡◌, ◌+◌, false, length}
+use Rattle.hlc_board.specs.Views.{PassesOf}
 use Rattle.hlc_storm.proofs.starting.start_readers.Given as goal
 
 abbrev pub invariant-loop-place : goal.invariant-loop-place
-invariant-loop-place g l = l.lacks_memory ≡ false → length l.readers.items ≡ length l.yielded
+invariant-loop-place g l = record {
+  board : PassesOf l.board l.passes.items;
+  left : length l.passes.items + l._place ≡ length l.fn.passes.items;
+  kept : l.lacks_memory ≡ false → length l.readers.items ≡ l._place;
+}
