@@ -1,6 +1,7 @@
 """The store and its nodes by ctypes, over the shared object that examples/callers makes."""
 import ctypes as c
 import struct
+import threading
 
 U16, U64, SIZE, BYTES = c.c_uint16, c.c_uint64, c.c_size_t, c.c_char_p
 WORD, OUT, LEN = c.POINTER(U64), c.c_void_p, c.POINTER(SIZE)
@@ -72,51 +73,63 @@ def checked(code, word=0):
 
 
 class Node:
+    """A node. Any thread may call it: its calls are made one at a time."""
+
     def __init__(self, id, start):
-        self.raw, self.number, self.word = lib.hlc_node_open(id, start), U64(), U64()
+        self.raw, self.lock = lib.hlc_node_open(id, start), threading.Lock()
 
     @property
     def id(self):
         return self.raw.id
 
-    def _issued(self, code):
-        checked(code, self.word.value)
-        return self.number.value, self.word.value
+    def _issued(self, call, *args):
+        number, word = U64(), U64()
+        with self.lock:
+            code = call(self.raw, *args, number, word)
+        checked(code, word.value)
+        return number.value, word.value
+
+    def _stamped(self, call, *args):
+        word = U64()
+        with self.lock:
+            code = call(self.raw, *args, word)
+        checked(code, word.value)
+        return word.value
 
     def write(self, reading, key, value):
-        told = self.number, self.word
-        return self._issued(lib.hlc_node_write(self.raw, reading, key, len(key), value, len(value), *told))
+        return self._issued(lib.hlc_node_write, reading, key, len(key), value, len(value))
 
     def delete(self, reading, key):
-        return self._issued(lib.hlc_node_delete(self.raw, reading, key, len(key), self.number, self.word))
+        return self._issued(lib.hlc_node_delete, reading, key, len(key))
 
     def report(self, reading):
-        return self._issued(lib.hlc_node_report(self.raw, reading, self.number, self.word))
+        return self._issued(lib.hlc_node_report, reading)
 
     def retire(self, reading):
-        return self._issued(lib.hlc_node_retire(self.raw, reading, self.number, self.word))
+        return self._issued(lib.hlc_node_retire, reading)
 
     def send(self, reading):
-        checked(lib.hlc_node_send(self.raw, reading, self.word), self.word.value)
-        return self.word.value
+        return self._stamped(lib.hlc_node_send, reading)
 
     def receive(self, seen, reading):
-        checked(lib.hlc_node_receive(self.raw, seen, reading, self.word), self.word.value)
-        return self.word.value
+        return self._stamped(lib.hlc_node_receive, seen, reading)
 
 
 class Store:
-    """A store, for one thread. It is closed at the end of a `with`, or when it is dropped."""
+    """A store. Any thread may call it: its calls are made one at a time, and each has its own words and buffer. It is
+    closed at the end of a `with`, or when it is dropped."""
 
     def __init__(self):
-        self.raw, self.word, self.len = RawStore(), U64(), SIZE()
-        self.out = c.create_string_buffer(4)
+        self.raw, self.lock = RawStore(), threading.Lock()
 
     def open(self, nodes):
-        checked(lib.hlc_open(self.raw, nodes))
+        with self.lock:
+            code = lib.hlc_open(self.raw, nodes)
+        checked(code)
 
     def close(self):
-        lib.hlc_close(self.raw)
+        with self.lock:
+            lib.hlc_close(self.raw)
 
     def __enter__(self):
         return self
@@ -127,21 +140,28 @@ class Store:
     def __del__(self):
         self.close()
 
-    def _word(self, code):
-        checked(code, self.word.value)
-        return self.word.value
+    def _words(self, call, *args):
+        """Makes a call whose last arguments are words to fill, and returns their values."""
+        with self.lock:
+            code = call(self.raw, *args)
+        words = [word.value for word in args if isinstance(word, (U16, U64))]
+        checked(code, words[0])
+        return words
+
+    def _word(self, call, *args):
+        return self._words(call, *args, U64())[0]
 
     def write(self, node, item, key, value):
-        return self._word(lib.hlc_accept_write(self.raw, node, *item, key, len(key), value, len(value), self.word))
+        return self._word(lib.hlc_accept_write, node, *item, key, len(key), value, len(value))
 
     def delete(self, node, item, key):
-        return self._word(lib.hlc_accept_delete(self.raw, node, *item, key, len(key), self.word))
+        return self._word(lib.hlc_accept_delete, node, *item, key, len(key))
 
     def report(self, node, item):
-        return self._word(lib.hlc_accept_report(self.raw, node, *item, self.word))
+        return self._word(lib.hlc_accept_report, node, *item)
 
     def retire(self, node, item):
-        return self._word(lib.hlc_accept_retire(self.raw, node, *item, self.word))
+        return self._word(lib.hlc_accept_retire, node, *item)
 
     def accept_all(self, items):
         """Accepts (node, (number, stamp), key, value) in turn, of a deletion with no value, in one call: how many."""
@@ -155,40 +175,40 @@ class Store:
         return self.accept_packed(bytes(entries), b"".join(parts))
 
     def accept_packed(self, entries, parts):
-        many = SIZE()
+        many, word = SIZE(), U64()
         count = len(entries) // ENTRY.size
-        code = lib.hlc_accept_all(self.raw, entries, count, parts, len(parts), many, self.word)
-        checked(code, (many.value, self.word.value))
+        with self.lock:
+            code = lib.hlc_accept_all(self.raw, entries, count, parts, len(parts), many, word)
+        checked(code, (many.value, word.value))
         return many.value
 
     def check_write(self, node, item, key, value):
-        return self._word(lib.hlc_check_write(self.raw, node, *item, key, len(key), value, len(value), self.word))
+        return self._word(lib.hlc_check_write, node, *item, key, len(key), value, len(value))
 
     def check_report(self, node, item):
-        return self._word(lib.hlc_check_report(self.raw, node, *item, self.word))
+        return self._word(lib.hlc_check_report, node, *item)
 
     def join(self):
-        node = U16()
-        checked(lib.hlc_join(self.raw, node, self.word))
-        return node.value, self.word.value
+        return tuple(self._words(lib.hlc_join, U16(), U64()))
 
     def snapshot(self, stamp):
-        return self._word(lib.hlc_open_snapshot(self.raw, stamp, self.word))
+        return self._word(lib.hlc_open_snapshot, stamp)
 
     def snapshot_at_floor(self):
-        stamp = U64()
-        return self._word(lib.hlc_open_snapshot_at_floor(self.raw, self.word, stamp)), stamp.value
+        return tuple(self._words(lib.hlc_open_snapshot_at_floor, U64(), U64()))
 
     def close_snapshot(self, id):
-        return self._word(lib.hlc_close_snapshot(self.raw, id, self.word))
+        return self._word(lib.hlc_close_snapshot, id)
 
     def _bytes(self, call, *args):
-        """Calls again with the length that was told, until the buffer is long enough."""
-        while True:
-            checked(call(self.raw, *args, self.out, len(self.out), self.len))
-            if self.len.value <= len(self.out):
-                return c.string_at(self.out, self.len.value)
-            self.out = c.create_string_buffer(self.len.value)
+        """Calls again with a buffer of the length that was returned, until the bytes fit."""
+        out, length = c.create_string_buffer(64), SIZE()
+        with self.lock:
+            while True:
+                checked(call(self.raw, *args, out, len(out), length))
+                if length.value <= len(out):
+                    return out.raw[: length.value]
+                out = c.create_string_buffer(length.value)
 
     def read(self, id, key):
         try:
@@ -199,20 +219,18 @@ class Store:
             raise
 
     def list(self, id):
-        """The bytes of the listing, as `hlc_list` tells them."""
+        """The bytes of the listing, as `hlc_list` gives them."""
         return self._bytes(lib.hlc_list, id)
 
     def floor(self):
-        return self._word(lib.hlc_floor(self.raw, self.word))
+        return self._word(lib.hlc_floor)
 
     def rows(self):
-        return self._word(lib.hlc_rows(self.raw, self.word))
+        return self._word(lib.hlc_rows)
 
     def vacuum(self):
-        told = U64(), U64(), U64(), U64()
-        checked(lib.hlc_vacuum(self.raw, *told))
-        return tuple(word.value for word in told)
+        return tuple(self._words(lib.hlc_vacuum, U64(), U64(), U64(), U64()))
 
     def vacuum_certified(self):
-        """Vacuums, and gives the text of the certificate."""
+        """Vacuums, and returns the text of the certificate."""
         return self._bytes(lib.hlc_vacuum_certified)
