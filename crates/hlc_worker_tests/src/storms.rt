@@ -1,14 +1,17 @@
 //! Storms whose workers meet, and what is reported of those that were held.
 ghost use Rattle.std.specs.Prelude.{◌≡◌, ◌+◌};
 
+use crate::expected::must_be;
 use hlc_core::{CoreFault, CoreReply};
 use hlc_server::{Caller, NotDone, Receipt, Shared};
+use hlc_shared_tests::makers::at_second;
 use hlc_storm::{
     Lists, Started, StormFault, StormGates, StormPlan, StormReport, join_all, storm_gated, work,
 };
 use hlc_workers::{FreeGate, Gate, Served, WorkEnd};
 use std::alloc::Global;
 use std::marker::Brand;
+use std::process::Abort;
 use std::sync::Wait;
 use std::sync::atomic::{AtomicBool, Ordering};
 use std::sync::ledger::{Blank, Ledger};
@@ -77,20 +80,21 @@ fn meeting<R: Threads + Wait + Sync>(rt: &R, alloc: Global) -> Result<StormRepor
     storm_gated(rt, alloc, plan, &gates)
 }
 
+/// Looks at what that storm found: its one write, at 1.0, and the report of its node after it.
+fn has_met<R: Abort>(rt: &R, report: &StormReport) {
+    assert_eq!(rt; report.accepted.as_slice(), [2].as_slice());
+    must_be(rt, (report.floor, report.kept), (at_second(2), 1));
+    let pairs = report.pairs.as_slice();
+    assert!(rt; pairs.len() == 1);
+    must_be(rt, pairs[0].key.as_slice(), b"k0".as_slice());
+    must_be(rt, pairs[0].value.as_slice(), b"0.0".as_slice());
+}
+
 /// Workers one after the other, or a lock that is held over a round, never end.
 #[test]
-fn a_reader_and_the_vacuum_meet(rt: HostRuntime) -> Result<(), Fail> {
-    let report = meeting(&rt, rt.alloc()).ok().ok_or("a report")?;
-    assert_eq!(rt; report.accepted.as_slice(), [2].as_slice());
-    assert_eq!(rt; (report.floor.l(), report.floor.c()), (2, 0));
-    assert_eq!(rt; report.pairs.len(), 1);
-    assert_eq!(rt; report.pairs.as_slice()[0].key.as_slice(), b"k0".as_slice());
-    assert_eq!(rt;
-        report.pairs.as_slice()[0].value.as_slice(),
-        b"0.0".as_slice()
-    );
-    assert_eq!(rt; report.kept, 1);
-    Ok(())
+fn a_reader_and_the_vacuum_meet(rt: HostRuntime) {
+    let report = meeting(&rt, rt.alloc()).ok().expect(&rt, "a report");
+    has_met(&rt, &report);
 }
 
 /// Whether a call was refused since its opening was above the floor.
