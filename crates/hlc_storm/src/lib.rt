@@ -10,7 +10,7 @@ mod working;
 mod writing;
 
 pub use gates::StormGates;
-pub use hlc_storm_report::{StormFault, StormPlan, StormReport, print_storm};
-pub use joining::{Lists, Started, join_all};
+pub use hlc_storm_report::{Lists, StormFault, StormPlan, StormReport, print_storm};
+pub use joining::{Started, join_all};
 pub use storming::{storm, storm_gated, work};
 pub use writing::WriteFault;

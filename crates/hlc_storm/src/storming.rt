@@ -3,13 +3,13 @@ ghost use Rattle.std.specs.Prelude.{◌≡◌, ◌+◌, true, IfOk, IfErr, lengt
 ghost use Rattle.hlc_storm_report.specs.Found.{MayRefuse, MayTell};
 
 use crate::gates::StormGates;
-use crate::joining::{Lists, join_all};
+use crate::joining::join_all;
 use crate::starting::{Seats, start_all};
 use crate::writing::all_keys;
 use hlc_board::Board;
 use hlc_core::Bytes;
 use hlc_server::{Caller, Shared};
-use hlc_storm_report::{StormFault, StormPlan, StormReport, report_of};
+use hlc_storm_report::{Lists, StormFault, StormPlan, StormReport, report_of};
 use hlc_workers::{FreeGate, Gate};
 use std::alloc::Global;
 use std::marker::Brand;

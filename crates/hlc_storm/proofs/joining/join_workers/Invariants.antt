@@ -4,6 +4,6 @@ use Rattle.hlc_storm.proofs.joining.join_workers.Given as goal
 
 abbrev pub invariant-loop-worker : goal.invariant-loop-worker
 invariant-loop-worker g l =
-    l.joined.lacks_memory ≡ false
-    → (l.initial.joined.lacks_memory ≡ false)
-    × (length l.joined.lists.items ≡ length l.initial.joined.lists.items + length l.yielded)
+    l.ends.lacks_memory ≡ false
+    → (l.initial.ends.lacks_memory ≡ false)
+    × (length l.ends.lists.items ≡ length l.initial.ends.lists.items + length l.yielded)
