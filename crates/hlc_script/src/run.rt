@@ -131,7 +131,9 @@ pub fn answer_input<W: Write>(
         return RunEnd::NoMemory;
     };
     put_header(writer, waiting, nodes);
-    match answer_lines(alloc, &mut world, rest, writer, waiting) {
+    let bad = answer_lines(alloc, &mut world, rest, writer, waiting);
+    drop(world);
+    match bad {
         None => RunEnd::Answered,
         Some(number) => RunEnd::BadLine(number),
     }

@@ -10,9 +10,9 @@ returns-in-None-clause-written g c =
     _ _
     c.requires c.in-Some.ensures.1 c.in-Some.ensures.0 c.in-Ok.ensures.1 c.put_header.ensures c.in-None.ensures
 
-pub returns-clause-written : goal.returns-clause-written
-returns-clause-written g c =
+pub returns-in-Some-bad-clause-written : goal.returns-in-Some-bad-clause-written
+returns-in-Some-bad-clause-written g c =
     script_answered c.args.input.now c.in-Some.rest.now c.in-Some.nodes (world_nodes c.in-Ok.world)
-    (Some c.in-Some-answer_lines.number) _ _ _ _ _ _ _ _ _
+    (Some c.in-Some-bad.number) _ _ _ _ _ _ _ _ _
     c.requires c.in-Some.ensures.1 c.in-Some.ensures.0 c.in-Ok.ensures.1 c.put_header.ensures
-    c.in-Some-answer_lines.ensures
+    c.in-Some-bad.ensures
