@@ -130,7 +130,11 @@ pub(crate) fn add_first(table: &mut Table, row: Row) -> Result<bool, AllocFailed
 }
 
 /// Drops the rows that no reader at these points needs, and answers how many they were.
-pub(crate) fn drop_unread(alloc: Global, table: &mut Table, points: &[Stamp]) -> Result<u128, AllocError>
+pub(crate) fn drop_unread(
+    alloc: Global,
+    table: &mut Table,
+    points: &[Stamp],
+) -> Result<u128, AllocError>
     requires { PointsAscend points.now }
     ensures { OnOk result (Alike table.new table.old points.now) }
 {
