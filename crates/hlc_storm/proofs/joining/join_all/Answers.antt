@@ -1,7 +1,7 @@
 -- Where no memory lacked, each worker that was joined has its list, from the last caller to the first; the outcome has
 -- as many, in the order of the callers.
-use Rattle.std.proofs.Common.{◌≡◌, ◌∙◌, ℕ, ◌+◌, Bool, false, List, Option, None, Result, Ok, Err, IfOk, ap, arith}
-use Rattle.std.proofs.Common.{length, reverse}
+use Rattle.std.proofs.Common.{◌≡◌, ◌∙◌, ℕ, ◌+◌, Bool, false, List, Option, None, Result, Ok, Err, IfOk}
+use Rattle.std.proofs.Common.{ap, arith, length, reverse}
 use lib.ListN.{length-reverse}
 use Rattle.hlc_storm.proofs.joining.join_all.Goals as goal
 
