@@ -28,18 +28,9 @@ impl Core {
         ensures form { IfOk result (λ reply. IsReplyTo event reply) }
         ensures nodes { nodes self.new ≡ nodes self.old }
     {
-        match event {
-            CoreEvent::Accept(item) => match self.accept(item) {
-                Ok(accepted) => Ok(CoreReply::Accepted(accepted)),
-                Err((fault, item)) => match told(fault) {
-                    Ok(reply) => Ok(reply),
-                    Err(lack) => Err((lack, CoreEvent::Accept(item))),
-                },
-            },
-            event => match self.step_ref(&event) {
-                Ok(reply) => Ok(reply),
-                Err(lack) => Err((lack, event)),
-            },
+        match self.step_ref(&event) {
+            Ok(reply) => Ok(reply),
+            Err(lack) => Err((lack, event)),
         }
     }
 

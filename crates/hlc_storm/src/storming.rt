@@ -9,7 +9,7 @@ use crate::writing::all_keys;
 use hlc_board::Board;
 use hlc_core::Bytes;
 use hlc_server::{Caller, Shared};
-use hlc_storm_report::{Lists, StormFault, StormPlan, StormReport, report_of};
+use hlc_storm_report::{Lists, StormFault, StormPlan, StormReport, new_store, report_of};
 use hlc_workers::{FreeGate, Gate};
 use std::alloc::Global;
 use std::marker::Brand;
@@ -102,10 +102,7 @@ pub fn work<
     ensures lists { IfOk result (λ told. length told.1.items ≡ plan.nodes + plan.readers + 1) }
     ensures faults { IfErr result MayRefuse }
 {
-    let count = plan.nodes + plan.readers + 1;
-    let Ok((shared, callers)) = Shared::<L>::new(alloc, blank, plan.nodes, count, true) else {
-        return Err(StormFault::NoMemory);
-    };
+    let (shared, callers) = new_store::<L>(alloc, blank, &plan)?;
     let lists = work_of(rt, alloc, &shared, callers, plan, gates)?;
     Ok((shared, lists))
 }

@@ -1,13 +1,15 @@
 //! What may happen in a world.
-ghost use Rattle.std.proofs.Common.{rules};
+ghost use Rattle.std.specs.Prelude.{◌≡◌, IsTrue};
+ghost use Rattle.std.proofs.Common.{rules, subst};
 ghost use Rattle.std.proofs.lemmas.Grind.{common_steps};
 
 use hlc_clock::Stamp;
 use hlc_node::Bytes;
 use hlc_values::Exact;
+use std::alloc::AllocError;
 
 /// What may happen in a world. Its keys and values are bytes, or what stands for bytes.
-#[derive(Clone, PartialEq, Eq, Debug, Drop)]
+#[derive(PartialEq, Eq, Debug, Drop)]
 pub enum Event<B = Bytes> {
     /// A node writes a value to a key, at this reading of its physical clock.
     Write {
@@ -84,9 +86,84 @@ pub enum Event<B = Bytes> {
     Rows,
 }
 
-impl Exact for Event<Bytes> {
-    // Each way by a search of its own, since both are too much for one.
-    ghost equal = { λ x y. (Prim.search (rules, common_steps), Prim.search (rules, common_steps)) };
+impl Clone for Event<Bytes> {
+    ghost use Rattle.hlc_world.specs.Plain.{IsPlainEvent};
 
-    ghost copied = { Prim.search rules };
+    ghost is_clone = { λ event copy. copy ≡ event };
+
+    ghost is_infallible = { λ event. IsPlainEvent event };
+
+    /// Only a key and a value take memory.
+    fn clone(&self) -> Result<Event, AllocError> {
+        match self {
+            Event::Write {
+                node,
+                reading,
+                key,
+                value,
+            } => Ok(Event::Write {
+                node: *node,
+                reading: *reading,
+                key: key.clone()?,
+                value: value.clone()?,
+            }),
+            Event::Delete { node, reading, key } => Ok(Event::Delete {
+                node: *node,
+                reading: *reading,
+                key: key.clone()?,
+            }),
+            Event::Report { node, reading } => Ok(Event::Report {
+                node: *node,
+                reading: *reading,
+            }),
+            Event::Retire { node, reading } => Ok(Event::Retire {
+                node: *node,
+                reading: *reading,
+            }),
+            Event::Join => Ok(Event::Join),
+            Event::Send { node, reading } => Ok(Event::Send {
+                node: *node,
+                reading: *reading,
+            }),
+            Event::Receive {
+                node,
+                reading,
+                message,
+            } => Ok(Event::Receive {
+                node: *node,
+                reading: *reading,
+                message: *message,
+            }),
+            Event::Observe { node, reading, id } => Ok(Event::Observe {
+                node: *node,
+                reading: *reading,
+                id: *id,
+            }),
+            Event::Deliver { node, number } => Ok(Event::Deliver {
+                node: *node,
+                number: *number,
+            }),
+            Event::OpenAt { stamp } => Ok(Event::OpenAt { stamp: *stamp }),
+            Event::OpenFloor => Ok(Event::OpenFloor),
+            Event::Read { id, key } => Ok(Event::Read {
+                id: *id,
+                key: key.clone()?,
+            }),
+            Event::List { id } => Ok(Event::List { id: *id }),
+            Event::Close { id } => Ok(Event::Close { id: *id }),
+            Event::Floor => Ok(Event::Floor),
+            Event::Vacuum => Ok(Event::Vacuum),
+            Event::Rows => Ok(Event::Rows),
+        }
+    }
+}
+
+impl Exact for Event<Bytes> {
+    // Equal events are one event, so that way only asks whether each is equal to itself.
+    ghost equal = { λ x y. (
+      Prim.search (rules, common_steps),
+      λ same. subst (λ z. IsTrue (⟦<Event<Bytes> as PartialEq>⟧.eq x z)) same (Prim.search (rules, common_steps)),
+    ) };
+
+    ghost copied = { λ value copy same. same };
 }

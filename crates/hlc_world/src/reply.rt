@@ -1,7 +1,7 @@
 //! What a world answers to an event.
 ghost use Rattle.std.specs.Prelude.{◌≡◌, ◌↔◌, IsTrue, List};
 ghost use Rattle.std.specs.Cmp.Lexicographic.{pointwise_decides};
-ghost use Rattle.std.proofs.Common.{rules};
+ghost use Rattle.std.proofs.Common.{rules, subst};
 ghost use Rattle.std.proofs.lemmas.Grind.{common_steps};
 ghost use Rattle.hlc_vacuum.specs.declared.report.Report.{Report as AReport};
 ghost use Rattle.hlc_vacuum.specs.contracts.report.ReportExact.TheImpl.Laws.{equal-law as report_equal};
@@ -13,9 +13,10 @@ use hlc_clock::Stamp;
 use hlc_core::{Listing, Report};
 use hlc_node::Bytes;
 use hlc_values::Exact;
+use std::alloc::AllocError;
 
 /// What a world answers to an event.
-#[derive(Clone, PartialEq, Eq, Debug, Drop)]
+#[derive(PartialEq, Eq, Debug, Drop)]
 pub enum Reply {
     /// The node issued the item of this number, with this stamp.
     Stamped { stamp: Stamp, item: u64 },
@@ -47,16 +48,64 @@ pub enum Reply {
     Refused(Refusal),
 }
 
+impl Clone for Reply {
+    ghost use Rattle.hlc_world.specs.Plain.{IsPlainReply};
+
+    ghost is_clone = { λ reply copy. copy ≡ reply };
+
+    ghost is_infallible = { λ reply. IsPlainReply reply };
+
+    /// Only a value, a listing and a report take memory.
+    fn clone(&self) -> Result<Reply, AllocError> {
+        match self {
+            Reply::Stamped { stamp, item } => Ok(Reply::Stamped {
+                stamp: *stamp,
+                item: *item,
+            }),
+            Reply::Joined { node, start } => Ok(Reply::Joined {
+                node: *node,
+                start: *start,
+            }),
+            Reply::Sent { stamp, message } => Ok(Reply::Sent {
+                stamp: *stamp,
+                message: *message,
+            }),
+            Reply::Received { stamp } => Ok(Reply::Received { stamp: *stamp }),
+            Reply::Observed { stamp } => Ok(Reply::Observed { stamp: *stamp }),
+            Reply::Accepted { stamp } => Ok(Reply::Accepted { stamp: *stamp }),
+            Reply::Snapshot { id, stamp } => Ok(Reply::Snapshot {
+                id: *id,
+                stamp: *stamp,
+            }),
+            Reply::Answer { value: None } => Ok(Reply::Answer { value: None }),
+            Reply::Answer { value: Some(value) } => Ok(Reply::Answer {
+                value: Some(value.clone()?),
+            }),
+            Reply::Listing { pairs } => Ok(Reply::Listing {
+                pairs: pairs.clone()?,
+            }),
+            Reply::Closed { stamp } => Ok(Reply::Closed { stamp: *stamp }),
+            Reply::Floor { stamp } => Ok(Reply::Floor { stamp: *stamp }),
+            Reply::Vacuumed { report } => Ok(Reply::Vacuumed {
+                report: report.clone()?,
+            }),
+            Reply::Rows { count } => Ok(Reply::Rows { count: *count }),
+            Reply::Refused(refusal) => Ok(Reply::Refused(*refusal)),
+        }
+    }
+}
+
 impl Exact for Reply {
-    // Each way by a search of its own, since both are too much for one.
+    // Equal replies are one reply, so that way only asks whether each is equal to itself.
     ghost equal = { let listings : (x y : List APair) → IsTrue (⟦<Listing as PartialEq>⟧.eq x y) ↔ (x ≡ y)
         = pointwise_decides pair_equal in
         let reports : (x y : AReport) → IsTrue (⟦<Report as PartialEq>⟧.eq x y) ↔ (x ≡ y)
         = report_equal in
         λ x y. (
           Prim.search (rules, common_steps, listings, reports),
-          Prim.search (rules, common_steps, listings, reports),
+          λ same. subst (λ z. IsTrue (⟦<Reply as PartialEq>⟧.eq x z)) same
+              (Prim.search (rules, common_steps, listings, reports)),
         ) };
 
-    ghost copied = { Prim.search rules };
+    ghost copied = { λ value copy same. same };
 }

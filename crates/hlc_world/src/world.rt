@@ -130,6 +130,69 @@ impl World {
         Ok(replies)
     }
 
+    /// The reply to the opening of a snapshot at a stamp.
+    fn open_at(&mut self, stamp: Stamp) -> Reply
+        ensures stands { (schedule : List (AnEvent × AReply)) → StandsFor self.old schedule
+            → StandsFor self.new ((Event.OpenAt stamp, result) ∷ schedule) }
+        ensures unchanged { IsRefused result → self.new ≡ self.old }
+        ensures nodes { world_nodes self.new ≡ world_nodes self.old }
+    {
+        match self.core.open(stamp) {
+            Ok(id) => Reply::Snapshot { id, stamp },
+            Err(fault) => Reply::Refused(Refusal::from(fault)),
+        }
+    }
+
+    /// The reply to the opening of a snapshot at the floor.
+    fn open_floor(&mut self) -> Reply
+        ensures stands { (schedule : List (AnEvent × AReply)) → StandsFor self.old schedule
+            → StandsFor self.new ((Event.OpenFloor, result) ∷ schedule) }
+        ensures unchanged { IsRefused result → self.new ≡ self.old }
+        ensures nodes { world_nodes self.new ≡ world_nodes self.old }
+    {
+        match self.core.open_floor() {
+            Ok((id, stamp)) => Reply::Snapshot { id, stamp },
+            Err(fault) => Reply::Refused(Refusal::from(fault)),
+        }
+    }
+
+    /// The reply to a listing.
+    fn list(&self, id: u64) -> Reply
+        ensures { (schedule : List (AnEvent × AReply)) → StandsFor self.now schedule
+            → StandsFor self.now ((Event.List id, result) ∷ schedule) }
+    {
+        match self.core.list(id) {
+            Ok(pairs) => Reply::Listing { pairs },
+            Err(fault) => Reply::Refused(Refusal::from(fault)),
+        }
+    }
+
+    /// The reply to the closing of a snapshot.
+    fn close(&mut self, id: u64) -> Reply
+        ensures stands { (schedule : List (AnEvent × AReply)) → StandsFor self.old schedule
+            → StandsFor self.new ((Event.Close id, result) ∷ schedule) }
+        ensures unchanged { IsRefused result → self.new ≡ self.old }
+        ensures nodes { world_nodes self.new ≡ world_nodes self.old }
+    {
+        match self.core.close(id) {
+            Ok(stamp) => Reply::Closed { stamp },
+            Err(_) => Reply::Refused(Refusal::NoSnapshot),
+        }
+    }
+
+    /// The reply to a vacuum.
+    fn vacuum(&mut self) -> Reply
+        ensures stands { (schedule : List (AnEvent × AReply)) → StandsFor self.old schedule
+            → StandsFor self.new ((Event.Vacuum, result) ∷ schedule) }
+        ensures unchanged { IsRefused result → self.new ≡ self.old }
+        ensures nodes { world_nodes self.new ≡ world_nodes self.old }
+    {
+        match self.core.vacuum() {
+            Ok(report) => Reply::Vacuumed { report },
+            Err(_) => Reply::Refused(Refusal::NoMemory),
+        }
+    }
+
     /// The reply to a read, with a copy of the value.
     fn read(&self, id: u64, key: &[u8]) -> Reply
         ensures { (schedule : List (AnEvent × AReply)) → StandsFor self.now schedule
@@ -178,30 +241,15 @@ impl World {
             } => self.receive(node, reading, message),
             Event::Observe { node, reading, id } => self.observe(node, reading, id),
             Event::Deliver { node, number } => self.deliver(node, number),
-            Event::OpenAt { stamp } => match self.core.open(stamp) {
-                Ok(id) => Reply::Snapshot { id, stamp },
-                Err(fault) => Reply::Refused(Refusal::from(fault)),
-            },
-            Event::OpenFloor => match self.core.open_floor() {
-                Ok((id, stamp)) => Reply::Snapshot { id, stamp },
-                Err(fault) => Reply::Refused(Refusal::from(fault)),
-            },
+            Event::OpenAt { stamp } => self.open_at(stamp),
+            Event::OpenFloor => self.open_floor(),
             Event::Read { id, key } => self.read(id, key.as_slice()),
-            Event::List { id } => match self.core.list(id) {
-                Ok(pairs) => Reply::Listing { pairs },
-                Err(fault) => Reply::Refused(Refusal::from(fault)),
-            },
-            Event::Close { id } => match self.core.close(id) {
-                Ok(stamp) => Reply::Closed { stamp },
-                Err(_) => Reply::Refused(Refusal::NoSnapshot),
-            },
+            Event::List { id } => self.list(id),
+            Event::Close { id } => self.close(id),
             Event::Floor => Reply::Floor {
                 stamp: self.core.floor(),
             },
-            Event::Vacuum => match self.core.vacuum() {
-                Ok(report) => Reply::Vacuumed { report },
-                Err(_) => Reply::Refused(Refusal::NoMemory),
-            },
+            Event::Vacuum => self.vacuum(),
             Event::Rows => Reply::Rows {
                 count: self.core.rows(),
             },
