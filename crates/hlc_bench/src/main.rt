@@ -4,21 +4,68 @@
 
 ghost use Rattle.std.specs.Prelude.{◌<◌, ◌≤◌};
 
-mod core_calls;
-mod floors;
-mod joined;
-mod reads;
+mod alone;
+mod desk;
+mod posts;
+mod seat;
 
-use core_calls::Timed;
-use floors::{Looked, NODES};
-use joined::Delivered;
-use reads::CALLS;
+use desk::{LOOKS, Work, time_in_store};
+use hlc_core::{Body, Bytes, Core, Item, Stamp};
+use seat::CALLS;
+use std::alloc::{AllocError, Global};
 use std::marker::Brand;
 use std::rt::Clock;
-use std::sync::Wait;
 use std::sync::ledger::Blank;
+use std::sync::{Mutex, Wait};
 use std::thread::Threads;
+use std::time::Instant;
 use std::{env, io};
+
+/// How many nodes there are, but where nodes come and go, and where one writes alone.
+pub(crate) const NODES: u16 = 64;
+
+/// The item of this number of a node.
+pub(crate) fn item(node: u16, number: u32, body: Body) -> Item {
+    Item {
+        node,
+        number: u64::from(number),
+        stamp: Stamp::from_bits((u64::from(number) + 1) * 65_536),
+        body,
+    }
+}
+
+/// Some bytes, copied.
+pub(crate) fn bytes(alloc: Global, bytes: &[u8]) -> Result<Bytes, AllocError> {
+    Ok(Bytes::from_vec(Vec::from_slice(alloc, bytes)?))
+}
+
+/// The write of this number of the first node.
+pub(crate) fn write(
+    alloc: Global,
+    number: u32,
+    key: &[u8],
+    value: &[u8],
+) -> Result<Item, AllocError> {
+    let key = bytes(alloc, key)?;
+    let value = Some(bytes(alloc, value)?);
+    Ok(item(0, number, Body::Write { key, value }))
+}
+
+/// The nanoseconds since the start; 0 where the clock fails.
+pub(crate) fn nanos<R: Clock>(rt: &R, start: Instant) -> u64 {
+    match start.elapsed(rt) {
+        Ok(took) => u64::try_from(took.as_nanos()).unwrap_or(0),
+        Err(_) => 0,
+    }
+}
+
+/// Prints numbers, each behind its name, and a word behind them.
+pub(crate) fn tell(rt: &HostRuntime, numbers: &[(&str, u64)], last: &str) -> io::Result<()> {
+    for one in numbers {
+        print!(rt; "{}{}", one.0, one.1)?;
+    }
+    println!(rt; "{last}")
+}
 
 /// The word at a place; the program's name is at 0.
 fn word(rt: &HostRuntime, place: usize) -> Option<String> {
@@ -33,152 +80,122 @@ fn text(word: &Option<String>) -> &str {
     }
 }
 
-/// The number of threads that a word names; 1 where it names none of 1 to 4.
-fn threads_in(word: &str) -> u16
-    ensures { (0 < result) × (result ≤ 4) }
-{
+/// The number that a word names, of those that are measured. It is the most threads or the fewest nodes where it
+/// names none.
+fn number_in(word: &str, none: u16) -> u16 {
     match word {
         "2" => 2,
         "3" => 3,
         "4" => 4,
-        _ => 1,
-    }
-}
-
-/// The number of nodes that a word names; 0 where it names none of those that are measured.
-fn nodes_in(word: &str) -> u16 {
-    match word {
         "64" => 64,
         "960" => 960,
         "1024" => 1_024,
-        _ => 0,
+        _ => none,
     }
 }
 
-/// Prints what looks at a floor took.
-fn print_looks(
-    rt: &HostRuntime,
-    place: &str,
-    readers: u16,
-    looked: Option<Looked>,
-) -> io::Result<()> {
-    match looked {
-        Some(
-            Looked {
-                looks,
-                nanos,
-                raises,
-            },
-        ) => {
-            println!(rt; "{place} readers {readers} looks {looks} nanos {nanos} raises {raises}")
-        }
-        None => Ok(()),
-    }
-}
-
-/// Times looks at a floor on a board, by so many readers.
-fn time_board<R: Threads + Wait + Sync + Clock>(
+/// Times what so many threads do beside each other.
+fn time_threads<R: Threads + Wait + Sync + Clock>(
     host: &HostRuntime,
     rt: &R,
-    readers: u16,
-) -> io::Result<()>
-    requires { readers ≤ 4 }
-{
-    let blank = Blank::new(1);
-    let looked = floors::on_a_board::<Brand, _>(rt, host.alloc(), blank, NODES, readers)?;
-    print_looks(host, "board", readers, looked)
-}
-
-/// Times looks at a floor through a shared store, by so many readers.
-fn time_shared<R: Threads + Wait + Sync + Clock>(
-    host: &HostRuntime,
-    rt: &R,
-    readers: u16,
-) -> io::Result<()>
-    requires { readers ≤ 4 }
-{
-    let blank = Blank::new(u64::from(readers) + 1);
-    let looked = floors::in_a_shared_store::<Brand, _>(rt, host.alloc(), blank, NODES, readers)?;
-    print_looks(host, "shared", readers, looked)
-}
-
-/// Times looks at a floor behind a lock, by so many readers.
-fn time_lock<R: Threads + Wait + Sync + Clock>(
-    host: &HostRuntime,
-    rt: &R,
-    readers: u16,
-) -> io::Result<()> {
-    let looked = floors::behind_a_lock(rt, host.alloc(), readers)?;
-    print_looks(host, "lock", readers, looked)
-}
-
-/// Times deliveries to a store of so many nodes, of which so many retired.
-fn time_deliveries(rt: &HostRuntime, nodes: u16, gone: u16) -> io::Result<()> {
-    match joined::deliver_all(rt, rt.alloc(), nodes, gone)? {
-        Some(
-            Delivered {
-                items,
-                nanos,
-                floor,
-            },
-        ) => { println!(rt; "nodes {nodes} gone {gone} items {items} nanos {nanos} floor {floor}") }
-        None => Ok(()),
-    }
-}
-
-/// Times writes and reads of one store in one thread.
-fn time_core(rt: &HostRuntime) -> io::Result<()> {
-    let calls = core_calls::CALLS;
-    match core_calls::measure(rt, rt.alloc())? {
-        Some(
-            Timed {
-                accept,
-                read,
-                found,
-            },
-        ) => { println!(rt; "calls {calls} accept nanos {accept} read nanos {read} found {found}") }
-        None => Ok(()),
-    }
-}
-
-/// Times reads of a shared store by so many threads, with a trail or without.
-fn time_reads<R: Threads + Wait + Sync + Clock>(
-    host: &HostRuntime,
-    rt: &R,
+    start: Instant,
+    lock: &Mutex<Core>,
+    work: Work,
     threads: u16,
     trail: bool,
-) -> io::Result<()>
-    requires { 0 < threads }
-{
-    let blank = Blank::new(u64::from(threads));
-    let took = reads::timed::<Brand, _>(rt, host.alloc(), blank, threads, trail)?;
-    println!(host; "threads {threads} trail {trail} calls {CALLS} micros {took}")
+) -> io::Result<()> {
+    let threads = threads.min(4);
+    let blank = Blank::new(u64::from(threads) + 1);
+    let (took, raises) = time_in_store::<Brand, _>(
+        rt,
+        host.alloc(),
+        start,
+        blank,
+        lock,
+        work,
+        threads,
+        trail,
+    );
+    let place = match work {
+        Work::Read => return tell_reads(host, threads, trail, took / 1_000),
+        Work::Board => "board readers ",
+        Work::Shared => "shared readers ",
+        Work::Lock => "lock readers ",
+    };
+    let looked = [
+        (place, u64::from(threads)),
+        (" looks ", LOOKS),
+        (" nanos ", took),
+        (" raises ", raises),
+    ];
+    tell(host, &looked, "")
 }
 
-/// Times what the words ask for.
+/// Prints what reads of a shared store took.
+fn tell_reads(host: &HostRuntime, threads: u16, trail: bool, micros: u64) -> io::Result<()> {
+    let calls = if trail {
+        " trail true calls "
+    } else {
+        " trail false calls "
+    };
+    let read = [
+        ("threads ", u64::from(threads)),
+        (calls, CALLS),
+        (" micros ", micros),
+    ];
+    tell(host, &read, "")
+}
+
+/// Times what the words ask for, which may be of a core behind a lock.
 fn time<R: Threads + Wait + Sync + Clock>(
     host: &HostRuntime,
     rt: &R,
-    first: &str,
-    second: &str,
-    third: &str,
+    start: Instant,
+    lock: &Mutex<Core>,
+    words: [&str; 3],
 ) -> io::Result<()> {
-    match first {
-        "" => Ok(()),
-        "core" => time_core(host),
-        "nodes" => time_deliveries(host, nodes_in(second), nodes_in(third)),
-        "board" => time_board(host, rt, threads_in(second)),
-        "shared" => time_shared(host, rt, threads_in(second)),
-        "lock" => time_lock(host, rt, threads_in(second)),
-        threads => time_reads(host, rt, threads_in(threads), second == "on"),
+    let work = match words[0] {
+        "" => return Ok(()),
+        "core" => return alone::time_calls(host, start, &mut lock.lock(rt)),
+        "nodes" => {
+            let (nodes, gone) = (number_in(words[1], 0), number_in(words[2], 0));
+            return alone::time_deliveries(host, start, &mut lock.lock(rt), nodes, gone);
+        }
+        "board" => Work::Board,
+        "shared" => Work::Shared,
+        "lock" => Work::Lock,
+        threads => {
+            let threads = number_in(threads, 1);
+            return time_threads(host, rt, start, lock, Work::Read, threads, words[1] == "on");
+        }
+    };
+    time_threads(host, rt, start, lock, work, number_in(words[1], 1), false)
+}
+
+/// Makes a core of as many nodes as the words ask for, and times.
+fn time_with_core<R: Threads + Wait + Sync + Clock>(
+    host: &HostRuntime,
+    rt: &R,
+    start: Instant,
+    words: [&str; 3],
+) -> io::Result<()> {
+    let nodes = match words[0] {
+        "core" => 1,
+        "nodes" => number_in(words[1], 0).min(NODES),
+        _ => NODES,
+    };
+    match Core::new(host.alloc(), nodes) {
+        Ok(core) => time(host, rt, start, &Mutex::new(core), words),
+        Err(_) => Ok(()),
     }
 }
 
 /// `core` times writes and reads of one store in one thread. `nodes`, how many numbers were assigned and how many of
 /// those nodes retired, times deliveries to such a store. `board`, `shared` or `lock` and a number of readers times
 /// their looks at a floor there. A number of threads times the reads of so many, with a trail where the second word is
-/// `on`. With no word nothing is timed.
+/// `on`. With no word nothing is timed. Where memory runs out, nanoseconds are 0.
 fn main(rt: HostRuntime) -> io::Result<()> {
+    let start = Instant::now(&rt)?;
     let (first, second, third) = (word(&rt, 1), word(&rt, 2), word(&rt, 3));
-    time(&rt, &rt, text(&first), text(&second), text(&third))
+    time_with_core(&rt, &rt, start, [text(&first), text(&second), text(&third)])
 }

@@ -3,7 +3,7 @@ use Rattle.std.proofs.Common.{List, subst}
 use Rattle.hlc_board.specs.Views.{Sight}
 use Rattle.hlc_board.specs.Views.{PassesOf}
 use Rattle.hlc_board.proofs.PlaceLemmas.{passes_last}
-use Rattle.hlc_bench.proofs.floors.looking_all.Goals as goal
+use Rattle.hlc_bench.proofs.posts.looking_all.Goals as goal
 
 pub invariant_of-push : goal.invariant_of-push
 invariant_of-push c =

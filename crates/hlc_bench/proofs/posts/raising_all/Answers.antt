@@ -3,7 +3,7 @@ use Rattle.std.proofs.Common.{List, subst}
 use Rattle.hlc_board.specs.Views.{Post}
 use Rattle.hlc_board.specs.Views.{FeedersOf}
 use Rattle.hlc_board.proofs.PlaceLemmas.{feeders_last}
-use Rattle.hlc_bench.proofs.floors.raising_all.Goals as goal
+use Rattle.hlc_bench.proofs.posts.raising_all.Goals as goal
 
 pub invariant_of-push : goal.invariant_of-push
 invariant_of-push c =

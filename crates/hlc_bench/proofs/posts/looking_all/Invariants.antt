@@ -1,6 +1,6 @@
 -- The passes that are left are the board's.
 use Rattle.hlc_board.specs.Views.{PassesOf}
-use Rattle.hlc_bench.proofs.floors.looking_all.Given as goal
+use Rattle.hlc_bench.proofs.posts.looking_all.Given as goal
 
 abbrev pub invariant-loop : goal.invariant-loop
 invariant-loop l = PassesOf l.board l.passes.items

@@ -1,6 +1,6 @@
 -- The feeders that are left are the board's.
 use Rattle.hlc_board.specs.Views.{FeedersOf}
-use Rattle.hlc_bench.proofs.floors.raising_all.Given as goal
+use Rattle.hlc_bench.proofs.posts.raising_all.Given as goal
 
 abbrev pub invariant-loop : goal.invariant-loop
 invariant-loop l = FeedersOf l.board l.feeders.items
