@@ -15,9 +15,14 @@ pub(crate) fn ask_store(screen: &mut Screen<'_>, core: &Core) {
     for id in 0..8u64 {
         ask_snapshot(screen, core, id);
     }
-    match core.rows_to(Stamp::from_bits(u64::MAX)) {
+    put_rows(screen, core, Stamp::from_bits(u64::MAX), b"no rows\n");
+}
+
+/// The rows at or below a stamp, or what is printed where memory lacks.
+pub(crate) fn put_rows(screen: &mut Screen<'_>, core: &Core, bound: Stamp, lacks: &[u8]) {
+    match core.rows_to(bound) {
         Ok(rows) => screen.rows(rows.as_slice()),
-        Err(_) => screen.text(b"no rows\n"),
+        Err(_) => screen.text(lacks),
     }
 }
 
@@ -51,10 +56,15 @@ fn ask_snapshot(screen: &mut Screen<'_>, core: &Core, id: u64) {
         Some(stamp) => screen.stamp(b"snapshot ", stamp),
         None => screen.text(b"no snapshot"),
     }
+    put_listing(screen, core, id, b" ");
+}
+
+/// The listing of a snapshot, or why there is none, behind this text.
+pub(crate) fn put_listing(screen: &mut Screen<'_>, core: &Core, id: u64, before: &[u8]) {
     match core.list(id) {
         Ok(listing) => screen.listing(&listing),
         Err(fault) => {
-            screen.text(b" ");
+            screen.text(before);
             screen.fault(fault);
         }
     }

@@ -79,8 +79,14 @@ fn settle<L: Ledger>(screen: &mut Screen<'_>, desk: Desk<L>, later: &[u8]) {
 impl<L: Ledger> Called for Desk<L> {
     fn call(&mut self, screen: &mut Screen<'_>, letter: u8, rest: &[u8]) {
         match letter {
-            b'i' => self.hand_in(screen, true),
-            b'I' => self.hand_in(screen, false),
+            b'i' => {
+                if self.hand_in(screen) {
+                    self.put_last(screen);
+                }
+            }
+            b'I' => {
+                let _ = self.hand_in(screen);
+            }
             _ => self.held = event_of(screen.alloc(), letter, rest),
         }
     }
@@ -109,28 +115,28 @@ fn reading(alloc: Global, rest: &[u8]) -> Result<CoreEvent, AllocError> {
 }
 
 impl<L: Ledger> Desk<L> {
-    /// Makes the call that is held, and keeps its receipt, which may be printed. A call that is not made
-    /// is printed and held again.
-    fn hand_in(&mut self, screen: &mut Screen<'_>, printed: bool) {
+    /// Makes the call that is held, and keeps its receipt. A call that is not made is printed and held again. Returns
+    /// whether it was made.
+    fn hand_in(&mut self, screen: &mut Screen<'_>) -> bool {
         let (Some(event), Some(caller)) = (self.held.take(), self.caller.take()) else {
-            return;
+            return false;
         };
         let (caller, told) = step_guarded(&mut self.guarded, caller, event);
         self.caller = Some(caller);
         match told {
-            Ok(receipt) => self.keep(screen, receipt, printed),
+            Ok(receipt) => self.receipts.push(receipt).is_ok(),
             Err(refused) => {
                 screen.say(&refused);
                 self.held = Some(refused.1);
+                false
             }
         }
     }
 
-    /// Keeps a receipt, which may be printed.
-    fn keep(&mut self, screen: &mut Screen<'_>, receipt: Receipt, printed: bool) {
-        if printed {
-            screen.say(&receipt);
+    /// Prints the last receipt.
+    fn put_last(&self, screen: &mut Screen<'_>) {
+        if let Some(receipt) = self.receipts.last() {
+            screen.say(receipt);
         }
-        let _ = self.receipts.push(receipt);
     }
 }

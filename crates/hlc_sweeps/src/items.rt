@@ -21,19 +21,20 @@ pub(crate) fn next_stamp(words: &mut LineWords<'_>) -> Stamp {
 
 /// The write of a line: its node, its number, its stamp, its key and its value.
 pub(crate) fn write_of(alloc: Global, rest: &[u8]) -> Result<Item, AllocError> {
-    let item = item_of(rest, Body::Report);
     let mut words = LineWords::of(rest);
     for _ in 0..3u8 {
         let _ = words.next();
     }
-    let key = bytes(alloc, next_text(&mut words))?;
-    let value = Some(bytes(alloc, next_text(&mut words))?);
-    Ok(Item {
-        node: item.node,
-        number: item.number,
-        stamp: item.stamp,
-        body: Body::Write { key, value },
-    })
+    let key = next_text(&mut words);
+    let (key, value) = pair(alloc, key, next_text(&mut words))?;
+    Ok(item_of(rest, Body::Write { key, value }))
+}
+
+/// A key and a value.
+fn pair(alloc: Global, key: &[u8], value: &[u8]) -> Result<(Bytes, Option<Bytes>), AllocError> {
+    let key = bytes(alloc, key)?;
+    let value = bytes(alloc, value)?;
+    Ok((key, Some(value)))
 }
 
 /// The item of a line that says this: its node, its number, its stamp.
@@ -53,9 +54,9 @@ pub(crate) fn item_of(rest: &[u8], body: Body) -> Item {
 /// The row of a line: its key, its stamp and its value.
 pub(crate) fn row_of(alloc: Global, rest: &[u8]) -> Result<Row, AllocError> {
     let mut words = LineWords::of(rest);
-    let key = bytes(alloc, next_text(&mut words))?;
+    let key = next_text(&mut words);
     let stamp = next_stamp(&mut words);
-    let value = Some(bytes(alloc, next_text(&mut words))?);
+    let (key, value) = pair(alloc, key, next_text(&mut words))?;
     Ok(Row {
         key,
         stamp,

@@ -22,6 +22,7 @@ mod workers;
 use crate::lines::{first_and_rest, number_of, parts};
 use crate::requests::spend;
 use crate::screen::Screen;
+use crate::texts::GivesOnce;
 use crate::workers::Worker;
 use std::io::Read;
 use std::process::ExitCode;
@@ -55,8 +56,7 @@ fn answer_part<R: Wait + Threads + Sync>(screen: &mut Screen<'_>, threads: &R, p
     let (head, calls) = parts(part, b'\n');
     let (letter, rest) = first_and_rest(head);
     match letter {
-        b'c' => stored::answer(screen, calls),
-        b'd' => stored::answer_by(screen, threads, calls),
+        b'c' | b'd' => stored::answer(screen, threads, calls),
         b't' => table::answer(screen, calls),
         b'r' => registry::answer(screen, calls),
         b'g' => desk::answer(screen, false, calls),
@@ -82,7 +82,7 @@ fn answer_whole<R: Wait + Threads + Sync>(
         b'R' => workers::answer(screen, threads, Worker::Reads, requests),
         b'V' => workers::answer(screen, threads, Worker::Vacuums, requests),
         b'T' => texts::script(screen, requests, text),
-        b'H' => texts::held(screen, requests),
+        b'H' => texts::script(screen, requests, GivesOnce { given: false }),
         b'C' => texts::check(screen, requests, text),
         _ => {}
     }

@@ -95,8 +95,17 @@ impl<'a> Screen<'a> {
         put_refusal(&mut self.writer, &mut self.waiting, Refusal::from(fault));
     }
 
+    /// What a vacuum did, or that memory lacked.
+    pub(crate) fn told(&mut self, report: Option<Report>) {
+        match &report {
+            Some(report) => self.report(report),
+            None => self.text(b"no memory\n"),
+        }
+        self.finish();
+    }
+
     /// What a vacuum did, and its points and witnesses.
-    pub(crate) fn report(&mut self, report: &Report) {
+    fn report(&mut self, report: &Report) {
         self.stamp(b"vacuum ", report.floor);
         self.number(b" kept ", report.kept);
         self.count(b" dropped ", report.dropped);

@@ -1,9 +1,9 @@
 //! The calls of a store in one thread.
-use crate::asking::ask_store;
+use crate::asking::{ask_store, put_listing, put_rows};
 use crate::items::{item_of, next_node, next_stamp, write_of};
 use crate::lines::{Called, call_all, next_number, next_text, number_of, parts};
 use crate::screen::Screen;
-use hlc_core::{Body, Core, Item, NoMemory, Report, Stamp};
+use hlc_core::{Body, Core, Item, Stamp};
 use hlc_text::words::LineWords;
 use std::thread::Threads;
 
@@ -15,15 +15,8 @@ pub(crate) struct Stored {
     held: Option<Item>,
 }
 
-/// Answers the calls of a store of two nodes.
-pub(crate) fn answer(screen: &mut Screen<'_>, calls: &[u8]) {
-    if let Ok(core) = Core::new(screen.alloc(), 2) {
-        answer_of(screen, core, calls);
-    }
-}
-
-/// The same, with a vacuum at each equals sign, which threads plan.
-pub(crate) fn answer_by<R: Threads + Sync>(screen: &mut Screen<'_>, threads: &R, calls: &[u8]) {
+/// Answers the calls of a store of two nodes, with a vacuum at each equals sign, which threads plan.
+pub(crate) fn answer<R: Threads + Sync>(screen: &mut Screen<'_>, threads: &R, calls: &[u8]) {
     if let Ok(core) = Core::new(screen.alloc(), 2) {
         let mut stored = Stored { core, held: None };
         call_between(screen, threads, &mut stored, calls);
@@ -44,7 +37,7 @@ fn call_between<R: Threads + Sync>(
         if behind.is_empty() {
             return;
         }
-        put_report(screen, stored.core.vacuum_parallel(threads));
+        screen.told(stored.core.vacuum_parallel(threads).ok());
         rest = behind;
     }
 }
@@ -53,15 +46,6 @@ fn call_between<R: Threads + Sync>(
 pub(crate) fn answer_of(screen: &mut Screen<'_>, core: Core, calls: &[u8]) {
     let mut stored = Stored { core, held: None };
     call_all(screen, &mut stored, calls);
-}
-
-/// Prints what a vacuum did.
-fn put_report(screen: &mut Screen<'_>, report: Result<Report, NoMemory>) {
-    match report {
-        Ok(report) => screen.report(&report),
-        Err(NoMemory) => screen.text(b"no memory\n"),
-    }
-    screen.finish();
 }
 
 impl Called for Stored {
@@ -76,7 +60,7 @@ impl Called for Stored {
             b'f' => screen.say(&self.core.open_floor()),
             b'c' => screen.say(&self.core.close(number_of(rest))),
             b'j' => screen.say(&self.core.join()),
-            b'v' => put_report(screen, self.core.vacuum()),
+            b'v' => screen.told(self.core.vacuum().ok()),
             _ => self.ask(screen, letter, &mut LineWords::of(rest)),
         }
     }
@@ -101,20 +85,14 @@ impl Stored {
 
     /// The rows at or below a stamp.
     fn rows_to(&self, screen: &mut Screen<'_>, bound: Stamp) {
-        match self.core.rows_to(bound) {
-            Ok(rows) => screen.rows(rows.as_slice()),
-            Err(NoMemory) => screen.text(b"no memory\n"),
-        }
+        put_rows(screen, &self.core, bound, b"no memory\n");
         screen.finish();
     }
 
     /// The listing of a snapshot.
     fn list(&self, screen: &mut Screen<'_>, id: u64) {
-        match self.core.list(id) {
-            Ok(listing) => screen.listing(&listing),
-            Err(fault) => screen.fault(fault),
-        }
-        screen.end_line();
+        put_listing(screen, &self.core, id, b"");
+        screen.finish();
     }
 
     /// Hands in the item that is held. A refused one is printed too, and held again.

@@ -27,22 +27,13 @@ pub(crate) fn answer(screen: &mut Screen<'_>, calls: &[u8]) {
     call_all(screen, &mut tabled, calls);
 }
 
-/// Prints a report.
-fn put_report(screen: &mut Screen<'_>, report: Result<Report, AllocError>) {
-    match report {
-        Ok(report) => screen.report(&report),
-        Err(_) => screen.text(b"no memory\n"),
-    }
-    screen.finish();
-}
-
 impl Called for Tabled {
     fn call(&mut self, screen: &mut Screen<'_>, letter: u8, rest: &[u8]) {
         match letter {
             b'w' => self.held = row_of(screen.alloc(), rest).ok(),
             b'i' => self.hand_in(screen),
-            b'v' => put_report(screen, vacuum(screen.alloc(), &mut self.table)),
-            b'p' => put_report(screen, report(screen.alloc(), &self.table)),
+            b'v' => screen.told(vacuum(screen.alloc(), &mut self.table).ok()),
+            b'p' => screen.told(report(screen.alloc(), &self.table).ok()),
             b'?' => self.ask(screen),
             _ => {}
         }

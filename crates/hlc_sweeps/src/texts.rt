@@ -7,10 +7,10 @@ use hlc_text::watched::Watched;
 use std::io;
 use std::io::{ErrorKind, Read};
 
-/// Gives one block, and then fails.
+/// Gives one block, and then fails: a script that can't be read to its end.
 #[derive(Drop)]
-struct GivesOnce {
-    given: bool,
+pub(crate) struct GivesOnce {
+    pub(crate) given: bool,
 }
 
 impl Read for GivesOnce {
@@ -25,19 +25,11 @@ impl Read for GivesOnce {
 }
 
 /// Answers a script.
-pub(crate) fn script(screen: &mut Screen<'_>, requests: u64, text: &[u8]) {
+pub(crate) fn script<I: Read + Drop>(screen: &mut Screen<'_>, requests: u64, script: I) {
     spend(screen, requests);
-    let end = run_script(screen.alloc(), &mut Watched::new(text), &mut screen.fresh());
-    screen.status(end.status());
-}
-
-/// Answers a script that can't be read to its end.
-pub(crate) fn held(screen: &mut Screen<'_>, requests: u64) {
-    spend(screen, requests);
-    let reader = GivesOnce { given: false };
     let end = run_script(
         screen.alloc(),
-        &mut Watched::new(reader),
+        &mut Watched::new(script),
         &mut screen.fresh(),
     );
     screen.status(end.status());

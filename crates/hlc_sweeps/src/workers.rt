@@ -20,7 +20,7 @@ use std::thread::Threads;
 const WRITES: [&[u8]; 3] = [b"0 0 1 a x", b"0 1 2 b x", b"0 2 3 a x"];
 
 /// Which worker, and on what.
-#[derive(Clone, Copy, Debug, PartialEq, Eq)]
+#[derive(Clone, Copy)]
 pub(crate) enum Worker {
     /// A link of three writes is fed into a new store.
     Feeds,
@@ -130,15 +130,10 @@ fn write<L: Ledger, R: Wait>(
         return caller;
     };
     let (caller, told) = shared.accept(threads, caller, item);
-    keep(receipts, told.ok());
-    caller
-}
-
-/// Keeps the receipt of a call that was made.
-fn keep(receipts: &mut Vec<Receipt>, receipt: Option<Receipt>) {
-    if let Some(receipt) = receipt {
+    if let Ok(receipt) = told {
         let _ = receipts.push(receipt);
     }
+    caller
 }
 
 /// Feeds a link of three writes to its end.
