@@ -80,8 +80,7 @@ fn text(word: &Option<String>) -> &str {
     }
 }
 
-/// The number that a word names, of those that are measured. It is the most threads or the fewest nodes where it
-/// names none.
+/// The number of threads or nodes that a word names, of those that are measured, or else this one.
 fn number_in(word: &str, none: u16) -> u16 {
     match word {
         "2" => 2,

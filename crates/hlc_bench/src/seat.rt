@@ -1,7 +1,7 @@
 //! Calls of a shared store by one caller: reads whose receipts are kept, and openings that are refused.
 use crate::{bytes, write};
 use hlc_core::{Accepted, CoreEvent, CoreFault, CoreReply, Stamp};
-use hlc_server::{Caller, Receipt, Shared};
+use hlc_server::{Caller, NotDone, Receipt, Shared};
 use std::alloc::Global;
 use std::sync::Wait;
 use std::sync::ledger::Ledger;
@@ -38,6 +38,11 @@ impl<L: Ledger> Seat<L> {
         };
         let (caller, answer) = shared.step(rt, caller, event);
         self.caller = Some(caller);
+        self.take_in(answer, keeps);
+    }
+
+    /// Takes in what a call was answered, and may keep its receipt.
+    fn take_in(&mut self, answer: Result<Receipt, (NotDone, CoreEvent)>, keeps: bool) {
         if let Ok(receipt) = answer {
             self.hear(&receipt.reply);
             if keeps {
