@@ -124,13 +124,18 @@ impl<L: Ledger> Desk<L> {
         let (caller, told) = step_guarded(&mut self.guarded, caller, event);
         self.caller = Some(caller);
         match told {
-            Ok(receipt) => self.receipts.push(receipt).is_ok(),
+            Ok(receipt) => self.keep(receipt),
             Err(refused) => {
                 screen.say(&refused);
                 self.held = Some(refused.1);
                 false
             }
         }
+    }
+
+    /// Keeps a receipt, and returns whether there was room.
+    fn keep(&mut self, receipt: Receipt) -> bool {
+        self.receipts.push(receipt).is_ok()
     }
 
     /// Prints the last receipt.

@@ -130,10 +130,15 @@ fn write<L: Ledger, R: Wait>(
         return caller;
     };
     let (caller, told) = shared.accept(threads, caller, item);
-    if let Ok(receipt) = told {
+    keep(receipts, told.ok());
+    caller
+}
+
+/// Keeps the receipt of a call that was made.
+fn keep(receipts: &mut Vec<Receipt>, receipt: Option<Receipt>) {
+    if let Some(receipt) = receipt {
         let _ = receipts.push(receipt);
     }
-    caller
 }
 
 /// Feeds a link of three writes to its end.
