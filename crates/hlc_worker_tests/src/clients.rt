@@ -4,7 +4,8 @@ ghost use Rattle.std.specs.Prelude.{◌≡◌};
 use crate::rounds::Reading;
 use crate::scenes::{Paid, Scene, Seats};
 use crate::writers::Writer;
-use hlc_server::{Caller, Receipt};
+use hlc_core::CoreEvent;
+use hlc_server::{Caller, NotDone, Receipt};
 use std::alloc::Global;
 use std::process::Abort;
 use std::sync::ledger::Ledger;
@@ -23,39 +24,29 @@ pub(crate) struct Client<'a, L: Ledger> {
 pub(crate) struct Cast<'a, L: Ledger> {
     pub(crate) writer: Writer<'a, L>,
     pub(crate) reading: Reading<'a, L>,
-    pub(crate) others: Vec<Client<'a, L>>,
+    pub(crate) others: Vec<Caller<L>>,
 }
 
-/// Callers that made no call yet.
-fn new_clients<'a, L: Ledger, R: Abort>(
+/// The last of these callers, which made no call yet.
+pub(crate) fn last_client<'a, L: Ledger, R: Abort>(
     rt: &R,
     alloc: Global,
     scene: &'a Scene<L>,
-    callers: Vec<Caller<L>>,
-) -> Vec<Client<'a, L>> {
-    let mut clients = Vec::new(alloc);
-    for caller in callers {
-        clients
-            .push(new_client(alloc, scene, caller))
-            .ok()
-            .expect(rt, "memory");
-    }
-    clients
-}
-
-/// A caller that made no call yet.
-fn new_client<'a, L: Ledger>(alloc: Global, scene: &'a Scene<L>, caller: Caller<L>) -> Client<'a, L>
+    callers: &mut Vec<Caller<L>>,
+) -> Client<'a, L>
     ensures { result.scene.now.board ≡ scene.now.board }
 {
+    let caller = callers.pop().expect(rt, "a caller");
+    let receipts = Vec::new(alloc);
     Client {
         scene,
         caller,
-        receipts: Vec::new(alloc),
+        receipts,
     }
 }
 
 /// Gives the seats of a scene to those who call there: the first caller writes, and the second reads.
-/// The others are in the order of their pops.
+/// Of the others the first is the last one of the list.
 pub(crate) fn take_seats<'a, L: Ledger, R: Abort>(
     rt: &R,
     alloc: Global,
@@ -71,13 +62,12 @@ pub(crate) fn take_seats<'a, L: Ledger, R: Abort>(
         pass,
     } = seats;
     callers.reverse();
-    let writer = new_client(alloc, scene, callers.pop().expect(rt, "a writer"));
-    let reader = new_client(alloc, scene, callers.pop().expect(rt, "a reader"));
-    let others = new_clients(rt, alloc, scene, callers);
+    let writer = last_client(rt, alloc, scene, &mut callers);
+    let reader = last_client(rt, alloc, scene, &mut callers);
     Cast {
         writer: Writer::new(writer, Some(feeder)),
         reading: Reading::new(reader, pass),
-        others,
+        others: callers,
     }
 }
 
@@ -101,12 +91,26 @@ pub(crate) fn client_after<'a, L: Ledger, R: Abort>(
     }
 }
 
-/// What a client settles with.
-pub(crate) fn paid<'a, L: Ledger>(client: Client<'a, L>) -> Paid<L> {
+/// What a client settles with goes behind the lists of others.
+pub(crate) fn pays<'a, L: Ledger, R: Abort>(
+    rt: &R,
+    lists: &mut Vec<Paid<L>>,
+    client: Client<'a, L>,
+) {
     let Client {
         caller,
         receipts,
         ..
     } = client;
-    (caller, receipts)
+    lists.push((caller, receipts)).ok().expect(rt, "memory");
+}
+
+/// Keeps the receipt of a call that was made.
+pub(crate) fn keep<R: Abort>(
+    rt: &R,
+    receipts: &mut Vec<Receipt>,
+    told: Result<Receipt, (NotDone, CoreEvent)>,
+) {
+    let receipt = told.ok().expect(rt, "a call that was made");
+    receipts.push(receipt).ok().expect(rt, "memory");
 }

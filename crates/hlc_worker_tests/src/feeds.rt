@@ -1,9 +1,10 @@
 //! A link that is fed into a store.
 ghost use Rattle.std.specs.Prelude.{◌≡◌};
 
-use crate::expected::must_be;
+use crate::expected::{must_be, replied};
+use crate::held::HoldsAt;
 use crate::scenes::{Scene, Seats, new_scene};
-use crate::writers::full_link;
+use crate::writers::{full_link, raised_by};
 use hlc_channel::LinkReceiver;
 use hlc_core::{Body, CoreFault, CoreReply, Item, Stamp};
 use hlc_server::Receipt;
@@ -16,24 +17,13 @@ use std::sync::Wait;
 use std::sync::ledger::{Blank, Ledger};
 use std::test::*;
 
-/// Lets the first call pass, and no other.
-struct Once;
-
-impl Gate for Once {
-    ghost may_answer = { λ gate turn answer. Unit {0} };
-
-    fn pass<R: Wait>(&self, _rt: &R, turn: u64) -> bool {
-        turn == 0
-    }
-}
-
 /// How the feeding of a link went, and the stamp that was raised.
 #[derive(Drop)]
 struct Told {
     receipts: Vec<Receipt>,
     left: Option<Item>,
     end: WorkEnd,
-    raised: Stamp,
+    raised: Option<Stamp>,
 }
 
 /// A link of the items of these numbers, and the end where there is one.
@@ -51,19 +41,12 @@ fn report(number: u8) -> Item {
 }
 
 /// What is told of a feeding.
-fn told_of<L: Ledger, R: Abort>(rt: &R, fed: Fed<L>) -> Told {
-    let Fed {
-        receipts,
-        left,
-        end,
-        feeder,
-        ..
-    } = fed;
-    let raised = feeder.expect(rt, "a feeder").raised();
+fn told_of<L: Ledger>(fed: Fed<L>) -> Told {
+    let raised = raised_by(&fed.feeder);
     Told {
-        receipts,
-        left,
-        end,
+        receipts: fed.receipts,
+        left: fed.left,
+        end: fed.end,
         raised,
     }
 }
@@ -95,10 +78,10 @@ fn fed_from<L: Ledger, G: Gate, R: Wait + Abort>(
         Some(feeder),
         gate,
     );
-    told_of(rt, fed)
+    told_of(fed)
 }
 
-/// Feeds the items of these numbers, and then the end where there is one, into a new store.
+/// Feeds the items of these numbers, and then the end where there is one, into the store of a ledger.
 fn fed<L: Ledger, G: Gate, R: Wait + Abort>(
     rt: &R,
     alloc: Global,
@@ -114,37 +97,51 @@ fn fed<L: Ledger, G: Gate, R: Wait + Abort>(
     fed_from(rt, alloc, &scene, seats, link, gate)
 }
 
-/// Looks whether the feeding ended so, with so many receipts, and left this.
-fn has_ended<R: Abort>(rt: &R, told: &Told, end: WorkEnd, left: &Option<Item>, receipts: usize) {
-    must_be(rt, told.end, end);
-    must_be(rt, &told.left, left);
-    must_be(rt, told.receipts.len(), receipts);
+/// Feeds them into a new store.
+fn fed_new<G: Gate, R: Wait + Abort>(
+    rt: &R,
+    alloc: Global,
+    numbers: [u8; 3],
+    ends: bool,
+    gate: &G,
+) -> Told {
+    fed::<Brand, G, R>(rt, alloc, Blank::new(1), numbers, ends, gate)
+}
+
+/// Looks whether the feeding ended so, with so many receipts, left this, and gave its feeder back.
+fn has_ended<R: Abort>(rt: &R, told: &Told, due: (WorkEnd, usize), left: Option<Item>) {
+    must_be(rt, (told.end, told.receipts.len()), due);
+    must_be(rt, &told.left, &left);
+    must_be(rt, told.raised.is_some(), true);
 }
 
 /// Looks whether the second item was refused, since number 1 is the next.
 fn second_is_refused<R: Abort>(rt: &R, receipts: &[Receipt]) {
     assert!(rt; receipts.len() == 3);
-    let refused = CoreReply::Refused(CoreFault::NotNext { next: 1 });
-    must_be(rt, &receipts[1].reply, &refused);
+    replied(
+        rt,
+        &receipts[1],
+        CoreReply::Refused(CoreFault::NotNext { next: 1 }),
+    );
 }
 
 #[test]
 fn a_refusal_does_not_end_it(rt: HostRuntime) {
-    let told = fed::<Brand, _, _>(&rt, rt.alloc(), Blank::new(1), [0, 2, 1], true, &FreeGate);
-    has_ended(&rt, &told, WorkEnd::Done, &None, 3);
+    let told = fed_new(&rt, rt.alloc(), [0, 2, 1], true, &FreeGate);
+    has_ended(&rt, &told, (WorkEnd::Done, 3), None);
     second_is_refused(&rt, told.receipts.as_slice());
-    must_be(&rt, told.raised, at_second(2));
+    must_be(&rt, told.raised, Some(at_second(2)));
 }
 
 #[test]
 fn a_link_that_is_closed(rt: HostRuntime) {
-    let told = fed::<Brand, _, _>(&rt, rt.alloc(), Blank::new(1), [0, 1, 2], false, &FreeGate);
-    has_ended(&rt, &told, WorkEnd::Closed, &None, 3);
+    let told = fed_new(&rt, rt.alloc(), [0, 1, 2], false, &FreeGate);
+    has_ended(&rt, &told, (WorkEnd::Closed, 3), None);
 }
 
 #[test]
 fn a_gate_that_holds(rt: HostRuntime) {
-    let told = fed::<Brand, _, _>(&rt, rt.alloc(), Blank::new(1), [0, 1, 2], true, &Once);
-    has_ended(&rt, &told, WorkEnd::Held, &Some(report(1)), 1);
-    must_be(&rt, told.raised, at_second(1));
+    let told = fed_new(&rt, rt.alloc(), [0, 1, 2], true, &HoldsAt(1));
+    has_ended(&rt, &told, (WorkEnd::Held, 1), Some(report(1)));
+    must_be(&rt, told.raised, Some(at_second(1)));
 }

@@ -1,13 +1,12 @@
 //! A vacuum and a write while a reader is held between two reads.
 ghost use Rattle.std.specs.Prelude.{◌≡◌};
 
-use crate::clients::{Cast, Client, paid, take_seats};
+use crate::clients::{Cast, Client, keep, last_client, pays, take_seats};
 use crate::expected::must_be;
 use crate::held::{has_read_twice, read_beside};
-use crate::scenes::{Paid, new_scene, settled_calls};
-use crate::writers::feed_first;
+use crate::scenes::{Paid, Scene, new_scene, settled_calls};
+use crate::writers::{feed_first, written};
 use hlc_core::Item;
-use hlc_shared_tests::makers::write;
 use std::alloc::Global;
 use std::marker::Brand;
 use std::process::Abort;
@@ -28,15 +27,9 @@ fn vacuum_then_accept<'a, L: Ledger, R: Wait + Threads + Abort + Sync>(
         mut receipts,
     } = client;
     let (caller, told) = scene.shared.vacuum(rt, caller);
-    receipts
-        .push(told.ok().expect(rt, "a vacuum"))
-        .ok()
-        .expect(rt, "memory");
+    keep(rt, &mut receipts, told);
     let (caller, told) = scene.shared.accept(rt, caller, item);
-    receipts
-        .push(told.ok().expect(rt, "an item"))
-        .ok()
-        .expect(rt, "memory");
+    keep(rt, &mut receipts, told);
     Client {
         scene,
         caller,
@@ -48,20 +41,23 @@ fn vacuum_then_accept<'a, L: Ledger, R: Wait + Threads + Abort + Sync>(
 fn call_by_three<'a, L: Ledger + Send + Sync, R: Threads + Wait + Abort + Sync>(
     rt: &R,
     alloc: Global,
+    scene: &'a Scene<L>,
     cast: Cast<'a, L>,
-) -> Vec<Paid<L>> {
+    lists: &mut Vec<Paid<L>>,
+) {
     let Cast {
         writer,
         reading,
         mut others,
     } = cast;
-    let third = others.pop().expect(rt, "a third caller");
-    let item = write(alloc, 0, 1, b'a', b'y').expect(rt, "memory");
+    let third = last_client(rt, alloc, scene, &mut others);
     let writer = feed_first(rt, alloc, writer);
+    pays(rt, lists, writer.client);
+    let item = written(rt, alloc, 1, b'y');
     let (reading, third) = read_beside(rt, alloc, reading, || vacuum_then_accept(rt, third, item));
     has_read_twice(rt, alloc, reading.client.receipts.as_slice());
-    let lists = vec![in alloc; paid(writer.client), paid(reading.client), paid(third)];
-    lists.ok().expect(rt, "memory")
+    pays(rt, lists, reading.client);
+    pays(rt, lists, third);
 }
 
 /// The write of x is fed in; then a reader reads its key twice, and between the two the store is
@@ -74,7 +70,9 @@ fn by_three<L: Ledger + Send + Sync, R: Threads + Wait + Abort + Sync>(
     requires { (blank.name ≡ L.name) × (blank.parts ≡ L.parts) × (blank.parts ≡ 3) }
 {
     let (scene, seats) = new_scene::<L, R>(rt, alloc, blank, 3, true);
-    let lists = call_by_three(rt, alloc, take_seats(rt, alloc, &scene, seats));
+    let cast = take_seats(rt, alloc, &scene, seats);
+    let mut lists = Vec::new(alloc);
+    call_by_three(rt, alloc, &scene, cast, &mut lists);
     must_be(rt, settled_calls(scene.shared, lists), Ok(7));
 }
 

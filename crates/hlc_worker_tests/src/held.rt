@@ -1,9 +1,9 @@
 //! A reader that is held between two reads, while another thread makes its calls.
-use crate::expected::must_be;
+use crate::expected::{answer, must_be, replied};
 use crate::rounds::{Reading, keys_of};
-use hlc_core::{Bytes, CoreEvent, CoreReply};
+use hlc_core::{CoreEvent, CoreReply};
 use hlc_server::Receipt;
-use hlc_shared_tests::makers::{at_second, bytes};
+use hlc_shared_tests::makers::at_second;
 use hlc_workers::Gate;
 use std::alloc::Global;
 use std::process::Abort;
@@ -25,7 +25,7 @@ struct Flags {
 }
 
 /// Looks until the flag is set. False where that was given up.
-fn was_set(flag: &AtomicBool) -> bool {
+pub(crate) fn was_set(flag: &AtomicBool) -> bool {
     for _ in 0..LOOKS {
         if flag.load(Ordering::SeqCst) {
             return true;
@@ -52,15 +52,16 @@ impl<'a> Gate for HoldsTurnTwo<'a> {
     }
 }
 
-/// One round of a reader over two keys, held between the two reads.
-fn read_held<'a, L: Ledger, R: Wait + Abort>(
-    rt: &R,
-    alloc: Global,
-    reading: Reading<'a, L>,
-    keys: &[Bytes],
-    flags: &Flags,
-) -> Reading<'a, L> {
-    reading.reads(rt, alloc, keys, &HoldsTurnTwo { flags })
+/// Answers no at one turn.
+#[derive(Drop)]
+pub(crate) struct HoldsAt(pub(crate) u64);
+
+impl Gate for HoldsAt {
+    ghost may_answer = { λ gate turn answer. Unit {0} };
+
+    fn pass<R: Wait>(&self, _rt: &R, turn: u64) -> bool {
+        turn != self.0
+    }
 }
 
 /// Makes the calls of the other thread once turn 2 was asked for, and lets it go on.
@@ -73,7 +74,7 @@ fn call_between<R: Abort, T: Drop, F: FnOnce() -> T>(rt: &R, flags: &Flags, call
     made
 }
 
-/// A reader reads the key `a` twice, and between the two another thread makes these calls.
+/// A reader reads the key `a` twice in one round, and between the two another thread makes these calls.
 pub(crate) fn read_beside<
     'a,
     L: Ledger + Send + Sync,
@@ -90,22 +91,21 @@ pub(crate) fn read_beside<
     };
     thread::join(
         rt,
-        || read_held(rt, alloc, reading, keys.as_slice(), &flags),
+        || reading.reads(rt, alloc, keys.as_slice(), &HoldsTurnTwo { flags: &flags }),
         || call_between(rt, &flags, calls),
     )
 }
 
-/// Looks whether a round opened at 1.0, and closed.
-fn has_opened_and_closed<R: Abort>(rt: &R, open: &Receipt, close: &Receipt) {
-    must_be(rt, &open.event, &CoreEvent::OpenAt(at_second(1)));
-    must_be(rt, &close.reply, &CoreReply::Closed(at_second(1)));
+/// Looks whether a round opened at 1.0.
+fn has_opened<R: Abort>(rt: &R, receipt: &Receipt) {
+    must_be(rt, &receipt.event, &CoreEvent::OpenAt(at_second(1)));
 }
 
 /// Looks whether a round opened at 1.0, read x twice, and closed.
 pub(crate) fn has_read_twice<R: Abort>(rt: &R, alloc: Global, reads: &[Receipt]) {
-    let answer = CoreReply::Answer(Some(bytes(alloc, b'x').expect(rt, "memory")));
     assert!(rt; reads.len() == 4);
-    has_opened_and_closed(rt, &reads[0], &reads[3]);
-    must_be(rt, &reads[1].reply, &answer);
-    must_be(rt, &reads[2].reply, &answer);
+    has_opened(rt, &reads[0]);
+    replied(rt, &reads[1], answer(rt, alloc, b'x'));
+    replied(rt, &reads[2], answer(rt, alloc, b'x'));
+    replied(rt, &reads[3], CoreReply::Closed(at_second(1)));
 }

@@ -1,16 +1,16 @@
 //! Nodes that join a store which threads share, and retire.
 ghost use Rattle.std.specs.Prelude.{◌≡◌};
 
-use crate::clients::{Cast, Client, client_after, paid, take_seats};
-use crate::expected::must_be;
+use crate::clients::{Cast, Client, client_after, last_client, pays, take_seats};
+use crate::expected::{must_be, replied};
 use crate::held::{has_read_twice, read_beside};
-use crate::newcomers::{Newcomer, join_and_retire, join_one, write_and_retire};
+use crate::newcomers::{Newcomer, join_one, write_and_retire};
 use crate::rounds::{Round, read_as_due};
-use crate::scenes::{Paid, new_scene, settled_calls};
-use crate::writers::{Writer, feed_first, feed_item};
-use hlc_core::{Body, Core, CoreReply, Item, Stamp};
-use hlc_server::{Receipt, Settled};
-use hlc_shared_tests::makers::{at_second, write};
+use crate::scenes::{Paid, Scene, new_scene, settled_calls};
+use crate::writers::{feed_first, feed_item, written};
+use hlc_core::{Body, CoreReply, Item, Stamp};
+use hlc_server::{Caller, Receipt, Settled, Shared};
+use hlc_shared_tests::makers::at_second;
 use hlc_workers::{FreeGate, serve_vacuum};
 use std::alloc::Global;
 use std::marker::Brand;
@@ -36,18 +36,19 @@ fn vacuum_twice<'a, L: Ledger, R: Wait + Threads + Abort + Sync>(
     client_after(rt, scene, receipts, vacuum.caller, vacuum.receipts)
 }
 
-/// A node joins, is fed and retires, beside two vacuums.
+/// A node joins, is fed the writes of y and z in second 2 and its last item at 3.0, beside two vacuums.
 fn join_beside_vacuums<'a, L: Ledger + Send + Sync, R: Threads + Wait + Abort + Sync>(
     rt: &R,
     alloc: Global,
-    others: Vec<Client<'a, L>>,
+    scene: &'a Scene<L>,
+    others: Vec<Caller<L>>,
 ) -> (Newcomer<'a, L>, Client<'a, L>) {
     let mut others = others;
-    let third = others.pop().expect(rt, "a third caller");
-    let fourth = others.pop().expect(rt, "a fourth caller");
+    let third = last_client(rt, alloc, scene, &mut others);
+    let fourth = last_client(rt, alloc, scene, &mut others);
     thread::join(
         rt,
-        || join_and_retire(rt, alloc, third),
+        || write_and_retire(rt, alloc, join_one(rt, third), b"yz"),
         || vacuum_twice(rt, alloc, fourth),
     )
 }
@@ -67,7 +68,7 @@ fn has_joined_and_retired<R: Abort>(rt: &R, receipts: &[Receipt]) {
         node: 1,
         start: at_second(1),
     };
-    must_be(rt, &receipts[0].reply, &joined);
+    replied(rt, &receipts[0], joined);
     assert!(rt; retired_at(&receipts[3].reply, at_second(3)));
 }
 
@@ -76,42 +77,42 @@ fn has_joined_and_retired<R: Abort>(rt: &R, receipts: &[Receipt]) {
 fn call_by_four<'a, L: Ledger + Send + Sync, R: Threads + Wait + Abort + Sync>(
     rt: &R,
     alloc: Global,
+    scene: &'a Scene<L>,
     cast: Cast<'a, L>,
-) -> Vec<Paid<L>> {
+    lists: &mut Vec<Paid<L>>,
+) {
     let Cast {
         writer,
         reading,
         others,
     } = cast;
     let writer = feed_first(rt, alloc, writer);
+    pays(rt, lists, writer.client);
     let (reading, (newcomer, vacuum)) = read_beside(
         rt,
         alloc,
         reading,
-        || join_beside_vacuums(rt, alloc, others),
+        || join_beside_vacuums(rt, alloc, scene, others),
     );
     has_read_twice(rt, alloc, reading.client.receipts.as_slice());
     has_joined_and_retired(rt, newcomer.client.receipts.as_slice());
-    let lists = vec![in alloc;
-        paid(writer.client),
-        paid(reading.client),
-        paid(newcomer.client),
-        paid(vacuum),
-    ];
-    lists.ok().expect(rt, "memory")
-}
-
-/// Looks whether a core counts so many items of a node.
-fn counts<R: Abort>(rt: &R, core: &Core, node: u16, count: u64) {
-    must_be(rt, core.count(node), Ok(count));
+    pays(rt, lists, reading.client);
+    pays(rt, lists, newcomer.client);
+    pays(rt, lists, vacuum);
 }
 
 /// Looks at what was settled: the calls, the items of each node, and the floor, which the first holds.
 fn has_settled<R: Abort>(rt: &R, settled: &Settled) {
     must_be(rt, settled.entries, 11);
-    counts(rt, &settled.core, 0, 1);
-    counts(rt, &settled.core, 1, 3);
+    must_be(rt, settled.core.count(0), Ok(1));
+    must_be(rt, settled.core.count(1), Ok(3));
     must_be(rt, settled.core.floor(), at_second(1));
+}
+
+/// Settles, and looks at what was settled.
+fn settles<L: Ledger, R: Abort>(rt: &R, shared: Shared<L>, lists: Vec<Paid<L>>) {
+    let settled = shared.settle(lists);
+    has_settled(rt, &settled.ok().expect(rt, "receipts that settle"));
 }
 
 /// The write of x is fed in; then a reader reads its key twice, and between the two a node joins,
@@ -125,13 +126,10 @@ fn by_four<L: Ledger + Send + Sync, R: Threads + Wait + Abort + Sync>(
     requires { (blank.name ≡ L.name) × (blank.parts ≡ L.parts) × (blank.parts ≡ 4) }
 {
     let (scene, seats) = new_scene::<L, R>(rt, alloc, blank, 4, true);
-    let lists = call_by_four(rt, alloc, take_seats(rt, alloc, &scene, seats));
-    let settled = scene
-        .shared
-        .settle(lists)
-        .ok()
-        .expect(rt, "receipts that settle");
-    has_settled(rt, &settled);
+    let cast = take_seats(rt, alloc, &scene, seats);
+    let mut lists = Vec::new(alloc);
+    call_by_four(rt, alloc, &scene, cast, &mut lists);
+    settles(rt, scene.shared, lists);
 }
 
 #[test]
@@ -139,57 +137,42 @@ fn a_node_joins_and_retires_beside_a_reader(rt: HostRuntime) {
     by_four::<Brand, _>(&rt, rt.alloc(), Blank::new(4));
 }
 
-/// Feeds the last item of the node of the start, at 5.0, and looks whether the greatest word was raised.
-fn feed_last<'a, L: Ledger, R: Wait + Abort>(
-    rt: &R,
-    alloc: Global,
-    writer: Writer<'a, L>,
-) -> Writer<'a, L> {
-    let last = Item {
+/// The last item of the node of the start, at 5.0.
+fn last_item() -> Item {
+    Item {
         node: 0,
         number: 2,
         stamp: at_second(5),
         body: Body::Retire,
-    };
-    feed_item(rt, alloc, writer, last, Stamp::from_bits(u64::MAX))
-}
-
-/// Feeds the write of y at 2.0.
-fn feed_second<'a, L: Ledger, R: Wait + Abort>(
-    rt: &R,
-    alloc: Global,
-    writer: Writer<'a, L>,
-) -> Writer<'a, L> {
-    let item = write(alloc, 0, 1, b'a', b'y').expect(rt, "memory");
-    feed_item(rt, alloc, writer, item, at_second(2))
+    }
 }
 
 /// The calls of three callers: those of the writer, of a node that joins, and the rounds of the reader.
+/// The last item of the writer's node raises the greatest word.
 fn call_by_three<'a, L: Ledger, R: Wait + Abort>(
     rt: &R,
     alloc: Global,
+    scene: &'a Scene<L>,
     cast: Cast<'a, L>,
-) -> Vec<Paid<L>> {
+    lists: &mut Vec<Paid<L>>,
+) {
     let Cast {
         writer,
         reading,
         mut others,
     } = cast;
-    let second = others.pop().expect(rt, "a second caller");
+    let second = last_client(rt, alloc, scene, &mut others);
     let writer = feed_first(rt, alloc, writer);
     let newcomer = join_one(rt, second);
-    let writer = feed_second(rt, alloc, writer);
+    let writer = feed_item(rt, alloc, writer, written(rt, alloc, 1, b'y'), at_second(2));
     let reading = read_as_due(rt, alloc, reading, 0, round(1, true, 1, b'x'));
     let newcomer = write_and_retire(rt, alloc, newcomer, b"");
     let reading = read_as_due(rt, alloc, reading, 4, round(2, false, 2, b'y'));
-    let writer = feed_last(rt, alloc, writer);
+    let writer = feed_item(rt, alloc, writer, last_item(), Stamp::from_bits(u64::MAX));
     let reading = read_as_due(rt, alloc, reading, 7, round(3, true, 5, b'y'));
-    let lists = vec![in alloc;
-        paid(writer.client),
-        paid(reading.client),
-        paid(newcomer.client),
-    ];
-    lists.ok().expect(rt, "memory")
+    pays(rt, lists, writer.client);
+    pays(rt, lists, reading.client);
+    pays(rt, lists, newcomer.client);
 }
 
 /// A round of this number, behind a refusal or not, in which this value is read at this second.
@@ -210,7 +193,9 @@ fn by_three<L: Ledger, R: Wait + Abort>(rt: &R, alloc: Global, blank: Blank)
     requires { (blank.name ≡ L.name) × (blank.parts ≡ L.parts) × (blank.parts ≡ 3) }
 {
     let (scene, seats) = new_scene::<L, R>(rt, alloc, blank, 3, true);
-    let lists = call_by_three(rt, alloc, take_seats(rt, alloc, &scene, seats));
+    let cast = take_seats(rt, alloc, &scene, seats);
+    let mut lists = Vec::new(alloc);
+    call_by_three(rt, alloc, &scene, cast, &mut lists);
     must_be(rt, settled_calls(scene.shared, lists), Ok(16));
 }
 

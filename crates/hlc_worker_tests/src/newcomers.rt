@@ -1,8 +1,9 @@
 //! A node that joins a store.
-use crate::clients::Client;
+use crate::clients::{Client, keep};
 use crate::writers::Writer;
 use hlc_core::{CoreReply, Item};
 use hlc_node::NodeCore;
+use hlc_server::Receipt;
 use hlc_shared_tests::makers::bytes;
 use std::alloc::Global;
 use std::process::Abort;
@@ -17,11 +18,12 @@ pub(crate) struct Newcomer<'a, L: Ledger> {
     pub(crate) node: NodeCore,
 }
 
-/// The side of a node that joined, by what the store replied.
-fn side_of(reply: &CoreReply) -> Option<NodeCore> {
-    match reply {
-        CoreReply::Joined { node, start } => Some(NodeCore::new(*node, *start)),
-        _ => None,
+/// The side of a node that joined, by what the store replied last.
+fn side_of<R: Abort>(rt: &R, receipts: &[Receipt]) -> NodeCore {
+    let receipt = receipts.last().expect(rt, "a receipt");
+    match &receipt.reply {
+        CoreReply::Joined { node, start } => NodeCore::new(*node, *start),
+        _ => panic!(rt; "no node joined"),
     }
 }
 
@@ -36,9 +38,8 @@ pub(crate) fn join_one<'a, L: Ledger, R: Wait + Abort>(
         mut receipts,
     } = client;
     let (caller, told) = scene.shared.join(rt, caller);
-    let receipt = told.ok().expect(rt, "a join");
-    let node = side_of(&receipt.reply).expect(rt, "a node that joined");
-    receipts.push(receipt).ok().expect(rt, "memory");
+    keep(rt, &mut receipts, told);
+    let node = side_of(rt, receipts.as_slice());
     let client = Client {
         scene,
         caller,
@@ -78,14 +79,4 @@ fn write_of<R: Abort>(rt: &R, alloc: Global, node: &mut NodeCore, value: u8) -> 
     let key = bytes(alloc, b'a').expect(rt, "memory");
     let value = bytes(alloc, value).expect(rt, "memory");
     node.write(2, key, Some(value)).ok().expect(rt, "a write")
-}
-
-/// Lets a node join, and feeds its writes of y and z in second 2 and its last item at 3.0.
-pub(crate) fn join_and_retire<'a, L: Ledger, R: Wait + Abort>(
-    rt: &R,
-    alloc: Global,
-    client: Client<'a, L>,
-) -> Newcomer<'a, L> {
-    let newcomer = join_one(rt, client);
-    write_and_retire(rt, alloc, newcomer, b"yz")
 }

@@ -2,7 +2,7 @@
 ghost use Rattle.std.specs.Prelude.{◌≡◌, ◌≤◌};
 
 use crate::clients::{Client, client_after};
-use crate::expected::must_be;
+use crate::expected::{answer, must_be, replied};
 use crate::scenes::Scene;
 use hlc_board::FloorPass;
 use hlc_core::{Bytes, CoreFault, CoreReply, Stamp};
@@ -90,16 +90,6 @@ pub(crate) fn keys_of<R: Abort>(rt: &R, alloc: Global, count: u8) -> Vec<Bytes> 
     keys
 }
 
-/// One round of a reader over the key.
-fn read_round<'a, L: Ledger, R: Wait + Abort>(
-    rt: &R,
-    alloc: Global,
-    reading: Reading<'a, L>,
-) -> Reading<'a, L> {
-    let keys = keys_of(rt, alloc, 1);
-    reading.reads(rt, alloc, keys.as_slice(), &FreeGate)
-}
-
 /// What a round is to come to: the id of its snapshot, whether the first stamp that it asks for is
 /// refused, since it is above the floor, the stamp where it opens, and the value that is read there.
 #[derive(Clone, Copy)]
@@ -115,22 +105,13 @@ fn has_read<R: Abort>(rt: &R, alloc: Global, receipts: &[Receipt], before: usize
     requires { before ≤ 256 }
 {
     let (id, stamp) = (due.id, due.stamp);
-    let answer = CoreReply::Answer(Some(bytes(alloc, due.value).expect(rt, "memory")));
     assert!(rt; receipts.len() == before + 3);
-    let opened = CoreReply::Opened { id, stamp };
-    must_be(rt, &receipts[before].reply, &opened);
-    must_be(rt, &receipts[before + 1].reply, &answer);
-    must_be(rt, &receipts[before + 2].reply, &CoreReply::Closed(stamp));
+    replied(rt, &receipts[before], CoreReply::Opened { id, stamp });
+    replied(rt, &receipts[before + 1], answer(rt, alloc, due.value));
+    replied(rt, &receipts[before + 2], CoreReply::Closed(stamp));
 }
 
-/// Looks whether the receipt behind so many refuses a stamp above this floor.
-fn is_above_floor<R: Abort>(rt: &R, receipts: &[Receipt], before: usize, floor: Stamp) {
-    assert!(rt; before < receipts.len(), "a receipt behind {before}");
-    let refused = CoreReply::Refused(CoreFault::AboveFloor { floor });
-    must_be(rt, &receipts[before].reply, &refused);
-}
-
-/// Makes a round that comes to what is due. So many receipts were there before.
+/// Makes a round over the key that comes to what is due. So many receipts were there before.
 pub(crate) fn read_as_due<'a, L: Ledger, R: Wait + Abort>(
     rt: &R,
     alloc: Global,
@@ -138,7 +119,8 @@ pub(crate) fn read_as_due<'a, L: Ledger, R: Wait + Abort>(
     before: u8,
     due: Round,
 ) -> Reading<'a, L> {
-    let reading = read_round(rt, alloc, reading);
+    let keys = keys_of(rt, alloc, 1);
+    let reading = reading.reads(rt, alloc, keys.as_slice(), &FreeGate);
     is_due(rt, alloc, reading.client.receipts.as_slice(), before, due);
     reading
 }
@@ -147,7 +129,9 @@ pub(crate) fn read_as_due<'a, L: Ledger, R: Wait + Abort>(
 fn is_due<R: Abort>(rt: &R, alloc: Global, receipts: &[Receipt], before: u8, due: Round) {
     let mut before = usize::from(before);
     if due.refused {
-        is_above_floor(rt, receipts, before, due.stamp);
+        let refused = CoreFault::AboveFloor { floor: due.stamp };
+        assert!(rt; before < receipts.len());
+        replied(rt, &receipts[before], CoreReply::Refused(refused));
         before += 1;
     }
     has_read(rt, alloc, receipts, before, due);

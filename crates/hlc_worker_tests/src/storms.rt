@@ -2,6 +2,7 @@
 ghost use Rattle.std.specs.Prelude.{◌≡◌, ◌+◌};
 
 use crate::expected::must_be;
+use crate::held::{HoldsAt, was_set};
 use hlc_core::{CoreFault, CoreReply};
 use hlc_server::{Caller, NotDone, Receipt, Shared};
 use hlc_shared_tests::makers::at_second;
@@ -18,19 +19,6 @@ use std::sync::ledger::{Blank, Ledger};
 use std::test::*;
 use std::thread;
 use std::thread::{JoinHandle, Scope, Threads};
-
-/// As many looks as are made before a wait is given up. Each is one load.
-const LOOKS: u64 = 4_000_000_000;
-
-/// Looks until the flag is set. False where that was given up.
-fn was_set(flag: &AtomicBool) -> bool {
-    for _ in 0..LOOKS {
-        if flag.load(Ordering::SeqCst) {
-            return true;
-        }
-    }
-    false
-}
 
 /// At one turn it sets a flag; at one it waits until another gate has set its own.
 #[derive(Drop)]
@@ -82,7 +70,7 @@ fn meeting<R: Threads + Wait + Sync>(rt: &R, alloc: Global) -> Result<StormRepor
 
 /// Looks at what that storm found: its one write, at 1.0, and the report of its node after it.
 fn has_met<R: Abort>(rt: &R, report: &StormReport) {
-    assert_eq!(rt; report.accepted.as_slice(), [2].as_slice());
+    must_be(rt, report.accepted.as_slice(), [2].as_slice());
     must_be(rt, (report.floor, report.kept), (at_second(2), 1));
     let pairs = report.pairs.as_slice();
     assert!(rt; pairs.len() == 1);
@@ -117,12 +105,12 @@ fn calls_in<L: Ledger>(lists: &Lists<L>) -> (bool, u64) {
 }
 
 /// The same of a storm whose workers are never held.
-fn calls_of_storm<L: Ledger + Send + Sync, R: Threads + Wait + Sync>(
+fn calls_of_storm<L: Ledger + Send + Sync, R: Threads + Wait + Abort + Sync>(
     rt: &R,
     alloc: Global,
     blank: Blank,
     plan: StormPlan,
-) -> Option<(bool, u64)>
+) -> (bool, u64)
     requires ledger { (blank.name ≡ L.name) × (blank.parts ≡ L.parts) }
     requires callers { blank.parts ≡ plan.nodes + plan.readers + 1 }
 {
@@ -131,45 +119,33 @@ fn calls_of_storm<L: Ledger + Send + Sync, R: Threads + Wait + Sync>(
         readers: FreeGate,
         vacuum: FreeGate,
     };
-    let (_, lists) = work::<L, _, _, _, R>(rt, alloc, blank, plan, &gates).ok()?;
-    Some(calls_in(&lists))
+    let worked = work::<L, _, _, _, R>(rt, alloc, blank, plan, &gates);
+    calls_in(&worked.ok().expect(rt, "receipts").1)
 }
 
 /// The board never runs ahead of the store: no reader that opens at the board's floor finds it above the store's.
 #[test]
-fn the_board_is_never_ahead(rt: HostRuntime) -> Result<(), Fail> {
+fn the_board_is_never_ahead(rt: HostRuntime) {
     let plan = StormPlan {
         nodes: 3,
         writes: 200,
         keys: 2,
         readers: 4,
     };
-    let seen = calls_of_storm::<Brand, _>(&rt, rt.alloc(), Blank::new(8), plan);
-    let (above, calls) = seen.ok_or("receipts")?;
+    let (above, calls) = calls_of_storm::<Brand, _>(&rt, rt.alloc(), Blank::new(8), plan);
     assert!(rt; !above);
     // 3 x 201 items, 16 vacuums, and of each round an opening or two, 2 reads and a close.
     assert!(rt; (875..=939).contains(&calls));
-    Ok(())
 }
 
-/// Answers no at one turn.
-#[derive(Drop)]
-struct HoldsAt(u64);
-
-impl Gate for HoldsAt {
-    ghost may_answer = { λ gate turn answer. Unit {0} };
-
-    fn pass<R: Wait>(&self, _rt: &R, turn: u64) -> bool {
-        turn != self.0
-    }
-}
-
-/// Why a storm of two nodes and a reader has no report whose feeders, reader and vacuum are held at these turns.
-fn fault_of_held<R: Threads + Wait + Sync>(
+/// Looks why a storm of two nodes and a reader has no report whose feeders, reader and vacuum are held at these
+/// turns.
+fn is_held<R: Threads + Wait + Abort + Sync>(
     rt: &R,
     alloc: Global,
     turns: (u64, u64, u64),
-) -> Option<StormFault> {
+    due: Option<StormFault>,
+) {
     let (feeders, readers, vacuum) = turns;
     let gates = StormGates {
         feeders: HoldsAt(feeders),
@@ -182,15 +158,16 @@ fn fault_of_held<R: Threads + Wait + Sync>(
         keys: 1,
         readers: 1,
     };
-    storm_gated(rt, alloc, plan, &gates).err()
+    must_be(rt, storm_gated(rt, alloc, plan, &gates).err(), due);
 }
 
 /// Feeders, readers and the vacuum that are held are reported as held: at their first call, at the last of a feeder and
 /// of the vacuum, and at the 48th of a reader, which makes 48 to 64. A writer whose feeder is held finds its link closed,
 /// and ends. After its last call no worker is asked.
 #[test]
-fn held_workers_are_reported(rt: HostRuntime) -> Result<(), Fail> {
+fn held_workers_are_reported(rt: HostRuntime) {
     let never = u64::MAX;
+    let held = Some(StormFault::Work(WorkEnd::Held));
     for turns in [
         (0, never, never),
         (20, never, never),
@@ -199,24 +176,23 @@ fn held_workers_are_reported(rt: HostRuntime) -> Result<(), Fail> {
         (never, never, 0),
         (never, never, 15),
     ] {
-        let fault = fault_of_held(&rt, rt.alloc(), turns);
-        assert_eq!(rt; fault, Some(StormFault::Work(WorkEnd::Held)));
+        is_held(&rt, rt.alloc(), turns, held);
     }
-    assert_eq!(rt; fault_of_held(&rt, rt.alloc(), (21, 64, 16)), None);
-    Ok(())
+    is_held(&rt, rt.alloc(), (21, 64, 16), None);
 }
 
 /// The thread of a worker.
 type Worker<L> = Option<JoinHandle<Served<L>>>;
 
-/// Starts a worker that makes no call and ends so.
-fn start<'s, E, L: Ledger + Send + Sync + 's>(
+/// Starts a worker with the last of these callers, which makes no call and ends so.
+fn start<'s, E, L: Ledger + Send + Sync + 's, R: Abort>(
+    rt: &R,
     scope: &Scope<'s, E>,
     alloc: Global,
-    caller: Option<Caller<L>>,
+    callers: &mut Vec<Caller<L>>,
     end: WorkEnd,
 ) -> Worker<L> {
-    let caller = caller?;
+    let caller = callers.pop().expect(rt, "a caller");
     let receipts = Vec::new(alloc);
     let ends = move || Served {
         caller,
@@ -226,24 +202,42 @@ fn start<'s, E, L: Ledger + Send + Sync + 's>(
     scope.spawn(ends).ok()
 }
 
-/// Starts two, the last one first, and says whether one could not be kept.
-fn start_two<'s, E, L: Ledger + Send + Sync + 's>(
+/// Starts two, the last one first.
+fn start_two<'s, E, L: Ledger + Send + Sync + 's, R: Abort>(
+    rt: &R,
     scope: &Scope<'s, E>,
     alloc: Global,
     callers: &mut Vec<Caller<L>>,
     ends: [WorkEnd; 2],
-) -> (Vec<Worker<L>>, bool) {
-    let mut workers = Vec::new(alloc);
-    let mut lacks_memory = false;
-    for end in [ends[1], ends[0]] {
-        let worker = start(scope, alloc, callers.pop(), end);
-        lacks_memory = workers.push(worker).is_err() || lacks_memory;
+) -> Vec<Worker<L>> {
+    let last = start(rt, scope, alloc, callers, ends[1]);
+    let first = start(rt, scope, alloc, callers, ends[0]);
+    vec![in alloc; last, first].ok().expect(rt, "memory")
+}
+
+/// Starts two feeders, two readers and a vacuum that end so, by caller.
+fn start_all<'s, E, L: Ledger + Send + Sync + 's, R: Abort>(
+    rt: &R,
+    scope: &Scope<'s, E>,
+    alloc: Global,
+    callers: &mut Vec<Caller<L>>,
+    ends: [WorkEnd; 5],
+    lacks_memory: bool,
+) -> Started<L> {
+    let vacuum = start(rt, scope, alloc, callers, ends[4]);
+    let readers = start_two(rt, scope, alloc, callers, [ends[2], ends[3]]);
+    let feeders = start_two(rt, scope, alloc, callers, [ends[0], ends[1]]);
+    Started {
+        writers: Vec::new(alloc),
+        feeders,
+        readers,
+        vacuum,
+        lacks_memory,
     }
-    (workers, lacks_memory)
 }
 
 /// Joins two feeders, two readers and a vacuum that end so, by caller.
-fn join_ended<L: Ledger + Send + Sync, R: Threads + Wait + Sync>(
+fn join_ended<L: Ledger + Send + Sync, R: Threads + Wait + Abort + Sync>(
     rt: &R,
     alloc: Global,
     callers: &mut Vec<Caller<L>>,
@@ -251,22 +245,21 @@ fn join_ended<L: Ledger + Send + Sync, R: Threads + Wait + Sync>(
     lacks_memory: bool,
 ) -> Result<(), StormFault> {
     thread::scope(thread::scope_env(), rt, |scope| -> Result<(), StormFault> {
-        let vacuum = start(scope, alloc, callers.pop(), ends[4]);
-        let (readers, lacks_reader) = start_two(scope, alloc, callers, [ends[2], ends[3]]);
-        let (feeders, lacks_feeder) = start_two(scope, alloc, callers, [ends[0], ends[1]]);
-        let started = Started {
-            writers: Vec::new(alloc),
-            feeders,
-            readers,
-            vacuum,
-            lacks_memory: lacks_memory || lacks_reader || lacks_feeder,
-        };
-        join_all(rt, alloc, started).map(|_| ())
+        let started = start_all(rt, scope, alloc, callers, ends, lacks_memory);
+        fault_of(join_all(rt, alloc, started))
     })
 }
 
+/// The fault alone.
+fn fault_of<T: Drop>(joined: Result<T, StormFault>) -> Result<(), StormFault> {
+    match joined {
+        Ok(_) => Ok(()),
+        Err(fault) => Err(fault),
+    }
+}
+
 /// The same by callers of a new store.
-fn join_new<L: Ledger + Send + Sync, R: Threads + Wait + Sync>(
+fn join_new<L: Ledger + Send + Sync, R: Threads + Wait + Abort + Sync>(
     rt: &R,
     alloc: Global,
     blank: Blank,
@@ -276,26 +269,29 @@ fn join_new<L: Ledger + Send + Sync, R: Threads + Wait + Sync>(
     requires ledger { (blank.name ≡ L.name) × (blank.parts ≡ L.parts) }
     requires callers { blank.parts ≡ 5 }
 {
-    let Ok((_, mut callers)) = Shared::<L>::new(alloc, blank, 2, 5, false) else {
-        return Err(StormFault::NoMemory);
-    };
-    join_ended(rt, alloc, &mut callers, ends, lacks_memory)
+    let mut made = Shared::<L>::new(alloc, blank, 2, 5, false).expect(rt, "a store");
+    join_ended(rt, alloc, &mut made.1, ends, lacks_memory)
 }
 
-/// What the join of workers that end so gives, with memory or without.
-fn end_of<R: Threads + Wait + Sync>(
+/// Looks what the join of workers that end so gives, with memory or without.
+fn is_joined<R: Threads + Wait + Abort + Sync>(
     rt: &R,
     alloc: Global,
     ends: [WorkEnd; 5],
     lacks_memory: bool,
-) -> Result<(), StormFault> {
-    join_new::<Brand, R>(rt, alloc, Blank::new(5), ends, lacks_memory)
+    due: Result<(), StormFault>,
+) {
+    must_be(
+        rt,
+        join_new::<Brand, R>(rt, alloc, Blank::new(5), ends, lacks_memory),
+        due,
+    );
 }
 
 /// Of several workers that are not done the first is reported: feeders by node, then readers, then the vacuum. Out of
 /// memory comes before all of them.
 #[test]
-fn the_first_worker_is_reported(rt: HostRuntime) -> Result<(), Fail> {
+fn the_first_worker_is_reported(rt: HostRuntime) {
     let done = WorkEnd::Done;
     let held = WorkEnd::Held;
     let closed = WorkEnd::Closed;
@@ -307,12 +303,9 @@ fn the_first_worker_is_reported(rt: HostRuntime) -> Result<(), Fail> {
         ([done, held, spent, closed, closed], held),
         ([closed, held, spent, done, held], closed),
     ] {
-        let end = end_of(&rt, rt.alloc(), ends, false);
-        assert_eq!(rt; end, Err(StormFault::Work(first)));
+        is_joined(&rt, rt.alloc(), ends, false, Err(StormFault::Work(first)));
     }
-    assert_eq!(rt; end_of(&rt, rt.alloc(), [done; 5], false), Ok(()));
+    is_joined(&rt, rt.alloc(), [done; 5], false, Ok(()));
     let ends = [held, done, done, done, done];
-    let end = end_of(&rt, rt.alloc(), ends, true);
-    assert_eq!(rt; end, Err(StormFault::NoMemory));
-    Ok(())
+    is_joined(&rt, rt.alloc(), ends, true, Err(StormFault::NoMemory));
 }

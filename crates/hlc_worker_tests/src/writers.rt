@@ -28,19 +28,31 @@ pub fn full_link<R: Wait + Abort>(
 ) -> LinkReceiver
     ensures { result ≡ received [] false }
 {
-    let (sender, receiver) = link(rt, alloc, 8).expect(rt, "a link");
-    fill(rt, sender, items, ends);
+    let (mut sender, receiver) = link(rt, alloc, 8).expect(rt, "a link");
+    fill(rt, &mut sender, items);
+    if ends {
+        must_be(rt, sender.finish(rt).is_ok(), true);
+    }
     receiver
 }
 
-/// Puts these items into a link, and behind them the end where it ends.
-fn fill<R: Wait + Abort>(rt: &R, sender: LinkSender, items: Vec<Item>, ends: bool) {
-    let mut sender = sender;
+/// Puts these items into a link.
+fn fill<R: Wait + Abort>(rt: &R, sender: &mut LinkSender, items: Vec<Item>) {
     for item in items {
-        assert!(rt; sender.put(rt, item).is_ok());
+        puts(rt, sender, item);
     }
-    if ends {
-        assert!(rt; sender.finish(rt).is_ok());
+}
+
+/// Puts an item into a link.
+fn puts<R: Wait + Abort>(rt: &R, sender: &mut LinkSender, item: Item) {
+    assert!(rt; sender.put(rt, item).is_ok());
+}
+
+/// The word that a feeder raised on the board, where there is one.
+pub(crate) fn raised_by(feeder: &Option<Feeder>) -> Option<Stamp> {
+    match feeder {
+        Some(feeder) => Some(feeder.raised()),
+        None => None,
     }
 }
 
@@ -61,16 +73,12 @@ fn writer_after<'a, L: Ledger, R: Abort>(
 ) -> Writer<'a, L>
     requires { IfSome fed.feeder (λ feeder. feeder.board ≡ scene.now.board) }
 {
-    let Fed {
-        caller,
-        feeder,
-        receipts: more,
-        end,
-        ..
-    } = fed;
-    must_be(rt, end, WorkEnd::Done);
-    let client = client_after(rt, scene, receipts, caller, more);
-    Writer { client, feeder }
+    must_be(rt, fed.end, WorkEnd::Done);
+    let client = client_after(rt, scene, receipts, fed.caller, fed.receipts);
+    Writer {
+        client,
+        feeder: fed.feeder,
+    }
 }
 
 impl<'a, L: Ledger> Writer<'a, L> {
@@ -107,14 +115,6 @@ impl<'a, L: Ledger> Writer<'a, L> {
         );
         writer_after(rt, scene, receipts, fed)
     }
-
-    /// The word that was raised on the board.
-    pub(crate) fn raised(&self) -> Option<Stamp> {
-        match &self.feeder {
-            Some(feeder) => Some(feeder.raised()),
-            None => None,
-        }
-    }
 }
 
 /// Feeds one item, and looks whether this word was raised on the board.
@@ -125,10 +125,19 @@ pub(crate) fn feed_item<'a, L: Ledger, R: Wait + Abort>(
     item: Item,
     word: Stamp,
 ) -> Writer<'a, L> {
-    let items = vec![in alloc; item].ok().expect(rt, "memory");
-    let writer = writer.feeds(rt, alloc, items);
-    must_be(rt, writer.raised(), Some(word));
+    let writer = writer.feeds(rt, alloc, list_of_one(rt, alloc, item));
+    must_be(rt, raised_by(&writer.feeder), Some(word));
     writer
+}
+
+/// A list of one item.
+fn list_of_one<R: Abort>(rt: &R, alloc: Global, item: Item) -> Vec<Item> {
+    vec![in alloc; item].ok().expect(rt, "memory")
+}
+
+/// The write of node 0 of this number, a second later for each, at key `a`.
+pub(crate) fn written<R: Abort>(rt: &R, alloc: Global, number: u8, value: u8) -> Item {
+    write(alloc, 0, number, b'a', value).expect(rt, "memory")
 }
 
 /// Feeds the write of x at 1.0, and looks whether that was raised.
@@ -137,6 +146,5 @@ pub(crate) fn feed_first<'a, L: Ledger, R: Wait + Abort>(
     alloc: Global,
     writer: Writer<'a, L>,
 ) -> Writer<'a, L> {
-    let item = write(alloc, 0, 0, b'a', b'x').expect(rt, "memory");
-    feed_item(rt, alloc, writer, item, at_second(1))
+    feed_item(rt, alloc, writer, written(rt, alloc, 0, b'x'), at_second(1))
 }
