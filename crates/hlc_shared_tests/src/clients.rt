@@ -1,6 +1,7 @@
 //! A caller of a shared store, with its receipts.
+use crate::expected::must_be;
 use hlc_core::{CoreEvent, CoreReply};
-use hlc_server::{Caller, NotDone, Receipt, Shared};
+use hlc_server::{Caller, NotDone, Receipt, SettleFault, Shared};
 use std::alloc::Global;
 use std::process::Abort;
 use std::sync::Wait;
@@ -59,12 +60,10 @@ impl<L: Ledger> Client<L> {
         Client { caller, receipts }
     }
 
-    /// Whether this is the last reply that was told.
-    pub(crate) fn was_told(&self, due: &CoreReply) -> bool {
-        match self.receipts.last() {
-            Some(receipt) => receipt.reply == *due,
-            None => false,
-        }
+    /// Looks whether this is the last reply that was told.
+    pub(crate) fn was_told<R: Abort>(&self, rt: &R, due: CoreReply) {
+        let receipt = self.receipts.last().expect(rt, "a call that was made");
+        must_be(rt, &receipt.reply, &due);
     }
 
     /// The id of the snapshot that the last reply tells, 0 where it tells none.
@@ -86,12 +85,23 @@ fn keep<R: Abort>(rt: &R, receipts: &mut Vec<Receipt>, told: Option<Receipt>) {
     }
 }
 
+/// What a caller hands in.
+pub(crate) type Paid<L> = (Caller<L>, Vec<Receipt>);
+
+/// How many calls settle.
+pub(crate) fn settled_calls<L: Ledger>(
+    shared: Shared<L>,
+    lists: Vec<Paid<L>>,
+) -> Result<u64, SettleFault> {
+    shared.settle(lists).map(|settled| settled.entries)
+}
+
 /// The lists of these clients, which are to settle.
 pub(crate) fn lists_of<L: Ledger, R: Abort>(
     rt: &R,
     alloc: Global,
     clients: Vec<Client<L>>,
-) -> Vec<(Caller<L>, Vec<Receipt>)> {
+) -> Vec<Paid<L>> {
     let mut lists = Vec::new(alloc);
     for client in clients {
         let Client { caller, receipts } = client;

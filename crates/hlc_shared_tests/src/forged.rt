@@ -1,7 +1,7 @@
 //! Receipts that are handed in otherwise than they were given.
 ghost use Rattle.std.specs.Prelude.{◌≡◌};
 
-use crate::clients::Client;
+use crate::clients::{Client, Paid, lists_of, settled_calls};
 use crate::expected::must_be;
 use crate::makers::write;
 use hlc_core::{CoreEvent, CoreReply};
@@ -28,59 +28,37 @@ enum Forged {
     FirstMissing,
 }
 
-/// The caller with the receipt of its one call, which asks for this.
-fn made<L: Ledger, R: Wait + Threads + Abort + Sync>(
+/// The next caller after its one call, which asks for this.
+fn calls<L: Ledger, R: Wait + Threads + Abort + Sync>(
     rt: &R,
     alloc: Global,
     shared: &Shared<L>,
-    caller: Caller<L>,
+    callers: &mut Vec<Caller<L>>,
     event: CoreEvent,
-) -> (Caller<L>, Receipt) {
-    let Client {
-        caller,
-        mut receipts,
-    } = Client::new(alloc, caller).asks(rt, shared, event);
-    let receipt = receipts.pop().expect(rt, "a call that was made");
-    (caller, receipt)
+) -> Client<L> {
+    let caller = callers.pop().expect(rt, "two callers");
+    Client::new(alloc, caller).asks(rt, shared, event)
 }
 
-/// What a caller hands in.
-type Paid<L> = (Caller<L>, Vec<Receipt>);
-
-/// The two callers with what each hands in.
-fn lists<L: Ledger, R: Abort>(
-    rt: &R,
-    alloc: Global,
-    first: Paid<L>,
-    second: Paid<L>,
-) -> Vec<Paid<L>> {
-    let mut lists = Vec::new(alloc);
-    lists.push(first).ok().expect(rt, "memory");
-    lists.push(second).ok().expect(rt, "memory");
-    lists
+/// Hands in the first item of the node.
+fn accepts<R: Abort>(rt: &R, alloc: Global) -> CoreEvent {
+    CoreEvent::Accept(write(alloc, 0, 0, b'k', 0).expect(rt, "memory"))
 }
 
-/// How many calls settle.
-fn settled<L: Ledger>(shared: Shared<L>, lists: Vec<Paid<L>>) -> Result<u64, SettleFault> {
-    shared.settle(lists).map(|settled| settled.entries)
-}
-
-/// The two callers make one call each, and hand in their receipts.
+/// The two callers make one call each, the first one before the other, and hand in their receipts.
 fn called<L: Ledger, R: Wait + Threads + Abort + Sync>(
     rt: &R,
     alloc: Global,
     shared: &Shared<L>,
-    callers: Vec<Caller<L>>,
+    callers: &mut Vec<Caller<L>>,
     forged: Forged,
 ) -> Vec<Paid<L>> {
-    let mut callers = callers;
-    let second = callers.pop().expect(rt, "two callers");
-    let first = callers.pop().expect(rt, "two callers");
-    let item = write(alloc, 0, 0, b'k', 0).expect(rt, "memory");
-    let (first, a) = made(rt, alloc, shared, first, CoreEvent::Accept(item));
-    let (second, b) = made(rt, alloc, shared, second, CoreEvent::Vacuum);
-    let (ones, others) = handed_in(rt, alloc, forged, a, b);
-    lists(rt, alloc, (first, ones), (second, others))
+    callers.reverse();
+    let mut first = calls(rt, alloc, shared, callers, accepts(rt, alloc));
+    let mut second = calls(rt, alloc, shared, callers, CoreEvent::Vacuum);
+    forge(rt, forged, &mut first.receipts, &mut second.receipts);
+    let clients = vec![in alloc; first, second];
+    lists_of(rt, alloc, clients.ok().expect(rt, "memory"))
 }
 
 /// What settles of the calls of two callers whose receipts are forged so.
@@ -93,76 +71,40 @@ fn by_two<L: Ledger, R: Wait + Threads + Abort + Sync>(
 ) -> Result<u64, SettleFault>
     requires { (blank.name ≡ L.name) × (blank.parts ≡ L.parts) × (blank.parts ≡ 2) }
 {
-    let (shared, callers) = Shared::<L>::new(alloc, blank, 1, 2, audit).expect(rt, "a store");
-    let lists = called(rt, alloc, &shared, callers, forged);
-    settled(shared, lists)
+    let (shared, mut callers) = Shared::<L>::new(alloc, blank, 1, 2, audit).expect(rt, "a store");
+    let lists = called(rt, alloc, &shared, &mut callers, forged);
+    settled_calls(shared, lists)
 }
 
-/// The two receipts as the two callers hand them in.
-fn handed_in<R: Abort>(
-    rt: &R,
-    alloc: Global,
-    forged: Forged,
-    a: Receipt,
-    b: Receipt,
-) -> (Vec<Receipt>, Vec<Receipt>) {
-    let mut ones = Vec::new(alloc);
-    let mut others = Vec::new(alloc);
-    hand_in_first(rt, &mut ones, forged, a);
+/// Changes what the two callers hand in, a receipt each.
+fn forge<R: Abort>(rt: &R, forged: Forged, ones: &mut Vec<Receipt>, others: &mut Vec<Receipt>) {
     match forged {
-        Forged::SecondMissing => drop(b),
-        Forged::BothByFirst => put(rt, &mut ones, b),
-        _ => put(rt, &mut others, changed(forged, b)),
-    }
-    (ones, others)
-}
-
-/// The receipt of the first caller goes into its list, or twice, or not.
-fn hand_in_first<R: Abort>(rt: &R, ones: &mut Vec<Receipt>, forged: Forged, a: Receipt) {
-    match forged {
-        Forged::FirstMissing => drop(a),
-        Forged::FirstTwice => {
-            put(rt, ones, a.clone().expect(rt, "memory"));
-            put(rt, ones, a);
-        }
-        _ => put(rt, ones, a),
+        Forged::FirstMissing => ones.clear(),
+        Forged::SecondMissing => others.clear(),
+        Forged::FirstTwice => double(rt, ones),
+        Forged::BothByFirst => ones.append(others).expect(rt, "memory"),
+        _ => change(rt, others, forged),
     }
 }
 
-/// Puts a receipt behind a list.
-fn put<R: Abort>(rt: &R, receipts: &mut Vec<Receipt>, receipt: Receipt) {
-    receipts.push(receipt).ok().expect(rt, "memory");
+/// The one receipt is handed in twice.
+fn double<R: Abort>(rt: &R, receipts: &mut Vec<Receipt>) {
+    assert!(rt; receipts.len() == 1);
+    let again = receipts[0].clone().expect(rt, "memory");
+    receipts.push(again).ok().expect(rt, "memory");
 }
 
-/// The receipt with one other field, where that is how it is forged.
-fn changed(forged: Forged, receipt: Receipt) -> Receipt {
+/// Changes one field of the one receipt, where that is how it is forged.
+fn change<R: Abort>(rt: &R, receipts: &mut Vec<Receipt>, forged: Forged) {
+    assert!(rt; receipts.len() == 1);
+    let receipt = &mut receipts[0];
     match forged {
-        Forged::OtherReply => with_reply(receipt, CoreReply::Answer(None)),
-        Forged::OtherNumber => with_number(receipt, 2),
-        Forged::OtherEvent => with_event(receipt, CoreEvent::OpenFloor),
-        Forged::OtherCaller => with_caller(receipt, 0),
-        _ => receipt,
+        Forged::OtherReply => receipt.reply = CoreReply::Answer(None),
+        Forged::OtherNumber => receipt.number = 2,
+        Forged::OtherEvent => receipt.event = CoreEvent::OpenFloor,
+        Forged::OtherCaller => receipt.caller = 0,
+        _ => {}
     }
-}
-
-/// The receipt with this reply.
-fn with_reply(receipt: Receipt, reply: CoreReply) -> Receipt {
-    Receipt { reply, ..receipt }
-}
-
-/// The receipt with this number.
-fn with_number(receipt: Receipt, number: u64) -> Receipt {
-    Receipt { number, ..receipt }
-}
-
-/// The receipt with this event.
-fn with_event(receipt: Receipt, event: CoreEvent) -> Receipt {
-    Receipt { event, ..receipt }
-}
-
-/// The receipt of this caller.
-fn with_caller(receipt: Receipt, caller: u16) -> Receipt {
-    Receipt { caller, ..receipt }
 }
 
 #[test]

@@ -1,11 +1,11 @@
 //! Nodes that join a shared store.
 ghost use Rattle.std.specs.Prelude.{◌≡◌};
 
-use crate::clients::{Client, lists_of};
+use crate::clients::{Client, Paid, lists_of};
 use crate::expected::must_be;
 use crate::makers::write;
 use hlc_core::{CoreEvent, CoreFault, CoreReply, NoNode, Stamp};
-use hlc_server::{Caller, Core, Receipt, Shared};
+use hlc_server::{Caller, Core, Settled, Shared};
 use std::alloc::Global;
 use std::marker::Brand;
 use std::process::Abort;
@@ -13,11 +13,6 @@ use std::sync::Wait;
 use std::sync::ledger::{Blank, Ledger};
 use std::test::*;
 use std::thread::Threads;
-
-/// Looks whether this was replied.
-fn was_told<L: Ledger, R: Abort>(rt: &R, client: &Client<L>, due: &CoreReply) {
-    assert!(rt; client.was_told(due), "{due:?} was due");
-}
 
 /// A node joins: it has this number, and its clock starts at this stamp.
 fn joins<L: Ledger, R: Wait + Threads + Abort + Sync>(
@@ -29,7 +24,7 @@ fn joins<L: Ledger, R: Wait + Threads + Abort + Sync>(
 ) -> Client<L> {
     let client = client.asks(rt, shared, CoreEvent::Join);
     let start = Stamp::from_bits(start);
-    was_told(rt, &client, &CoreReply::Joined { node, start });
+    client.was_told(rt, CoreReply::Joined { node, start });
     client
 }
 
@@ -55,7 +50,7 @@ fn calls<L: Ledger, R: Wait + Threads + Abort + Sync>(
 ) -> Client<L> {
     let client = joins(rt, shared, client, 1, 0);
     let client = writes(rt, alloc, shared, client, 2);
-    was_told(rt, &client, &CoreReply::Refused(CoreFault::NoNode));
+    client.was_told(rt, CoreReply::Refused(CoreFault::NoNode));
     let client = writes(rt, alloc, shared, client, 1);
     let client = writes(rt, alloc, shared, client, 0);
     joins(rt, shared, client, 2, 65_536)
@@ -68,9 +63,8 @@ fn has_counts<R: Abort>(rt: &R, core: &Core) {
     must_be(rt, core.count(3), Err(NoNode));
 }
 
-/// The receipts of five calls settle.
-fn settles<L: Ledger, R: Abort>(rt: &R, shared: Shared<L>, lists: Vec<(Caller<L>, Vec<Receipt>)>) {
-    let settled = shared.settle(lists).ok().expect(rt, "receipts that settle");
+/// Looks whether five calls settled, and at the core that they left.
+fn has_settled<R: Abort>(rt: &R, settled: &Settled) {
     must_be(rt, settled.entries, 5);
     has_counts(rt, &settled.core);
 }
@@ -81,13 +75,11 @@ fn called<L: Ledger, R: Wait + Threads + Abort + Sync>(
     alloc: Global,
     shared: &Shared<L>,
     callers: Vec<Caller<L>>,
-) -> Vec<(Caller<L>, Vec<Receipt>)> {
-    let mut clients = Vec::new(alloc);
-    for caller in callers {
-        let client = calls(rt, alloc, shared, Client::new(alloc, caller));
-        clients.push(client).ok().expect(rt, "memory");
-    }
-    lists_of(rt, alloc, clients)
+) -> Vec<Paid<L>> {
+    let mut callers = callers;
+    let client = Client::new(alloc, callers.pop().expect(rt, "a caller"));
+    let clients = vec![in alloc; calls(rt, alloc, shared, client)];
+    lists_of(rt, alloc, clients.ok().expect(rt, "memory"))
 }
 
 /// A store of one node, which a caller lets others join. Its receipts settle.
@@ -96,7 +88,8 @@ fn by_one<L: Ledger, R: Wait + Threads + Abort + Sync>(rt: &R, alloc: Global, bl
 {
     let (shared, callers) = Shared::<L>::new(alloc, blank, 1, 1, true).expect(rt, "a store");
     let lists = called(rt, alloc, &shared, callers);
-    settles(rt, shared, lists);
+    let settled = shared.settle(lists).ok().expect(rt, "receipts that settle");
+    has_settled(rt, &settled);
 }
 
 #[test]

@@ -24,7 +24,7 @@ fn put_three<R: Wait>(rt: &R, mut sender: LinkSender) -> Option<u64> {
 }
 
 /// The number of an item that was taken; 100 for the end, 200 where nothing was taken.
-fn number_of(parcel: &Result<Parcel, LinkClosed>) -> u64 {
+fn number_of(parcel: Result<Parcel, LinkClosed>) -> u64 {
     match parcel {
         Ok(Parcel::Item(item)) => item.number,
         Ok(Parcel::End) => 100,
@@ -36,7 +36,7 @@ fn number_of(parcel: &Result<Parcel, LinkClosed>) -> u64 {
 fn take_five<R: Wait>(rt: &R, mut receiver: LinkReceiver) -> [u64; 5] {
     let mut numbers = [0; 5];
     for i in 0..5 {
-        numbers[i] = number_of(&receiver.take(rt));
+        numbers[i] = number_of(receiver.take(rt));
     }
     numbers
 }
@@ -72,5 +72,5 @@ fn a_receiver_that_is_gone(rt: HostRuntime) {
 fn a_sender_that_is_gone(rt: HostRuntime) {
     let (sender, mut receiver) = link(&rt, rt.alloc(), 1).expect(&rt, "a link");
     drop(sender);
-    must_be(&rt, number_of(&receiver.take(&rt)), 200);
+    must_be(&rt, number_of(receiver.take(&rt)), 200);
 }

@@ -1,11 +1,11 @@
 //! Threads that share one store.
 ghost use Rattle.std.specs.Prelude.{◌≡◌};
 
-use crate::clients::{Client, lists_of};
+use crate::clients::{Client, lists_of, settled_calls};
 use crate::expected::must_be;
 use crate::makers::{bytes, write};
-use hlc_core::{CoreEvent, CoreReply, Stamp};
-use hlc_server::{Caller, Receipt, Shared};
+use hlc_core::{Bytes, CoreEvent, CoreReply, Stamp};
+use hlc_server::{Caller, Shared};
 use std::alloc::Global;
 use std::marker::Brand;
 use std::process::Abort;
@@ -35,20 +35,20 @@ fn shows<L: Ledger, R: Wait + Threads + Abort + Sync>(
     id: u64,
     number: u8,
 ) -> Client<L> {
-    let key = bytes(alloc, b'k').expect(rt, "memory");
+    let key = letter(rt, alloc, b'k');
     let client = client.asks(rt, shared, CoreEvent::Read { id, key });
-    let value = bytes(alloc, number).expect(rt, "memory");
-    was_told(rt, &client, &CoreReply::Answer(Some(value)));
+    client.was_told(rt, CoreReply::Answer(Some(letter(rt, alloc, number))));
     client
 }
 
-/// Looks whether this was replied.
-fn was_told<L: Ledger, R: Abort>(rt: &R, client: &Client<L>, due: &CoreReply) {
-    assert!(rt;
-        client.was_told(due),
-        "caller {} was due {due:?}",
-        client.caller.number()
-    );
+/// A key or a value of one byte.
+fn letter<R: Abort>(rt: &R, alloc: Global, byte: u8) -> Bytes {
+    bytes(alloc, byte).expect(rt, "memory")
+}
+
+/// The write of a node of its number, at the key `k`.
+fn written<R: Abort>(rt: &R, alloc: Global, node: u16, number: u8) -> CoreEvent {
+    CoreEvent::Accept(write(alloc, node, number, b'k', number).expect(rt, "memory"))
 }
 
 /// One round of the node: it writes, opens a snapshot at the floor, reads its write there, lists, and
@@ -60,8 +60,7 @@ fn writes_once<L: Ledger, R: Wait + Threads + Abort + Sync>(
     client: Client<L>,
     number: u8,
 ) -> Client<L> {
-    let item = write(alloc, 0, number, b'k', number).expect(rt, "memory");
-    let client = client.asks(rt, shared, CoreEvent::Accept(item));
+    let client = client.asks(rt, shared, written(rt, alloc, 0, number));
     let client = client.asks(rt, shared, CoreEvent::OpenFloor);
     let id = client.opened();
     let client = shows(rt, alloc, shared, client, id, number);
@@ -79,8 +78,7 @@ fn looks_once<L: Ledger, R: Wait + Threads + Abort + Sync>(
     let client = client.asks(rt, shared, CoreEvent::OpenAt(Stamp::from_bits(0)));
     let id = client.opened();
     let client = lists_and_closes(rt, shared, client, id);
-    let item = write(alloc, 7, number, b'k', number).expect(rt, "memory");
-    let client = client.asks(rt, shared, CoreEvent::Accept(item));
+    let client = client.asks(rt, shared, written(rt, alloc, 7, number));
     client.asks(rt, shared, CoreEvent::Vacuum)
 }
 
@@ -121,14 +119,8 @@ fn are_done<L: Ledger, R: Abort>(rt: &R, clients: &[Client<L>]) {
     }
 }
 
-/// The receipts of 200 calls settle.
-fn settles<L: Ledger, R: Abort>(rt: &R, shared: Shared<L>, lists: Vec<(Caller<L>, Vec<Receipt>)>) {
-    let settled = shared.settle(lists).map(|settled| settled.entries);
-    must_be(rt, settled, Ok(200));
-}
-
-/// Four threads make 50 calls each, of all kinds but a join. Their receipts settle, and each read after
-/// a thread's own write shows that write.
+/// Four threads make 50 calls each, of all kinds but a join. The receipts of these 200 calls settle, and
+/// each read after a thread's own write shows that write.
 fn by_four<L: Ledger + Send + Sync, R: Threads + Wait + Abort + Sync>(
     rt: &R,
     alloc: Global,
@@ -139,7 +131,11 @@ fn by_four<L: Ledger + Send + Sync, R: Threads + Wait + Abort + Sync>(
     let (shared, callers) = Shared::<L>::new(alloc, blank, 1, 4, true).expect(rt, "a store");
     let clients = all_work(rt, alloc, &shared, callers);
     are_done(rt, clients.as_slice());
-    settles(rt, shared, lists_of(rt, alloc, clients));
+    must_be(
+        rt,
+        settled_calls(shared, lists_of(rt, alloc, clients)),
+        Ok(200),
+    );
 }
 
 #[test]
