@@ -138,8 +138,8 @@ fn the_board_is_never_ahead(rt: HostRuntime) {
     assert!(rt; (875..=939).contains(&calls));
 }
 
-/// Looks why a storm of two nodes and a reader has no report whose feeders, reader and vacuum are held at these
-/// turns.
+/// Looks why a storm of two nodes and a reader has no report, where feeders, reader and vacuum are held at
+/// these turns.
 fn is_held<R: Threads + Wait + Abort + Sync>(
     rt: &R,
     alloc: Global,
@@ -162,8 +162,8 @@ fn is_held<R: Threads + Wait + Abort + Sync>(
 }
 
 /// Feeders, readers and the vacuum that are held are reported as held: at their first call, at the last of a feeder and
-/// of the vacuum, and at the 48th of a reader, which makes 48 to 64. A writer whose feeder is held finds its link closed,
-/// and ends. After its last call no worker is asked.
+/// of the vacuum, and at the 48th of a reader, which makes 48 to 64. A writer whose feeder is held finds its link
+/// closed, and ends. After its last call no worker is asked.
 #[test]
 fn held_workers_are_reported(rt: HostRuntime) {
     let never = u64::MAX;
