@@ -87,12 +87,9 @@ fn callers(rt: HostRuntime) {
     let alloc = rt.alloc();
     assert!(rt; is_bad(b"write 0") && !is_bad(b"open floor"));
     let mut writer = Watched::new(Taking::whole(alloc));
-    must_be(&rt, echo(&mut writer, b"1024"), Some(1024));
-    must_be(
-        &rt,
-        writer.into_inner().taken.as_slice(),
-        b"1024".as_slice(),
-    );
+    assert_eq!(rt; echo(&mut writer, b"1024"), Some(1024));
+    let writer = writer.into_inner();
+    assert_eq!(rt; writer.taken.as_slice(), b"1024".as_slice());
 }
 
 /// The write of x at key `a`, with stamp 1.0, is accepted.
@@ -127,6 +124,7 @@ fn a_vacuum_is_certified_in_text(rt: HostRuntime) {
     accepts_one(&rt, alloc, &mut core);
     let mut writer = Watched::new(Taking::whole(alloc));
     certifies_one(&rt, &mut core, &mut writer);
-    must_be(&rt, writer.into_inner().taken.as_slice(), CERTIFICATE);
+    let writer = writer.into_inner();
+    assert_eq!(rt; writer.taken.as_slice(), CERTIFICATE);
     checks_one(&rt, alloc);
 }

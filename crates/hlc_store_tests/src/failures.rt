@@ -1,5 +1,4 @@
 //! Readers and writers that fail once, also after a storm, the longest input, and the blocks of what is written.
-use crate::expected::must_be;
 use crate::items::{bytes, stamp};
 use crate::scripts::{CERTIFICATE, REPLIES, SCRIPT};
 use crate::streams::{Calls, Fault, Giving, Taking};
@@ -95,37 +94,24 @@ impl Write for Counting {
 /// Each read fails once. There is a read for each piece, and one that finds the end.
 fn reads_fail<H: AllocGlobal + Abort>(rt: &H, case: Case, kind: ErrorKind, most: usize) {
     let (input, output) = case;
-    let reads = input.text().len().div_ceil(most.max(1)) as u64 + 1;
+    let text = input.text();
+    let reads = text.len().div_ceil(most.max(1)) as u64 + 1;
     for at in 1..reads + 2 {
-        let due = if at <= reads {
+        let reader = Giving {
+            text,
+            most,
+            kind,
+            calls: Calls::new(at),
+        };
+        let (status, reader, writer) = run(rt.alloc(), input, reader, Taking::whole(rt.alloc()));
+        let seen = (status, writer.taken.as_slice(), reader.calls.made);
+        let expected = if at <= reads {
             (2u8, b"refused 18\n".as_slice(), at)
         } else {
             (0u8, output, reads)
         };
-        read_fails(rt, input, kind, (most, at), due);
+        assert_eq!(rt; seen, expected, "{input:?} {most} {at}");
     }
-}
-
-/// The read of one number fails, of reads of so many bytes: the exit status, what is written, and the
-/// number of reads.
-fn read_fails<H: AllocGlobal + Abort>(
-    rt: &H,
-    input: Input,
-    kind: ErrorKind,
-    call: (usize, u64),
-    due: (u8, &[u8], u64),
-) {
-    let (text, most) = (input.text(), call.0);
-    let calls = Calls::new(call.1);
-    let reader = Giving {
-        text,
-        most,
-        kind,
-        calls,
-    };
-    let (status, reader, writer) = run(rt.alloc(), input, reader, Taking::whole(rt.alloc()));
-    let seen = (status, writer.taken.as_slice(), reader.calls.made);
-    must_be(rt, (text, call, seen), (text, call, due));
 }
 
 /// What is written, by a run or after a storm.
@@ -159,36 +145,22 @@ fn writes_fail<W: Written, H: AllocGlobal + Abort>(
 ) {
     let writes = output.len().div_ceil(most.max(1)) as u64;
     for at in 1..writes + 2 {
+        let writer = Taking {
+            taken: Vec::new(rt.alloc()),
+            most,
+            fault,
+            calls: Calls::new(at),
+        };
+        let (status, writer) = written.write(rt.alloc(), writer);
         let before = output.len().min(most.saturating_mul(at as usize - 1));
-        let due = if at <= writes {
+        let seen = (status, writer.taken.as_slice(), writer.calls.made);
+        let expected = if at <= writes {
             (3u8, &output[..before], at)
         } else {
             (0u8, output, writes)
         };
-        write_fails(rt, written, fault, (most, at), due);
+        assert_eq!(rt; seen, expected, "{output:?} {fault:?} {most} {at}");
     }
-}
-
-/// The write of one number fails, of writes of so many bytes: the exit status, what is taken, and the
-/// number of writes.
-fn write_fails<W: Written, H: AllocGlobal + Abort>(
-    rt: &H,
-    written: &W,
-    fault: Fault,
-    call: (usize, u64),
-    due: (u8, &[u8], u64),
-) {
-    let (most, calls) = (call.0, Calls::new(call.1));
-    let taken = Vec::new(rt.alloc());
-    let writer = Taking {
-        taken,
-        most,
-        fault,
-        calls,
-    };
-    let (status, writer) = written.write(rt.alloc(), writer);
-    let seen = (status, writer.taken.as_slice(), writer.calls.made);
-    must_be(rt, (fault, call, seen), (fault, call, due));
 }
 
 /// The same of each fault of a writer.
@@ -255,55 +227,34 @@ fn a_writer_fails_after_a_storm(rt: HostRuntime) {
 /// The longest input, and one that is a byte longer, behind which the reader fails.
 #[test]
 fn the_longest_input(rt: HostRuntime) {
+    let cases: [(usize, &[u8]); 2] = [(16_777_216, b"refused 18\n"), (16_777_217, b"refused 20\n")];
     for (input, _) in CASES {
-        is_long(&rt, input, 16_777_216, b"refused 18\n");
-        is_long(&rt, input, 16_777_217, b"refused 20\n");
+        for (left, expected) in cases {
+            let reader = Letters { left };
+            let (status, _, writer) = run(rt.alloc(), input, reader, Taking::whole(rt.alloc()));
+            let seen = (status, writer.taken.as_slice());
+            assert_eq!(rt; seen, (2u8, expected), "{input:?} {left}");
+        }
     }
 }
 
-/// What is written for so many letters.
-fn is_long<H: AllocGlobal + Abort>(rt: &H, input: Input, left: usize, output: &[u8]) {
-    let (status, _, writer) = run(
-        rt.alloc(),
-        input,
-        Letters { left },
-        Taking::whole(rt.alloc()),
-    );
-    must_be(
-        rt,
-        (left, status, writer.taken.as_slice()),
-        (left, 2u8, output),
-    );
-}
-
-/// A script of 3,000 writes.
-fn many_writes<R: Abort>(rt: &R, alloc: Global) -> Vec<u8> {
-    let mut text = Vec::from_slice(alloc, b"nodes 1\n").expect(rt, "memory");
+#[test]
+fn replies_leave_in_blocks(rt: HostRuntime) -> Result<(), Fail> {
+    let mut text = Vec::from_slice(rt.alloc(), b"nodes 1\n")?;
     for _ in 0..3000 {
-        text.extend_from_slice(b"write 0 5 a x\n")
-            .expect(rt, "memory");
+        text.extend_from_slice(b"write 0 5 a x\n")?;
     }
-    text
-}
-
-/// The exit status of a script, and the blocks that are written for it.
-fn blocks_of(alloc: Global, script: &[u8]) -> (u8, Counting) {
-    let mut reader = Watched::new(Giving::whole(script));
+    let mut reader = Watched::new(Giving::whole(text.as_slice()));
     let mut writer = Watched::new(Counting {
         blocks: 0,
         small: 0,
     });
-    let status = run_script(alloc, &mut reader, &mut writer).status();
-    (status, writer.into_inner())
-}
-
-#[test]
-fn replies_leave_in_blocks(rt: HostRuntime) {
-    let text = many_writes(&rt, rt.alloc());
-    let (status, Counting { blocks, small }) = blocks_of(rt.alloc(), text.as_slice());
-    must_be(&rt, status, 0);
+    let end = run_script(rt.alloc(), &mut reader, &mut writer);
+    let Counting { blocks, small } = writer.into_inner();
+    assert_eq!(rt; end.status(), 0);
     assert!(rt;
         2 <= blocks && blocks <= 16 && small <= 1,
         "{blocks} {small}"
     );
+    Ok(())
 }

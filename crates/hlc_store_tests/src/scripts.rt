@@ -1,6 +1,5 @@
 //! The smallest scripts and certificates that show each exit status, and what no run of the program can show: texts of
 //! refusals, numbers of stamps, sizes of storms. All others are cases of tests/runs.
-use crate::expected::must_be;
 use crate::failures::{Input, run};
 use crate::streams::{Giving, Taking};
 use hlc_clock::Stamp;
@@ -11,8 +10,7 @@ use hlc_text::waiting::Waiting;
 use hlc_text::watched::Watched;
 use hlc_words::{Words, read_words};
 use hlc_world::Refusal;
-use std::alloc::Global;
-use std::process::Abort;
+use std::alloc::{AllocError, Global};
 use std::test::*;
 
 pub(crate) const SCRIPT: &[u8] = b"nodes 1\nwrite 0 5 a x\ndeliver 0 0\nopen floor\nread 1 a\n";
@@ -39,17 +37,11 @@ const WHOLE: [Case; 5] = [
 
 #[test]
 fn whole_scripts(rt: HostRuntime) {
-    for case in WHOLE {
-        is_written(&rt, case);
+    for (input, expected, status) in WHOLE {
+        let reader = Giving::whole(input.text());
+        let (ended, _, writer) = run(rt.alloc(), input, reader, Taking::whole(rt.alloc()));
+        assert_eq!(rt; (ended, writer.taken.as_slice()), (status, expected));
     }
-}
-
-/// What is written for an input, and the status.
-fn is_written<H: AllocGlobal + Abort>(rt: &H, case: Case) {
-    let (input, expected, status) = case;
-    let reader = Giving::whole(input.text());
-    let (ended, _, writer) = run(rt.alloc(), input, reader, Taking::whole(rt.alloc()));
-    must_be(rt, (ended, writer.taken.as_slice()), (status, expected));
 }
 
 /// Refusals that no script comes to, or not at this stamp.
@@ -63,17 +55,12 @@ fn texts_of_refusals(rt: HostRuntime) {
         (Refusal::NoMemory, b"refused 15"),
     ];
     for (refusal, text) in cases {
-        is_put(&rt, refusal, text);
+        let mut waiting = Waiting::new();
+        let mut writer = Watched::new(Taking::whole(rt.alloc()));
+        put_refusal(&mut writer, &mut waiting, refusal);
+        finish(&mut writer, &mut waiting);
+        assert_eq!(rt; writer.into_inner().taken.as_slice(), text);
     }
-}
-
-/// The text of a refusal.
-fn is_put<H: AllocGlobal + Abort>(rt: &H, refusal: Refusal, text: &[u8]) {
-    let mut waiting = Waiting::new();
-    let mut writer = Watched::new(Taking::whole(rt.alloc()));
-    put_refusal(&mut writer, &mut waiting, refusal);
-    finish(&mut writer, &mut waiting);
-    must_be(rt, writer.into_inner().taken.as_slice(), text);
 }
 
 #[test]
@@ -84,7 +71,7 @@ fn numbers_of_stamps(rt: HostRuntime) {
         (b"281474976710655.65535", u64::MAX),
     ];
     for (word, bits) in cases {
-        must_be(&rt, stamp(word), Some(Stamp::from_bits(bits)));
+        assert_eq!(rt; stamp(word), Some(Stamp::from_bits(bits)));
     }
 }
 
@@ -104,28 +91,22 @@ const STORMS: [(&str, (u16, u64, u64, u16)); 3] = [
     ),
 ];
 
-/// The words of a text.
-fn words_of<R: Abort>(rt: &R, alloc: Global, text: &str) -> Vec<String> {
+/// The sizes of the storm that a text asks for.
+fn sizes_in(alloc: Global, text: &str) -> Result<Option<(u16, u64, u64, u16)>, AllocError> {
     let mut words = Vec::new(alloc);
     for word in text.split_whitespace() {
-        let word = String::from_str(alloc, word).expect(rt, "memory");
-        words.push(word).ok().expect(rt, "memory");
+        words.push(String::from_str(alloc, word)?)?;
     }
-    words
-}
-
-/// The sizes of the storm that these words ask for.
-fn sizes_in(words: &[String]) -> Option<(u16, u64, u64, u16)> {
-    match read_words(words) {
+    Ok(match read_words(words.as_slice()) {
         Ok(Words::Storm(plan)) => Some((plan.nodes, plan.writes, plan.keys, plan.readers)),
         _ => None,
-    }
+    })
 }
 
 #[test]
-fn sizes_of_storms(rt: HostRuntime) {
+fn sizes_of_storms(rt: HostRuntime) -> Result<(), Fail> {
     for (text, expected) in STORMS {
-        let words = words_of(&rt, rt.alloc(), text);
-        must_be(&rt, sizes_in(words.as_slice()), Some(expected));
+        assert_eq!(rt; sizes_in(rt.alloc(), text)?, Some(expected));
     }
+    Ok(())
 }

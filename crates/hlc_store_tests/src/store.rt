@@ -115,9 +115,13 @@ fn copies_of_items(rt: HostRuntime) {
 }
 
 #[test]
-fn copies_of_events_and_replies(rt: HostRuntime) {
+fn copies_of_events(rt: HostRuntime) {
     let key = bytes(&rt, rt.alloc(), b"a");
     is_copied(&rt, &Event::Read { id: 1, key });
+}
+
+#[test]
+fn copies_of_replies(rt: HostRuntime) {
     let value = Some(bytes(&rt, rt.alloc(), b"x"));
     is_copied(&rt, &Reply::Answer { value });
 }

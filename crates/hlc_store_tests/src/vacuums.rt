@@ -111,14 +111,10 @@ fn keeps_it_once<R: Abort>(rt: &R, alloc: Global, core: &mut Core) {
     opens(rt, core, 2, 2);
     let report = leaves(rt, core, 3, (2, 24), 1);
     has_changes(rt, alloc, &report, &[(None, 1), (Some(2), 3)]);
-    must_be(
-        rt,
-        report.points.as_slice(),
-        [stamp(1), stamp(2), stamp(3)].as_slice(),
-    );
+    assert!(rt; report.points.as_slice() == [stamp(1), stamp(2), stamp(3)].as_slice());
     must_be(rt, core.rows(), 2);
     let again = leaves(rt, core, 3, (2, 24), 0);
-    must_be(rt, again.witnesses.as_slice(), report.witnesses.as_slice());
+    assert!(rt; again.witnesses == report.witnesses);
 }
 
 #[test]
