@@ -1,6 +1,6 @@
-//! Tests of links, of the board and of the shared store, by their public calls, with the items that the tests of the
-//! workers are fed too, and the small callers of the pages of `hlc_channel`, `hlc_board` and `hlc_server`. There is
-//! nothing else here.
+//! Tests of links, of the board, of a core's calls as events and of the shared store, by their public calls, with the
+//! items that the tests of the workers are fed too, and the small callers of the pages of `hlc_channel`, `hlc_board` and
+//! `hlc_server`. There is nothing else here.
 #![tactic(auto)]
 
 #[cfg(test)]
@@ -9,6 +9,8 @@ mod boards;
 mod callers;
 #[cfg(test)]
 mod clients;
+#[cfg(test)]
+mod events;
 #[cfg(test)]
 mod expected;
 #[cfg(test)]
