@@ -5,8 +5,8 @@ ghost use Rattle.std.specs.Prelude.{◌≡◌, ◌+◌, ◌≤◌};
 use crate::posts::{Looking, Raising, look_often, looking_all, raising_all};
 use crate::seat::{CALLS, Seat};
 use crate::{NODES, item, nanos};
-use hlc_board::Board;
 use hlc_core::{Body, Core, CoreEvent};
+use hlc_floor::Board;
 use hlc_server::{Caller, Receipt, Shared};
 use std::alloc::Global;
 use std::rt::Clock;
@@ -216,7 +216,7 @@ fn run<L: Ledger + Send + Sync, R: Threads + Wait + Sync + Clock>(
 }
 
 /// The same with a board.
-#[tactic(auto, using(hlc_board::proofs::PlaceLemmas::feeders_new, hlc_board::proofs::PlaceLemmas::passes_new))]
+#[tactic(auto, using(hlc_floor::proofs::PlaceLemmas::feeders_new, hlc_floor::proofs::PlaceLemmas::passes_new))]
 fn run_on_board<L: Ledger + Send + Sync, R: Threads + Wait + Sync + Clock>(
     rt: &R,
     alloc: Global,

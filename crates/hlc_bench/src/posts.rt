@@ -1,9 +1,9 @@
 //! The feeders and the passes of a board.
 ghost use Rattle.std.specs.Prelude.{◌≡◌};
-ghost use Rattle.hlc_board.specs.Views.{FeedersOf, PassesOf};
+ghost use Rattle.hlc_floor.specs.Views.{FeedersOf, PassesOf};
 
-use hlc_board::{Board, Feeder, FloorPass};
 use hlc_core::Accepted;
+use hlc_floor::{Board, Feeder, FloorPass};
 use std::alloc::Global;
 
 /// A feeder of this board.

@@ -6,10 +6,11 @@ ghost use Rattle.hlc_calls.specs.Listing.{sized, listing_bytes, IsListedTo};
 
 use crate::{codes, open_store};
 use hlc_core::{Core, Pair};
-use std::alloc::{AllocError, Global};
+use hlc_values::NoMemory;
+use std::alloc::Global;
 
 /// Adds bytes behind their number.
-fn put_sized(into: &mut Vec<u8>, bytes: &[u8]) -> Result<(), AllocError>
+fn put_sized(into: &mut Vec<u8>, bytes: &[u8]) -> Result<(), NoMemory>
     ensures { OnOk result (into.new.items ≡ into.old.items ++ sized bytes.now) }
 {
     into.extend_from_slice(&(bytes.len() as u64).to_le_bytes())?;
@@ -19,7 +20,7 @@ fn put_sized(into: &mut Vec<u8>, bytes: &[u8]) -> Result<(), AllocError>
 
 /// The bytes of a listing.
 #[tactic(auto, using(crate::proofs::Bytes::listed_next))]
-fn bytes_of(alloc: Global, pairs: &[Pair]) -> Result<Vec<u8>, AllocError>
+fn bytes_of(alloc: Global, pairs: &[Pair]) -> Result<Vec<u8>, NoMemory>
     ensures { IfOk result (λ bytes. bytes.items ≡ listing_bytes pairs.now) }
 {
     let mut bytes = Vec::new(alloc);

@@ -9,13 +9,10 @@ use Rattle.hlc_text.specs.Text.{printed}
 use Rattle.hlc_node.specs.declared.row.Row.{Row as ARow}
 use Rattle.hlc_witness.specs.declared.witness.Witness.{Witness as AWitness}
 use Rattle.hlc_witness.specs.declared.reason.NotShown.{NotShown as AReason}
-use Rattle.hlc_witness.specs.declared.reason.NotShown.TheVariants.{PointsNotAscending, RowsNotAscending}
-use Rattle.hlc_witness.specs.declared.reason.NotShown.TheVariants.{RowAboveLastPoint, WitnessNotAscending, NotAtPoint}
-use Rattle.hlc_witness.specs.declared.reason.NotShown.TheVariants.{SameAnswers, CountsDiffer, RowOutOfLimits}
 use Rattle.hlc_witness.specs.Fewest.{Fewest as AreFewest}
 use Rattle.hlc_witness.specs.Cost.{Cheapest as AreCheapest, rows_cost}
 use Rattle.hlc_witness.specs.Certificate.{IsCertificate}
-use Rattle.hlc_witness.specs.Reasons.{IsFirstReason}
+use Rattle.hlc_witness.specs.Reasons.{IsFirstReason, reason_number}
 use Rattle.hlc_certificate.specs.declared.check.CheckEnd.{CheckEnd}
 use Rattle.hlc_certificate.specs.declared.check.CheckEnd.TheVariants.{Fewest, NotShown, BadLine, NoMemory, NotHeld}
 use Rattle.hlc_certificate.specs.declared.check.CheckEnd.TheVariants.{WriteFault}
@@ -74,17 +71,6 @@ MayTake input taken (NotShown reason) = taken ≡ input
 MayTake input taken (BadLine number) = taken ≡ input
 MayTake input taken NoMemory = taken ≡ input
 MayTake input taken WriteFault = ⊥
-
--- the number of a reason
-abbrev pub reason_number : AReason → ℕ
-reason_number PointsNotAscending = 1
-reason_number RowsNotAscending = 2
-reason_number RowAboveLastPoint = 3
-reason_number WitnessNotAscending = 4
-reason_number NotAtPoint = 5
-reason_number SameAnswers = 6
-reason_number CountsDiffer = 7
-reason_number RowOutOfLimits = 8
 
 -- how many rows are the fewest, and what they cost
 abbrev pub fewest_line : ℕ → ℕ → List ℕ

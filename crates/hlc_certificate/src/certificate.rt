@@ -11,8 +11,9 @@ use hlc_clock::Stamp;
 use hlc_node::{Bytes, Row};
 use hlc_text::bytes::Spelled;
 use hlc_text::input::first_line;
+use hlc_values::NoMemory;
 use hlc_witness::Witness;
-use std::alloc::{AllocError, Global};
+use std::alloc::Global;
 
 /// What the lines of an input say, in their order.
 #[derive(Drop)]
@@ -44,7 +45,7 @@ impl Certificate {
     }
 
     /// Adds what a line says, with its bytes in memory of their own.
-    fn add(&mut self, alloc: Global, line: &CheckLine<'_>) -> Result<(), AllocError>
+    fn add(&mut self, alloc: Global, line: &CheckLine<'_>) -> Result<(), NoMemory>
         ensures { OnOk result (AddsLine self.old self.new line.now) }
     {
         match line {
@@ -71,7 +72,7 @@ impl Certificate {
 }
 
 /// The value, in memory of its own.
-fn to_value(alloc: Global, value: &Option<Spelled<'_>>) -> Result<Option<Bytes>, AllocError>
+fn to_value(alloc: Global, value: &Option<Spelled<'_>>) -> Result<Option<Bytes>, NoMemory>
     ensures { IfOk result (λ copy. copy ≡ value.now) }
 {
     match value {

@@ -9,7 +9,7 @@ ghost use Rattle.hlc_text.specs.Printing.{Prints};
 ghost use Rattle.hlc_text.specs.Text.{printed};
 ghost use Rattle.hlc_text.specs.Input.{IsInput};
 ghost use Rattle.hlc_certificate.specs.Check.{MayAnswer, MayTake, IsOfHeld, RunsCheck};
-ghost use Rattle.hlc_certificate.specs.Check.{answer_output, fewest_line, reason_number, check_status};
+ghost use Rattle.hlc_certificate.specs.Check.{answer_output, fewest_line, check_status};
 
 use crate::certificate::{NoCertificate, read_certificate};
 use hlc_text::input::{InputFault, put_fault, read_input};
@@ -127,7 +127,12 @@ fn put_end<W: Write>(writer: &mut Watched<W>, waiting: &mut Waiting, end: CheckE
     match end {
         CheckEnd::Fewest { count, bytes } => put_fewest(writer, waiting, count, bytes),
         CheckEnd::NotShown(reason) => {
-            put_number_line(writer, waiting, b"refused 22 reason ", number_of(reason))
+            put_number_line(
+                writer,
+                waiting,
+                b"refused 22 reason ",
+                u64::from(reason.reason()),
+            )
         }
         CheckEnd::BadLine(number) => {
             put_number_line(writer, waiting, b"refused 16 line ", number)
@@ -160,20 +165,4 @@ fn put_number_line<W: Write>(
 {
     put_named_number(writer, waiting, name, number);
     put(writer, waiting, b"\n");
-}
-
-/// The number of a reason.
-fn number_of(reason: NotShown) -> u64
-    ensures { result ≡ reason_number reason }
-{
-    match reason {
-        NotShown::PointsNotAscending => 1,
-        NotShown::RowsNotAscending => 2,
-        NotShown::RowAboveLastPoint => 3,
-        NotShown::WitnessNotAscending => 4,
-        NotShown::NotAtPoint => 5,
-        NotShown::SameAnswers => 6,
-        NotShown::CountsDiffer => 7,
-        NotShown::RowOutOfLimits => 8,
-    }
 }

@@ -10,6 +10,7 @@ mod print;
 
 pub use check::{CheckEnd, check_input, run_check};
 pub use check_line::{CheckLine, read_check_line};
+pub use hlc_witness::{Row, Stamp, Witness};
 pub use laws::{
     one_answer_for_an_input, one_certificate_for_lines, printed_certificates_are_read,
     printed_certificates_show_fewest,

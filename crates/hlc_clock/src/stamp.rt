@@ -12,8 +12,7 @@ ghost use Rattle.std.proofs.lemmas.Cmp.{nat_cmp_total, nat_eq_equiv};
 ghost use Rattle.hlc_clock.specs.declared.stamp.TheConstants.{READING_BOUND, COUNTER_BOUND};
 ghost use Rattle.hlc_clock.specs.Stamp.{physical, counter, stamp_text};
 
-use hlc_values::Exact;
-use std::alloc::AllocError;
+use hlc_values::{Exact, NoMemory};
 use std::cmp::Ordering;
 use std::fmt::{self, InlineText, Write};
 use std::hash::{Hash, Hasher};
@@ -111,7 +110,7 @@ impl Clone for Stamp {
 
     ghost is_infallible = { λ _. ⊤ };
 
-    fn clone(&self) -> Result<Stamp, AllocError> {
+    fn clone(&self) -> Result<Stamp, NoMemory> {
         Ok(*self)
     }
 }

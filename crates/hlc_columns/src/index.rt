@@ -6,7 +6,7 @@ ghost use Rattle.std.specs.List.Sorted.{IsPermutation};
 ghost use Rattle.hlc_columns.specs.Order.{Rises, IsIndex, IsNumbered, place_cmp};
 
 use crate::newest::{is_below, node_at, stamp_at};
-use std::alloc::AllocError;
+use hlc_values::NoMemory;
 use std::cmp::Ordering;
 
 /// A column of so many rows has no index yet.
@@ -79,7 +79,7 @@ fn sorted_tail(
     from: usize,
     stamps: &[u64],
     nodes: &[u16],
-) -> Result<Vec<u32>, AllocError>
+) -> Result<Vec<u32>, NoMemory>
     requires { from ≤ length order.now.items }
     ensures same { IfOk result (λ tail. IsPermutation (drop from order.now.items) tail.items) }
     ensures rises { IfOk result (λ tail. Rises stamps.now nodes.now tail.items) }

@@ -17,8 +17,8 @@ use Rattle.hlc_core.specs.declared.fault.CoreFault.TheVariants.{BelowHorizon, Nu
 use Rattle.hlc_node.specs.declared.item.BodyFault.{BodyFault}
 use Rattle.hlc_node.specs.Items.{body_refusal, retires}
 use Rattle.hlc_node.specs.Rows.{IsSameVersion, IsRowSet}
-use Rattle.hlc_floor.specs.Low.{low}
-use Rattle.hlc_floor.proofs.LowLemmas.{low-is, low-rises, low-joins}
+use Rattle.hlc_heads.specs.Low.{low}
+use Rattle.hlc_heads.proofs.LowLemmas.{low-is, low-rises, low-joins}
 use Rattle.hlc_witness.specs.Cost.{IsInLimits, AreInLimits}
 use Rattle.hlc_core.specs.Past.{Step, Took, Opened, Closed, Vacuumed, Joined, numbered, count, head, retired, top}
 use Rattle.hlc_core.specs.Past.{floor, horizon, open_snapshots, room_refusal, open_refusal, body_rows, item_rows}

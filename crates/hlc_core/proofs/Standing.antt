@@ -16,12 +16,12 @@ use Rattle.hlc_node.specs.declared.item.Item.{Item}
 use Rattle.hlc_node.specs.declared.item.Body.{Body}
 use Rattle.hlc_node.specs.declared.item.Body.TheVariants.{Write, Report, Retire}
 use Rattle.hlc_node.specs.Items.{retires}
-use Rattle.hlc_floor.proofs.LowLemmas.{low-is, low-one, floor-is}
+use Rattle.hlc_heads.proofs.LowLemmas.{low-is, low-one, floor-is}
 use Rattle.hlc_node.specs.Rows.{answer, IsRowSet}
-use Rattle.hlc_link.specs.Progress.{Progress}
-use Rattle.hlc_floor.specs.Heads.{Marks, IsFloor, a_head, head_at, marked as raised, joined as grown, floor_of}
-use Rattle.hlc_floor.specs.declared.heads.TheConstants.{MOST_NODES, MOST_NUMBERS}
-use Rattle.hlc_floor.specs.declared.heads.Head.{Head}
+use Rattle.hlc_intake.specs.Progress.{Progress}
+use Rattle.hlc_heads.specs.Heads.{Marks, IsFloor, a_head, head_at, marked as raised, joined as grown, floor_of}
+use Rattle.hlc_heads.specs.declared.heads.TheConstants.{MOST_NODES, MOST_NUMBERS}
+use Rattle.hlc_heads.specs.declared.heads.Head.{Head}
 use Rattle.hlc_core.specs.declared.fault.CoreFault.{CoreFault}
 use Rattle.hlc_core.specs.declared.fault.CoreFault.TheVariants.{NoNode}
 use Rattle.hlc_core.specs.Past.{Step, Took, Opened, Closed, Joined, numbered, count, head, retired, top, floor, horizon}

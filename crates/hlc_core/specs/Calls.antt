@@ -11,8 +11,8 @@ use Rattle.hlc_core.specs.declared.fault.CoreFault.TheVariants.{NoMemory, NoNode
 use Rattle.hlc_core.specs.declared.fault.NoNode.{NoNode as NoSuchNode}
 use Rattle.hlc_snapshot.specs.declared.fault.NoSnapshot.{NoSnapshot as NoSuchSnapshot}
 use Rattle.hlc_core.specs.declared.listing.Pair.{Pair}
-use Rattle.hlc_floor.specs.Heads.{Acceptance}
-use Rattle.hlc_floor.specs.declared.heads.TheConstants.{MOST_NODES}
+use Rattle.hlc_heads.specs.Heads.{Acceptance}
+use Rattle.hlc_heads.specs.declared.heads.TheConstants.{MOST_NODES}
 use Rattle.hlc_vacuum.specs.Vacuumed.{rows_to}
 use Rattle.hlc_witness.specs.Certificate.{RowsAscend}
 use Rattle.hlc_vacuum.specs.declared.report.Report.{Report as AReport}

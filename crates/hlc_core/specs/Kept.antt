@@ -1,9 +1,9 @@
 -- What a core keeps, and which past it stands for.
 use Rattle.std.specs.Prelude.{◌≡◌, ℕ, ◌<◌, ◌≤◌, List, length, map, Some, All, slice_get}
 use Rattle.hlc_node.specs.declared.row.Row.{Row}
-use Rattle.hlc_link.specs.Progress.{Progress}
-use Rattle.hlc_floor.specs.declared.heads.TheConstants.{MOST_NUMBERS}
-use Rattle.hlc_floor.specs.Heads.{Marks, a_head, head_at, floor_of}
+use Rattle.hlc_intake.specs.Progress.{Progress}
+use Rattle.hlc_heads.specs.declared.heads.TheConstants.{MOST_NUMBERS}
+use Rattle.hlc_heads.specs.Heads.{Marks, a_head, head_at, floor_of}
 use Rattle.hlc_snapshot.specs.declared.snapshot.Snapshot.{Snapshot}
 use Rattle.hlc_node.specs.Rows.{IsRowSet}
 use Rattle.hlc_snapshot.specs.Register.{stamps}

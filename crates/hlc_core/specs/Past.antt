@@ -7,12 +7,12 @@ use Rattle.hlc_node.specs.declared.item.Body.{Body}
 use Rattle.hlc_node.specs.declared.item.Body.TheVariants.{Write, Report, Retire}
 use Rattle.hlc_node.specs.declared.item.BodyFault.{BodyFault}
 use Rattle.hlc_node.specs.Items.{body_refusal, retires}
-use Rattle.hlc_floor.specs.Low.{low}
-use Rattle.hlc_floor.specs.declared.heads.TheConstants.{MOST_NUMBERS}
-use Rattle.hlc_floor.specs.declared.heads.JoinFault.{JoinFault}
-use Rattle.hlc_floor.specs.declared.heads.JoinFault.TheVariants as join_fault
-use Rattle.hlc_link.specs.declared.intake.LinkFault.{LinkFault}
-use Rattle.hlc_link.specs.declared.intake.LinkFault.TheVariants as link_fault
+use Rattle.hlc_heads.specs.Low.{low}
+use Rattle.hlc_heads.specs.declared.heads.TheConstants.{MOST_NUMBERS}
+use Rattle.hlc_heads.specs.declared.heads.JoinFault.{JoinFault}
+use Rattle.hlc_heads.specs.declared.heads.JoinFault.TheVariants as join_fault
+use Rattle.hlc_intake.specs.declared.intake.LinkFault.{LinkFault}
+use Rattle.hlc_intake.specs.declared.intake.LinkFault.TheVariants as link_fault
 use Rattle.hlc_core.specs.declared.fault.CoreFault.{CoreFault}
 use Rattle.hlc_snapshot.specs.declared.snapshot.Snapshot.{Snapshot}
 use Rattle.hlc_snapshot.specs.declared.fault.SnapshotFault.{SnapshotFault}

@@ -4,12 +4,11 @@ ghost use Rattle.std.proofs.Common.{rules};
 ghost use Rattle.std.proofs.lemmas.Grind.{common_steps};
 
 use hlc_clock::Stamp;
-use hlc_floor::JoinFault;
-use hlc_link::LinkFault;
+use hlc_heads::JoinFault;
+use hlc_intake::LinkFault;
 use hlc_node::BodyFault;
 use hlc_snapshot::SnapshotFault;
-use hlc_values::Exact;
-use std::alloc::AllocError;
+use hlc_values::{Exact, NoMemory};
 
 /// Why a core refuses a call.
 #[derive(Clone, Copy, PartialEq, Eq, Debug)]
@@ -88,12 +87,12 @@ impl From<SnapshotFault> for CoreFault {
     }
 }
 
-impl From<AllocError> for CoreFault {
+impl From<NoMemory> for CoreFault {
     ghost use Rattle.hlc_core.specs.declared.fault.CoreFault.TheVariants.{NoMemory};
 
     ghost from_gives = { λ _ core. core ≡ NoMemory };
 
-    fn from(_fault: AllocError) -> CoreFault {
+    fn from(_fault: NoMemory) -> CoreFault {
         CoreFault::NoMemory
     }
 }

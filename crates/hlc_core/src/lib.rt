@@ -17,10 +17,11 @@ mod store;
 pub use event::CoreEvent;
 pub use fault::{CoreFault, NoNode};
 pub use hlc_clock::Stamp;
-pub use hlc_floor::Accepted;
+pub use hlc_heads::Accepted;
 pub use hlc_node::{Body, BodyFault, Bytes, Item, Row};
-pub use hlc_snapshot::{NoMemory, NoSnapshot};
+pub use hlc_snapshot::NoSnapshot;
 pub use hlc_vacuum::{Points, Report, Witnesses};
+pub use hlc_values::NoMemory;
 pub use hlc_witness::Witness;
 pub use laws::{
     accepted_writes_are_a_row_set, floor_is_the_least_head, histories_are_faithful,

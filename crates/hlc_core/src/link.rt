@@ -1,13 +1,13 @@
 //! How an item is admitted by the intake of its node's link.
 ghost use Rattle.std.specs.Prelude.{◌≡◌, ◌+◌, ◌<◌, false, length, Some, None, Err, MatchOption, MatchResult, slice_get};
 ghost use Rattle.hlc_node.specs.Items.{retires};
-ghost use Rattle.hlc_floor.specs.Heads.{head_at, marked};
+ghost use Rattle.hlc_heads.specs.Heads.{head_at, marked};
 ghost use Rattle.hlc_core.specs.Past.{link_refusal};
 
 use crate::fault::CoreFault;
 use hlc_clock::Stamp;
-use hlc_floor::{Accepted, Heads};
-use hlc_link::Intake;
+use hlc_heads::{Accepted, Heads};
+use hlc_intake::Intake;
 use hlc_node::{Item, body_fault, retires};
 
 /// The intake of the item's link once it has admitted the item; or the first reason to refuse the

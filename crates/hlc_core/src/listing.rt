@@ -9,8 +9,8 @@ ghost use Rattle.hlc_core.specs.Listing.{IsListing, pair_of, pairs_of};
 use hlc_clock::Stamp;
 use hlc_columns::{Keyed, Table};
 use hlc_node::Bytes;
-use hlc_values::{Exact, Listed};
-use std::alloc::{AllocError, Global};
+use hlc_values::{Exact, Listed, NoMemory};
+use std::alloc::Global;
 
 /// A key that has a value, and that value.
 #[derive(Clone, PartialEq, Eq, Debug, Drop)]
@@ -29,7 +29,7 @@ impl Exact for Pair {
 }
 
 /// The keys that have a value at a stamp, in byte order, with that value.
-pub fn listing_at(alloc: Global, table: &Table, stamp: Stamp) -> Result<Listing, AllocError>
+pub fn listing_at(alloc: Global, table: &Table, stamp: Stamp) -> Result<Listing, NoMemory>
     ensures { IfOk result (λ listing. IsListing table.now stamp listing) }
 {
     let columns = table.columns()?;
@@ -39,7 +39,7 @@ pub fn listing_at(alloc: Global, table: &Table, stamp: Stamp) -> Result<Listing,
 
 /// Of the keys of these columns in turn, those that have a value at a stamp, with that value. Each
 /// key's own column is asked.
-fn pairs_at(alloc: Global, columns: &[Keyed], stamp: Stamp) -> Result<Vec<Pair>, AllocError>
+fn pairs_at(alloc: Global, columns: &[Keyed], stamp: Stamp) -> Result<Vec<Pair>, NoMemory>
     requires { AreAlone columns.now }
     ensures { IfOk result
         (λ pairs. pairs.items ≡ pairs_of (rows_in columns.now) stamp (keys_in columns.now)) }
@@ -57,7 +57,7 @@ fn push_told(
     pairs: &mut Vec<Pair>,
     key: &[u8],
     told: Option<&[u8]>,
-) -> Result<(), AllocError>
+) -> Result<(), NoMemory>
     ensures { OnOk result (pairs.new.items
         ≡ pairs.old.items ++ pair_of key.now (option_copied told.entry)) }
 {
@@ -68,12 +68,7 @@ fn push_told(
 }
 
 /// Adds a pair with copies of a key and a value.
-fn push_pair(
-    alloc: Global,
-    pairs: &mut Vec<Pair>,
-    key: &[u8],
-    value: &[u8],
-) -> Result<(), AllocError>
+fn push_pair(alloc: Global, pairs: &mut Vec<Pair>, key: &[u8], value: &[u8]) -> Result<(), NoMemory>
     ensures { OnOk result (pairs.new.items
         ≡ pairs.old.items ++ record { key = key.now; value = value.now } ∷ []) }
 {

@@ -12,11 +12,10 @@ ghost use Rattle.hlc_core.specs.History.{IsPlain};
 use crate::fault::CoreFault;
 use crate::listing::Listing;
 use hlc_clock::Stamp;
-use hlc_floor::Accepted;
+use hlc_heads::Accepted;
 use hlc_node::Bytes;
 use hlc_vacuum::Report;
-use hlc_values::Exact;
-use std::alloc::AllocError;
+use hlc_values::{Exact, NoMemory};
 
 /// What a store answers to an event.
 #[derive(PartialEq, Eq, Debug, Drop)]
@@ -45,7 +44,7 @@ impl Clone for CoreReply {
     ghost is_infallible = { λ reply. IsPlain reply };
 
     /// Only a value, a listing and a report take memory.
-    fn clone(&self) -> Result<CoreReply, AllocError> {
+    fn clone(&self) -> Result<CoreReply, NoMemory> {
         match self {
             CoreReply::Accepted(accepted) => Ok(CoreReply::Accepted(*accepted)),
             CoreReply::Joined { node, start } => Ok(CoreReply::Joined {

@@ -10,7 +10,7 @@ use crate::fault::CoreFault;
 use crate::reply::CoreReply;
 use crate::store::Core;
 use hlc_node::Bytes;
-use hlc_snapshot::NoMemory;
+use hlc_values::NoMemory;
 
 impl Core {
     /// The call that an event asks for, and its reply.

@@ -7,7 +7,6 @@ ghost use Rattle.hlc_core.specs.declared.fault.CoreFault.TheVariants.{NoSnapshot
 use hlc_core::{CoreFault, Item, NoMemory, NoSnapshot};
 use hlc_node::{NodeFault, RefusedWrite};
 use hlc_witness::NotShown;
-use std::alloc::AllocError;
 
 /// Why the program stopped. The fault of each call becomes one of these by `?`. Only a core's is kept
 /// whole.
@@ -19,14 +18,6 @@ pub(crate) enum Stopped {
     Refused(CoreFault),
     /// A certificate does not show that its rows are the fewest. Of a vacuum it always does.
     NotShown,
-}
-
-impl From<AllocError> for Stopped {
-    ghost from_gives = { λ lack stopped. stopped ≡ Refused no_memory };
-
-    fn from(_: AllocError) -> Stopped {
-        Stopped::Refused(CoreFault::NoMemory)
-    }
 }
 
 impl From<NoMemory> for Stopped {

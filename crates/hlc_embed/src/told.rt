@@ -7,17 +7,17 @@ use crate::feed::{report, write};
 use crate::reads::put_read;
 use crate::stopped::Stopped;
 use crate::vacuumed::put_vacuum;
-use hlc_core::{Bytes, Core, Stamp};
+use hlc_core::{Bytes, Core, NoMemory, Stamp};
 use hlc_node::NodeCore;
 use hlc_text::print::finish;
 use hlc_text::waiting::Waiting;
 use hlc_text::watched::Watched;
 use hlc_witness::Shown;
-use std::alloc::{AllocError, Global};
+use std::alloc::Global;
 use std::io::Write;
 
 /// A key or a value, in memory of its own.
-fn bytes(alloc: Global, text: &[u8]) -> Result<Bytes, AllocError>
+fn bytes(alloc: Global, text: &[u8]) -> Result<Bytes, NoMemory>
     ensures { IfOk result (λ bytes. bytes ≡ text.now) }
 {
     Ok(Bytes::from_vec(Vec::from_slice(alloc, text)?))

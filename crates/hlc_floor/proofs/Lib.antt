@@ -1,2 +1,3 @@
-pub mod LowLemmas
-pub mod LeastGroups
+pub mod PlaceLemmas
+pub mod Fresh
+pub mod Looks

@@ -1,13 +1,13 @@
-//! The heads of all links, the floor that they make, and the word that an item was accepted.
+//! A board on which threads see, with no lock, how far each node's link has come.
 #![tactic(auto)]
 
-mod accepted;
-mod groups;
-mod heads;
+mod board;
+mod laws;
+mod rule;
 
-pub use accepted::Accepted;
-pub use heads::{
-    Head, Heads, HeadsFault, JoinFault, MOST_NODES, MOST_NUMBERS, most_nodes_are_64,
-    most_numbers_are_1024,
+pub use board::{Board, BoardFault, Feeder, FloorPass};
+pub use hlc_heads::{
+    Accepted, Head, Heads, HeadsFault, JoinFault, MOST_NODES, MOST_NUMBERS, Stamp,
+    most_nodes_are_64, most_numbers_are_1024,
 };
-pub use hlc_clock::Stamp;
+pub use laws::board_is_fresh;

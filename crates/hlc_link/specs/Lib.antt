@@ -1,1 +1,2 @@
-pub mod Progress
+pub mod Ends
+pub mod Link

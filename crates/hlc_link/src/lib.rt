@@ -1,7 +1,13 @@
-//! The order of a link: of each node only the next item is admitted, and only with a rising stamp.
+//! A link between two threads: what is taken from it is what was put, in order, and the end stands last.
 #![tactic(auto)]
 
-mod intake;
+mod ends;
+mod laws;
+mod rule;
 
-pub use hlc_clock::Stamp;
-pub use intake::{Intake, LinkFault};
+pub use ends::{LinkClosed, LinkReceiver, LinkSender, PutFault, link};
+pub use hlc_intake::{Intake, LinkFault, Stamp};
+pub use hlc_node::Item;
+pub use hlc_values::NoMemory;
+pub use laws::link_carries;
+pub use rule::Parcel;

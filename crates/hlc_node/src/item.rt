@@ -8,8 +8,7 @@ ghost use Rattle.hlc_node.specs.declared.item.TheConstants.{MOST_KEY_BYTES, MOST
 
 use crate::bytes::Bytes;
 use hlc_clock::Stamp;
-use hlc_values::Exact;
-use std::alloc::AllocError;
+use hlc_values::{Exact, NoMemory};
 
 /// The most bytes that a key may have.
 pub const MOST_KEY_BYTES: usize = 255;
@@ -74,7 +73,7 @@ impl Clone for Body {
 
     ghost is_infallible = { λ body. (body ≡ Report) ⊎ (body ≡ Retire) };
 
-    fn clone(&self) -> Result<Body, AllocError> {
+    fn clone(&self) -> Result<Body, NoMemory> {
         match self {
             Body::Report => Ok(Body::Report),
             Body::Retire => Ok(Body::Retire),

@@ -5,8 +5,7 @@ ghost use Rattle.std.proofs.lemmas.Grind.{common_steps};
 
 use crate::bytes::Bytes;
 use hlc_clock::Stamp;
-use hlc_values::Exact;
-use std::alloc::AllocError;
+use hlc_values::{Exact, NoMemory};
 
 /// A version of a key.
 #[derive(PartialEq, Eq, Debug, Drop)]
@@ -34,7 +33,7 @@ impl Row {
 impl Clone for Row {
     ghost is_clone = { λ row copy. copy ≡ row };
 
-    fn clone(&self) -> Result<Row, AllocError> {
+    fn clone(&self) -> Result<Row, NoMemory> {
         Ok(Row {
             key: self.key.clone()?,
             stamp: self.stamp,

@@ -8,8 +8,9 @@ use hlc_text::bytes::{Spelled, bytes};
 use hlc_text::number;
 use hlc_text::stamp::stamp;
 use hlc_text::words::LineWords;
+use hlc_values::NoMemory;
 use hlc_world::{Bytes, Event};
-use std::alloc::{AllocError, Global};
+use std::alloc::Global;
 
 /// The event of a line, with its bytes still as they are spelled, or none where no event has this
 /// line.
@@ -21,7 +22,7 @@ pub fn read_line(line: &[u8]) -> Option<Event<Spelled<'_>>>
 }
 
 /// The event with its key and its value in memory of their own. Other events take no memory.
-pub fn owned_event(alloc: Global, event: Event<Spelled<'_>>) -> Result<Event, AllocError>
+pub fn owned_event(alloc: Global, event: Event<Spelled<'_>>) -> Result<Event, NoMemory>
     ensures ok { IfOk result (λ owned. owned ≡ event.entry) }
     ensures err { OnErr result (BearsBytes event.entry) }
 {
@@ -73,7 +74,7 @@ fn owned_write(
     reading: u64,
     key: Spelled<'_>,
     value: Spelled<'_>,
-) -> Result<Event, AllocError>
+) -> Result<Event, NoMemory>
     ensures { IfOk result (λ owned. owned ≡ Event.Write node reading key.entry value.entry) }
 {
     Ok(Event::Write {
@@ -85,7 +86,7 @@ fn owned_write(
 }
 
 /// The bytes in memory of their own.
-fn owned(alloc: Global, spelled: Spelled<'_>) -> Result<Bytes, AllocError>
+fn owned(alloc: Global, spelled: Spelled<'_>) -> Result<Bytes, NoMemory>
     ensures { IfOk result (λ owned. owned ≡ spelled.entry) }
 {
     Ok(Bytes::from_vec(spelled.to_vec(alloc)?))

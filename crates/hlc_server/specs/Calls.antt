@@ -3,7 +3,7 @@ use Rattle.std.specs.Prelude.{◌≡◌, ◌↔◌, ◌+◌, ◌-◌, ◌^◌, �
 use Rattle.std.specs.Option.{ForSome}
 use Rattle.hlc_core.specs.declared.event.CoreEvent.{CoreEvent}
 use Rattle.hlc_core.specs.declared.reply.CoreReply.{CoreReply}
-use Rattle.hlc_snapshot.specs.declared.fault.NoMemory.{NoMemory}
+use Rattle.std.specs.declared.alloc.AllocError.{AllocError}
 use Rattle.hlc_core.specs.Kept.{Kept, nodes}
 use Rattle.hlc_core.specs.History.{StandsForHistory, IsStep, IsDue, IsReplyTo, past_of}
 use Rattle.hlc_server.specs.declared.entry.Entry.{Entry}
@@ -65,7 +65,7 @@ pub record IsEntered (old new : Kept) (before after : Option (List Entry)) (call
 
 -- a call of the core and its entry; without memory neither is made
 abbrev pub Enters : Kept → Kept → Option (List Entry) → Option (List Entry) → ℕ → CoreEvent
-    → Result CoreReply NoMemory → Type 0
+    → Result CoreReply AllocError → Type 0
 Enters old new before after caller event made =
     MatchResult made (λ reply. IsEntered old new before after caller event reply)
     (λ lack. (new ≡ old) × (after ≡ before))

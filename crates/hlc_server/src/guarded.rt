@@ -15,7 +15,7 @@ use crate::caller::Caller;
 use crate::entry::{Entry, NotDone, Receipt};
 use crate::trail::Trail;
 use hlc_core::{Core, CoreEvent, CoreFault, CoreReply, NoMemory};
-use std::alloc::{AllocError, Global};
+use std::alloc::Global;
 use std::marker::Model;
 use std::sync::ledger::{Blank, Book, Ledger, Share};
 use std::thread::Threads;
@@ -111,7 +111,7 @@ fn callers_of<L: Ledger>(
     alloc: Global,
     share: Share<L>,
     callers: u16,
-) -> Result<Vec<Caller<L>>, AllocError>
+) -> Result<Vec<Caller<L>>, NoMemory>
     requires { (share.parts ≡ callers) × (share.amount ≡ 0) × (0 < callers) }
     ensures { IfOk result (λ made. made.items ≡ map fresh_seat (range_with_len 0 callers)) }
 {

@@ -14,7 +14,7 @@ mod trail;
 pub use caller::Caller;
 pub use entry::{Entry, NotDone, Receipt};
 pub use guarded::{Guarded, step_guarded, vacuum_guarded};
-pub use hlc_core::{Core, CoreEvent, CoreReply};
+pub use hlc_core::{Bytes, Core, CoreEvent, CoreReply, Item, Stamp};
 pub use settle::{SettleFault, Settled, settle_guarded};
 pub use shared::Shared;
 pub use trail::Trail;

@@ -1,12 +1,12 @@
 //! The floor that a board shows.
 ghost use Rattle.std.specs.Prelude.{◌≡◌, ◌<◌, false, true};
-ghost use Rattle.hlc_board.specs.Views.{posts};
+ghost use Rattle.hlc_floor.specs.Views.{posts};
 
 use crate::expected::must_be;
 use crate::makers::at_second;
-use hlc_board::{Board, Feeder, FloorPass};
 use hlc_clock::Stamp;
-use hlc_floor::{Accepted, Heads};
+use hlc_floor::{Board, Feeder, FloorPass};
+use hlc_heads::{Accepted, Heads};
 use std::alloc::Global;
 use std::process::Abort;
 use std::test::*;

@@ -1,10 +1,10 @@
-//! The small callers of the pages of `hlc_channel`, `hlc_board` and `hlc_server`, with what they may rely on.
+//! The small callers of the pages of `hlc_link`, `hlc_floor` and `hlc_server`, with what they may rely on.
 ghost use Rattle.std.specs.Prelude.{◌≡◌, ◌↔◌, ◌+◌, ◌<◌, ◌≤◌, ℕ, length, slice_index};
 ghost use Rattle.std.specs.Prelude.{IsTrue, IfOk, IfSome};
 
-use hlc_board::{Board, FloorPass};
-use hlc_channel::LinkSender;
 use hlc_clock::Stamp;
+use hlc_floor::{Board, FloorPass};
+use hlc_link::LinkSender;
 use hlc_node::Item;
 use hlc_server::{Caller, Receipt, SettleFault, Shared};
 use std::alloc::{AllocError, Global};

@@ -1,5 +1,5 @@
 //! Tests of links, of the board, of a core's calls as events and of the shared store, by their public calls, with the
-//! items that the tests of the workers are fed too, and the small callers of the pages of `hlc_channel`, `hlc_board` and
+//! items that the tests of the workers are fed too, and the small callers of the pages of `hlc_link`, `hlc_floor` and
 //! `hlc_server`. There is nothing else here.
 #![tactic(auto)]
 

@@ -1,7 +1,7 @@
 //! Links between two threads.
 use crate::expected::must_be;
 use crate::makers::said;
-use hlc_channel::{LinkClosed, LinkReceiver, LinkSender, Parcel, PutFault, link};
+use hlc_link::{LinkClosed, LinkReceiver, LinkSender, Parcel, PutFault, link};
 use hlc_node::{Body, Item};
 use std::process::Abort;
 use std::sync::Wait;

@@ -3,7 +3,6 @@ ghost use Rattle.std.proofs.Common.{rules};
 ghost use Rattle.std.proofs.lemmas.Grind.{common_steps};
 
 use hlc_values::Exact;
-use std::alloc::AllocError;
 
 /// Why no snapshot is opened.
 #[derive(Clone, Copy, PartialEq, Eq, Debug)]
@@ -30,20 +29,4 @@ impl Exact for NoSnapshot {
     ghost equal = { Prim.search (rules, common_steps) };
 
     ghost copied = { Prim.search rules };
-}
-
-/// A growth was refused.
-#[derive(Clone, Copy, PartialEq, Eq, Debug)]
-pub struct NoMemory;
-
-impl Exact for NoMemory {
-    ghost equal = { Prim.search (rules, common_steps) };
-
-    ghost copied = { Prim.search rules };
-}
-
-impl From<AllocError> for NoMemory {
-    fn from(_fault: AllocError) -> NoMemory {
-        NoMemory
-    }
 }

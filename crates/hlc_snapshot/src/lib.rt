@@ -6,8 +6,9 @@ mod laws;
 mod registry;
 mod snapshot;
 
-pub use fault::{NoMemory, NoSnapshot, SnapshotFault};
+pub use fault::{NoSnapshot, SnapshotFault};
 pub use hlc_clock::Stamp;
+pub use hlc_values::NoMemory;
 pub use laws::{
     closing_takes_out_one_snapshot, ids_are_never_used_again, most_open_are_1024,
     opening_adds_one_snapshot, points_are_unique, registers_stay_registers,

@@ -4,10 +4,11 @@ ghost use Rattle.std.specs.Prelude.{if◌then◌else◌};
 ghost use Rattle.hlc_snapshot.specs.Register.{IsRegister, IsRefusal, closed, opened_at, room_refusal, stamp_in, stamps};
 ghost use Rattle.hlc_clock.specs.Points.{ArePoints};
 
-use crate::fault::{NoMemory, NoSnapshot, SnapshotFault};
+use crate::fault::{NoSnapshot, SnapshotFault};
 use crate::snapshot::Snapshot;
 use hlc_clock::Stamp;
-use std::alloc::{AllocError, Global};
+use hlc_values::NoMemory;
+use std::alloc::Global;
 use std::marker::Model;
 
 /// The most snapshots that may be open at once.
@@ -120,7 +121,7 @@ impl Registry {
     }
 
     /// The stamps of the open snapshots, and one more.
-    fn stamps_and(&self, floor: Stamp) -> Result<Vec<Stamp>, AllocError>
+    fn stamps_and(&self, floor: Stamp) -> Result<Vec<Stamp>, NoMemory>
         ensures { IfOk result (λ points. points.items ≡ stamps self.now.snapshots ++ floor ∷ []) }
     {
         let alloc = *self.snapshots.allocator();

@@ -2,7 +2,7 @@
 -- many nodes has as many feeders.
 use Rattle.std.proofs.Common.{◌≡◌, ◌∙◌, ℕ, zero, suc, ◌+◌, List, [], ◌∷◌, ◌++◌, length, ap, refl, arith, length-append}
 use Rattle.atomic_table.specs.Seated.{TableId}
-use Rattle.hlc_board.specs.Views.{post, posts}
+use Rattle.hlc_floor.specs.Views.{post, posts}
 
 pub last_off : {A : Type 0} (xs ys : List A) (x : A) → xs ≡ ys ++ x ∷ [] → length xs ≡ length ys + 1
 last_off xs ys x is = ap length is ∙ length-append ys (x ∷ [])

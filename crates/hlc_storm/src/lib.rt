@@ -10,7 +10,9 @@ mod working;
 mod writing;
 
 pub use gates::StormGates;
-pub use hlc_storm_report::{Lists, StormFault, StormPlan, StormReport, print_storm};
+pub use hlc_storm_report::{
+    Listing, Lists, Stamp, StormFault, StormPlan, StormReport, print_storm,
+};
 pub use joining::{Started, join_all};
 pub use storming::{storm, storm_gated, work};
 pub use writing::WriteFault;

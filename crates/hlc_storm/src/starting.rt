@@ -1,15 +1,15 @@
 //! The start of a storm's threads. None stands for a thread that was not started.
 ghost use Rattle.std.specs.Prelude.{◌≡◌, ◌+◌, false, length};
-ghost use Rattle.hlc_board.specs.Views.{FeedersOf, PassesOf};
-ghost use Rattle.hlc_board.proofs.PlaceLemmas.{feeders_prop, passes_prop};
+ghost use Rattle.hlc_floor.specs.Views.{FeedersOf, PassesOf};
+ghost use Rattle.hlc_floor.proofs.PlaceLemmas.{feeders_prop, passes_prop};
 
 use crate::gates::StormGates;
 use crate::joining::{Started, Worker, Writer};
 use crate::working::{Feeding, Looking, feed_link, read_keys, vacuum_rows};
 use crate::writing::write_all;
-use hlc_board::{Board, Feeder, FloorPass};
-use hlc_channel::link;
 use hlc_core::Bytes;
+use hlc_floor::{Board, Feeder, FloorPass};
+use hlc_link::link;
 use hlc_server::{Caller, Shared};
 use hlc_storm_report::StormPlan;
 use hlc_workers::Gate;

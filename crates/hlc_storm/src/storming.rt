@@ -6,8 +6,8 @@ use crate::gates::StormGates;
 use crate::joining::join_all;
 use crate::starting::{Seats, start_all};
 use crate::writing::all_keys;
-use hlc_board::Board;
 use hlc_core::Bytes;
+use hlc_floor::Board;
 use hlc_server::{Caller, Shared};
 use hlc_storm_report::{Lists, StormFault, StormPlan, StormReport, new_store, report_of};
 use hlc_workers::{FreeGate, Gate};
@@ -108,7 +108,7 @@ pub fn work<
 }
 
 /// The work of these callers of a store, beside a new board: the receipts by caller, one list for each.
-#[tactic(auto, using(hlc_board::proofs::PlaceLemmas::feeders_new, hlc_board::proofs::PlaceLemmas::passes_new))]
+#[tactic(auto, using(hlc_floor::proofs::PlaceLemmas::feeders_new, hlc_floor::proofs::PlaceLemmas::passes_new))]
 fn work_of<
     L: Ledger + Send + Sync,
     F: Gate + Sync,

@@ -2,8 +2,8 @@
 ghost use Rattle.std.specs.Prelude.{◌≡◌, false, true, None, map, replicate, vec_len};
 ghost use Rattle.hlc_node.specs.declared.item.Item.{Item as AnItem};
 ghost use Rattle.std.specs.Prelude.{Option};
-ghost use Rattle.hlc_board.specs.Views.{Sight};
-ghost use Rattle.hlc_channel.specs.Ends.{Received};
+ghost use Rattle.hlc_floor.specs.Views.{Sight};
+ghost use Rattle.hlc_link.specs.Ends.{Received};
 ghost use Rattle.hlc_core.specs.declared.event.CoreEvent.{CoreEvent as AnEvent};
 ghost use Rattle.hlc_workers.specs.declared.room.WorkEnd.{WorkEnd};
 ghost use Rattle.hlc_workers.specs.Paid.{IsPaid, event_of};
@@ -11,9 +11,9 @@ ghost use Rattle.hlc_workers.specs.Feeding.{TookAll};
 ghost use Rattle.hlc_workers.specs.Rounds.{HasServed};
 ghost use Rattle.hlc_storm.specs.declared.working.TheConstants.{ROUNDS};
 
-use hlc_board::{Board, Feeder, FloorPass};
-use hlc_channel::LinkReceiver;
 use hlc_core::Bytes;
+use hlc_floor::{Board, Feeder, FloorPass};
+use hlc_link::LinkReceiver;
 use hlc_server::{Caller, Shared};
 use hlc_workers::{Fed, Gate, Reader, Served, feed, serve_reader, serve_vacuum};
 use std::alloc::Global;

@@ -3,11 +3,12 @@ ghost use Rattle.std.specs.Prelude.{◌≡◌, ◌<◌, IfOk, map};
 ghost use Rattle.std.specs.List.{range_with_len};
 ghost use Rattle.hlc_storm.specs.Written.{key_text, value_text};
 
-use hlc_channel::LinkSender;
 use hlc_core::{Bytes, Stamp};
+use hlc_link::LinkSender;
 use hlc_node::{Item, NodeCore};
+use hlc_values::NoMemory;
 use hlc_words::StormPlan;
-use std::alloc::{AllocError, Global};
+use std::alloc::Global;
 use std::sync::Wait;
 
 /// Why a writer gave up.
@@ -18,19 +19,19 @@ pub enum WriteFault {
     Stopped,
 }
 
-impl From<AllocError> for WriteFault {
+impl From<NoMemory> for WriteFault {
     ghost use Rattle.std.specs.Prelude.{◌≡◌};
     ghost use Rattle.hlc_storm.specs.declared.writing.WriteFault.{WriteFault};
 
     ghost from_gives = { λ lack fault. fault ≡ WriteFault.NoMemory };
 
-    fn from(_error: AllocError) -> WriteFault {
+    fn from(_error: NoMemory) -> WriteFault {
         WriteFault::NoMemory
     }
 }
 
 /// The key of this number.
-fn key_of(alloc: Global, number: u64) -> Result<Bytes, AllocError>
+fn key_of(alloc: Global, number: u64) -> Result<Bytes, NoMemory>
     ensures { IfOk result (λ key. key ≡ key_text number) }
 {
     let text = format!(in alloc; "k{number}")?;
@@ -38,7 +39,7 @@ fn key_of(alloc: Global, number: u64) -> Result<Bytes, AllocError>
 }
 
 /// All keys of a storm.
-pub(crate) fn all_keys(alloc: Global, plan: &StormPlan) -> Result<Vec<Bytes>, AllocError>
+pub(crate) fn all_keys(alloc: Global, plan: &StormPlan) -> Result<Vec<Bytes>, NoMemory>
     ensures { IfOk result (λ keys. keys.items ≡ map key_text (range_with_len 0 plan.now.keys)) }
 {
     let mut keys = Vec::with_capacity(alloc, plan.keys as usize)?;
@@ -50,7 +51,7 @@ pub(crate) fn all_keys(alloc: Global, plan: &StormPlan) -> Result<Vec<Bytes>, Al
 }
 
 /// The value of a node's write of this number.
-fn value_of(alloc: Global, node: u16, number: u64) -> Result<Bytes, AllocError>
+fn value_of(alloc: Global, node: u16, number: u64) -> Result<Bytes, NoMemory>
     ensures { IfOk result (λ value. value ≡ value_text node number) }
 {
     let text = format!(in alloc; "{node}.{number}")?;

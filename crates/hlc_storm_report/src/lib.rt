@@ -10,6 +10,7 @@ mod store;
 
 pub use ends::{Ends, Lists};
 pub use found::report_of;
+pub use hlc_core::{Listing, Stamp};
 pub use hlc_words::StormPlan;
 pub use printing::print_storm;
 pub use report::{StormFault, StormReport};

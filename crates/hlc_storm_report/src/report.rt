@@ -4,9 +4,8 @@ ghost use Rattle.std.proofs.lemmas.Grind.{common_steps};
 
 use hlc_core::{Listing, Stamp};
 use hlc_server::SettleFault;
-use hlc_values::Exact;
+use hlc_values::{Exact, NoMemory};
 use hlc_workers::WorkEnd;
-use std::alloc::AllocError;
 
 /// What a storm found, once its receipts settled.
 #[derive(Debug, Drop)]
@@ -38,13 +37,13 @@ impl Exact for StormFault {
     ghost copied = { Prim.search rules };
 }
 
-impl From<AllocError> for StormFault {
+impl From<NoMemory> for StormFault {
     ghost use Rattle.std.specs.Prelude.{◌≡◌};
     ghost use Rattle.hlc_storm_report.specs.declared.report.StormFault.{StormFault};
 
     ghost from_gives = { λ lack fault. fault ≡ StormFault.NoMemory };
 
-    fn from(_error: AllocError) -> StormFault {
+    fn from(_error: NoMemory) -> StormFault {
         StormFault::NoMemory
     }
 }

@@ -1,9 +1,9 @@
 //! The calls of a board, which take no memory.
 use crate::requests::{REFUSED, spend};
 use crate::screen::Screen;
-use hlc_board::Board;
 use hlc_core::Stamp;
-use hlc_floor::Heads;
+use hlc_floor::Board;
+use hlc_heads::Heads;
 
 /// Raises the word of a node, looks at it, and looks at the floor, before and after.
 pub(crate) fn answer(screen: &mut Screen<'_>, requests: u64) {

@@ -6,8 +6,8 @@ use crate::callers::{
 use crate::expected::must_be;
 use crate::makers::bytes;
 use hlc_clock::{Clock, Stamp};
-use hlc_floor::Heads;
-use hlc_link::{Intake, LinkFault};
+use hlc_heads::Heads;
+use hlc_intake::{Intake, LinkFault};
 use hlc_node::{Bytes, Row};
 use hlc_snapshot::Registry;
 use hlc_witness::Witness;

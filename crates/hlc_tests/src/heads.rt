@@ -2,7 +2,7 @@
 ghost use Rattle.std.specs.Prelude.{◌≡◌, ◌<◌, length};
 
 use crate::expected::must_be;
-use hlc_floor::{Accepted, Heads, JoinFault, Stamp};
+use hlc_heads::{Accepted, Heads, JoinFault, Stamp};
 use std::test::*;
 
 /// Raises the head of a node, or lets it retire, where its head is below the stamp and it has not

@@ -1,7 +1,7 @@
 //! A node that retires, and the link on which its last item came.
 use crate::expected::must_be;
 use hlc_clock::{ClockFault, Stamp};
-use hlc_link::{Intake, LinkFault};
+use hlc_intake::{Intake, LinkFault};
 use hlc_node::{Body, Bytes, Item, Message, NodeCore, NodeFault};
 use std::alloc::Global;
 use std::process::Abort;

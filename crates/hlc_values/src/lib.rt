@@ -6,3 +6,4 @@ mod listed;
 
 pub use exact::Exact;
 pub use listed::Listed;
+pub use std::alloc::AllocError as NoMemory;

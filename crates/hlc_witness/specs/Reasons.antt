@@ -13,6 +13,17 @@ use Rattle.hlc_witness.specs.Changes.{answer_at, IsAtPoint, IsChange, change_cmp
 use Rattle.hlc_witness.specs.Certificate.{RowsAscend, NoneAbove}
 use Rattle.hlc_witness.specs.Cost.{AreInLimits}
 
+-- the number of a reason: reasons are looked for in the order of their numbers
+abbrev pub reason_number : NotShown → ℕ
+reason_number PointsNotAscending = 1
+reason_number RowsNotAscending = 2
+reason_number RowAboveLastPoint = 3
+reason_number WitnessNotAscending = 4
+reason_number NotAtPoint = 5
+reason_number SameAnswers = 6
+reason_number CountsDiffer = 7
+reason_number RowOutOfLimits = 8
+
 -- the witness is above those before it
 abbrev pub IsAbove : List Witness → Witness → Type 0
 IsAbove front witness = All (λ other. change_cmp other witness ≡ Less) front

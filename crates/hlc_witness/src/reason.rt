@@ -1,6 +1,8 @@
 //! Why witnesses do not show that rows are the fewest.
+ghost use Rattle.std.specs.Prelude.{◌≡◌};
 ghost use Rattle.std.proofs.Common.{rules};
 ghost use Rattle.std.proofs.lemmas.Grind.{common_steps};
+ghost use Rattle.hlc_witness.specs.Reasons.{reason_number};
 
 use hlc_values::Exact;
 
@@ -30,4 +32,22 @@ impl Exact for NotShown {
     ghost equal = { Prim.search (rules, common_steps) };
 
     ghost copied = { Prim.search rules };
+}
+
+impl NotShown {
+    /// Its number, from 1: the first reason that is looked for has the number 1.
+    pub fn reason(self) -> u8
+        ensures { result ≡ reason_number self }
+    {
+        match self {
+            NotShown::PointsNotAscending => 1,
+            NotShown::RowsNotAscending => 2,
+            NotShown::RowAboveLastPoint => 3,
+            NotShown::WitnessNotAscending => 4,
+            NotShown::NotAtPoint => 5,
+            NotShown::SameAnswers => 6,
+            NotShown::CountsDiffer => 7,
+            NotShown::RowOutOfLimits => 8,
+        }
+    }
 }

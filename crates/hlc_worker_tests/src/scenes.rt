@@ -1,7 +1,7 @@
 //! A store and a board of one node, and what is given out with them.
 ghost use Rattle.std.specs.Prelude.{◌≡◌, ◌<◌};
 
-use hlc_board::{Board, Feeder, FloorPass};
+use hlc_floor::{Board, Feeder, FloorPass};
 use hlc_server::{Caller, Receipt, SettleFault, Shared};
 use std::alloc::Global;
 use std::process::Abort;

@@ -1,14 +1,14 @@
 //! Links that are full, and their feeding into a store.
 ghost use Rattle.std.specs.Prelude.{◌≡◌, [], false, IfSome};
 ghost use Rattle.std.proofs.Props.{props};
-ghost use Rattle.hlc_channel.specs.Ends.{received};
+ghost use Rattle.hlc_link.specs.Ends.{received};
 
 use crate::clients::{Client, client_after};
 use crate::expected::must_be;
 use crate::scenes::Scene;
-use hlc_board::Feeder;
-use hlc_channel::{LinkReceiver, LinkSender, link};
 use hlc_core::{Item, Stamp};
+use hlc_floor::Feeder;
+use hlc_link::{LinkReceiver, LinkSender, link};
 use hlc_server::Receipt;
 use hlc_shared_tests::makers::{at_second, write};
 use hlc_workers::{Fed, FreeGate, WorkEnd, feed};

@@ -6,7 +6,7 @@ use Rattle.std.proofs.Common.{arith, length-append}
 use Rattle.std.specs.Prelude.{slice_index}
 use mathlib.Core.Logic.{dite}
 use native.Mathlib.Decide.{dec_lt}
-use Rattle.hlc_board.specs.Views.{Sight, IsLeast}
+use Rattle.hlc_floor.specs.Views.{Sight, IsLeast}
 use Rattle.hlc_workers.specs.Rounds.{NeverFalls, HasLookedFor}
 
 -- the entries of a list with one more

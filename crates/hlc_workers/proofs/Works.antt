@@ -8,7 +8,7 @@ use Rattle.hlc_node.specs.declared.item.Item.{Item}
 use Rattle.hlc_server.specs.declared.entry.Receipt.{Receipt}
 use Rattle.hlc_server.specs.Seats.{Seat}
 use Rattle.std.specs.Option.{option_map}
-use Rattle.hlc_board.specs.Views.{Post, post}
+use Rattle.hlc_floor.specs.Views.{Post, post}
 use Rattle.hlc_workers.specs.Paid.{event_of, IsPaid, MadeNone, MadeSome}
 use Rattle.hlc_workers.specs.Feeding.{accept_of, TookAll, raised_by, highest, fed_by, fed_all}
 use Rattle.hlc_core.specs.declared.event.CoreEvent.{CoreEvent}

@@ -2,8 +2,8 @@
 use Rattle.std.specs.Prelude.{◌≡◌, ◌==◌, ◌&&◌, ℕ, List, [], ◌∷◌, ◌++◌, map, nat_lt, true, Option, None, if◌then◌else◌}
 use Rattle.std.specs.Option.{option_to_list, option_map}
 use Rattle.hlc_node.specs.declared.item.Item.{Item}
-use Rattle.hlc_channel.specs.Ends.{Received}
-use Rattle.hlc_board.specs.Views.{Post, post, word_of}
+use Rattle.hlc_link.specs.Ends.{Received}
+use Rattle.hlc_floor.specs.Views.{Post, post, word_of}
 use Rattle.hlc_core.specs.declared.event.CoreEvent.{CoreEvent}
 use Rattle.hlc_core.specs.declared.event.CoreEvent.TheVariants.{Accept}
 use Rattle.hlc_core.specs.declared.reply.CoreReply.{CoreReply}

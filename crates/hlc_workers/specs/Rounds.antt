@@ -6,7 +6,7 @@ use Rattle.hlc_core.specs.declared.event.CoreEvent.TheVariants.{OpenAt, OpenFloo
 use Rattle.hlc_core.specs.declared.reply.CoreReply.{CoreReply}
 use Rattle.hlc_core.specs.declared.reply.CoreReply.TheVariants.{Opened, Refused}
 use Rattle.hlc_server.specs.declared.entry.Receipt.{Receipt}
-use Rattle.hlc_board.specs.Views.{Sight, IsLeast}
+use Rattle.hlc_floor.specs.Views.{Sight, IsLeast}
 use Rattle.hlc_workers.specs.declared.opening.Opening.{Opening}
 use Rattle.hlc_workers.specs.declared.opening.Opening.TheVariants.{Opened as opened, Outside as outside}
 use Rattle.hlc_workers.specs.declared.opening.Opening.TheVariants.{NotOpened as refused}

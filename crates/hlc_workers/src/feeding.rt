@@ -6,9 +6,9 @@ ghost use Rattle.hlc_workers.specs.Feeding.{TookAll, FedOne, FedNone, fed_by, fe
 
 use crate::gate::Gate;
 use crate::room::{WorkEnd, make_room};
-use hlc_board::{Board, Feeder};
-use hlc_channel::{LinkReceiver, Parcel};
 use hlc_core::{CoreEvent, CoreReply, Item};
+use hlc_floor::{Board, Feeder};
+use hlc_link::{LinkReceiver, Parcel};
 use hlc_server::{Caller, Receipt, Shared};
 use std::alloc::Global;
 use std::sync::Wait;

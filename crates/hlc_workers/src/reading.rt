@@ -7,8 +7,8 @@ ghost use Rattle.hlc_workers.specs.Rounds.{reads_of, IsRound, AtFloor, HasServed
 use crate::gate::Gate;
 use crate::opening::{Opening, make_call};
 use crate::room::WorkEnd;
-use hlc_board::{Board, FloorPass};
 use hlc_core::{Bytes, CoreEvent, Stamp};
+use hlc_floor::{Board, FloorPass};
 use hlc_server::{Caller, NotDone, Receipt, Shared};
 use std::alloc::Global;
 use std::sync::Wait;

@@ -8,7 +8,7 @@ use Rattle.hlc_node.specs.declared.item.Item.{Item}
 use Rattle.hlc_node.specs.Items.{retires}
 use Rattle.hlc_core.specs.declared.fault.CoreFault.{CoreFault}
 use Rattle.hlc_core.specs.declared.fault.CoreFault.TheVariants as core_fault
-use Rattle.hlc_floor.specs.Heads.{Acceptance}
+use Rattle.hlc_heads.specs.Heads.{Acceptance}
 use Rattle.hlc_core.specs.Past.{Took, numbered, retired, count, head, of_body as body_fault, item_refusal}
 use Rattle.hlc_core.specs.Kept.{Kept, nodes, StandsFor as CoreStandsFor}
 use Rattle.hlc_core.specs.Calls.{IsRefusal, IsWrite}

@@ -4,7 +4,7 @@ use Rattle.std.proofs.Common.{ap, sym, ◌∙◌, subst, inl, inr, arith, length
 use Rattle.std.specs.Prelude.{⊤, slice_get}
 use Rattle.std.proofs.lemmas.Bool.{cond-true, cond-false, lt-leb, le-leb, cases_eq}
 use Rattle.hlc_node.specs.declared.item.Item.{Item}
-use Rattle.hlc_floor.specs.declared.heads.TheConstants.{MOST_NUMBERS}
+use Rattle.hlc_heads.specs.declared.heads.TheConstants.{MOST_NUMBERS}
 use Rattle.hlc_core.specs.declared.fault.CoreFault.{CoreFault}
 use Rattle.hlc_core.specs.Past.{Joined as JoinedOf, numbered, floor, join_refusal}
 use Rattle.hlc_core.specs.Kept.{Kept, nodes, StandsFor as CoreStandsFor}

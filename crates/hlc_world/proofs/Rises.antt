@@ -14,7 +14,7 @@ use Rattle.hlc_node.specs.declared.item.Message.{Message}
 use Rattle.hlc_node.specs.declared.node.NodeFault.{NodeFault}
 use Rattle.hlc_node.specs.declared.node.NodeFault.TheVariants as node_fault
 use Rattle.hlc_node.specs.Node.{issue_due}
-use Rattle.hlc_floor.specs.declared.heads.TheConstants.{MOST_NUMBERS}
+use Rattle.hlc_heads.specs.declared.heads.TheConstants.{MOST_NUMBERS}
 use Rattle.hlc_core.specs.Calls.{list_refusal}
 use Rattle.hlc_core.specs.Past.{Step, numbered, retired, count, floor, horizon, opened, stamp_of, open_snapshots}
 use Rattle.hlc_core.specs.Past.{join_refusal, of_room, open_refusal}

@@ -5,8 +5,7 @@ ghost use Rattle.std.proofs.lemmas.Grind.{common_steps};
 
 use hlc_clock::Stamp;
 use hlc_node::Bytes;
-use hlc_values::Exact;
-use std::alloc::AllocError;
+use hlc_values::{Exact, NoMemory};
 
 /// What may happen in a world. Its keys and values are bytes, or what stands for bytes.
 #[derive(PartialEq, Eq, Debug, Drop)]
@@ -94,7 +93,7 @@ impl Clone for Event<Bytes> {
     ghost is_infallible = { λ event. IsPlainEvent event };
 
     /// Only a key and a value take memory.
-    fn clone(&self) -> Result<Event, AllocError> {
+    fn clone(&self) -> Result<Event, NoMemory> {
         match self {
             Event::Write {
                 node,

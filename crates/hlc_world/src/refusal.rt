@@ -6,8 +6,7 @@ ghost use Rattle.std.proofs.lemmas.Grind.{common_steps};
 use hlc_clock::{ClockFault, Stamp};
 use hlc_core::CoreFault;
 use hlc_node::{BodyFault, NodeFault};
-use hlc_values::Exact;
-use std::alloc::AllocError;
+use hlc_values::{Exact, NoMemory};
 
 /// Why an event does not take place.
 #[derive(Clone, Copy, PartialEq, Eq, Debug)]
@@ -120,12 +119,12 @@ impl From<CoreFault> for Refusal {
     }
 }
 
-impl From<AllocError> for Refusal {
+impl From<NoMemory> for Refusal {
     ghost use Rattle.hlc_world.specs.declared.refusal.Refusal.TheVariants.{NoMemory};
 
     ghost from_gives = { λ _ refusal. refusal ≡ NoMemory };
 
-    fn from(_fault: AllocError) -> Refusal {
+    fn from(_fault: NoMemory) -> Refusal {
         Refusal::NoMemory
     }
 }

@@ -12,8 +12,7 @@ use crate::refusal::Refusal;
 use hlc_clock::Stamp;
 use hlc_core::{Listing, Report};
 use hlc_node::Bytes;
-use hlc_values::Exact;
-use std::alloc::AllocError;
+use hlc_values::{Exact, NoMemory};
 
 /// What a world answers to an event.
 #[derive(PartialEq, Eq, Debug, Drop)]
@@ -56,7 +55,7 @@ impl Clone for Reply {
     ghost is_infallible = { λ reply. IsPlainReply reply };
 
     /// Only a value, a listing and a report take memory.
-    fn clone(&self) -> Result<Reply, AllocError> {
+    fn clone(&self) -> Result<Reply, NoMemory> {
         match self {
             Reply::Stamped { stamp, item } => Ok(Reply::Stamped {
                 stamp: *stamp,

@@ -18,9 +18,9 @@ use crate::refusal::Refusal;
 use crate::reply::Reply;
 use hlc_clock::Stamp;
 use hlc_core::{Core, CoreFault, NoMemory};
-use hlc_floor::MOST_NUMBERS;
+use hlc_heads::MOST_NUMBERS;
 use hlc_node::{Body, Bytes, Item, Message};
-use std::alloc::{AllocError, Global};
+use std::alloc::Global;
 use std::marker::Model;
 
 /// Nodes with their clocks, items and messages, and the one store that they feed.
@@ -383,7 +383,7 @@ impl World {
 }
 
 /// So many nodes, on which nothing took place.
-fn fresh_nodes(alloc: Global, count: u16) -> Result<Vec<Issuer>, AllocError>
+fn fresh_nodes(alloc: Global, count: u16) -> Result<Vec<Issuer>, NoMemory>
     ensures { IfOk result (λ made. made.items ≡ fresh_issuers count) }
 {
     let mut made = Vec::new(alloc);

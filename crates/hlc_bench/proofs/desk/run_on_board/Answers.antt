@@ -1,7 +1,7 @@
 -- The feeders that are made with a board are of that board.
 use Rattle.std.proofs.Common.{List, subst, sym}
-use Rattle.hlc_board.specs.Views.{Post, FeedersOf}
-use Rattle.hlc_board.proofs.PlaceLemmas.{feeders_new}
+use Rattle.hlc_floor.specs.Views.{Post, FeedersOf}
+use Rattle.hlc_floor.proofs.PlaceLemmas.{feeders_new}
 use Rattle.hlc_bench.proofs.desk.run_on_board.Goals as goal
 
 pub raising_all-raising-requires : goal.raising_all-raising-requires

@@ -1,8 +1,8 @@
 -- The last pass is the board's, and so are those before it.
 use Rattle.std.proofs.Common.{List, subst}
-use Rattle.hlc_board.specs.Views.{Sight}
-use Rattle.hlc_board.specs.Views.{PassesOf}
-use Rattle.hlc_board.proofs.PlaceLemmas.{passes_last}
+use Rattle.hlc_floor.specs.Views.{Sight}
+use Rattle.hlc_floor.specs.Views.{PassesOf}
+use Rattle.hlc_floor.proofs.PlaceLemmas.{passes_last}
 use Rattle.hlc_bench.proofs.posts.looking_all.Goals as goal
 
 pub invariant_of-push : goal.invariant_of-push

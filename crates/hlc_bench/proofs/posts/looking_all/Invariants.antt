@@ -1,5 +1,5 @@
 -- The passes that are left are the board's.
-use Rattle.hlc_board.specs.Views.{PassesOf}
+use Rattle.hlc_floor.specs.Views.{PassesOf}
 use Rattle.hlc_bench.proofs.posts.looking_all.Given as goal
 
 abbrev pub invariant-loop : goal.invariant-loop

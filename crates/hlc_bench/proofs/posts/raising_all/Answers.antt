@@ -1,8 +1,8 @@
 -- The last feeder is the board's, and so are those before it.
 use Rattle.std.proofs.Common.{List, subst}
-use Rattle.hlc_board.specs.Views.{Post}
-use Rattle.hlc_board.specs.Views.{FeedersOf}
-use Rattle.hlc_board.proofs.PlaceLemmas.{feeders_last}
+use Rattle.hlc_floor.specs.Views.{Post}
+use Rattle.hlc_floor.specs.Views.{FeedersOf}
+use Rattle.hlc_floor.proofs.PlaceLemmas.{feeders_last}
 use Rattle.hlc_bench.proofs.posts.raising_all.Goals as goal
 
 pub invariant_of-push : goal.invariant_of-push

@@ -1,5 +1,5 @@
 -- The feeders that are left are the board's.
-use Rattle.hlc_board.specs.Views.{FeedersOf}
+use Rattle.hlc_floor.specs.Views.{FeedersOf}
 use Rattle.hlc_bench.proofs.posts.raising_all.Given as goal
 
 abbrev pub invariant-loop : goal.invariant-loop

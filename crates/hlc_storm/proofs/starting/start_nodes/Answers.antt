@@ -1,7 +1,7 @@
 -- Each turn takes one feeder off the end of those that are left, and puts one thread into each list.
 use Rattle.std.proofs.Common.{List, subst, arith}
-use Rattle.hlc_board.specs.Views.{Post, FeedersOf}
-use Rattle.hlc_board.proofs.PlaceLemmas.{feeders_last}
+use Rattle.hlc_floor.specs.Views.{Post, FeedersOf}
+use Rattle.hlc_floor.proofs.PlaceLemmas.{feeders_last}
 use Rattle.hlc_storm.proofs.Lengths.{last_off}
 use Rattle.hlc_storm.proofs.starting.start_nodes.Goals as goal
 

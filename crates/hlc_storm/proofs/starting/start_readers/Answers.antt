@@ -1,7 +1,7 @@
 -- Each turn takes one pass off the end of those that are left, and puts one thread into the list.
 use Rattle.std.proofs.Common.{List, subst, arith}
-use Rattle.hlc_board.specs.Views.{Sight, PassesOf}
-use Rattle.hlc_board.proofs.PlaceLemmas.{passes_last}
+use Rattle.hlc_floor.specs.Views.{Sight, PassesOf}
+use Rattle.hlc_floor.proofs.PlaceLemmas.{passes_last}
 use Rattle.hlc_storm.proofs.Lengths.{last_off}
 use Rattle.hlc_storm.proofs.starting.start_readers.Goals as goal
 

@@ -1,7 +1,7 @@
 -- The passes that are left are of the board. Where none lacked memory so far, each of the others has its thread in the
 -- list.
 use Rattle.std.proofs.Common.{◌≡◌, ◌+◌, false, length}
-use Rattle.hlc_board.specs.Views.{PassesOf}
+use Rattle.hlc_floor.specs.Views.{PassesOf}
 use Rattle.hlc_storm.proofs.starting.start_readers.Given as goal
 
 abbrev pub invariant-loop-place : goal.invariant-loop-place

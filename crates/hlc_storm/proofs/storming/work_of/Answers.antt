@@ -1,7 +1,7 @@
 -- A board of so many nodes has as many feeders, and as many passes as it was asked for.
 use Rattle.std.proofs.Common.{◌≡◌, ◌∙◌, ℕ, ◌+◌, IfOk, ap, arith, length, subst}
 use Rattle.std.proofs.lemmas.List.{length-replicate}
-use Rattle.hlc_board.specs.Views.{blind}
+use Rattle.hlc_floor.specs.Views.{blind}
 use Rattle.hlc_storm.proofs.Lengths.{posts_length}
 use Rattle.hlc_storm.proofs.storming.work_of.Goals as goal
 

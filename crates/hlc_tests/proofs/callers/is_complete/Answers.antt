@@ -1,7 +1,7 @@
 -- The head of a node that has not retired is not below the floor, and the floor not below the stamp.
 use Rattle.std.proofs.Common.{◌≡◌, ◌≤◌, ◌<◌, ℕ, true, false, is_le, nat_cmp, ap, sym, ◌∙◌, refl, inl, inr}
 use Rattle.std.proofs.Common.{arith}
-use Rattle.hlc_floor.specs.Heads.{head_at}
+use Rattle.hlc_heads.specs.Heads.{head_at}
 use Rattle.std.proofs.lemmas.Cmp.{by_ranked, ranked}
 use Rattle.hlc_tests.proofs.callers.is_complete.Goals as goal
 

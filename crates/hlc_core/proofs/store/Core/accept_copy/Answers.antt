@@ -1,7 +1,7 @@
 -- As of `accept`: the copy of an item that nothing refuses is the row of its past.
 use Rattle.std.proofs.Common.{◌≡◌, ◌<◌, arith, length, false}
 use Rattle.hlc_node.specs.Items.{retires}
-use Rattle.hlc_floor.specs.Heads.{head_at}
+use Rattle.hlc_heads.specs.Heads.{head_at}
 use Rattle.hlc_core.proofs.Standing.{admitted, admitted-due, heads-set, head-of, heads-length, took}
 use Rattle.hlc_core.proofs.Held.{held-accept}
 use Rattle.hlc_core.proofs.Moved.{fresh, held-moved, stands-moved}

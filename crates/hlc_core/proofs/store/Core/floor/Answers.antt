@@ -1,6 +1,6 @@
 -- The kept heads are those of the past, so their floor is its floor.
 use Rattle.std.proofs.Common.{refl, subst}
-use Rattle.hlc_floor.specs.Heads.{IsFloor}
+use Rattle.hlc_heads.specs.Heads.{IsFloor}
 use Rattle.hlc_core.proofs.Standing.{floor-from}
 use Rattle.hlc_core.proofs.store.Core.floor.Goals as goal
 

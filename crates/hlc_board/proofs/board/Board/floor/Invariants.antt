@@ -1,6 +1,0 @@
--- The nodes below this one were looked at once, and the least is theirs.
-use Rattle.hlc_board.proofs.Looks.{HasLooked}
-use Rattle.hlc_board.proofs.board.Board.floor.Given as goal
-
-abbrev pub invariant-loop-node : goal.invariant-loop-node
-invariant-loop-node l = HasLooked l.fn.pass l.pass l.node l.least

@@ -1,8 +1,0 @@
--- The words are 0 and the first seat holds all numbers, so the rule holds at the start.
-use Rattle.std.proofs.Common.{arith}
-use Rattle.hlc_floor.specs.declared.heads.TheConstants.{MOST_NODES}
-use Rattle.hlc_board.proofs.Fresh.{begins_as}
-use Rattle.hlc_board.proofs.board.Board.new.Goals as goal
-
-pub of_words-requires : goal.of_words-requires
-of_words-requires c = begins_as MOST_NODES _ _ c.from-about.ensures (omega arith)

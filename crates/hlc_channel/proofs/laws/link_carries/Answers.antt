@@ -1,6 +1,0 @@
--- It is the third clause of the rule.
-use Rattle.hlc_channel.proofs.Streams.{carries}
-use Rattle.hlc_channel.proofs.laws.link_carries.Goals as goal
-
-pub returns : goal.returns
-returns c = carries

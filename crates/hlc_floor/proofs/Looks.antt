@@ -1,0 +1,46 @@
+-- A look at one node after another: the least so far is that of the nodes looked at, since each look finds one value
+-- more, and the values seen before stay.
+use Rattle.std.proofs.Common.{◌≡◌, ◌≢◌, ℕ, ◌+◌, ◌<◌, ◌≤◌, min, sym, ◌∙◌, subst, arith}
+use Rattle.std.specs.Prelude.{slice_index}
+use mathlib.Core.Logic.{dite}
+use native.Mathlib.Decide.{ℕ_discrete, dec_le}
+use Rattle.hlc_floor.specs.Views.{Sight, LooksAt}
+
+-- the first `node` nodes were looked at once, and least is the least of what was seen
+pub record HasLooked (first now : Sight) (node least : ℕ) : Type 0 where
+  pub board : now.board ≡ first.board
+  pub among : (k : ℕ) × (k < node) × (slice_index now.seen k ≡ least)
+  pub below : (k : ℕ) → k < node → least ≤ slice_index now.seen k
+  pub looked : (k : ℕ) → k < node → slice_index now.looks k ≡ slice_index first.looks k + 1
+  pub waiting : (k : ℕ) → node ≤ k → slice_index now.looks k ≡ slice_index first.looks k
+  pub rises : (k : ℕ) → slice_index first.seen k ≤ slice_index now.seen k
+
+pub looks_next : (first before after : Sight) (node least n : ℕ) → HasLooked first before node least
+    → LooksAt node n before after
+    → HasLooked first after (node + 1) (min least n)
+looks_next first before after node least n h l =
+    record {
+      board = l.board ∙ h.board;
+      among = among;
+      below = λ k b. dite (ℕ_discrete k node)
+          (λ (e : k ≡ node).
+          subst (λ (j : ℕ). min least n ≤ slice_index after.seen j) (sym e) (let s = l.sees in omega arith))
+          (λ (ne : k ≢ node). let s = l.seen_else k ne in let o = h.below k (omega arith) in omega arith);
+      looked = λ k b. dite (ℕ_discrete k node)
+          (λ (e : k ≡ node). subst (λ (j : ℕ). slice_index after.looks j ≡ slice_index first.looks j + 1) (sym e)
+          (let s = l.counted in let w = h.waiting node (omega arith) in omega arith))
+          (λ (ne : k ≢ node). let s = l.looks_else k ne in let o = h.looked k (omega arith) in omega arith);
+      waiting = λ k b. let s = l.looks_else k (λ e. omega arith) in let o = h.waiting k (omega arith) in omega arith;
+      rises = λ k. dite (ℕ_discrete k node)
+          (λ (e : k ≡ node). subst (λ (j : ℕ). slice_index first.seen j ≤ slice_index after.seen j) (sym e)
+          (let s = l.sees in let r = l.rises in let o = h.rises node in omega arith))
+          (λ (ne : k ≢ node). let s = l.seen_else k ne in let o = h.rises k in omega arith);
+    }
+  where
+    among : (k : ℕ) × (k < node + 1) × (slice_index after.seen k ≡ min least n)
+    among = dite (dec_le least n)
+        (λ (le : least ≤ n).
+        let k = h.among.0 in
+        let s = l.seen_else k (λ e. let b = h.among.1 in omega arith) in
+        (k, (let b = h.among.1 in omega arith), (let v = h.among.2 in omega arith)))
+        (λ (gt : ¬ (least ≤ n)). (node, omega arith, (let s = l.sees in omega arith)))

@@ -1,0 +1,12 @@
+-- The first seat holds no number, and so many passes were cut off it.
+use Rattle.std.proofs.Common.{◌≡◌, [], replicate}
+use Rattle.hlc_floor.specs.Views.{blind}
+use Rattle.hlc_floor.specs.Board.{uncut}
+use Rattle.hlc_floor.proofs.board.cut_passes.Given as goal
+
+abbrev pub invariant-loop-pass : goal.invariant-loop-pass
+invariant-loop-pass l = record {
+  board : l.first.table_id ≡ l.table.shared.table_id;
+  view : l.first.me ≡ (uncut l.nodes l.nodes, []);
+  made : l.all.items ≡ replicate l._pass (blind l.table.shared.table_id);
+}

@@ -1,9 +1,0 @@
--- No group that was looked at is below the least so far, which is one of them; where there is none, none of them has
--- one.
-use Rattle.hlc_floor.specs.Groups.{IsLeastOf}
-use Rattle.hlc_floor.proofs.groups.least_of.Given as goal
-
-abbrev pub invariant-loop-group : goal.invariant-loop-group
-invariant-loop-group l = record {
-  found : IsLeastOf l.group-index l.groups l.least;
-}

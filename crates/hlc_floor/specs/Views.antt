@@ -1,0 +1,62 @@
+-- What a caller sees of a board's feeders and passes.
+use Rattle.std.specs.Prelude.{◌≡◌, ◌≢◌, ℕ, zero, suc, ◌+◌, ◌<◌, ◌≤◌, List, [], ◌∷◌, ◌++◌, ⊤, replicate, slice_index}
+use Rattle.std.specs.Prelude.{if◌then◌else◌}
+use Rattle.atomic_table.specs.Seated.{TableId}
+use Rattle.hlc_heads.specs.Heads.{Acceptance}
+
+-- a feeder of a board: its node, and the word that it raised last
+pub record Post : Type 0 where
+  pub board : TableId
+  pub node : ℕ
+  pub raised : ℕ
+
+-- a pass of a board: for each node the stamp that it saw last, and the number of its looks
+pub record Sight : Type 0 where
+  pub board : TableId
+  pub seen : List ℕ
+  pub looks : List ℕ
+
+-- the word that an accepted item leaves on the board: its stamp, or the greatest word where it was its node's last one
+abbrev pub word_of : Acceptance → ℕ
+word_of accepted = if accepted.retires then 18446744073709551615 else accepted.stamp
+
+-- a feeder of this board, of this node, which raised this last
+abbrev pub post : TableId → ℕ → ℕ → Post
+post board node raised = record { board = board; node = node; raised = raised }
+
+-- a pass of this board, which saw these and looked so often
+abbrev pub sight : TableId → List ℕ → List ℕ → Sight
+sight board seen looks = record { board = board; seen = seen; looks = looks }
+
+-- a pass that has looked at nothing
+abbrev pub blind : TableId → Sight
+blind board = sight board (replicate board.words 0) (replicate board.words 0)
+
+-- the feeders of the first n nodes, in order, before they raised anything
+abbrev pub posts : TableId → ℕ → List Post
+posts board zero = []
+posts board (suc n) = posts board n ++ post board n 0 ∷ []
+
+-- the feeders are of this board
+abbrev pub FeedersOf : TableId → List Post → Type 0
+FeedersOf board [] = ⊤
+FeedersOf board (feeder ∷ feeders) = (feeder.board ≡ board) × FeedersOf board feeders
+
+-- the passes are of this board
+abbrev pub PassesOf : TableId → List Sight → Type 0
+PassesOf board [] = ⊤
+PassesOf board (pass ∷ passes) = (pass.board ≡ board) × PassesOf board passes
+
+-- one look at the word of a node found n there. Nothing else of what was seen changed
+pub record LooksAt (node n : ℕ) (before after : Sight) : Type 0 where
+  pub board : after.board ≡ before.board
+  pub sees : slice_index after.seen node ≡ n
+  pub counted : slice_index after.looks node ≡ slice_index before.looks node + 1
+  pub rises : slice_index before.seen node ≤ n
+  pub seen_else : (k : ℕ) → k ≢ node → slice_index after.seen k ≡ slice_index before.seen k
+  pub looks_else : (k : ℕ) → k ≢ node → slice_index after.looks k ≡ slice_index before.looks k
+
+-- n is the least of the first `count` numbers
+pub record IsLeast (count : ℕ) (xs : List ℕ) (n : ℕ) : Type 0 where
+  pub among : (k : ℕ) × (k < count) × (slice_index xs k ≡ n)
+  pub below : (k : ℕ) → k < count → n ≤ slice_index xs k

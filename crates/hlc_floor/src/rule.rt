@@ -1,0 +1,68 @@
+//! The rule of a board's table, and its kinds of step.
+use atomic_table::{Play, Split, TableRule};
+use std::collections::LinkedList;
+
+/// What a seat of the board holds. It stands in the rule alone: no value of it is made.
+pub struct Place {
+    /// It holds the numbers from this one ..
+    pub from: u64,
+    /// .. and below this one.
+    pub to: u64,
+    /// The stamp that it raised last.
+    pub raised: u64,
+    /// For each node the stamp that it saw last.
+    pub seen: LinkedList<u64>,
+    /// For each node how often it looked.
+    pub looks: LinkedList<u64>,
+}
+
+/// The rule of a board: it holds between any two steps.
+pub struct Fresh;
+
+impl TableRule<(), Place, u64> for Fresh {
+    ghost use Rattle.hlc_floor.specs.Board.{IsFresh, uncut};
+
+    ghost holds = { λ nodes state. IsFresh nodes state };
+
+    ghost first = { λ nodes. uncut nodes 0 };
+}
+
+/// A step of a feeder: a larger stamp is stored in its node's word.
+pub struct Raise;
+
+impl Play<(), Place> for Raise {
+    ghost use Rattle.hlc_floor.specs.Board.{Raises};
+
+    ghost then = { Raises };
+}
+
+/// A step of a pass: one word is loaded.
+pub struct Look;
+
+impl Play<(), Place> for Look {
+    ghost use Rattle.hlc_floor.specs.Board.{Looks};
+
+    ghost then = { Looks };
+}
+
+/// The least number that a seat holds is cut off, for a feeder.
+pub struct CutFeeder;
+
+impl Split<Place> for CutFeeder {
+    ghost use Rattle.hlc_floor.specs.Board.{without_first, feeder_place};
+
+    ghost left = { without_first };
+
+    ghost right = { λ place. feeder_place place.from place.raised };
+}
+
+/// A pass is cut off, which holds no number.
+pub struct CutPass;
+
+impl Split<Place> for CutPass {
+    ghost use Rattle.hlc_floor.specs.Board.{pass_place};
+
+    ghost left = { λ place. place };
+
+    ghost right = { λ place. pass_place place.seen place.looks };
+}

@@ -1,0 +1,2 @@
+pub mod LowLemmas
+pub mod LeastGroups

@@ -1,0 +1,83 @@
+-- The heads of all nodes, and the floor.
+use Rattle.std.specs.Prelude.{◌≡◌, ℕ, ◌<◌, ◌≤◌, ◌⊎◌, ◌++◌, Bool, true, false, List, [], ◌∷◌, length}
+use Rattle.std.specs.Prelude.{max, replicate}
+use Rattle.std.specs.Prelude.{slice_set, slice_index_or, Result, Ok, Err}
+use Rattle.hlc_heads.specs.Low.{low}
+use Rattle.hlc_heads.specs.declared.heads.TheConstants.{MOST_NODES, MOST_NUMBERS}
+use Rattle.hlc_heads.specs.declared.heads.Head.{Head}
+use Rattle.hlc_heads.specs.declared.heads.HeadsFault.{HeadsFault}
+use Rattle.hlc_heads.specs.declared.heads.HeadsFault.TheVariants.{NoNode, NoMemory}
+use Rattle.hlc_heads.specs.declared.heads.JoinFault.{JoinFault}
+use Rattle.hlc_heads.specs.declared.heads.JoinFault.TheVariants.{TooManyNodes, NoMemory as NoRoom}
+
+-- what the word of an accepted item says: its node, its stamp, and whether it was the node's last
+-- one
+pub record Acceptance : Type 0 where
+  pub node : ℕ
+  pub stamp : ℕ
+  pub retires : Bool
+
+-- the head of each node, and the greatest stamp of an accepted item, 0 where there is none
+pub record Marks : Type 0 where
+  pub heads : List Head
+  pub top : ℕ
+
+-- there is a head, and there are no more than numbers are given
+pub record IsSized (marks : Marks) : Type 0 where
+  pub some : 0 < length marks.heads
+  pub few : length marks.heads ≤ MOST_NUMBERS
+
+-- a head with these parts
+abbrev pub a_head : ℕ → Bool → Head
+a_head stamp retired = record { stamp = stamp; retired = retired }
+
+-- the head of this node; where there is no such node, one that is retired
+abbrev pub head_at : List Head → ℕ → Head
+head_at heads node = slice_index_or heads node (a_head 0 true)
+
+-- an item of this node and stamp was accepted, which was its last one or not
+abbrev pub marked : Marks → ℕ → ℕ → Bool → Marks
+marked marks node stamp last =
+    record { heads = slice_set marks.heads node (a_head stamp last); top = max marks.top stamp }
+
+-- a node more, whose head is its start
+abbrev pub joined : Marks → ℕ → Marks
+joined marks start = record { heads = marks.heads ++ a_head start false ∷ []; top = marks.top }
+
+-- every node retired
+abbrev pub AllRetired : List Head → Type 0
+AllRetired heads = (k : ℕ) → k < length heads → (head_at heads k).retired ≡ true
+
+-- the least head of the nodes that have not retired
+pub record IsLeast (heads : List Head) (low : ℕ) : Type 0 where
+  pub is_head : (k : ℕ) × (k < length heads) × ((head_at heads k).retired ≡ false)
+      × ((head_at heads k).stamp ≡ low)
+  pub least : (k : ℕ) → k < length heads → (head_at heads k).retired ≡ false
+      → low ≤ (head_at heads k).stamp
+
+-- the floor is the least head of the nodes that have not retired; where all retired, it is the
+-- greatest stamp of an accepted item
+abbrev pub IsFloor : Marks → ℕ → Type 0
+IsFloor marks floor = IsLeast marks.heads floor ⊎ (AllRetired marks.heads × (floor ≡ marks.top))
+
+-- so many heads are made, each of them 0; or that number is none or more than may be; or there is
+-- no memory
+abbrev pub Makes : ℕ → Result Marks HeadsFault → Type 0
+Makes count (Ok marks) =
+    (0 < count) × (count ≤ MOST_NODES)
+    × (marks ≡ record { heads = replicate count (a_head 0 false); top = 0 })
+Makes count (Err NoNode) = (count ≡ 0) ⊎ (MOST_NODES < count)
+Makes count (Err NoMemory) = (0 < count) × (count ≤ MOST_NODES)
+
+-- a node joined at the floor, with the next number; or no number is left; or there is no memory
+abbrev pub Joins : Marks → Marks → Result (ℕ × ℕ) JoinFault → Type 0
+Joins old new (Ok made) =
+    (length old.heads < MOST_NUMBERS) × (made.0 ≡ length old.heads) × IsFloor old made.1
+    × (new ≡ joined old made.1)
+Joins old new (Err TooManyNodes) = (MOST_NUMBERS ≤ length old.heads) × (new ≡ old)
+Joins old new (Err NoRoom) = (length old.heads < MOST_NUMBERS) × (new ≡ old)
+
+-- the floor of these heads
+abbrev pub floor_of : Marks → ℕ
+floor_of marks =
+    low (λ k. (head_at marks.heads k).stamp) (λ k. (head_at marks.heads k).retired) (length marks.heads) marks.top

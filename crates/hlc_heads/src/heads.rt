@@ -1,0 +1,231 @@
+//! The head of each link, and the floor.
+ghost use Rattle.std.specs.Prelude.{◌≡◌, ◌<◌, false, true, length};
+ghost use Rattle.std.proofs.Common.{rules};
+ghost use Rattle.std.proofs.lemmas.Grind.{common_steps};
+ghost use Rattle.hlc_heads.specs.declared.heads.TheConstants.{MOST_NODES, MOST_NUMBERS};
+ghost use Rattle.hlc_heads.specs.Heads.{
+  Makes,
+  Joins,
+  IsFloor,
+  head_at,
+  marked,
+};
+
+use crate::accepted::Accepted;
+use crate::groups::{GROUP, groups_of, least_of, regroup};
+use hlc_clock::Stamp;
+use hlc_values::Exact;
+use std::alloc::Global;
+use std::marker::Model;
+
+/// The most nodes that there may be at the start.
+pub const MOST_NODES: u16 = 64;
+
+/// There are at most 64 nodes at the start.
+pub fn most_nodes_are_64()
+    ensures { MOST_NODES ≡ 64 }
+{}
+
+/// The most numbers that are given to nodes, those of the start and of all that join. None is given
+/// twice.
+pub const MOST_NUMBERS: u16 = 1024;
+
+/// At most 1,024 numbers are given to nodes.
+pub fn most_numbers_are_1024()
+    ensures { MOST_NUMBERS ≡ 1024 }
+{}
+
+/// Why no heads are made.
+#[derive(Clone, Copy, PartialEq, Eq, Debug)]
+pub enum HeadsFault {
+    /// The count of nodes is not 1 to 64.
+    NoNode,
+    /// A growth was refused.
+    NoMemory,
+}
+
+impl Exact for HeadsFault {
+    ghost equal = { Prim.search (rules, common_steps) };
+
+    ghost copied = { Prim.search rules };
+}
+
+/// Why no node joins.
+#[derive(Clone, Copy, PartialEq, Eq, Debug)]
+pub enum JoinFault {
+    /// 1,024 numbers were given already.
+    TooManyNodes,
+    /// A growth was refused.
+    NoMemory,
+}
+
+impl Exact for JoinFault {
+    ghost equal = { Prim.search (rules, common_steps) };
+
+    ghost copied = { Prim.search rules };
+}
+
+/// The head of a node: the stamp of its last accepted item or else of its start, and whether that
+/// item was the node's last.
+#[derive(Clone, Copy, PartialEq, Eq, Debug)]
+pub struct Head {
+    pub stamp: Stamp,
+    pub retired: bool,
+}
+
+impl Exact for Head {
+    ghost equal = { Prim.search (rules, common_steps) };
+
+    ghost copied = { Prim.search rules };
+}
+
+/// The head of each node, and the greatest stamp of an accepted item. Contracts see the list of the
+/// heads, by node, and that stamp.
+#[derive(Drop)]
+pub struct Heads {
+    heads: Vec<Head>,
+    /// Of each group of nodes the least head of those that have not retired, if there is one.
+    groups: [Option<Stamp>; GROUP],
+    top: Stamp,
+    floor: Stamp,
+}
+
+impl Model for Heads {
+    ghost use Rattle.hlc_heads.specs.Heads.{Marks, IsSized, IsFloor};
+    ghost use Rattle.hlc_heads.specs.Groups.{AreGroups};
+
+    ghost Value = { Marks };
+
+    ghost view = { λ heads. record { heads = heads.heads.items; top = heads.top } };
+
+    ghost invariant = { λ heads. IsSized (record { heads = heads.heads.items; top = heads.top })
+        × IsFloor (record { heads = heads.heads.items; top = heads.top }) heads.floor
+        × AreGroups heads.heads.items heads.groups };
+}
+
+impl Heads {
+    /// The heads of so many nodes, 1 to 64, of which nothing was accepted. Nodes are numbered from
+    /// 0 and start at 0.0.
+    pub fn new(alloc: Global, nodes: u16) -> Result<Heads, HeadsFault>
+        ensures { Makes nodes result }
+    {
+        if nodes == 0 || nodes > MOST_NODES {
+            return Err(HeadsFault::NoNode);
+        }
+        let head = Head {
+            stamp: Stamp::from_bits(0),
+            retired: false,
+        };
+        match vec![in alloc; head; nodes as usize] {
+            Ok(heads) => Ok(Heads {
+                groups: groups_of(&heads),
+                heads,
+                top: Stamp::from_bits(0),
+                floor: Stamp::from_bits(0),
+            }),
+            Err(_) => Err(HeadsFault::NoMemory),
+        }
+    }
+
+    /// The head of a node, which is below the count of nodes.
+    pub fn head(&self, node: u16) -> Stamp
+        requires { node < length self.now.heads }
+        ensures { result ≡ (head_at self.now.heads node).stamp }
+    {
+        self.heads[node as usize].stamp
+    }
+
+    /// Whether a node, which is below the count of nodes, retired.
+    pub fn is_retired(&self, node: u16) -> bool
+        requires { node < length self.now.heads }
+        ensures { result ≡ (head_at self.now.heads node).retired }
+    {
+        self.heads[node as usize].retired
+    }
+
+    /// An item of this node, with this stamp, was accepted: the stamp is the node's head from now
+    /// on. The node is below the count of nodes and has not retired, and the stamp is above its
+    /// head.
+    pub fn raise(&mut self, node: u16, stamp: Stamp) -> Accepted
+        requires node { node < length self.old.heads }
+        requires open { (head_at self.old.heads node).retired ≡ false }
+        requires rising { (head_at self.old.heads node).stamp < stamp }
+        ensures raised { self.new ≡ marked self.old node stamp false }
+        ensures accepted { result ≡ record { node = node; stamp = stamp; retires = false } }
+    {
+        self.mark(node, stamp, false)
+    }
+
+    /// The last item of this node, with this stamp, was accepted: the node counts no more in the
+    /// floor. The node is below the count of nodes and has not retired, and the stamp is above its
+    /// head.
+    pub fn retire(&mut self, node: u16, stamp: Stamp) -> Accepted
+        requires node { node < length self.old.heads }
+        requires open { (head_at self.old.heads node).retired ≡ false }
+        requires rising { (head_at self.old.heads node).stamp < stamp }
+        ensures retired { self.new ≡ marked self.old node stamp true }
+        ensures accepted { result ≡ record { node = node; stamp = stamp; retires = true } }
+    {
+        self.mark(node, stamp, true)
+    }
+
+    /// The stamp is the node's head, and the top where it is above it. The floor stays, unless the
+    /// node stood there: then it is looked for.
+    fn mark(&mut self, node: u16, stamp: Stamp, last: bool) -> Accepted
+        requires node { node < length self.old.heads }
+        requires open { (head_at self.old.heads node).retired ≡ false }
+        requires rising { (head_at self.old.heads node).stamp < stamp }
+        ensures marked { self.new ≡ marked self.old node stamp last }
+        ensures accepted { result ≡ record { node = node; stamp = stamp; retires = last } }
+    {
+        let place = node as usize;
+        let was = self.heads[place].stamp;
+        self.heads[place] = Head {
+            stamp,
+            retired: last,
+        };
+        if stamp > self.top {
+            self.top = stamp;
+        }
+        regroup(&mut self.groups, &self.heads, place, was);
+        if was == self.floor {
+            self.floor = least_of(&self.groups).unwrap_or(self.top);
+        }
+        Accepted::new(node, stamp, last)
+    }
+
+    /// A node joins: it is given the next number, and starts at the floor, which is its first head.
+    /// So the floor stays.
+    ///
+    /// Refused, in this order: 1,024 numbers were given; want of memory.
+    pub fn join(&mut self) -> Result<(u16, Stamp), JoinFault>
+        ensures { Joins self.old self.new result }
+    {
+        if self.heads.len() >= MOST_NUMBERS as usize {
+            return Err(JoinFault::TooManyNodes);
+        }
+        let place = self.heads.len();
+        let start = self.floor;
+        let head = Head {
+            stamp: start,
+            retired: false,
+        };
+        match self.heads.push(head) {
+            Ok(()) => {
+                self.groups[place / GROUP] = Some(start);
+                Ok((place as u16, start))
+            }
+            Err(_) => Err(JoinFault::NoMemory),
+        }
+    }
+
+    /// The floor: the least head of the nodes that have not retired; where all did, the greatest
+    /// stamp of an accepted item. It never falls, and every item that is accepted later lies above
+    /// it. It is at hand, however many nodes came and went: `raise` and `retire` keep it, looking at
+    /// 32 heads where the node stood lowest of its group, and at 32 groups where it stood at the floor.
+    pub fn floor(&self) -> Stamp
+        ensures { IsFloor self.now result }
+    {
+        self.floor
+    }
+}

@@ -1,0 +1,13 @@
+//! The heads of all links, the floor that they make, and the word that an item was accepted.
+#![tactic(auto)]
+
+mod accepted;
+mod groups;
+mod heads;
+
+pub use accepted::Accepted;
+pub use heads::{
+    Head, Heads, HeadsFault, JoinFault, MOST_NODES, MOST_NUMBERS, most_nodes_are_64,
+    most_numbers_are_1024,
+};
+pub use hlc_clock::Stamp;

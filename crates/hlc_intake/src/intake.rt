@@ -1,0 +1,126 @@
+//! The receiving end of a link, as far as order goes.
+ghost use Rattle.std.specs.Prelude.{◌≡◌, false};
+ghost use Rattle.std.proofs.Common.{rules};
+ghost use Rattle.std.proofs.lemmas.Grind.{common_steps};
+ghost use Rattle.hlc_intake.specs.Progress.{Admits};
+
+use hlc_clock::Stamp;
+use hlc_values::Exact;
+use std::marker::Model;
+
+/// Why an item is not admitted.
+#[derive(Clone, Copy, PartialEq, Eq, Debug)]
+pub enum LinkFault {
+    /// The link's last admitted item was its node's last.
+    Retired,
+    /// The link number is not the next one.
+    NotNext { next: u64 },
+    /// The number is u64::MAX, which no item bears: none would be left after it.
+    NumbersSpent,
+    /// The stamp is not above that of the link's last admitted item.
+    StampNotRising { head: Stamp },
+}
+
+impl Exact for LinkFault {
+    ghost equal = { Prim.search (rules, common_steps) };
+
+    ghost copied = { Prim.search rules };
+}
+
+/// How far a node's link has come: the number of its next item, the stamp of the last admitted one
+/// or else of the node's start, which is the head, and whether it was its node's last item. It knows
+/// the order alone, not what the items say.
+#[derive(Clone, Copy, PartialEq, Eq, Debug)]
+pub struct Intake {
+    next: u64,
+    head: Stamp,
+    retired: bool,
+}
+
+impl Model for Intake {
+    ghost use Rattle.hlc_intake.specs.Progress.{Progress};
+
+    ghost Value = { Progress };
+
+    ghost view = { λ intake. record
+        { next = intake.next; head = intake.head; retired = intake.retired } };
+
+    ghost inverse = { λ progress. record
+        { next = progress.next; head = progress.head; retired = progress.retired } };
+}
+
+impl Exact for Intake {
+    ghost equal = { Prim.search (rules, common_steps) };
+
+    ghost copied = { Prim.search rules };
+}
+
+impl Intake {
+    /// The intake of a link on which nothing came: its first item has number 0, and its head is
+    /// 0.0, the stamp of no item.
+    pub fn new() -> Intake
+        ensures { result ≡ record { next = 0; head = 0; retired = false } }
+    {
+        Intake::starting_at(Stamp::from_bits(0))
+    }
+
+    /// The intake of the link of a node that starts at this stamp: its first item has number 0, and
+    /// lies above the start.
+    pub fn starting_at(start: Stamp) -> Intake
+        ensures { result ≡ record { next = 0; head = start; retired = false } }
+    {
+        Intake {
+            next: 0,
+            head: start,
+            retired: false,
+        }
+    }
+
+    /// The number of the next item, which is also how many were admitted.
+    pub fn next(&self) -> u64
+        ensures { result ≡ self.now.next }
+    {
+        self.next
+    }
+
+    /// The stamp of the last admitted item, that of the start where there is none.
+    pub fn head(&self) -> Stamp
+        ensures { result ≡ self.now.head }
+    {
+        self.head
+    }
+
+    /// Whether the last admitted item was its node's last.
+    pub fn retired(&self) -> bool
+        ensures { result ≡ self.now.retired }
+    {
+        self.retired
+    }
+
+    /// Admits the item of this number and stamp, if it is the link's next one. It may be the node's
+    /// last one.
+    ///
+    /// Refused, in this order: the node retired; not the next number; no number left after it; a
+    /// stamp not above the head. A refusal leaves the intake unchanged, and takes no memory, as no
+    /// call here does.
+    pub fn admit(&mut self, number: u64, stamp: Stamp, last: bool) -> Result<(), LinkFault>
+        ensures { Admits self.old self.new number stamp last result }
+    {
+        if self.retired {
+            return Err(LinkFault::Retired);
+        }
+        if number != self.next {
+            return Err(LinkFault::NotNext { next: self.next });
+        }
+        if number == u64::MAX {
+            return Err(LinkFault::NumbersSpent);
+        }
+        if stamp <= self.head {
+            return Err(LinkFault::StampNotRising { head: self.head });
+        }
+        self.next = number + 1;
+        self.head = stamp;
+        self.retired = last;
+        Ok(())
+    }
+}
