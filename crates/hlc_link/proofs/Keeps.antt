@@ -7,15 +7,15 @@ use Rattle.std.proofs.Common.{refl, ap, ◌∙◌, subst, ⊎_elim, append_assoc
 use Rattle.std.proofs.lemmas.List.{map-append}
 use mathlib.Core.Option.{some, some-ne-none}
 use lib.ListN.{get_elem?}
-use Rattle.crossbeam_channel.specs.Fifo.{Pushes, Pops, Forks}
-use Rattle.atomic_table.proofs.Lists.{at_set, at_snoc}
+use Rattle.crossbeam_channel.specs.Fifo.{Pushes, Pops, Forks, Merges, Learns}
+use Rattle.atomic_table.proofs.Lists.{at_set, at_snoc, set_again}
 use Rattle.hlc_node.specs.declared.item.Item.{Item}
 use Rattle.hlc_link.specs.declared.rule.Parcel.{Parcel}
 use Rattle.hlc_link.proofs.Streams.{as_stream, by_stream}
 use Rattle.hlc_link.specs.declared.rule.Parcel.TheVariants as parcel
 use Rattle.hlc_link.specs.declared.rule.Hand.{Hand}
 use Rattle.hlc_link.specs.Link.{stream, IsSender, IsReceiver, IsInOrder, both, sender, receiver, sender_of}
-use Rattle.hlc_link.specs.Link.{receiver_of}
+use Rattle.hlc_link.specs.Link.{receiver_of, nobody, joined, Carries}
 use Rattle.hlc_link.specs.Link.{after_put, after_take}
 
 off : false ≡ true → ⊥
@@ -201,8 +201,62 @@ cuts seat v may can items views h at =
           ∙ ap (λ (u : Hand). taken_by u ++ items) (receiver_is j b q))),
     )
 
+-- a pass that may do nothing is cut off
+pub spares : (seat : ℕ) (v : Hand) → Forks IsInOrder seat v v nobody
+spares seat v items views h at =
+    let vs : List Hand = set views seat v in
+    let same : vs ≡ views = set_again views seat v at in
+    let old : (can : Hand → Bool) → can nobody ≡ false → (s : ℕ) (a : Hand) → May can (vs ++ nobody ∷ []) s a
+    → May can views s a =
+    λ can none s a p. ⊎_elim
+    (λ (t : get_elem? vs s ≡ some a). (subst (λ (l : List Hand). get_elem? l s ≡ some a) same t, p.1))
+    (λ (t : nobody ≡ a). absurd (off (sym none ∙ ap can t ∙ p.1)))
+    (at_snoc vs nobody a s p.0) in (
+      (λ s t a b p q. h.0 s t a b (old may_put refl s a p) (old may_put refl t b q)),
+      (λ s t a b p q. h.1 s t a b (old may_take refl s a p) (old may_take refl t b q)),
+      (λ s r a b p q. h.2 s r a b (old may_put refl s a p) (old may_take refl r b q)),
+    )
+
+-- the sender's pass takes in the receiver's: the one pass is then both, and the other may do nothing
+pub merges : (seat : ℕ) (v : Hand) (other : ℕ) (w : Hand) → v.puts ≡ true → w.takes ≡ true
+    → Merges IsInOrder seat v other w (joined v w) nobody
+merges seat v other w may can items views h at apart at' =
+    let b : Hand = joined v w in
+    let vs : List Hand = set views seat b in
+    let was : get_elem? views other ≡ some w =
+    ⊎_elim
+    (λ (t : (other ≡ seat) × (b ≡ w)). absurd (apart t.0))
+    (λ (t : (other ≢ seat) × (get_elem? views other ≡ some w)). t.1)
+    (at_set views seat other b w at') in
+    let left : (able : Hand → Bool) → able nobody ≡ false → (s : ℕ) (a : Hand) → May able (set vs other nobody) s a
+    → (s ≢ other) × May able vs s a =
+    λ able none s a p. ⊎_elim
+    (λ (t : (s ≡ other) × (nobody ≡ a)). absurd (off (sym none ∙ ap able t.1 ∙ p.1)))
+    (λ (t : (s ≢ other) × (get_elem? vs s ≡ some a)). (t.0, (t.1, p.1)))
+    (at_set vs other s nobody a p.0) in
+    let here : (r : ℕ) (a : Hand) → IsReceiver (set vs other nobody) r a → (r ≡ seat) × (b ≡ a) =
+    λ r a p. let l = left may_take refl r a p in ⊎_elim
+    (λ (t : (r ≡ seat) × (b ≡ a)). t)
+    (λ (t : (r ≢ seat) × (get_elem? views r ≡ some a)). absurd (l.0 (h.1 r other a w (t.1, p.1) (was, can))))
+    (at_set views seat r b a l.1.0) in (
+      (λ s t x y p q. one may_put views seat v b at refl h.0 s t x y (left may_put refl s x p).1
+          (left may_put refl t y q).1),
+      (λ r t x y p q. (here r x p).0 ∙ sym (here t y q).0),
+      (λ s r x y p q.
+          let p' = kept may_put put_by views seat v b s x at refl refl (left may_put refl s x p).1 in
+          by_stream items x y
+          (p'.2
+          ∙ as_stream items p'.0 w (h.2 s other p'.0 w p'.1 (was, can))
+          ∙ ap (λ (u : Hand). taken_by u ++ items) (here r y q).1)),
+    )
+
+-- a pass that is both knows what the link carries
+pub learns : (seat : ℕ) (v : Hand) → v.puts ≡ true → v.takes ≡ true
+    → Learns IsInOrder seat v (λ items. Carries items v v)
+learns seat v may can items views h at = h.2 seat seat v v (at, may) (at, can)
+
 -- the steps, at a view that is known
-pub puts_as : (n seat : ℕ) (v : Hand) (x : Parcel) (items : List Item) → v ≡ sender items
+pub puts_as : (n seat : ℕ) (v : Hand) (x : Parcel) (items : List Item) → v ≡ sender items false
     → Pushes IsInOrder n seat v x (λ w. w ≡ after_put v x)
 puts_as n seat v x items is = puts n seat v x (ap may_put is) (ap (λ (u : Hand). u.end_put) is)
 

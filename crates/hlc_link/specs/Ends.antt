@@ -1,19 +1,57 @@
--- What a caller sees of the receiving end.
-use Rattle.std.specs.Prelude.{Bool, true, List, [], ◌∷◌, ◌++◌}
+-- What a caller sees of the two ends of a link.
+use Rattle.std.specs.Prelude.{◌≡◌, Bool, true, List, [], ◌∷◌, ◌++◌}
+use Rattle.atomic_table.specs.Seated.{TableId}
+use Rattle.atomic_table.specs.declared.badge.Badge.{Badge}
+use Rattle.crossbeam_channel.specs.declared.flavors.array.Key.{Key}
+use Rattle.crossbeam_channel.specs.Claims.{Pass}
 use Rattle.hlc_node.specs.declared.item.Item.{Item}
 use Rattle.hlc_link.specs.declared.rule.Parcel.{Parcel}
 use Rattle.hlc_link.specs.declared.rule.Parcel.TheVariants as parcel
+use Rattle.hlc_link.specs.declared.rule.Hand.{Hand}
 
--- the items taken so far, and whether the end was taken
+-- which link an end belongs to: the two tables of its channel
+pub record LinkId : Type 0 where
+  pub stamps : TableId
+  pub messages : Badge (Key Parcel)
+
+-- the link that a pass was made for
+abbrev pub link_of : Pass Parcel Hand → LinkId
+link_of pass = record { stamps = pass.table_id; messages = pass.me.0.of }
+
+-- the sending end: its link, the items put so far, and whether the end was put
+pub record Sending : Type 0 where
+  pub link : LinkId
+  pub put : List Item
+  pub ended : Bool
+
+-- a sending end of this link that has put these
+abbrev pub sending : LinkId → List Item → Bool → Sending
+sending link put ended = record { link = link; put = put; ended = ended }
+
+-- what was put, with one item more
+abbrev pub with_item : Sending → Item → Sending
+with_item s x = sending s.link (s.put ++ x ∷ []) s.ended
+
+-- what was put, with the end
+abbrev pub with_end : Sending → Sending
+with_end s = sending s.link s.put true
+
+-- the receiving end: its link, the items taken so far, and whether the end was taken
 pub record Received : Type 0 where
+  pub link : LinkId
   pub taken : List Item
   pub ended : Bool
 
--- a receiving end that has taken these
-abbrev pub received : List Item → Bool → Received
-received taken ended = record { taken = taken; ended = ended }
+-- a receiving end of this link that has taken these
+abbrev pub received : LinkId → List Item → Bool → Received
+received link taken ended = record { link = link; taken = taken; ended = ended }
 
 -- what was taken, with one parcel more
 abbrev pub with_parcel : Received → Parcel → Received
-with_parcel r (parcel.Item x) = received (r.taken ++ x ∷ []) r.ended
-with_parcel r parcel.End = received r.taken true
+with_parcel r (parcel.Item x) = received r.link (r.taken ++ x ∷ []) r.ended
+with_parcel r parcel.End = received r.link r.taken true
+
+-- The items put are those taken, followed by those held. The end was taken only where it was put and no item is held.
+pub record HasCarried (sender : Sending) (receiver : Received) (held : List Item) : Type 0 where
+  pub items : sender.put ≡ receiver.taken ++ held
+  pub all_taken : receiver.ended ≡ true → (sender.ended ≡ true) × (held ≡ [])

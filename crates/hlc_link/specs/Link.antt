@@ -54,9 +54,10 @@ IsInOrder held views =
 abbrev pub both : Hand
 both = record { puts = true; put = []; end_put = false; takes = true; taken = []; end_taken = false }
 
--- a sender's pass that has put these, and not the end
-abbrev pub sender : List Item → Hand
-sender items = record { puts = true; put = items; end_put = false; takes = false; taken = []; end_taken = false }
+-- a sender's pass that has put these, and whether it put the end
+abbrev pub sender : List Item → Bool → Hand
+sender items ended =
+    record { puts = true; put = items; end_put = ended; takes = false; taken = []; end_taken = false }
 
 -- a receiver's pass that has taken these, and whether it took the end
 abbrev pub receiver : List Item → Bool → Hand
@@ -71,6 +72,21 @@ sender_of v = record { puts = v.puts; put = v.put; end_put = v.end_put; takes = 
 abbrev pub receiver_of : Hand → Hand
 receiver_of v =
     record { puts = false; put = []; end_put = false; takes = v.takes; taken = v.taken; end_taken = v.end_taken }
+
+-- a pass that may neither put nor take
+abbrev pub nobody : Hand
+nobody = record { puts = false; put = []; end_put = false; takes = false; taken = []; end_taken = false }
+
+-- the part of one pass that puts, with the part of another that takes
+abbrev pub joined : Hand → Hand → Hand
+joined v w = record {
+  puts = v.puts;
+  put = v.put;
+  end_put = v.end_put;
+  takes = w.takes;
+  taken = w.taken;
+  end_taken = w.end_taken;
+}
 
 -- a pass that has put one parcel more
 abbrev pub after_put : Hand → Parcel → Hand

@@ -3,7 +3,7 @@ ghost use Rattle.std.specs.Prelude.{⊤};
 ghost use Rattle.std.proofs.Common.{rules};
 ghost use Rattle.std.proofs.lemmas.Grind.{common_steps};
 
-use crossbeam_channel::protocol::{Lesson, Outcome, Protocol, Split};
+use crossbeam_channel::protocol::{Join, Lesson, Outcome, Protocol, Split};
 use hlc_node::Item;
 use hlc_values::Exact;
 use std::collections::LinkedList;
@@ -60,6 +60,35 @@ impl Split<Hand> for Ends {
     ghost left = { sender_of };
 
     ghost right = { receiver_of };
+}
+
+/// The two parts are one pass again.
+impl Join<Hand> for Ends {
+    ghost use Rattle.hlc_link.specs.Link.{joined, nobody};
+
+    ghost both = { joined };
+
+    ghost spent = { nobody };
+}
+
+/// A pass that may do nothing is cut off.
+pub struct Spare;
+
+impl Split<Hand> for Spare {
+    ghost use Rattle.hlc_link.specs.Link.{nobody};
+
+    ghost left = { λ hand. hand };
+
+    ghost right = { λ hand. nobody };
+}
+
+/// What a pass knows that is the sender's and the receiver's: what the link carries.
+pub struct Carried;
+
+impl Lesson<Parcel, Hand> for Carried {
+    ghost use Rattle.hlc_link.specs.Link.{Carries};
+
+    ghost fact = { λ hand parcels. Carries parcels hand hand };
 }
 
 /// A step of the sender: one parcel is put at the back.

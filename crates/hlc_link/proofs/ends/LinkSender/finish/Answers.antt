@@ -1,6 +1,0 @@
--- The end that is put keeps the rule: the pass is the sender's, and it has not put the end.
-use Rattle.hlc_link.proofs.Keeps.{puts_as}
-use Rattle.hlc_link.proofs.ends.LinkSender.finish.Goals as goal
-
-pub send_as-requires-clause-rule : goal.send_as-requires-clause-rule
-send_as-requires-clause-rule g c = (puts_as _ _ _ _ _ c.self.invariant.1, λ items views h at. tt)
