@@ -128,11 +128,11 @@ module _ {S : Type 0} where
       )
 
   -- a pass loads a word
-  pub looks : (nodes slots id k : ℕ) (seen counts : List ℕ)
-      → Allows (IsFresh {S = S} nodes) slots id (pass_place seen counts, []) k (λ n. n)
-      (Looks (step slots k 0 0 none) (pass_place seen counts, []))
-  looks nodes slots id k seen counts s h _ at _ =
-      let v : Place = pass_place seen counts in
+  pub looks : (nodes slots id k : ℕ) (seen : List ℕ) (found : List (List ℕ))
+      → Allows (IsFresh {S = S} nodes) slots id (pass_place seen found, []) k (λ n. n)
+      (Looks (step slots k 0 0 none) (pass_place seen found, []))
+  looks nodes slots id k seen found s h _ at _ =
+      let v : Place = pass_place seen found in
       let n : ℕ = get_or s.words k 0 in
       let w : Place = looked v k n in
       let same : set s.words k n ≡ s.words = set-get_or s.words k 0 in (
@@ -212,9 +212,9 @@ module _ {S : Type 0} where
       (λ i m n. let a = m.0 in let b = n.1 in omega arith)
 
   -- a pass is cut off
-  pub cuts_pass : (nodes id : ℕ) (v : Place) → Splits (IsFresh {S = S} nodes) id v v (pass_place v.seen v.looks)
+  pub cuts_pass : (nodes id : ℕ) (v : Place) → Splits (IsFresh {S = S} nodes) id v v (pass_place v.seen v.found)
   cuts_pass nodes id v =
-      cut nodes id v v (pass_place v.seen v.looks)
+      cut nodes id v v (pass_place v.seen v.found)
       (within-all v)
       record {
         stands = λ i m. absurd (let b = m.1 in omega arith);
@@ -249,12 +249,13 @@ module _ {S : Type 0} where
       subst (λ (x : Me S Place). Allows (IsFresh key) slots id x i (λ _. n) (λ _. Raises st x n)) (sym is)
       (raises key slots id i old n st more (omega arith))
 
-  pub looks_as : (nodes slots id k : ℕ) (seen counts : List ℕ) (me : Me S Place) → me ≡ (pass_place seen counts, [])
+  pub looks_as : (nodes slots id k : ℕ) (seen : List ℕ) (found : List (List ℕ)) (me : Me S Place)
+      → me ≡ (pass_place seen found, [])
       → Allows (IsFresh {S = S} nodes) slots id me k (λ n. n) (Looks (step slots k 0 0 none) me)
-  looks_as nodes slots id k seen counts me is =
+  looks_as nodes slots id k seen found me is =
       subst (λ (x : Me S Place). Allows (IsFresh {S = S} nodes) slots id x k (λ n. n) (Looks (step slots k 0 0 none) x))
       (sym is)
-      (looks nodes slots id k seen counts)
+      (looks nodes slots id k seen found)
 
 zeros_taken : (n m k : ℕ) → slice_index (take n (replicate m 0)) k ≡ 0
 zeros_taken zero m k = refl

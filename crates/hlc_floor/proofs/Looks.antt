@@ -1,9 +1,10 @@
 -- A look at one node after another: the least so far is that of the nodes looked at, since each look finds one value
 -- more, and the values seen before stay.
-use Rattle.std.proofs.Common.{◌≡◌, ◌≢◌, ℕ, ◌+◌, ◌<◌, ◌≤◌, min, sym, ◌∙◌, subst, arith}
+use Rattle.std.proofs.Common.{◌≡◌, ◌≢◌, ℕ, ◌+◌, ◌<◌, ◌≤◌, [], ◌∷◌, ◌++◌, min, sym, ap, ◌∙◌, subst, arith}
 use Rattle.std.specs.Prelude.{slice_index}
 use mathlib.Core.Logic.{dite}
 use native.Mathlib.Decide.{ℕ_discrete, dec_le}
+use Rattle.hlc_floor.specs.Board.{found_at}
 use Rattle.hlc_floor.specs.Views.{Sight, LooksAt}
 
 -- the first `node` nodes were looked at once, and least is the least of what was seen
@@ -11,8 +12,8 @@ pub record HasLooked (first now : Sight) (node least : ℕ) : Type 0 where
   pub board : now.board ≡ first.board
   pub among : (k : ℕ) × (k < node) × (slice_index now.seen k ≡ least)
   pub below : (k : ℕ) → k < node → least ≤ slice_index now.seen k
-  pub looked : (k : ℕ) → k < node → slice_index now.looks k ≡ slice_index first.looks k + 1
-  pub waiting : (k : ℕ) → node ≤ k → slice_index now.looks k ≡ slice_index first.looks k
+  pub finds : (k : ℕ) → k < node → found_at now.found k ≡ found_at first.found k ++ slice_index now.seen k ∷ []
+  pub waiting : (k : ℕ) → node ≤ k → found_at now.found k ≡ found_at first.found k
   pub rises : (k : ℕ) → slice_index first.seen k ≤ slice_index now.seen k
 
 pub looks_next : (first before after : Sight) (node least n : ℕ) → HasLooked first before node least
@@ -26,11 +27,17 @@ looks_next first before after node least n h l =
           (λ (e : k ≡ node).
           subst (λ (j : ℕ). min least n ≤ slice_index after.seen j) (sym e) (let s = l.sees in omega arith))
           (λ (ne : k ≢ node). let s = l.seen_else k ne in let o = h.below k (omega arith) in omega arith);
-      looked = λ k b. dite (ℕ_discrete k node)
-          (λ (e : k ≡ node). subst (λ (j : ℕ). slice_index after.looks j ≡ slice_index first.looks j + 1) (sym e)
-          (let s = l.counted in let w = h.waiting node (omega arith) in omega arith))
-          (λ (ne : k ≢ node). let s = l.looks_else k ne in let o = h.looked k (omega arith) in omega arith);
-      waiting = λ k b. let s = l.looks_else k (λ e. omega arith) in let o = h.waiting k (omega arith) in omega arith;
+      finds = λ k b. dite (ℕ_discrete k node)
+          (λ (e : k ≡ node). subst
+          (λ (j : ℕ). found_at after.found j ≡ found_at first.found j ++ slice_index after.seen j ∷ []) (sym e)
+          (l.finds
+          ∙ ap (λ f. f ++ n ∷ []) (h.waiting node (omega arith))
+          ∙ ap (λ m. found_at first.found node ++ m ∷ []) (sym l.sees)))
+          (λ (ne : k ≢ node).
+          l.found_else k ne
+          ∙ h.finds k (omega arith)
+          ∙ ap (λ m. found_at first.found k ++ m ∷ []) (sym (l.seen_else k ne)));
+      waiting = λ k b. l.found_else k (λ e. omega arith) ∙ h.waiting k (omega arith);
       rises = λ k. dite (ℕ_discrete k node)
           (λ (e : k ≡ node). subst (λ (j : ℕ). slice_index first.seen j ≤ slice_index after.seen j) (sym e)
           (let s = l.sees in let r = l.rises in let o = h.rises node in omega arith))

@@ -1,5 +1,6 @@
 -- The rule of the board: one word for each node, the stamp that the node's feeder raised last.
-use Rattle.std.specs.Prelude.{◌≡◌, ℕ, ◌+◌, ◌<◌, ◌≤◌, List, [], length, replicate, slice_index, slice_set}
+use Rattle.std.specs.Prelude.{◌≡◌, ℕ, ◌+◌, ◌<◌, ◌≤◌, List, [], ◌∷◌, ◌++◌, length, replicate, slice_index, slice_set}
+use Rattle.std.specs.Prelude.{slice_index_or}
 use mathlib.Core.Option.{some}
 use lib.ListN.{get_elem?}
 use Rattle.atomic_table.specs.Table.{State, Step, Me}
@@ -21,25 +22,29 @@ pub record IsFresh {S : Type 0} (nodes : ℕ) (s : State S Place) : Type 0 where
   pub raised : (a i : ℕ) (v : Place) → IsSeat s a v → Stands v i → slice_index s.words i ≡ v.raised
   pub seen : (a k : ℕ) (v : Place) → IsSeat s a v → slice_index v.seen k ≤ slice_index s.words k
 
+-- what the looks at node k found, the first of them first
+abbrev pub found_at : List (List ℕ) → ℕ → List ℕ
+found_at found k = slice_index_or found k []
+
 -- the first seat stands for all that is not cut off yet
 abbrev pub uncut : ℕ → ℕ → Place
-uncut nodes from = record { from = from; to = nodes; raised = 0; seen = replicate nodes 0; looks = replicate nodes 0 }
+uncut nodes from = record { from = from; to = nodes; raised = 0; seen = replicate nodes 0; found = replicate nodes [] }
 
 -- a feeder holds one number
 abbrev pub feeder_place : ℕ → ℕ → Place
-feeder_place node raised = record { from = node; to = node + 1; raised = raised; seen = []; looks = [] }
+feeder_place node raised = record { from = node; to = node + 1; raised = raised; seen = []; found = [] }
 
 -- a pass holds none
-abbrev pub pass_place : List ℕ → List ℕ → Place
-pass_place seen looks = record { from = 0; to = 0; raised = 0; seen = seen; looks = looks }
+abbrev pub pass_place : List ℕ → List (List ℕ) → Place
+pass_place seen found = record { from = 0; to = 0; raised = 0; seen = seen; found = found }
 
 -- the seat without the least number that it holds
 abbrev pub without_first : Place → Place
-without_first v = record { from = v.from + 1; to = v.to; raised = v.raised; seen = v.seen; looks = v.looks }
+without_first v = record { from = v.from + 1; to = v.to; raised = v.raised; seen = v.seen; found = v.found }
 
 -- the seat after it raised this stamp
 abbrev pub raised_to : Place → ℕ → Place
-raised_to v n = record { from = v.from; to = v.to; raised = n; seen = v.seen; looks = v.looks }
+raised_to v n = record { from = v.from; to = v.to; raised = n; seen = v.seen; found = v.found }
 
 -- the seat after it saw n in word k
 abbrev pub looked : Place → ℕ → ℕ → Place
@@ -48,7 +53,7 @@ looked v k n = record {
   to = v.to;
   raised = v.raised;
   seen = slice_set v.seen k n;
-  looks = slice_set v.looks k (slice_index v.looks k + 1);
+  found = slice_set v.found k (found_at v.found k ++ n ∷ []);
 }
 
 -- a raise: what was stored is what the feeder has raised

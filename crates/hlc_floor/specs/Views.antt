@@ -1,8 +1,9 @@
 -- What a caller sees of a board's feeders and passes.
-use Rattle.std.specs.Prelude.{◌≡◌, ◌≢◌, ℕ, zero, suc, ◌+◌, ◌<◌, ◌≤◌, List, [], ◌∷◌, ◌++◌, ⊤, replicate, slice_index}
+use Rattle.std.specs.Prelude.{◌≡◌, ◌≢◌, ℕ, zero, suc, ◌<◌, ◌≤◌, List, [], ◌∷◌, ◌++◌, ⊤, replicate, slice_index}
 use Rattle.std.specs.Prelude.{if◌then◌else◌}
 use Rattle.atomic_table.specs.Seated.{TableId}
 use Rattle.hlc_heads.specs.Heads.{Acceptance}
+use Rattle.hlc_floor.specs.Board.{found_at}
 
 -- a feeder of a board: its node, and the word that it raised last
 pub record Post : Type 0 where
@@ -10,11 +11,11 @@ pub record Post : Type 0 where
   pub node : ℕ
   pub raised : ℕ
 
--- a pass of a board: for each node the stamp that it saw last, and the number of its looks
+-- a pass of a board: for each node the stamp that it saw last, and what its looks found, the first of them first
 pub record Sight : Type 0 where
   pub board : TableId
   pub seen : List ℕ
-  pub looks : List ℕ
+  pub found : List (List ℕ)
 
 -- the word that an accepted item leaves on the board: its stamp, or the greatest word where it was its node's last one
 abbrev pub word_of : Acceptance → ℕ
@@ -24,13 +25,13 @@ word_of accepted = if accepted.retires then 18446744073709551615 else accepted.s
 abbrev pub post : TableId → ℕ → ℕ → Post
 post board node raised = record { board = board; node = node; raised = raised }
 
--- a pass of this board, which saw these and looked so often
-abbrev pub sight : TableId → List ℕ → List ℕ → Sight
-sight board seen looks = record { board = board; seen = seen; looks = looks }
+-- a pass of this board, which saw these last, and whose looks found these
+abbrev pub sight : TableId → List ℕ → List (List ℕ) → Sight
+sight board seen found = record { board = board; seen = seen; found = found }
 
 -- a pass that has looked at nothing
 abbrev pub blind : TableId → Sight
-blind board = sight board (replicate board.words 0) (replicate board.words 0)
+blind board = sight board (replicate board.words 0) (replicate board.words [])
 
 -- the feeders of the first n nodes, in order, before they raised anything
 abbrev pub posts : TableId → ℕ → List Post
@@ -47,14 +48,14 @@ abbrev pub PassesOf : TableId → List Sight → Type 0
 PassesOf board [] = ⊤
 PassesOf board (pass ∷ passes) = (pass.board ≡ board) × PassesOf board passes
 
--- one look at the word of a node found n there. Nothing else of what was seen changed
+-- one look at the word of a node found n there. Nothing else of what was seen or found changed
 pub record LooksAt (node n : ℕ) (before after : Sight) : Type 0 where
   pub board : after.board ≡ before.board
   pub sees : slice_index after.seen node ≡ n
-  pub counted : slice_index after.looks node ≡ slice_index before.looks node + 1
+  pub finds : found_at after.found node ≡ found_at before.found node ++ n ∷ []
   pub rises : slice_index before.seen node ≤ n
   pub seen_else : (k : ℕ) → k ≢ node → slice_index after.seen k ≡ slice_index before.seen k
-  pub looks_else : (k : ℕ) → k ≢ node → slice_index after.looks k ≡ slice_index before.looks k
+  pub found_else : (k : ℕ) → k ≢ node → found_at after.found k ≡ found_at before.found k
 
 -- n is the least of the first `count` numbers
 pub record IsLeast (count : ℕ) (xs : List ℕ) (n : ℕ) : Type 0 where

@@ -1,10 +1,10 @@
 //! A board, with one word for each node. No call on a board that is made waits or takes memory.
-ghost use Rattle.std.specs.Prelude.{◌≡◌, ℕ, ◌+◌, ◌<◌, ◌≤◌, ◌↔◌, [], slice_index, replicate, IfOk, IfErr};
+ghost use Rattle.std.specs.Prelude.{◌≡◌, ℕ, ◌<◌, ◌≤◌, ◌↔◌, [], ◌∷◌, ◌++◌, slice_index, replicate, IfOk, IfErr};
 ghost use Rattle.std.proofs.Common.{rules};
 ghost use Rattle.std.proofs.lemmas.Grind.{common_steps};
 ghost use Rattle.hlc_heads.specs.declared.heads.TheConstants.{MOST_NODES};
 ghost use Rattle.hlc_floor.specs.Views.{post, posts, word_of, blind, LooksAt, IsLeast};
-ghost use Rattle.hlc_floor.specs.Board.{uncut};
+ghost use Rattle.hlc_floor.specs.Board.{uncut, found_at};
 
 use crate::rule::{CutFeeder, CutPass, Fresh, Look, Place, Raise};
 use atomic_table::{Seat, Table};
@@ -68,7 +68,7 @@ impl Model for Feeder {
 }
 
 /// Looks at the words of a board. Contracts see its board, and for each node the stamp that it saw
-/// last and the number of its looks.
+/// last and what its looks found, the first of them first.
 #[derive(Drop)]
 pub struct FloorPass {
     seat: Seat<(), Place>,
@@ -81,12 +81,12 @@ impl Model for FloorPass {
 
     ghost Value = { Sight };
 
-    ghost view = { λ pass. sight pass.seat.table_id pass.seat.me.0.seen pass.seat.me.0.looks };
+    ghost view = { λ pass. sight pass.seat.table_id pass.seat.me.0.seen pass.seat.me.0.found };
 
     ghost invariant = { λ pass.
-        (pass.seat.me ≡ (pass_place pass.seat.me.0.seen pass.seat.me.0.looks, []))
+        (pass.seat.me ≡ (pass_place pass.seat.me.0.seen pass.seat.me.0.found, []))
         × (length pass.seat.me.0.seen ≡ pass.seat.table_id.words)
-        × (length pass.seat.me.0.looks ≡ pass.seat.table_id.words) };
+        × (length pass.seat.me.0.found ≡ pass.seat.table_id.words) };
 }
 
 /// Why no board is made.
@@ -265,8 +265,8 @@ impl Board {
         requires { pass.old.board ≡ self.now }
         ensures board { pass.new.board ≡ pass.old.board }
         ensures least { IsLeast self.now.words pass.new.seen result }
-        ensures looks { (k : ℕ) → k < self.now.words
-            → slice_index pass.new.looks k ≡ slice_index pass.old.looks k + 1 }
+        ensures finds { (k : ℕ) → k < self.now.words → found_at pass.new.found k
+            ≡ found_at pass.old.found k ++ slice_index pass.new.seen k ∷ [] }
         ensures rises { (k : ℕ) → slice_index pass.old.seen k ≤ slice_index pass.new.seen k }
     {
         let nodes = self.nodes;

@@ -13,8 +13,9 @@ pub fn board_is_fresh()
     ensures raised { (nodes a node raised : ℕ) (state : State (Unit {0}) Place)
         → IsFresh nodes state
         → IsSeat state a (feeder_place node raised) → slice_index state.words node ≡ raised }
-    ensures seen { (nodes a node : ℕ) (state : State (Unit {0}) Place) (seen looks : List ℕ)
+    ensures seen { (nodes a node : ℕ) (state : State (Unit {0}) Place) (seen : List ℕ)
+        → (found : List (List ℕ))
         → IsFresh nodes state
-        → IsSeat state a (pass_place seen looks)
+        → IsSeat state a (pass_place seen found)
         → slice_index seen node ≤ slice_index state.words node }
 {}

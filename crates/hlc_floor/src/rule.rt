@@ -12,8 +12,8 @@ pub struct Place {
     pub raised: u64,
     /// For each node the stamp that it saw last.
     pub seen: LinkedList<u64>,
-    /// For each node how often it looked.
-    pub looks: LinkedList<u64>,
+    /// For each node what its looks found there, the first of them first.
+    pub found: LinkedList<LinkedList<u64>>,
 }
 
 /// The rule of a board: it holds between any two steps.
@@ -64,5 +64,5 @@ impl Split<Place> for CutPass {
 
     ghost left = { λ place. place };
 
-    ghost right = { λ place. pass_place place.seen place.looks };
+    ghost right = { λ place. pass_place place.seen place.found };
 }

@@ -10,4 +10,4 @@ pub returns-clause-raised : goal.returns-clause-raised
 returns-clause-raised c nodes a node raised state rule at = rule.raised a node _ at (omega arith, omega arith)
 
 pub returns-clause-seen : goal.returns-clause-seen
-returns-clause-seen c nodes a node state seen looks rule at = rule.seen a node _ at
+returns-clause-seen c nodes a node state seen found rule at = rule.seen a node _ at
