@@ -1,7 +1,7 @@
 //! The index of a key of many rows: the places of its first rows, in the order of their stamps and
 //! nodes. It only makes reads fast, so want of memory leaves it as it was.
 ghost use Rattle.std.specs.Prelude.{◌≡◌, ◌≤◌, ◌<◌, ◌+◌, ◌++◌, [], ℕ, IsTrue, IfOk, length, take, drop, slice_index};
-ghost use Rattle.std.specs.Prelude.{false};
+ghost use Rattle.std.specs.Prelude.{◌/◌, ◌==◌, false, min, nat_le, if◌then◌else◌};
 ghost use Rattle.std.specs.List.Sorted.{IsPermutation};
 ghost use Rattle.hlc_columns.specs.Order.{Rises, IsIndex, IsNumbered, place_cmp};
 
@@ -132,7 +132,9 @@ fn index_next(order: &mut Vec<u32>, stamps: &[u64], nodes: &[u16])
 }
 
 /// How many rows may stand behind an index of so many.
-fn most_behind(count: usize) -> usize {
+fn most_behind(count: usize) -> usize
+    ensures { result ≡ (if count == 0 then FIRST else LEAST + count / SHARE) }
+{
     if count == 0 {
         FIRST
     } else {
@@ -167,7 +169,9 @@ fn number(order: &mut Vec<u32>)
 
 /// Makes the index anew after rows were dropped, of no more rows than it had. It takes no memory.
 pub(crate) fn index_again(order: &mut Vec<u32>, stamps: &[u64], nodes: &[u16])
-    ensures { IsIndex stamps.now nodes.now order.new.items }
+    ensures index { IsIndex stamps.now nodes.now order.new.items }
+    ensures many { length order.new.items ≡ (if nat_le (length stamps.now) LEAST then 0
+        else min (length order.old.items) (min (length stamps.now) MOST)) }
 {
     if stamps.len() <= LEAST {
         order.clear();

@@ -1,15 +1,17 @@
--- The first places, each once, sorted.
-use Rattle.std.proofs.Common.{rules, ◌≡◌, ℕ, [], length, ap, arith}
+-- The first places, each once, sorted, and as many as were left of the list that was cut.
+use Rattle.std.proofs.Common.{rules, ◌≡◌, ◌∙◌, ◌<◌, ℕ, List, [], length, take, min, nat_le, ap, arith}
+use Rattle.std.specs.Prelude.{if◌then◌else◌}
 use Rattle.std.specs.Ordering.{is_lt}
 use Rattle.std.proofs.lemmas.List.{length-take}
+use Rattle.std.proofs.lemmas.Bool.{lt-leb}
 use Rattle.std.proofs.lemmas.Fn.{always_returns_same}
-use Rattle.std.proofs.lemmas.List.Sorted.{ranks_by}
+use Rattle.std.proofs.lemmas.List.Sorted.{length_permutation, ranks_by}
 use Rattle.hlc_columns.specs.Order.{place_cmp}
 use Rattle.hlc_columns.proofs.Places.{sorted_index, numbered_below, numbered_every, place_order}
 use Rattle.hlc_columns.proofs.index.index_again.Goals as goal
 
-pub returns : goal.returns
-returns c =
+pub returns-clause-index : goal.returns-clause-index
+returns-clause-index c =
     let ss = c.args.stamps.now in
     let ns = c.args.nodes.now in
     let all = c.number.ensures in
@@ -24,3 +26,14 @@ returns c =
     (c.sort_unstable_by.ensures.sorted (λ p q. is_lt (place_cmp ss ns p q))
     (ranks_by (place_order ss ns) (λ (p : ℕ). p)) (always_returns_same _
     (λ a r. is_lt r ≡ is_lt (place_cmp ss ns a.0.now a.1.0.now)) _ (λ a r f k. search rules)))
+
+-- as many places are left of a list that is cut
+many_left : (n m : ℕ) (xs : List ℕ) → 64 < n → m ≡ min n 4294967295
+    → length (take m xs) ≡ (if nat_le n 64 then 0 else min (length xs) (min n 4294967295))
+many_left n m xs above is = rw (lt-leb n 64 above) (omega (arith, length-take m xs, is))
+
+pub returns-clause-many : goal.returns-clause-many
+returns-clause-many c =
+    length_permutation _ _ c.sort_unstable_by.ensures.permutation ∙ c.number.ensures.1
+    ∙ ap length c.truncate.ensures.items
+    ∙ many_left (length c.args.stamps.now) c.min.result c.args.order.now.items c.if-stamps-le-LEAST.false c.min.ensures

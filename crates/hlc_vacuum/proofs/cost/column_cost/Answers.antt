@@ -23,7 +23,7 @@ loop-place-preserved c =
             sum = counted c.bits-bound.result c.args.keep.now key column i c.loop-place.total on _ c.requires
                 c.loop-place-test.true inv.sum w.cost_of-total.result w.if-keep-place.true
                 (subst (λ xs. get_or xs i 0 ≤ c.bits-bound.result) c.stamps-stamps.ensures w.if-stamps-place.true)
-                (λ cell at. w.cost_of-total.ensures.cost ∙ ap (cost_of key) (w.value_at.ensures cell at)) is;
+                (λ cell at. w.cost_of-total.ensures.cost ∙ ap (cost_of key) (w.value_at.ensures.value cell at)) is;
             small = omega (arith, low, most, is);
           }
       | else-keep-place w ↦
