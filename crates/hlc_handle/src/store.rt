@@ -8,9 +8,9 @@ use hlc_core::Core;
 use std::alloc::Global;
 use std::marker::Model;
 
-/// What a store holds: a boxed core, or nothing.
+/// What a store holds: a boxed core, or nothing. Neither it nor a `Store` is `Drop`, so that no open
+/// one is let go.
 #[repr(C)]
-#[derive(Drop)]
 pub struct Room {
     at: *mut Opaque,
     pub ghost value: { Option Kept },
@@ -59,7 +59,6 @@ impl Room {
 /// What C holds. Zero bytes are a closed store. That the bytes are still those that a call left, and
 /// that no copy of them is used beside them, is C's promise.
 #[repr(C)]
-#[derive(Drop)]
 pub struct Store {
     pub room: Room,
     live: bool,
@@ -86,6 +85,7 @@ impl Store {
         let old = std::mem::replace(self, Store::closed());
         let Store { room, live } = old;
         if !live {
+            let Room { at: _ } = room;
             return None;
         }
         Some(room.loose(alloc).into_box())
@@ -96,9 +96,11 @@ impl Store {
         requires { self.old.room.value ≡ None }
         ensures { self.new.room.value ≡ Some held.value }
     {
-        *self = Store {
+        let full = Store {
             room: Room::of(Loose::of(held)),
             live: true,
         };
+        let Store { room, live: _ } = std::mem::replace(self, full);
+        let Room { at: _ } = room;
     }
 }
