@@ -20,8 +20,9 @@
  *   - a store is HLC_CLOSED_STORE at first, is changed by these functions alone, and no copy of it is used beside it;
  *   - one call at a time on a store, also for reads: where several threads call, a lock orders their calls. None comes
  *     from a signal handler. Calls on different stores and nodes may run beside each other;
- *   - a pointer is not NULL, also where its length is 0, is aligned, and what it points to is live and overlaps with
- *     nothing that another argument points to; a node's `retired` and an entry's `deletes` are false or true;
+ *   - a pointer is not NULL, unless its length is 0: (NULL, 0) stands for no bytes, and for no entries. It is aligned,
+ *     and what it points to is live and overlaps with nothing that another argument points to; a node's `retired` and
+ *     an entry's `deletes` are false or true;
  *   - malloc, realloc and free belong together, and align to 16.
  *
  * Costs. Where a call says "no memory" it makes no allocation, and cannot answer HLC_NO_MEMORY. docs/performance.md has

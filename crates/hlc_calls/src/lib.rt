@@ -9,3 +9,5 @@ pub mod items;
 pub mod list;
 pub mod node;
 pub mod open_store;
+
+pub use hlc_core::Stamp;

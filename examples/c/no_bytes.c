@@ -1,0 +1,94 @@
+/* (NULL, 0) stands for no bytes: of a key, of a value, of a buffer, of entries and of their bytes. */
+#include "hlcstore.h"
+#include <inttypes.h>
+#include <stdio.h>
+
+#define BYTES(s) (const uint8_t *)(s), sizeof(s) - 1
+#define NONE NULL, 0
+#define AT(l) ((uint64_t)(l) << 16)
+
+static int wrong;
+
+/* A call answered, and told, what is expected. */
+static void expect(const char *call, uint32_t code, uint64_t told, uint32_t expected_code, uint64_t expected)
+{
+    if (code == expected_code && told == expected) return;
+    printf("%s %" PRIu32 " %" PRIu64 "\n", call, code, told);
+    wrong++;
+}
+
+static void issue(hlc_node *node)
+{
+    uint64_t number, word;
+    uint32_t code = hlc_node_write(node, 1, NONE, NONE, &number, &word);
+    expect("node write, no key", code, word, HLC_BAD_KEY, 0);
+    code = hlc_node_delete(node, 1, NONE, &number, &word);
+    expect("node delete, no key", code, word, HLC_BAD_KEY, 0);
+    code = hlc_node_write(node, 1, BYTES("a"), NONE, &number, &word);
+    expect("node write, no value", code, word, HLC_OK, AT(1));
+}
+
+static void feed(hlc_store *store)
+{
+    hlc_entry entry = { .number = 1, .stamp = AT(2) };
+    uint64_t word;
+    size_t many;
+    uint32_t code = hlc_check_write(store, 0, 0, AT(1), NONE, NONE, &word);
+    expect("check write, no key", code, word, HLC_BAD_KEY, 0);
+    code = hlc_check_write(store, 0, 0, AT(1), BYTES("a"), NONE, &word);
+    expect("check write, no value", code, word, HLC_OK, 0);
+    code = hlc_check_delete(store, 0, 0, AT(1), NONE, &word);
+    expect("check delete, no key", code, word, HLC_BAD_KEY, 0);
+    code = hlc_accept_write(store, 0, 0, AT(1), NONE, NONE, &word);
+    expect("accept write, no key", code, word, HLC_BAD_KEY, 0);
+    code = hlc_accept_delete(store, 0, 0, AT(1), NONE, &word);
+    expect("accept delete, no key", code, word, HLC_BAD_KEY, 0);
+    code = hlc_accept_write(store, 0, 0, AT(1), BYTES("a"), NONE, &word);
+    expect("accept write, no value", code, word, HLC_OK, AT(1));
+    code = hlc_accept_all(store, NONE, NONE, &many, &word);
+    expect("all, no entries", code, many + word, HLC_OK, 0);
+    code = hlc_accept_all(store, &entry, 1, NONE, &many, &word);
+    expect("all, no key", code, many + word, HLC_BAD_KEY, 0);
+    entry.key_len = 1;
+    code = hlc_accept_all(store, &entry, 1, NONE, &many, &word);
+    expect("all, no bytes", code, many + word, HLC_OUTSIDE, 0);
+}
+
+/* Key a has a value of no bytes at 1.0, and key b one of three at 2.0. A pair of a listing is two lengths of eight
+ * bytes each, the key and the value. The certificate is "point 1.0", "row a 1.0 0 value %" and "witness a none 1.0". */
+static void read_back(hlc_store *store)
+{
+    uint64_t id, word;
+    size_t len;
+    uint32_t code = hlc_open_snapshot_at_floor(store, &id, &word);
+    expect("snapshot", code, word, HLC_OK, AT(1));
+    code = hlc_read(store, 1, BYTES("a"), NONE, &len);
+    expect("read, no value", code, len, HLC_OK, 0);
+    code = hlc_read(store, 1, NONE, NONE, &len);
+    expect("read, no key", code, len, HLC_NO_VALUE, 0);
+    code = hlc_list(store, 1, NONE, &len);
+    expect("list", code, len, HLC_OK, 17);
+    code = hlc_vacuum_certified(store, NONE, &len);
+    expect("certificate", code, len, HLC_OK, 49);
+    code = hlc_accept_write(store, 0, 1, AT(2), BYTES("b"), BYTES("red"), &word);
+    expect("accept", code, word, HLC_OK, AT(2));
+    code = hlc_open_snapshot_at_floor(store, &id, &word);
+    expect("snapshot", code, word, HLC_OK, AT(2));
+    code = hlc_read(store, 2, BYTES("b"), NONE, &len);
+    expect("read, no room", code, len, HLC_OK, 3);
+    code = hlc_list(store, 2, NONE, &len);
+    expect("list, no room", code, len, HLC_OK, 37);
+}
+
+int main(void)
+{
+    hlc_store store = HLC_CLOSED_STORE;
+    hlc_node node = hlc_node_open(0, 0);
+    expect("open", hlc_open(&store, 1), 0, HLC_OK, 0);
+    issue(&node);
+    feed(&store);
+    read_back(&store);
+    hlc_close(&store);
+    printf("%s\n", wrong ? "wrong" : "all right");
+    return wrong != 0;
+}
