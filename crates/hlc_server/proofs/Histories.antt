@@ -10,7 +10,7 @@ use Rattle.hlc_core.specs.declared.reply.CoreReply.{CoreReply}
 use Rattle.hlc_core.specs.Kept.{Kept, StandsFor}
 use Rattle.hlc_core.specs.History.{StandsForHistory, IsStep}
 use Rattle.hlc_server.specs.declared.entry.Entry.{Entry}
-use Rattle.hlc_server.specs.Trails.{history_after, history_of, IsAudited, entry, with_entry, entries_of}
+use Rattle.hlc_server.specs.Trails.{history_after, history_of, IsAudited, HasHistory, entry, with_entry, entries_of}
 use Rattle.hlc_server.specs.declared.trail.Trail.{Trail}
 
 history_after-push : (history : List (CoreEvent × CoreReply)) (trail : List Entry) (e : Entry)
@@ -44,6 +44,18 @@ audited_more old new (Some before) trail' caller event reply total total' audite
       legal = now.legal;
       stands = now;
       counted = ap length same ∙ omega (arith, length-append before (entry caller event reply ∷ []), was.counted, more);
+    }
+
+-- One call more, with a trail or without: the history that the core stands for has the call as its last event.
+pub history_more : (old new : Kept) (event : CoreEvent) (reply : CoreReply) (total total' : ℕ) → HasHistory old total
+    → ((history : List (CoreEvent × CoreReply)) → StandsForHistory old history → IsStep old new event history reply)
+    → total' ≡ total + 1 → HasHistory new total'
+history_more old new event reply total total' had stands more =
+    let n = had.counted in
+    record {
+      history = (event, reply) ∷ had.history;
+      stands = (stands had.history had.stands).1;
+      counted = omega (arith, n, more);
     }
 
 cond-empty : (audit : Bool) (t : List Entry) → Some t ≡ (if audit then Some [] else None) → t ≡ []

@@ -34,6 +34,12 @@ pub record IsAudited (core : Kept) (trail : List Entry) (calls : ℕ) : Type 0 w
   pub stands : StandsForHistory core (history_of trail)
   pub counted : length trail ≡ calls
 
+-- the core stands for a history of so many calls
+pub record HasHistory (core : Kept) (calls : ℕ) : Type 0 where
+  pub history : List (CoreEvent × CoreReply)
+  pub stands : StandsForHistory core history
+  pub counted : length history ≡ calls
+
 -- the trail with one entry more, where there is one
 abbrev pub with_entry : Option (List Entry) → Entry → Option (List Entry)
 with_entry trail e = option_map (λ (t : List Entry). t ++ e ∷ []) trail

@@ -8,7 +8,7 @@ ghost use Rattle.hlc_core.specs.Calls.{new_refusal, IsRefusal};
 ghost use Rattle.hlc_core.specs.History.{StandsForHistory};
 ghost use Rattle.hlc_core.specs.declared.event.CoreEvent.{CoreEvent as AnEvent};
 ghost use Rattle.hlc_server.specs.Seats.{fresh_seat};
-ghost use Rattle.hlc_server.specs.Trails.{IsAudited, entries_of};
+ghost use Rattle.hlc_server.specs.Trails.{IsAudited, HasHistory, entries_of};
 ghost use Rattle.hlc_server.specs.Calls.{IsToldFor, Holds, Enters};
 
 use crate::caller::Caller;
@@ -23,8 +23,8 @@ use std::thread::Threads;
 /// What lies under the lock of a shared store: a core, the trail of its calls where one is kept, and
 /// how many calls there were, which the book of the ledger counts too.
 ///
-/// Contracts see the core, the calls of the trail and their number. With a trail, it is a legal
-/// history, the core stands for it, and the number is its length.
+/// Contracts see the core, the calls of the trail and their number. With a trail or without, the core
+/// stands for a legal history of as many calls; the trail is such a history.
 #[derive(Drop)]
 pub struct Guarded<L: Ledger> {
     pub(crate) core: Core,
@@ -36,7 +36,7 @@ pub struct Guarded<L: Ledger> {
 impl<L: Ledger> Model for Guarded<L> {
     ghost use Rattle.std.specs.Prelude.{◌≡◌};
     ghost use Rattle.std.specs.Option.{ForSome};
-    ghost use Rattle.hlc_server.specs.Trails.{Lock, IsAudited, entries_of};
+    ghost use Rattle.hlc_server.specs.Trails.{Lock, IsAudited, HasHistory, entries_of};
 
     ghost Value = { Lock };
 
@@ -45,7 +45,8 @@ impl<L: Ledger> Model for Guarded<L> {
 
     ghost invariant = { λ guarded. (guarded.calls ≡ guarded.book.total)
         × ForSome (entries_of guarded.trail)
-        (λ trail. IsAudited guarded.core trail guarded.book.total) };
+        (λ trail. IsAudited guarded.core trail guarded.book.total)
+        × HasHistory guarded.core guarded.book.total };
 }
 
 impl<L: Ledger> Guarded<L> {
@@ -84,10 +85,12 @@ impl<L: Ledger> Guarded<L> {
         Ok((guarded, callers))
     }
 
-    /// Says what is kept whenever nobody is in a call: with a trail, it is a legal history, the core
-    /// stands for it, and the number of calls is its length.
+    /// What holds whenever nobody is in a call: the core stands for a legal history of as many calls
+    /// as were counted. A trail is such a history.
     pub fn is_audited(&self)
-        ensures { ForSome self.now.trail (λ trail. IsAudited self.now.core trail self.now.calls) }
+        ensures trail { ForSome self.now.trail
+            (λ trail. IsAudited self.now.core trail self.now.calls) }
+        ensures history { HasHistory self.now.core self.now.calls }
     {
         let _known = &self.core;
     }

@@ -2,7 +2,7 @@
 ghost use Rattle.std.specs.Prelude.{◌≡◌, ◌==◌};
 ghost use Rattle.std.specs.Option.{is_some};
 ghost use Rattle.hlc_core.specs.declared.event.CoreEvent.{CoreEvent as AnEvent};
-ghost use Rattle.hlc_server.specs.Calls.{IsToldFor};
+ghost use Rattle.hlc_server.specs.Calls.{IsToldFor, Holds};
 
 use crate::caller::Caller;
 use crate::entry::{NotDone, Receipt};
@@ -25,7 +25,8 @@ impl<L: Ledger, const TRAILS: usize> Locked<L, TRAILS> {
         caller: Caller<L>,
         event: CoreEvent,
     ) -> (Caller<L>, Result<Receipt, (NotDone, CoreEvent)>)
-        ensures { IsToldFor caller event result }
+        ensures held { Holds self.old.guarded self.new.guarded event result.1 }
+        ensures told { IsToldFor caller event result }
     {
         step_guarded(&mut self.guarded, caller, event)
     }
@@ -36,7 +37,8 @@ impl<L: Ledger, const TRAILS: usize> Locked<L, TRAILS> {
         rt: &(impl Threads + Sync),
         caller: Caller<L>,
     ) -> (Caller<L>, Result<Receipt, (NotDone, CoreEvent)>)
-        ensures { IsToldFor caller AnEvent.Vacuum result }
+        ensures held { Holds self.old.guarded self.new.guarded AnEvent.Vacuum result.1 }
+        ensures told { IsToldFor caller AnEvent.Vacuum result }
     {
         vacuum_guarded(rt, &mut self.guarded, caller)
     }

@@ -69,13 +69,13 @@ pub fn settle_guarded<L: Ledger>(
 }
 
 impl<L: Ledger> Shared<L> {
-    /// The same for a shared store, once all threads have ended: what its lock kept is taken out.
+    /// The same for a shared store, once all threads have ended: `into_guarded`, and then
+    /// `settle_guarded`, whose clause is of the very store that it is handed.
     pub fn settle(self, lists: Vec<(Caller<L>, Vec<Receipt>)>) -> Result<Settled, SettleFault>
         ensures { (lock : Lock) × (is_some lock.trail ≡ self.audited)
             × IsSettlement lock (claims_of lists.items) result }
     {
-        let Shared { lock } = self;
-        settle_guarded(lock.into_inner(), lists)
+        settle_guarded(self.into_guarded(), lists)
     }
 }
 

@@ -1,6 +1,7 @@
 //! A store that threads share.
 ghost use Rattle.std.specs.Prelude.{◌≡◌, ◌<◌, ⊤, IfOk, MatchResult, map};
 ghost use Rattle.std.specs.List.{range_with_len};
+ghost use Rattle.std.specs.Option.{is_some};
 ghost use Rattle.hlc_core.specs.Calls.{new_refusal, IsRefusal};
 ghost use Rattle.hlc_core.specs.declared.event.CoreEvent.{CoreEvent as AnEvent};
 ghost use Rattle.hlc_server.specs.Seats.{fresh_seat};
@@ -55,8 +56,27 @@ impl<L: Ledger> Shared<L> {
         ensures audited { IfOk result (λ made. made.0.audited ≡ audit) }
     {
         let (guarded, callers) = Guarded::new(alloc, blank, nodes, callers, audit)?;
-        let lock = StoreLock::new(guarded);
-        Ok((Shared { lock }, callers))
+        Ok((Shared::around(guarded), callers))
+    }
+
+    /// Puts a lock around what was made for one thread (`Guarded::new`), whose callers now share it.
+    pub fn around(guarded: Guarded<L>) -> Shared<L>
+        ensures { result.audited ≡ is_some guarded.trail }
+    {
+        Shared {
+            lock: StoreLock::new(guarded),
+        }
+    }
+
+    /// Takes the lock away, once all threads have ended: what it kept, for `settle_guarded`.
+    ///
+    /// Of that, contracts know what holds of every store whenever nobody is in a call
+    /// (`Guarded::is_audited`), and whether there is a trail.
+    pub fn into_guarded(self) -> Guarded<L>
+        ensures { is_some result.trail ≡ self.audited }
+    {
+        let Shared { lock } = self;
+        lock.into_inner()
     }
 
     /// Makes the call that an event asks for. A vacuum is planned by this thread alone; `vacuum` plans

@@ -1,8 +1,8 @@
 -- The invariant holds again after a call: the call's entry is the last event of the history,
--- and book and number count it.
+-- and book and number count it; so with a trail or without.
 use Rattle.std.proofs.Common.{◌≡◌, ◌+◌, arith}
 use Rattle.hlc_server.specs.Trails.{entries_of}
-use Rattle.hlc_server.proofs.Histories.{audited_more}
+use Rattle.hlc_server.proofs.Histories.{audited_more, history_more}
 use Rattle.hlc_server.proofs.guarded.step_guarded.Goals as goal
 
 pub invariant_of-guarded : goal.invariant_of-guarded
@@ -15,4 +15,6 @@ invariant_of-guarded g c =
           c.caller.inside.number c.args.event c.in-Ok.reply c.guarded.inside.book.total
           c.count_call-caller.new.book.total
           c.guarded.invariant.1 c.in-Ok.ensures.trail c.in-Ok.ensures.step total,
+      history_more c.guarded.inside.core c.make_call.new.core c.args.event c.in-Ok.reply c.guarded.inside.book.total
+          c.count_call-caller.new.book.total c.guarded.invariant.2 c.in-Ok.ensures.step total,
     )
