@@ -1,13 +1,14 @@
--- One look at the board more: seen values only rise, so the least of them does too,
--- and no stamp is below the one before.
+-- One look at each word more: what it found stands last, and the stamp is the least of it. Seen values only rise, so
+-- the least of them does too, and no stamp is below the one before.
 use Rattle.std.proofs.Common.{◌≡◌, ℕ, ◌+◌, ◌-◌, ◌<◌, ◌≤◌, List, [], ◌∷◌, ◌++◌, length, zero, suc, refl, ◌∙◌, sym, ap}
 use Rattle.std.proofs.Common.{subst}
-use Rattle.std.proofs.Common.{arith, length-append}
+use Rattle.std.proofs.Common.{arith, length-append, append_assoc, append-nil}
 use Rattle.std.specs.Prelude.{slice_index}
 use mathlib.Core.Logic.{dite}
 use native.Mathlib.Decide.{dec_lt}
+use Rattle.hlc_floor.specs.Board.{found_at}
 use Rattle.hlc_floor.specs.Views.{Sight, IsLeast}
-use Rattle.hlc_workers.specs.Rounds.{NeverFalls, HasLookedFor}
+use Rattle.hlc_workers.specs.Rounds.{NeverFalls, HasFound, look_of, IsLeastFound, HasLookedFor}
 
 -- the entries of a list with one more
 at_front : (xs : List ℕ) (n k : ℕ) → k < length xs → slice_index (xs ++ n ∷ []) k ≡ slice_index xs k
@@ -55,11 +56,57 @@ never_more xs n h top i j le lt =
     let e : i ≡ j = omega arith in
     subst (λ (k : ℕ). slice_index (xs ++ n ∷ []) k ≤ slice_index (xs ++ n ∷ []) j) (sym e) (omega arith)))
 
+-- what a look found stands last, and what those before it found stays
+stays_found : (now was : List ℕ) (n j : ℕ) → now ≡ was ++ n ∷ [] → j < length was
+    → slice_index now j ≡ slice_index was j
+stays_found now was n j is b = ap (λ (l : List ℕ). slice_index l j) is ∙ at_front was n j b
+
+found_last : (now was : List ℕ) (n j : ℕ) → now ≡ was ++ n ∷ [] → j ≡ length was → slice_index now j ≡ n
+found_last now was n j is e =
+    ap (λ (l : List ℕ). slice_index l j) is ∙ ap (slice_index (was ++ n ∷ [])) e ∙ at_back was n
+
+-- as often as it looked, so much longer is what it found
+length_found : (before after : Sight) (k looks : ℕ) → HasFound before after k looks
+    → length (found_at after.found k) ≡ length (found_at before.found k) + looks
+length_found before after k looks h =
+    let all = ap length h.1 in
+    let long = length-append (found_at before.found k) h.0 in
+    let more = h.2 in
+    omega arith
+
+-- one look more at a word
+found_more : (first before after : Sight) (k looks n : ℕ) → HasFound first before k looks
+    → found_at after.found k ≡ found_at before.found k ++ n ∷ [] → HasFound first after k (looks + 1)
+found_more first before after k looks n h is = (
+  h.0 ++ n ∷ [],
+  is ∙ ap (λ (l : List ℕ). l ++ n ∷ []) h.1 ∙ append_assoc (found_at first.found k) h.0 (n ∷ []),
+  (let long = length-append h.0 (n ∷ []) in let had = h.2 in omega arith),
+)
+
+-- the least that earlier looks found stays
+least_stays : (first before after : Sight) (i m n : ℕ) → IsLeastFound first before i m → n ≡ m
+    → ((k : ℕ) → k < first.board.words → look_of first after i k ≡ look_of first before i k)
+    → IsLeastFound first after i n
+least_stays first before after i m n h is same = record {
+  among = (h.among.0, h.among.1, same h.among.0 h.among.1 ∙ h.among.2 ∙ sym is);
+  below = λ k b. let s = same k b in let o = h.below k b in omega arith;
+}
+
+-- the least of what is seen is the least that the last looks found
+least_last : (first after : Sight) (i m n : ℕ) → IsLeast first.board.words after.seen m → n ≡ m
+    → ((k : ℕ) → k < first.board.words → look_of first after i k ≡ slice_index after.seen k)
+    → IsLeastFound first after i n
+least_last first after i m n h is same = record {
+  among = (h.among.0, h.among.1, same h.among.0 h.among.1 ∙ h.among.2 ∙ sym is);
+  below = λ k b. let s = same k b in let o = h.below k b in omega arith;
+}
+
 -- before the first round
 pub looked-none : (first : Sight) → HasLookedFor first first []
 looked-none first = record {
   board = refl;
-  looks = λ k b. omega arith;
+  finds = λ k b. ([], sym (append-nil (found_at first.found k)), refl);
+  least = λ i lt. absurd (omega arith);
   rises = λ k. omega arith;
   never_fall = λ i j le lt. absurd (omega arith);
   last = λ some_there. absurd (omega arith);
@@ -68,15 +115,33 @@ looked-none first = record {
 -- after one round more, which looked at each word once
 pub looked_more : (first before after : Sight) (words : ℕ) (stamps : List ℕ) (n : ℕ) → before.board.words ≡ words
     → HasLookedFor first before stamps → after.board ≡ before.board → IsLeast words after.seen n
-    → ((k : ℕ) → k < words → slice_index after.looks k ≡ slice_index before.looks k + 1)
+    → ((k : ℕ) → k < words → found_at after.found k ≡ found_at before.found k ++ slice_index after.seen k ∷ [])
     → ((k : ℕ) → slice_index before.seen k ≤ slice_index after.seen k) → HasLookedFor first after (stamps ++ n ∷ [])
-looked_more first before after words stamps n at h same least looks rises =
+looked_more first before after words stamps n at h same least finds rises =
     let long : length (stamps ++ n ∷ []) ≡ length stamps + 1 = length-append stamps (n ∷ []) in
     let same_words : words ≡ first.board.words = sym at ∙ ap (λ b. b.words) h.board in
+    let found : (k : ℕ) → k < first.board.words
+    → found_at after.found k ≡ found_at before.found k ++ slice_index after.seen k ∷ [] =
+    λ k b. finds k (omega arith) in
     let least' : IsLeast first.board.words after.seen n = subst (λ (w : ℕ). IsLeast w after.seen n) same_words least in
     record {
       board = same ∙ h.board;
-      looks = λ k b. let o = h.looks k b in let l = looks k (omega arith) in omega arith;
+      finds = λ k b. subst (λ (m : ℕ). HasFound first after k m) (sym long)
+          (found_more first before after k (length stamps) (slice_index after.seen k) (h.finds k b) (found k b));
+      least = λ i lt. dite (dec_lt i (length stamps))
+          (λ (b : i < length stamps).
+          least_stays first before after i (slice_index stamps i) (slice_index (stamps ++ n ∷ []) i) (h.least i b)
+          (at_front stamps n i b)
+          (λ k w. stays_found (found_at after.found k) (found_at before.found k) (slice_index after.seen k)
+          (length (found_at first.found k) + i) (found k w)
+          (let l = length_found first before k (length stamps) (h.finds k w) in omega arith)))
+          (λ (nb : ¬ (i < length stamps)).
+          let here : i ≡ length stamps = omega arith in
+          least_last first after i n (slice_index (stamps ++ n ∷ []) i) least'
+          (ap (slice_index (stamps ++ n ∷ [])) here ∙ at_back stamps n)
+          (λ k w. found_last (found_at after.found k) (found_at before.found k) (slice_index after.seen k)
+          (length (found_at first.found k) + i) (found k w)
+          (let l = length_found first before k (length stamps) (h.finds k w) in omega arith)));
       rises = λ k. let o = h.rises k in let l = rises k in omega arith;
       never_fall = never_more stamps n h.never_fall
           (λ some_there. least_up first.board.words before.seen after.seen (slice_index stamps (length stamps - 1)) n

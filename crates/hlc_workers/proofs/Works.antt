@@ -2,19 +2,22 @@
 -- fact about a list of receipts is put together of those about its two parts.
 use Rattle.std.proofs.Common.{◌≡◌, ℕ, List, [], ◌∷◌, ◌++◌, map, Option, Some, None, IfNone, sym, ap, ◌∙◌, arith}
 use Rattle.std.proofs.Common.{length-append, append_assoc, refl, subst, All, length, take, get_or, ◌+◌, ◌<◌}
+use Rattle.std.proofs.Common.{zero-add}
 use Rattle.std.proofs.lemmas.List.{append-nil, map-append, take_more}
 use Rattle.std.proofs.lemmas.List.Elements.{All-append, All-nil}
+use mathlib.Core.Logic.{dite}
+use native.Mathlib.Decide.{dec_lt}
 use Rattle.hlc_node.specs.declared.item.Item.{Item}
 use Rattle.hlc_server.specs.declared.entry.Receipt.{Receipt}
 use Rattle.hlc_server.specs.Seats.{Seat}
 use Rattle.std.specs.Option.{option_map}
 use Rattle.hlc_floor.specs.Views.{Post, post}
-use Rattle.hlc_workers.specs.Paid.{event_of, IsPaid, MadeNone, MadeSome}
+use Rattle.hlc_workers.specs.Paid.{event_of, IsPaid, Passed, MadeNone, MadeSome}
 use Rattle.hlc_workers.specs.Feeding.{accept_of, TookAll, raised_by, highest, fed_by, fed_all}
 use Rattle.hlc_core.specs.declared.event.CoreEvent.{CoreEvent}
 use Rattle.hlc_core.specs.declared.event.CoreEvent.TheVariants.{Read}
 use Rattle.hlc_workers.specs.declared.room.WorkEnd.{WorkEnd}
-use Rattle.hlc_workers.specs.declared.room.WorkEnd.TheVariants.{Done, Held}
+use Rattle.hlc_workers.specs.declared.room.WorkEnd.TheVariants.{Done, Held, Closed}
 use Rattle.hlc_workers.specs.declared.opening.Opening.{Opening}
 use Rattle.hlc_workers.specs.Rounds.{opening_of, MadeOpening, IsRound, AreRounds}
 
@@ -36,20 +39,70 @@ pub paid_all : (a b c : Seat) (xs ys all : List Receipt) → all ≡ xs ++ ys �
     → IsPaid b c ys → IsPaid a c all
 paid_all a b c xs ys all is p q = subst (λ (l : List Receipt). IsPaid a c l) (sym is) (paid-append a b c xs ys p q)
 
+-- the turns of two parts of the work
+passed-append : (pass : ℕ → Type 0) (from : ℕ) (xs ys : List Receipt) → Passed pass from xs
+    → Passed pass (from + length xs) ys
+    → Passed pass from (xs ++ ys)
+passed-append pass from xs ys p q = λ turn low high.
+    let n = length-append xs ys in
+    dite (dec_lt turn (from + length xs))
+    (λ (below : turn < from + length xs). p turn low below)
+    (λ (above : ¬ (turn < from + length xs)). q turn (omega arith) (omega arith))
+
+-- the turn of one call
+passed_one : (pass : ℕ → Type 0) (from : ℕ) (r : Receipt) → pass from → Passed pass from (r ∷ [])
+passed_one pass from r here = λ turn low high. let is : from ≡ turn = omega arith in subst pass is here
+
+-- before the first call
+pub passed-none : (pass : ℕ → Type 0) (from : ℕ) → Passed pass from []
+passed-none pass from = λ turn low high. absurd (omega arith)
+
+-- the turn of one call more, behind those of some
+pub passed_behind : (pass : ℕ → Type 0) (old more mid : List Receipt) (r : Receipt) → mid ≡ old ++ more
+    → Passed pass (length old) more → pass (length mid)
+    → Passed pass (length old) (more ++ r ∷ [])
+passed_behind pass old more mid r is had here =
+    passed-append pass (length old) more (r ∷ []) had
+    (passed_one pass (length old + length more) r (subst pass (ap length is ∙ length-append old more) here))
+
+-- the turns of some calls, behind that of one
+passed_before : (pass : ℕ → Type 0) (old mid more : List Receipt) (r : Receipt) → mid ≡ old ++ r ∷ []
+    → pass (length old) → Passed pass (length mid) more
+    → Passed pass (length old) (r ∷ more)
+passed_before pass old mid more r is here had =
+    passed-append pass (length old) (r ∷ []) more (passed_one pass (length old) r here)
+    (subst (λ (n : ℕ). Passed pass n more) (ap length is ∙ length-append old (r ∷ [])) had)
+
+-- all turns, those of some calls behind those before
+pub passed_all : (pass : ℕ → Type 0) (xs ys all : List Receipt) → all ≡ xs ++ ys → Passed pass 0 xs
+    → Passed pass (length xs) ys
+    → Passed pass 0 all
+passed_all pass xs ys all is p q =
+    subst (λ (l : List Receipt). Passed pass 0 l) (sym is)
+    (passed-append pass 0 xs ys p (subst (λ (n : ℕ). Passed pass n ys) (sym (zero-add (length xs))) q))
+
+-- all turns, that of one call behind those before
+pub passed_more : (pass : ℕ → Type 0) (xs all : List Receipt) (r : Receipt) → all ≡ xs ++ r ∷ [] → Passed pass 0 xs
+    → pass (length xs)
+    → Passed pass 0 all
+passed_more pass xs all r is p here = passed_all pass xs (r ∷ []) all is p (passed_one pass (length xs) r here)
+
 unwrapped : (a b : WorkEnd) → Some a ≡ Some b → a ≡ b
 unwrapped a b e = cc
 
 -- where no call was made, none more were
 pub stopped : (old new : List Receipt) (before after : Seat) (end : WorkEnd)
-    (Wanted : List Receipt → Type 0) (held : Type 0)
-    → MadeNone old new before after end held → MadeSome old new before after (Some end) Wanted held
-stopped old new before after end Wanted held none = (
+    (Wanted : List Receipt → Type 0) (held : Type 0) (pass : ℕ → Type 0)
+    → MadeNone old new before after end held → MadeSome old new before after (Some end) Wanted held pass
+stopped old new before after end Wanted held pass none = (
   [],
   none.0 ∙ sym (append-nil old),
   subst (λ (seat : Seat). IsPaid before seat []) (sym none.1) (paid-none before),
   tt,
   λ e. none.2 (unwrapped end Done e),
-  λ e. none.3 (unwrapped end Held e),
+  λ e. none.3 (unwrapped end Closed e),
+  λ e. none.4 (unwrapped end Held e),
+  passed-none pass (length old),
 )
 
 -- one item more was taken and handed in
@@ -145,16 +198,18 @@ if_none (Some end) f a = tt
 
 -- an opening, and then what follows it
 pub opening_then : (Goes : Opening → List Receipt → Type 0) (Wanted : List Receipt → Type 0) (held : Type 0)
-    (event : CoreEvent) (opening : Opening) (old mid new : List Receipt) (before seat after : Seat)
+    (pass : ℕ → Type 0) (event : CoreEvent) (opening : Opening) (old mid new : List Receipt) (before seat after : Seat)
     (end : Option WorkEnd)
     → ((r : Receipt) (more : List Receipt) → (r.event ≡ event) × Goes (opening_of r.reply) more → Wanted (r ∷ more))
-    → MadeOpening old mid before seat event opening → MadeSome mid new seat after end (Goes opening) held
-    → MadeSome old new before after end Wanted held
-opening_then Goes Wanted held event opening old mid new before seat after end all t e = (
+    → MadeOpening old mid before seat event opening pass → MadeSome mid new seat after end (Goes opening) held pass
+    → MadeSome old new before after end Wanted held pass
+opening_then Goes Wanted held pass event opening old mid new before seat after end all t e = (
   t.0 ∷ e.0,
   pushed old mid new e.0 t.0 t.1 e.1,
   paid_all before seat after (t.0 ∷ []) e.0 (t.0 ∷ e.0) refl t.2 e.2,
   if_none end (λ goes. all t.0 e.0 (t.3, subst (λ (o : Opening). Goes o e.0) t.4 goes)) e.3,
   e.4,
   e.5,
+  e.6,
+  passed_before pass old mid e.0 t.0 t.1 t.5 e.7,
 )

@@ -1,5 +1,6 @@
 -- What a worker of a link has done.
-use Rattle.std.specs.Prelude.{◌≡◌, ◌==◌, ◌&&◌, ℕ, List, [], ◌∷◌, ◌++◌, map, nat_lt, true, Option, None, if◌then◌else◌}
+use Rattle.std.specs.Prelude.{◌≡◌, ◌==◌, ◌&&◌, ℕ, List, [], ◌∷◌, ◌++◌, length, map, nat_lt, true, Option, None}
+use Rattle.std.specs.Prelude.{if◌then◌else◌}
 use Rattle.std.specs.Option.{option_to_list, option_map}
 use Rattle.hlc_node.specs.declared.item.Item.{Item}
 use Rattle.hlc_link.specs.Ends.{Received}
@@ -11,7 +12,7 @@ use Rattle.hlc_core.specs.declared.reply.CoreReply.TheVariants.{Accepted}
 use Rattle.hlc_server.specs.declared.entry.Receipt.{Receipt}
 use Rattle.hlc_server.specs.Seats.{Seat}
 use Rattle.hlc_workers.specs.declared.room.WorkEnd.{WorkEnd}
-use Rattle.hlc_workers.specs.declared.room.WorkEnd.TheVariants.{Done, Held}
+use Rattle.hlc_workers.specs.declared.room.WorkEnd.TheVariants.{Done, Held, Closed}
 use Rattle.hlc_workers.specs.Paid.{event_of, IsPaid}
 
 -- the call that hands an item in
@@ -45,13 +46,14 @@ abbrev pub fed_all : Post → List Receipt → Post
 fed_all feeder receipts = post feeder.board feeder.node (highest feeder.node feeder.raised receipts)
 
 -- One item was taken and handed in: the receipts were `old` and are `new`, the caller was `before` and is `after`, the
--- items taken were `had` and are `taken`, and the feeder, where there is one, was `one` and is `other`.
+-- items taken were `had` and are `taken`, and the feeder, where there is one, was `one` and is `other`. The gate let
+-- its turn pass, and `pass` is what it promises then.
 abbrev pub FedOne : List Receipt → List Receipt → Seat → Seat → List Item → List Item → Option Post → Option Post
-    → Type 0
-FedOne old new before after had taken one other =
+    → (ℕ → Type 0) → Type 0
+FedOne old new before after had taken one other pass =
     (receipt : Receipt) × (item : Item) × (new ≡ old ++ receipt ∷ []) × (receipt.event ≡ accept_of item)
     × (taken ≡ had ++ item ∷ []) × IsPaid before after (receipt ∷ [])
-    × (other ≡ option_map (λ feeder. fed_by feeder receipt.reply) one)
+    × (other ≡ option_map (λ feeder. fed_by feeder receipt.reply) one) × pass (length old)
 
 -- No item was handed in: this is left, and so the work ends.
 -- `held` is what the gate promises where it holds the next call.
@@ -60,4 +62,5 @@ abbrev pub FedNone : List Receipt → List Receipt → Seat → Seat → List It
     → Type 0 → Type 0
 FedNone old new before after had link one other told held =
     (new ≡ old) × (after ≡ before) × (link.taken ≡ had ++ option_to_list told.0) × (other ≡ one)
-    × (told.1 ≡ Done → (link.ended ≡ true) × (told.0 ≡ None)) × (told.1 ≡ Held → held)
+    × (told.1 ≡ Done → (link.ended ≡ true) × (told.0 ≡ None)) × (told.1 ≡ Closed → told.0 ≡ None)
+    × (told.1 ≡ Held → held)

@@ -6,6 +6,7 @@ use Rattle.hlc_core.specs.declared.event.CoreEvent.TheVariants.{OpenAt, OpenFloo
 use Rattle.hlc_core.specs.declared.reply.CoreReply.{CoreReply}
 use Rattle.hlc_core.specs.declared.reply.CoreReply.TheVariants.{Opened, Refused}
 use Rattle.hlc_server.specs.declared.entry.Receipt.{Receipt}
+use Rattle.hlc_floor.specs.Board.{found_at}
 use Rattle.hlc_floor.specs.Views.{Sight, IsLeast}
 use Rattle.hlc_workers.specs.declared.opening.Opening.{Opening}
 use Rattle.hlc_workers.specs.declared.opening.Opening.TheVariants.{Opened as opened, Outside as outside}
@@ -21,11 +22,11 @@ opening_of (Refused (BelowHorizon horizon)) = outside
 opening_of _ = refused
 
 -- One opening more was made, for this event, and it came to this: the receipts were `old` and are `new`, the caller was
--- `before` and is `after`.
-abbrev pub MadeOpening : List Receipt → List Receipt → Seat → Seat → CoreEvent → Opening → Type 0
-MadeOpening old new before after event opening =
+-- `before` and is `after`. The gate let its turn pass, and `pass` is what it promises then.
+abbrev pub MadeOpening : List Receipt → List Receipt → Seat → Seat → CoreEvent → Opening → (ℕ → Type 0) → Type 0
+MadeOpening old new before after event opening pass =
     (receipt : Receipt) × (new ≡ old ++ receipt ∷ []) × IsPaid before after (receipt ∷ []) × (receipt.event ≡ event)
-    × (opening ≡ opening_of receipt.reply)
+    × (opening ≡ opening_of receipt.reply) × pass (length old)
 
 -- the calls of a snapshot: each key is read in turn, and it is closed
 abbrev pub reads_of : ℕ → List (List ℕ) → List CoreEvent
@@ -65,11 +66,26 @@ AreRounds keys (stamp ∷ stamps) receipts =
 abbrev pub NeverFalls : List ℕ → Type 0
 NeverFalls xs = (i j : ℕ) → i ≤ j → j < length xs → slice_index xs i ≤ slice_index xs j
 
--- For each of these stamps a pass has made one look at each word of its board. No seen value fell, nor do the stamps,
--- and the last of them is the least of the values seen at the end.
+-- a pass has looked so often at the word of node k: what it found there stands behind what it found before
+abbrev pub HasFound : Sight → Sight → ℕ → ℕ → Type 0
+HasFound before after k looks =
+    (more : List ℕ) × (found_at after.found k ≡ found_at before.found k ++ more) × (length more ≡ looks)
+
+-- what its look number i since then, from 0 on, found at the word of node k
+abbrev pub look_of : Sight → Sight → ℕ → ℕ → ℕ
+look_of before after i k = slice_index (found_at after.found k) (length (found_at before.found k) + i)
+
+-- n is the least that its looks of this number found
+pub record IsLeastFound (before after : Sight) (i n : ℕ) : Type 0 where
+  pub among : (k : ℕ) × (k < before.board.words) × (look_of before after i k ≡ n)
+  pub below : (k : ℕ) → k < before.board.words → n ≤ look_of before after i k
+
+-- For each of these stamps a pass has made one look at each word of its board, and the stamp is the least that those
+-- looks found. No seen value fell, nor do the stamps, and the last of them is the least of the values seen at the end.
 pub record HasLookedFor (before after : Sight) (stamps : List ℕ) : Type 0 where
   pub board : after.board ≡ before.board
-  pub looks : (k : ℕ) → k < before.board.words → slice_index after.looks k ≡ slice_index before.looks k + length stamps
+  pub finds : (k : ℕ) → k < before.board.words → HasFound before after k (length stamps)
+  pub least : (i : ℕ) → i < length stamps → IsLeastFound before after i (slice_index stamps i)
   pub rises : (k : ℕ) → slice_index before.seen k ≤ slice_index after.seen k
   pub never_fall : NeverFalls stamps
   pub last : 0 < length stamps → IsLeast before.board.words after.seen (slice_index stamps (length stamps - 1))

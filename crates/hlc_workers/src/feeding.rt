@@ -1,5 +1,5 @@
 //! The worker of a link.
-ghost use Rattle.std.specs.Prelude.{◌≡◌, true, false, None, vec_len, IfSome, MatchOption};
+ghost use Rattle.std.specs.Prelude.{◌≡◌, ◌<◌, ℕ, true, false, None, length, vec_len, IfSome, MatchOption};
 ghost use Rattle.std.specs.Option.{option_map};
 ghost use Rattle.hlc_workers.specs.Paid.{IsPaid};
 ghost use Rattle.hlc_workers.specs.Feeding.{TookAll, FedOne, FedNone, fed_by, fed_all};
@@ -48,12 +48,16 @@ pub fn feed<L: Ledger, G: Gate, R: Wait>(
 ) -> Fed<L>
     requires { IfSome feeder (λ feeder. feeder.board ≡ board.now) }
     ensures share { IsPaid caller result.caller result.receipts.items }
+    ensures link { result.link.link ≡ link.link }
     ensures items { TookAll link.taken result.link.taken result.receipts.items result.left }
     ensures raised { result.feeder
         ≡ option_map (λ feeder. fed_all feeder result.receipts.items) feeder }
     ensures done { result.end ≡ WorkEnd.Done → (result.link.ended ≡ true) × (result.left ≡ None) }
+    ensures closed { result.end ≡ WorkEnd.Closed → result.left ≡ None }
     ensures held { result.end ≡ WorkEnd.Held
         → G.may_answer gate.now (vec_len result.receipts) false }
+    ensures passed { (turn : ℕ) → turn < length result.receipts.items
+        → G.may_answer gate.now turn true }
 {
     let mut link = link;
     let mut caller = caller;
@@ -97,9 +101,11 @@ fn feed_one<L: Ledger, G: Gate, R: Wait>(
     gate: &G,
 ) -> (Caller<L>, Option<(Option<Item>, WorkEnd)>)
     requires { IfSome feeder.old (λ feeder. feeder.board ≡ board.now) }
+    ensures link { link.new.link ≡ link.old.link }
     ensures went { MatchOption result.1
         (FedOne receipts.old.items receipts.new.items caller result.0
-        link.old.taken link.new.taken feeder.old feeder.new)
+        link.old.taken link.new.taken feeder.old feeder.new
+        (λ turn. G.may_answer gate.now turn true))
         (λ told. FedNone receipts.old.items receipts.new.items caller result.0
         link.old.taken link.new feeder.old feeder.new told
         (G.may_answer gate.now (vec_len receipts.new) false)) }

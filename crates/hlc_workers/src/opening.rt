@@ -1,5 +1,5 @@
 //! A call, and what it came to where it is an opening.
-ghost use Rattle.std.specs.Prelude.{◌≡◌, false, vec_len, MatchResult};
+ghost use Rattle.std.specs.Prelude.{◌≡◌, false, true, vec_len, MatchResult};
 ghost use Rattle.hlc_workers.specs.Paid.{MadeNone};
 ghost use Rattle.hlc_workers.specs.Rounds.{MadeOpening, opening_of};
 
@@ -32,7 +32,8 @@ pub(crate) fn make_call<L: Ledger, G: Gate, R: Wait>(
     gate: &G,
 ) -> (Caller<L>, Result<Opening, WorkEnd>)
     ensures told { MatchResult result.1
-        (λ opening. MadeOpening receipts.old.items receipts.new.items caller result.0 event opening)
+        (λ opening. MadeOpening receipts.old.items receipts.new.items caller result.0 event opening
+        (λ turn. G.may_answer gate.now turn true))
         (λ end. MadeNone receipts.old.items receipts.new.items caller result.0 end
         (G.may_answer gate.now (vec_len receipts.new) false)) }
 {

@@ -1,5 +1,5 @@
 //! The worker of a reader.
-ghost use Rattle.std.specs.Prelude.{◌≡◌, map, false, vec_len};
+ghost use Rattle.std.specs.Prelude.{◌≡◌, ◌≢◌, ◌<◌, ℕ, map, false, true, length, vec_len};
 ghost use Rattle.hlc_core.specs.declared.event.CoreEvent.TheVariants.{Read as ARead};
 ghost use Rattle.hlc_workers.specs.Paid.{IsPaid, MadeSome, event_of};
 ghost use Rattle.hlc_workers.specs.Rounds.{reads_of, IsRound, AtFloor, HasServed};
@@ -36,7 +36,8 @@ fn read_each<L: Ledger, G: Gate, R: Wait>(
 ) -> (Caller<L>, Option<WorkEnd>)
     ensures { MadeSome receipts.old.items receipts.new.items caller result.0 result.1
         (λ more. map event_of more
-        ≡ map (ARead id) keys.now) (G.may_answer gate.now (vec_len receipts.new) false) }
+        ≡ map (ARead id) keys.now) (G.may_answer gate.now (vec_len receipts.new) false)
+        (λ turn. G.may_answer gate.now turn true) }
 {
     let mut caller = caller;
     for key in keys {
@@ -65,7 +66,8 @@ fn read_and_close<L: Ledger, G: Gate, R: Wait>(
 ) -> (Caller<L>, Option<WorkEnd>)
     ensures { MadeSome receipts.old.items receipts.new.items caller result.0 result.1
         (λ more. map event_of more
-        ≡ reads_of id keys.now) (G.may_answer gate.now (vec_len receipts.new) false) }
+        ≡ reads_of id keys.now) (G.may_answer gate.now (vec_len receipts.new) false)
+        (λ turn. G.may_answer gate.now turn true) }
 {
     let (caller, end) = read_each(rt, shared, caller, id, keys, receipts, gate);
     if let Some(end) = end {
@@ -87,7 +89,8 @@ fn read_at_floor<L: Ledger, G: Gate, R: Wait>(
 ) -> (Caller<L>, Option<WorkEnd>)
     ensures { MadeSome receipts.old.items receipts.new.items caller result.0 result.1
         (AtFloor keys.now)
-        (G.may_answer gate.now (vec_len receipts.new) false) }
+        (G.may_answer gate.now (vec_len receipts.new) false)
+        (λ turn. G.may_answer gate.now turn true) }
 {
     let (caller, told) = make_call(rt, shared, caller, CoreEvent::OpenFloor, receipts, gate);
     match told {
@@ -112,7 +115,8 @@ fn make_round<L: Ledger, G: Gate, R: Wait>(
 ) -> (Caller<L>, Option<WorkEnd>)
     ensures { MadeSome receipts.old.items receipts.new.items caller result.0 result.1
         (IsRound keys.now stamp)
-        (G.may_answer gate.now (vec_len receipts.new) false) }
+        (G.may_answer gate.now (vec_len receipts.new) false)
+        (λ turn. G.may_answer gate.now turn true) }
 {
     let (caller, told) = make_call(rt, shared, caller, CoreEvent::OpenAt(stamp), receipts, gate);
     match told {
@@ -151,6 +155,9 @@ pub fn serve_reader<L: Ledger, G: Gate, R: Wait>(
         → HasServed keys.now rounds pass result.pass result.receipts.items }
     ensures held { result.end ≡ WorkEnd.Held
         → G.may_answer gate.now (vec_len result.receipts) false }
+    ensures open { result.end ≢ WorkEnd.Closed }
+    ensures passed { (turn : ℕ) → turn < length result.receipts.items
+        → G.may_answer gate.now turn true }
 {
     let mut caller = caller;
     let mut pass = pass;

@@ -1,5 +1,5 @@
 //! How a worker ends, and what comes before each of its calls.
-ghost use Rattle.std.specs.Prelude.{◌≡◌, ◌≢◌, ◌<◌, false, IfErr, OnOk, vec_len, vec_capacity};
+ghost use Rattle.std.specs.Prelude.{◌≡◌, ◌<◌, ◌⊎◌, false, true, length, IfErr, OnOk, vec_len, vec_capacity};
 ghost use Rattle.std.proofs.Common.{rules};
 ghost use Rattle.std.proofs.lemmas.Grind.{common_steps};
 
@@ -28,7 +28,7 @@ impl Exact for WorkEnd {
 }
 
 /// Asks the gate at the turn of the next call, which is the number of the receipts, and makes room for
-/// one receipt more.
+/// one receipt more. Held by the gate, or out of memory.
 pub(crate) fn make_room<G: Gate, R: Wait>(
     rt: &R,
     gate: &G,
@@ -37,9 +37,11 @@ pub(crate) fn make_room<G: Gate, R: Wait>(
     ensures items { receipts.new.items ≡ receipts.old.items }
     ensures len { vec_len receipts.new ≡ vec_len receipts.old }
     ensures room { OnOk result (vec_len receipts.new < vec_capacity receipts.new) }
+    ensures passed { OnOk result (G.may_answer gate.now (length receipts.old.items) true) }
     ensures held { IfErr result
         (λ end. end ≡ WorkEnd.Held → G.may_answer gate.now (vec_len receipts.new) false) }
-    ensures stops { IfErr result (λ end. (end ≢ WorkEnd.Done) × (end ≢ WorkEnd.Closed)) }
+    ensures stops { IfErr result
+        (λ end. (end ≡ WorkEnd.Held) ⊎ (end ≡ WorkEnd.Spent NotDone.NoMemory)) }
 {
     if !gate.pass(rt, receipts.len() as u64) {
         return Err(WorkEnd::Held);

@@ -1,5 +1,5 @@
 //! The worker of the vacuum.
-ghost use Rattle.std.specs.Prelude.{◌≡◌, map, replicate, false, vec_len, MatchOption};
+ghost use Rattle.std.specs.Prelude.{◌≡◌, ◌≢◌, ◌<◌, ℕ, map, replicate, false, true, length, vec_len, MatchOption};
 ghost use Rattle.hlc_core.specs.declared.event.CoreEvent.{CoreEvent as AnEvent};
 ghost use Rattle.hlc_workers.specs.Paid.{IsPaid, MadeOne, MadeNone, event_of};
 
@@ -29,7 +29,8 @@ fn vacuum_one<L: Ledger, G: Gate, R: Wait + Threads + Sync>(
     gate: &G,
 ) -> (Caller<L>, Option<WorkEnd>)
     ensures told { MatchOption result.1
-        (MadeOne receipts.old.items receipts.new.items caller result.0 AnEvent.Vacuum)
+        (MadeOne receipts.old.items receipts.new.items caller result.0 AnEvent.Vacuum
+        (λ turn. G.may_answer gate.now turn true))
         (λ end. MadeNone receipts.old.items receipts.new.items caller result.0 end
         (G.may_answer gate.now (vec_len receipts.new) false)) }
 {
@@ -62,6 +63,9 @@ pub fn serve_vacuum<L: Ledger, G: Gate, R: Wait + Threads + Sync>(
         → map event_of result.receipts.items ≡ replicate times AnEvent.Vacuum }
     ensures held { result.end ≡ WorkEnd.Held
         → G.may_answer gate.now (vec_len result.receipts) false }
+    ensures open { result.end ≢ WorkEnd.Closed }
+    ensures passed { (turn : ℕ) → turn < length result.receipts.items
+        → G.may_answer gate.now turn true }
 {
     let mut caller = caller;
     let mut receipts = Vec::new(alloc);

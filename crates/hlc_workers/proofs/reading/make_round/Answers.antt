@@ -8,11 +8,11 @@ use Rattle.hlc_workers.proofs.reading.make_round.Goals as goal
 pub returns-in-Err : goal.returns-in-Err
 returns-in-Err g c =
     stopped c.args.receipts.now.items c.make_call-caller.new.receipts.items c.args.caller c.make_call-caller.result.0
-    c.in-Err.end (IsRound c.args.keys.now c.args.stamp) _ (rw c.in-Err.is at c.make_call-caller.ensures.told)
+    c.in-Err.end (IsRound c.args.keys.now c.args.stamp) _ _ (rw c.in-Err.is at c.make_call-caller.ensures.told)
 
 pub returns-in-Opened : goal.returns-in-Opened
 returns-in-Opened g c =
-    opening_then (GoesOnOrAgain c.args.keys.now) (IsRound c.args.keys.now c.args.stamp) _ (OpenAt c.args.stamp)
+    opening_then (GoesOnOrAgain c.args.keys.now) (IsRound c.args.keys.now c.args.stamp) _ _ (OpenAt c.args.stamp)
     (opened c.in-Opened.id) c.args.receipts.now.items c.make_call-caller.new.receipts.items
     c.read_and_close.new.receipts.items c.args.caller c.make_call-caller.result.0
     c.read_and_close.result.0 c.read_and_close.result.1 (λ r more has. has)
@@ -20,7 +20,7 @@ returns-in-Opened g c =
 
 pub returns-in-Outside : goal.returns-in-Outside
 returns-in-Outside g c =
-    opening_then (GoesOnOrAgain c.args.keys.now) (IsRound c.args.keys.now c.args.stamp) _ (OpenAt c.args.stamp)
+    opening_then (GoesOnOrAgain c.args.keys.now) (IsRound c.args.keys.now c.args.stamp) _ _ (OpenAt c.args.stamp)
     outside c.args.receipts.now.items c.make_call-caller.new.receipts.items
     c.read_at_floor.new.receipts.items c.args.caller c.make_call-caller.result.0
     c.read_at_floor.result.0 c.read_at_floor.result.1 (λ r more has. has)

@@ -9,11 +9,11 @@ pub returns-in-Err : goal.returns-in-Err
 returns-in-Err g c =
     stopped c.args.receipts.now.items c.make_call-caller.new.receipts.items c.args.caller
     c.make_call-caller.result.0
-    c.in-Err.end (AtFloor c.args.keys.now) _ (rw c.in-Err.is at c.make_call-caller.ensures.told)
+    c.in-Err.end (AtFloor c.args.keys.now) _ _ (rw c.in-Err.is at c.make_call-caller.ensures.told)
 
 pub returns-in-Opened : goal.returns-in-Opened
 returns-in-Opened g c =
-    opening_then (GoesOn c.args.keys.now) (AtFloor c.args.keys.now) _ OpenFloor (opened c.in-Opened.id)
+    opening_then (GoesOn c.args.keys.now) (AtFloor c.args.keys.now) _ _ OpenFloor (opened c.in-Opened.id)
     c.args.receipts.now.items c.make_call-caller.new.receipts.items
     c.read_and_close.new.receipts.items c.args.caller c.make_call-caller.result.0
     c.read_and_close.result.0 c.read_and_close.result.1 (λ r more has. has)
