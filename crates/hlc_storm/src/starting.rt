@@ -6,7 +6,7 @@ ghost use Rattle.hlc_floor.proofs.PlaceLemmas.{feeders_prop, passes_prop};
 use crate::gates::StormGates;
 use crate::joining::{Started, Worker, Writer};
 use crate::working::{Feeding, Looking, feed_link, read_keys, vacuum_rows};
-use crate::writing::write_all;
+use crate::writing::write_link;
 use hlc_core::Bytes;
 use hlc_floor::{Board, Feeder, FloorPass};
 use hlc_link::link;
@@ -269,10 +269,10 @@ fn start_node<
         feeder,
     };
     let writer = scope
-        .spawn(move || write_all(rt, alloc, sender, node, plan))
+        .spawn(move || write_link(rt, alloc, sender, node, plan))
         .ok();
     let worker = scope
-        .spawn(move || feed_link(rt, alloc, shared, feeding, gate))
+        .spawn(move || feed_link(rt, alloc, shared, feeding, gate).0)
         .ok();
     (writer, worker)
 }

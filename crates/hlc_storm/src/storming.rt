@@ -1,5 +1,6 @@
 //! A storm by a scope of threads.
 ghost use Rattle.std.specs.Prelude.{◌≡◌, ◌+◌, true, IfOk, IfErr, length};
+ghost use Rattle.std.specs.Option.{is_some};
 ghost use Rattle.hlc_storm_report.specs.Found.{MayRefuse, MayTell};
 
 use crate::gates::StormGates;
@@ -8,7 +9,7 @@ use crate::starting::{Seats, start_all};
 use crate::writing::all_keys;
 use hlc_core::Bytes;
 use hlc_floor::Board;
-use hlc_server::{Caller, Shared};
+use hlc_server::{Caller, Guarded, Shared, settle_guarded};
 use hlc_storm_report::{Lists, StormFault, StormPlan, StormReport, new_store, report_of};
 use hlc_workers::{FreeGate, Gate};
 use std::alloc::Global;
@@ -75,14 +76,12 @@ fn storm_in<
     requires callers { blank.parts ≡ plan.nodes + plan.readers + 1 }
     ensures { MayTell plan result }
 {
-    let (shared, lists) = work::<L, F, D, V, R>(rt, alloc, blank, plan, gates)?;
-    match shared.settle(lists) {
-        Ok(settled) => report_of(alloc, settled.core, plan),
-        Err(fault) => Err(StormFault::Settle(fault)),
-    }
+    let (store, lists) = work::<L, F, D, V, R>(rt, alloc, blank, plan, gates)?;
+    let settled = settle_guarded(store, lists)?;
+    report_of(alloc, settled.core, plan)
 }
 
-/// The work of a storm: a new store after it, and the receipts by caller, one list for each.
+/// The work of a storm: what was under the lock of its store, and the receipts by caller, one list for each.
 pub fn work<
     L: Ledger + Send + Sync,
     F: Gate + Sync,
@@ -95,16 +94,17 @@ pub fn work<
     blank: Blank,
     plan: StormPlan,
     gates: &StormGates<F, D, V>,
-) -> Result<(Shared<L>, Lists<L>), StormFault>
+) -> Result<(Guarded<L>, Lists<L>), StormFault>
     requires ledger { (blank.name ≡ L.name) × (blank.parts ≡ L.parts) }
     requires callers { blank.parts ≡ plan.nodes + plan.readers + 1 }
-    ensures audited { IfOk result (λ told. told.0.audited ≡ true) }
+    ensures audited { IfOk result (λ told. is_some told.0.trail ≡ true) }
     ensures lists { IfOk result (λ told. length told.1.items ≡ plan.nodes + plan.readers + 1) }
     ensures faults { IfErr result MayRefuse }
 {
-    let (shared, callers) = new_store::<L>(alloc, blank, &plan)?;
+    let (store, callers) = new_store::<L>(alloc, blank, &plan)?;
+    let shared = Shared::around(store);
     let lists = work_of(rt, alloc, &shared, callers, plan, gates)?;
-    Ok((shared, lists))
+    Ok((shared.into_guarded(), lists))
 }
 
 /// The work of these callers of a store, beside a new board: the receipts by caller, one list for each.

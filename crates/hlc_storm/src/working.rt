@@ -1,5 +1,5 @@
 //! The workers of a storm.
-ghost use Rattle.std.specs.Prelude.{◌≡◌, false, true, None, map, replicate, vec_len};
+ghost use Rattle.std.specs.Prelude.{◌≡◌, ◌≢◌, ◌<◌, ℕ, false, true, None, length, map, replicate, vec_len};
 ghost use Rattle.hlc_node.specs.declared.item.Item.{Item as AnItem};
 ghost use Rattle.std.specs.Prelude.{Option};
 ghost use Rattle.hlc_floor.specs.Views.{Sight};
@@ -7,7 +7,7 @@ ghost use Rattle.hlc_link.specs.Ends.{Received};
 ghost use Rattle.hlc_core.specs.declared.event.CoreEvent.{CoreEvent as AnEvent};
 ghost use Rattle.hlc_workers.specs.declared.room.WorkEnd.{WorkEnd};
 ghost use Rattle.hlc_workers.specs.Paid.{IsPaid, event_of};
-ghost use Rattle.hlc_workers.specs.Feeding.{TookAll};
+ghost use Rattle.hlc_workers.specs.Feeding.{TookAll, fed_all};
 ghost use Rattle.hlc_workers.specs.Rounds.{HasServed};
 ghost use Rattle.hlc_storm.specs.declared.working.TheConstants.{ROUNDS};
 
@@ -43,21 +43,24 @@ pub(crate) struct Looking<'a, L: Ledger> {
     ghost of_board: { pass.board ≡ board.now },
 }
 
-/// The worker of a link. Its ends of the link and of the board are dropped in its thread, so that no writer waits for a
-/// feeder that has ended.
+/// The worker of a link, and its feeder, raised to what was accepted. Its end of the link is dropped in its thread, so
+/// that no writer waits for a feeder that has ended.
 pub(crate) fn feed_link<L: Ledger, G: Gate, R: Wait>(
     rt: &R,
     alloc: Global,
     shared: &Shared<L>,
     place: Feeding<'_, L>,
     gate: &G,
-) -> Served<L>
-    ensures share { IsPaid place.entry.caller result.caller result.receipts.items }
+) -> (Served<L>, Feeder)
+    ensures share { IsPaid place.entry.caller result.0.caller result.0.receipts.items }
     ensures items { (link : Received) × (left : Option AnItem)
-        × TookAll place.entry.link.taken link.taken result.receipts.items left
-        × (result.end ≡ WorkEnd.Done → (link.ended ≡ true) × (left ≡ None)) }
-    ensures held { result.end ≡ WorkEnd.Held
-        → G.may_answer gate.now (vec_len result.receipts) false }
+        × TookAll place.entry.link.taken link.taken result.0.receipts.items left
+        × (result.0.end ≡ WorkEnd.Done → (link.ended ≡ true) × (left ≡ None)) }
+    ensures raised { result.1 ≡ fed_all place.entry.feeder result.0.receipts.items }
+    ensures held { result.0.end ≡ WorkEnd.Held
+        → G.may_answer gate.now (vec_len result.0.receipts) false }
+    ensures passed { (turn : ℕ) → turn < length result.0.receipts.items
+        → G.may_answer gate.now turn true }
 {
     let Feeding {
         caller,
@@ -68,16 +71,18 @@ pub(crate) fn feed_link<L: Ledger, G: Gate, R: Wait>(
     let Fed {
         caller,
         link: _,
-        feeder: _,
+        feeder,
         receipts,
         left: _,
         end,
     } = feed(rt, alloc, shared, caller, link, board, Some(feeder), gate);
-    Served {
+    let Some(feeder) = feeder else { unreachable!() };
+    let served = Served {
         caller,
         receipts,
         end,
-    }
+    };
+    (served, feeder)
 }
 
 /// The worker of a reader.
@@ -94,6 +99,9 @@ pub(crate) fn read_keys<L: Ledger, G: Gate, R: Wait>(
         → (pass : Sight) × HasServed keys.now ROUNDS place.entry.pass pass result.receipts.items }
     ensures held { result.end ≡ WorkEnd.Held
         → G.may_answer gate.now (vec_len result.receipts) false }
+    ensures open { result.end ≢ WorkEnd.Closed }
+    ensures passed { (turn : ℕ) → turn < length result.receipts.items
+        → G.may_answer gate.now turn true }
 {
     let Looking {
         caller,
@@ -126,6 +134,9 @@ pub(crate) fn vacuum_rows<L: Ledger, G: Gate, R: Wait + Threads + Sync>(
         → map event_of result.receipts.items ≡ replicate ROUNDS AnEvent.Vacuum }
     ensures held { result.end ≡ WorkEnd.Held
         → G.may_answer gate.now (vec_len result.receipts) false }
+    ensures open { result.end ≢ WorkEnd.Closed }
+    ensures passed { (turn : ℕ) → turn < length result.receipts.items
+        → G.may_answer gate.now turn true }
 {
     serve_vacuum(rt, alloc, shared, caller, ROUNDS, gate)
 }

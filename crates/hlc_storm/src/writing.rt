@@ -1,7 +1,8 @@
 //! What the nodes of a storm write, and how.
-ghost use Rattle.std.specs.Prelude.{◌≡◌, ◌<◌, IfOk, map};
+ghost use Rattle.std.specs.Prelude.{◌≡◌, ◌+◌, ◌<◌, [], ◌∷◌, ◌++◌, false, true, IfOk, map};
 ghost use Rattle.std.specs.List.{range_with_len};
-ghost use Rattle.hlc_storm.specs.Written.{key_text, value_text};
+ghost use Rattle.hlc_storm.specs.Written.{key_text, value_text, write_item, report_item, write_items, items_of};
+ghost use Rattle.hlc_storm.specs.Written.{after_writes};
 
 use hlc_core::{Bytes, Stamp};
 use hlc_link::LinkSender;
@@ -58,25 +59,41 @@ fn value_of(alloc: Global, node: u16, number: u64) -> Result<Bytes, NoMemory>
     Ok(Bytes::from_vec(text.into_bytes()))
 }
 
-/// Issues the writes of a node, and puts each on its link; then a report, and then the end of the link. The write of
-/// number j, from 0, is made at reading j + 1, and the report one above the last.
-///
-/// No clause says what was put: the sender is given up here. The receiving end says what it took.
-pub(crate) fn write_all<R: Wait>(
+/// The writer of a node: all its items are put on a new link, and then the end. The sending end is dropped in its
+/// thread.
+pub(crate) fn write_link<R: Wait>(
     rt: &R,
     alloc: Global,
     sender: LinkSender,
     node: u16,
     plan: StormPlan,
-) -> Result<(), WriteFault> {
+) -> Result<(), WriteFault>
+    requires { (sender.put ≡ []) × (sender.ended ≡ false) }
+{
     let mut sender = sender;
+    write_all(rt, alloc, &mut sender, node, &plan)
+}
+
+/// Issues the writes of a node, and puts each on its link; then a report, and then the end of the link. The write of
+/// number j, from 0, is made at reading j + 1, and the report one above the last.
+///
+/// Nothing was put before, and the end neither. Stopped where the link is closed: what was put by then stays.
+pub(crate) fn write_all<R: Wait>(
+    rt: &R,
+    alloc: Global,
+    sender: &mut LinkSender,
+    node: u16,
+    plan: &StormPlan,
+) -> Result<(), WriteFault>
+    requires { (sender.old.put ≡ []) × (sender.old.ended ≡ false) }
+    ensures { IfOk result
+        (λ _. (sender.new.put ≡ items_of plan.now node) × (sender.new.ended ≡ true)) }
+{
     let mut core = NodeCore::new(node, Stamp::from_bits(0));
-    put_writes(rt, alloc, &mut sender, &mut core, node, &plan)?;
-    let Ok(report) = core.report(plan.writes + 1) else {
-        return Err(WriteFault::Stopped);
-    };
-    put(rt, &mut sender, report)?;
-    if sender.finish(rt).is_err() {
+    put_writes(rt, alloc, sender, &mut core, node, plan)?;
+    let report = report_of(&mut core, node, plan)?;
+    put(rt, sender, report)?;
+    if sender.put_end(rt).is_err() {
         return Err(WriteFault::Stopped);
     }
     Ok(())
@@ -90,7 +107,13 @@ fn put_writes<R: Wait>(
     core: &mut NodeCore,
     node: u16,
     plan: &StormPlan,
-) -> Result<(), WriteFault> {
+) -> Result<(), WriteFault>
+    requires link { (sender.old.put ≡ []) × (sender.old.ended ≡ false) }
+    requires core { core.old ≡ after_writes node 0 }
+    ensures put { IfOk result (λ _. (sender.new.put ≡ write_items plan.now.keys node plan.now.writes)
+        × (sender.new.ended ≡ false)) }
+    ensures core { IfOk result (λ _. core.new ≡ after_writes node plan.now.writes) }
+{
     for number in 0..plan.writes {
         let write = write_of(alloc, core, node, plan, number)?;
         put(rt, sender, write)?;
@@ -106,7 +129,10 @@ fn write_of(
     plan: &StormPlan,
     number: u64,
 ) -> Result<Item, WriteFault>
-    requires { number < 1000 }
+    requires number { number < 1000 }
+    requires core { core.old ≡ after_writes node number }
+    ensures item { IfOk result (λ item. item ≡ write_item plan.now.keys node number) }
+    ensures core { IfOk result (λ _. core.new ≡ after_writes node (number + 1)) }
 {
     let key = key_of(alloc, number % plan.keys)?;
     let value = value_of(alloc, node, number)?;
@@ -116,8 +142,22 @@ fn write_of(
     }
 }
 
+/// Issues the report behind all writes.
+fn report_of(core: &mut NodeCore, node: u16, plan: &StormPlan) -> Result<Item, WriteFault>
+    requires { core.old ≡ after_writes node plan.now.writes }
+    ensures { IfOk result (λ item. item ≡ report_item node plan.now.writes) }
+{
+    match core.report(plan.writes + 1) {
+        Ok(report) => Ok(report),
+        Err(_) => Err(WriteFault::Stopped),
+    }
+}
+
 /// Puts an item on its link.
-fn put<R: Wait>(rt: &R, sender: &mut LinkSender, item: Item) -> Result<(), WriteFault> {
+fn put<R: Wait>(rt: &R, sender: &mut LinkSender, item: Item) -> Result<(), WriteFault>
+    ensures { IfOk result
+        (λ _. (sender.new.put ≡ sender.old.put ++ item ∷ []) × (sender.new.ended ≡ sender.old.ended)) }
+{
     match sender.put(rt, item) {
         Ok(()) => Ok(()),
         Err(_) => Err(WriteFault::Stopped),

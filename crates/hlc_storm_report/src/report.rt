@@ -37,6 +37,17 @@ impl Exact for StormFault {
     ghost copied = { Prim.search rules };
 }
 
+impl From<SettleFault> for StormFault {
+    ghost use Rattle.std.specs.Prelude.{◌≡◌};
+    ghost use Rattle.hlc_storm_report.specs.declared.report.StormFault.{StormFault};
+
+    ghost from_gives = { λ unsettled fault. fault ≡ StormFault.Settle unsettled };
+
+    fn from(unsettled: SettleFault) -> StormFault {
+        StormFault::Settle(unsettled)
+    }
+}
+
 impl From<NoMemory> for StormFault {
     ghost use Rattle.std.specs.Prelude.{◌≡◌};
     ghost use Rattle.hlc_storm_report.specs.declared.report.StormFault.{StormFault};

@@ -22,8 +22,8 @@ found plan core history legal stands (Ok report) is lacks = (nodes core, history
 found plan core history legal stands (Err fault) is lacks =
     let lack : fault ≡ NoMemory = lacks in (λ (done : fault ≡ Work Done). cc, λ (none : fault ≡ Settle NoTrail). cc)
 
-pub returns-in-Ok : goal.returns-in-Ok
-returns-in-Ok g c =
-    let settles = c.in-Ok.ensures.2 in
+pub returns : goal.returns
+returns g c =
+    let settles = c.in_ok-settled.ensures in
     found c.args.plan _ _ settles.legal settles.stands.core c.report_of.result c.report_of.ensures.found
     c.report_of.ensures.memory
