@@ -1,19 +1,22 @@
-//! The small callers of the pages of `hlc_link`, `hlc_floor` and `hlc_server`, with what they may rely on.
+//! The small callers of the pages of `hlc_link`, `hlc_floor`, `hlc_server` and `hlc_workers`, with what they rely on.
 ghost use Rattle.std.specs.Prelude.{◌≡◌, ◌↔◌, ◌+◌, ◌<◌, ◌≤◌, ℕ, length, slice_index};
 ghost use Rattle.std.specs.Prelude.{IsTrue, IfOk, IfSome};
+ghost use Rattle.hlc_workers.specs.declared.room.WorkEnd.{WorkEnd};
 
 use hlc_clock::Stamp;
 use hlc_floor::{Board, FloorPass};
 use hlc_link::LinkSender;
 use hlc_node::Item;
 use hlc_server::{Caller, Receipt, SettleFault, Shared};
+use hlc_workers::{FreeGate, Served, serve_vacuum};
 use std::alloc::{AllocError, Global};
 use std::sync::Wait;
 use std::sync::ledger::Ledger;
+use std::thread::Threads;
 
 /// Puts one item more and then the end, and says how many items the link carries.
 pub(crate) fn put_last<R: Wait>(rt: &R, sender: LinkSender, item: Item) -> Option<u64>
-    ensures { IfSome result (λ count. count ≡ length sender + 1) }
+    ensures { IfSome result (λ count. count ≡ length sender.put + 1) }
 {
     let mut sender = sender;
     sender.put(rt, item).ok()?;
@@ -42,4 +45,16 @@ pub(crate) fn count_calls<L: Ledger>(
     let mut lists = Vec::new(alloc);
     lists.push((caller, receipts))?;
     Ok(shared.settle(lists).map(|settled| settled.entries))
+}
+
+/// Vacuums a store four times, with no gate.
+pub(crate) fn vacuum_often<L: Ledger, R: Wait + Threads + Sync>(
+    rt: &R,
+    alloc: Global,
+    shared: &Shared<L>,
+    caller: Caller<L>,
+) -> Served<L>
+    ensures { result.end ≡ WorkEnd.Done → result.caller.share ≡ caller.share + 4 }
+{
+    serve_vacuum(rt, alloc, shared, caller, 4, &FreeGate)
 }

@@ -1,7 +1,9 @@
 //! The calls of a core as events, as a shared store makes them. There is memory for each.
 use crate::expected::must_be;
 use crate::makers::{at_second, bytes, write};
-use hlc_core::{Core, CoreEvent, CoreReply, Listing, Pair};
+use hlc_core::{
+    Core, CoreEvent, CoreReply, Listing, Pair, Points, Report, Row, Witness, Witnesses,
+};
 use std::alloc::Global;
 use std::process::Abort;
 use std::test::*;
@@ -108,4 +110,102 @@ fn each_event_gets_its_reply(rt: HostRuntime) {
         CoreReply::Closed(stamp),
     );
     vacuums(&rt, &mut core);
+}
+
+/// The node's next write is accepted.
+fn takes<R: Abort>(rt: &R, alloc: Global, core: &mut Core, number: u8, key: u8, value: u8) {
+    let item = write(alloc, 0, number, key, value).expect(rt, "memory");
+    assert!(rt; core.accept(item).is_ok());
+}
+
+/// The writes of x, y and z to key `a`, at 1.0 to 3.0, and that of x to key `b` at 4.0; and a snapshot at 1.0.
+fn fill<R: Abort>(rt: &R, alloc: Global, core: &mut Core) {
+    takes(rt, alloc, core, 0, b'a', b'x');
+    takes(rt, alloc, core, 1, b'a', b'y');
+    takes(rt, alloc, core, 2, b'a', b'z');
+    takes(rt, alloc, core, 3, b'b', b'x');
+    must_be(rt, core.open(at_second(1)), Ok(1));
+}
+
+/// The change of a key at a second, behind the point at another or at the first point.
+fn changed<R: Abort>(rt: &R, alloc: Global, key: u8, before: Option<u8>, at: u8) -> Witness {
+    Witness {
+        key: bytes(alloc, key).expect(rt, "memory"),
+        before: before.map(at_second),
+        at: at_second(at),
+    }
+}
+
+/// The three changes: y is read at no point.
+fn changes<R: Abort>(rt: &R, alloc: Global) -> Witnesses {
+    let changes = vec![in alloc;
+        changed(rt, alloc, b'a', None, 1),
+        changed(rt, alloc, b'a', Some(1), 4),
+        changed(rt, alloc, b'b', Some(1), 4),
+    ];
+    Witnesses::from_vec(changes.ok().expect(rt, "memory"))
+}
+
+/// What a vacuum of such a core reports: three rows of 12 bytes each are kept, and one is dropped.
+fn report_of_three<R: Abort>(rt: &R, alloc: Global) -> Report {
+    let points = vec![in alloc; at_second(1), at_second(4)];
+    Report {
+        floor: at_second(4),
+        points: Points::from_vec(points.ok().expect(rt, "memory")),
+        kept: 3,
+        bytes: 36,
+        dropped: 1,
+        witnesses: changes(rt, alloc),
+    }
+}
+
+/// A vacuum of such a core gives that report twice.
+fn reports_twice<R: Abort>(rt: &R, alloc: Global, core: &mut Core) {
+    let (first, second) = core.vacuum_pair().expect(rt, "memory");
+    let due = report_of_three(rt, alloc);
+    must_be(rt, &first, &due);
+    must_be(rt, &second, &due);
+}
+
+/// The row of the node's write at a second.
+fn row<R: Abort>(rt: &R, alloc: Global, key: u8, second: u8, value: u8) -> Row {
+    Row {
+        key: bytes(alloc, key).expect(rt, "memory"),
+        stamp: at_second(second),
+        node: 0,
+        value: Some(bytes(alloc, value).expect(rt, "memory")),
+    }
+}
+
+/// The rows that such a vacuum leaves.
+fn three_rows<R: Abort>(rt: &R, alloc: Global) -> Vec<Row> {
+    let rows = vec![in alloc;
+        row(rt, alloc, b'a', 1, b'x'),
+        row(rt, alloc, b'a', 3, b'z'),
+        row(rt, alloc, b'b', 4, b'x'),
+    ];
+    rows.ok().expect(rt, "memory")
+}
+
+/// These rows are stored.
+fn has_rows<R: Abort>(rt: &R, core: &Core, due: &[Row]) {
+    let rows = core.rows_to(at_second(4)).expect(rt, "memory");
+    must_be(rt, rows.as_slice(), due);
+}
+
+/// A copy of each row is equal to it.
+fn are_copied<R: Abort>(rt: &R, rows: &[Row]) {
+    for row in rows {
+        must_be(rt, &row.clone().expect(rt, "memory"), row);
+    }
+}
+
+#[test]
+fn a_vacuum_with_two_reports(rt: HostRuntime) {
+    let rows = three_rows(&rt, rt.alloc());
+    are_copied(&rt, rows.as_slice());
+    let mut core = Core::new(rt.alloc(), 1).ok().expect(&rt, "a core");
+    fill(&rt, rt.alloc(), &mut core);
+    reports_twice(&rt, rt.alloc(), &mut core);
+    has_rows(&rt, &core, rows.as_slice());
 }

@@ -1,6 +1,6 @@
-//! Tests of links, of the board, of a core's calls as events and of the shared store, by their public calls, with the
-//! items that the tests of the workers are fed too, and the small callers of the pages of `hlc_link`, `hlc_floor` and
-//! `hlc_server`. There is nothing else here.
+//! Tests of links, of the board, of a core's calls as events, of vacuums that several threads plan and of the shared
+//! store, by their public calls, with the items that the tests of the workers are fed too, and the small callers of the
+//! pages of `hlc_link`, `hlc_floor`, `hlc_server` and `hlc_workers`. There is nothing else here.
 #![tactic(auto)]
 
 #[cfg(test)]
@@ -22,3 +22,5 @@ mod links;
 pub mod makers;
 #[cfg(test)]
 mod threads;
+#[cfg(test)]
+mod vacuums;

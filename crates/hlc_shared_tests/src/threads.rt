@@ -4,8 +4,8 @@ ghost use Rattle.std.specs.Prelude.{◌≡◌};
 use crate::clients::{Client, lists_of, settled_calls};
 use crate::expected::must_be;
 use crate::makers::{bytes, write};
-use hlc_core::{Bytes, CoreEvent, CoreReply, Stamp};
-use hlc_server::{Caller, Shared};
+use hlc_core::{Bytes, Core, CoreEvent, CoreReply, Stamp};
+use hlc_server::{Caller, Receipt, Shared};
 use std::alloc::Global;
 use std::marker::Brand;
 use std::process::Abort;
@@ -141,4 +141,51 @@ fn by_four<L: Ledger + Send + Sync, R: Threads + Wait + Abort + Sync>(
 #[test]
 fn four_threads(rt: HostRuntime) {
     by_four::<Brand, _>(&rt, rt.alloc(), Blank::new(4));
+}
+
+/// The receipt of this number.
+fn numbered<'a, L: Ledger, R: Abort>(rt: &R, clients: &'a [Client<L>], number: u64) -> &'a Receipt {
+    for client in clients {
+        for receipt in client.receipts.as_slice() {
+            if receipt.number == number {
+                return receipt;
+            }
+        }
+    }
+    panic!(rt; "no receipt has the number {number}")
+}
+
+/// A core gives the reply of a receipt to its event.
+fn replies<R: Abort>(rt: &R, core: &mut Core, receipt: &Receipt) {
+    let event = receipt.event.clone().expect(rt, "memory");
+    let reply = core.step(event).ok().expect(rt, "memory");
+    must_be(rt, &reply, &receipt.reply);
+}
+
+/// A new core of one node gives the replies of 200 receipts to their events, in the order of their numbers.
+fn replay<L: Ledger, R: Abort>(rt: &R, alloc: Global, clients: &[Client<L>]) {
+    let mut core = Core::new(alloc, 1).expect(rt, "a core");
+    for number in 0..200u64 {
+        replies(rt, &mut core, numbered(rt, clients, number));
+    }
+}
+
+/// The same calls of a store without a trail. The 200 receipts have the numbers from 0 on, each once, and a core that
+/// is stepped by one thread gives the same replies.
+fn by_four_alone<L: Ledger + Send + Sync, R: Threads + Wait + Abort + Sync>(
+    rt: &R,
+    alloc: Global,
+    blank: Blank,
+)
+    requires { (blank.name ≡ L.name) × (blank.parts ≡ L.parts) × (blank.parts ≡ 4) }
+{
+    let (shared, callers) = Shared::<L>::new(alloc, blank, 1, 4, false).expect(rt, "a store");
+    let clients = all_work(rt, alloc, &shared, callers);
+    are_done(rt, clients.as_slice());
+    replay(rt, alloc, clients.as_slice());
+}
+
+#[test]
+fn four_threads_without_a_trail(rt: HostRuntime) {
+    by_four_alone::<Brand, _>(&rt, rt.alloc(), Blank::new(4));
 }

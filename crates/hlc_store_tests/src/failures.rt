@@ -224,6 +224,23 @@ fn a_writer_fails_after_a_storm(rt: HostRuntime) {
     each_write_fails(&rt, &report, output.as_slice());
 }
 
+/// Each flush is passed on, also behind the first, which fails, and its outcome comes back.
+#[test]
+fn a_flush_fails_once(rt: HostRuntime) {
+    for (flushes, expected) in [(1u64, Err(ErrorKind::Other)), (2, Ok(()))] {
+        let mut writer = Watched::new(Taking {
+            calls: Calls::new(1),
+            ..Taking::whole(rt.alloc())
+        });
+        let mut last = Ok(());
+        for _ in 0..flushes {
+            last = writer.flush().map_err(|fault| fault.kind());
+        }
+        let seen = (last, writer.failed(), writer.into_inner().calls.made);
+        assert_eq!(rt; seen, (expected, true, flushes));
+    }
+}
+
 /// The longest input, and one that is a byte longer, behind which the reader fails.
 #[test]
 fn the_longest_input(rt: HostRuntime) {

@@ -24,6 +24,4 @@ mod store;
 #[cfg(test)]
 mod streams;
 #[cfg(test)]
-mod threads;
-#[cfg(test)]
 mod vacuums;

@@ -116,6 +116,9 @@ impl Write for Taking {
     }
 
     fn flush(&mut self) -> io::Result<()> {
+        if self.calls.make() {
+            return Err(io::Error::from(ErrorKind::Other));
+        }
         Ok(())
     }
 }

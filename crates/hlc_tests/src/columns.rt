@@ -1,9 +1,10 @@
-//! Columns of few rows and of many answer as a plain list does, and a table is asked for keys that
-//! it does not have.
+//! Columns of few rows and of many answer as a plain list does, the plan of one key, and a table that
+//! is asked for keys that it does not have.
 use crate::callers::{add_first, drop_unread};
 use crate::expected::must_be;
 use crate::makers::bytes;
 use hlc_columns::{Column, Row, Stamp, Table};
+use hlc_vacuum::plan_key;
 use std::alloc::Global;
 use std::process::Abort;
 use std::test::*;
@@ -157,6 +158,58 @@ fn columns_answer_as_plain_lists(rt: HostRuntime) {
             );
         }
     }
+}
+
+/// Puts a row of node 0 into a column, with a value of one byte or a deletion mark.
+fn adds_row<R: Abort>(rt: &R, alloc: Global, column: &mut Column, stamp: u64, value: Option<u8>) {
+    let value = value.map(|byte| bytes(rt, alloc, &[byte]));
+    let pushed = column.push(Stamp::from_bits(stamp), 0, value);
+    pushed.ok().expect(rt, "memory");
+}
+
+/// The plan of a column at 1, 4, 5 and 7 keeps these rows, and has changes at these points.
+fn is_planned<R: Abort>(rt: &R, alloc: Global, column: &Column, keep: &[bool], changes: &[Stamp]) {
+    let points = [
+        Stamp::from_bits(1),
+        Stamp::from_bits(4),
+        Stamp::from_bits(5),
+        Stamp::from_bits(7),
+    ];
+    let plan = plan_key(alloc, column, &points).expect(rt, "memory");
+    must_be(
+        rt,
+        (plan.keep.as_slice(), plan.changes.as_slice()),
+        (keep, changes),
+    );
+}
+
+/// The value x at 1, y at 2 and 3, and a deletion at 6. At 5 the answer is that at 4, so there is no change. The row at
+/// 8 is above all points. The rows arrive in another order.
+#[test]
+fn a_plan_of_one_key(rt: HostRuntime) {
+    let alloc = rt.alloc();
+    let mut column = Column::new(alloc);
+    for (stamp, value) in [
+        (2, Some(b'y')),
+        (8, Some(b'z')),
+        (1, Some(b'x')),
+        (6, None),
+        (3, Some(b'y')),
+    ] {
+        adds_row(&rt, alloc, &mut column, stamp, value);
+    }
+    let changes = [
+        Stamp::from_bits(1),
+        Stamp::from_bits(4),
+        Stamp::from_bits(7),
+    ];
+    is_planned(
+        &rt,
+        alloc,
+        &column,
+        &[false, true, true, true, true],
+        &changes,
+    );
 }
 
 /// A row of a key at 1.0, with a value or a deletion mark.

@@ -1,8 +1,6 @@
-//! Tests of the workers, by their public calls, and the small caller of their page. There is nothing else here.
+//! Tests of the workers and of storms, by their public calls. There is nothing else here.
 #![tactic(auto)]
 
-#[cfg(test)]
-mod callers;
 #[cfg(test)]
 mod clients;
 #[cfg(test)]

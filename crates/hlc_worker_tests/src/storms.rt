@@ -3,11 +3,12 @@ ghost use Rattle.std.specs.Prelude.{◌≡◌, ◌+◌};
 
 use crate::expected::must_be;
 use crate::held::{HoldsAt, was_set};
-use hlc_core::{CoreFault, CoreReply};
+use hlc_core::{CoreEvent, CoreFault, CoreReply, Stamp};
 use hlc_server::{Caller, NotDone, Receipt, Shared};
 use hlc_shared_tests::makers::at_second;
 use hlc_storm::{
-    Lists, Started, StormFault, StormGates, StormPlan, StormReport, join_all, storm_gated, work,
+    Lists, Started, StormFault, StormGates, StormPlan, StormReport, WriteFault, join_all,
+    storm_gated, work,
 };
 use hlc_workers::{FreeGate, Gate, Served, WorkEnd};
 use std::alloc::Global;
@@ -138,6 +139,61 @@ fn the_board_is_never_ahead(rt: HostRuntime) {
     assert!(rt; (875..=939).contains(&calls));
 }
 
+/// The stamp of the last opening at a stamp among these receipts.
+fn last_opening<L: Ledger>(lists: &Lists<L>) -> Option<Stamp> {
+    let mut last = None;
+    for (_, receipts) in lists {
+        for receipt in receipts {
+            if let CoreEvent::OpenAt(stamp) = &receipt.event {
+                last = Some(*stamp);
+            }
+        }
+    }
+    last
+}
+
+/// The last opening of the one reader, which is held before its first call until the feeder is asked for the report of
+/// its node: both writes are raised then.
+fn opens_last<L: Ledger + Send + Sync, R: Threads + Wait + Abort + Sync>(
+    rt: &R,
+    alloc: Global,
+    blank: Blank,
+) -> Option<Stamp>
+    requires { (blank.name ≡ L.name) × (blank.parts ≡ L.parts) × (blank.parts ≡ 3) }
+{
+    let (fed, never) = (AtomicBool::new(false), AtomicBool::new(false));
+    let gates = StormGates {
+        feeders: Meets {
+            sets_at: 2,
+            asked: &fed,
+            waits_at: u64::MAX,
+            other: &never,
+        },
+        readers: Meets {
+            sets_at: u64::MAX,
+            asked: &never,
+            waits_at: 0,
+            other: &fed,
+        },
+        vacuum: FreeGate,
+    };
+    let plan = StormPlan {
+        nodes: 1,
+        writes: 2,
+        keys: 1,
+        readers: 1,
+    };
+    let worked = work::<L, _, _, _, R>(rt, alloc, blank, plan, &gates);
+    last_opening(&worked.ok().expect(rt, "receipts").1)
+}
+
+/// A reader comes to what the feeder raised: its last round opens at the second write of the node or above.
+#[test]
+fn a_reader_sees_what_was_raised(rt: HostRuntime) {
+    let last = opens_last::<Brand, _>(&rt, rt.alloc(), Blank::new(3));
+    assert!(rt; last.is_some_and(|stamp| stamp >= at_second(2)));
+}
+
 /// Looks why a storm of two nodes and a reader has no report, where feeders, reader and vacuum are held at
 /// these turns.
 fn is_held<R: Threads + Wait + Abort + Sync>(
@@ -215,47 +271,41 @@ fn start_two<'s, E, L: Ledger + Send + Sync + 's, R: Abort>(
     vec![in alloc; last, first].ok().expect(rt, "memory")
 }
 
-/// Starts two feeders, two readers and a vacuum that end so, by caller.
+/// Starts two feeders, two readers and a vacuum that end so, by caller, and a writer that ends so.
 fn start_all<'s, E, L: Ledger + Send + Sync + 's, R: Abort>(
     rt: &R,
     scope: &Scope<'s, E>,
     alloc: Global,
     callers: &mut Vec<Caller<L>>,
     ends: [WorkEnd; 5],
-    lacks_memory: bool,
+    wrote: Result<(), WriteFault>,
 ) -> Started<L> {
     let vacuum = start(rt, scope, alloc, callers, ends[4]);
     let readers = start_two(rt, scope, alloc, callers, [ends[2], ends[3]]);
     let feeders = start_two(rt, scope, alloc, callers, [ends[0], ends[1]]);
+    let writer = scope.spawn(move || wrote).ok();
+    let writers = vec![in alloc; writer].ok().expect(rt, "memory");
     Started {
-        writers: Vec::new(alloc),
+        writers,
         feeders,
         readers,
         vacuum,
-        lacks_memory,
+        lacks_memory: false,
     }
 }
 
-/// Joins two feeders, two readers and a vacuum that end so, by caller.
+/// Joins them.
 fn join_ended<L: Ledger + Send + Sync, R: Threads + Wait + Abort + Sync>(
     rt: &R,
     alloc: Global,
     callers: &mut Vec<Caller<L>>,
     ends: [WorkEnd; 5],
-    lacks_memory: bool,
+    wrote: Result<(), WriteFault>,
 ) -> Result<(), StormFault> {
     thread::scope(thread::scope_env(), rt, |scope| -> Result<(), StormFault> {
-        let started = start_all(rt, scope, alloc, callers, ends, lacks_memory);
-        fault_of(join_all(rt, alloc, started))
+        let started = start_all(rt, scope, alloc, callers, ends, wrote);
+        join_all(rt, alloc, started).map(|_| ())
     })
-}
-
-/// The fault alone.
-fn fault_of<T: Drop>(joined: Result<T, StormFault>) -> Result<(), StormFault> {
-    match joined {
-        Ok(_) => Ok(()),
-        Err(fault) => Err(fault),
-    }
 }
 
 /// The same by callers of a new store.
@@ -264,32 +314,32 @@ fn join_new<L: Ledger + Send + Sync, R: Threads + Wait + Abort + Sync>(
     alloc: Global,
     blank: Blank,
     ends: [WorkEnd; 5],
-    lacks_memory: bool,
+    wrote: Result<(), WriteFault>,
 ) -> Result<(), StormFault>
     requires ledger { (blank.name ≡ L.name) × (blank.parts ≡ L.parts) }
     requires callers { blank.parts ≡ 5 }
 {
     let mut made = Shared::<L>::new(alloc, blank, 2, 5, false).expect(rt, "a store");
-    join_ended(rt, alloc, &mut made.1, ends, lacks_memory)
+    join_ended(rt, alloc, &mut made.1, ends, wrote)
 }
 
-/// Looks what the join of workers that end so gives, with memory or without.
+/// Looks what the join of workers and a writer that end so gives.
 fn is_joined<R: Threads + Wait + Abort + Sync>(
     rt: &R,
     alloc: Global,
     ends: [WorkEnd; 5],
-    lacks_memory: bool,
+    wrote: Result<(), WriteFault>,
     due: Result<(), StormFault>,
 ) {
     must_be(
         rt,
-        join_new::<Brand, R>(rt, alloc, Blank::new(5), ends, lacks_memory),
+        join_new::<Brand, R>(rt, alloc, Blank::new(5), ends, wrote),
         due,
     );
 }
 
-/// Of several workers that are not done the first is reported: feeders by node, then readers, then the vacuum. Out of
-/// memory comes before all of them.
+/// Of several workers that are not done the first is reported: feeders by node, then readers, then the vacuum. A writer
+/// that is out of memory comes before all of them.
 #[test]
 fn the_first_worker_is_reported(rt: HostRuntime) {
     let done = WorkEnd::Done;
@@ -303,9 +353,9 @@ fn the_first_worker_is_reported(rt: HostRuntime) {
         ([done, held, spent, closed, closed], held),
         ([closed, held, spent, done, held], closed),
     ] {
-        is_joined(&rt, rt.alloc(), ends, false, Err(StormFault::Work(first)));
+        is_joined(&rt, rt.alloc(), ends, Ok(()), Err(StormFault::Work(first)));
     }
-    is_joined(&rt, rt.alloc(), [done; 5], false, Ok(()));
-    let ends = [held, done, done, done, done];
-    is_joined(&rt, rt.alloc(), ends, true, Err(StormFault::NoMemory));
+    is_joined(&rt, rt.alloc(), [done; 5], Ok(()), Ok(()));
+    let wrote = Err(WriteFault::NoMemory);
+    is_joined(&rt, rt.alloc(), [held; 5], wrote, Err(StormFault::NoMemory));
 }

@@ -26,7 +26,7 @@ pub fn full_link<R: Wait + Abort>(
     items: Vec<Item>,
     ends: bool,
 ) -> LinkReceiver
-    ensures { result ≡ received [] false }
+    ensures { result ≡ received result.link [] false }
 {
     let (mut sender, receiver) = link(rt, alloc, 8).expect(rt, "a link");
     fill(rt, &mut sender, items);

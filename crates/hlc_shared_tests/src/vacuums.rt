@@ -1,6 +1,6 @@
 //! Vacuums of a store by one thread and by several.
-use crate::items::{item, stamp};
-use hlc_core::{Core, Item, Report};
+use crate::makers::bytes;
+use hlc_core::{Body, Bytes, Core, Item, Report, Stamp};
 use std::alloc::Global;
 use std::process::Abort;
 use std::test::*;
@@ -10,9 +10,19 @@ use std::thread::Threads;
 /// 3,000 on write them again, with the same value.
 fn item_of<R: Abort>(rt: &R, alloc: Global, turn: u64) -> Item {
     let key = turn % 3_000;
-    let key = [(key / 256) as u8, (key % 256) as u8];
-    let bits = stamp(turn.wrapping_add(1)).bits();
-    item(rt, alloc, (0, turn, bits), &key, Some(b"v"))
+    Item {
+        node: 0,
+        number: turn,
+        stamp: Stamp::from_bits(turn.wrapping_add(1).wrapping_mul(65_536)),
+        body: written(rt, alloc, [(key / 256) as u8, (key % 256) as u8]),
+    }
+}
+
+/// The write of v to a key of two bytes.
+fn written<R: Abort>(rt: &R, alloc: Global, key: [u8; 2]) -> Body {
+    let key = Bytes::from_vec(Vec::from_slice(alloc, &key).expect(rt, "memory"));
+    let value = Some(bytes(alloc, b'v').expect(rt, "memory"));
+    Body::Write { key, value }
 }
 
 /// A store of one node with 3,000 keys, each written twice with one value.
