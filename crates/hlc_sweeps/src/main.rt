@@ -6,7 +6,7 @@
 #![tactic(auto)]
 
 mod asking;
-mod board;
+mod counted;
 mod desk;
 mod items;
 mod lines;
@@ -77,13 +77,23 @@ fn answer_whole<R: Wait + Threads + Sync>(
     match letter {
         b'S' => spend(screen, requests),
         b'P' => registry::points(screen, requests),
-        b'B' => board::answer(screen, requests),
+        b'B' => counted::board(screen, requests),
         b'F' => workers::answer(screen, threads, Worker::Feeds, requests),
         b'R' => workers::answer(screen, threads, Worker::Reads, requests),
         b'V' => workers::answer(screen, threads, Worker::Vacuums, requests),
         b'T' => texts::script(screen, requests, text),
         b'H' => texts::script(screen, requests, GivesOnce { given: false }),
         b'C' => texts::check(screen, requests, text),
+        b'K' => counted::clock(screen, requests),
+        b'N' => counted::node(screen, requests),
+        b'I' => counted::intake(screen, requests),
+        b'L' => counted::links(screen, threads, requests),
+        b'E' => counted::heads(screen, requests),
+        b'X' => counted::kernels(screen, requests),
+        b'O' => counted::column(screen, requests),
+        b'A' => table::asked(screen, requests),
+        b'W' => counted::witnesses(screen, requests),
+        b'D' => counted::words(screen, requests),
         _ => {}
     }
 }

@@ -4,27 +4,19 @@ use crate::requests::{REFUSED, spend};
 use crate::screen::Screen;
 use hlc_snapshot::{Registry, Stamp};
 
-/// A registry.
-#[derive(Drop)]
-struct Registered {
-    registry: Registry,
-}
-
 /// Answers the calls of a registry.
 pub(crate) fn answer(screen: &mut Screen<'_>, calls: &[u8]) {
-    let mut registered = Registered {
-        registry: Registry::new(screen.alloc()),
-    };
-    call_all(screen, &mut registered, calls);
+    let mut registry = Registry::new(screen.alloc());
+    call_all(screen, &mut registry, calls);
 }
 
-impl Called for Registered {
+impl Called for Registry {
     fn call(&mut self, screen: &mut Screen<'_>, letter: u8, rest: &[u8]) {
         let number = number_of(rest);
         match letter {
-            b'o' => screen.say(&self.registry.open(Stamp::from_bits(number))),
-            b'c' => screen.say(&self.registry.close(number)),
-            b's' => screen.say(&self.registry.stamp_of(number)),
+            b'o' => screen.say(&self.open(Stamp::from_bits(number))),
+            b'c' => screen.say(&self.close(number)),
+            b's' => screen.say(&self.stamp_of(number)),
             _ => {},
         }
     }

@@ -3,8 +3,10 @@ ghost use Rattle.std.specs.Prelude.{IfOk};
 ghost use Rattle.hlc_vacuum.specs.Plan.{IsPlanOf};
 
 use crate::asking::ask_table;
+use crate::counted::first_of;
 use crate::items::row_of;
 use crate::lines::{Called, call_all};
+use crate::requests::{REFUSED, spend};
 use crate::screen::Screen;
 use hlc_columns::{Row, Stamp, Table};
 use hlc_vacuum::{Plan, Report, apply, plan_table};
@@ -90,4 +92,30 @@ fn report(alloc: Global, table: &Table) -> Result<Report, AllocError> {
 fn vacuum(alloc: Global, table: &mut Table) -> Result<Report, AllocError> {
     let plan = plan(alloc, table)?;
     Ok(apply(table, plan))
+}
+
+/// Asks a table of two rows of one key what takes no memory, before and after a plan that drops the lower one.
+pub(crate) fn asked(screen: &mut Screen<'_>, requests: u64) {
+    let mut table = Table::new(screen.alloc());
+    for line in [b"a 8 x", b"a 7 y"] {
+        if let Ok(row) = row_of(screen.alloc(), line) {
+            let _ = add_lowest(&mut table, row);
+        }
+    }
+    if let Ok(plan) = plan(screen.alloc(), &table) {
+        spend(screen, requests);
+        let before = ask(&table);
+        let report = apply(&mut table, plan);
+        let after = ask(&table);
+        spend(screen, REFUSED);
+        screen.say(&(before, after));
+        screen.told(Some(report));
+    }
+}
+
+/// How many rows a table has, how many at or below 7, and the first byte of the answer at 9.
+fn ask(table: &Table) -> (u128, u128, Option<u8>) {
+    let below = table.rows_at(Stamp::from_bits(7));
+    let answer = first_of(table.answer(b"a", Stamp::from_bits(9)));
+    (table.rows(), below, answer)
 }
