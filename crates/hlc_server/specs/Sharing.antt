@@ -1,5 +1,5 @@
--- What contracts see of a shared store: whether a trail of its calls is kept. What lies under its lock other threads may
--- change at any time.
+-- What contracts see of a shared store: whether a trail of its calls is kept. What lies under its lock other threads
+-- may change at any time.
 use Rattle.std.specs.Prelude.{Bool, true, false}
 use Rattle.hlc_server.specs.declared.lock.StoreLock.{StoreLock}
 use Rattle.hlc_server.specs.declared.lock.StoreLock.TheVariants.{Audited, Plain}
