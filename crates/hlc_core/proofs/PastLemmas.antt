@@ -197,7 +197,7 @@ inside-row nodes (Took item ∷ past) legal row m =
     ]
 
 -- each accepted write lies at or below its node's head
-below_head : (nodes : ℕ) (past : List Step) → IsLegal nodes past → (row : Row) → Contains (writes past) row
+pub below_head : (nodes : ℕ) (past : List Step) → IsLegal nodes past → (row : Row) → Contains (writes past) row
     → row.stamp ≤ head row.node past
 below_head nodes [] legal row m = absurd (Contains-none row m)
 below_head nodes (Opened stamp ∷ past) legal row m = below_head nodes past legal.1 row m
@@ -272,7 +272,7 @@ writes-row_set nodes (Took item ∷ past) legal =
     (writes-row_set nodes past legal.1)
 
 -- the row of an item, if it is a write, is set behind others that are in the limits
-limits-body : (node stamp : ℕ) (body : Body) (rows : List Row) → body_refusal body ≡ None → AreInLimits rows
+pub limits-body : (node stamp : ℕ) (body : Body) (rows : List Row) → body_refusal body ≡ None → AreInLimits rows
     → AreInLimits (rows ++ body_rows node stamp body)
 limits-body node stamp Report rows none all' = rw append-nil all'
 limits-body node stamp Retire rows none all' = rw append-nil all'

@@ -15,7 +15,7 @@ use Rattle.hlc_node.specs.declared.row.Row.{Row}
 use Rattle.hlc_node.specs.declared.item.Item.{Item}
 use Rattle.hlc_node.specs.declared.item.Body.{Body}
 use Rattle.hlc_node.specs.declared.item.Body.TheVariants.{Write, Report, Retire}
-use Rattle.hlc_node.specs.Items.{retires}
+use Rattle.hlc_node.specs.Items.{body_refusal, retires}
 use Rattle.hlc_heads.proofs.LowLemmas.{low-is, low-one, floor-is}
 use Rattle.hlc_node.specs.Rows.{answer, IsRowSet}
 use Rattle.hlc_intake.specs.Progress.{Progress}
@@ -101,7 +101,9 @@ LooksUp found item result =
 pub record IsAdmitted (links : List Progress) (item : Item) (new : Progress) : Type 0 where
   pub within : item.node < length links
   pub here : (get_or links item.node no_link).retired ≡ false
+  pub number : item.number ≡ (get_or links item.node no_link).next
   pub rising : (get_or links item.node no_link).head < item.stamp
+  pub limits : body_refusal item.body ≡ None
   pub is : new ≡ a_link (item.number + 1) item.stamp (retires item.body)
 
 pub admitted : (links : List Progress) (item : Item) (new : Progress)
@@ -114,7 +116,9 @@ admitted links item new looked =
           record {
             within = below;
             here = (admissible _ _ _ item found.0).here;
+            number = (admissible _ _ _ item found.0).number;
             rising = (admissible _ _ _ item found.0).stamp;
+            limits = (admissible _ _ _ item found.0).limits;
             is = found.1;
           }
       | inr outside ↦

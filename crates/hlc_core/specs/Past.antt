@@ -104,6 +104,11 @@ open_snapshots (Opened stamp ∷ past) = open_snapshots past ++ record { id = op
 open_snapshots (Closed id ∷ past) = without id (open_snapshots past)
 open_snapshots (_ ∷ past) = open_snapshots past
 
+-- and then these snapshots were closed, the first of them first
+abbrev pub closed_all : List Snapshot → List Step → List Step
+closed_all [] past = past
+closed_all (snapshot ∷ snapshots) past = closed_all snapshots (Closed snapshot.id ∷ past)
+
 -- the stamp of the open snapshot that has this id
 abbrev pub stamp_of : ℕ → List Step → Option ℕ
 stamp_of id past = stamp_in id (open_snapshots past)

@@ -1,5 +1,5 @@
 //! What holds of every legal past, and of cores that stand for one.
-ghost use Rattle.std.specs.Prelude.{◌≡◌, ◌+◌, ◌<◌, ◌≤◌, ◌⊎◌, true, false, ℕ, List, ◌∷◌, None, All, length};
+ghost use Rattle.std.specs.Prelude.{◌≡◌, ◌≢◌, ◌+◌, ◌<◌, ◌≤◌, ◌⊎◌, true, false, ℕ, List, ◌∷◌, None, All, length};
 ghost use Rattle.hlc_node.specs.Rows.{IsRowSet};
 ghost use Rattle.hlc_core.specs.Past.{Step, Took, Joined, Vacuumed, IsLegal, numbered, retired, top, writes, head};
 ghost use Rattle.hlc_core.specs.Past.{floor, open_snapshots, item_refusal};
@@ -9,6 +9,11 @@ ghost use Rattle.hlc_vacuum.specs.declared.report.Report.{Report as AReport};
 ghost use Rattle.hlc_core.specs.Stored.{AreVacuumPoints, IsReport, IsStoredCount, LeavesFewest};
 ghost use Rattle.hlc_core.specs.Kept.{Kept, nodes, with_rows_left, StandsFor};
 ghost use Rattle.hlc_core.specs.Calls.{Vacuums};
+ghost use Rattle.hlc_core.specs.Checkpoint.{IsCheckpoint, IsCopyOf, IsFirstReason};
+ghost use Rattle.hlc_witness.specs.Certificate.{RowsAscend};
+ghost use Rattle.hlc_heads.specs.declared.heads.TheConstants.{MOST_NODES};
+ghost use Rattle.hlc_core.specs.declared.checkpoint.RestoreFault.{RestoreFault as AFault};
+ghost use Rattle.hlc_core.specs.declared.checkpoint.RestoreFault.TheVariants.{NoMemory as no_memory};
 ghost use Rattle.hlc_core.specs.Listing.{IsListing};
 ghost use Rattle.hlc_core.specs.History.{StandsForHistory};
 ghost use Rattle.hlc_core.specs.Headline.{IsFaithful};
@@ -101,4 +106,15 @@ pub fn there_is_one_report()
 pub fn histories_are_faithful()
     ensures { (kept : Kept) (history : List (AnEvent × AReply)) → StandsForHistory kept history
         → IsFaithful (nodes kept) history kept.rows }
+{}
+
+/// What stands for a past, with its rows by key, stamp and node, is a checkpoint: `Core::restore`
+/// refuses it for want of memory alone.
+pub fn checkpoints_restore()
+    ensures sound { (kept : Kept) (past : List Step) → StandsFor kept past
+        → 0 < nodes kept → nodes kept ≤ MOST_NODES → RowsAscend kept.rows → IsCheckpoint kept }
+    ensures copies { (kept copy : Kept) (past : List Step) → StandsFor kept past
+        → IsCopyOf kept copy → StandsFor copy past }
+    ensures refused { (kept : Kept) (fault : AFault) → IsFirstReason kept fault → fault ≢ no_memory
+        → IsCheckpoint kept → ⊥ }
 {}

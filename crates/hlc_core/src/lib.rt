@@ -3,30 +3,35 @@
 //! that answer so.
 #![tactic(auto)]
 
+mod checkpoint;
 mod event;
 mod fault;
 mod laws;
 mod link;
 mod listing;
 mod reply;
+mod restoring;
 mod rows;
 mod sorted;
 mod step;
 mod store;
 
+pub use checkpoint::{Checkpoint, RestoreFault};
 pub use event::CoreEvent;
 pub use fault::{CoreFault, NoNode};
 pub use hlc_clock::Stamp;
 pub use hlc_heads::Accepted;
+pub use hlc_intake::Intake;
 pub use hlc_node::{Body, BodyFault, Bytes, Item, Row};
-pub use hlc_snapshot::NoSnapshot;
+pub use hlc_snapshot::{NoSnapshot, Snapshot};
 pub use hlc_vacuum::{Points, Report, Witnesses};
 pub use hlc_values::NoMemory;
 pub use hlc_witness::Witness;
 pub use laws::{
-    accepted_writes_are_a_row_set, floor_is_the_least_head, histories_are_faithful,
-    later_items_are_above_the_floor, open_snapshots_are_at_most_the_floor, the_floor_never_falls,
-    there_is_one_listing, there_is_one_report, vacuums_keep_standing, vacuums_leave_the_fewest,
+    accepted_writes_are_a_row_set, checkpoints_restore, floor_is_the_least_head,
+    histories_are_faithful, later_items_are_above_the_floor, open_snapshots_are_at_most_the_floor,
+    the_floor_never_falls, there_is_one_listing, there_is_one_report, vacuums_keep_standing,
+    vacuums_leave_the_fewest,
 };
 pub use listing::{Listing, Pair};
 pub use reply::CoreReply;

@@ -7,6 +7,7 @@ ghost use Rattle.hlc_heads.specs.Heads.{
   Makes,
   Joins,
   IsFloor,
+  IsSized,
   head_at,
   marked,
 };
@@ -124,6 +125,22 @@ impl Heads {
                 floor: Stamp::from_bits(0),
             }),
             Err(_) => Err(HeadsFault::NoMemory),
+        }
+    }
+
+    /// These heads by node, 1 to 1,024 of them, and the greatest stamp of an accepted item. It takes no
+    /// memory.
+    pub fn resuming(heads: Vec<Head>, top: Stamp) -> Heads
+        requires { IsSized (record { heads = heads.items; top = top }) }
+        ensures { result ≡ record { heads = heads.items; top = top } }
+    {
+        let groups = groups_of(&heads);
+        let floor = least_of(&groups).unwrap_or(top);
+        Heads {
+            heads,
+            groups,
+            top,
+            floor,
         }
     }
 

@@ -76,6 +76,18 @@ impl Intake {
         }
     }
 
+    /// The intake of a link that has come so far: its next number, its head, and whether its node
+    /// retired.
+    pub fn resuming(next: u64, head: Stamp, retired: bool) -> Intake
+        ensures { result ≡ record { next = next; head = head; retired = retired } }
+    {
+        Intake {
+            next,
+            head,
+            retired,
+        }
+    }
+
     /// The number of the next item, which is also how many were admitted.
     pub fn next(&self) -> u64
         ensures { result ≡ self.now.next }

@@ -13,5 +13,5 @@ pub use laws::{
     closing_takes_out_one_snapshot, ids_are_never_used_again, most_open_are_1024,
     opening_adds_one_snapshot, points_are_unique, registers_stay_registers,
 };
-pub use registry::{MOST_OPEN, Registry};
+pub use registry::{MOST_OPEN, Registry, is_register};
 pub use snapshot::Snapshot;

@@ -1,7 +1,7 @@
 //! The registry of open snapshots.
-ghost use Rattle.std.specs.Prelude.{◌≡◌, ℕ, ◌+◌, ◌<◌, ◌≤◌, ◌==◌, [], ◌∷◌, ◌++◌, length, All, IfOk, IfErr, OnErr};
+ghost use Rattle.std.specs.Prelude.{◌≡◌, ℕ, ◌+◌, ◌<◌, ◌≤◌, ◌==◌, [], ◌∷◌, ◌++◌, ◌↔◌, IsTrue, length, All, IfOk, IfErr, OnErr};
 ghost use Rattle.std.specs.Prelude.{if◌then◌else◌};
-ghost use Rattle.hlc_snapshot.specs.Register.{IsRegister, IsRefusal, closed, opened_at, room_refusal, stamp_in, stamps};
+ghost use Rattle.hlc_snapshot.specs.Register.{IsRegister, IsRefusal, closed, opened_at, room_refusal, ids_rise, stamp_in, stamps};
 ghost use Rattle.hlc_clock.specs.Points.{ArePoints};
 
 use crate::fault::{NoSnapshot, SnapshotFault};
@@ -43,6 +43,30 @@ impl Registry {
             snapshots: Vec::new(alloc),
             opened: 0,
         }
+    }
+
+    /// A registry of these open snapshots, the oldest first, after so many were ever opened. It takes
+    /// no memory.
+    pub fn resuming(snapshots: Vec<Snapshot>, opened: u64) -> Registry
+        requires { IsRegister (record { snapshots = snapshots.items; opened = opened }) }
+        ensures { result ≡ record { snapshots = snapshots.items; opened = opened } }
+    {
+        Registry { snapshots, opened }
+    }
+
+    /// The open snapshots, the oldest first.
+    pub fn snapshots(&self) -> &[Snapshot]
+        ensures value { result.now ≡ self.now.snapshots }
+        ensures register { IsRegister self.now }
+    {
+        self.snapshots.as_slice()
+    }
+
+    /// How many were ever opened, which is also the greatest id that was given.
+    pub fn opened(&self) -> u64
+        ensures { result ≡ self.now.opened }
+    {
+        self.opened
     }
 
     /// Opens a snapshot at a stamp, and gives its id. Ids are 1, 2, 3 and so on, and are never used
@@ -108,6 +132,13 @@ impl Registry {
         Ok(stamp)
     }
 
+    /// Closes all open snapshots. It takes no memory.
+    pub fn clear(&mut self)
+        ensures { self.new ≡ record { snapshots = []; opened = self.old.opened } }
+    {
+        self.snapshots.clear();
+    }
+
     /// The points of a vacuum at this floor: the distinct stamps of the open snapshots and the
     /// floor, ascending, the floor last.
     pub fn points(&self, floor: Stamp) -> Result<Vec<Stamp>, NoMemory>
@@ -133,6 +164,31 @@ impl Registry {
         stamps.push(floor)?;
         Ok(stamps)
     }
+}
+
+/// Whether these may be the open snapshots of a registry in which so many were ever opened.
+pub fn is_register(snapshots: &[Snapshot], opened: u64) -> bool
+    ensures { IsTrue result
+        ↔ IsRegister (record { snapshots = snapshots.now; opened = opened }) }
+{
+    if snapshots.len() > MOST_OPEN || opened > u64::MAX - 1 {
+        return false;
+    }
+    do_ids_rise(snapshots, opened)
+}
+
+/// Whether the ids rise, and lie from 1 to the number of those ever opened.
+fn do_ids_rise(snapshots: &[Snapshot], opened: u64) -> bool
+    ensures { result ≡ ids_rise 0 opened snapshots.now }
+{
+    let mut last = 0;
+    for snapshot in snapshots {
+        if snapshot.id <= last {
+            return false;
+        }
+        last = snapshot.id;
+    }
+    last <= opened
 }
 
 /// The first reason that there is no room for one more, where so many are open and so many were

@@ -1,11 +1,31 @@
 -- As of `accept`: the copy of an item that nothing refuses is the row of its past.
-use Rattle.std.proofs.Common.{◌≡◌, ◌<◌, arith, length, false}
+use Rattle.std.proofs.Common.{◌+◌, ◌≡◌, ◌<◌, arith, length, false, inl, inr, refl}
+use Rattle.std.proofs.lemmas.Result.{err_from_is_err_and}
 use Rattle.hlc_node.specs.Items.{retires}
 use Rattle.hlc_heads.specs.Heads.{head_at}
-use Rattle.hlc_core.proofs.Standing.{admitted, admitted-due, heads-set, head-of, heads-length, took}
+use Rattle.hlc_core.proofs.Standing.{fault-due, admitted, admitted-due, heads-set, head-of, heads-length, took}
 use Rattle.hlc_core.proofs.Held.{held-accept}
+use Rattle.hlc_core.proofs.Sound.{sound-accept, sound-moved}
 use Rattle.hlc_core.proofs.Moved.{fresh, held-moved, stands-moved}
 use Rattle.hlc_core.proofs.store.Core.accept_copy.Goals as goal
+
+pub returns-in_err-intake-clause-stands : goal.returns-in_err-intake-clause-stands
+returns-in_err-intake-clause-stands c = λ past h.
+    let h' = rw (← c.self.view_is) at h in
+    let looked = rw c.as_slice.ensures.value at c.in_err-intake.ensures in
+    let p = err_from_is_err_and c.from_residual.result c.from_residual.ensures.1 in
+    rw (← c.self.view_is, p.1, p.2) (inl (fault-due _ past c.args.item.now c.in_err-intake.field-0.0 h' looked))
+
+pub returns-in_err-store_copy-clause-stands : goal.returns-in_err-store_copy-clause-stands
+returns-in_err-store_copy-clause-stands c = λ past h.
+    let h' = rw (← c.self.view_is) at h in
+    let looked = rw c.as_slice.ensures.value at c.in_ok-intake.ensures in
+    let p = err_from_is_err_and c.from_residual-in_err-store_copy.result c.from_residual-in_err-store_copy.ensures.1 in
+    rw (← c.self.view_is, p.1, p.2) (inr (
+      admitted-due _ past c.args.item.now c.in_ok-intake.intake h' looked,
+      refl,
+      c.in_err-store_copy.ensures.err.0,
+    ))
 
 pub store_copy-requires : goal.store_copy-requires
 store_copy-requires c =
@@ -60,6 +80,11 @@ invariant_of-self-2 c =
       held-moved _ _ _ _
           (held-accept _ _ _ c.args.item.now.node c.args.item.now.stamp c.args.item.now.body
           (retires c.args.item.now.body) c.self.invariant.1 within here up)
+          c.in_ok-store_copy.ensures.ok,
+      sound-moved _ _ _ _ _ _
+          (sound-accept _ _ c.self.inside.heads _ _ c.args.item.now.node c.args.item.now.number c.args.item.now.stamp
+          c.args.item.now.body (retires c.args.item.now.body) c.self.invariant.2 c.self.invariant.0 is.within is.here is.number
+          is.rising is.limits)
           c.in_ok-store_copy.ensures.ok,
     )
 

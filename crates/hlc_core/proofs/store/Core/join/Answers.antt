@@ -3,6 +3,7 @@ use Rattle.std.proofs.Common.{◌<◌, ◌∙◌, length, arith, refl}
 use Rattle.hlc_heads.specs.declared.heads.TheConstants.{MOST_NUMBERS}
 use Rattle.hlc_core.proofs.Standing.{heads-joined, heads-length, floor-from, joins, joins-none, both}
 use Rattle.hlc_core.proofs.Held.{held-joined}
+use Rattle.hlc_core.proofs.Sound.{sound-joined}
 use Rattle.hlc_core.proofs.store.Core.join.Goals as goal
 
 pub invariant_of-self-2 : goal.invariant_of-self-2
@@ -18,6 +19,7 @@ invariant_of-self-2 c =
     ) (
       heads-joined _ _ c.in_ok-made.made.1 c.self.invariant.0 few,
       held-joined _ _ _ _ c.self.invariant.1 c.in_ok-made.ensures.2,
+      sound-joined _ _ c.self.inside.heads _ _ _ c.self.invariant.2 c.self.invariant.0 few c.in_ok-made.ensures.2,
     )
 
 pub returns-clause-stands : goal.returns-clause-stands

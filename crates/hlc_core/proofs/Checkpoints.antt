@@ -1,0 +1,286 @@
+-- What stands for a past, with its rows in order, is a checkpoint.
+use Rattle.std.proofs.Common.{◌≡◌, ℕ, zero, suc, ◌+◌, ◌<◌, ◌≤◌, List, [], ◌∷◌, ◌++◌, length, map, max, get_or, Bool}
+use Rattle.std.proofs.Common.{true, false, Some, None, Option, refl, ap, sym, ◌∙◌, subst, inl, inr, arith}
+use Rattle.std.specs.Prelude.{All, Contains, MatchOption, slice_get}
+use Rattle.std.specs.List.{AllPairs}
+use Rattle.std.proofs.lemmas.Option.{get_or_from_slice_get}
+use Rattle.std.proofs.lemmas.Bool.{cond-true, lt-leb, le-leb, eq-eqb, cases_lt, cases_eq}
+use Rattle.std.proofs.lemmas.Bool.Decides.{nat_tests}
+use Rattle.std.proofs.lemmas.List.{length-append}
+use Rattle.std.proofs.lemmas.List.Elements.{All-nil, All-weaker, All-push, All-contains, All-contains_itself}
+use Rattle.std.proofs.lemmas.List.Quantifiers.{all_pairs_push}
+use Rattle.hlc_node.specs.declared.row.Row.{Row}
+use Rattle.hlc_node.specs.declared.item.Item.{Item}
+use Rattle.hlc_intake.specs.Progress.{Progress}
+use Rattle.hlc_heads.specs.Heads.{Marks, IsFloor, head_at, floor_of}
+use Rattle.hlc_heads.specs.declared.heads.TheConstants.{MOST_NODES, MOST_NUMBERS}
+use Rattle.hlc_heads.proofs.LowLemmas.{low-is}
+use Rattle.hlc_snapshot.specs.declared.snapshot.Snapshot.{Snapshot}
+use Rattle.hlc_snapshot.specs.declared.registry.TheConstants.{MOST_OPEN}
+use Rattle.hlc_snapshot.specs.declared.fault.SnapshotFault.{SnapshotFault}
+use Rattle.hlc_snapshot.specs.Register.{Register, IsRegister, opened_at, room_refusal as room_in}
+use Rattle.hlc_snapshot.proofs.RegisterLemmas.{closed-is_register}
+use Rattle.hlc_witness.specs.Certificate.{RowsAscend}
+use Rattle.hlc_witness.specs.Cost.{IsInLimits, AreInLimits}
+use Rattle.hlc_core.specs.Past.{Step, Took, Opened, Closed, Vacuumed, Joined, numbered, count, head, retired, top}
+use Rattle.hlc_core.specs.Past.{floor, horizon, opened, open_snapshots, of_registry, of_room, room_refusal}
+use Rattle.hlc_core.specs.Past.{open_refusal, join_refusal, IsLegal, writes}
+use Rattle.hlc_core.specs.declared.fault.CoreFault.{CoreFault}
+use Rattle.hlc_core.specs.declared.fault.CoreFault.TheVariants.{TooManyNodes}
+use Rattle.hlc_core.specs.Kept.{Kept, nodes, greatest_head, marks_of, HaveHeads, HasNodes, HasStamps, HasLastItem}
+use Rattle.hlc_core.specs.Kept.{StandsFor, with_rows_left}
+use Rattle.hlc_core.specs.Checkpoint.{IsCheckpoint, IsCopyOf, IsUnderHead, floor_in, HasRegister}
+use Rattle.hlc_core.proofs.PastLemmas.{inside, rises, head-same, head-other, head-joined, head-joined_other, floor-some}
+use Rattle.hlc_core.proofs.PastLemmas.{count-other, retired-other, fresh}
+use Rattle.hlc_core.proofs.PastLemmas.{inside-row, below_head, writes-limits, open-low, open-below, open-above}
+use Rattle.hlc_core.proofs.PastLemmas.{open-room, horizon-low}
+use Rattle.hlc_core.proofs.Standing.{floor-from}
+use Rattle.hlc_core.proofs.Moved.{stands-moved}
+use Rattle.hlc_core.proofs.Sound.{heads-had, floor-holds, greatest-ge, greatest-le}
+
+-- no node of the start goes
+numbered-from : (nodes : ℕ) (past : List Step) → nodes ≤ numbered nodes past
+numbered-from nodes [] = omega arith
+numbered-from nodes (Took item ∷ past) = numbered-from nodes past
+numbered-from nodes (Opened stamp ∷ past) = numbered-from nodes past
+numbered-from nodes (Closed id ∷ past) = numbered-from nodes past
+numbered-from nodes (Vacuumed ∷ past) = numbered-from nodes past
+numbered-from nodes (Joined node start ∷ past) = (let h = numbered-from nodes past in omega (arith, h))
+
+-- and no more numbers are given than there are
+numbered-few : (nodes : ℕ) (past : List Step) → nodes ≤ MOST_NODES → IsLegal nodes past
+    → numbered nodes past ≤ MOST_NUMBERS
+numbered-few nodes [] few legal = omega arith
+numbered-few nodes (Took item ∷ past) few legal = numbered-few nodes past few legal.1
+numbered-few nodes (Opened stamp ∷ past) few legal = numbered-few nodes past few legal.1
+numbered-few nodes (Closed id ∷ past) few legal = numbered-few nodes past few legal.1
+numbered-few nodes (Vacuumed ∷ past) few legal = numbered-few nodes past few legal
+numbered-few nodes (Joined node start ∷ past) few legal =
+    elim (cases_lt (numbered nodes past) MOST_NUMBERS) [
+      | inl below ↦ (let g : numbered nodes past < MOST_NUMBERS = below in omega arith)
+      | inr full ↦ absurd (let g : Some TooManyNodes ≡ None =
+          sym (cond-true _ _ _ (le-leb MOST_NUMBERS (numbered nodes past) full)) ∙ legal.0 in cc)
+    ]
+
+-- the floor is not above the greatest accepted stamp where no head is
+floor-top : (nodes : ℕ) (past : List Step) → ((n : ℕ) → head n past ≤ top past) → floor nodes past ≤ top past
+floor-top nodes past low =
+    elim (floor-some nodes past) [
+      | inl one ↦
+          let at : head one.0 past ≡ floor nodes past = one.3 in
+          let le : head one.0 past ≤ top past = low one.0 in omega arith
+      | inr all' ↦ (let at : floor nodes past ≡ top past = all'.1 in omega arith)
+    ]
+
+-- no head is above the greatest accepted stamp
+heads-low : (nodes : ℕ) (past : List Step) → IsLegal nodes past → (n : ℕ) → head n past ≤ top past
+heads-low nodes [] legal n = omega arith
+heads-low nodes (Opened stamp ∷ past) legal n = heads-low nodes past legal.1 n
+heads-low nodes (Closed id ∷ past) legal n = heads-low nodes past legal.1 n
+heads-low nodes (Vacuumed ∷ past) legal n = heads-low nodes past legal n
+heads-low nodes (Joined node start ∷ past) legal n =
+    let old : head n past ≤ top past = heads-low nodes past legal.3 n in
+    let at : start ≡ floor nodes past = legal.2 in
+    let low : floor nodes past ≤ top past = floor-top nodes past (heads-low nodes past legal.3) in
+    elim (cases_eq node n) [
+      | inl same ↦
+          (let e : head n (Joined node start ∷ past) ≡ start = head-joined n node start past same in omega arith)
+      | inr other ↦ (let e : head n (Joined node start ∷ past) ≡ head n past =
+          head-joined_other n node start past other in omega arith)
+    ]
+heads-low nodes (Took item ∷ past) legal n =
+    let old : head n past ≤ top past = heads-low nodes past legal.1 n in
+    elim (cases_eq item.node n) [
+      | inl same ↦ (let e : head n (Took item ∷ past) ≡ item.stamp = head-same n item past same in omega arith)
+      | inr other ↦ (let e : head n (Took item ∷ past) ≡ head n past = head-other n item past other in omega arith)
+    ]
+
+-- and one head is it
+top-at : (nodes : ℕ) (past : List Step) → 0 < nodes → IsLegal nodes past
+    → (n : ℕ) × (n < numbered nodes past) × (head n past ≡ top past)
+top-at nodes [] some legal = (0, some, refl)
+top-at nodes (Opened stamp ∷ past) some legal = top-at nodes past some legal.1
+top-at nodes (Closed id ∷ past) some legal = top-at nodes past some legal.1
+top-at nodes (Vacuumed ∷ past) some legal = top-at nodes past some legal
+top-at nodes (Joined node start ∷ past) some legal =
+    let old = top-at nodes past some legal.3 in
+    let within : old.0 < numbered nodes past = old.1 in
+    let is : node ≡ numbered nodes past = legal.1 in
+    let goal : old.0 < numbered nodes past + 1 = omega arith in
+    (old.0, goal, head-joined_other old.0 node start past (λ e. omega (arith, e)) ∙ old.2)
+top-at nodes (Took item ∷ past) some legal =
+    let old = top-at nodes past some legal.1 in
+    let at : head old.0 past ≡ top past = old.2 in
+    let up : head item.node past < item.stamp = rises nodes past item legal.0 in
+    elim (cases_lt (top past) item.stamp) [
+      | inl above ↦ (
+        item.node,
+        inside nodes past item legal.0,
+        (let e : head item.node (Took item ∷ past) ≡ item.stamp = head-same item.node item past refl in
+            let goal : head item.node (Took item ∷ past) ≡ max (top past) item.stamp = omega arith in goal),
+      )
+      | inr below ↦ (
+        old.0,
+        old.1,
+        (let other : item.node ≡ old.0 → ⊥ =
+            λ e. (let f : head item.node past ≡ head old.0 past = ap (λ k. head k past) e in omega arith) in
+            let e : head old.0 (Took item ∷ past) ≡ head old.0 past = head-other old.0 item past other in
+            let goal : head old.0 (Took item ∷ past) ≡ max (top past) item.stamp = omega arith in goal),
+      )
+    ]
+
+-- the registry of a legal past
+of_room-none : (fault : Option SnapshotFault) → of_room fault ≡ None → fault ≡ None
+of_room-none None h = refl
+of_room-none (Some fault) h = absurd (let g : Some (of_registry fault) ≡ None = h in cc)
+
+register-open : (register : Register) (stamp : ℕ) → IsRegister register
+    → room_in (length register.snapshots) register.opened ≡ None → IsRegister (opened_at register stamp)
+register-open register stamp h none =
+    let room : (length register.snapshots < MOST_OPEN) × (register.opened < 18446744073709551614) =
+    grind (arith, nat_tests) in
+    let few : length register.snapshots < MOST_OPEN = room.0 in
+    let spare : register.opened < 18446744073709551614 = room.1 in
+    let new : Snapshot = record { id = register.opened + 1; stamp = stamp } in
+    let l : length (register.snapshots ++ new ∷ []) ≡ length register.snapshots + 1 =
+    length-append register.snapshots (new ∷ []) in
+    record {
+      rising = all_pairs_push (λ older newer. older.id < newer.id) register.snapshots new h.rising
+          (λ k d lt. (let g : (get_or register.snapshots k d).id ≤ register.opened = (h.given k d lt).1 in omega arith));
+      given = All-push (λ snapshot. (0 < snapshot.id) × (snapshot.id ≤ register.opened + 1)) register.snapshots new
+          (λ k d lt. ((h.given k d lt).0, (let g = (h.given k d lt).1 in omega (arith, g)))) (omega arith, omega arith);
+      few = omega arith;
+      in_range = omega arith;
+    }
+
+pub register-of : (nodes : ℕ) (past : List Step) → IsLegal nodes past
+    → IsRegister (record { snapshots = open_snapshots past; opened = opened past })
+register-of nodes [] legal =
+    record {
+      rising = λ i j d less within. absurd (omega arith);
+      given = All-nil _;
+      few = omega arith;
+      in_range = omega arith;
+    }
+register-of nodes (Took item ∷ past) legal = register-of nodes past legal.1
+register-of nodes (Vacuumed ∷ past) legal = register-of nodes past legal
+register-of nodes (Joined node start ∷ past) legal = register-of nodes past legal.3
+register-of nodes (Closed id ∷ past) legal =
+    closed-is_register (record { snapshots = open_snapshots past; opened = opened past }) id
+    (register-of nodes past legal.1)
+register-of nodes (Opened stamp ∷ past) legal =
+    register-open (record { snapshots = open_snapshots past; opened = opened past }) stamp
+    (register-of nodes past legal.1)
+    (of_room-none _ (sym (open-room nodes past stamp (open-below nodes past stamp legal.0)
+    (open-above nodes past stamp legal.0)) ∙ legal.0))
+
+-- each item has a stamp of its own above 0.0
+count-low : (nodes : ℕ) (past : List Step) → IsLegal nodes past → (n : ℕ) → count n past ≤ head n past
+count-low nodes [] legal n = omega arith
+count-low nodes (Opened stamp ∷ past) legal n = count-low nodes past legal.1 n
+count-low nodes (Closed id ∷ past) legal n = count-low nodes past legal.1 n
+count-low nodes (Vacuumed ∷ past) legal n = count-low nodes past legal n
+count-low nodes (Joined node start ∷ past) legal n =
+    let old : count n past ≤ head n past = count-low nodes past legal.3 n in
+    elim (cases_eq node n) [
+      | inl same ↦
+          let none : count n past ≡ 0 =
+          (fresh nodes past n legal.3 (let is : node ≡ numbered nodes past = legal.1 in omega arith)).0 in
+          (let e : head n (Joined node start ∷ past) ≡ start = head-joined n node start past same in omega arith)
+      | inr other ↦ (let e : head n (Joined node start ∷ past) ≡ head n past =
+          head-joined_other n node start past other in omega arith)
+    ]
+count-low nodes (Took item ∷ past) legal n =
+    let old : count n past ≤ head n past = count-low nodes past legal.1 n in
+    elim (cases_eq item.node n) [
+      | inl same ↦
+          let up : head item.node past < item.stamp = rises nodes past item legal.0 in
+          let at : head item.node past ≡ head n past = ap (λ k. head k past) same in
+          let e : head n (Took item ∷ past) ≡ item.stamp = head-same n item past same in
+          let f : count n (Took item ∷ past) ≡ count n past + 1 = cond-true _ _ _ (eq-eqb _ _ same) in omega arith
+      | inr other ↦
+          let e : head n (Took item ∷ past) ≡ head n past = head-other n item past other in
+          let f : count n (Took item ∷ past) ≡ count n past = count-other n item past other in omega arith
+    ]
+
+-- and a node that retired has one
+count-retired : (past : List Step) (n : ℕ) → retired n past ≡ true → 0 < count n past
+count-retired [] n gone = absurd cc
+count-retired (Opened stamp ∷ past) n gone = count-retired past n gone
+count-retired (Closed id ∷ past) n gone = count-retired past n gone
+count-retired (Vacuumed ∷ past) n gone = count-retired past n gone
+count-retired (Joined node start ∷ past) n gone = count-retired past n gone
+count-retired (Took item ∷ past) n gone =
+    elim (cases_eq item.node n) [
+      | inl same ↦
+          (let f : count n (Took item ∷ past) ≡ count n past + 1 = cond-true _ _ _ (eq-eqb _ _ same) in omega arith)
+      | inr other ↦
+          let old : 0 < count n past = count-retired past n (sym (retired-other n item past other) ∙ gone) in
+          let f : count n (Took item ∷ past) ≡ count n past = count-other n item past other in omega arith
+    ]
+
+link-is : (kept : Kept) (past : List Step) → StandsFor kept past → (k : ℕ) (d : Progress) → k < length kept.links
+    → get_or kept.links k d ≡ record { next = count k past; head = head k past; retired = retired k past }
+link-is kept past h k d lt =
+    get_or_from_slice_get kept.links k (record { next = count k past; head = head k past; retired = retired k past }) d
+    (h.links k lt)
+
+link-head : (kept : Kept) (past : List Step) → StandsFor kept past → (k : ℕ) (d : Progress) → k < length kept.links
+    → (get_or kept.links k d).head ≡ head k past
+link-head kept past h k d lt = ap (λ (link : Progress). link.head) (link-is kept past h k d lt)
+
+pub checkpoint-sound : (kept : Kept) (past : List Step) → StandsFor kept past → 0 < nodes kept
+    → nodes kept ≤ MOST_NODES → RowsAscend kept.rows → IsCheckpoint kept
+checkpoint-sound kept past h some few ascend =
+    let many : length kept.links ≡ numbered (nodes kept) past = h.many in
+    let from = numbered-from (nodes kept) past in
+    let given = numbered-few (nodes kept) past few h.legal in
+    let has : HasNodes kept.start kept.links =
+    record { some = some; few = few; linked = omega (arith, from); given = omega (arith, given) } in
+    let at : floor_in kept ≡ floor (nodes kept) past =
+    floor-from kept past (marks_of kept.links kept.top) (floor_in kept) (heads-had kept.start kept.links kept.top has)
+    refl h (floor-holds (marks_of kept.links kept.top)) in
+    let most = top-at (nodes kept) past some h.legal in
+    let within : most.0 < length kept.links = (let w : most.0 < numbered (nodes kept) past = most.1 in omega arith) in
+    let d : Progress = record { next = 0; head = 0; retired = true } in
+    record {
+      nodes = has;
+      stamps = λ k d lt. subst HasStamps (sym (link-is kept past h k d lt)) (count-low (nodes kept) past h.legal k);
+      last = λ k d lt. subst HasLastItem (sym (link-is kept past h k d lt)) (count-retired past k);
+      top =
+          (let t : kept.top ≡ top past = h.top in
+          let a : head most.0 past ≡ top past = most.2 in
+          let b : (get_or kept.links most.0 d).head ≡ head most.0 past = link-head kept past h most.0 d within in
+          let c : (get_or kept.links most.0 d).head ≤ greatest_head kept.links = greatest-ge kept.links most.0 d within in
+          let e : greatest_head kept.links ≤ top past =
+          greatest-le kept.links (top past)
+          (λ k d lt. (let f = link-head kept past h k d lt in
+          let g = heads-low (nodes kept) past h.legal k in omega (arith, f, g))) in
+          omega arith);
+      register = subst IsRegister
+          (ap (λ xs. record { snapshots = xs; opened = opened past }) (sym h.snapshots)
+          ∙ ap (λ n. record { snapshots = kept.snapshots; opened = n }) (sym h.opened))
+          (register-of (nodes kept) past h.legal);
+      opened = subst (λ xs. All (λ (s : Snapshot). s.stamp ≤ floor_in kept) xs) (sym h.snapshots)
+          (subst (λ f. All (λ (s : Snapshot). s.stamp ≤ f) (open_snapshots past)) (sym at)
+          (open-low (nodes kept) past h.legal));
+      horizon = (let low = horizon-low (nodes kept) past h.legal in
+          let e : kept.horizon ≡ horizon (nodes kept) past = h.horizon in omega (arith, low, at));
+      ascend = ascend;
+      under = All-weaker (Contains kept.rows) (IsUnderHead kept.links)
+          (λ row m.
+          let all' : Contains (writes past) row = h.rows.within row m in
+          let node : row.node < numbered (nodes kept) past = inside-row (nodes kept) past h.legal row all' in
+          subst (λ o. MatchOption o ⊥ (λ link. row.stamp ≤ link.head)) (sym (h.links row.node (omega arith)))
+          (below_head (nodes kept) past h.legal row all'))
+          kept.rows (All-contains_itself kept.rows);
+      limits = All-weaker (Contains kept.rows) IsInLimits
+          (λ row m. All-contains IsInLimits (writes past) row (writes-limits (nodes kept) past h.legal)
+          (h.rows.within row m))
+          kept.rows (All-contains_itself kept.rows);
+    }
+
+pub copy-stands : (kept copy : Kept) (past : List Step) → StandsFor kept past → IsCopyOf kept copy
+    → StandsFor copy past
+copy-stands kept copy past h is =
+    subst (λ k. StandsFor k past) (sym is.same) (stands-moved kept past copy.rows h is.rows)

@@ -1,0 +1,209 @@
+-- A core goes on being sound: it has its nodes and links of them, over which items may have come so far; the top is the
+-- greatest head, the horizon is not above the floor, and an item may write each row.
+use Rattle.std.proofs.Common.{◌≡◌, ℕ, zero, suc, ◌+◌, ◌<◌, ◌≤◌, List, [], ◌∷◌, ◌++◌, length, max, get_or, Bool, true, false}
+use Rattle.std.proofs.Common.{None, refl, ap, sym, ◌∙◌, subst, inl, inr, arith, length-set, length-append, replicate}
+use Rattle.std.proofs.Common.{IsPermutation}
+use Rattle.std.specs.Prelude.{All, Contains, slice_set}
+use Rattle.std.specs.Prelude.{Option, MatchResult, MatchOption}
+use Rattle.std.proofs.lemmas.List.{length-replicate}
+use Rattle.std.proofs.lemmas.List.Elements.{All-nil, All-weaker, All-contains, All-contains_itself, All-set, All-push}
+use Rattle.std.proofs.lemmas.List.Sorted.{All-permutation}
+use Rattle.hlc_node.specs.declared.row.Row.{Row}
+use Rattle.hlc_node.specs.declared.item.Body.{Body}
+use Rattle.hlc_node.specs.Items.{body_refusal}
+use Rattle.hlc_intake.specs.Progress.{Progress}
+use Rattle.hlc_heads.specs.Heads.{Marks, IsFloor, a_head, head_at, floor_of, marked, joined}
+use Rattle.hlc_heads.specs.declared.heads.TheConstants.{MOST_NODES, MOST_NUMBERS}
+use Rattle.hlc_heads.proofs.LowLemmas.{low-is, floor-is}
+use Rattle.hlc_witness.specs.Cost.{IsInLimits, AreInLimits}
+use Rattle.hlc_core.specs.Past.{body_rows}
+use Rattle.hlc_core.specs.Kept.{HasNodes, HasStamps, HasLastItem, HaveHeads, IsSound, greatest_head, marks_of}
+use Rattle.hlc_core.proofs.PastLemmas.{limits-body}
+use Rattle.hlc_core.proofs.Held.{floor-marked, floor-joined}
+use Rattle.hlc_core.proofs.Standing.{heads-set, heads-joined, heads-length, head-of}
+
+abbrev a_link : ℕ → ℕ → Bool → Progress
+a_link next head gone = record { next = next; head = head; retired = gone }
+
+-- where there is no link
+abbrev no_link : Progress
+no_link = a_link 0 0 true
+
+-- where there are nodes, and links of them, the heads of those are had
+pub heads-had : (start : ℕ) (links : List Progress) (most : ℕ) → HasNodes start links
+    → HaveHeads links (marks_of links most)
+heads-had start links most h =
+    record { some = omega (arith, h.some, h.linked); few = h.given; same = refl }
+
+-- the function gives the floor of marks
+pub floor-holds : (marks : Marks) → IsFloor marks (floor_of marks)
+floor-holds marks =
+    let low' = low-is (λ k. (head_at marks.heads k).stamp) (λ k. (head_at marks.heads k).retired)
+    (length marks.heads) marks.top in
+    elim low'.is [
+      | inl one ↦ inl (record { is_head = one; least = low'.least })
+      | inr none ↦ inr none
+    ]
+
+pub greatest-ge : (links : List Progress) (k : ℕ) (d : Progress) → k < length links
+    → (get_or links k d).head ≤ greatest_head links
+greatest-ge [] k d lt = absurd (omega arith)
+greatest-ge (link ∷ links) zero d lt = omega arith
+greatest-ge (link ∷ links) (suc k) d lt =
+    (let h : (get_or links k d).head ≤ greatest_head links = greatest-ge links k d (omega arith) in omega arith)
+
+pub greatest-le : (links : List Progress) (most : ℕ)
+    → ((k : ℕ) (d : Progress) → k < length links → (get_or links k d).head ≤ most) → greatest_head links ≤ most
+greatest-le [] most low = omega arith
+greatest-le (link ∷ links) most low =
+    let a : link.head ≤ most = low 0 link (omega arith) in
+    let b : greatest_head links ≤ most = greatest-le links most (λ k d lt. low (suc k) d (omega arith)) in
+    omega arith
+
+greatest-new : (n : ℕ) → greatest_head (replicate n (a_link 0 0 false)) ≡ 0
+greatest-new zero = refl
+greatest-new (suc n) =
+    (let h : greatest_head (replicate n (a_link 0 0 false)) ≡ 0 = greatest-new n in omega arith)
+
+greatest-set : (links : List Progress) (n next stamp : ℕ) (gone : Bool) (d : Progress) → n < length links
+    → (get_or links n d).head ≤ stamp
+    → greatest_head (slice_set links n (a_link next stamp gone)) ≡ max (greatest_head links) stamp
+greatest-set [] n next stamp gone d lt low = absurd (omega arith)
+greatest-set (link ∷ links) zero next stamp gone d lt low = (let h : link.head ≤ stamp = low in omega arith)
+greatest-set (link ∷ links) (suc n) next stamp gone d lt low =
+    (let h : greatest_head (slice_set links n (a_link next stamp gone)) ≡ max (greatest_head links) stamp =
+    greatest-set links n next stamp gone d (omega arith) low in omega arith)
+
+greatest-joined : (links : List Progress) (link : Progress)
+    → greatest_head (links ++ link ∷ []) ≡ max (greatest_head links) link.head
+greatest-joined [] link = omega arith
+greatest-joined (first ∷ links) link =
+    (let h : greatest_head (links ++ link ∷ []) ≡ max (greatest_head links) link.head = greatest-joined links link in
+    omega arith)
+
+all-new : (P : Progress → Type 0) (n : ℕ) (link : Progress) → P link → (k : ℕ) (d : Progress)
+    → k < length (replicate n link) → P (get_or (replicate n link) k d)
+all-new P zero link one k d lt = absurd (omega arith)
+all-new P (suc n) link one zero d lt = one
+all-new P (suc n) link one (suc k) d lt = all-new P n link one k d (omega arith)
+
+pub sound-new : (start : ℕ) → 0 < start → start ≤ MOST_NODES
+    → IsSound start (replicate start (a_link 0 0 false)) 0 0 []
+sound-new start some few =
+    let l : length (replicate start (a_link 0 0 false)) ≡ start = length-replicate start (a_link 0 0 false) in
+    record {
+      nodes = record { some = some; few = few; linked = omega arith; given = omega arith };
+      stamps = all-new HasStamps start (a_link 0 0 false) (omega arith);
+      last = all-new HasLastItem start (a_link 0 0 false) (λ gone. absurd cc);
+      top = sym (greatest-new start);
+      horizon = omega arith;
+      limits = All-nil _;
+    }
+
+-- an item above its node's head is accepted
+pub sound-accept : (start : ℕ) (links : List Progress) (marks : Marks) (horizon : ℕ) (rows : List Row)
+    (node number stamp : ℕ) (body : Body) (last : Bool) → IsSound start links marks.top horizon rows
+    → HaveHeads links marks → node < length links → (get_or links node no_link).retired ≡ false
+    → number ≡ (get_or links node no_link).next → (get_or links node no_link).head < stamp → body_refusal body ≡ None
+    → IsSound start (slice_set links node (a_link (number + 1) stamp last)) (max marks.top stamp) horizon
+    (rows ++ body_rows node stamp body)
+sound-accept start links marks horizon rows node number stamp body last h have within here next up limits =
+    let low : (get_or links node no_link).next ≤ (get_or links node no_link).head = h.stamps node no_link within in
+    let l : length (slice_set links node (a_link (number + 1) stamp last)) ≡ length links =
+    length-set links node (a_link (number + 1) stamp last) in
+    let len : length marks.heads ≡ length links = heads-length links marks have in
+    let is = head-of links marks node have within in
+    let here' : (head_at marks.heads node).retired ≡ false = ap (λ x. x.retired) is ∙ here in
+    let up' : (head_at marks.heads node).stamp < stamp =
+    (let e : (head_at marks.heads node).stamp ≡ (get_or links node no_link).head = ap (λ x. x.stamp) is in omega arith) in
+    let old : horizon ≤ floor_of marks = subst (λ m. horizon ≤ floor_of m) (sym have.same) h.horizon in
+    let rise : floor_of marks ≤ floor_of (marked marks node stamp last) =
+    floor-marked marks node stamp last (omega arith) here' up' in
+    let new : horizon ≤ floor_of (marked marks node stamp last) = omega arith in
+    record {
+      nodes = record {
+        some = h.nodes.some;
+        few = h.nodes.few;
+        linked = (let g = h.nodes.linked in omega (arith, g));
+        given = (let g = h.nodes.given in omega (arith, g));
+      };
+      stamps = All-set HasStamps links node (a_link (number + 1) stamp last) (omega arith) h.stamps;
+      last = All-set HasLastItem links node (a_link (number + 1) stamp last) (λ gone. omega arith) h.last;
+      top = ap (λ t. max t stamp) h.top
+          ∙ sym (greatest-set links node (number + 1) stamp last no_link within (omega arith));
+      horizon = subst (λ m. horizon ≤ floor_of m) (heads-set links marks node (a_link (number + 1) stamp last) have).same
+          new;
+      limits = limits-body node stamp body rows limits h.limits;
+    }
+
+-- its rows are put into another order
+pub sound-moved : (start : ℕ) (links : List Progress) (top horizon : ℕ) (rows moved : List Row)
+    → IsSound start links top horizon rows → IsPermutation rows moved → IsSound start links top horizon moved
+sound-moved start links top horizon rows moved h moves = record {
+  nodes = h.nodes;
+  stamps = h.stamps;
+  last = h.last;
+  top = h.top;
+  horizon = h.horizon;
+  limits = All-permutation IsInLimits rows moved moves h.limits;
+}
+
+-- the floor is not above the greatest head
+floor-low : (links : List Progress) (marks : Marks) (floor : ℕ) → HaveHeads links marks
+    → marks.top ≡ greatest_head links → IsFloor marks floor → floor ≤ greatest_head links
+floor-low links marks floor have top is =
+    elim is [
+      | inl one ↦
+          let within : one.is_head.0 < length links =
+          (let len = heads-length links marks have in let w = one.is_head.1 in omega (arith, len, w)) in
+          let at : (head_at marks.heads one.is_head.0).stamp ≡ floor = one.is_head.3 in
+          let e : (head_at marks.heads one.is_head.0).stamp ≡ (get_or links one.is_head.0 no_link).head =
+          ap (λ x. x.stamp) (head-of links marks one.is_head.0 have within) in
+          let ge = greatest-ge links one.is_head.0 no_link within in omega (arith, ge)
+      | inr all' ↦ (let at : floor ≡ marks.top = all'.1 in omega arith)
+    ]
+
+-- a node joins at the floor
+pub sound-joined : (start : ℕ) (links : List Progress) (marks : Marks) (horizon floor : ℕ) (rows : List Row)
+    → IsSound start links marks.top horizon rows → HaveHeads links marks → length links < MOST_NUMBERS
+    → IsFloor marks floor → IsSound start (links ++ a_link 0 floor false ∷ []) marks.top horizon rows
+sound-joined start links marks horizon floor rows h have few is =
+    let l : length (links ++ a_link 0 floor false ∷ []) ≡ length links + 1 =
+    length-append links (a_link 0 floor false ∷ []) in
+    let at : floor ≡ floor_of marks = floor-is marks floor is in
+    let low : floor ≤ greatest_head links = floor-low links marks floor have h.top is in
+    let old : horizon ≤ floor_of marks = subst (λ m. horizon ≤ floor_of m) (sym have.same) h.horizon in
+    let stay : floor_of marks ≤ floor_of (joined marks floor) =
+    subst (λ s. floor_of marks ≤ floor_of (joined marks s)) (sym at) (floor-joined marks) in
+    let new : horizon ≤ floor_of (joined marks floor) = omega arith in
+    record {
+      nodes = record {
+        some = h.nodes.some;
+        few = h.nodes.few;
+        linked = (let g = h.nodes.linked in omega (arith, g));
+        given = omega arith;
+      };
+      stamps = All-push HasStamps links (a_link 0 floor false) h.stamps (omega arith);
+      last = All-push HasLastItem links (a_link 0 floor false) h.last (λ gone. absurd cc);
+      top = (let t : marks.top ≡ greatest_head links = h.top in
+          let g : greatest_head (links ++ a_link 0 floor false ∷ []) ≡ max (greatest_head links) floor =
+          greatest-joined links (a_link 0 floor false) in omega arith);
+      horizon = subst (λ m. horizon ≤ floor_of m) (heads-joined links marks floor have few).same new;
+      limits = h.limits;
+    }
+
+-- rows are dropped, and the floor is the horizon
+pub sound-vacuum : (start : ℕ) (links : List Progress) (top horizon floor : ℕ) (rows fewer : List Row)
+    → IsSound start links top horizon rows → IsFloor (marks_of links top) floor
+    → ((row : Row) → Contains fewer row → Contains rows row) → IsSound start links top floor fewer
+sound-vacuum start links top horizon floor rows fewer h is within =
+    let at : floor ≡ floor_of (marks_of links top) = floor-is (marks_of links top) floor is in
+    record {
+      nodes = h.nodes;
+      stamps = h.stamps;
+      last = h.last;
+      top = h.top;
+      horizon = omega arith;
+      limits = All-weaker (Contains fewer) IsInLimits (λ row m. All-contains IsInLimits rows row h.limits (within row m))
+          fewer (All-contains_itself fewer);
+    }

@@ -1,0 +1,20 @@
+-- The floor of the links is that of what is kept.
+use Rattle.std.proofs.Common.{◌≡◌, ◌≤◌, All, List, true≢false, sym, ◌∙◌, subst, rules}
+use Rattle.std.proofs.lemmas.Grind.{common_steps}
+use Rattle.hlc_snapshot.specs.declared.snapshot.Snapshot.{Snapshot}
+use Rattle.hlc_core.specs.Checkpoint.{HasLinks, HasRegister, floor_in}
+use Rattle.hlc_core.proofs.checkpoint.reason_against.Goals as goal
+
+pub returns-then-not-are_at_most : goal.returns-then-not-are_at_most
+returns-then-not-are_at_most c =
+    let has : HasLinks c.args.checkpoint.now = search (rules, common_steps) in
+    let register : HasRegister c.args.checkpoint.now = search (rules, common_steps) in
+    let at : c.floor_of-floor.result ≡ floor_in c.args.checkpoint.now =
+    rw (c.links-links.ensures, c.top.ensures.value) at c.floor_of-floor.ensures in (
+      has,
+      register,
+      λ low. true≢false (sym (c.if-not-are_at_most.ensures.1
+          (subst (λ f. All (λ (s : Snapshot). s.stamp ≤ f) c.snapshots-snapshots.result.now) (sym at)
+          (subst (λ (xs : List Snapshot). All (λ (s : Snapshot). s.stamp ≤ floor_in c.args.checkpoint.now) xs)
+          (sym c.snapshots-snapshots.ensures) low)))),
+    )

@@ -1,0 +1,41 @@
+-- What was made keeps what the checkpoint says, with its rows in another order.
+use Rattle.std.proofs.Common.{refl, IsPermutation}
+use Rattle.hlc_core.proofs.Checkpoints.{copy-stands}
+use Rattle.hlc_core.proofs.Restored.{restored}
+use Rattle.hlc_core.proofs.store.Core.restore.Goals as goal
+
+pub invariant_of-result : goal.invariant_of-result
+invariant_of-result c =
+    let moved : IsPermutation c.args.checkpoint.now.rows c.in_ok-table.table =
+    rw c.rows.ensures at c.in_ok-table.ensures in
+    rw (
+      c.in_ok-intakes.ensures.items,
+      c.links.ensures,
+      c.in_ok-heads.ensures,
+      c.links-2.ensures,
+      c.top.ensures.value,
+      c.resuming.ensures,
+      c.in_ok-snapshots.ensures.items,
+      c.snapshots.ensures,
+      c.horizon.ensures,
+      c.start.ensures,
+    )
+    (restored c.args.checkpoint.now c.in_ok-table.table c.in_default.ensures moved)
+
+pub returns-clause-stands : goal.returns-clause-stands
+returns-clause-stands c = λ past h.
+    copy-stands c.args.checkpoint.now _ past h (record {
+      same = rw (
+        c.in_ok-intakes.ensures.items,
+        c.links.ensures,
+        c.in_ok-heads.ensures,
+        c.top.ensures.value,
+        c.resuming.ensures,
+        c.in_ok-snapshots.ensures.items,
+        c.snapshots.ensures,
+        c.opened.ensures,
+        c.horizon.ensures,
+        c.start.ensures,
+      ) refl;
+      rows = rw c.rows.ensures at c.in_ok-table.ensures;
+    })

@@ -1,0 +1,348 @@
+//! A checkpoint of a store, and the first reason why some values are none.
+ghost use Rattle.std.specs.Prelude.{◌≡◌, ◌↔◌, ◌≤◌, IsTrue, All, MatchOption, max};
+ghost use Rattle.hlc_heads.specs.Low.{lower};
+ghost use Rattle.std.proofs.Common.{rules};
+ghost use Rattle.std.proofs.lemmas.Grind.{common_steps};
+ghost use Rattle.hlc_heads.specs.Heads.{floor_of};
+ghost use Rattle.hlc_core.specs.Kept.{HasNodes, HasStamps, HasLastItem, greatest_head, marks_of};
+ghost use Rattle.hlc_core.specs.Checkpoint.{IsCheckpoint, IsFirstReason, IsUnderHead};
+
+use hlc_clock::Stamp;
+use hlc_heads::{MOST_NODES, MOST_NUMBERS};
+use hlc_intake::Intake;
+use hlc_node::Row;
+use hlc_snapshot::{Snapshot, is_register};
+use hlc_values::{Exact, NoMemory};
+use hlc_witness::{are_in_limits, do_rows_ascend};
+use std::alloc::AllocFailed;
+use std::marker::Model;
+
+/// Why no store is restored, in the order in which the reasons are checked.
+#[derive(Clone, Copy, PartialEq, Eq, Debug)]
+pub enum RestoreFault {
+    /// The nodes of the start are not 1 to 64, or there is no link for one of them; or there are more
+    /// than 1,024 links.
+    NodesOutOfRange,
+    /// The next number of a link is above the word of its head: more items than stamps.
+    NumberAboveHead,
+    /// A node retired, and no item of it was accepted.
+    RetiredWithoutItem,
+    /// More than 1,024 snapshots are open; or their ids do not rise from 1 on, up to at most the
+    /// number of those ever opened; or that number is above the greatest id, 2^64 - 2.
+    SnapshotsNotRising,
+    /// An open snapshot is above the floor.
+    SnapshotAboveFloor,
+    /// The horizon is above the floor.
+    HorizonAboveFloor,
+    /// A row is not above the row before it, by key, stamp and node.
+    RowsNotAscending,
+    /// A row is of no node, or its stamp is above the head of its node.
+    RowAboveHead,
+    /// No item may write a row: its key has not 1 to 255 bytes, or its value more than 65,535.
+    RowOutOfLimits,
+    /// Out of memory. It is a checkpoint all the same.
+    NoMemory,
+}
+
+impl Exact for RestoreFault {
+    ghost equal = { Prim.search (rules, common_steps) };
+
+    ghost copied = { Prim.search rules };
+}
+
+impl From<NoMemory> for RestoreFault {
+    ghost use Rattle.hlc_core.specs.declared.checkpoint.RestoreFault.TheVariants.{NoMemory as no_memory};
+
+    ghost from_gives = { λ _ fault. fault ≡ no_memory };
+
+    fn from(_fault: NoMemory) -> RestoreFault {
+        RestoreFault::NoMemory
+    }
+}
+
+impl<T: Drop> From<AllocFailed<T>> for RestoreFault {
+    ghost use Rattle.hlc_core.specs.declared.checkpoint.RestoreFault.TheVariants.{NoMemory as no_memory};
+
+    ghost from_gives = { λ _ fault. fault ≡ no_memory };
+
+    fn from(_fault: AllocFailed<T>) -> RestoreFault {
+        RestoreFault::NoMemory
+    }
+}
+
+/// All that a store keeps, as plain values: how many nodes there were at the start; by node how far
+/// its link has come; the open snapshots, the oldest first, and how many were ever opened; the
+/// horizon; the rows, by key, stamp and node.
+///
+/// Contracts see it as they see a core, whose greatest accepted stamp is the greatest head. So a
+/// checkpoint represents a past as a core does. Anyone may make one of any parts: `Core::restore`
+/// checks all of it.
+#[derive(Debug, Drop)]
+pub struct Checkpoint {
+    start: u16,
+    links: Vec<Intake>,
+    snapshots: Vec<Snapshot>,
+    opened: u64,
+    horizon: Stamp,
+    rows: Vec<Row>,
+}
+
+impl Model for Checkpoint {
+    ghost use Rattle.hlc_core.specs.Kept.{Kept, greatest_head};
+
+    ghost Value = { Kept };
+
+    ghost view = { λ checkpoint. record {
+      start = checkpoint.start;
+      links = checkpoint.links.items;
+      top = greatest_head checkpoint.links.items;
+      snapshots = checkpoint.snapshots.items;
+      opened = checkpoint.opened;
+      horizon = checkpoint.horizon;
+      rows = checkpoint.rows.items;
+    } };
+}
+
+impl Checkpoint {
+    /// A checkpoint of these parts, whether a store's or not. They are not checked.
+    pub fn of(
+        start: u16,
+        links: Vec<Intake>,
+        snapshots: Vec<Snapshot>,
+        opened: u64,
+        horizon: Stamp,
+        rows: Vec<Row>,
+    ) -> Checkpoint
+        ensures { result ≡ record {
+          start = start;
+          links = links.items;
+          top = greatest_head links.items;
+          snapshots = snapshots.items;
+          opened = opened;
+          horizon = horizon;
+          rows = rows.items;
+        } }
+    {
+        Checkpoint {
+            start,
+            links,
+            snapshots,
+            opened,
+            horizon,
+            rows,
+        }
+    }
+
+    /// How many nodes there were at the start.
+    pub fn start(&self) -> u16
+        ensures { result ≡ self.now.start }
+    {
+        self.start
+    }
+
+    /// By node how far its link has come.
+    pub fn links(&self) -> &[Intake]
+        ensures { result.now ≡ self.now.links }
+    {
+        self.links.as_slice()
+    }
+
+    /// The greatest head, which is the greatest stamp of an accepted item. It is computed.
+    pub fn top(&self) -> Stamp
+        ensures value { result ≡ self.now.top }
+        ensures greatest { result ≡ greatest_head self.now.links }
+    {
+        greatest_head(self.links.as_slice())
+    }
+
+    /// The open snapshots, the oldest first.
+    pub fn snapshots(&self) -> &[Snapshot]
+        ensures { result.now ≡ self.now.snapshots }
+    {
+        self.snapshots.as_slice()
+    }
+
+    /// How many snapshots were ever opened.
+    pub fn opened(&self) -> u64
+        ensures { result ≡ self.now.opened }
+    {
+        self.opened
+    }
+
+    /// The floor of the last vacuum.
+    pub fn horizon(&self) -> Stamp
+        ensures { result ≡ self.now.horizon }
+    {
+        self.horizon
+    }
+
+    /// The rows, by key, stamp and node.
+    pub fn rows(&self) -> &[Row]
+        ensures { result.now ≡ self.now.rows }
+    {
+        self.rows.as_slice()
+    }
+
+    /// The links, the open snapshots and the rows. It takes no memory.
+    pub fn into_lists(self) -> (Vec<Intake>, Vec<Snapshot>, Vec<Row>)
+        ensures links { result.0.items ≡ self.links }
+        ensures snapshots { result.1.items ≡ self.snapshots }
+        ensures rows { result.2.items ≡ self.rows }
+    {
+        (self.links, self.snapshots, self.rows)
+    }
+
+    /// The first reason why this is no checkpoint, for which `Core::restore` refuses it; never out of
+    /// memory. It takes no memory, and looks once at each part.
+    pub fn fault(&self) -> Option<RestoreFault>
+        ensures { MatchOption result (IsCheckpoint self.now) (IsFirstReason self.now) }
+    {
+        reason_against(self)
+    }
+}
+
+/// The first reason why this is no checkpoint. It takes no memory.
+pub(crate) fn reason_against(checkpoint: &Checkpoint) -> Option<RestoreFault>
+    ensures { MatchOption result (IsCheckpoint checkpoint.now) (IsFirstReason checkpoint.now) }
+{
+    let links = checkpoint.links();
+    let snapshots = checkpoint.snapshots();
+    let rows = checkpoint.rows();
+    if !are_nodes(checkpoint.start(), links) {
+        return Some(RestoreFault::NodesOutOfRange);
+    }
+    if !are_numbers_low(links) {
+        return Some(RestoreFault::NumberAboveHead);
+    }
+    if !did_retired_issue(links) {
+        return Some(RestoreFault::RetiredWithoutItem);
+    }
+    if !is_register(snapshots, checkpoint.opened()) {
+        return Some(RestoreFault::SnapshotsNotRising);
+    }
+    let floor = floor_of(links, checkpoint.top());
+    if !are_at_most(floor, snapshots) {
+        return Some(RestoreFault::SnapshotAboveFloor);
+    }
+    if checkpoint.horizon() > floor {
+        return Some(RestoreFault::HorizonAboveFloor);
+    }
+    if !do_rows_ascend(rows) {
+        return Some(RestoreFault::RowsNotAscending);
+    }
+    if !are_under_heads(links, rows) {
+        return Some(RestoreFault::RowAboveHead);
+    }
+    if !are_in_limits(rows) {
+        return Some(RestoreFault::RowOutOfLimits);
+    }
+    None
+}
+
+/// Whether there were 1 to 64 nodes at the start, and there are links of them and no more than
+/// numbers are given.
+fn are_nodes(start: u16, links: &[Intake]) -> bool
+    ensures { IsTrue result ↔ HasNodes start links.now }
+{
+    let many = links.len();
+    start > 0 && start <= MOST_NODES && start as usize <= many && many <= MOST_NUMBERS as usize
+}
+
+/// Whether no link's next number is above the word of its head.
+fn are_numbers_low(links: &[Intake]) -> bool
+    ensures { IsTrue result ↔ All HasStamps links.now }
+{
+    for link in links {
+        if link.next() > link.head().bits() {
+            return false;
+        }
+    }
+    true
+}
+
+/// Whether an item of each node that retired was accepted.
+fn did_retired_issue(links: &[Intake]) -> bool
+    ensures { IsTrue result ↔ All HasLastItem links.now }
+{
+    for link in links {
+        if link.retired() && link.next() == 0 {
+            return false;
+        }
+    }
+    true
+}
+
+/// The greatest head of some links, 0.0 where there is none.
+fn greatest_head(links: &[Intake]) -> Stamp
+    ensures { result ≡ greatest_head links.now }
+{
+    let mut greatest = Stamp::from_bits(0);
+    for link in links {
+        greatest = greater(greatest, link.head());
+    }
+    greatest
+}
+
+/// The greater of the two.
+fn greater(a: Stamp, b: Stamp) -> Stamp
+    ensures { result ≡ max a b }
+{
+    if a < b { b } else { a }
+}
+
+/// The least head of the links whose nodes have not retired; where all did, the top.
+fn floor_of(links: &[Intake], top: Stamp) -> Stamp
+    ensures { result ≡ floor_of (marks_of links.now top) }
+{
+    let mut least = None;
+    for link in links {
+        if !link.retired() {
+            least = Some(lower(least, link.head()));
+        }
+    }
+    least.unwrap_or(top)
+}
+
+/// The lower of the two, if there are two.
+fn lower(least: Option<Stamp>, stamp: Stamp) -> Stamp
+    ensures { result ≡ lower least stamp }
+{
+    match least {
+        Some(low) if low < stamp => low,
+        _ => stamp,
+    }
+}
+
+/// Whether no open snapshot is above the floor.
+fn are_at_most(floor: Stamp, snapshots: &[Snapshot]) -> bool
+    ensures { IsTrue result ↔ All (λ snapshot. snapshot.stamp ≤ floor) snapshots.now }
+{
+    for snapshot in snapshots {
+        if snapshot.stamp > floor {
+            return false;
+        }
+    }
+    true
+}
+
+/// Whether each row is of one of the nodes, and not above its head.
+fn are_under_heads(links: &[Intake], rows: &[Row]) -> bool
+    ensures { IsTrue result ↔ All (IsUnderHead links.now) rows.now }
+{
+    for row in rows {
+        if !is_under_head(links, row) {
+            return false;
+        }
+    }
+    true
+}
+
+/// Whether a row is of one of the nodes, and not above its head.
+fn is_under_head(links: &[Intake], row: &Row) -> bool
+    ensures { IsTrue result ↔ IsUnderHead links.now row.now }
+{
+    match links.get(row.node as usize) {
+        Some(link) => row.stamp <= link.head(),
+        None => false,
+    }
+}

@@ -1,0 +1,54 @@
+//! The heads and the table of a store, made from a checkpoint's parts.
+ghost use Rattle.std.specs.Prelude.{◌≡◌, ◌<◌, ◌≤◌, IfOk, length};
+ghost use Rattle.std.specs.List.Sorted.{IsPermutation};
+ghost use Rattle.hlc_heads.specs.declared.heads.TheConstants.{MOST_NUMBERS};
+ghost use Rattle.hlc_witness.specs.Certificate.{RowsAscend};
+ghost use Rattle.hlc_core.specs.Kept.{marks_of};
+
+use hlc_clock::Stamp;
+use hlc_columns::Table;
+use hlc_heads::{Head, Heads};
+use hlc_intake::Intake;
+use hlc_node::Row;
+use hlc_values::NoMemory;
+use std::alloc::{AllocFailed, Global};
+
+/// The heads of some links, and this greatest stamp.
+pub fn heads_of(alloc: Global, links: &[Intake], top: Stamp) -> Result<Heads, NoMemory>
+    requires some { 0 < length links.now }
+    requires few { length links.now ≤ MOST_NUMBERS }
+    ensures { IfOk result (λ heads. heads ≡ marks_of links.now top) }
+{
+    let mut heads = Vec::new(alloc);
+    for link in links {
+        heads.push(Head {
+            stamp: link.head(),
+            retired: link.retired(),
+        })?;
+    }
+    Ok(Heads::resuming(heads, top))
+}
+
+/// A table of copies of some rows, which ascend by key, stamp and node.
+pub fn table_of(alloc: Global, rows: &[Row]) -> Result<Table, NoMemory>
+    requires { RowsAscend rows.now }
+    ensures { IfOk result (λ table. IsPermutation rows.now table) }
+{
+    let mut table = Table::new(alloc);
+    for row in rows {
+        table.insert_copy(row.key.as_slice(), row.stamp, row.node, row.value())?;
+    }
+    Ok(table)
+}
+
+/// A table of some rows, which ascend by key, stamp and node. They are moved.
+pub fn table_of_moved(alloc: Global, rows: Vec<Row>) -> Result<Table, AllocFailed<Row>>
+    requires { RowsAscend rows.items }
+    ensures { IfOk result (λ table. IsPermutation rows.items table) }
+{
+    let mut table = Table::new(alloc);
+    for row in rows {
+        table.insert(row)?;
+    }
+    Ok(table)
+}
