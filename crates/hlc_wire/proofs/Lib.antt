@@ -1,0 +1,4 @@
+pub mod FieldLemmas
+pub mod ItemLemmas
+pub mod SteadyLemmas
+mod KindLemmas

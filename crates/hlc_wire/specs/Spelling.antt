@@ -1,0 +1,59 @@
+-- The one spelling of each item and each message. Numbers have the high byte first.
+use Rattle.std.specs.Prelude.{ℕ, ◌<◌, Bool, true, false, List, [], ◌∷◌, ◌++◌, length, Option, Some, None}
+use Rattle.std.specs.Int.{w16, w64, to_be_bytes}
+use Rattle.hlc_node.specs.declared.item.Item.{Item}
+use Rattle.hlc_node.specs.declared.item.Message.{Message}
+use Rattle.hlc_node.specs.declared.item.Body.{Body}
+use Rattle.hlc_node.specs.declared.item.Body.TheVariants.{Write, Report, Retire}
+
+-- 1 for yes, 0 for no
+abbrev pub flag_bytes : Bool → List ℕ
+flag_bytes true = 1 ∷ []
+flag_bytes false = 0 ∷ []
+
+-- a byte of length, and the key's bytes
+abbrev pub key_bytes : List ℕ → List ℕ
+key_bytes key = length key ∷ key
+
+-- 0 for a deletion mark; or 1, two bytes of length, and the value's bytes
+abbrev pub value_bytes : Option (List ℕ) → List ℕ
+value_bytes None = 0 ∷ []
+value_bytes (Some value) = 1 ∷ (to_be_bytes w16 (length value) ++ value)
+
+-- what an item says: 0, a key and a value; or 1 of a report; or 2 of a retirement
+abbrev pub body_bytes : Body → List ℕ
+body_bytes (Write key value) = 0 ∷ (key_bytes key ++ value_bytes value)
+body_bytes Report = 1 ∷ []
+body_bytes Retire = 2 ∷ []
+
+-- the version, which is 1; the node in two bytes; the number and the stamp in eight each; what it says
+abbrev pub item_bytes : Item → List ℕ
+item_bytes item =
+    1 ∷ (to_be_bytes w16 item.node ++ to_be_bytes w64 item.number ++ to_be_bytes w64 item.stamp ++ body_bytes item.body)
+
+-- the version; the node in two bytes; the stamp in eight
+abbrev pub message_bytes : Message → List ℕ
+message_bytes message = 1 ∷ (to_be_bytes w16 message.from ++ to_be_bytes w64 message.stamp)
+
+-- What has a spelling: numbers in their ranges, keys of 1 to 255 bytes, values of at most 65,535.
+abbrev pub KeyFits : List ℕ → Type 0
+KeyFits key = (0 < length key) × (length key < 256)
+
+abbrev pub ValueFits : Option (List ℕ) → Type 0
+ValueFits None = Unit {0}
+ValueFits (Some value) = length value < 65536
+
+abbrev pub BodyFits : Body → Type 0
+BodyFits (Write key value) = KeyFits key × ValueFits value
+BodyFits Report = Unit {0}
+BodyFits Retire = Unit {0}
+
+pub record ItemFits (item : Item) : Type 0 where
+  pub node : item.node < 65536
+  pub number : item.number < 18446744073709551616
+  pub stamp : item.stamp < 18446744073709551616
+  pub body : BodyFits item.body
+
+pub record MessageFits (message : Message) : Type 0 where
+  pub node : message.from < 65536
+  pub stamp : message.stamp < 18446744073709551616

@@ -1,0 +1,167 @@
+//! Fields, read from the front of some bytes and written at the end of others. Numbers have the high
+//! byte first. Each reader returns what it read and the bytes after it.
+ghost use Rattle.std.specs.Prelude.{◌≡◌, ◌++◌, OnOk, IsOk, IsErrOf};
+ghost use Rattle.std.specs.Int.{w16, w32, w64};
+ghost use Rattle.hlc_wire.specs.Spelling.{flag_bytes, key_bytes, value_bytes, KeyFits, ValueFits};
+ghost use Rattle.hlc_wire.specs.Reading.{Gives, byte_at, bytes_at, number_at, flag_at, key_at, value_at};
+
+use crate::fault::{DecodeError, WireFault};
+use hlc_node::Bytes;
+use std::alloc::{AllocError, Global};
+
+/// The first byte. `Short` where there is none.
+pub fn byte_at(bytes: &[u8]) -> Result<(u8, &[u8]), DecodeError>
+    ensures read { Gives (λ x. (x.0, x.1.now)) result (byte_at bytes.now) }
+    ensures memory { ¬ IsErrOf result DecodeError.NoMemory }
+{
+    match bytes {
+        [] => Err(DecodeError::Fault(WireFault::Short)),
+        [byte, rest @ ..] => Ok((*byte, rest)),
+    }
+}
+
+/// The number in the first two bytes. `Short` where there are fewer.
+pub fn u16_at(bytes: &[u8]) -> Result<(u16, &[u8]), DecodeError>
+    ensures read { Gives (λ x. (x.0, x.1.now)) result (number_at w16 bytes.now) }
+    ensures memory { ¬ IsErrOf result DecodeError.NoMemory }
+{
+    if bytes.len() < 2 {
+        return Err(DecodeError::Fault(WireFault::Short));
+    }
+    let (front, rest) = bytes.split_at(2);
+    let number = u16::from_be_bytes([front[0], front[1]]);
+    Ok((number, rest))
+}
+
+/// The number in the first four bytes. `Short` where there are fewer.
+pub fn u32_at(bytes: &[u8]) -> Result<(u32, &[u8]), DecodeError>
+    ensures read { Gives (λ x. (x.0, x.1.now)) result (number_at w32 bytes.now) }
+    ensures memory { ¬ IsErrOf result DecodeError.NoMemory }
+{
+    if bytes.len() < 4 {
+        return Err(DecodeError::Fault(WireFault::Short));
+    }
+    let (front, rest) = bytes.split_at(4);
+    let number = u32::from_be_bytes([front[0], front[1], front[2], front[3]]);
+    Ok((number, rest))
+}
+
+/// The number in the first eight bytes. `Short` where there are fewer.
+pub fn u64_at(bytes: &[u8]) -> Result<(u64, &[u8]), DecodeError>
+    ensures read { Gives (λ x. (x.0, x.1.now)) result (number_at w64 bytes.now) }
+    ensures memory { ¬ IsErrOf result DecodeError.NoMemory }
+{
+    if bytes.len() < 8 {
+        return Err(DecodeError::Fault(WireFault::Short));
+    }
+    let (front, rest) = bytes.split_at(8);
+    let number = u64::from_be_bytes([
+        front[0], front[1], front[2], front[3], front[4], front[5], front[6], front[7],
+    ]);
+    Ok((number, rest))
+}
+
+/// A copy of the first `count` bytes. `Short` where there are fewer, before memory is taken.
+pub fn bytes_at(alloc: Global, count: usize, bytes: &[u8]) -> Result<(Bytes, &[u8]), DecodeError>
+    ensures read { Gives (λ x. (x.0, x.1.now)) result (bytes_at count bytes.now) }
+    ensures memory { IsErrOf result DecodeError.NoMemory → IsOk (bytes_at count bytes.now) }
+{
+    if bytes.len() < count {
+        return Err(DecodeError::Fault(WireFault::Short));
+    }
+    let (front, rest) = bytes.split_at(count);
+    let copy = Bytes::from_vec(Vec::from_slice(alloc, front)?);
+    Ok((copy, rest))
+}
+
+/// Yes or no: a byte 1 or 0. `Short` where there is no byte, `Flag` at any other.
+#[tactic(auto, unfolding(crate::specs::Reading::flag_at))]
+pub fn flag_at(bytes: &[u8]) -> Result<(bool, &[u8]), DecodeError>
+    ensures read { Gives (λ x. (x.0, x.1.now)) result (flag_at bytes.now) }
+    ensures memory { ¬ IsErrOf result DecodeError.NoMemory }
+{
+    match bytes {
+        [] => Err(DecodeError::Fault(WireFault::Short)),
+        [0, rest @ ..] => Ok((false, rest)),
+        [1, rest @ ..] => Ok((true, rest)),
+        [_, ..] => Err(DecodeError::Fault(WireFault::Flag)),
+    }
+}
+
+/// A copy of a key: a byte of length, 1 to 255, and so many bytes.
+///
+/// `Short` where there is no byte of length, `EmptyKey` where it is 0, `Short` where fewer bytes
+/// follow; then out of memory.
+#[tactic(auto, unfolding(crate::specs::Reading::key_at))]
+pub fn key_at(alloc: Global, bytes: &[u8]) -> Result<(Bytes, &[u8]), DecodeError>
+    ensures read { Gives (λ x. (x.0, x.1.now)) result (key_at bytes.now) }
+    ensures memory { IsErrOf result DecodeError.NoMemory → IsOk (key_at bytes.now) }
+{
+    match bytes {
+        [] => Err(DecodeError::Fault(WireFault::Short)),
+        [0, ..] => Err(DecodeError::Fault(WireFault::EmptyKey)),
+        [count, rest @ ..] => bytes_at(alloc, *count as usize, rest),
+    }
+}
+
+/// A copy of a value, or a deletion mark: a byte 0; or a byte 1, two bytes of length, and so many
+/// bytes.
+///
+/// `Short` where there is no first byte, `Flag` where it is neither 0 nor 1, `Short` where fewer
+/// bytes follow; then out of memory.
+#[tactic(auto, unfolding(crate::specs::Reading::value_at))]
+pub fn value_at(alloc: Global, bytes: &[u8]) -> Result<(Option<Bytes>, &[u8]), DecodeError>
+    ensures read { Gives (λ x. (x.0, x.1.now)) result (value_at bytes.now) }
+    ensures memory { IsErrOf result DecodeError.NoMemory → IsOk (value_at bytes.now) }
+{
+    match bytes {
+        [] => Err(DecodeError::Fault(WireFault::Short)),
+        [0, rest @ ..] => Ok((None, rest)),
+        [1, rest @ ..] => {
+            let (count, rest) = u16_at(rest)?;
+            let (value, rest) = bytes_at(alloc, count as usize, rest)?;
+            Ok((Some(value), rest))
+        }
+        [_, ..] => Err(DecodeError::Fault(WireFault::Flag)),
+    }
+}
+
+/// Writes yes or no, in one byte.
+///
+/// The only error of the writers here is that memory ran out; of `out` nothing is said then.
+pub fn put_flag(out: &mut Vec<u8>, flag: bool) -> Result<(), AllocError>
+    ensures { OnOk result (out.new.items ≡ out.old.items ++ flag_bytes flag) }
+{
+    if flag {
+        out.push(1)?;
+    } else {
+        out.push(0)?;
+    }
+    Ok(())
+}
+
+/// Writes a key of 1 to 255 bytes: a byte of length, and the key.
+pub fn put_key(out: &mut Vec<u8>, key: &[u8]) -> Result<(), AllocError>
+    requires { KeyFits key.now }
+    ensures { OnOk result (out.new.items ≡ out.old.items ++ key_bytes key.now) }
+{
+    out.push(key.len() as u8)?;
+    out.extend_from_slice(key)?;
+    Ok(())
+}
+
+/// Writes a value of at most 65,535 bytes, or a deletion mark, as `value_at` reads it.
+pub fn put_value(out: &mut Vec<u8>, value: &Option<Bytes>) -> Result<(), AllocError>
+    requires { ValueFits value.now }
+    ensures { OnOk result (out.new.items ≡ out.old.items ++ value_bytes value.now) }
+{
+    match value {
+        None => out.push(0)?,
+        Some(bytes) => {
+            out.push(1)?;
+            out.extend_from_slice(&(bytes.len() as u16).to_be_bytes())?;
+            out.extend_from_slice(bytes.as_slice())?;
+        }
+    }
+    Ok(())
+}

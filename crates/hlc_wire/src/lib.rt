@@ -1,0 +1,23 @@
+//! Items and messages as bytes: each has one spelling, which is written and read back, and no other
+//! bytes are read.
+#![tactic(auto)]
+
+mod fault;
+mod fields;
+mod item;
+mod message;
+#[cfg(test)]
+mod tests;
+
+pub use fault::{DecodeError, EncodeError, WireFault};
+pub use fields::{
+    byte_at, bytes_at, flag_at, key_at, put_flag, put_key, put_value, u16_at, u32_at, u64_at,
+    value_at,
+};
+pub use hlc_node::{Body, BodyFault, Bytes, Item, Message};
+pub use item::{
+    MOST_ITEM_BYTES, decode_item, encode_item, item_at, most_item_bytes_are_65814, put_item,
+};
+pub use message::{
+    MESSAGE_BYTES, decode_message, encode_message, message_at, message_bytes_are_11, put_message,
+};

@@ -1,0 +1,102 @@
+//! Messages as bytes.
+ghost use Rattle.std.specs.Prelude.{◌≡◌, ◌++◌, length, IfOk, OnOk, IsErrOf, Ok};
+ghost use Rattle.hlc_node.specs.declared.item.Message.{Message as AMessage};
+ghost use Rattle.hlc_wire.specs.Spelling.{message_bytes, MessageFits};
+ghost use Rattle.hlc_wire.specs.Reading.{Gives, message_at, message_rest_at, whole};
+
+use crate::fault::{DecodeError, WireFault};
+use crate::fields::{u16_at, u64_at};
+use hlc_clock::Stamp;
+use hlc_node::Message;
+use std::alloc::{AllocError, Global};
+
+/// The bytes of a message.
+pub const MESSAGE_BYTES: usize = 11;
+
+/// A message has 11 bytes: 1 of version, 2 of node, 8 of stamp.
+pub fn message_bytes_are_11()
+    ensures { MESSAGE_BYTES ≡ 11 }
+{}
+
+/// The message that the bytes spell, all of the bytes.
+///
+/// The error is the first fault from the left, and never `NoMemory`: no memory is taken.
+pub fn decode_message(bytes: &[u8]) -> Result<Message, DecodeError>
+    ensures found { IfOk result
+        (λ message. MessageFits message × (bytes.now ≡ message_bytes message)) }
+    ensures only { (message : AMessage) → MessageFits message → bytes.now ≡ message_bytes message
+        → Gives (λ message. message) result (Ok message) }
+    ensures exact { Gives (λ message. message) result (whole (message_at bytes.now)) }
+    ensures memory { ¬ IsErrOf result DecodeError.NoMemory }
+{
+    all(bytes)
+}
+
+/// The one spelling of a message, of `MESSAGE_BYTES` bytes. The only error is that memory ran out.
+pub fn encode_message(alloc: Global, message: &Message) -> Result<Vec<u8>, AllocError>
+    ensures spelled { IfOk result (λ bytes. bytes.items ≡ message_bytes message.now) }
+    ensures fits { IfOk result (λ _. MessageFits message.now) }
+    ensures size { IfOk result (λ bytes. length bytes.items ≡ MESSAGE_BYTES) }
+{
+    let mut out = Vec::new(alloc);
+    put_message(&mut out, message)?;
+    Ok(out)
+}
+
+/// Writes a message after what is there. The only error is that memory ran out; of `out` nothing is
+/// said then.
+pub fn put_message(out: &mut Vec<u8>, message: &Message) -> Result<(), AllocError>
+    ensures ok { OnOk result (out.new.items ≡ out.old.items ++ message_bytes message.now) }
+    ensures fits { MessageFits message.now }
+{
+    let from = message.from;
+    let stamp = message.stamp.bits();
+    out.push(1)?;
+    out.extend_from_slice(&from.to_be_bytes())?;
+    out.extend_from_slice(&stamp.to_be_bytes())?;
+    Ok(())
+}
+
+/// The message at the front of some bytes, and the bytes after it.
+///
+/// The error is the first fault from the left, and never `NoMemory`: no memory is taken.
+#[tactic(auto, unfolding(crate::specs::Reading::message_at))]
+pub fn message_at(bytes: &[u8]) -> Result<(Message, &[u8]), DecodeError>
+    ensures read { Gives (λ x. (x.0, x.1.now)) result (message_at bytes.now) }
+    ensures memory { ¬ IsErrOf result DecodeError.NoMemory }
+{
+    match bytes {
+        [] => Err(DecodeError::Fault(WireFault::Short)),
+        [1, rest @ ..] => message_rest_at(rest),
+        [_, ..] => Err(DecodeError::Fault(WireFault::Version)),
+    }
+}
+
+/// A message after its version.
+#[tactic(auto, unfolding(crate::specs::Reading::message_rest_at))]
+fn message_rest_at(bytes: &[u8]) -> Result<(Message, &[u8]), DecodeError>
+    ensures read { Gives (λ x. (x.0, x.1.now)) result (message_rest_at bytes.now) }
+    ensures memory { ¬ IsErrOf result DecodeError.NoMemory }
+{
+    let (from, rest) = u16_at(bytes)?;
+    let (stamp, rest) = u64_at(rest)?;
+    let stamp = Stamp::from_bits(stamp);
+    Ok((Message { from, stamp }, rest))
+}
+
+/// All of the bytes.
+fn all(bytes: &[u8]) -> Result<Message, DecodeError>
+    ensures read { Gives (λ message. message) result (whole (message_at bytes.now)) }
+    ensures memory { ¬ IsErrOf result DecodeError.NoMemory }
+{
+    match message_at(bytes) {
+        Ok((message, rest)) => {
+            if rest.is_empty() {
+                Ok(message)
+            } else {
+                Err(DecodeError::Fault(WireFault::Trailing))
+            }
+        }
+        Err(error) => Err(error),
+    }
+}
