@@ -1,35 +1,29 @@
 -- What stands for a past, with its rows in order, is a checkpoint.
-use Rattle.std.proofs.Common.{◌≡◌, ℕ, zero, suc, ◌+◌, ◌<◌, ◌≤◌, List, [], ◌∷◌, ◌++◌, length, map, max, get_or, Bool}
-use Rattle.std.proofs.Common.{true, false, Some, None, Option, refl, ap, sym, ◌∙◌, subst, inl, inr, arith}
-use Rattle.std.specs.Prelude.{All, Contains, MatchOption, slice_get}
-use Rattle.std.specs.List.{AllPairs}
+use Rattle.std.proofs.Common.{◌≡◌, ℕ, ◌+◌, ◌<◌, ◌≤◌, List, [], ◌∷◌, ◌++◌, length, max, get_or}
+use Rattle.std.proofs.Common.{true, Some, None, Option, refl, ap, sym, ◌∙◌, subst, inl, inr, arith}
+use Rattle.std.specs.Prelude.{All, Contains, MatchOption}
 use Rattle.std.proofs.lemmas.Option.{get_or_from_slice_get}
-use Rattle.std.proofs.lemmas.Bool.{cond-true, lt-leb, le-leb, eq-eqb, cases_lt, cases_eq}
+use Rattle.std.proofs.lemmas.Bool.{cond-true, le-leb, eq-eqb, cases_lt, cases_eq}
 use Rattle.std.proofs.lemmas.Bool.Decides.{nat_tests}
 use Rattle.std.proofs.lemmas.List.{length-append}
 use Rattle.std.proofs.lemmas.List.Elements.{All-nil, All-weaker, All-push, All-contains, All-contains_itself}
 use Rattle.std.proofs.lemmas.List.Quantifiers.{all_pairs_push}
-use Rattle.hlc_node.specs.declared.row.Row.{Row}
-use Rattle.hlc_node.specs.declared.item.Item.{Item}
 use Rattle.hlc_intake.specs.Progress.{Progress}
-use Rattle.hlc_heads.specs.Heads.{Marks, IsFloor, head_at, floor_of}
 use Rattle.hlc_heads.specs.declared.heads.TheConstants.{MOST_NODES, MOST_NUMBERS}
-use Rattle.hlc_heads.proofs.LowLemmas.{low-is}
 use Rattle.hlc_snapshot.specs.declared.snapshot.Snapshot.{Snapshot}
 use Rattle.hlc_snapshot.specs.declared.registry.TheConstants.{MOST_OPEN}
 use Rattle.hlc_snapshot.specs.declared.fault.SnapshotFault.{SnapshotFault}
 use Rattle.hlc_snapshot.specs.Register.{Register, IsRegister, opened_at, room_refusal as room_in}
 use Rattle.hlc_snapshot.proofs.RegisterLemmas.{closed-is_register}
 use Rattle.hlc_witness.specs.Certificate.{RowsAscend}
-use Rattle.hlc_witness.specs.Cost.{IsInLimits, AreInLimits}
+use Rattle.hlc_witness.specs.Cost.{IsInLimits}
 use Rattle.hlc_core.specs.Past.{Step, Took, Opened, Closed, Vacuumed, Joined, numbered, count, head, retired, top}
-use Rattle.hlc_core.specs.Past.{floor, horizon, opened, open_snapshots, of_registry, of_room, room_refusal}
-use Rattle.hlc_core.specs.Past.{open_refusal, join_refusal, IsLegal, writes}
-use Rattle.hlc_core.specs.declared.fault.CoreFault.{CoreFault}
+use Rattle.hlc_core.specs.Past.{floor, horizon, opened, open_snapshots, of_registry, of_room}
+use Rattle.hlc_core.specs.Past.{IsLegal, writes}
 use Rattle.hlc_core.specs.declared.fault.CoreFault.TheVariants.{TooManyNodes}
-use Rattle.hlc_core.specs.Kept.{Kept, nodes, greatest_head, marks_of, HaveHeads, HasNodes, HasStamps, HasLastItem}
-use Rattle.hlc_core.specs.Kept.{StandsFor, with_rows_left}
-use Rattle.hlc_core.specs.Checkpoint.{IsCheckpoint, IsCopyOf, IsUnderHead, floor_in, HasRegister}
+use Rattle.hlc_core.specs.Kept.{Kept, nodes, greatest_head, marks_of, HasNodes, HasStamps, HasLastItem}
+use Rattle.hlc_core.specs.Kept.{StandsFor}
+use Rattle.hlc_core.specs.Checkpoint.{IsCheckpoint, IsCopyOf, IsUnderHead, floor_in}
 use Rattle.hlc_core.proofs.PastLemmas.{inside, rises, head-same, head-other, head-joined, head-joined_other, floor-some}
 use Rattle.hlc_core.proofs.PastLemmas.{count-other, retired-other, fresh}
 use Rattle.hlc_core.proofs.PastLemmas.{inside-row, below_head, writes-limits, open-low, open-below, open-above}

@@ -1,18 +1,18 @@
 -- What is made of a checkpoint holds together as a core does.
-use Rattle.std.proofs.Common.{◌≡◌, ℕ, ◌+◌, ◌<◌, ◌≤◌, List, [], ◌∷◌, ◌++◌, length, map, get_or, take, Some, None, refl}
+use Rattle.std.proofs.Common.{◌≡◌, ℕ, ◌+◌, ◌<◌, ◌≤◌, List, [], ◌∷◌, ◌++◌, length, get_or, take, Some}
 use Rattle.std.proofs.Common.{ap, sym, ◌∙◌, subst, inl, inr, arith, IsPermutation, append_assoc, true}
-use Rattle.std.specs.Prelude.{All, Contains, MatchOption, slice_get}
+use Rattle.std.specs.Prelude.{All, MatchOption, slice_get}
 use Rattle.std.proofs.lemmas.Option.{slice_get-get_or, slice_get_past, slice_get_within, get_or_from_slice_get}
 use Rattle.std.proofs.lemmas.Bool.{cases_lt}
 use Rattle.std.proofs.Math.Seq.{take-append_seam, get_or-append_seam}
-use Rattle.std.proofs.lemmas.List.{take_more, get_or-take, get_or-map, length-append, length-map, length-take-le}
+use Rattle.std.proofs.lemmas.List.{take_more, get_or-take, length-append, length-take-le}
 use Rattle.std.proofs.lemmas.List.Elements.{All-weaker, All-contains}
 use Rattle.std.proofs.lemmas.List.Sorted.{All-permutation, IsPermutation-trans, IsPermutation-append_left}
 use Rattle.hlc_node.specs.declared.row.Row.{Row}
-use Rattle.hlc_node.specs.Rows.{IsRowSet, IsSameVersion}
+use Rattle.hlc_node.specs.Rows.{IsSameVersion}
 use Rattle.hlc_columns.specs.Table.{HasNoVersion}
 use Rattle.hlc_intake.specs.Progress.{Progress}
-use Rattle.hlc_heads.specs.Heads.{Marks, a_head, head_at}
+use Rattle.hlc_heads.specs.Heads.{Marks, head_at}
 use Rattle.hlc_snapshot.specs.Register.{IsRegister}
 use Rattle.hlc_witness.specs.Certificate.{RowsAscend}
 use Rattle.hlc_witness.specs.Cost.{IsInLimits}

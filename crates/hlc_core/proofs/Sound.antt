@@ -3,8 +3,7 @@
 use Rattle.std.proofs.Common.{◌≡◌, ℕ, zero, suc, ◌+◌, ◌<◌, ◌≤◌, List, [], ◌∷◌, ◌++◌, length, max, get_or, Bool, true, false}
 use Rattle.std.proofs.Common.{None, refl, ap, sym, ◌∙◌, subst, inl, inr, arith, length-set, length-append, replicate}
 use Rattle.std.proofs.Common.{IsPermutation}
-use Rattle.std.specs.Prelude.{All, Contains, slice_set}
-use Rattle.std.specs.Prelude.{Option, MatchResult, MatchOption}
+use Rattle.std.specs.Prelude.{Contains, slice_set}
 use Rattle.std.proofs.lemmas.List.{length-replicate}
 use Rattle.std.proofs.lemmas.List.Elements.{All-nil, All-weaker, All-contains, All-contains_itself, All-set, All-push}
 use Rattle.std.proofs.lemmas.List.Sorted.{All-permutation}
@@ -12,10 +11,10 @@ use Rattle.hlc_node.specs.declared.row.Row.{Row}
 use Rattle.hlc_node.specs.declared.item.Body.{Body}
 use Rattle.hlc_node.specs.Items.{body_refusal}
 use Rattle.hlc_intake.specs.Progress.{Progress}
-use Rattle.hlc_heads.specs.Heads.{Marks, IsFloor, a_head, head_at, floor_of, marked, joined}
+use Rattle.hlc_heads.specs.Heads.{Marks, IsFloor, head_at, floor_of, marked, joined}
 use Rattle.hlc_heads.specs.declared.heads.TheConstants.{MOST_NODES, MOST_NUMBERS}
 use Rattle.hlc_heads.proofs.LowLemmas.{low-is, floor-is}
-use Rattle.hlc_witness.specs.Cost.{IsInLimits, AreInLimits}
+use Rattle.hlc_witness.specs.Cost.{IsInLimits}
 use Rattle.hlc_core.specs.Past.{body_rows}
 use Rattle.hlc_core.specs.Kept.{HasNodes, HasStamps, HasLastItem, HaveHeads, IsSound, greatest_head, marks_of}
 use Rattle.hlc_core.proofs.PastLemmas.{limits-body}

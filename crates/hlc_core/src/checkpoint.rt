@@ -5,6 +5,7 @@ ghost use Rattle.std.proofs.Common.{rules};
 ghost use Rattle.std.proofs.lemmas.Grind.{common_steps};
 ghost use Rattle.hlc_heads.specs.Heads.{floor_of};
 ghost use Rattle.hlc_core.specs.Kept.{HasNodes, HasStamps, HasLastItem, greatest_head, marks_of};
+ghost use Rattle.hlc_core.specs.RestoreFaults.{fault_code};
 ghost use Rattle.hlc_core.specs.Checkpoint.{IsCheckpoint, IsFirstReason, IsUnderHead};
 
 use hlc_clock::Stamp;
@@ -15,6 +16,8 @@ use hlc_snapshot::{Snapshot, is_register};
 use hlc_values::{Exact, NoMemory};
 use hlc_witness::{are_in_limits, do_rows_ascend};
 use std::alloc::AllocFailed;
+use std::error::Error;
+use std::fmt;
 use std::marker::Model;
 
 /// Why no store is restored, in the order in which the reasons are checked.
@@ -43,6 +46,51 @@ pub enum RestoreFault {
     /// Out of memory. It is a checkpoint all the same.
     NoMemory,
 }
+
+impl RestoreFault {
+    /// The number that stands for the fault in outputs: 1 to 10, in the order of the variants.
+    pub fn code(self) -> u32
+        ensures { result ≡ fault_code self }
+    {
+        match self {
+            RestoreFault::NodesOutOfRange => 1,
+            RestoreFault::NumberAboveHead => 2,
+            RestoreFault::RetiredWithoutItem => 3,
+            RestoreFault::SnapshotsNotRising => 4,
+            RestoreFault::SnapshotAboveFloor => 5,
+            RestoreFault::HorizonAboveFloor => 6,
+            RestoreFault::RowsNotAscending => 7,
+            RestoreFault::RowAboveHead => 8,
+            RestoreFault::RowOutOfLimits => 9,
+            RestoreFault::NoMemory => 10,
+        }
+    }
+}
+
+impl fmt::Display for RestoreFault {
+    ghost use Rattle.std.specs.Prelude.{Some};
+    ghost use Rattle.hlc_core.specs.RestoreFaults.{fault_text};
+
+    ghost output = { λ fault. Some (fault_text fault) };
+
+    fn fmt<W: fmt::Write>(&self, f: &mut fmt::Formatter<W>) -> fmt::Result {
+        f.write_str(match self {
+            RestoreFault::NodesOutOfRange =>
+                "the nodes at the start, or the links, are out of range",
+            RestoreFault::NumberAboveHead => "the next number of a link is above its head",
+            RestoreFault::RetiredWithoutItem => "a node retired without an item",
+            RestoreFault::SnapshotsNotRising => "the open snapshots are too many, or out of order",
+            RestoreFault::SnapshotAboveFloor => "an open snapshot is above the floor",
+            RestoreFault::HorizonAboveFloor => "the horizon is above the floor",
+            RestoreFault::RowsNotAscending => "the rows do not ascend by key, stamp and node",
+            RestoreFault::RowAboveHead => "a row is of no node, or above the head of its node",
+            RestoreFault::RowOutOfLimits => "a key or a value is out of the limits",
+            RestoreFault::NoMemory => "out of memory",
+        })
+    }
+}
+
+impl Error for RestoreFault {}
 
 impl Exact for RestoreFault {
     ghost equal = { Prim.search (rules, common_steps) };
@@ -184,7 +232,7 @@ impl Checkpoint {
     }
 
     /// The links, the open snapshots and the rows. It takes no memory.
-    pub fn into_lists(self) -> (Vec<Intake>, Vec<Snapshot>, Vec<Row>)
+    pub(crate) fn into_lists(self) -> (Vec<Intake>, Vec<Snapshot>, Vec<Row>)
         ensures links { result.0.items ≡ self.links }
         ensures snapshots { result.1.items ≡ self.snapshots }
         ensures rows { result.2.items ≡ self.rows }

@@ -1,5 +1,5 @@
 -- The floor of the links is that of what is kept.
-use Rattle.std.proofs.Common.{◌≡◌, ◌≤◌, All, List, true≢false, sym, ◌∙◌, subst, rules}
+use Rattle.std.proofs.Common.{◌≡◌, ◌≤◌, All, List, true≢false, sym, subst, rules}
 use Rattle.std.proofs.lemmas.Grind.{common_steps}
 use Rattle.hlc_snapshot.specs.declared.snapshot.Snapshot.{Snapshot}
 use Rattle.hlc_core.specs.Checkpoint.{HasLinks, HasRegister, floor_in}

@@ -1,6 +1,5 @@
 -- One row more is stored, which is of a new version.
-use Rattle.std.proofs.Common.{◌≡◌, ◌∙◌, ◌++◌, ◌∷◌, [], sym, ap, subst, append_assoc, arith, IsPermutation, rules}
-use Rattle.std.proofs.lemmas.Grind.{common_steps}
+use Rattle.std.proofs.Common.{◌∙◌, ◌++◌, ◌∷◌, [], sym, ap, append_assoc}
 use Rattle.std.proofs.lemmas.List.Sorted.{IsPermutation-trans, IsPermutation-append_left}
 use Rattle.hlc_core.proofs.Restored.{fresh-next}
 use Rattle.hlc_core.proofs.restoring.table_of_moved.Goals as goal

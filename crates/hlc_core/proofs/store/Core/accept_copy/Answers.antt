@@ -1,5 +1,5 @@
 -- As of `accept`: the copy of an item that nothing refuses is the row of its past.
-use Rattle.std.proofs.Common.{◌+◌, ◌≡◌, ◌<◌, arith, length, false, inl, inr, refl}
+use Rattle.std.proofs.Common.{◌≡◌, ◌<◌, arith, length, false, inl, inr, refl}
 use Rattle.std.proofs.lemmas.Result.{err_from_is_err_and}
 use Rattle.hlc_node.specs.Items.{retires}
 use Rattle.hlc_heads.specs.Heads.{head_at}

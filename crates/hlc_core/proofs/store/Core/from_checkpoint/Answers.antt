@@ -1,5 +1,5 @@
 -- As of `restore`: what was made keeps what the checkpoint says, with its rows in another order.
-use Rattle.std.proofs.Common.{◌≡◌, refl, IsPermutation}
+use Rattle.std.proofs.Common.{refl, IsPermutation}
 use Rattle.hlc_core.proofs.Checkpoints.{copy-stands}
 use Rattle.hlc_core.proofs.Restored.{restored}
 use Rattle.hlc_core.proofs.store.Core.from_checkpoint.Goals as goal
