@@ -1,0 +1,9 @@
+-- Opening all that was fed says both.
+use Rattle.hlc_frame.proofs.FrameLemmas.{word_read, frame_read}
+use Rattle.hlc_frame.proofs.laws.blocks_are_the_frame.Goals as goal
+
+pub returns-clause-found : goal.returns-clause-found
+returns-clause-found c = word_read
+
+pub returns-clause-only : goal.returns-clause-only
+returns-clause-only c = frame_read

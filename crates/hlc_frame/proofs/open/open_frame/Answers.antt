@@ -1,0 +1,15 @@
+-- All of the bytes are read back.
+use Rattle.std.proofs.Common.{ℕ, List, ap, subst, ◌∙◌, arith}
+use Rattle.hlc_frame.specs.Opening.{Reads, opened}
+use Rattle.hlc_frame.proofs.FrameLemmas.{is_found, frame_is_opened}
+use Rattle.hlc_frame.proofs.open.open_frame.Goals as goal
+
+pub returns-clause-found : goal.returns-clause-found
+returns-clause-found c =
+    is_found (λ frame. (frame.word, frame.body.now)) c.all.result c.args.bytes.now
+    (λ i. omega (arith, c.type_inv.bytes i)) c.all.ensures
+
+pub returns-clause-only : goal.returns-clause-only
+returns-clause-only c = λ word body fits e.
+    subst (λ read. Reads {Y = ℕ × List ℕ} (λ frame. (frame.word, frame.body.now)) c.all.result read)
+    (ap opened e ∙ frame_is_opened word body fits) c.all.ensures

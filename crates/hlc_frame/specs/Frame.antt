@@ -1,0 +1,21 @@
+-- A frame: a front, a body, and the digest of both. Numbers have the high byte first.
+use Rattle.std.specs.Prelude.{ℕ, ◌<◌, List, ◌++◌, length}
+use Rattle.std.specs.Int.{w32, w64, to_be_bytes}
+use Rattle.sha2.specs.Sha256.{sha256}
+
+-- the version, which is 1, in four bytes; the length of the body and the caller's word in eight each
+unfoldable pub front_bytes : ℕ → ℕ → List ℕ
+front_bytes len word = to_be_bytes w32 1 ++ to_be_bytes w64 len ++ to_be_bytes w64 word
+
+-- a text and its digest
+abbrev pub sealed : List ℕ → List ℕ
+sealed text = text ++ sha256 text
+
+-- a frame
+abbrev pub frame_bytes : ℕ → List ℕ → List ℕ
+frame_bytes word body = sealed (front_bytes (length body) word ++ body)
+
+-- what has a frame: a word and a length that eight bytes hold
+pub record FrameFits (word : ℕ) (body : List ℕ) : Type 0 where
+  pub word_fits : word < 18446744073709551616
+  pub length_fits : length body < 18446744073709551616

@@ -1,0 +1,4 @@
+pub mod Frame
+pub mod Opening
+pub mod Writing
+pub mod Reading

@@ -1,0 +1,79 @@
+//! A frame in one block.
+ghost use Rattle.std.specs.Prelude.{◌≡◌, ℕ, List, IfOk, Ok};
+ghost use Rattle.hlc_frame.specs.Frame.{frame_bytes, FrameFits};
+ghost use Rattle.hlc_frame.specs.Opening.{Reads, frame_at, opened, sealed_at};
+
+use crate::digest::has_digest;
+use crate::fields::{bytes_at, cut};
+use crate::front::{DIGEST_BYTES, FRONT_BYTES, front_at};
+use hlc_wire::WireFault;
+
+/// What a frame holds.
+#[derive(Clone, Copy)]
+pub struct Opened<'a> {
+    /// The caller's word.
+    pub word: u64,
+    /// The body.
+    pub body: &'a [u8],
+}
+
+/// Opens the frame that the bytes spell, all of the bytes.
+///
+/// The first fault from the left is returned: `Short` where a field passes the end, `Version`,
+/// `Damaged`, or `Trailing` where bytes follow the digest. It takes no memory, and hashes the
+/// bytes once.
+pub fn open_frame(bytes: &[u8]) -> Result<Opened<'_>, WireFault>
+    // What is read is spelled so.
+    ensures found { IfOk result (λ frame. FrameFits frame.word frame.body.now
+        × (bytes.now ≡ frame_bytes frame.word frame.body.now)) }
+    // What is spelled so is read.
+    ensures only { (word : ℕ) (body : List ℕ) → FrameFits word body
+        → bytes.now ≡ frame_bytes word body
+        → Reads {Y = ℕ × List ℕ} (λ frame. (frame.word, frame.body.now)) result
+        (Ok (word, body)) }
+    // Which fault it is.
+    ensures exact { Reads (λ frame. (frame.word, frame.body.now)) result (opened bytes.now) }
+{
+    all(bytes)
+}
+
+/// All of the bytes.
+fn all(bytes: &[u8]) -> Result<Opened<'_>, WireFault>
+    ensures { Reads (λ frame. (frame.word, frame.body.now)) result (opened bytes.now) }
+{
+    let (frame, rest) = frame_at(bytes)?;
+    if !rest.is_empty() {
+        return Err(WireFault::Trailing);
+    }
+    Ok(frame)
+}
+
+/// The frame at the start of some bytes, and the bytes after it.
+#[tactic(auto, unfolding(crate::specs::Opening::frame_at))]
+fn frame_at(bytes: &[u8]) -> Result<(Opened<'_>, &[u8]), WireFault>
+    ensures { Reads (λ x. ((x.0.word, x.0.body.now), x.1.now)) result (frame_at bytes.now) }
+{
+    let (front, rest) = front_at(bytes)?;
+    let (start, _) = cut(FRONT_BYTES as u64, bytes);
+    let (body, rest) = sealed_at(start, front.len, rest)?;
+    Ok((
+        Opened {
+            word: front.word,
+            body,
+        },
+        rest,
+    ))
+}
+
+/// The body of so many bytes after this front, and the bytes after its digest.
+#[tactic(auto, unfolding(crate::specs::Opening::sealed_at))]
+fn sealed_at<'a>(front: &[u8], len: u64, bytes: &'a [u8]) -> Result<(&'a [u8], &'a [u8]), WireFault>
+    ensures { Reads (λ x. (x.0.now, x.1.now)) result (sealed_at front.now len bytes.now) }
+{
+    let (body, rest) = bytes_at(len, bytes)?;
+    let (digest, rest) = bytes_at(DIGEST_BYTES as u64, rest)?;
+    if !has_digest(front, body, digest) {
+        return Err(WireFault::Damaged);
+    }
+    Ok((body, rest))
+}

@@ -1,0 +1,86 @@
+//! A frame, read in blocks of any size.
+ghost use Rattle.std.specs.Prelude.{◌≡◌, ◌++◌, List, ℕ, [], take};
+ghost use Rattle.hlc_frame.specs.Opening.{front_at};
+ghost use Rattle.hlc_frame.specs.Reading.{HasRead, GoesOn, body_so_far, length_so_far, word_of};
+
+use crate::front::{FRONT_BYTES, front_at};
+use crate::rest::{RestReader, fill};
+use arrayvec::ArrayVec;
+use hlc_wire::WireFault;
+
+/// A frame that is being read.
+#[derive(Drop)]
+pub struct FrameReader {
+    front: ArrayVec<u8, FRONT_BYTES>,
+    rest: Option<RestReader>,
+}
+
+impl FrameReader {
+    /// Makes a reader that was fed nothing.
+    #[tactic(auto, unfolding(crate::specs::Opening::front_at))]
+    pub fn new() -> FrameReader
+        ensures { HasRead result [] }
+    {
+        FrameReader {
+            front: ArrayVec::new(),
+            rest: None,
+        }
+    }
+
+    /// Takes the next block, of any size, and returns the part of it that belongs to the body.
+    ///
+    /// Of a block before or after the body, and of each block after a wrong version, that is no
+    /// bytes. It takes no memory. No digest vouches for the body until `finish` gives the word.
+    pub fn feed<'b>(&mut self, block: &'b [u8]) -> &'b [u8]
+        ensures read { (fed : List ℕ) → HasRead self.old fed
+            → HasRead self.new (fed ++ block.now) }
+        ensures body { (fed : List ℕ) → HasRead self.old fed
+            → body_so_far fed ++ result.now ≡ body_so_far (fed ++ block.now) }
+    {
+        let rest = fill(&mut self.front, block);
+        if self.rest.is_none() {
+            self.rest = rest_after(self.front.as_slice());
+        }
+        match &mut self.rest {
+            None => &[],
+            Some(reader) => reader.feed(rest),
+        }
+    }
+
+    /// Returns the length of the body, as the front says it, once the front has come.
+    ///
+    /// None before that, and where the version is not 1. No digest vouches for it yet: a damaged
+    /// front may say any length.
+    pub fn length(&self) -> Option<u64>
+        ensures { (fed : List ℕ) → HasRead self.now fed → result ≡ length_so_far fed }
+    {
+        match front_at(self.front.as_slice()) {
+            Err(_) => None,
+            Ok((front, _)) => Some(front.len),
+        }
+    }
+
+    /// Ends the reading, and returns the word of the frame or its first fault.
+    ///
+    /// Both are what `open_frame` would say of all the bytes that were fed.
+    pub fn finish(self) -> Result<u64, WireFault>
+        ensures { (fed : List ℕ) → HasRead self fed → result ≡ word_of fed }
+    {
+        let FrameReader { front, rest } = self;
+        let (found, _) = front_at(front.as_slice())?;
+        match rest {
+            None => Err(WireFault::Short),
+            Some(reader) => reader.finish(found.word),
+        }
+    }
+}
+
+/// A reader of what follows a front, where there is a front.
+fn rest_after(front: &[u8]) -> Option<RestReader>
+    ensures { GoesOn (front_at front.now) result front.now [] }
+{
+    match front_at(front) {
+        Err(_) => None,
+        Ok((found, _)) => Some(RestReader::new(front, found.len)),
+    }
+}

@@ -1,0 +1,89 @@
+//! What follows the front of a frame, read in blocks.
+ghost use Rattle.std.specs.Prelude.{◌≡◌, ◌-◌, ◌++◌, ℕ, List, [], length, take, drop};
+ghost use Rattle.arrayvec.specs.ArrayVec.{array_vec_len};
+ghost use Rattle.hlc_frame.specs.Reading.{HasReadRest, word_after};
+
+use crate::digest::is_digest;
+use crate::fields::cut;
+use crate::front::DIGEST_BYTES;
+use arrayvec::ArrayVec;
+use hlc_wire::WireFault;
+use sha2::{Digest, Sha256};
+
+/// What is known of the bytes after a front.
+#[derive(Drop)]
+pub struct RestReader {
+    hasher: Sha256,
+    left: u64,
+    digest: ArrayVec<u8, DIGEST_BYTES>,
+    more: bool,
+}
+
+impl RestReader {
+    /// Nothing has been read after this front, which promises so many bytes of body.
+    pub fn new(front: &[u8], len: u64) -> RestReader
+        ensures { HasReadRest result front.now len [] }
+    {
+        let mut hasher = Sha256::new();
+        hasher.update(front);
+        RestReader {
+            hasher,
+            left: len,
+            digest: ArrayVec::new(),
+            more: false,
+        }
+    }
+
+    /// Takes the next block, and returns the part of it that belongs to the body.
+    pub fn feed<'b>(&mut self, block: &'b [u8]) -> &'b [u8]
+        ensures read { (front : List ℕ) (len : ℕ) (bytes : List ℕ)
+            → HasReadRest self.old front len bytes
+            → HasReadRest self.new front len (bytes ++ block.now) }
+        ensures body { (front : List ℕ) (len : ℕ) (bytes : List ℕ)
+            → HasReadRest self.old front len bytes
+            → take len bytes ++ result.now ≡ take len (bytes ++ block.now) }
+    {
+        let (body, rest) = cut(self.left, block);
+        self.hasher.update(body);
+        self.left -= body.len() as u64;
+        let rest = fill(&mut self.digest, rest);
+        self.more = self.more || !rest.is_empty();
+        body
+    }
+
+    /// The word, where the bytes are the body, its digest, and nothing more.
+    #[tactic(auto, unfolding(crate::specs::Opening::sealed_at))]
+    pub fn finish(self, word: u64) -> Result<u64, WireFault>
+        ensures { (front : List ℕ) (len : ℕ) (bytes : List ℕ) → HasReadRest self front len bytes
+            → result ≡ word_after word front len bytes }
+    {
+        let RestReader {
+            hasher,
+            left,
+            digest,
+            more,
+        } = self;
+        let found = digest.as_slice();
+        if left > 0 || found.len() < DIGEST_BYTES {
+            return Err(WireFault::Short);
+        }
+        if !is_digest(hasher, found) {
+            return Err(WireFault::Damaged);
+        }
+        if more {
+            return Err(WireFault::Trailing);
+        }
+        Ok(word)
+    }
+}
+
+/// Takes as much of a block as there is room for, and returns the bytes after it.
+pub fn fill<'b, const N: usize>(held: &mut ArrayVec<u8, N>, block: &'b [u8]) -> &'b [u8]
+    ensures held { held.new.items ≡ take N (held.old.items ++ block.now) }
+    ensures rest { result.now ≡ drop (N - length held.old.items) block.now }
+{
+    let room = held.remaining_capacity();
+    let (front, rest) = cut(room as u64, block);
+    let _ = held.try_extend_from_slice(front);
+    rest
+}
