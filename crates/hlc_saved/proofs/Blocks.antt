@@ -1,0 +1,175 @@
+-- A checkpoint that is read in blocks is the one that is read at once.
+use Rattle.std.proofs.Common.{◌≡◌, ℕ, ◌+◌, ◌-◌, ◌<◌, ◌≤◌, cond, List, [], ◌++◌, length, take, drop}
+use Rattle.std.proofs.Common.{Result, Ok, Err, refl, sym, ap, ◌∙◌, arith, append_assoc, inl, inr, length-append}
+use Rattle.std.specs.Prelude.{OnOk, OnErr}
+use Rattle.std.specs.Result.{is_ok}
+use Rattle.std.proofs.lemmas.Bool.{cases_lt}
+use Rattle.std.proofs.lemmas.List.{append-nil, take-append-drop, take-append-le, length-take, length-drop}
+use Rattle.std.proofs.lemmas.List.{get_or_append_left, get_or-append_right}
+use Rattle.hlc_core.specs.Kept.{Kept}
+use Rattle.hlc_wire.specs.declared.fault.WireFault.{WireFault}
+use Rattle.hlc_wire.specs.Reading.{◌>>=◌, whole}
+use Rattle.hlc_wire.proofs.FieldLemmas.{IsBytes, bind_ok, ok_is, done}
+use Rattle.hlc_frame.specs.declared.front.Front.{Front}
+use Rattle.hlc_frame.specs.Opening.{front_at, opened}
+use Rattle.hlc_frame.specs.Reading.{body_after, body_so_far, word_of}
+use Rattle.hlc_frame.specs.Reading as frames
+use Rattle.hlc_frame.proofs.ListLemmas.{drop_over}
+use Rattle.hlc_frame.proofs.FrontLemmas.{with_rest}
+use Rattle.hlc_frame.proofs.BlockLemmas.{body_cut}
+use Rattle.hlc_frame.proofs.FrameLemmas.{opened_body}
+use Rattle.hlc_saved.specs.declared.stage.Stage.{Stage}
+use Rattle.hlc_saved.specs.declared.parts.PartsReader.{PartsReader}
+use Rattle.hlc_saved.specs.declared.reader.CheckpointReader.{CheckpointReader}
+use Rattle.hlc_saved.specs.Reading.{checkpoint_at, saved}
+use Rattle.hlc_saved.specs.Blocks.{rest_of, parts_left, HasRead}
+use Rattle.hlc_saved.proofs.Stages.{dropped_back}
+
+-- ---- what is pending
+
+-- the bytes that are left are the last ones of all
+pub pending_back : (bytes : List ℕ) (at : ℕ) (rest : List ℕ) → (front : List ℕ) × (drop at bytes ≡ front ++ rest)
+    → drop (length bytes - length rest) bytes ≡ rest
+pending_back bytes at rest back =
+    dropped_back bytes rest (
+      take at bytes ++ back.0,
+      sym (take-append-drop at bytes) ∙ ap (λ (l : List ℕ). take at bytes ++ l) back.1
+          ∙ sym (append_assoc (take at bytes) back.0 rest),
+    )
+
+pub taken : {E : Type 0} (r : Result (Unit {0}) E) (stage : Stage) (at : ℕ) (old new bytes more : List ℕ) → at ≡ 0
+    → new ≡ cond (is_ok r) (old ++ bytes) old
+    → OnOk r (rest_of stage (drop at new ++ more) ≡ rest_of stage (drop at old ++ (bytes ++ more)))
+taken (Err e) stage at old new bytes more none is = tt
+taken (Ok u) stage at old new bytes more none is =
+    ap (rest_of stage) (
+    ap (λ (l : List ℕ). drop at l ++ more) is
+    ∙ ap (λ (n : ℕ). drop n (old ++ bytes) ++ more) none
+    ∙ append_assoc old bytes more
+    ∙ ap (λ (n : ℕ). drop n old ++ (bytes ++ more)) (sym none)
+    )
+
+-- ---- the frame
+
+pub nothing_fed : body_so_far [] ≡ []
+unfolding body_so_far front_at
+nothing_fed = refl
+
+-- as much of the body as follows a front
+abbrev body_of : Result (Front × List ℕ) WireFault → List ℕ → List ℕ
+body_of found rest = body_after (found >>= with_rest rest)
+
+body_short : (found : Result (Front × List ℕ) WireFault) (rest : List ℕ) → length (body_of found rest) ≤ length rest
+body_short (Ok front) rest = omega (arith, length-take front.0.len rest)
+body_short (Err fault) rest = omega arith
+
+body_more : (found : Result (Front × List ℕ) WireFault) (rest block : List ℕ)
+    → length (body_of found (rest ++ block)) ≤ length (body_of found rest) + length block
+body_more (Ok front) rest block =
+    omega (arith, length-take front.0.len rest, length-take front.0.len (rest ++ block), length-append rest block)
+body_more (Err fault) rest block = omega arith
+
+none_left : (n : ℕ) → 20 ≤ n → 20 - n ≡ 0
+none_left n le = omega arith
+
+-- a block brings no more of the body than its bytes
+pub body_grows : (fed block : List ℕ) → length (body_so_far (fed ++ block)) ≤ length (body_so_far fed) + length block
+body_grows fed block =
+    let now : length (body_so_far (fed ++ block))
+    ≡ length (body_of (front_at (take 20 (fed ++ block))) (drop 20 (fed ++ block))) =
+    ap length (body_cut (fed ++ block)) in
+    let before : length (body_so_far fed) ≡ length (body_of (front_at (take 20 fed)) (drop 20 fed)) =
+    ap length (body_cut fed) in
+    elim (cases_lt (length fed) 20) [
+      | inl lt ↦
+          let short = body_short (front_at (take 20 (fed ++ block))) (drop 20 (fed ++ block)) in
+          let d = length-drop 20 (fed ++ block) in
+          let a = length-append fed block in
+          omega (arith, now, short, d, a)
+      | inr le ↦
+          let same : take 20 (fed ++ block) ≡ take 20 fed = take-append-le 20 fed block le in
+          let over : drop 20 (fed ++ block) ≡ drop 20 fed ++ block =
+          drop_over 20 fed block ∙ ap (λ (n : ℕ). drop 20 fed ++ drop n block) (none_left (length fed) le) in
+          let more = body_more (front_at (take 20 fed)) (drop 20 fed) block in
+          let moved : length (body_of (front_at (take 20 (fed ++ block))) (drop 20 (fed ++ block)))
+          ≡ length (body_of (front_at (take 20 fed)) (drop 20 fed ++ block)) =
+          ap (λ (l : List ℕ). length (body_of (front_at l) (drop 20 (fed ++ block)))) same
+          ∙ ap (λ (l : List ℕ). length (body_of (front_at (take 20 fed)) l)) over in
+          omega (arith, now, before, more, moved)
+    ]
+
+pub piece_short : (fed block piece : List ℕ) → body_so_far fed ++ piece ≡ body_so_far (fed ++ block)
+    → length piece ≤ length block
+piece_short fed block piece e =
+    let grows = body_grows fed block in
+    let l = length-append (body_so_far fed) piece in
+    let same : length (body_so_far fed ++ piece) ≡ length (body_so_far (fed ++ block)) = ap length e in
+    omega (arith, grows, l, same)
+
+-- ---- a block
+
+both_bytes : (fed block : List ℕ) → IsBytes fed → IsBytes block → IsBytes (fed ++ block)
+both_bytes fed block a b i =
+    elim (cases_lt i (length fed)) [
+      | inl lt ↦ rw (get_or_append_left fed block 0 i lt) (a i)
+      | inr le ↦ rw (get_or-append_right fed block (length fed) i 0 refl le) (b (i - length fed))
+    ]
+
+pub fed_on : {E : Type 0} (r : Result (Unit {0}) E) (old new : CheckpointReader) (fed block piece : List ℕ)
+    (middle after : PartsReader) → HasRead old fed → frames.HasRead new.frame (fed ++ block)
+    → body_so_far fed ++ piece ≡ body_so_far (fed ++ block) → IsBytes block → new.parts ≡ after
+    → ((more : List ℕ) → parts_left middle more ≡ parts_left old.parts more)
+    → ((more : List ℕ) → OnOk r (parts_left after more ≡ parts_left middle (piece ++ more)))
+    → OnOk r (HasRead new (fed ++ block))
+fed_on (Err e) old new fed block piece middle after has frame body bytes is same step = tt
+fed_on (Ok u) old new fed block piece middle after has frame body bytes is same step = record {
+  frame = frame;
+  bytes = both_bytes fed block has.bytes bytes;
+  body = λ more.
+      ap (λ (l : List ℕ). checkpoint_at (l ++ more)) (sym body)
+      ∙ ap checkpoint_at (append_assoc (body_so_far fed) piece more)
+      ∙ has.body (piece ++ more) ∙ sym (same (piece ++ more)) ∙ sym (step more)
+      ∙ ap (λ (p : PartsReader). parts_left p more) (sym is);
+}
+
+-- there is room for a piece of a block
+pub fed_not : {E : Type 0} (P : Type 0) (r : Result (Unit {0}) E) (fed block piece : List ℕ) (len room : ℕ)
+    → body_so_far fed ++ piece ≡ body_so_far (fed ++ block) → len + length block ≤ room
+    → OnErr r (room < len + length piece) → OnErr r P
+fed_not P (Ok u) fed block piece len room body enough full = tt
+fed_not P (Err e) fed block piece len room body enough full =
+    let short = piece_short fed block piece body in
+    absurd (omega (arith, short, enough, full))
+
+-- ---- the end
+
+word_read : (fed : List ℕ) (word : ℕ) → word_of fed ≡ Ok word
+    → saved fed ≡ (whole (checkpoint_at (body_so_far fed)) >>= λ kept. Ok (word, kept))
+word_read fed word e =
+    let x = bind_ok (opened fed) (λ frame. Ok frame.0) word e in
+    let same : x.0.0 ≡ word = ok_is x.0.0 word x.2 in
+    let body : body_so_far fed ≡ x.0.1 = opened_body fed x.0.0 x.0.1 x.1 in
+    ap (λ (r : Result (ℕ × List ℕ) WireFault). r >>= λ frame. whole (checkpoint_at frame.1) >>= λ kept. done
+    (frame.0, kept)) x.1
+    ∙ ap (λ (l : List ℕ). whole (checkpoint_at l) >>= λ kept. done (x.0.0, kept)) (sym body)
+    ∙ ap (λ (n : ℕ). whole (checkpoint_at (body_so_far fed)) >>= λ kept. done (n, kept)) same
+
+-- what was fed, from the word and what is left to read
+pub saved_fed : (reader : CheckpointReader) (fed : List ℕ) (word : ℕ) → HasRead reader fed → word_of fed ≡ Ok word
+    → saved fed ≡ (whole (parts_left reader.parts []) >>= λ kept. Ok (word, kept))
+saved_fed reader fed word has e =
+    word_read fed word e
+    ∙ ap (λ (l : List ℕ). whole (checkpoint_at l) >>= λ kept. done (word, kept)) (sym (append-nil (body_so_far fed)))
+    ∙ ap (λ (r : Result (Kept × List ℕ) WireFault). whole r >>= λ kept. done (word, kept)) (has.body [])
+
+pub saved_ok : (reader : CheckpointReader) (fed : List ℕ) (word : ℕ) (kept : Kept) → HasRead reader fed
+    → word_of fed ≡ Ok word → whole (parts_left reader.parts []) ≡ Ok kept → saved fed ≡ Ok (word, kept)
+saved_ok reader fed word kept has e read =
+    saved_fed reader fed word has e
+    ∙ ap (λ (r : Result Kept WireFault). r >>= λ k. done (word, k)) read
+
+pub saved_err : (reader : CheckpointReader) (fed : List ℕ) (word : ℕ) (fault : WireFault) → HasRead reader fed
+    → word_of fed ≡ Ok word → whole (parts_left reader.parts []) ≡ Err fault → saved fed ≡ Err fault
+saved_err reader fed word fault has e read =
+    saved_fed reader fed word has e
+    ∙ ap (λ (r : Result Kept WireFault). r >>= λ k. done (word, k)) read

@@ -1,0 +1,8 @@
+pub mod ListLemmas
+pub mod PartLemmas
+mod Steady
+mod Stages
+mod Sizes
+mod Blocks
+pub mod Saves
+mod Pieces

@@ -1,0 +1,93 @@
+-- How many bytes the parts of a checkpoint take.
+use Rattle.std.proofs.Common.{◌≡◌, ℕ, ◌+◌, ◌*◌, ◌<◌, ◌≤◌, Bool, true, false, List, [], ◌∷◌, ◌++◌, length, take}
+use Rattle.std.proofs.Common.{get_or, refl}
+use Rattle.std.proofs.Common.{sym, ap, subst, ◌∙◌, arith, length-append}
+use Rattle.std.specs.List.{flat_map}
+use Rattle.std.specs.Prelude.{Option, SomeIff}
+use Rattle.std.specs.Int.{w16, w64, to_be_bytes}
+use Rattle.std.proofs.lemmas.Grind.{flat_map-append}
+use Rattle.std.proofs.lemmas.List.{append-nil, take_more}
+use Rattle.std.proofs.lemmas.List.Concat.{flat_map-cons}
+use Rattle.std.proofs.lemmas.List.Folds.{length-flat_map-take}
+use Rattle.hlc_intake.specs.Progress.{Progress}
+use Rattle.hlc_snapshot.specs.declared.snapshot.Snapshot.{Snapshot}
+use Rattle.hlc_core.specs.Kept.{Kept}
+use Rattle.hlc_wire.specs.Spelling.{flag_bytes}
+use Rattle.hlc_saved.specs.Spelling.{link_bytes, snapshot_bytes, row_bytes, list_bytes, Preamble, preamble_bytes}
+use Rattle.hlc_saved.specs.Spelling.{preamble_of, checkpoint_bytes}
+
+-- each takes as many
+each_takes : {A : Type 0} (spell : A → List ℕ) (n : ℕ) → ((a : A) → length (spell a) ≡ n) → (xs : List A)
+    → length (flat_map spell xs) ≡ n * length xs
+each_takes spell n each [] = omega arith
+each_takes spell n each (x ∷ xs) =
+    let e = each x in
+    let t = each_takes spell n each xs in
+    let c = ap length (flat_map-cons spell x xs) in
+    let l = length-append (spell x) (flat_map spell xs) in
+    omega (arith, e, t, c, l)
+
+flag_takes : (flag : Bool) → length (flag_bytes flag) ≡ 1
+flag_takes true = refl
+flag_takes false = refl
+
+link_takes : (link : Progress) → length (link_bytes link) ≡ 17
+link_takes link =
+    let one = flag_takes link.retired in
+    omega (arith, one)
+
+pub links_take : (links : List Progress) → length (flat_map link_bytes links) ≡ 17 * length links
+links_take links = each_takes link_bytes 17 link_takes links
+
+pub snapshots_take : (snapshots : List Snapshot) → length (flat_map snapshot_bytes snapshots) ≡ 16 * length snapshots
+snapshots_take snapshots = each_takes snapshot_bytes 16 (λ snapshot. refl) snapshots
+
+-- what stands before the rows
+pub preamble_takes : (p : Preamble) → length (preamble_bytes p) ≡ 30 + 17 * length p.links + 16 * length p.snapshots
+preamble_takes p =
+    let ls : List ℕ = flat_map link_bytes p.links in
+    let ss : List ℕ = flat_map snapshot_bytes p.snapshots in
+    let numbers : List ℕ = to_be_bytes w64 p.opened ++ (to_be_bytes w64 p.horizon ++ to_be_bytes w64 p.count) in
+    let later : List ℕ = list_bytes w16 snapshot_bytes p.snapshots ++ numbers in
+    let a = links_take p.links in
+    let b = snapshots_take p.snapshots in
+    let e : length (ls ++ later) ≡ length ls + length later = length-append ls later in
+    let f : length (ss ++ numbers) ≡ length ss + length numbers = length-append ss numbers in
+    omega (arith, a, b, e, f)
+
+a_sum : (whole before after ls ss links snapshots : ℕ) (rows : ℕ) → whole ≡ before + after
+    → before ≡ 30 + 17 * links + 16 * snapshots → rows ≡ after → ls ≡ 2 + 17 * links → ss ≡ 2 + 16 * snapshots
+    → rows + (26 + ls + ss) ≡ whole
+a_sum whole before after ls ss links snapshots rows a b c d e = omega arith
+
+-- all of it
+pub all_take : (kept : Kept) (rows ls ss : ℕ) → rows ≡ length (flat_map row_bytes kept.rows)
+    → ls ≡ 2 + 17 * length kept.links → ss ≡ 2 + 16 * length kept.snapshots
+    → rows + (26 + ls + ss) ≡ length (checkpoint_bytes kept)
+all_take kept rows ls ss a b c =
+    let whole : length (checkpoint_bytes kept)
+    ≡ length (preamble_bytes (preamble_of kept)) + length (flat_map row_bytes kept.rows) =
+    length-append (preamble_bytes (preamble_of kept)) (flat_map row_bytes kept.rows) in
+    let before = preamble_takes (preamble_of kept) in
+    a_sum _ _ _ ls ss _ _ rows whole before a b c
+
+pub some_iff : (r : Option ℕ) (n m : ℕ) → n ≡ m → SomeIff r (n < 18446744073709551616) n
+    → SomeIff r (m < 18446744073709551616) m
+some_iff r n m e h = subst (λ (k : ℕ). SomeIff r (k < 18446744073709551616) k) e h
+
+-- one more
+pub size_on : {A : Type 0} (spell : A → List ℕ) (xs : List A) (i : ℕ) (x : A) → i < length xs → x ≡ get_or xs i x
+    → length (flat_map spell (take i xs)) + length (spell x) ≡ length (flat_map spell (take (i + 1) xs))
+size_on spell xs i x lt is =
+    let more : flat_map spell (take i xs) ++ spell x ≡ flat_map spell (take (i + 1) xs) =
+    ap (λ t. flat_map spell (take i xs) ++ t) (sym (append-nil (spell x)))
+    ∙ sym (flat_map-append spell (take i xs) (x ∷ []))
+    ∙ ap (flat_map spell) (sym (take_more xs i x lt ∙ ap (λ y. take i xs ++ y ∷ []) (sym is))) in
+    sym (length-append (flat_map spell (take i xs)) (spell x)) ∙ ap length more
+
+pub size_within : {A : Type 0} (spell : A → List ℕ) (xs : List A) (i : ℕ) (x : A) → i < length xs → x ≡ get_or xs i x
+    → length (flat_map spell (take i xs)) + length (spell x) ≤ length (flat_map spell xs)
+size_within spell xs i x lt is =
+    let w = length-flat_map-take spell xs i x lt in
+    let e : length (spell x) ≡ length (spell (get_or xs i x)) = ap (λ y. length (spell y)) is in
+    omega (arith, w, e)

@@ -1,0 +1,11 @@
+-- The text of each fault.
+use Rattle.std.specs.Prelude.{ℕ, List, codes}
+use Rattle.hlc_core.specs.RestoreFaults as reasons
+use Rattle.hlc_wire.specs.Faults.{fault_text}
+use Rattle.hlc_saved.specs.declared.fault.ResumeError.{ResumeError}
+use Rattle.hlc_saved.specs.declared.fault.ResumeError.TheVariants.{NoMemory, Bytes, Parts}
+
+abbrev pub resume_text : ResumeError → List ℕ
+resume_text NoMemory = codes "out of memory"
+resume_text (Bytes fault) = fault_text fault
+resume_text (Parts fault) = reasons.fault_text fault

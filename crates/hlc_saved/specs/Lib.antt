@@ -1,0 +1,6 @@
+pub mod Spelling
+pub mod Reading
+pub mod Saved
+pub mod Writing
+pub mod Blocks
+pub mod Faults

@@ -1,0 +1,52 @@
+//! Why no store is made of some bytes.
+ghost use Rattle.std.specs.Prelude.{◌≡◌, Some};
+ghost use Rattle.std.proofs.Common.{rules};
+ghost use Rattle.std.proofs.lemmas.Grind.{common_steps};
+ghost use Rattle.hlc_saved.specs.Faults.{resume_text};
+
+use hlc_core::RestoreFault;
+use hlc_values::{Exact, NoMemory};
+use hlc_wire::WireFault;
+use std::error::Error;
+use std::fmt;
+
+/// Why no store is made of some bytes.
+#[derive(Clone, Copy, Debug, PartialEq, Eq)]
+pub enum ResumeError {
+    /// Memory ran out.
+    NoMemory,
+    /// The bytes are no frame, or its body does not spell the parts of a checkpoint.
+    Bytes(WireFault),
+    /// The parts that they spell are no checkpoint. Never `RestoreFault::NoMemory`.
+    Parts(RestoreFault),
+}
+
+impl fmt::Display for ResumeError {
+    ghost output = { λ error. Some (resume_text error) };
+
+    fn fmt<W: fmt::Write>(&self, f: &mut fmt::Formatter<W>) -> fmt::Result {
+        match self {
+            ResumeError::NoMemory => f.write_str("out of memory"),
+            ResumeError::Bytes(fault) => write!(f, "{fault}"),
+            ResumeError::Parts(fault) => write!(f, "{fault}"),
+        }
+    }
+}
+
+impl Error for ResumeError {}
+
+impl Exact for ResumeError {
+    ghost equal = { Prim.search (rules, common_steps) };
+
+    ghost copied = { Prim.search rules };
+}
+
+impl From<NoMemory> for ResumeError {
+    ghost use Rattle.hlc_saved.specs.declared.fault.ResumeError.TheVariants.{NoMemory as no_memory};
+
+    ghost from_gives = { λ _ error. error ≡ no_memory };
+
+    fn from(_error: NoMemory) -> ResumeError {
+        ResumeError::NoMemory
+    }
+}

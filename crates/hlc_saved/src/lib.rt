@@ -1,0 +1,29 @@
+//! Checkpoints as bytes in a frame: each has one spelling, which is written and read back, and no
+//! other bytes are read. So a store goes from one machine to another, or to a disk and back.
+#![tactic(auto)]
+
+mod bytes;
+mod decode;
+mod fault;
+mod laws;
+mod parts;
+mod preamble;
+mod reader;
+mod reading;
+mod saving;
+mod size;
+mod stage;
+#[cfg(test)]
+mod tests;
+mod writer;
+mod writing;
+
+pub use decode::{Decoded, decode_checkpoint};
+pub use fault::ResumeError;
+pub use hlc_core::{Checkpoint, Core, RestoreFault, Row};
+pub use hlc_values::NoMemory;
+pub use hlc_wire::{DecodeError, WireFault};
+pub use laws::pieces_are_the_bytes;
+pub use reader::CheckpointReader;
+pub use saving::{Resumed, copy_by_bytes, resume, save};
+pub use writer::{CheckpointWriter, encode_checkpoint};

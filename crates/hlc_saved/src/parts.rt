@@ -1,0 +1,94 @@
+//! The body of a checkpoint, read in blocks.
+ghost use Rattle.std.specs.Prelude.{◌≡◌, ◌<◌, ◌≤◌, ◌+◌, ◌++◌, [], List, ℕ, OnOk, OnErr, length, drop};
+ghost use Rattle.std.specs.Vec.{vec_len, vec_capacity};
+ghost use Rattle.hlc_wire.specs.Reading.{Gives, whole};
+ghost use Rattle.hlc_saved.specs.Reading.{checkpoint_at};
+ghost use Rattle.hlc_saved.specs.Blocks.{parts_left, IsStuck};
+
+use crate::bytes::bytes_from;
+use crate::stage::{Advanced, Stage, advance, finish};
+use hlc_core::Checkpoint;
+use hlc_values::NoMemory;
+use hlc_wire::DecodeError;
+use std::alloc::Global;
+use std::mem;
+
+/// What was read, and the bytes that are pending: those from `at` on are not read yet.
+#[derive(Drop)]
+pub struct PartsReader {
+    alloc: Global,
+    stage: Stage,
+    pending: Vec<u8>,
+    at: usize,
+}
+
+impl PartsReader {
+    /// Nothing was read.
+    pub fn new(alloc: Global) -> PartsReader
+        ensures { (more : List ℕ) → parts_left result more ≡ checkpoint_at more }
+    {
+        PartsReader {
+            alloc,
+            stage: Stage::Start,
+            pending: Vec::new(alloc),
+            at: 0,
+        }
+    }
+
+    /// Reads as far as the pending bytes go. Where memory runs out, it has read less far.
+    pub fn advance(&mut self) -> Result<(), NoMemory>
+        ensures same { (more : List ℕ) → parts_left self.new more ≡ parts_left self.old more }
+        ensures stuck { OnOk result
+            (IsStuck self.new.stage (drop self.new.at self.new.pending.items)) }
+    {
+        let stage = mem::replace(&mut self.stage, Stage::Start);
+        let Advanced { stage, rest, end } = advance(
+            self.alloc,
+            stage,
+            bytes_from(self.pending.as_slice(), self.at),
+        );
+        self.at = self.pending.len() - rest.len();
+        self.stage = stage;
+        end
+    }
+
+    /// Makes room for so many bytes, and drops those that were read.
+    pub fn make_room(&mut self, count: usize) -> Result<(), NoMemory>
+        ensures same { (more : List ℕ) → parts_left self.new more ≡ parts_left self.old more }
+        ensures room { OnOk result
+            (vec_len self.new.pending + count ≤ vec_capacity self.new.pending) }
+        ensures start { OnOk result (self.new.at ≡ 0) }
+    {
+        let left = bytes_from(self.pending.as_slice(), self.at);
+        let mut kept = Vec::with_capacity(self.alloc, left.len().saturating_add(count))?;
+        kept.extend_from_slice(left)?;
+        kept.reserve(count)?;
+        self.pending = kept;
+        self.at = 0;
+        Ok(())
+    }
+
+    /// Takes the next bytes, after room was made.
+    pub fn take(&mut self, bytes: &[u8]) -> Result<(), NoMemory>
+        requires { self.old.at ≡ 0 }
+        ensures ok { (more : List ℕ)
+            → OnOk result (parts_left self.new more ≡ parts_left self.old (bytes.now ++ more)) }
+        ensures full { OnErr result
+            (vec_capacity self.old.pending < vec_len self.old.pending + length bytes.now) }
+    {
+        self.pending.extend_from_slice(bytes)
+    }
+
+    /// The checkpoint, where all bytes were taken.
+    pub fn finish(self) -> Result<Checkpoint, DecodeError>
+        ensures { Gives (λ made. made) result (whole (parts_left self [])) }
+    {
+        let PartsReader {
+            alloc,
+            stage,
+            pending,
+            at,
+        } = self;
+        finish(alloc, stage, bytes_from(pending.as_slice(), at))
+    }
+}

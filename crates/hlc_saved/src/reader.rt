@@ -1,0 +1,74 @@
+//! A checkpoint that is read in blocks of any size.
+ghost use Rattle.std.specs.Prelude.{◌≡◌, ◌++◌, [], List, ℕ, OnOk, OnErr};
+ghost use Rattle.hlc_saved.specs.Saved.{Resumes};
+ghost use Rattle.hlc_saved.specs.Blocks.{HasRead};
+
+use crate::fault::ResumeError;
+use crate::parts::PartsReader;
+use crate::saving::{Resumed, restored};
+use hlc_frame::FrameReader;
+use hlc_values::NoMemory;
+use hlc_wire::DecodeError;
+use std::alloc::Global;
+
+/// A checkpoint that is being read.
+///
+/// It holds the rows that were read, and of the bytes at most a block and what is left of a row; while
+/// it takes a block, for a moment twice that. Until all that stands before the rows has come, each
+/// block reads it anew.
+#[derive(Drop)]
+pub struct CheckpointReader {
+    alloc: Global,
+    frame: FrameReader,
+    parts: PartsReader,
+}
+
+impl CheckpointReader {
+    /// Makes a reader that was fed nothing.
+    pub fn new(alloc: Global) -> CheckpointReader
+        ensures { HasRead result [] }
+    {
+        CheckpointReader {
+            alloc,
+            frame: FrameReader::new(),
+            parts: PartsReader::new(alloc),
+        }
+    }
+
+    /// Takes the next block, of any size. Where memory runs out, it was not taken, and may be fed
+    /// again.
+    ///
+    /// No fault is reported before `finish`: no digest vouches for a block yet.
+    pub fn feed(&mut self, block: &[u8]) -> Result<(), NoMemory>
+        ensures ok { (fed : List ℕ) → HasRead self.old fed
+            → OnOk result (HasRead self.new (fed ++ block.now)) }
+        ensures err { (fed : List ℕ) → HasRead self.old fed
+            → OnErr result (HasRead self.new fed) }
+    {
+        self.parts.advance()?;
+        self.parts.make_room(block.len())?;
+        let piece = self.frame.feed(block);
+        self.parts.take(piece)
+    }
+
+    /// The store and the word, or the first fault, as `resume` gives them for all that was fed.
+    pub fn finish(self) -> Result<Resumed, ResumeError>
+        ensures { (fed : List ℕ) → HasRead self fed → Resumes fed result }
+    {
+        let CheckpointReader {
+            alloc,
+            frame,
+            parts,
+        } = self;
+        let word = match frame.finish() {
+            Ok(word) => word,
+            Err(fault) => return Err(ResumeError::Bytes(fault)),
+        };
+        let checkpoint = match parts.finish() {
+            Ok(checkpoint) => checkpoint,
+            Err(DecodeError::NoMemory) => return Err(ResumeError::NoMemory),
+            Err(DecodeError::Fault(fault)) => return Err(ResumeError::Bytes(fault)),
+        };
+        restored(alloc, checkpoint, word)
+    }
+}

@@ -1,0 +1,171 @@
+//! A checkpoint that is written whole, or in pieces.
+ghost use Rattle.std.specs.Prelude.{◌≡◌, ◌++◌, ◌∷◌, [], ℕ, List, IfOk, IfErr, OnOk, OnErr, length};
+ghost use Rattle.std.specs.List.{flat_map};
+ghost use Rattle.hlc_node.specs.declared.row.Row.{Row as ARow};
+ghost use Rattle.hlc_witness.specs.Cost.{IsInLimits, AreInLimits};
+ghost use Rattle.hlc_core.specs.Kept.{Kept};
+ghost use Rattle.hlc_core.specs.Checkpoint.{IsCheckpoint, IsFirstReason};
+ghost use Rattle.hlc_saved.specs.Spelling.{row_bytes, checkpoint_bytes, saved_bytes, CheckpointFits, SavedFits};
+ghost use Rattle.hlc_saved.specs.Writing.{HasWritten, begin_bytes, end_bytes};
+
+use crate::bytes::bytes_from;
+use crate::preamble::put_preamble;
+use crate::size::checkpoint_size;
+use crate::writing::put_row;
+use hlc_core::{Checkpoint, RestoreFault, Row};
+use hlc_frame::{DIGEST_BYTES, FRONT_BYTES, FrameWriter};
+use hlc_values::NoMemory;
+use std::alloc::Global;
+
+/// The one spelling of a checkpoint and a word, which is the caller's: say, up to which place in its
+/// log the store has applied it.
+///
+/// Refused for the first reason why it is no checkpoint; then out of memory. The bytes are allocated
+/// once.
+pub fn encode_checkpoint(
+    alloc: Global,
+    checkpoint: &Checkpoint,
+    word: u64,
+) -> Result<Vec<u8>, RestoreFault>
+    ensures sound { IfOk result (λ _. IsCheckpoint checkpoint.now) }
+    ensures fits { IfOk result (λ _. SavedFits word checkpoint.now) }
+    ensures spelled { IfOk result (λ bytes. bytes.items ≡ saved_bytes word checkpoint.now) }
+    ensures err { IfErr result (IsFirstReason checkpoint.now) }
+{
+    if let Some(fault) = checkpoint.fault() {
+        return Err(fault);
+    }
+    Ok(encoded(alloc, checkpoint, word)?)
+}
+
+/// The bytes of what is a checkpoint.
+pub(crate) fn encoded(
+    alloc: Global,
+    checkpoint: &Checkpoint,
+    word: u64,
+) -> Result<Vec<u8>, NoMemory>
+    requires { IsCheckpoint checkpoint.now }
+    ensures fits { IfOk result (λ _. SavedFits word checkpoint.now) }
+    ensures spelled { IfOk result (λ bytes. bytes.items ≡ saved_bytes word checkpoint.now) }
+{
+    let size = checkpoint_size(checkpoint).ok_or(NoMemory)?;
+    let mut out = Vec::with_capacity(alloc, whole_size(size)?)?;
+    let mut writer = CheckpointWriter::begin_sized(&mut out, checkpoint, size, word)?;
+    writer.rows(&mut out, checkpoint.rows())?;
+    writer.end(&mut out)?;
+    Ok(out)
+}
+
+/// How many bytes a frame takes that has so many in its body.
+fn whole_size(size: u64) -> Result<usize, NoMemory> {
+    let framed = size
+        .checked_add((FRONT_BYTES + DIGEST_BYTES) as u64)
+        .ok_or(NoMemory)?;
+    Ok(framed as usize)
+}
+
+/// A checkpoint that is being written: all before its rows is written, and they come one by one.
+///
+/// The caller hands in the rows of the checkpoint in turn, each once. What is appended in all is then
+/// what `encode_checkpoint` returns. Other rows make a frame of other rows, or no frame. The caller may
+/// write out what was appended, and clear it, between any two calls.
+#[derive(Drop)]
+pub struct CheckpointWriter {
+    frame: FrameWriter,
+    piece: Vec<u8>,
+}
+
+impl CheckpointWriter {
+    /// Appends all that stands before the rows.
+    ///
+    /// Refused for the first reason why it is no checkpoint; then out of memory. `out` is unchanged
+    /// then. It looks at each row, to check it and to add up its length.
+    pub fn begin(
+        out: &mut Vec<u8>,
+        checkpoint: &Checkpoint,
+        word: u64,
+    ) -> Result<CheckpointWriter, RestoreFault>
+        ensures sound { IfOk result (λ _. IsCheckpoint checkpoint.now) }
+        ensures fits { IfOk result (λ _. SavedFits word checkpoint.now) }
+        ensures written { IfOk result (λ writer. HasWritten writer word checkpoint.now []) }
+        ensures ok { OnOk result
+            (out.new.items ≡ out.old.items ++ begin_bytes word checkpoint.now) }
+        ensures err { IfErr result (IsFirstReason checkpoint.now) }
+        ensures unchanged { OnErr result (out.new.items ≡ out.old.items) }
+    {
+        if let Some(fault) = checkpoint.fault() {
+            return Err(fault);
+        }
+        let size = match checkpoint_size(checkpoint) {
+            None => return Err(RestoreFault::NoMemory),
+            Some(size) => size,
+        };
+        Ok(CheckpointWriter::begin_sized(out, checkpoint, size, word)?)
+    }
+
+    /// Appends all that stands before the rows of what is a checkpoint.
+    fn begin_sized(
+        out: &mut Vec<u8>,
+        checkpoint: &Checkpoint,
+        size: u64,
+        word: u64,
+    ) -> Result<CheckpointWriter, NoMemory>
+        requires sound { IsCheckpoint checkpoint.now }
+        requires size { size ≡ length (checkpoint_bytes checkpoint.now) }
+        ensures written { IfOk result (λ writer. HasWritten writer word checkpoint.now []) }
+        ensures ok { OnOk result
+            (out.new.items ≡ out.old.items ++ begin_bytes word checkpoint.now) }
+        ensures unchanged { OnErr result (out.new.items ≡ out.old.items) }
+    {
+        let alloc = *out.allocator();
+        let mut piece = Vec::new(alloc);
+        let mut frame = FrameWriter::begin(&mut piece, size, word)?;
+        put_preamble(&mut piece, checkpoint)?;
+        frame.put(bytes_from(piece.as_slice(), FRONT_BYTES));
+        out.extend_from_slice(piece.as_slice())?;
+        Ok(CheckpointWriter { frame, piece })
+    }
+
+    /// Appends a row. Where memory runs out, `out` and the writer are unchanged, and the row may be
+    /// handed in again.
+    pub fn row(&mut self, out: &mut Vec<u8>, row: &Row) -> Result<(), NoMemory>
+        requires { IsInLimits row.now }
+        ensures written { (word : ℕ) (kept : Kept) (rows : List ARow)
+            → HasWritten self.old word kept rows
+            → OnOk result (HasWritten self.new word kept (rows ++ row.now ∷ [])) }
+        ensures ok { OnOk result (out.new.items ≡ out.old.items ++ row_bytes row.now) }
+        ensures waits { (word : ℕ) (kept : Kept) (rows : List ARow)
+            → HasWritten self.old word kept rows
+            → OnErr result (HasWritten self.new word kept rows) }
+        ensures unchanged { OnErr result (out.new.items ≡ out.old.items) }
+    {
+        self.piece.clear();
+        put_row(&mut self.piece, row)?;
+        out.extend_from_slice(self.piece.as_slice())?;
+        self.frame.put(self.piece.as_slice());
+        Ok(())
+    }
+
+    /// Appends some rows.
+    fn rows(&mut self, out: &mut Vec<u8>, rows: &[Row]) -> Result<(), NoMemory>
+        requires { AreInLimits rows.now }
+        ensures written { (word : ℕ) (kept : Kept) → HasWritten self.old word kept []
+            → OnOk result (HasWritten self.new word kept rows.now) }
+        ensures ok { OnOk result (out.new.items ≡ out.old.items ++ flat_map row_bytes rows.now) }
+    {
+        for row in rows {
+            self.row(out, row)?;
+        }
+        Ok(())
+    }
+
+    /// Appends the digest, which ends the frame. `out` is unchanged where memory runs out.
+    pub fn end(self, out: &mut Vec<u8>) -> Result<(), NoMemory>
+        ensures ok { (word : ℕ) (kept : Kept) (rows : List ARow) → HasWritten self word kept rows
+            → OnOk result (out.new.items ≡ out.old.items ++ end_bytes word kept rows) }
+        ensures unchanged { OnErr result (out.new.items ≡ out.old.items) }
+    {
+        let CheckpointWriter { frame, piece: _ } = self;
+        frame.end(out)
+    }
+}
