@@ -6,6 +6,7 @@ use hlc_core::{Checkpoint, Core, RestoreFault};
 use hlc_saved::{
     CheckpointReader, CheckpointWriter, ResumeError, Resumed, copy_by_bytes, resume, save,
 };
+use hlc_values::NoMemory;
 use std::alloc::Global;
 
 /// Prints a store's bytes in hexadecimal digits; false where memory runs out.
@@ -25,18 +26,13 @@ pub(crate) fn save_as_text(rt: &HostRuntime, core: &Core, word: u64) -> bool {
 /// Puts the store that is made of these bytes in place of the one that is there, and prints the word
 /// with them; or why there is none. False where memory runs out.
 pub(crate) fn resume_from(rt: &HostRuntime, core: &mut Option<Core>, bytes: &[u8]) -> bool {
-    match resume(rt.alloc(), bytes) {
-        Ok(resumed) => {
-            let Resumed { core: made, word } = resumed;
-            let _ = println!(rt; "resumed {word}");
+    match printed(rt, resume(rt.alloc(), bytes)) {
+        Ok(Some(made)) => {
             *core = Some(made);
             true
         }
-        Err(ResumeError::NoMemory) => false,
-        Err(error) => {
-            let _ = println!(rt; "refused {error:?}");
-            true
-        }
+        Ok(None) => true,
+        Err(_) => false,
     }
 }
 
@@ -126,17 +122,28 @@ fn written(alloc: Global, checkpoint: &Checkpoint, word: u64) -> Result<Vec<u8>,
 
 /// Puts the store that was made in place of this one, and prints the word with it.
 fn replace(rt: &HostRuntime, core: &mut Core, made: Result<Resumed, ResumeError>) -> bool {
-    match made {
-        Ok(resumed) => {
-            let Resumed { core: made, word } = resumed;
-            let _ = println!(rt; "resumed {word}");
+    match printed(rt, made) {
+        Ok(Some(made)) => {
             *core = made;
             true
         }
-        Err(ResumeError::NoMemory) => false,
+        Ok(None) => true,
+        Err(_) => false,
+    }
+}
+
+/// Prints the word of a store that was made, or why there is none.
+fn printed(rt: &HostRuntime, made: Result<Resumed, ResumeError>) -> Result<Option<Core>, NoMemory> {
+    match made {
+        Ok(resumed) => {
+            let Resumed { core, word } = resumed;
+            let _ = println!(rt; "resumed {word}");
+            Ok(Some(core))
+        }
+        Err(ResumeError::NoMemory) => Err(NoMemory),
         Err(error) => {
             let _ = println!(rt; "refused {error:?}");
-            true
+            Ok(None)
         }
     }
 }
