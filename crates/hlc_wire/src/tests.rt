@@ -1,4 +1,6 @@
-//! Items and messages against bytes written out by hand.
+//! Items and messages against bytes written out by hand, and the small caller of the README.
+ghost use Rattle.std.specs.Prelude.{◌≡◌, IfSome};
+
 use crate::{Body, Bytes, Item, Message, decode_item, decode_message, encode_item, encode_message};
 use hlc_clock::Stamp;
 use std::alloc::Global;
@@ -24,6 +26,14 @@ const RETIREMENT: &[u8] = &[1, 1, 7, 0, 0, 0, 0, 0, 0, 0, 3, 0, 0, 0, 0, 0, 2, 0
 
 /// A message of node 263 at stamp 2.5.
 const MESSAGE: &[u8] = &[1, 1, 7, 0, 0, 0, 0, 0, 2, 0, 5];
+
+/// The bytes that were read as an item, written again.
+fn written_again(alloc: Global, bytes: &[u8]) -> Option<Vec<u8>>
+    ensures { IfSome result (λ again. again.items ≡ bytes.now) }
+{
+    let item = decode_item(alloc, bytes).ok()?;
+    encode_item(alloc, &item).ok()
+}
 
 #[test]
 fn items(rt: HostRuntime) {
@@ -59,6 +69,8 @@ fn spells<R: Abort>(rt: &R, alloc: Global, body: Body, spelling: &[u8]) {
     let written = encode_item(alloc, &item).expect(rt, "an item that may be said");
     must_be(rt, written.as_slice(), spelling);
     must_be(rt, decode_item(alloc, spelling), Ok(item));
+    let again = written_again(alloc, spelling).expect(rt, "an item");
+    must_be(rt, again.as_slice(), spelling);
 }
 
 /// The bytes of a text.
