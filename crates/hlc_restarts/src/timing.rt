@@ -16,29 +16,44 @@ const VERSIONS: u64 = 4;
 const BLOCK: usize = 65_536;
 
 /// Feeds a store of one node so many rows with values of so many bytes, and prints how long that took.
+/// From one row to the next the key goes on by this step, in a circle; by step 0 the rows of a key come
+/// one after the other.
 pub(crate) fn fill(rt: &HostRuntime, core: &mut Core, words: &mut LineWords<'_>) {
     let rows = next_number(words);
     let size = next_number(words);
+    let step = next_number(words);
     let begin = Instant::now(rt).ok();
-    let fed = feed_all(rt.alloc(), core, rows, size as usize).is_ok();
+    let fed = feed_all(rt.alloc(), core, rows, size as usize, step).is_ok();
     tell(rt, "feed", begin, rows);
     if !fed {
         let _ = println!(rt; "no memory");
     }
 }
 
-/// Accepts the writes of so many rows. The rows of a key come one after the other.
-fn feed_all(alloc: Global, core: &mut Core, rows: u64, size: usize) -> Result<(), AllocError> {
+/// Accepts the writes of so many rows.
+fn feed_all(
+    alloc: Global,
+    core: &mut Core,
+    rows: u64,
+    size: usize,
+    step: u64,
+) -> Result<(), AllocError> {
+    let keys = (rows / VERSIONS).max(1);
     for at in 0..rows {
-        let item = item_at(alloc, at, size)?;
+        let key = if step == 0 {
+            at / VERSIONS
+        } else {
+            at.wrapping_mul(step) % keys
+        };
+        let item = item_at(alloc, at, key, size)?;
         drop(core.accept(item));
     }
     Ok(())
 }
 
-/// The write of this number.
-fn item_at(alloc: Global, at: u64, size: usize) -> Result<Item, AllocError> {
-    let key = Bytes::from_vec(Vec::from_slice(alloc, &(at / VERSIONS).to_be_bytes())?);
+/// The write of this number, to the key of this number.
+fn item_at(alloc: Global, at: u64, key: u64, size: usize) -> Result<Item, AllocError> {
+    let key = Bytes::from_vec(Vec::from_slice(alloc, &key.to_be_bytes())?);
     let value = Some(Bytes::from_vec(vec![in alloc; b'v'; size]?));
     Ok(Item {
         node: 0,
