@@ -1,7 +1,8 @@
 //! The registry of open snapshots.
-ghost use Rattle.std.specs.Prelude.{◌≡◌, ℕ, ◌+◌, ◌<◌, ◌≤◌, ◌==◌, [], ◌∷◌, ◌++◌, ◌↔◌, IsTrue, length, All, IfOk, IfErr, OnErr};
-ghost use Rattle.std.specs.Prelude.{if◌then◌else◌};
-ghost use Rattle.hlc_snapshot.specs.Register.{IsRegister, IsRefusal, closed, opened_at, room_refusal, ids_rise, stamp_in, stamps};
+ghost use Rattle.std.specs.Prelude.{◌≡◌, ℕ, ◌+◌, ◌<◌, ◌≤◌, ◌==◌, [], ◌∷◌, ◌++◌, ◌↔◌, IsTrue, length};
+ghost use Rattle.std.specs.Prelude.{if◌then◌else◌, All, IfOk, IfErr, OnErr};
+ghost use Rattle.hlc_snapshot.specs.Register.{IsRegister, IsRefusal, closed, opened_at, room_refusal};
+ghost use Rattle.hlc_snapshot.specs.Register.{ids_rise, stamp_in, stamps};
 ghost use Rattle.hlc_clock.specs.Points.{ArePoints};
 
 use crate::fault::{NoSnapshot, SnapshotFault};

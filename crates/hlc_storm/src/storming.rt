@@ -147,7 +147,7 @@ fn work_of<
 }
 
 /// Runs all threads of a storm, and gives the receipts by caller: a list for each feeder, each reader and the vacuum.
-/// No clause says what is in the lists: the join of a thread says nothing of its result, and the settling looks at each.
+/// No clause says what is in the lists: the join of a thread says nothing of its result, and settling looks at each.
 fn run_all<
     L: Ledger + Send + Sync,
     F: Gate + Sync,
