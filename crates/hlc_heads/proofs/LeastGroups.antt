@@ -2,7 +2,7 @@
 use Rattle.std.proofs.Common.{◌≡◌, ◌≢◌, ℕ, ◌+◌, ◌*◌, ◌/◌, ◌<◌, ◌≤◌, Bool, true, false, List, [], ◌∷◌, ◌++◌, length}
 use Rattle.std.proofs.Common.{refl}
 use Rattle.std.proofs.Common.{Option, Some, None, sym, ap, ◌∙◌, subst, inl, inr, arith}
-use Rattle.std.specs.Prelude.{slice_set}
+use Rattle.std.specs.Prelude.{slice_set, MatchOption, min}
 use Rattle.std.proofs.lemmas.Bool.{cases_eq, cases_lt}
 use Rattle.std.proofs.lemmas.List.{get_or-set_same, get_or-set_other, get_or_append_left, get_or_past, length-set}
 use Rattle.std.proofs.lemmas.List.{length-append}
@@ -13,6 +13,10 @@ use Rattle.hlc_heads.specs.declared.groups.TheConstants.{GROUP}
 use Rattle.std.specs.Option.{unwrap_or}
 use Rattle.hlc_heads.specs.Heads.{Marks, a_head, head_at, marked, joined, IsSized, IsFloor}
 use Rattle.hlc_heads.specs.Groups.{IsLeastIn, IsLeastOf, AreGroups, AreOthers, group_at}
+
+-- the least is the start; or the lower of the two, if there was one
+abbrev pub IsLower : Option ℕ → ℕ → ℕ → Type 0
+IsLower found start least = MatchOption found (least ≡ start) (λ low. least ≡ min low start)
 
 -- the heads where one is another
 abbrev set-head : List Head → ℕ → ℕ → Bool → List Head
@@ -186,80 +190,97 @@ joins-in heads start from to (Some low) out h = (
       omega arith),
 )
 
--- the floor is not above the head of a node that is left, also where one joined at it
-joined-above : (marks : Marks) (floor k : ℕ) → IsFloor marks floor
-    → (head_at (joined marks floor).heads k).retired ≡ false → floor ≤ (head_at (joined marks floor).heads k).stamp
-joined-above marks floor k h left =
-    elim (cases_eq k (length marks.heads)) [
-      | inl at ↦
-          (let x : (head_at (joined marks floor).heads k).stamp ≡ floor = ap (λ (head : Head). head.stamp)
-          (joined-here marks.heads floor k at) in omega arith)
-      | inr away ↦
-          let o = joined-other marks.heads floor k away in
-          let x : (head_at (joined marks floor).heads k).stamp ≡ (head_at marks.heads k).stamp =
-          ap (λ (head : Head). head.stamp) o in
-          let y : (head_at marks.heads k).retired ≡ false = sym (ap (λ (head : Head). head.retired) o) ∙ left in
-          elim (cases_lt k (length marks.heads)) [
-            | inl was ↦
-                elim h [
-                  | inl one ↦ (let z : floor ≤ (head_at marks.heads k).stamp = one.least k was y in omega arith)
-                  | inr none ↦ absurd (let e : false ≡ true = sym y ∙ none.0 k was in cc)
-                ]
-            | inr past ↦
-                absurd (let e : false ≡ true = sym y
-                ∙ ap (λ (head : Head). head.retired) (get_or_past marks.heads k (a_head 0 true) past) in cc)
-          ]
-    ]
-
--- a node joins at the floor
-pub floor_joins : (marks : Marks) (floor : ℕ) → IsFloor marks floor → IsFloor (joined marks floor) floor
-floor_joins marks floor h =
-    let l : length (marks.heads ++ a_head floor false ∷ []) ≡ length marks.heads + 1 =
-    length-append marks.heads (a_head floor false ∷ []) in
-    let at = joined-here marks.heads floor (length marks.heads) refl in
-    inl (record {
-      is_head = (
-        length marks.heads,
+-- of a range in which a node joins, the least head is the lower of that before and its start
+joins-here : (heads : List Head) (start from to least : ℕ) (found : Option ℕ) → from ≤ length heads → length heads < to
+    → IsLower found start least → IsLeastIn heads from to found
+    → IsLeastIn (heads ++ a_head start false ∷ []) from to (Some least)
+joins-here heads start from to least None after before is h =
+    let l : length (heads ++ a_head start false ∷ []) ≡ length heads + 1 =
+    length-append heads (a_head start false ∷ []) in
+    let here' = joined-here heads start (length heads) refl in (
+      (
+        length heads,
+        after,
+        before,
         omega arith,
-        ap (λ (head : Head). head.retired) at,
-        ap
-            (λ (head : Head). head.stamp) at,
-      );
-      least = λ k lt left. joined-above marks floor k h left;
-    })
+        ap (λ (head : Head). head.retired) here',
+        ap (λ (head : Head). head.stamp) here' ∙ sym is,
+      ),
+      (λ k ge lt left.
+          elim (cases_eq k (length heads)) [
+            | inl at ↦
+                (let x : (head_at (heads ++ a_head start false ∷ []) k).stamp ≡ start =
+                ap (λ (head : Head). head.stamp) (joined-here heads start k at) in omega (arith, is))
+            | inr away ↦
+                absurd (let e : false ≡ true =
+                sym (sym (ap (λ (head : Head). head.retired) (joined-other heads start k away)) ∙ left)
+                ∙ h k ge lt in cc)
+          ]),
+    )
+joins-here heads start from to least (Some low) after before is h =
+    let l : length (heads ++ a_head start false ∷ []) ≡ length heads + 1 =
+    length-append heads (a_head start false ∷ []) in
+    let here' = joined-here heads start (length heads) refl in
+    let k = h.0.0 in
+    let w : k < length heads = h.0.3 in
+    let o = joined-other heads start k (omega arith) in (
+      elim (cases_lt low start) [
+        | inl less ↦ (
+          k,
+          h.0.1,
+          h.0.2,
+          omega arith,
+          ap (λ (head : Head). head.retired) o ∙ h.0.4,
+          (let e : (head_at (heads ++ a_head start false ∷ []) k).stamp ≡ low =
+              ap (λ (head : Head). head.stamp) o ∙ h.0.5 in omega (arith, is)),
+        )
+        | inr more ↦ (
+          length heads,
+          after,
+          before,
+          omega arith,
+          ap (λ (head : Head). head.retired) here',
+          (let e : (head_at (heads ++ a_head start false ∷ []) (length heads)).stamp ≡ start =
+              ap (λ (head : Head). head.stamp) here' in omega (arith, is)),
+        )
+      ],
+      (λ k ge lt left.
+          elim (cases_eq k (length heads)) [
+            | inl at ↦
+                (let x : (head_at (heads ++ a_head start false ∷ []) k).stamp ≡ start =
+                ap (λ (head : Head). head.stamp) (joined-here heads start k at) in omega (arith, is))
+            | inr away ↦
+                let p = joined-other heads start k away in
+                let x : (head_at (heads ++ a_head start false ∷ []) k).stamp ≡ (head_at heads k).stamp =
+                ap (λ (head : Head). head.stamp) p in
+                let y : low ≤ (head_at heads k).stamp =
+                h.1 k ge lt (sym (ap (λ (head : Head). head.retired) p) ∙ left) in omega (arith, is)
+          ]),
+    )
 
--- and its group has it as its least head
-pub groups_join : (marks : Marks) (groups : List (Option ℕ)) (floor : ℕ) → length groups ≡ GROUP
-    → length marks.heads < MOST_NUMBERS → IsFloor marks floor → AreGroups marks.heads groups
-    → AreGroups (joined marks floor).heads (slice_set groups (length marks.heads / GROUP) (Some floor))
-groups_join marks groups floor sized few h old = λ group lt.
+-- its group has the lower of its least head and the start
+pub groups_join : (marks : Marks) (groups : List (Option ℕ)) (start least : ℕ) → length groups ≡ GROUP
+    → length marks.heads < MOST_NUMBERS
+    → IsLower (group_at groups (length marks.heads / GROUP)) start least
+    → AreGroups marks.heads groups
+    → AreGroups (joined marks start).heads (slice_set groups (length marks.heads / GROUP) (Some least))
+groups_join marks groups start least sized few is old = λ group lt.
     elim (cases_eq group (length marks.heads / GROUP)) [
       | inl at ↦
           let place : length marks.heads / GROUP < length groups = omega (arith, few, sized) in
-          let x : group_at (slice_set groups (length marks.heads / GROUP) (Some floor)) group ≡ Some floor =
-          ap (group_at (slice_set groups (length marks.heads / GROUP) (Some floor))) at
-          ∙ get_or-set_same groups (length marks.heads / GROUP) (Some floor) None place in
-          let l : length (marks.heads ++ a_head floor false ∷ []) ≡ length marks.heads + 1 =
-          length-append marks.heads (a_head floor false ∷ []) in
-          let here' = joined-here marks.heads floor (length marks.heads) refl in
-          subst (λ o. IsLeastIn (joined marks floor).heads (group * GROUP) (group * GROUP + GROUP) o) (sym x) (
-            (
-              length marks.heads,
-              omega (arith, at),
-              omega (arith, at),
-              omega arith,
-              ap
-                  (λ (head : Head). head.retired) here',
-              ap (λ (head : Head). head.stamp) here',
-            ),
-            (λ k ge less left. joined-above marks floor k h left),
-          )
+          let x : group_at (slice_set groups (length marks.heads / GROUP) (Some least)) group ≡ Some least =
+          ap (group_at (slice_set groups (length marks.heads / GROUP) (Some least))) at
+          ∙ get_or-set_same groups (length marks.heads / GROUP) (Some least) None place in
+          subst (λ o. IsLeastIn (joined marks start).heads (group * GROUP) (group * GROUP + GROUP) o) (sym x)
+          (joins-here marks.heads start (group * GROUP) (group * GROUP + GROUP) least (group_at groups group)
+          (omega (arith, at)) (omega (arith, at))
+          (subst (λ g. IsLower (group_at groups g) start least) (sym at) is) (old group lt))
       | inr away ↦
           let x : group_at
-          (slice_set groups (length marks.heads / GROUP) (Some floor)) group ≡ group_at groups group =
-          get_or-set_other groups (length marks.heads / GROUP) group (Some floor) None away in
-          subst (λ o. IsLeastIn (joined marks floor).heads (group * GROUP) (group * GROUP + GROUP) o) (sym x)
-          (joins-in marks.heads floor (group * GROUP) (group * GROUP + GROUP) (group_at groups group)
+          (slice_set groups (length marks.heads / GROUP) (Some least)) group ≡ group_at groups group =
+          get_or-set_other groups (length marks.heads / GROUP) group (Some least) None away in
+          subst (λ o. IsLeastIn (joined marks start).heads (group * GROUP) (group * GROUP + GROUP) o) (sym x)
+          (joins-in marks.heads start (group * GROUP) (group * GROUP + GROUP) (group_at groups group)
           (λ ge less. away (omega (arith, ge, less))) (old group lt))
     ]
 

@@ -8,7 +8,7 @@ use Rattle.hlc_heads.specs.declared.heads.Head.{Head}
 use Rattle.hlc_heads.specs.declared.heads.HeadsFault.{HeadsFault}
 use Rattle.hlc_heads.specs.declared.heads.HeadsFault.TheVariants.{NoNode, NoMemory}
 use Rattle.hlc_heads.specs.declared.heads.JoinFault.{JoinFault}
-use Rattle.hlc_heads.specs.declared.heads.JoinFault.TheVariants.{TooManyNodes, NoMemory as NoRoom}
+use Rattle.hlc_heads.specs.declared.heads.JoinFault.TheVariants.{TooManyNodes, BelowFloor, NoMemory as NoRoom}
 
 -- what the word of an accepted item says: its node, its stamp, and whether it was the node's last
 -- one
@@ -17,7 +17,7 @@ pub record Acceptance : Type 0 where
   pub stamp : ℕ
   pub retires : Bool
 
--- the head of each node, and the greatest stamp of an accepted item, 0 where there is none
+-- the head of each node; and the greatest stamp of an accepted item or of a start, 0 where there is none
 pub record Marks : Type 0 where
   pub heads : List Head
   pub top : ℕ
@@ -42,7 +42,7 @@ marked marks node stamp last =
 
 -- a node more, whose head is its start
 abbrev pub joined : Marks → ℕ → Marks
-joined marks start = record { heads = marks.heads ++ a_head start false ∷ []; top = marks.top }
+joined marks start = record { heads = marks.heads ++ a_head start false ∷ []; top = max marks.top start }
 
 -- every node retired
 abbrev pub AllRetired : List Head → Type 0
@@ -55,10 +55,15 @@ pub record IsLeast (heads : List Head) (low : ℕ) : Type 0 where
   pub least : (k : ℕ) → k < length heads → (head_at heads k).retired ≡ false
       → low ≤ (head_at heads k).stamp
 
--- the floor is the least head of the nodes that have not retired; where all retired, it is the
--- greatest stamp of an accepted item
+-- The floor is the least head of the nodes that have not retired; where all retired, it is the top. Each of them
+-- retired by an item above its start, so that is the greatest stamp of an accepted item.
 abbrev pub IsFloor : Marks → ℕ → Type 0
 IsFloor marks floor = IsLeast marks.heads floor ⊎ (AllRetired marks.heads × (floor ≡ marks.top))
+
+-- the floor of these heads
+abbrev pub floor_of : Marks → ℕ
+floor_of marks =
+    low (λ k. (head_at marks.heads k).stamp) (λ k. (head_at marks.heads k).retired) (length marks.heads) marks.top
 
 -- so many heads are made, each of them 0; or that number is none or more than may be; or there is
 -- no memory
@@ -75,9 +80,16 @@ Joins old new (Ok made) =
     (length old.heads < MOST_NUMBERS) × (made.0 ≡ length old.heads) × IsFloor old made.1
     × (new ≡ joined old made.1)
 Joins old new (Err TooManyNodes) = (MOST_NUMBERS ≤ length old.heads) × (new ≡ old)
+Joins old new (Err (BelowFloor floor)) = ⊥
 Joins old new (Err NoRoom) = (length old.heads < MOST_NUMBERS) × (new ≡ old)
 
--- the floor of these heads
-abbrev pub floor_of : Marks → ℕ
-floor_of marks =
-    low (λ k. (head_at marks.heads k).stamp) (λ k. (head_at marks.heads k).retired) (length marks.heads) marks.top
+-- a node joined at this start, with the next number; or no number is left; or the start is below the floor, which is
+-- returned; or there is no memory
+abbrev pub JoinsAt : Marks → Marks → ℕ → Result ℕ JoinFault → Type 0
+JoinsAt old new start (Ok node) =
+    (length old.heads < MOST_NUMBERS) × (floor_of old ≤ start) × (node ≡ length old.heads)
+    × (new ≡ joined old start)
+JoinsAt old new start (Err TooManyNodes) = (MOST_NUMBERS ≤ length old.heads) × (new ≡ old)
+JoinsAt old new start (Err (BelowFloor floor)) =
+    (length old.heads < MOST_NUMBERS) × (floor ≡ floor_of old) × (start < floor) × (new ≡ old)
+JoinsAt old new start (Err NoRoom) = (length old.heads < MOST_NUMBERS) × (floor_of old ≤ start) × (new ≡ old)

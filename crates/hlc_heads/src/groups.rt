@@ -63,7 +63,7 @@ pub(crate) fn least_of(groups: &[Option<Stamp>]) -> Option<Stamp>
 }
 
 /// The lower of the two, if there are two.
-fn lower(least: Option<Stamp>, stamp: Stamp) -> Stamp
+pub(crate) fn lower(least: Option<Stamp>, stamp: Stamp) -> Stamp
     ensures { MatchOption least (result ≡ stamp) (λ low. result ≡ min low stamp) }
 {
     match least {

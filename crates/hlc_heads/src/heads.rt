@@ -1,11 +1,12 @@
 //! The head of each link, and the floor.
-ghost use Rattle.std.specs.Prelude.{◌≡◌, ◌<◌, false, true, length};
+ghost use Rattle.std.specs.Prelude.{◌≡◌, ◌<◌, false, true, length, max};
 ghost use Rattle.std.proofs.Common.{rules};
 ghost use Rattle.std.proofs.lemmas.Grind.{common_steps};
 ghost use Rattle.hlc_heads.specs.declared.heads.TheConstants.{MOST_NODES, MOST_NUMBERS};
 ghost use Rattle.hlc_heads.specs.Heads.{
   Makes,
   Joins,
+  JoinsAt,
   IsFloor,
   IsSized,
   head_at,
@@ -13,7 +14,7 @@ ghost use Rattle.hlc_heads.specs.Heads.{
 };
 
 use crate::accepted::Accepted;
-use crate::groups::{GROUP, groups_of, least_of, regroup};
+use crate::groups::{GROUP, groups_of, least_of, lower, regroup};
 use hlc_clock::Stamp;
 use hlc_values::Exact;
 use std::alloc::Global;
@@ -56,7 +57,9 @@ impl Exact for HeadsFault {
 pub enum JoinFault {
     /// 1,024 numbers were given already.
     TooManyNodes,
-    /// A growth was refused.
+    /// The start is below the floor.
+    BelowFloor { floor: Stamp },
+    /// Out of memory.
     NoMemory,
 }
 
@@ -80,8 +83,8 @@ impl Exact for Head {
     ghost copied = { Prim.search rules };
 }
 
-/// The head of each node, and the greatest stamp of an accepted item. Contracts see the list of the
-/// heads, by node, and that stamp.
+/// The head of each node, and the greatest stamp of an accepted item or of a start. Contracts see the
+/// list of the heads, by node, and that stamp.
 #[derive(Drop)]
 pub struct Heads {
     heads: Vec<Head>,
@@ -128,8 +131,8 @@ impl Heads {
         }
     }
 
-    /// These heads by node, 1 to 1,024 of them, and the greatest stamp of an accepted item. It takes no
-    /// memory.
+    /// These heads by node, 1 to 1,024 of them, and the greatest stamp of an accepted item or of a start.
+    /// It takes no memory.
     pub fn resuming(heads: Vec<Head>, top: Stamp) -> Heads
         requires { IsSized (record { heads = heads.items; top = top }) }
         ensures { result ≡ record { heads = heads.items; top = top } }
@@ -214,26 +217,43 @@ impl Heads {
     /// A node joins: it is given the next number, and starts at the floor, which is its first head.
     /// So the floor stays.
     ///
-    /// Refused, in this order: 1,024 numbers were given; want of memory.
+    /// Refused, in this order: 1,024 numbers were given; out of memory. A refusal leaves the heads
+    /// unchanged.
     pub fn join(&mut self) -> Result<(u16, Stamp), JoinFault>
         ensures { Joins self.old self.new result }
     {
-        if self.heads.len() >= MOST_NUMBERS as usize {
+        let start = self.floor;
+        let node = self.join_at(start)?;
+        Ok((node, start))
+    }
+
+    /// A node joins: it is given the next number, and starts at this stamp, which is its first head. The
+    /// floor stays; where all nodes had retired, it is the start from now on.
+    ///
+    /// Refused, in this order: 1,024 numbers were given; the start is below the floor; out of memory. A
+    /// refusal leaves the heads unchanged.
+    pub fn join_at(&mut self, start: Stamp) -> Result<u16, JoinFault>
+        ensures { JoinsAt self.old self.new start result }
+    {
+        let place = self.heads.len();
+        if place >= MOST_NUMBERS as usize {
             return Err(JoinFault::TooManyNodes);
         }
-        let place = self.heads.len();
-        let start = self.floor;
+        if start < self.floor {
+            return Err(JoinFault::BelowFloor { floor: self.floor });
+        }
         let head = Head {
             stamp: start,
             retired: false,
         };
-        match self.heads.push(head) {
-            Ok(()) => {
-                self.groups[place / GROUP] = Some(start);
-                Ok((place as u16, start))
-            }
-            Err(_) => Err(JoinFault::NoMemory),
-        }
+        let Ok(()) = self.heads.push(head) else {
+            return Err(JoinFault::NoMemory);
+        };
+        let group = place / GROUP;
+        self.groups[group] = Some(lower(self.groups[group], start));
+        self.top = greater(self.top, start);
+        self.floor = least_of(&self.groups).unwrap_or(self.top);
+        Ok(place as u16)
     }
 
     /// The floor: the least head of the nodes that have not retired; where all did, the greatest
@@ -245,4 +265,11 @@ impl Heads {
     {
         self.floor
     }
+}
+
+/// The greater of the two.
+fn greater(a: Stamp, b: Stamp) -> Stamp
+    ensures { result ≡ max a b }
+{
+    if a < b { b } else { a }
 }

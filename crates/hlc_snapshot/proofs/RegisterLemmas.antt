@@ -2,15 +2,15 @@
 -- above all others; an opening or a closing touches the look-up of one id alone.
 use Rattle.std.proofs.Common.{◌⊎◌, subst, ◌≡◌, ◌≢◌, ℕ, ◌+◌, ◌<◌, ◌≤◌, List, [], ◌∷◌, ◌++◌, Some, None, refl, ap, sym}
 use Rattle.std.proofs.Common.{◌∙◌, inl, inr, arith}
-use Rattle.std.specs.Prelude.{All, ◌==◌, not, find, if◌then◌else◌}
+use Rattle.std.specs.Prelude.{All, true, ◌==◌, not, find, if◌then◌else◌, nat_le}
 use Rattle.std.specs.Option.{option_map}
-use Rattle.std.proofs.lemmas.Bool.{cond-true, cond-false, eq-eqb, ne_eqb, cases_eq}
-use Rattle.std.proofs.lemmas.List.Elements.{All-head, All-tail, All-weaker, All-filter}
+use Rattle.std.proofs.lemmas.Bool.{cond-true, cond-false, eq-eqb, ne_eqb, cases_eq, le-leb, leb-true}
+use Rattle.std.proofs.lemmas.List.Elements.{All-head, All-tail, All-weaker, All-filter, filter_passes}
 use Rattle.std.proofs.lemmas.List.Filters.{length-filter_both}
 use Rattle.std.proofs.lemmas.List.Kept.{AllPairs-filter}
 use Rattle.hlc_snapshot.specs.declared.snapshot.Snapshot.{Snapshot}
 use Rattle.hlc_snapshot.specs.Register.{Register, IsRegister, Follows, at_once, opening, closing, closed, opened_at}
-use Rattle.hlc_snapshot.specs.Register.{stamp_in, without}
+use Rattle.hlc_snapshot.specs.Register.{stamp_in, stamps, stamps_to, without}
 
 pub stamp_in-hit : (id : ℕ) (x : Snapshot) (xs : List Snapshot) → x.id ≡ id → stamp_in id (x ∷ xs) ≡ Some x.stamp
 stamp_in-hit id x xs same =
@@ -196,3 +196,18 @@ stamp_in-all P id stamp (x ∷ xs) all' is =
       | inr other ↦ stamp_in-all P id stamp xs (All-tail (λ snapshot. P snapshot.stamp) x xs all')
           (sym (stamp_in-miss id x xs other) ∙ is)
     ]
+
+-- the stamps up to a bound are at most the bound
+pub stamps_to-low : (bound : ℕ) (snapshots : List Snapshot) → All (λ stamp. stamp ≤ bound) (stamps_to bound snapshots)
+stamps_to-low bound snapshots =
+    All-weaker (λ stamp. nat_le stamp bound ≡ true) (λ stamp. stamp ≤ bound) (λ stamp le. leb-true stamp bound le)
+    (stamps_to bound snapshots) (filter_passes (λ stamp. nat_le stamp bound) (stamps snapshots))
+
+-- and they are all stamps, where none is above the bound
+pub stamps_to-all : (bound : ℕ) (snapshots : List Snapshot) → All (λ snapshot. snapshot.stamp ≤ bound) snapshots
+    → stamps_to bound snapshots ≡ stamps snapshots
+stamps_to-all bound [] low = refl
+stamps_to-all bound (x ∷ xs) low =
+    cond-true (nat_le x.stamp bound) (x.stamp ∷ stamps_to bound xs) (stamps_to bound xs)
+    (le-leb x.stamp bound (All-head (λ snapshot. snapshot.stamp ≤ bound) x xs low))
+    ∙ ap (λ rest. x.stamp ∷ rest) (stamps_to-all bound xs (All-tail (λ snapshot. snapshot.stamp ≤ bound) x xs low))

@@ -2,7 +2,7 @@
 ghost use Rattle.std.specs.Prelude.{◌≡◌, ℕ, ◌+◌, ◌<◌, ◌≤◌, ◌==◌, [], ◌∷◌, ◌++◌, ◌↔◌, IsTrue, length};
 ghost use Rattle.std.specs.Prelude.{if◌then◌else◌, All, IfOk, IfErr, OnErr};
 ghost use Rattle.hlc_snapshot.specs.Register.{IsRegister, IsRefusal, closed, opened_at, room_refusal};
-ghost use Rattle.hlc_snapshot.specs.Register.{ids_rise, stamp_in, stamps};
+ghost use Rattle.hlc_snapshot.specs.Register.{ids_rise, stamp_in, stamps, stamps_to};
 ghost use Rattle.hlc_clock.specs.Points.{ArePoints};
 
 use crate::fault::{NoSnapshot, SnapshotFault};
@@ -140,30 +140,33 @@ impl Registry {
         self.snapshots.clear();
     }
 
-    /// The points of a vacuum at this floor: the distinct stamps of the open snapshots and the
-    /// floor, ascending, the floor last.
-    pub fn points(&self, floor: Stamp) -> Result<Vec<Stamp>, NoMemory>
-        requires { All (λ snapshot. snapshot.stamp ≤ floor) self.now.snapshots }
-        ensures { IfOk result (λ points. ArePoints (stamps self.now.snapshots) floor points.items) }
+    /// The points of a vacuum to this stamp: the distinct stamps of the open snapshots at or below it, and
+    /// the stamp itself, ascending, so that it is the last.
+    pub fn points(&self, at: Stamp) -> Result<Vec<Stamp>, NoMemory>
+        ensures points { IfOk result
+            (λ points. ArePoints (stamps_to at self.now.snapshots) at points.items) }
+        ensures all { All (λ snapshot. snapshot.stamp ≤ at) self.now.snapshots → IfOk result
+            (λ points. ArePoints (stamps self.now.snapshots) at points.items) }
     {
-        let mut points = self.stamps_and(floor)?;
+        let mut points = self.stamps_to(at)?;
+        points.push(at)?;
         points.sort_unstable();
         points.dedup();
         Ok(points)
     }
 
-    /// The stamps of the open snapshots, and one more.
-    fn stamps_and(&self, floor: Stamp) -> Result<Vec<Stamp>, NoMemory>
-        ensures { IfOk result (λ points. points.items ≡ stamps self.now.snapshots ++ floor ∷ []) }
+    /// The stamps of the open snapshots at or below a bound.
+    fn stamps_to(&self, bound: Stamp) -> Result<Vec<Stamp>, NoMemory>
+        ensures { IfOk result (λ found. found.items ≡ stamps_to bound self.now.snapshots) }
     {
         let alloc = *self.snapshots.allocator();
-        let mut stamps: Vec<Stamp> = self
+        let found: Vec<Stamp> = self
             .snapshots
             .iter()
             .map(|snapshot| snapshot.stamp)
+            .filter(|stamp| *stamp <= bound)
             .collect(alloc)?;
-        stamps.push(floor)?;
-        Ok(stamps)
+        Ok(found)
     }
 }
 

@@ -1,33 +1,23 @@
--- The floor stays where a node joins at it, and the node's group has it as its least head.
-use Rattle.std.proofs.Common.{rules, ◌≡◌, ◌<◌, ◌/◌, ℕ, List, [], ◌∷◌, ◌++◌, length, Some, false, sym, subst}
-use Rattle.std.proofs.Common.{slice_set}
-use Rattle.std.proofs.lemmas.Grind.{common_steps}
-use Rattle.hlc_heads.specs.declared.heads.TheConstants.{MOST_NUMBERS}
-use Rattle.hlc_heads.specs.declared.groups.TheConstants.{GROUP}
-use Rattle.hlc_heads.specs.declared.heads.Head.{Head}
-use Rattle.hlc_heads.specs.Heads.{Marks, IsSized, IsFloor, a_head, joined}
-use Rattle.hlc_heads.specs.Groups.{AreGroups}
-use Rattle.hlc_heads.proofs.LeastGroups.{groups_join, floor_joins, joined-sized}
+-- A join at the floor is never below it.
+use Rattle.std.proofs.Common.{◌≡◌, ℕ, Err, subst, arith}
+use Rattle.std.proofs.lemmas.Result.{err_from_is_err_and}
+use Rattle.hlc_heads.specs.declared.heads.JoinFault.{JoinFault}
+use Rattle.hlc_heads.specs.declared.heads.JoinFault.TheVariants.{TooManyNodes, BelowFloor, NoMemory}
+use Rattle.hlc_heads.specs.Heads.{Marks, Joins, JoinsAt, IsFloor, floor_of}
+use Rattle.hlc_heads.proofs.LowLemmas.{floor-is}
 use Rattle.hlc_heads.proofs.heads.Heads.join.Goals as goal
 
-pub invariant_of-self : goal.invariant_of-self
-invariant_of-self c =
-    let inside = c.self.inside in
-    let marks : Marks = record { heads = inside.heads.items; top = inside.top } in
-    let pushed : c.push.new.self.items ≡ inside.heads.items ++ a_head inside.floor false ∷ [] =
-    c.in-Ok.ensures.items in
-    let place : c.len-place.result ≡ length inside.heads.items = search rules in
-    let few : length inside.heads.items < MOST_NUMBERS = search (rules, common_steps) in
-    let sized : length inside.groups ≡ GROUP = search (rules, common_steps) in
-    subst
-    (λ (items : List Head).
-    IsSized (record { heads = items; top = inside.top })
-    × IsFloor (record { heads = items; top = inside.top }) inside.floor
-    × AreGroups items (slice_set inside.groups (c.len-place.result / GROUP) (Some inside.floor)))
-    (sym pushed) (
-      joined-sized marks inside.floor c.self.invariant.0 few,
-      floor_joins marks inside.floor c.self.invariant.1,
-      subst (λ (n : ℕ). AreGroups (joined marks inside.floor).heads
-          (slice_set inside.groups (n / GROUP) (Some inside.floor))) (sym place)
-          (groups_join marks inside.groups inside.floor sized few c.self.invariant.1 c.self.invariant.2),
-    )
+refused : (old new : Marks) (start : ℕ) (fault : JoinFault) → start ≡ floor_of old → JoinsAt old new start (Err fault)
+    → Joins old new (Err fault)
+refused old new start TooManyNodes at h = h
+refused old new start (BelowFloor floor) at h = absurd (omega (arith, at, h.1, h.2))
+refused old new start NoMemory at h = (h.0, h.2)
+
+pub returns-in_err-node : goal.returns-in_err-node
+returns-in_err-node c =
+    let old : IsFloor c.args.self.now c.self.inside.floor =
+    subst (λ m. IsFloor m c.self.inside.floor) c.self.view_is c.self.invariant.1 in
+    let p = err_from_is_err_and c.from_residual.result c.from_residual.ensures.1 in
+    rw (p.1, p.2)
+    (refused c.args.self.now c.join_at.new.self c.self.inside.floor c.in_err-node.field-0.0
+    (floor-is c.args.self.now c.self.inside.floor old) c.in_err-node.ensures)
