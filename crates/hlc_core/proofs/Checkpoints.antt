@@ -1,6 +1,6 @@
 -- What stands for a past, with its rows in order, is a checkpoint.
 use Rattle.std.proofs.Common.{◌≡◌, ℕ, ◌+◌, ◌<◌, ◌≤◌, List, [], ◌∷◌, ◌++◌, length, max, get_or}
-use Rattle.std.proofs.Common.{true, Some, None, Option, refl, ap, sym, ◌∙◌, subst, inl, inr, arith}
+use Rattle.std.proofs.Common.{true, false, Some, None, Option, refl, ap, sym, ◌∙◌, subst, inl, inr, arith}
 use Rattle.std.specs.Prelude.{All, Contains, MatchOption}
 use Rattle.std.proofs.lemmas.Option.{get_or_from_slice_get}
 use Rattle.std.proofs.lemmas.Bool.{cond-true, le-leb, eq-eqb, cases_lt, cases_eq}
@@ -19,13 +19,13 @@ use Rattle.hlc_witness.specs.Certificate.{RowsAscend}
 use Rattle.hlc_witness.specs.Cost.{IsInLimits}
 use Rattle.hlc_core.specs.Past.{Step, Took, Opened, Closed, Vacuumed, Joined, numbered, count, head, retired, top}
 use Rattle.hlc_core.specs.Past.{floor, horizon, opened, open_snapshots, of_registry, of_room}
-use Rattle.hlc_core.specs.Past.{IsLegal, writes}
+use Rattle.hlc_core.specs.Past.{IsLegal, writes, greatest_accepted}
 use Rattle.hlc_core.specs.declared.fault.CoreFault.TheVariants.{TooManyNodes}
 use Rattle.hlc_core.specs.Kept.{Kept, nodes, greatest_head, marks_of, HasNodes, HasStamps, HasLastItem}
 use Rattle.hlc_core.specs.Kept.{StandsFor}
 use Rattle.hlc_core.specs.Checkpoint.{IsCheckpoint, IsCopyOf, IsUnderHead, floor_in}
 use Rattle.hlc_core.proofs.PastLemmas.{inside, rises, head-same, head-other, head-joined, head-joined_other, floor-some}
-use Rattle.hlc_core.proofs.PastLemmas.{count-other, retired-other, fresh}
+use Rattle.hlc_core.proofs.PastLemmas.{count-other, retired-other, fresh, accepted-low, retired-head}
 use Rattle.hlc_core.proofs.PastLemmas.{inside-row, below_head, writes-limits, open-low, open-below, open-above}
 use Rattle.hlc_core.proofs.PastLemmas.{open-room, horizon-low}
 use Rattle.hlc_core.proofs.Standing.{floor-from}
@@ -38,7 +38,7 @@ numbered-from nodes [] = omega arith
 numbered-from nodes (Took item ∷ past) = numbered-from nodes past
 numbered-from nodes (Opened stamp ∷ past) = numbered-from nodes past
 numbered-from nodes (Closed id ∷ past) = numbered-from nodes past
-numbered-from nodes (Vacuumed ∷ past) = numbered-from nodes past
+numbered-from nodes (Vacuumed at ∷ past) = numbered-from nodes past
 numbered-from nodes (Joined node start ∷ past) = (let h = numbered-from nodes past in omega (arith, h))
 
 -- and no more numbers are given than there are
@@ -48,7 +48,7 @@ numbered-few nodes [] few legal = omega arith
 numbered-few nodes (Took item ∷ past) few legal = numbered-few nodes past few legal.1
 numbered-few nodes (Opened stamp ∷ past) few legal = numbered-few nodes past few legal.1
 numbered-few nodes (Closed id ∷ past) few legal = numbered-few nodes past few legal.1
-numbered-few nodes (Vacuumed ∷ past) few legal = numbered-few nodes past few legal
+numbered-few nodes (Vacuumed at ∷ past) few legal = numbered-few nodes past few legal.1
 numbered-few nodes (Joined node start ∷ past) few legal =
     elim (cases_lt (numbered nodes past) MOST_NUMBERS) [
       | inl below ↦ (let g : numbered nodes past < MOST_NUMBERS = below in omega arith)
@@ -56,31 +56,21 @@ numbered-few nodes (Joined node start ∷ past) few legal =
           sym (cond-true _ _ _ (le-leb MOST_NUMBERS (numbered nodes past) full)) ∙ legal.0 in cc)
     ]
 
--- the floor is not above the greatest accepted stamp where no head is
-floor-top : (nodes : ℕ) (past : List Step) → ((n : ℕ) → head n past ≤ top past) → floor nodes past ≤ top past
-floor-top nodes past low =
-    elim (floor-some nodes past) [
-      | inl one ↦
-          let at : head one.0 past ≡ floor nodes past = one.3 in
-          let le : head one.0 past ≤ top past = low one.0 in omega arith
-      | inr all' ↦ (let at : floor nodes past ≡ top past = all'.1 in omega arith)
-    ]
-
--- no head is above the greatest accepted stamp
+-- no head is above the top
 heads-low : (nodes : ℕ) (past : List Step) → IsLegal nodes past → (n : ℕ) → head n past ≤ top past
 heads-low nodes [] legal n = omega arith
 heads-low nodes (Opened stamp ∷ past) legal n = heads-low nodes past legal.1 n
 heads-low nodes (Closed id ∷ past) legal n = heads-low nodes past legal.1 n
-heads-low nodes (Vacuumed ∷ past) legal n = heads-low nodes past legal n
+heads-low nodes (Vacuumed at ∷ past) legal n = heads-low nodes past legal.1 n
 heads-low nodes (Joined node start ∷ past) legal n =
     let old : head n past ≤ top past = heads-low nodes past legal.3 n in
-    let at : start ≡ floor nodes past = legal.2 in
-    let low : floor nodes past ≤ top past = floor-top nodes past (heads-low nodes past legal.3) in
     elim (cases_eq node n) [
       | inl same ↦
-          (let e : head n (Joined node start ∷ past) ≡ start = head-joined n node start past same in omega arith)
+          (let e : head n (Joined node start ∷ past) ≡ start = head-joined n node start past same in
+          let goal : head n (Joined node start ∷ past) ≤ max (top past) start = omega arith in goal)
       | inr other ↦ (let e : head n (Joined node start ∷ past) ≡ head n past =
-          head-joined_other n node start past other in omega arith)
+          head-joined_other n node start past other in
+          let goal : head n (Joined node start ∷ past) ≤ max (top past) start = omega arith in goal)
     ]
 heads-low nodes (Took item ∷ past) legal n =
     let old : head n past ≤ top past = heads-low nodes past legal.1 n in
@@ -95,13 +85,27 @@ top-at : (nodes : ℕ) (past : List Step) → 0 < nodes → IsLegal nodes past
 top-at nodes [] some legal = (0, some, refl)
 top-at nodes (Opened stamp ∷ past) some legal = top-at nodes past some legal.1
 top-at nodes (Closed id ∷ past) some legal = top-at nodes past some legal.1
-top-at nodes (Vacuumed ∷ past) some legal = top-at nodes past some legal
+top-at nodes (Vacuumed at ∷ past) some legal = top-at nodes past some legal.1
 top-at nodes (Joined node start ∷ past) some legal =
     let old = top-at nodes past some legal.3 in
     let within : old.0 < numbered nodes past = old.1 in
+    let was : head old.0 past ≡ top past = old.2 in
     let is : node ≡ numbered nodes past = legal.1 in
-    let goal : old.0 < numbered nodes past + 1 = omega arith in
-    (old.0, goal, head-joined_other old.0 node start past (λ e. omega (arith, e)) ∙ old.2)
+    elim (cases_lt (top past) start) [
+      | inl above ↦ (
+        node,
+        (let goal : node < numbered nodes past + 1 = omega arith in goal),
+        (let e : head node (Joined node start ∷ past) ≡ start = head-joined node node start past refl in
+            let goal : head node (Joined node start ∷ past) ≡ max (top past) start = omega arith in goal),
+      )
+      | inr below ↦ (
+        old.0,
+        (let goal : old.0 < numbered nodes past + 1 = omega arith in goal),
+        (let e : head old.0 (Joined node start ∷ past) ≡ head old.0 past =
+            head-joined_other old.0 node start past (λ e. omega (arith, e)) in
+            let goal : head old.0 (Joined node start ∷ past) ≡ max (top past) start = omega arith in goal),
+      )
+    ]
 top-at nodes (Took item ∷ past) some legal =
     let old = top-at nodes past some legal.1 in
     let at : head old.0 past ≡ top past = old.2 in
@@ -121,6 +125,21 @@ top-at nodes (Took item ∷ past) some legal =
             let e : head old.0 (Took item ∷ past) ≡ head old.0 past = head-other old.0 item past other in
             let goal : head old.0 (Took item ∷ past) ≡ max (top past) item.stamp = omega arith in goal),
       )
+    ]
+
+-- where all nodes retired, the floor is the greatest stamp of an accepted item
+pub floor-retired : (nodes : ℕ) (past : List Step) → 0 < nodes → IsLegal nodes past
+    → ((n : ℕ) → n < numbered nodes past → retired n past ≡ true) → floor nodes past ≡ greatest_accepted past
+floor-retired nodes past some legal gone =
+    elim (floor-some nodes past) [
+      | inl one ↦ absurd (let e : false ≡ true = sym one.2 ∙ gone one.0 one.1 in cc)
+      | inr all' ↦
+          let one = top-at nodes past some legal in
+          let e : head one.0 past ≡ top past = one.2 in
+          let low : head one.0 past ≤ greatest_accepted past =
+          retired-head nodes past one.0 legal (gone one.0 one.1) in
+          let up : greatest_accepted past ≤ top past = accepted-low past in
+          let at : floor nodes past ≡ top past = all'.1 in omega arith
     ]
 
 -- the registry of a legal past
@@ -157,7 +176,7 @@ register-of nodes [] legal =
       in_range = omega arith;
     }
 register-of nodes (Took item ∷ past) legal = register-of nodes past legal.1
-register-of nodes (Vacuumed ∷ past) legal = register-of nodes past legal
+register-of nodes (Vacuumed at ∷ past) legal = register-of nodes past legal.1
 register-of nodes (Joined node start ∷ past) legal = register-of nodes past legal.3
 register-of nodes (Closed id ∷ past) legal =
     closed-is_register (record { snapshots = open_snapshots past; opened = opened past }) id
@@ -173,7 +192,7 @@ count-low : (nodes : ℕ) (past : List Step) → IsLegal nodes past → (n : ℕ
 count-low nodes [] legal n = omega arith
 count-low nodes (Opened stamp ∷ past) legal n = count-low nodes past legal.1 n
 count-low nodes (Closed id ∷ past) legal n = count-low nodes past legal.1 n
-count-low nodes (Vacuumed ∷ past) legal n = count-low nodes past legal n
+count-low nodes (Vacuumed at ∷ past) legal n = count-low nodes past legal.1 n
 count-low nodes (Joined node start ∷ past) legal n =
     let old : count n past ≤ head n past = count-low nodes past legal.3 n in
     elim (cases_eq node n) [
@@ -202,7 +221,7 @@ count-retired : (past : List Step) (n : ℕ) → retired n past ≡ true → 0 <
 count-retired [] n gone = absurd cc
 count-retired (Opened stamp ∷ past) n gone = count-retired past n gone
 count-retired (Closed id ∷ past) n gone = count-retired past n gone
-count-retired (Vacuumed ∷ past) n gone = count-retired past n gone
+count-retired (Vacuumed at ∷ past) n gone = count-retired past n gone
 count-retired (Joined node start ∷ past) n gone = count-retired past n gone
 count-retired (Took item ∷ past) n gone =
     elim (cases_eq item.node n) [
@@ -259,7 +278,7 @@ checkpoint-sound kept past h some few ascend =
           (subst (λ f. All (λ (s : Snapshot). s.stamp ≤ f) (open_snapshots past)) (sym at)
           (open-low (nodes kept) past h.legal));
       horizon = (let low = horizon-low (nodes kept) past h.legal in
-          let e : kept.horizon ≡ horizon (nodes kept) past = h.horizon in omega (arith, low, at));
+          let e : kept.horizon ≡ horizon past = h.horizon in omega (arith, low, at));
       ascend = ascend;
       under = All-weaker (Contains kept.rows) (IsUnderHead kept.links)
           (λ row m.

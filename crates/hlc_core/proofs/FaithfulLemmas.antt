@@ -1,21 +1,23 @@
 -- What is promised of a whole history follows from the core's standing for it: each moment of a legal history is legal,
 -- so each read and each vacuum was given its due there; each change forces a row and its bytes;
 -- and a core that stands for a vacuum was left the fewest rows.
-use Rattle.std.proofs.Common.{◌≡◌, ℕ, ◌≤◌, List, [], ◌∷◌, ◌++◌, length, Option, Some, None, refl, subst, arith}
+use Rattle.std.proofs.Common.{◌≡◌, ℕ, ◌≤◌, List, [], ◌∷◌, ◌++◌, length, Option, Some, None, refl, sym, subst, arith}
 use Rattle.hlc_node.specs.Rows.{answer}
 use Rattle.hlc_witness.specs.Cost.{changes_cost, rows_cost}
 use Rattle.hlc_witness.proofs.ChangeLemmas.{changes_force_rows}
 use Rattle.hlc_witness.proofs.CostLemmas.{changes_force_bytes}
-use Rattle.hlc_core.specs.Past.{Vacuumed as VacuumedAll, stamp_of, writes}
-use Rattle.hlc_core.specs.Stored.{IsReport}
+use Rattle.hlc_core.specs.Past.{Step, floor, stamp_of, writes}
+use Rattle.hlc_vacuum.specs.declared.report.Report.{Report}
+use Rattle.hlc_core.specs.Stored.{IsReport, LeavesFewest}
 use Rattle.hlc_core.specs.Kept.{Kept, nodes, StandsFor}
 use Rattle.hlc_core.specs.declared.event.CoreEvent.{CoreEvent}
-use Rattle.hlc_core.specs.declared.event.CoreEvent.TheVariants.{Read, Vacuum}
+use Rattle.hlc_core.specs.declared.event.CoreEvent.TheVariants.{Accept, Join, OpenAt, OpenFloor, Read, List as ListAll}
+use Rattle.hlc_core.specs.declared.event.CoreEvent.TheVariants.{Close, Vacuum, JoinAt, VacuumTo}
 use Rattle.hlc_core.specs.declared.reply.CoreReply.{CoreReply}
 use Rattle.hlc_core.specs.declared.reply.CoreReply.TheVariants.{Answer, Vacuumed}
 use Rattle.hlc_core.specs.History.{past_of, IsAnswer, IsDue, IsLegalHistory, StandsForHistory}
 use Rattle.hlc_core.specs.Headline.{IsMoment, ReadsAreNewest, VacuumsAreFewest, VacuumsAreCheapest, FewestAreLeft}
-use Rattle.hlc_core.specs.Headline.{IsFaithful}
+use Rattle.hlc_core.specs.Headline.{IsFaithful, vacuum_stamp}
 use Rattle.hlc_core.proofs.Vacuums.{leaves-fewest}
 
 before-legal : (nodes : ℕ) (later before : List (CoreEvent × CoreReply)) → IsLegalHistory nodes (later ++ before)
@@ -40,12 +42,29 @@ reads-newest nodes h legal = λ before id key value moment.
     (moment-legal nodes h ((Read id key, Answer value) ∷ before) legal moment).0 in
     answered (stamp_of id (past_of before)) (answer (writes (past_of before)) key) value due.1
 
+-- only an event that asks for a vacuum has a report as its reply
+reported : (nodes : ℕ) (past : List Step) (event : CoreEvent) (report : Report)
+    → IsDue nodes past event (Vacuumed report)
+    → (at : ℕ) × (vacuum_stamp nodes past event ≡ Some at) × IsReport at past report
+reported nodes past (Accept item) report due = absurd due.1
+reported nodes past Join report due = absurd due.1
+reported nodes past (OpenAt stamp) report due = absurd due.1
+reported nodes past OpenFloor report due = absurd due.1
+reported nodes past (Read id key) report due = absurd due.1
+reported nodes past (ListAll id) report due = absurd due.1
+reported nodes past (Close id) report due = absurd due.1
+reported nodes past (JoinAt start) report due = absurd due.1
+reported nodes past Vacuum report due = (floor nodes past, refl, due.1)
+reported nodes past (VacuumTo at) report due = (at, refl, due.1)
+
 vacuums-least : (nodes : ℕ) (h : List (CoreEvent × CoreReply)) → IsLegalHistory nodes h
     → VacuumsAreFewest nodes h
-vacuums-least nodes h legal = λ before report moment.
-    let given : IsDue nodes (past_of before) Vacuum (Vacuumed report) =
-    (moment-legal nodes h ((Vacuum, Vacuumed report) ∷ before) legal moment).0 in
-    let due : IsReport nodes (past_of before) report = given.1 in (
+vacuums-least nodes h legal = λ before event report moment.
+    let given = reported nodes (past_of before) event report
+    (moment-legal nodes h ((event, Vacuumed report) ∷ before) legal moment).0 in
+    let due : IsReport given.0 (past_of before) report = given.2 in (
+      given.0,
+      given.1,
       due,
       λ others set' alike.
           let few : length report.witnesses ≤ length others =
@@ -56,22 +75,39 @@ vacuums-least nodes h legal = λ before report moment.
 
 vacuums-cheapest : (nodes : ℕ) (h : List (CoreEvent × CoreReply)) → IsLegalHistory nodes h
     → VacuumsAreCheapest h
-vacuums-cheapest nodes h legal = λ before report moment others set' alike.
-    let given : IsDue nodes (past_of before) Vacuum (Vacuumed report) =
-    (moment-legal nodes h ((Vacuum, Vacuumed report) ∷ before) legal moment).0 in
-    let due : IsReport nodes (past_of before) report = given.1 in
+vacuums-cheapest nodes h legal = λ before event report moment others set' alike.
+    let given = reported nodes (past_of before) event report
+    (moment-legal nodes h ((event, Vacuumed report) ∷ before) legal moment).0 in
+    let due : IsReport given.0 (past_of before) report = given.2 in
     let few : changes_cost (writes (past_of before)) report.witnesses ≤ rows_cost others =
     changes_force_bytes (writes (past_of before)) others report.points report.witnesses due.witnesses.ascend
     due.witnesses.each alike in
     let is : report.bytes ≡ changes_cost (writes (past_of before)) report.witnesses = due.bytes in omega arith
 
+-- what it left are the fewest
+left : (kept : Kept) (before : List (CoreEvent × CoreReply)) (event : CoreEvent) (report : Report)
+    → IsDue (nodes kept) (past_of before) event (Vacuumed report)
+    → StandsFor kept (past_of ((event, Vacuumed report) ∷ before))
+    → LeavesFewest kept.rows (writes (past_of before)) report
+left kept before (Accept item) report due core = absurd due.1
+left kept before Join report due core = absurd due.1
+left kept before (OpenAt stamp) report due core = absurd due.1
+left kept before OpenFloor report due core = absurd due.1
+left kept before (Read id key) report due core = absurd due.1
+left kept before (ListAll id) report due core = absurd due.1
+left kept before (Close id) report due core = absurd due.1
+left kept before (JoinAt start) report due core = absurd due.1
+left kept before Vacuum report due core =
+    leaves-fewest kept report.floor (past_of before) report core
+    (subst (λ at. IsReport at (past_of before) report) (sym due.1.at_stamp) due.1)
+left kept before (VacuumTo at) report due core = leaves-fewest kept at (past_of before) report core due.1
+
 fewest-left : (kept : Kept) (h : List (CoreEvent × CoreReply)) → StandsForHistory kept h
     → FewestAreLeft h kept.rows
-fewest-left kept h stands = λ before report is.
-    let legal : IsLegalHistory (nodes kept) ((Vacuum, Vacuumed report) ∷ before) =
+fewest-left kept h stands = λ before event report is.
+    let legal : IsLegalHistory (nodes kept) ((event, Vacuumed report) ∷ before) =
     subst (λ x. IsLegalHistory (nodes kept) x) is stands.legal in
-    let core : StandsFor kept (VacuumedAll ∷ past_of before) = subst (λ x. StandsFor kept (past_of x)) is stands.core in
-    leaves-fewest kept (past_of before) report core legal.0.1
+    left kept before event report legal.0 (subst (λ x. StandsFor kept (past_of x)) is stands.core)
 
 -- a core is faithful to each history that it stands for
 pub histories_are_faithful : (kept : Kept) (h : List (CoreEvent × CoreReply))

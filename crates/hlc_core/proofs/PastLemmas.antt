@@ -18,11 +18,13 @@ use Rattle.hlc_node.specs.declared.item.BodyFault.{BodyFault}
 use Rattle.hlc_node.specs.Items.{body_refusal, retires}
 use Rattle.hlc_node.specs.Rows.{IsSameVersion, IsRowSet}
 use Rattle.hlc_heads.specs.Low.{low}
-use Rattle.hlc_heads.proofs.LowLemmas.{low-is, low-rises, low-joins}
+use Rattle.hlc_heads.proofs.LowLemmas.{low-is, low-rises, low-joins, low-stays}
 use Rattle.hlc_witness.specs.Cost.{IsInLimits, AreInLimits}
 use Rattle.hlc_core.specs.Past.{Step, Took, Opened, Closed, Vacuumed, Joined, numbered, count, head, retired, top}
 use Rattle.hlc_core.specs.Past.{floor, horizon, open_snapshots, room_refusal, open_refusal, body_rows, item_rows}
-use Rattle.hlc_core.specs.Past.{writes, link_refusal, of_body, item_refusal, IsLegal}
+use Rattle.hlc_core.specs.Past.{writes, link_refusal, of_body, item_refusal, vacuum_refusal, IsLegal}
+use Rattle.hlc_core.specs.Past.{greatest_accepted, join_refusal, join_at_refusal}
+use Rattle.hlc_heads.specs.declared.heads.TheConstants.{MOST_NUMBERS}
 
 -- what it says of an item that nothing refuses it
 pub record IsAdmissible (gone : Bool) (next last : ℕ) (item : Item) : Type 0 where
@@ -114,7 +116,7 @@ pub fresh : (nodes : ℕ) (past : List Step) (n : ℕ) → IsLegal nodes past �
 fresh nodes [] n legal out = (refl, refl)
 fresh nodes (Opened stamp ∷ past) n legal out = fresh nodes past n legal.1 out
 fresh nodes (Closed id ∷ past) n legal out = fresh nodes past n legal.1 out
-fresh nodes (Vacuumed ∷ past) n legal out = fresh nodes past n legal out
+fresh nodes (Vacuumed at ∷ past) n legal out = fresh nodes past n legal.1 out
 fresh nodes (Joined node start ∷ past) n legal out =
     fresh nodes past n legal.3 (let out' : numbered nodes past + 1 ≤ n = out in omega arith)
 fresh nodes (Took item ∷ past) n legal out =
@@ -182,7 +184,7 @@ pub inside-row : (nodes : ℕ) (past : List Step) → IsLegal nodes past → (ro
 inside-row nodes [] legal row m = absurd (Contains-none row m)
 inside-row nodes (Opened stamp ∷ past) legal row m = inside-row nodes past legal.1 row m
 inside-row nodes (Closed id ∷ past) legal row m = inside-row nodes past legal.1 row m
-inside-row nodes (Vacuumed ∷ past) legal row m = inside-row nodes past legal row m
+inside-row nodes (Vacuumed at ∷ past) legal row m = inside-row nodes past legal.1 row m
 inside-row nodes (Joined node start ∷ past) legal row m =
     let within : row.node < numbered nodes past = inside-row nodes past legal.3 row m in
     let goal : row.node < numbered nodes past + 1 = omega arith in goal
@@ -202,7 +204,7 @@ pub below_head : (nodes : ℕ) (past : List Step) → IsLegal nodes past → (ro
 below_head nodes [] legal row m = absurd (Contains-none row m)
 below_head nodes (Opened stamp ∷ past) legal row m = below_head nodes past legal.1 row m
 below_head nodes (Closed id ∷ past) legal row m = below_head nodes past legal.1 row m
-below_head nodes (Vacuumed ∷ past) legal row m = below_head nodes past legal row m
+below_head nodes (Vacuumed at ∷ past) legal row m = below_head nodes past legal.1 row m
 below_head nodes (Joined node start ∷ past) legal row m =
     let old : row.stamp ≤ head row.node past = below_head nodes past legal.3 row m in
     elim (cases_eq node row.node) [
@@ -265,7 +267,7 @@ pub writes-row_set : (nodes : ℕ) (past : List Step) → IsLegal nodes past →
 writes-row_set nodes [] legal = tt
 writes-row_set nodes (Opened stamp ∷ past) legal = writes-row_set nodes past legal.1
 writes-row_set nodes (Closed id ∷ past) legal = writes-row_set nodes past legal.1
-writes-row_set nodes (Vacuumed ∷ past) legal = writes-row_set nodes past legal
+writes-row_set nodes (Vacuumed at ∷ past) legal = writes-row_set nodes past legal.1
 writes-row_set nodes (Joined node start ∷ past) legal = writes-row_set nodes past legal.3
 writes-row_set nodes (Took item ∷ past) legal =
     row_set-body item.node item.stamp item.body (writes past) (new_version nodes past item legal.1 legal.0)
@@ -284,7 +286,7 @@ pub writes-limits : (nodes : ℕ) (past : List Step) → IsLegal nodes past → 
 writes-limits nodes [] legal = All-nil _
 writes-limits nodes (Opened stamp ∷ past) legal = writes-limits nodes past legal.1
 writes-limits nodes (Closed id ∷ past) legal = writes-limits nodes past legal.1
-writes-limits nodes (Vacuumed ∷ past) legal = writes-limits nodes past legal
+writes-limits nodes (Vacuumed at ∷ past) legal = writes-limits nodes past legal.1
 writes-limits nodes (Joined node start ∷ past) legal = writes-limits nodes past legal.3
 writes-limits nodes (Took item ∷ past) legal =
     limits-body item.node item.stamp item.body (writes past)
@@ -305,14 +307,27 @@ floor-grows nodes past item none =
     ))
     (let e : top (Took item ∷ past) ≡ max (top past) item.stamp = refl in omega arith)
 
--- nor by a node that joins at it
+-- nor by a node that joins, not below it
 pub floor-joins : (nodes : ℕ) (past : List Step) (node start : ℕ) → node ≡ numbered nodes past
-    → start ≡ floor nodes past → floor nodes past ≤ floor nodes (Joined node start ∷ past)
-floor-joins nodes past node start is at =
+    → floor nodes past ≤ start → floor nodes past ≤ floor nodes (Joined node start ∷ past)
+floor-joins nodes past node start is up =
+    let at : head (numbered nodes past) (Joined node start ∷ past) ≡ start =
+    head-joined (numbered nodes past) node start past is in
     low-joins (λ n. head n past) (λ n. head n (Joined node start ∷ past)) (λ n. retired n past)
-    (λ n. retired n (Joined node start ∷ past)) (numbered nodes past) (top past)
-    (head-joined (numbered nodes past) node start past is ∙ at)
+    (λ n. retired n (Joined node start ∷ past)) (numbered nodes past) (top past) (max (top past) start)
+    (omega arith) (omega arith)
     (λ k within. (head-joined_other k node start past (λ e. omega (arith, is)), refl))
+
+-- by which it stays, where a node is left
+pub floor-stays : (nodes : ℕ) (past : List Step) (node start n : ℕ) → node ≡ numbered nodes past
+    → floor nodes past ≤ start → n < numbered nodes past → retired n past ≡ false
+    → floor nodes (Joined node start ∷ past) ≡ floor nodes past
+floor-stays nodes past node start n is up within here =
+    let at : head (numbered nodes past) (Joined node start ∷ past) ≡ start =
+    head-joined (numbered nodes past) node start past is in
+    low-stays (λ n. head n past) (λ n. head n (Joined node start ∷ past)) (λ n. retired n past)
+    (λ n. retired n (Joined node start ∷ past)) (numbered nodes past) (top past) (max (top past) start) n within here
+    (omega arith) (λ k within. (head-joined_other k node start past (λ e. omega (arith, is)), refl))
 
 -- what nothing refuses to open is not above the floor
 pub open-below : (nodes : ℕ) (past : List Step) (stamp : ℕ) → open_refusal nodes past stamp ≡ None
@@ -338,7 +353,7 @@ open-low nodes (Opened stamp ∷ past) legal = All-push (λ snapshot. snapshot.s
     (open-low nodes past legal.1) (open-below nodes past stamp legal.0)
 open-low nodes (Closed id ∷ past) legal =
     All-filter _ (λ snapshot. snapshot.stamp ≤ floor nodes past) _ (open-low nodes past legal.1)
-open-low nodes (Vacuumed ∷ past) legal = open-low nodes past legal
+open-low nodes (Vacuumed at ∷ past) legal = open-low nodes past legal.1
 open-low nodes (Joined node start ∷ past) legal =
     let up : floor nodes past ≤ floor nodes (Joined node start ∷ past) =
     floor-joins nodes past node start legal.1 legal.2 in
@@ -349,40 +364,133 @@ open-low nodes (Joined node start ∷ past) legal =
 
 -- nor below the horizon
 pub open-above : (nodes : ℕ) (past : List Step) (stamp : ℕ) → open_refusal nodes past stamp ≡ None
-    → horizon nodes past ≤ stamp
+    → horizon past ≤ stamp
 open-above nodes past stamp none =
-    elim (cases_lt stamp (horizon nodes past)) [
+    elim (cases_lt stamp (horizon past)) [
       | inl low ↦
           let low_floor : stamp ≤ floor nodes past = open-below nodes past stamp none in
-          absurd (let e : Some (BelowHorizon (horizon nodes past)) ≡ None =
-          sym (cond-true _ _ _ (lt-ltb stamp (horizon nodes past) low))
+          absurd (let e : Some (BelowHorizon (horizon past)) ≡ None =
+          sym (cond-true _ _ _ (lt-ltb stamp (horizon past) low))
           ∙ sym (cond-false _ _ _ (le-ltb (floor nodes past) stamp low_floor)) ∙ none in cc)
       | inr high ↦ high
     ]
 
+-- what nothing refuses to vacuum is not above the floor
+pub vacuum-below : (nodes : ℕ) (past : List Step) (at : ℕ) → vacuum_refusal nodes past at ≡ None → at ≤ floor nodes past
+vacuum-below nodes past at none =
+    elim (cases_lt (floor nodes past) at) [
+      | inl above ↦ absurd (let e : Some (AboveFloor (floor nodes past)) ≡ None =
+          sym (cond-true _ _ _ (lt-ltb (floor nodes past) at above)) ∙ none in cc)
+      | inr low ↦ low
+    ]
+
+-- nor below the horizon
+pub vacuum-above : (nodes : ℕ) (past : List Step) (at : ℕ) → vacuum_refusal nodes past at ≡ None → horizon past ≤ at
+vacuum-above nodes past at none =
+    elim (cases_lt at (horizon past)) [
+      | inl low ↦
+          let low_floor : at ≤ floor nodes past = vacuum-below nodes past at none in
+          absurd (let e : Some (BelowHorizon (horizon past)) ≡ None =
+          sym (cond-true _ _ _ (lt-ltb at (horizon past) low))
+          ∙ sym (cond-false _ _ _ (le-ltb (floor nodes past) at low_floor)) ∙ none in cc)
+      | inr high ↦ high
+    ]
+
+-- and a stamp between them is not refused
+pub vacuum-none : (nodes : ℕ) (past : List Step) (at : ℕ) → at ≤ floor nodes past → horizon past ≤ at
+    → vacuum_refusal nodes past at ≡ None
+vacuum-none nodes past at low high = cond-false _ _ _ (le-ltb (floor nodes past) at low)
+    ∙ cond-false _ _ _ (le-ltb at (horizon past) high)
+
 -- the horizon is not above the floor
-pub horizon-low : (nodes : ℕ) (past : List Step) → IsLegal nodes past → horizon nodes past ≤ floor nodes past
+pub horizon-low : (nodes : ℕ) (past : List Step) → IsLegal nodes past → horizon past ≤ floor nodes past
 horizon-low nodes [] legal = omega arith
 horizon-low nodes (Took item ∷ past) legal =
-    let low : horizon nodes past ≤ floor nodes past = horizon-low nodes past legal.1 in
+    let low : horizon past ≤ floor nodes past = horizon-low nodes past legal.1 in
     let up : floor nodes past ≤ floor nodes (Took item ∷ past) = floor-grows nodes past item legal.0 in omega arith
 horizon-low nodes (Opened stamp ∷ past) legal = horizon-low nodes past legal.1
 horizon-low nodes (Closed id ∷ past) legal = horizon-low nodes past legal.1
-horizon-low nodes (Vacuumed ∷ past) legal = omega arith
+horizon-low nodes (Vacuumed at ∷ past) legal = vacuum-below nodes past at legal.0
 horizon-low nodes (Joined node start ∷ past) legal =
-    let low : horizon nodes past ≤ floor nodes past = horizon-low nodes past legal.3 in
+    let low : horizon past ≤ floor nodes past = horizon-low nodes past legal.3 in
     let up : floor nodes past ≤ floor nodes (Joined node start ∷ past) =
     floor-joins nodes past node start legal.1 legal.2 in omega arith
 
 -- what is accepted is above the horizon
 pub above-horizon : (nodes : ℕ) (past : List Step) (item : Item) → IsLegal nodes past
-    → item_refusal nodes past item ≡ None → horizon nodes past < item.stamp
+    → item_refusal nodes past item ≡ None → horizon past < item.stamp
 above-horizon nodes past item legal none =
-    let low : horizon nodes past ≤ floor nodes past = horizon-low nodes past legal in
+    let low : horizon past ≤ floor nodes past = horizon-low nodes past legal in
     let up : floor nodes past < item.stamp = above_floor nodes past item none in omega arith
 
 -- a stamp that is neither above the floor nor below the horizon is refused for want of room alone
-pub open-room : (nodes : ℕ) (past : List Step) (stamp : ℕ) → stamp ≤ floor nodes past → horizon nodes past ≤ stamp
+pub open-room : (nodes : ℕ) (past : List Step) (stamp : ℕ) → stamp ≤ floor nodes past → horizon past ≤ stamp
     → open_refusal nodes past stamp ≡ room_refusal past
 open-room nodes past stamp low high = cond-false _ _ _ (le-ltb (floor nodes past) stamp low)
-    ∙ cond-false _ _ _ (le-ltb stamp (horizon nodes past) high)
+    ∙ cond-false _ _ _ (le-ltb stamp (horizon past) high)
+
+-- the top is the greatest accepted stamp, but for starts: it is not below it
+pub accepted-low : (past : List Step) → greatest_accepted past ≤ top past
+accepted-low [] = omega arith
+accepted-low (Took item ∷ past) =
+    let old : greatest_accepted past ≤ top past = accepted-low past in
+    let goal : max (greatest_accepted past) item.stamp ≤ max (top past) item.stamp = omega arith in goal
+accepted-low (Opened stamp ∷ past) = accepted-low past
+accepted-low (Closed id ∷ past) = accepted-low past
+accepted-low (Vacuumed at ∷ past) = accepted-low past
+accepted-low (Joined node start ∷ past) =
+    let old : greatest_accepted past ≤ top past = accepted-low past in
+    let goal : greatest_accepted past ≤ max (top past) start = omega arith in goal
+
+-- a node that retired issued its head
+pub retired-head : (nodes : ℕ) (past : List Step) (n : ℕ) → IsLegal nodes past → retired n past ≡ true
+    → head n past ≤ greatest_accepted past
+retired-head nodes [] n legal gone = omega arith
+retired-head nodes (Opened stamp ∷ past) n legal gone = retired-head nodes past n legal.1 gone
+retired-head nodes (Closed id ∷ past) n legal gone = retired-head nodes past n legal.1 gone
+retired-head nodes (Vacuumed at ∷ past) n legal gone = retired-head nodes past n legal.1 gone
+retired-head nodes (Joined node start ∷ past) n legal gone =
+    elim (cases_eq node n) [
+      | inl same ↦
+          let none = fresh nodes past n legal.3 (let is : node ≡ numbered nodes past = legal.1 in omega arith) in
+          absurd (let e : false ≡ true = sym none.1 ∙ gone in cc)
+      | inr other ↦
+          let e : head n (Joined node start ∷ past) ≡ head n past = head-joined_other n node start past other in
+          let old : head n past ≤ greatest_accepted past = retired-head nodes past n legal.3 gone in omega arith
+    ]
+retired-head nodes (Took item ∷ past) n legal gone =
+    elim (cases_eq item.node n) [
+      | inl same ↦
+          let e : head n (Took item ∷ past) ≡ item.stamp = head-same n item past same in
+          let goal : head n (Took item ∷ past) ≤ max (greatest_accepted past) item.stamp = omega arith in goal
+      | inr other ↦
+          let e : head n (Took item ∷ past) ≡ head n past = head-other n item past other in
+          let old : head n past ≤ greatest_accepted past =
+          retired-head nodes past n legal.1 (sym (retired-other n item past other) ∙ gone) in
+          let goal : head n (Took item ∷ past) ≤ max (greatest_accepted past) item.stamp = omega arith in goal
+    ]
+
+-- a join at the floor leaves it
+pub floor-at_floor : (nodes : ℕ) (past : List Step) (node : ℕ) → IsLegal nodes past → node ≡ numbered nodes past
+    → floor nodes (Joined node (floor nodes past) ∷ past) ≡ floor nodes past
+floor-at_floor nodes past node legal is =
+    let start : ℕ = floor nodes past in
+    let up : floor nodes past ≤ floor nodes (Joined node start ∷ past) =
+    floor-joins nodes past node start is (omega arith) in
+    let at : head node (Joined node start ∷ past) ≡ start = head-joined node node start past refl in
+    let within : node < numbered nodes past + 1 = omega arith in
+    let here = fresh nodes past node legal (omega arith) in
+    let low : floor nodes (Joined node start ∷ past) ≤ head node (Joined node start ∷ past) =
+    floor-le nodes (Joined node start ∷ past) node within here.1 in omega arith
+
+-- and is refused as a join without a start
+pub join-at_floor : (nodes : ℕ) (past : List Step)
+    → join_at_refusal nodes past (floor nodes past) ≡ join_refusal nodes past
+join-at_floor nodes past =
+    elim (cases_lt (numbered nodes past) MOST_NUMBERS) [
+      | inl few ↦
+          let f = lt-leb MOST_NUMBERS (numbered nodes past) few in
+          cond-false _ _ _ f ∙ cond-false _ _ _ (le-ltb (floor nodes past) (floor nodes past) (omega arith))
+          ∙ sym (cond-false _ _ _ f)
+      | inr full ↦ let f = le-leb MOST_NUMBERS (numbered nodes past) full in cond-true _ _ _ f ∙ sym (cond-true _ _ _ f)
+    ]

@@ -15,11 +15,13 @@ use Rattle.hlc_heads.specs.Heads.{Marks, IsFloor, head_at, floor_of, marked, joi
 use Rattle.hlc_heads.specs.declared.heads.TheConstants.{MOST_NODES, MOST_NUMBERS}
 use Rattle.hlc_heads.proofs.LowLemmas.{low-is, floor-is}
 use Rattle.hlc_witness.specs.Cost.{IsInLimits}
-use Rattle.hlc_core.specs.Past.{body_rows}
+use Rattle.hlc_core.specs.Past.{Step, body_rows, floor}
+use Rattle.hlc_core.specs.Checkpoint.{floor_in}
+use Rattle.hlc_core.specs.Kept.{Kept, nodes, StandsFor}
 use Rattle.hlc_core.specs.Kept.{HasNodes, HasStamps, HasLastItem, HaveHeads, IsSound, greatest_head, marks_of}
 use Rattle.hlc_core.proofs.PastLemmas.{limits-body}
 use Rattle.hlc_core.proofs.Held.{floor-marked, floor-joined}
-use Rattle.hlc_core.proofs.Standing.{heads-set, heads-joined, heads-length, head-of}
+use Rattle.hlc_core.proofs.Standing.{heads-set, heads-joined, heads-length, head-of, floor-from}
 
 abbrev a_link : ℕ → ℕ → Bool → Progress
 a_link next head gone = record { next = next; head = head; retired = gone }
@@ -147,34 +149,16 @@ sound-moved start links top horizon rows moved h moves = record {
   limits = All-permutation IsInLimits rows moved moves h.limits;
 }
 
--- the floor is not above the greatest head
-floor-low : (links : List Progress) (marks : Marks) (floor : ℕ) → HaveHeads links marks
-    → marks.top ≡ greatest_head links → IsFloor marks floor → floor ≤ greatest_head links
-floor-low links marks floor have top is =
-    elim is [
-      | inl one ↦
-          let within : one.is_head.0 < length links =
-          (let len = heads-length links marks have in let w = one.is_head.1 in omega (arith, len, w)) in
-          let at : (head_at marks.heads one.is_head.0).stamp ≡ floor = one.is_head.3 in
-          let e : (head_at marks.heads one.is_head.0).stamp ≡ (get_or links one.is_head.0 no_link).head =
-          ap (λ x. x.stamp) (head-of links marks one.is_head.0 have within) in
-          let ge = greatest-ge links one.is_head.0 no_link within in omega (arith, ge)
-      | inr all' ↦ (let at : floor ≡ marks.top = all'.1 in omega arith)
-    ]
-
--- a node joins at the floor
-pub sound-joined : (start : ℕ) (links : List Progress) (marks : Marks) (horizon floor : ℕ) (rows : List Row)
+-- a node joins, not below the floor
+pub sound-joined : (start : ℕ) (links : List Progress) (marks : Marks) (horizon at : ℕ) (rows : List Row)
     → IsSound start links marks.top horizon rows → HaveHeads links marks → length links < MOST_NUMBERS
-    → IsFloor marks floor → IsSound start (links ++ a_link 0 floor false ∷ []) marks.top horizon rows
-sound-joined start links marks horizon floor rows h have few is =
-    let l : length (links ++ a_link 0 floor false ∷ []) ≡ length links + 1 =
-    length-append links (a_link 0 floor false ∷ []) in
-    let at : floor ≡ floor_of marks = floor-is marks floor is in
-    let low : floor ≤ greatest_head links = floor-low links marks floor have h.top is in
+    → floor_of marks ≤ at → IsSound start (links ++ a_link 0 at false ∷ []) (max marks.top at) horizon rows
+sound-joined start links marks horizon at rows h have few up =
+    let l : length (links ++ a_link 0 at false ∷ []) ≡ length links + 1 =
+    length-append links (a_link 0 at false ∷ []) in
     let old : horizon ≤ floor_of marks = subst (λ m. horizon ≤ floor_of m) (sym have.same) h.horizon in
-    let stay : floor_of marks ≤ floor_of (joined marks floor) =
-    subst (λ s. floor_of marks ≤ floor_of (joined marks s)) (sym at) (floor-joined marks) in
-    let new : horizon ≤ floor_of (joined marks floor) = omega arith in
+    let stay : floor_of marks ≤ floor_of (joined marks at) = floor-joined marks at up in
+    let new : horizon ≤ floor_of (joined marks at) = omega arith in
     record {
       nodes = record {
         some = h.nodes.some;
@@ -182,27 +166,31 @@ sound-joined start links marks horizon floor rows h have few is =
         linked = (let g = h.nodes.linked in omega (arith, g));
         given = omega arith;
       };
-      stamps = All-push HasStamps links (a_link 0 floor false) h.stamps (omega arith);
-      last = All-push HasLastItem links (a_link 0 floor false) h.last (λ gone. absurd cc);
-      top = (let t : marks.top ≡ greatest_head links = h.top in
-          let g : greatest_head (links ++ a_link 0 floor false ∷ []) ≡ max (greatest_head links) floor =
-          greatest-joined links (a_link 0 floor false) in omega arith);
-      horizon = subst (λ m. horizon ≤ floor_of m) (heads-joined links marks floor have few).same new;
+      stamps = All-push HasStamps links (a_link 0 at false) h.stamps (omega arith);
+      last = All-push HasLastItem links (a_link 0 at false) h.last (λ gone. absurd cc);
+      top = ap (λ t. max t at) h.top ∙ sym (greatest-joined links (a_link 0 at false));
+      horizon = subst (λ m. horizon ≤ floor_of m) (heads-joined links marks at have few).same new;
       limits = h.limits;
     }
 
--- rows are dropped, and the floor is the horizon
-pub sound-vacuum : (start : ℕ) (links : List Progress) (top horizon floor : ℕ) (rows fewer : List Row)
-    → IsSound start links top horizon rows → IsFloor (marks_of links top) floor
-    → ((row : Row) → Contains fewer row → Contains rows row) → IsSound start links top floor fewer
-sound-vacuum start links top horizon floor rows fewer h is within =
-    let at : floor ≡ floor_of (marks_of links top) = floor-is (marks_of links top) floor is in
+-- rows are dropped up to a stamp that is not above the floor
+pub sound-vacuum : (start : ℕ) (links : List Progress) (top horizon at : ℕ) (rows fewer : List Row)
+    → IsSound start links top horizon rows → at ≤ floor_of (marks_of links top)
+    → ((row : Row) → Contains fewer row → Contains rows row) → IsSound start links top at fewer
+sound-vacuum start links top horizon at rows fewer h low within =
     record {
       nodes = h.nodes;
       stamps = h.stamps;
       last = h.last;
       top = h.top;
-      horizon = omega arith;
+      horizon = low;
       limits = All-weaker (Contains fewer) IsInLimits (λ row m. All-contains IsInLimits rows row h.limits (within row m))
           fewer (All-contains_itself fewer);
     }
+
+-- the floor of what is kept is that of the past
+pub floor-in : (kept : Kept) (past : List Step) → HasNodes kept.start kept.links → StandsFor kept past
+    → floor_in kept ≡ floor (nodes kept) past
+floor-in kept past has h =
+    floor-from kept past (marks_of kept.links kept.top) (floor_in kept) (heads-had kept.start kept.links kept.top has) refl h
+    (floor-holds (marks_of kept.links kept.top))

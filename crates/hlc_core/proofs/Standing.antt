@@ -23,10 +23,10 @@ use Rattle.hlc_heads.specs.Heads.{Marks, IsFloor, a_head, head_at, marked as rai
 use Rattle.hlc_heads.specs.declared.heads.TheConstants.{MOST_NODES, MOST_NUMBERS}
 use Rattle.hlc_heads.specs.declared.heads.Head.{Head}
 use Rattle.hlc_core.specs.declared.fault.CoreFault.{CoreFault}
-use Rattle.hlc_core.specs.declared.fault.CoreFault.TheVariants.{NoNode}
+use Rattle.hlc_core.specs.declared.fault.CoreFault.TheVariants.{NoNode, TooManyNodes}
 use Rattle.hlc_core.specs.Past.{Step, Took, Opened, Closed, Joined, numbered, count, head, retired, top, floor, horizon}
 use Rattle.hlc_core.specs.Past.{opened, writes, body_rows, item_rows, open_snapshots, link_refusal, item_refusal}
-use Rattle.hlc_core.specs.Past.{join_refusal, of_registry, of_room, room_refusal, open_refusal, stamp_of, IsLegal}
+use Rattle.hlc_core.specs.Past.{join_refusal, join_at_refusal, of_registry, of_room, room_refusal, open_refusal, stamp_of, IsLegal}
 use Rattle.hlc_core.specs.Kept.{Kept, nodes, HaveHeads, StandsFor}
 use Rattle.hlc_snapshot.specs.declared.fault.SnapshotFault.{SnapshotFault}
 use Rattle.hlc_snapshot.specs.declared.snapshot.Snapshot.{Snapshot}
@@ -174,7 +174,7 @@ heads-joined links marks start h few =
     record {
       some = omega arith;
       few = omega arith;
-      same = ap (λ (xs : List Head). record { heads = xs; top = marks.top })
+      same = ap (λ (xs : List Head). record { heads = xs; top = max marks.top start })
           (ap (λ (m : Marks). m.heads ++ a_head start false ∷ []) h.same
           ∙ sym (map-append head_of links (a_link 0 start false ∷ [])));
     }
@@ -261,7 +261,7 @@ took kept past item h none =
     let same : length (slice_set kept.links item.node link) ≡ length kept.links =
     length-set kept.links item.node link in
     let legal : IsLegal (nodes kept) (Took item ∷ past) = (none, h.legal) in
-    let up : horizon (nodes kept) past < item.stamp = above-horizon (nodes kept) past item h.legal none in
+    let up : horizon past < item.stamp = above-horizon (nodes kept) past item h.legal none in
     record {
       legal = legal;
       many = same ∙ h.many;
@@ -269,12 +269,12 @@ took kept past item h none =
       top = ap (λ t. max t item.stamp) h.top;
       snapshots = h.snapshots;
       opened = h.opened;
-      rows = rows-body kept.rows (writes past) (horizon (nodes kept) past) (stamps (open_snapshots past)) item.node
+      rows = rows-body kept.rows (writes past) (horizon past) (stamps (open_snapshots past)) item.node
           item.stamp item.body h.rows up (writes-row_set (nodes kept) (Took item ∷ past) legal);
       stored = (
         h.stored.0,
         h.stored.1,
-        count-body kept.rows (writes past) (horizon (nodes kept) past)
+        count-body kept.rows (writes past) (horizon past)
             (length h.stored.0) item.node item.stamp item.body h.stored.2 up,
       );
       horizon = h.horizon;
@@ -284,7 +284,7 @@ abbrev pub with_link : Kept → ℕ → Kept
 with_link kept start = record {
   start = kept.start;
   links = kept.links ++ a_link 0 start false ∷ [];
-  top = kept.top;
+  top = max kept.top start;
   snapshots = kept.snapshots;
   opened = kept.opened;
   horizon = kept.horizon;
@@ -293,13 +293,13 @@ with_link kept start = record {
 
 -- a node that nothing refuses joins
 pub joins : (kept : Kept) (past : List Step) (node start : ℕ) → StandsFor kept past
-    → join_refusal (nodes kept) past ≡ None → node ≡ numbered (nodes kept) past → start ≡ floor (nodes kept) past
+    → join_refusal (nodes kept) past ≡ None → node ≡ numbered (nodes kept) past → floor (nodes kept) past ≤ start
     → StandsFor (with_link kept start) (Joined node start ∷ past)
-joins kept past node start h none is at =
+joins kept past node start h none is up =
     let link : Progress = a_link 0 start false in
     let l : length (kept.links ++ link ∷ []) ≡ length kept.links + 1 = length-append kept.links (link ∷ []) in
     record {
-      legal = (none, is, at, h.legal);
+      legal = (none, is, up, h.legal);
       many = l ∙ ap (λ n. n + 1) h.many;
       links = λ n lt.
           elim (cases_eq n (length kept.links)) [
@@ -319,7 +319,7 @@ joins kept past node start h none is at =
                 ∙ sym (ap (λ k. Some (a_link (count n past) k (retired n past)))
                 (head-joined_other n node start past other))
           ];
-      top = h.top;
+      top = ap (λ t. max t start) h.top;
       snapshots = h.snapshots;
       opened = h.opened;
       rows = h.rows;
@@ -409,10 +409,10 @@ opens kept past stamp h none =
       snapshots = ap (λ xs. xs ++ record { id = kept.opened + 1; stamp = stamp } ∷ []) h.snapshots
           ∙ ap (λ n. open_snapshots past ++ record { id = n + 1; stamp = stamp } ∷ []) h.opened;
       opened = ap (λ n. n + 1) h.opened;
-      rows = subst (λ opened. RowsStandFor kept.rows (writes past) (horizon (nodes kept) past) opened)
+      rows = subst (λ opened. RowsStandFor kept.rows (writes past) (horizon past) opened)
           (sym (map-append (λ (snapshot : Snapshot). snapshot.stamp) (open_snapshots past)
           (record { id = opened past + 1; stamp = stamp } ∷ [])))
-          (opens_keep_standing kept.rows (writes past) (horizon (nodes kept) past) stamp
+          (opens_keep_standing kept.rows (writes past) (horizon past) stamp
           (stamps (open_snapshots past)) h.rows (open-above (nodes kept) past stamp none));
       stored = h.stored;
       horizon = h.horizon;
@@ -469,7 +469,7 @@ closes kept past id stamp h there =
         top = h.top;
         snapshots = ap (without id) h.snapshots;
         opened = h.opened;
-        rows = fewer-open kept.rows (writes past) (horizon (nodes kept) past) (stamps (open_snapshots past))
+        rows = fewer-open kept.rows (writes past) (horizon past) (stamps (open_snapshots past))
             (stamps (without id (open_snapshots past))) h.rows (λ stamp m. still-open id stamp (open_snapshots past) m);
         stored = h.stored;
         horizon = h.horizon;
@@ -591,6 +591,17 @@ closes-result kept past id new (Err fault) h ok err = ap (stamp_in id) (sym h.sn
 pub joins-none : (nodes : ℕ) (past : List Step) (many : ℕ) → many < MOST_NUMBERS → many ≡ numbered nodes past
     → join_refusal nodes past ≡ None
 joins-none nodes past many few is = cond-false _ _ _ (lt-leb MOST_NUMBERS (numbered nodes past) (omega (arith, is)))
+
+-- nor where its start is not below the floor
+pub joins-at_none : (nodes : ℕ) (past : List Step) (start : ℕ) → join_refusal nodes past ≡ None
+    → floor nodes past ≤ start → join_at_refusal nodes past start ≡ None
+joins-at_none nodes past start none up =
+    elim (cases_lt (numbered nodes past) MOST_NUMBERS) [
+      | inl few ↦ cond-false _ _ _ (lt-leb MOST_NUMBERS (numbered nodes past) few)
+          ∙ cond-false _ _ _ (le-ltb start (floor nodes past) up)
+      | inr full ↦ absurd (let e : Some TooManyNodes ≡ None =
+          sym (cond-true _ _ _ (le-leb MOST_NUMBERS (numbered nodes past) full)) ∙ none in cc)
+    ]
 
 -- a pair is its parts
 pub both : (made : ℕ × ℕ) (x y : ℕ) → made.0 ≡ x → made.1 ≡ y → made ≡ (x, y)

@@ -1,114 +1,152 @@
--- A vacuum: what it leaves stands for the past with it, its report is the due one,
--- and what is left at or below the floor are the fewest.
-use Rattle.std.proofs.Common.{◌≡◌, ℕ, ◌+◌, List, ◌∷◌, length, leb, refl, ap, sym, ◌∙◌, subst, arith}
+-- A vacuum to a stamp: what it leaves stands for the past with it, its report is the one expected, and what is left at
+-- or below the stamp are the fewest. The open snapshots above the stamp go on answering, as all rows above it stay.
+use Rattle.std.proofs.Common.{◌≡◌, ℕ, ◌+◌, ◌<◌, ◌≤◌, List, ◌∷◌, length, leb, None, Contains, refl, ap, sym, ◌∙◌, subst, inl}
+use Rattle.std.proofs.Common.{inr, arith}
 use Rattle.std.specs.List.Sorted.{IsPermutation}
 use Rattle.hlc_node.specs.declared.row.Row.{Row}
-use Rattle.hlc_snapshot.specs.Register.{stamps}
+use Rattle.std.proofs.lemmas.Bool.{cases_lt, le-leb}
+use Rattle.std.proofs.lemmas.List.Elements.{All-contains}
+use Rattle.hlc_values.proofs.MemberLemmas.{Contains-from_filter, Contains-filter}
+use Rattle.hlc_snapshot.specs.declared.snapshot.Snapshot.{Snapshot}
+use Rattle.hlc_snapshot.specs.Register.{stamps, stamps_to}
+use Rattle.hlc_snapshot.proofs.RegisterLemmas.{stamps_to-low}
 use Rattle.hlc_clock.specs.Points.{PointsAscend}
 use Rattle.hlc_witness.specs.Fewest.{Fewest}
 use Rattle.hlc_witness.specs.Cost.{Cheapest, rows_cost}
 use Rattle.hlc_vacuum.specs.Vacuumed.{IsVacuumOf, rows_to}
-use Rattle.hlc_vacuum.specs.Standing.{StandsAfterVacuum, count_above, count_between}
+use Rattle.hlc_vacuum.specs.Standing.{RowsStandFor, StandsAfterVacuum, count_above, count_between}
 use Rattle.hlc_witness.proofs.CostLemmas.{fewest_rows_are_cheapest, fewest_rows_cost}
 use Rattle.hlc_vacuum.proofs.StandingLemmas.{vacuums_compose, standing_rows_are_fewest, vacuums_are_certified}
 use Rattle.hlc_vacuum.proofs.StandingLemmas.{rows_above_are_counted}
 use Rattle.hlc_vacuum.specs.declared.report.Report.{Report}
-use Rattle.hlc_core.specs.Past.{Step, Vacuumed, floor, horizon, open_snapshots, writes}
+use Rattle.hlc_core.specs.Past.{Step, Vacuumed, horizon, open_snapshots, writes, vacuum_refusal}
 use Rattle.hlc_core.specs.Stored.{AreVacuumPoints, IsReport, LeavesFewest}
 use Rattle.hlc_core.specs.Kept.{Kept, nodes, with_rows_left, StandsFor}
 use Rattle.hlc_core.specs.Calls.{Vacuums}
-use Rattle.hlc_core.proofs.PastLemmas.{horizon-low, writes-limits}
+use Rattle.hlc_core.proofs.PastLemmas.{vacuum-above, writes-limits}
 use Rattle.hlc_columns.proofs.FlagLemmas.{filter-IsRowSet}
-use Rattle.hlc_core.proofs.ReportLemmas.{open-stamps-low, one-changes}
+use Rattle.hlc_core.proofs.ReportLemmas.{one-changes}
 use Rattle.hlc_clock.proofs.PointLemmas.{points-ascend, points-last}
 
--- what was left is the fewest, where it stands for the past of the vacuum and the report is the due one
-pub leaves-fewest : (kept : Kept) (past : List Step) (report : Report) → StandsFor kept (Vacuumed ∷ past)
-    → IsReport (nodes kept) past report → LeavesFewest kept.rows (writes past) report
-leaves-fewest kept past report h due =
-    let opened : List ℕ = stamps (open_snapshots past) in
-    let low : ℕ = floor (nodes kept) past in
-    let ascend : PointsAscend report.points = points-ascend opened report.points low due.points in
-    let same : h.stored.0 ≡ report.witnesses = one-changes (nodes kept) past h.stored.1.0 report.points
+-- with fewer snapshots open
+fewer-open : (stored all : List Row) (horizon at : ℕ) (snapshots : List Snapshot)
+    → RowsStandFor stored all horizon (stamps snapshots) → RowsStandFor stored all horizon (stamps_to at snapshots)
+fewer-open stored all horizon at snapshots stand = record {
+  row_set = stand.row_set;
+  all_row_set = stand.all_row_set;
+  within = stand.within;
+  above = stand.above;
+  at_open = λ key stamp m.
+      stand.at_open key stamp (Contains-from_filter (λ s. leb s at) (stamps snapshots) stamp m).0;
+  from_horizon = stand.from_horizon;
+}
+
+-- and with those that are open above the horizon
+more-open : (stored all : List Row) (at : ℕ) (snapshots : List Snapshot)
+    → RowsStandFor stored all at (stamps_to at snapshots) → RowsStandFor stored all at (stamps snapshots)
+more-open stored all at snapshots stand = record {
+  row_set = stand.row_set;
+  all_row_set = stand.all_row_set;
+  within = stand.within;
+  above = stand.above;
+  at_open = λ key stamp m.
+      elim (cases_lt at stamp) [
+        | inl above ↦ stand.from_horizon key stamp (omega arith)
+        | inr below ↦ stand.at_open key stamp
+            (Contains-filter (λ s. leb s at) (stamps snapshots) stamp m (le-leb stamp at below))
+      ];
+  from_horizon = stand.from_horizon;
+}
+
+-- none of those that count is above the stamp
+low-open : (at : ℕ) (snapshots : List Snapshot) (stamp : ℕ) → Contains (stamps_to at snapshots) stamp → stamp ≤ at
+low-open at snapshots stamp m =
+    All-contains (λ stamp. stamp ≤ at) (stamps_to at snapshots) stamp (stamps_to-low at snapshots) m
+
+-- what was left is the fewest, where it stands for the past of the vacuum and the report is the one expected
+pub leaves-fewest : (kept : Kept) (at : ℕ) (past : List Step) (report : Report) → StandsFor kept (Vacuumed at ∷ past)
+    → IsReport at past report → LeavesFewest kept.rows (writes past) report
+leaves-fewest kept at past report h due =
+    let opened : List ℕ = stamps_to at (open_snapshots past) in
+    let ascend : PointsAscend report.points = points-ascend opened report.points at due.points in
+    let same : h.stored.0 ≡ report.witnesses = one-changes at past h.stored.1.0 report.points
     h.stored.0 report.witnesses h.stored.1.1 due.points h.stored.1.2 due.witnesses in
-    let count : length kept.rows ≡ length report.witnesses + count_above low (writes past) = h.stored.2
-    ∙ ap (λ changes. length changes + count_above low (writes past)) same in
-    let after : StandsAfterVacuum kept.rows (writes past) low opened report.points report.witnesses =
-    standing_rows_are_fewest kept.rows (writes past) low opened report.points report.witnesses h.rows due.points.members
-    (open-stamps-low (nodes kept) past h.legal) due.witnesses count in
+    let count : length kept.rows ≡ length report.witnesses + count_above at (writes past) = h.stored.2
+    ∙ ap (λ changes. length changes + count_above at (writes past)) same in
+    let after : StandsAfterVacuum kept.rows (writes past) at opened report.points report.witnesses =
+    standing_rows_are_fewest kept.rows (writes past) at opened report.points report.witnesses
+    (fewer-open kept.rows (writes past) at at (open_snapshots past) h.rows) due.points.members
+    (low-open at (open_snapshots past)) due.witnesses count in
     record {
       row_set = filter-IsRowSet (λ row. leb row.stamp report.floor) kept.rows h.rows.row_set;
-      fewest = subst (λ f. Fewest (rows_to f kept.rows) (writes past) report.points) (sym due.at_floor) after.fewest;
-      cheapest = subst (λ f. Cheapest (rows_to f kept.rows) (writes past) report.points) (sym due.at_floor)
-          (fewest_rows_are_cheapest (writes past) (rows_to low kept.rows) report.points report.witnesses
+      fewest = subst (λ f. Fewest (rows_to f kept.rows) (writes past) report.points) (sym due.at_stamp) after.fewest;
+      cheapest = subst (λ f. Cheapest (rows_to f kept.rows) (writes past) report.points) (sym due.at_stamp)
+          (fewest_rows_are_cheapest (writes past) (rows_to at kept.rows) report.points report.witnesses
           after.listed.ascend after.listed.each after.fewest.alike after.count);
-      count = ap (λ f. length (rows_to f kept.rows)) due.at_floor ∙ after.count ∙ sym due.kept;
-      cost = ap (λ f. rows_cost (rows_to f kept.rows)) due.at_floor
-          ∙ fewest_rows_cost (writes past) (rows_to low kept.rows) report.points report.witnesses after.listed.ascend
+      count = ap (λ f. length (rows_to f kept.rows)) due.at_stamp ∙ after.count ∙ sym due.kept;
+      cost = ap (λ f. rows_cost (rows_to f kept.rows)) due.at_stamp
+          ∙ fewest_rows_cost (writes past) (rows_to at kept.rows) report.points report.witnesses after.listed.ascend
           after.listed.each after.fewest.alike after.count
           ∙ sym due.bytes;
-      certified = λ listed moved up. vacuums_are_certified kept.rows (writes past) listed low opened report.points
-          report.witnesses after ascend (points-last opened report.points low due.points)
-          (subst (λ f. IsPermutation (rows_to f kept.rows) listed) due.at_floor moved) up
-          (writes-limits (nodes kept) past h.legal);
+      certified = λ listed moved up. vacuums_are_certified kept.rows (writes past) listed at opened report.points
+          report.witnesses after ascend (points-last opened report.points at due.points)
+          (subst (λ f. IsPermutation (rows_to f kept.rows) listed) due.at_stamp moved) up
+          (writes-limits (nodes kept) past h.legal.1);
     }
 
 -- what a vacuum of the stored rows leaves stands for the past with it
-pub stands-vacuumed : (kept : Kept) (past : List Step) (rows : List Row) (report : Report)
-    → StandsFor kept past → AreVacuumPoints (nodes kept) past report.points
-    → IsVacuumOf kept.rows report.points report.witnesses rows → StandsAfterVacuum rows (writes past)
-    (floor (nodes kept) past) (stamps (open_snapshots past)) report.points report.witnesses
-stands-vacuumed kept past rows report h at made =
-    vacuums_compose kept.rows (writes past) rows (horizon (nodes kept) past) (floor (nodes kept) past)
-    (stamps (open_snapshots past)) report.points report.witnesses
-    h.rows (horizon-low (nodes kept) past h.legal)
-    (points-ascend (stamps (open_snapshots past)) report.points (floor (nodes kept) past) at) at.members
-    (open-stamps-low (nodes kept) past h.legal) made
+pub stands-vacuumed : (kept : Kept) (at : ℕ) (past : List Step) (rows : List Row) (report : Report)
+    → StandsFor kept past → horizon past ≤ at → AreVacuumPoints at past report.points
+    → IsVacuumOf kept.rows report.points report.witnesses rows → StandsAfterVacuum rows (writes past) at
+    (stamps_to at (open_snapshots past)) report.points report.witnesses
+stands-vacuumed kept at past rows report h high are made =
+    vacuums_compose kept.rows (writes past) rows (horizon past) at (stamps_to at (open_snapshots past)) report.points
+    report.witnesses (fewer-open kept.rows (writes past) (horizon past) at (open_snapshots past) h.rows) high
+    (points-ascend (stamps_to at (open_snapshots past)) report.points at are) are.members
+    (low-open at (open_snapshots past)) made
 
-pub vacuums : (kept : Kept) (past : List Step) (rows : List Row) (report : Report)
-    → StandsFor kept past → AreVacuumPoints (nodes kept) past report.points
-    → IsVacuumOf kept.rows report.points report.witnesses rows → report.floor ≡ floor (nodes kept) past
+pub vacuums : (kept : Kept) (at : ℕ) (past : List Step) (rows : List Row) (report : Report)
+    → StandsFor kept past → vacuum_refusal (nodes kept) past at ≡ None → AreVacuumPoints at past report.points
+    → IsVacuumOf kept.rows report.points report.witnesses rows → report.floor ≡ at
     → report.kept ≡ length report.witnesses → report.dropped + length rows ≡ length kept.rows
     → report.bytes ≡ rows_cost (rows_to report.floor rows)
-    → Vacuums kept (with_rows_left kept rows (floor (nodes kept) past)) past report
-vacuums kept past rows report h at made at_floor number dropped bytes =
-    let low : ℕ = floor (nodes kept) past in
-    let after : StandsAfterVacuum rows (writes past) low (stamps (open_snapshots past)) report.points report.witnesses =
-    stands-vacuumed kept past rows report h at made in
-    let stands : StandsFor (with_rows_left kept rows low) (Vacuumed ∷ past) = record {
-      legal = h.legal;
+    → Vacuums kept (with_rows_left kept rows at) at past report
+vacuums kept at past rows report h none are made at_stamp number dropped bytes =
+    let high : horizon past ≤ at = vacuum-above (nodes kept) past at none in
+    let after : StandsAfterVacuum rows (writes past) at (stamps_to at (open_snapshots past)) report.points
+    report.witnesses = stands-vacuumed kept at past rows report h high are made in
+    let stands : StandsFor (with_rows_left kept rows at) (Vacuumed at ∷ past) = record {
+      legal = (none, h.legal);
       many = h.many;
       links = h.links;
       top = h.top;
       snapshots = h.snapshots;
       opened = h.opened;
-      rows = after.stands;
-      stored = (report.witnesses, (report.points, at, after.listed), after.stored_count);
+      rows = more-open rows (writes past) at (open_snapshots past) after.stands;
+      stored = (report.witnesses, (report.points, are, after.listed), after.stored_count);
       horizon = refl;
     } in
-    let due : IsReport (nodes kept) past report = record {
-      at_floor = at_floor;
-      points = at;
+    let due : IsReport at past report = record {
+      at_stamp = at_stamp;
+      points = are;
       witnesses = after.listed;
       kept = number;
-      bytes = bytes ∙ ap (λ f. rows_cost (rows_to f rows)) at_floor
-          ∙ fewest_rows_cost (writes past) (rows_to low rows) report.points report.witnesses after.listed.ascend
+      bytes = bytes ∙ ap (λ f. rows_cost (rows_to f rows)) at_stamp
+          ∙ fewest_rows_cost (writes past) (rows_to at rows) report.points report.witnesses after.listed.ascend
           after.listed.each after.fewest.alike after.count;
       dropped = (
         h.stored.0,
         h.stored.1,
-        let was : length kept.rows ≡ length h.stored.0 + count_above (horizon (nodes kept) past) (writes past) =
-            h.stored.2 in
-            let parts : count_above (horizon (nodes kept) past) (writes past)
-            ≡ count_between (horizon (nodes kept) past) low (writes past) + count_above low (writes past) =
-            rows_above_are_counted (horizon (nodes kept) past) low (writes past)
-            (horizon-low (nodes kept) past h.legal) in
-            let now : length rows ≡ length report.witnesses + count_above low (writes past) = after.stored_count in
+        let was : length kept.rows ≡ length h.stored.0 + count_above (horizon past) (writes past) = h.stored.2 in
+            let parts : count_above (horizon past) (writes past)
+            ≡ count_between (horizon past) at (writes past) + count_above at (writes past) =
+            rows_above_are_counted (horizon past) at (writes past) high in
+            let now : length rows ≡ length report.witnesses + count_above at (writes past) = after.stored_count in
             omega (arith, number, dropped),
       );
     } in
     record {
       stands = stands;
       due = due;
-      fewest = leaves-fewest (with_rows_left kept rows low) past report stands due;
+      fewest = leaves-fewest (with_rows_left kept rows at) at past report stands due;
     }

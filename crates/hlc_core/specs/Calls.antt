@@ -18,7 +18,7 @@ use Rattle.hlc_witness.specs.Certificate.{RowsAscend}
 use Rattle.hlc_vacuum.specs.declared.report.Report.{Report as AReport}
 use Rattle.hlc_core.specs.Listing.{IsListing}
 use Rattle.hlc_core.specs.Past.{Step, Took, Opened, Closed, Vacuumed, Joined, numbered, count, floor, opened, stamp_of}
-use Rattle.hlc_core.specs.Past.{writes, item_refusal, join_refusal, room_refusal, open_refusal}
+use Rattle.hlc_core.specs.Past.{writes, item_refusal, join_refusal, join_at_refusal, room_refusal, open_refusal, vacuum_refusal}
 use Rattle.hlc_core.specs.Stored.{IsReport, LeavesFewest}
 use Rattle.hlc_core.specs.Kept.{Kept, nodes, StandsFor}
 
@@ -72,6 +72,14 @@ Joins old new past (Ok made) =
     × StandsFor new (Joined made.0 made.1 ∷ past)
 Joins old new past (Err fault) = IsRefusal (join_refusal (nodes old) past) ⊤ fault
 
+-- a node joined at this start: it was given the next number; or it was refused
+abbrev pub JoinsAt : Kept → Kept → ℕ → List Step → Result ℕ CoreFault → Type 0
+JoinsAt old new start past (Ok node) =
+    (join_at_refusal (nodes old) past start ≡ None)
+    × (node ≡ numbered (nodes old) past)
+    × StandsFor new (Joined node start ∷ past)
+JoinsAt old new start past (Err fault) = IsRefusal (join_at_refusal (nodes old) past start) ⊤ fault
+
 -- a snapshot was opened at the stamp, with an id one above the number of those opened before, or refused
 abbrev pub Opens : Kept → Kept → ℕ → List Step → Result ℕ CoreFault → Type 0
 Opens old new stamp past (Ok id) =
@@ -110,9 +118,27 @@ pub record AreRowsTo (rows : List Row) (bound : ℕ) (listed : List Row) : Type 
   pub same : IsPermutation (rows_to bound rows) listed
   pub ascend : RowsAscend listed
 
--- a vacuum took place: the core stands for it, the report is the due one, and what is left are the fewest rows against
--- all accepted writes
-pub record Vacuums (old new : Kept) (past : List Step) (report : AReport) : Type 0 where
-  pub stands : StandsFor new (Vacuumed ∷ past)
-  pub due : IsReport (nodes old) past report
+-- a vacuum to a stamp took place: the core stands for it, the report is the one expected, and what is left are the
+-- fewest rows against all accepted writes
+pub record Vacuums (old new : Kept) (at : ℕ) (past : List Step) (report : AReport) : Type 0 where
+  pub stands : StandsFor new (Vacuumed at ∷ past)
+  pub due : IsReport at past report
   pub fewest : LeavesFewest new.rows (writes past) report
+
+-- the answer to a check of a stamp is the first reason to vacuum no rows up to it, if there is one
+abbrev pub ChecksVacuum : Kept → ℕ → List Step → Result Unit CoreFault → Type 0
+ChecksVacuum kept at past result =
+    MatchResult result (λ _. vacuum_refusal (nodes kept) past at ≡ None)
+    (λ fault. vacuum_refusal (nodes kept) past at ≡ Some fault)
+
+-- a vacuum to the stamp took place, or was refused
+abbrev pub VacuumsTo : Kept → Kept → ℕ → List Step → Result AReport CoreFault → Type 0
+VacuumsTo old new at past (Ok report) =
+    (vacuum_refusal (nodes old) past at ≡ None) × Vacuums old new at past report
+VacuumsTo old new at past (Err fault) = IsRefusal (vacuum_refusal (nodes old) past at) ⊤ fault
+
+-- the same with the report made twice
+abbrev pub VacuumsPairTo : Kept → Kept → ℕ → List Step → Result (AReport × AReport) CoreFault → Type 0
+VacuumsPairTo old new at past (Ok reports) =
+    (vacuum_refusal (nodes old) past at ≡ None) × (reports.0 ≡ reports.1) × Vacuums old new at past reports.0
+VacuumsPairTo old new at past (Err fault) = IsRefusal (vacuum_refusal (nodes old) past at) ⊤ fault

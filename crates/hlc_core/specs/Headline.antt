@@ -1,16 +1,16 @@
 -- What is promised of a whole history, to be read aloud: each read and each vacuum, against all that was accepted
 -- before it, whatever vacuums dropped.
-use Rattle.std.specs.Prelude.{◌≡◌, ℕ, ◌≤◌, List, ◌∷◌, ◌++◌, length, Option, Some}
+use Rattle.std.specs.Prelude.{◌≡◌, ℕ, ◌≤◌, List, ◌∷◌, ◌++◌, length, Option, Some, None}
 use Rattle.hlc_node.specs.declared.row.Row.{Row}
 use Rattle.hlc_node.specs.Rows.{answer, IsRowSet}
 use Rattle.hlc_witness.specs.Fewest.{Alike}
 use Rattle.hlc_witness.specs.Cost.{rows_cost}
 use Rattle.hlc_vacuum.specs.declared.report.Report.{Report}
 use Rattle.hlc_core.specs.declared.event.CoreEvent.{CoreEvent}
-use Rattle.hlc_core.specs.declared.event.CoreEvent.TheVariants.{Read, Vacuum}
+use Rattle.hlc_core.specs.declared.event.CoreEvent.TheVariants.{Read, Vacuum, VacuumTo}
 use Rattle.hlc_core.specs.declared.reply.CoreReply.{CoreReply}
 use Rattle.hlc_core.specs.declared.reply.CoreReply.TheVariants.{Answer, Vacuumed}
-use Rattle.hlc_core.specs.Past.{stamp_of, writes}
+use Rattle.hlc_core.specs.Past.{Step, floor, stamp_of, writes}
 use Rattle.hlc_core.specs.Stored.{IsReport, LeavesFewest}
 use Rattle.hlc_core.specs.History.{past_of}
 
@@ -27,30 +27,36 @@ ReadsAreNewest history =
     → IsMoment history ((Read id key, Answer value) ∷ before)
     → (stamp : ℕ) × (stamp_of id (past_of before) ≡ Some stamp) × (value ≡ answer (writes (past_of before)) key stamp)
 
--- each vacuum reported its points, the changes of all accepted writes there and their number, and no row set that
--- answers alike at the points is smaller than the number of rows that it kept
+-- the stamp up to which an event asks to vacuum, if it asks for that
+abbrev pub vacuum_stamp : ℕ → List Step → CoreEvent → Option ℕ
+vacuum_stamp nodes past Vacuum = Some (floor nodes past)
+vacuum_stamp nodes past (VacuumTo at) = Some at
+vacuum_stamp nodes past _ = None
+
+-- each vacuum reported its points up to the stamp that was asked for, the changes of all accepted writes there and their
+-- number, and no row set that answers alike at the points is smaller than the number of rows that it kept
 abbrev pub VacuumsAreFewest : ℕ → List (CoreEvent × CoreReply) → Type 0
 VacuumsAreFewest nodes history =
-    (before : List (CoreEvent × CoreReply)) (report : Report)
-    → IsMoment history ((Vacuum, Vacuumed report) ∷ before)
-    → IsReport nodes (past_of before) report
+    (before : List (CoreEvent × CoreReply)) (event : CoreEvent) (report : Report)
+    → IsMoment history ((event, Vacuumed report) ∷ before)
+    → (at : ℕ) × (vacuum_stamp nodes (past_of before) event ≡ Some at) × IsReport at (past_of before) report
     × ((others : List Row) → IsRowSet others → Alike others (writes (past_of before)) report.points
     → report.kept ≤ length others)
 
 -- and no row set that answers alike at the points costs less than what it kept
 abbrev pub VacuumsAreCheapest : List (CoreEvent × CoreReply) → Type 0
 VacuumsAreCheapest history =
-    (before : List (CoreEvent × CoreReply)) (report : Report)
-    → IsMoment history ((Vacuum, Vacuumed report) ∷ before)
+    (before : List (CoreEvent × CoreReply)) (event : CoreEvent) (report : Report)
+    → IsMoment history ((event, Vacuumed report) ∷ before)
     → (others : List Row) → IsRowSet others → Alike others (writes (past_of before)) report.points
     → report.bytes ≤ rows_cost others
 
--- just after a vacuum the stored rows at or below its floor answer alike at its points, are as many as it kept and cost
+-- just after a vacuum the stored rows at or below its stamp answer alike at its points, are as many as it kept and cost
 -- what it reported, and are the fewest and the cheapest
 abbrev pub FewestAreLeft : List (CoreEvent × CoreReply) → List Row → Type 0
 FewestAreLeft history rows =
-    (before : List (CoreEvent × CoreReply)) (report : Report)
-    → history ≡ (Vacuum, Vacuumed report) ∷ before
+    (before : List (CoreEvent × CoreReply)) (event : CoreEvent) (report : Report)
+    → history ≡ (event, Vacuumed report) ∷ before
     → LeavesFewest rows (writes (past_of before)) report
 
 -- all of this is true of a history over so many nodes, after which these rows are stored

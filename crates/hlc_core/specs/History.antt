@@ -6,13 +6,13 @@ use Rattle.hlc_node.specs.Items.{retires}
 use Rattle.hlc_core.specs.declared.fault.CoreFault.{CoreFault}
 use Rattle.hlc_core.specs.declared.event.CoreEvent.{CoreEvent}
 use Rattle.hlc_core.specs.declared.event.CoreEvent.TheVariants.{Accept, Join, OpenAt, OpenFloor, Read, List as ListAll}
-use Rattle.hlc_core.specs.declared.event.CoreEvent.TheVariants.{Close, Vacuum}
+use Rattle.hlc_core.specs.declared.event.CoreEvent.TheVariants.{Close, Vacuum, JoinAt, VacuumTo}
 use Rattle.hlc_core.specs.declared.reply.CoreReply.{CoreReply}
 use Rattle.hlc_core.specs.declared.reply.CoreReply.TheVariants.{Accepted, Joined, Opened, Answer, Listing, Closed}
 use Rattle.hlc_core.specs.declared.reply.CoreReply.TheVariants.{Vacuumed, Refused}
 use Rattle.hlc_core.specs.Past.{Step, Took, Joined as JoinedAt, Opened as OpenedAt, Closed as ClosedOf}
-use Rattle.hlc_core.specs.Past.{Vacuumed as VacuumedAll, numbered, floor, opened, stamp_of, writes}
-use Rattle.hlc_core.specs.Past.{item_refusal, join_refusal, room_refusal, open_refusal}
+use Rattle.hlc_core.specs.Past.{Vacuumed as VacuumedTo, numbered, floor, opened, stamp_of, writes}
+use Rattle.hlc_core.specs.Past.{item_refusal, join_refusal, join_at_refusal, room_refusal, open_refusal, vacuum_refusal}
 use Rattle.hlc_core.specs.Stored.{IsReport}
 use Rattle.hlc_core.specs.Kept.{Kept, nodes, StandsFor}
 use Rattle.hlc_core.specs.Calls.{IsWrite, IsListed, list_refusal}
@@ -27,7 +27,9 @@ step_of Join (Joined node start) = Some (JoinedAt node start)
 step_of (OpenAt at) (Opened id stamp) = Some (OpenedAt stamp)
 step_of OpenFloor (Opened id stamp) = Some (OpenedAt stamp)
 step_of (Close id) (Closed stamp) = Some (ClosedOf id)
-step_of Vacuum (Vacuumed report) = Some VacuumedAll
+step_of (JoinAt at) (Joined node start) = Some (JoinedAt node start)
+step_of Vacuum (Vacuumed report) = Some (VacuumedTo report.floor)
+step_of (VacuumTo at) (Vacuumed report) = Some (VacuumedTo at)
 step_of _ _ = None
 
 -- the past, and this step after it
@@ -50,6 +52,8 @@ refusal_due nodes past (Read id key) = list_refusal (stamp_of id past)
 refusal_due nodes past (ListAll id) = list_refusal (stamp_of id past)
 refusal_due nodes past (Close id) = list_refusal (stamp_of id past)
 refusal_due nodes past Vacuum = None
+refusal_due nodes past (JoinAt start) = join_at_refusal nodes past start
+refusal_due nodes past (VacuumTo at) = vacuum_refusal nodes past at
 
 -- the value is what these answers give at the snapshot's stamp
 abbrev pub IsAnswer : Option ℕ → (ℕ → Option (List ℕ)) → Option (List ℕ) → Type 0
@@ -66,7 +70,9 @@ IsDueReply nodes past OpenFloor (Opened id stamp) = (id ≡ opened past + 1) × 
 IsDueReply nodes past (Read id key) (Answer value) = IsAnswer (stamp_of id past) (answer (writes past) key) value
 IsDueReply nodes past (ListAll id) (Listing pairs) = IsListed (stamp_of id past) (writes past) pairs
 IsDueReply nodes past (Close id) (Closed stamp) = stamp_of id past ≡ Some stamp
-IsDueReply nodes past Vacuum (Vacuumed report) = IsReport nodes past report
+IsDueReply nodes past Vacuum (Vacuumed report) = IsReport (floor nodes past) past report
+IsDueReply nodes past (JoinAt at) (Joined node start) = (node ≡ numbered nodes past) × (start ≡ at)
+IsDueReply nodes past (VacuumTo at) (Vacuumed report) = IsReport at past report
 IsDueReply nodes past _ _ = ⊥
 
 -- the reply is the refusal that is due; or, where none is, a due reply
@@ -114,6 +120,12 @@ IsQuestion (Read id key) = ⊤
 IsQuestion (ListAll id) = ⊤
 IsQuestion _ = ⊥
 
+-- the event asks for a vacuum
+abbrev pub IsVacuum : CoreEvent → Type 0
+IsVacuum Vacuum = ⊤
+IsVacuum (VacuumTo at) = ⊤
+IsVacuum _ = ⊥
+
 -- the reply is a refusal
 abbrev pub IsRefused : CoreReply → Type 0
 IsRefused (Refused fault) = ⊤
@@ -138,5 +150,7 @@ IsReplyTo (ListAll id) (Listing pairs) = ⊤
 IsReplyTo (Close id) (Closed stamp) = ⊤
 IsReplyTo Vacuum (Vacuumed report) = ⊤
 IsReplyTo Vacuum (Refused fault) = ⊥
+IsReplyTo (JoinAt at) (Joined node start) = start ≡ at
+IsReplyTo (VacuumTo at) (Vacuumed report) = ⊤
 IsReplyTo event (Refused fault) = ⊤
 IsReplyTo _ _ = ⊥

@@ -13,8 +13,8 @@ use Rattle.hlc_core.specs.Past.{Step, numbered, count, head, retired, top, horiz
 use Rattle.hlc_core.specs.Past.{IsLegal}
 use Rattle.hlc_core.specs.Stored.{IsStoredCount}
 
--- what a core keeps: how many nodes there were at the start; by node how far its link has come; the greatest stamp of
--- an accepted item; the open snapshots; how many were opened; the horizon; the stored rows
+-- what a core keeps: how many nodes there were at the start; by node how far its link has come; the greatest head;
+-- the open snapshots; how many were opened; the horizon; the stored rows
 pub record Kept : Type 0 where
   pub start : ℕ
   pub links : List Progress
@@ -109,6 +109,6 @@ pub record StandsFor (kept : Kept) (past : List Step) : Type 0 where
   pub top : kept.top ≡ top past
   pub snapshots : kept.snapshots ≡ open_snapshots past
   pub opened : kept.opened ≡ opened past
-  pub rows : RowsStandFor kept.rows (writes past) (horizon (nodes kept) past) (stamps (open_snapshots past))
-  pub stored : IsStoredCount (nodes kept) past (length kept.rows)
-  pub horizon : kept.horizon ≡ horizon (nodes kept) past
+  pub rows : RowsStandFor kept.rows (writes past) (horizon past) (stamps (open_snapshots past))
+  pub stored : IsStoredCount past (length kept.rows)
+  pub horizon : kept.horizon ≡ horizon past

@@ -1,5 +1,5 @@
 -- What took place in a core, and what follows from it.
-use Rattle.std.specs.Prelude.{◌≡◌, ◌≢◌, ℕ, ◌+◌, List, [], ◌∷◌, ◌++◌, length, max, Bool, false, ◌==◌, not, nat_le}
+use Rattle.std.specs.Prelude.{◌≡◌, ◌≢◌, ℕ, ◌+◌, ◌≤◌, List, [], ◌∷◌, ◌++◌, length, max, Bool, false, ◌==◌, not, nat_le}
 use Rattle.std.specs.Prelude.{nat_lt, Option, Some, None, if◌then◌else◌, ⊤}
 use Rattle.hlc_node.specs.declared.item.Item.{Item}
 use Rattle.hlc_node.specs.declared.row.Row.{Row}
@@ -19,16 +19,16 @@ use Rattle.hlc_snapshot.specs.declared.fault.SnapshotFault.{SnapshotFault}
 use Rattle.hlc_snapshot.specs.declared.fault.SnapshotFault.TheVariants as snapshot_fault
 use Rattle.hlc_snapshot.specs.Register.{stamp_in, without, room_refusal as room_in}
 use Rattle.hlc_core.specs.declared.fault.CoreFault.TheVariants.{NoNode, Retired, TooManyNodes, NotNext, StampNotRising}
-use Rattle.hlc_core.specs.declared.fault.CoreFault.TheVariants.{AboveFloor, BelowHorizon, TooManySnapshots, BadBody}
-use Rattle.hlc_core.specs.declared.fault.CoreFault.TheVariants.{NumbersSpent, NoMemory}
+use Rattle.hlc_core.specs.declared.fault.CoreFault.TheVariants.{AboveFloor, BelowHorizon, BelowFloor, TooManySnapshots}
+use Rattle.hlc_core.specs.declared.fault.CoreFault.TheVariants.{NumbersSpent, BadBody, NoMemory}
 
 -- an event that took place: an item was accepted; a snapshot was opened at a stamp; the snapshot of an id was closed;
--- rows were vacuumed at the floor; a node of this number joined, and starts at this stamp
+-- rows were vacuumed up to this stamp; a node of this number joined, and starts at this stamp
 pub data Step : Type 0 where
   Took : Item → Step
   Opened : ℕ → Step
   Closed : ℕ → Step
-  Vacuumed : Step
+  Vacuumed : ℕ → Step
   Joined : ℕ → ℕ → Step
 
 -- Below, a past is the list of the steps that took place, the last one first. Refused calls and reads are no steps. So
@@ -60,20 +60,28 @@ retired n (Took item ∷ past) = if item.node == n then retires item.body else r
 retired n (_ ∷ past) = retired n past
 
 -- the greatest stamp of an accepted item, 0 where there is none
+abbrev pub greatest_accepted : List Step → ℕ
+greatest_accepted [] = 0
+greatest_accepted (Took item ∷ past) = max (greatest_accepted past) item.stamp
+greatest_accepted (_ ∷ past) = greatest_accepted past
+
+-- the greatest head of all nodes: the greatest stamp of an accepted item or of a start
 abbrev pub top : List Step → ℕ
 top [] = 0
 top (Took item ∷ past) = max (top past) item.stamp
+top (Joined node start ∷ past) = max (top past) start
 top (_ ∷ past) = top past
 
--- the least head of the nodes that have not retired; where all retired, the greatest stamp of an accepted item
+-- The least head of the nodes that have not retired; where all retired, the greatest head. Each of them retired by an
+-- item above its start, so that is the greatest stamp of an accepted item.
 abbrev pub floor : ℕ → List Step → ℕ
 floor nodes past = low (λ n. head n past) (λ n. retired n past) (numbered nodes past) (top past)
 
--- the floor of the last vacuum, 0 before the first
-abbrev pub horizon : ℕ → List Step → ℕ
-horizon nodes [] = 0
-horizon nodes (Vacuumed ∷ past) = floor nodes past
-horizon nodes (_ ∷ past) = horizon nodes past
+-- the stamp of the last vacuum, 0 before the first
+abbrev pub horizon : List Step → ℕ
+horizon [] = 0
+horizon (Vacuumed at ∷ past) = at
+horizon (_ ∷ past) = horizon past
 
 -- the row of what an item of this node and stamp says
 abbrev pub body_rows : ℕ → ℕ → Body → List Row
@@ -144,9 +152,17 @@ item_refusal nodes past item =
 abbrev pub join_refusal : ℕ → List Step → Option CoreFault
 join_refusal nodes past = if nat_le MOST_NUMBERS (numbered nodes past) then Some TooManyNodes else None
 
+-- the first reason that no node joins at a start, memory aside
+abbrev pub join_at_refusal : ℕ → List Step → ℕ → Option CoreFault
+join_at_refusal nodes past start =
+    if nat_le MOST_NUMBERS (numbered nodes past) then Some TooManyNodes
+    else if nat_lt start (floor nodes past) then Some (BelowFloor (floor nodes past))
+    else None
+
 -- why no node joins, as a fault of the core
 abbrev pub of_join : JoinFault → CoreFault
 of_join join_fault.TooManyNodes = TooManyNodes
+of_join (join_fault.BelowFloor floor) = BelowFloor floor
 of_join join_fault.NoMemory = NoMemory
 
 -- a registry's fault, as a fault of the core
@@ -164,7 +180,7 @@ of_room (Some fault) = Some (of_registry fault)
 abbrev pub room_refusal : List Step → Option CoreFault
 room_refusal past = of_room (room_in (length (open_snapshots past)) (opened past))
 
--- no snapshot is opened above the floor, below the horizon, or where there is no room
+-- a stamp is above the floor, or below the horizon; or else this other reason, if there is one
 abbrev pub open_after : ℕ → ℕ → Option CoreFault → ℕ → Option CoreFault
 open_after top bottom room stamp =
     if nat_lt top stamp then Some (AboveFloor top)
@@ -173,7 +189,11 @@ open_after top bottom room stamp =
 
 -- the first reason to open no snapshot at a stamp, memory aside
 abbrev pub open_refusal : ℕ → List Step → ℕ → Option CoreFault
-open_refusal nodes past stamp = open_after (floor nodes past) (horizon nodes past) (room_refusal past) stamp
+open_refusal nodes past stamp = open_after (floor nodes past) (horizon past) (room_refusal past) stamp
+
+-- the first reason to vacuum no rows up to a stamp, memory aside
+abbrev pub vacuum_refusal : ℕ → List Step → ℕ → Option CoreFault
+vacuum_refusal nodes past at = open_after (floor nodes past) (horizon past) None at
 
 -- no step was due a refusal
 abbrev pub IsLegal : ℕ → List Step → Type 0
@@ -181,6 +201,6 @@ IsLegal nodes [] = ⊤
 IsLegal nodes (Took item ∷ past) = (item_refusal nodes past item ≡ None) × IsLegal nodes past
 IsLegal nodes (Opened stamp ∷ past) = (open_refusal nodes past stamp ≡ None) × IsLegal nodes past
 IsLegal nodes (Closed id ∷ past) = (stamp_of id past ≢ None) × IsLegal nodes past
-IsLegal nodes (Vacuumed ∷ past) = IsLegal nodes past
+IsLegal nodes (Vacuumed at ∷ past) = (vacuum_refusal nodes past at ≡ None) × IsLegal nodes past
 IsLegal nodes (Joined node start ∷ past) =
-    (join_refusal nodes past ≡ None) × (node ≡ numbered nodes past) × (start ≡ floor nodes past) × IsLegal nodes past
+    (join_refusal nodes past ≡ None) × (node ≡ numbered nodes past) × (floor nodes past ≤ start) × IsLegal nodes past

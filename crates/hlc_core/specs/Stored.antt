@@ -3,7 +3,7 @@ use Rattle.std.specs.Prelude.{◌≡◌, ℕ, ◌+◌, List, [], ◌∷◌, leng
 use Rattle.std.specs.List.Sorted.{IsPermutation}
 use Rattle.hlc_node.specs.declared.row.Row.{Row}
 use Rattle.hlc_node.specs.Rows.{IsRowSet}
-use Rattle.hlc_snapshot.specs.Register.{stamps}
+use Rattle.hlc_snapshot.specs.Register.{stamps_to}
 use Rattle.hlc_clock.specs.Points.{ArePoints}
 use Rattle.hlc_witness.specs.declared.witness.Witness.{Witness}
 use Rattle.hlc_witness.specs.Changes.{AreChanges}
@@ -13,40 +13,41 @@ use Rattle.hlc_vacuum.specs.Vacuumed.{rows_to}
 use Rattle.hlc_vacuum.specs.Standing.{count_above, count_between}
 use Rattle.hlc_witness.specs.Certificate.{RowsAscend, IsCertificate}
 use Rattle.hlc_vacuum.specs.declared.report.Report.{Report}
-use Rattle.hlc_core.specs.Past.{Step, Vacuumed, floor, horizon, open_snapshots, writes}
+use Rattle.hlc_core.specs.Past.{Step, Vacuumed, horizon, open_snapshots, writes}
 
--- the points of a vacuum after this past: the stamps of the open snapshots and the floor, each once, ascending
+-- the points of a vacuum to a stamp after this past: the stamps of the open snapshots at or below it, and the stamp
+-- itself, each once, ascending
 abbrev pub AreVacuumPoints : ℕ → List Step → List ℕ → Type 0
-AreVacuumPoints nodes past points = ArePoints (stamps (open_snapshots past)) (floor nodes past) points
+AreVacuumPoints at past points = ArePoints (stamps_to at (open_snapshots past)) at points
 
--- the changes of all accepted writes at the points of a vacuum after this past
+-- the changes of all accepted writes at the points of a vacuum to a stamp after this past
 abbrev pub AreVacuumChanges : ℕ → List Step → List Witness → Type 0
-AreVacuumChanges nodes past changes =
-    (points : List ℕ) × AreVacuumPoints nodes past points × AreChanges (writes past) points changes
+AreVacuumChanges at past changes =
+    (points : List ℕ) × AreVacuumPoints at past points × AreChanges (writes past) points changes
 
 -- those of the last vacuum; none before the first
-abbrev pub AreLastChanges : ℕ → List Step → List Witness → Type 0
-AreLastChanges nodes [] changes = changes ≡ []
-AreLastChanges nodes (Vacuumed ∷ past) changes = AreVacuumChanges nodes past changes
-AreLastChanges nodes (_ ∷ past) changes = AreLastChanges nodes past changes
+abbrev pub AreLastChanges : List Step → List Witness → Type 0
+AreLastChanges [] changes = changes ≡ []
+AreLastChanges (Vacuumed at ∷ past) changes = AreVacuumChanges at past changes
+AreLastChanges (_ ∷ past) changes = AreLastChanges past changes
 
 -- how many rows are stored: as many as the changes at the last vacuum and the accepted writes above the horizon
-abbrev pub IsStoredCount : ℕ → List Step → ℕ → Type 0
-IsStoredCount nodes past number =
-    (changes : List Witness) × AreLastChanges nodes past changes
-    × (number ≡ length changes + count_above (horizon nodes past) (writes past))
+abbrev pub IsStoredCount : List Step → ℕ → Type 0
+IsStoredCount past number =
+    (changes : List Witness) × AreLastChanges past changes
+    × (number ≡ length changes + count_above (horizon past) (writes past))
 
--- What a vacuum after this past reports. What it keeps costs just what its changes force. It drops the rows of the
--- changes at the vacuum before and those of the accepted writes between the horizons, but for as many as its own
+-- What a vacuum to a stamp reports after this past. What it keeps costs just what its changes force. It drops the rows
+-- of the changes at the vacuum before and those of the accepted writes between the horizons, but for as many as its own
 -- changes.
-pub record IsReport (nodes : ℕ) (past : List Step) (report : Report) : Type 0 where
-  pub at_floor : report.floor ≡ floor nodes past
-  pub points : AreVacuumPoints nodes past report.points
+pub record IsReport (at : ℕ) (past : List Step) (report : Report) : Type 0 where
+  pub at_stamp : report.floor ≡ at
+  pub points : AreVacuumPoints at past report.points
   pub witnesses : AreChanges (writes past) report.points report.witnesses
   pub kept : report.kept ≡ length report.witnesses
   pub bytes : report.bytes ≡ changes_cost (writes past) report.witnesses
-  pub dropped : (before : List Witness) × AreLastChanges nodes past before × (report.dropped + report.kept
-      ≡ length before + count_between (horizon nodes past) (floor nodes past) (writes past))
+  pub dropped : (before : List Witness) × AreLastChanges past before
+      × (report.dropped + report.kept ≡ length before + count_between (horizon past) at (writes past))
 
 -- What the vacuum of this report left: at or below its floor a row set, the fewest rows that answer as all do at its
 -- points, and the cheapest, as many and as dear as it reports. In the order of key, stamp and node its witnesses

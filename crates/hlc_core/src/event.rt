@@ -25,6 +25,10 @@ pub enum CoreEvent {
     Close(u64),
     /// Rows that no reader needs any more are dropped, at the floor.
     Vacuum,
+    /// A node joins, is given the next number, and starts at this stamp.
+    JoinAt(Stamp),
+    /// Rows up to this stamp that no reader needs any more are dropped.
+    VacuumTo(Stamp),
 }
 
 impl Exact for CoreEvent {

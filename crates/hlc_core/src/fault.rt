@@ -29,8 +29,10 @@ pub enum CoreFault {
     BadBody(BodyFault),
     /// The stamp is above the floor.
     AboveFloor { floor: Stamp },
-    /// The stamp is below the floor of the last vacuum.
+    /// The stamp is below that of the last vacuum.
     BelowHorizon { horizon: Stamp },
+    /// The start of a node that joins is below the floor.
+    BelowFloor { floor: Stamp },
     /// No open snapshot has that id.
     NoSnapshot,
     /// 1,024 snapshots are open.
@@ -68,6 +70,7 @@ impl From<JoinFault> for CoreFault {
     fn from(fault: JoinFault) -> CoreFault {
         match fault {
             JoinFault::TooManyNodes => CoreFault::TooManyNodes,
+            JoinFault::BelowFloor { floor } => CoreFault::BelowFloor { floor },
             JoinFault::NoMemory => CoreFault::NoMemory,
         }
     }

@@ -1,8 +1,11 @@
 //! What holds of every legal past, and of cores that stand for one.
-ghost use Rattle.std.specs.Prelude.{◌≡◌, ◌≢◌, ◌+◌, ◌<◌, ◌≤◌, ◌⊎◌, true, false, ℕ, List, ◌∷◌, None, All, length};
+ghost use Rattle.std.specs.Prelude.{◌≡◌, ◌≢◌, ◌+◌, ◌<◌, ◌≤◌, ◌⊎◌, ◌↔◌, true, false, ℕ, List, ◌∷◌, None, All, length};
 ghost use Rattle.hlc_node.specs.Rows.{IsRowSet};
 ghost use Rattle.hlc_core.specs.Past.{Step, Took, Joined, Vacuumed, IsLegal, numbered, retired, top, writes, head};
-ghost use Rattle.hlc_core.specs.Past.{floor, open_snapshots, item_refusal};
+ghost use Rattle.hlc_core.specs.Past.{floor, open_snapshots, item_refusal, join_refusal, join_at_refusal};
+ghost use Rattle.hlc_core.specs.Past.{greatest_accepted, vacuum_refusal};
+ghost use Rattle.hlc_clock.specs.Points.{ArePoints};
+ghost use Rattle.hlc_snapshot.specs.Register.{stamps};
 ghost use Rattle.hlc_vacuum.specs.Vacuumed.{IsVacuumOf, rows_to};
 ghost use Rattle.hlc_witness.specs.Cost.{rows_cost};
 ghost use Rattle.hlc_vacuum.specs.declared.report.Report.{Report as AReport};
@@ -42,8 +45,8 @@ pub fn open_snapshots_are_at_most_the_floor()
         → All (λ snapshot. snapshot.stamp ≤ floor nodes past) (open_snapshots past) }
 {}
 
-/// The floor is the head of some node that has not retired, or, where all did, the greatest stamp of
-/// an accepted item; and no head of a node that has not retired is below it.
+/// The floor is the head of some node that has not retired, or, where all did, the greatest head; and no
+/// head of a node that has not retired is below it.
 pub fn floor_is_the_least_head()
     ensures some { (nodes : ℕ) (past : List Step)
         → ((n : ℕ) × (n < numbered nodes past) × (retired n past ≡ false)
@@ -65,6 +68,40 @@ pub fn the_floor_never_falls()
         → floor nodes past ≤ floor nodes (Joined node start ∷ past) }
 {}
 
+/// A node that joins leaves the floor where it is, while a node is left that has not retired.
+pub fn joins_keep_the_floor()
+    ensures { (nodes : ℕ) (past : List Step) (node start n : ℕ)
+        → IsLegal nodes (Joined node start ∷ past)
+        → n < numbered nodes past → retired n past ≡ false
+        → floor nodes (Joined node start ∷ past) ≡ floor nodes past }
+{}
+
+/// Where all nodes retired, the floor is the greatest stamp of an accepted item.
+pub fn retired_nodes_leave_the_greatest_stamp()
+    ensures { (nodes : ℕ) (past : List Step) → 0 < nodes → IsLegal nodes past
+        → ((n : ℕ) → n < numbered nodes past → retired n past ≡ true)
+        → floor nodes past ≡ greatest_accepted past }
+{}
+
+/// A join without a start is one at the floor: it is refused as that is, and the floor stays.
+pub fn a_join_is_one_at_the_floor()
+    ensures refusal { (nodes : ℕ) (past : List Step)
+        → join_at_refusal nodes past (floor nodes past) ≡ join_refusal nodes past }
+    ensures floor { (nodes : ℕ) (past : List Step) (node : ℕ) → IsLegal nodes past
+        → node ≡ numbered nodes past
+        → floor nodes (Joined node (floor nodes past) ∷ past) ≡ floor nodes past }
+{}
+
+/// A vacuum without a stamp is one to the floor: that is not refused, and its points are all stamps of open
+/// snapshots and the floor.
+pub fn a_vacuum_is_one_to_the_floor()
+    ensures refusal { (nodes : ℕ) (past : List Step) → IsLegal nodes past
+        → vacuum_refusal nodes past (floor nodes past) ≡ None }
+    ensures points { (nodes : ℕ) (past : List Step) (points : List ℕ) → IsLegal nodes past
+        → AreVacuumPoints (floor nodes past) past points
+        ↔ ArePoints (stamps (open_snapshots past)) (floor nodes past) points }
+{}
+
 /// There is one listing of some rows at a stamp.
 pub fn there_is_one_listing()
     ensures { (rows : List ARow) (stamp : ℕ) (listing other : List APair)
@@ -72,33 +109,35 @@ pub fn there_is_one_listing()
         → IsListing rows stamp other → listing ≡ other }
 {}
 
-/// A vacuum of the stored rows at the points of the past keeps the core standing, reports what is
-/// due, and leaves the fewest, which are the cheapest.
+/// A vacuum of the stored rows up to a stamp, at the points of the past, keeps the core standing, reports
+/// what is expected, and leaves the fewest, which are the cheapest.
 pub fn vacuums_keep_standing()
-    ensures { (kept : Kept) (past : List Step) (rows : List ARow) (report : AReport)
-        → StandsFor kept past → AreVacuumPoints (nodes kept) past report.points
+    ensures { (kept : Kept) (at : ℕ) (past : List Step) (rows : List ARow) (report : AReport)
+        → StandsFor kept past → vacuum_refusal (nodes kept) past at ≡ None
+        → AreVacuumPoints at past report.points
         → IsVacuumOf kept.rows report.points report.witnesses rows
-        → report.floor ≡ floor (nodes kept) past
+        → report.floor ≡ at
         → report.kept ≡ length report.witnesses → report.dropped + length rows ≡ length kept.rows
         → report.bytes ≡ rows_cost (rows_to report.floor rows)
-        → Vacuums kept (with_rows_left kept rows (floor (nodes kept) past)) past report }
+        → Vacuums kept (with_rows_left kept rows at) at past report }
 {}
 
-/// Just after a vacuum the rows at or below its floor are the fewest, and the cheapest, against all
+/// Just after a vacuum the rows at or below its stamp are the fewest, and the cheapest, against all
 /// accepted writes.
 pub fn vacuums_leave_the_fewest()
-    ensures { (kept : Kept) (past : List Step) (report : AReport) → StandsFor kept (Vacuumed ∷ past)
-        → IsReport (nodes kept) past report → LeavesFewest kept.rows (writes past) report }
+    ensures { (kept : Kept) (at : ℕ) (past : List Step) (report : AReport)
+        → StandsFor kept (Vacuumed at ∷ past)
+        → IsReport at past report → LeavesFewest kept.rows (writes past) report }
 {}
 
-/// After a past one report of a vacuum is due at most, and one number of stored rows.
+/// After a past there is one report of a vacuum to a stamp at most, and one number of stored rows.
 pub fn there_is_one_report()
-    ensures report { (nodes : ℕ) (past : List Step) (report other : AReport)
-        → IsReport nodes past report
-        → IsReport nodes past other → report ≡ other }
-    ensures count { (nodes : ℕ) (past : List Step) (count other : ℕ)
-        → IsStoredCount nodes past count
-        → IsStoredCount nodes past other → count ≡ other }
+    ensures report { (at : ℕ) (past : List Step) (report other : AReport)
+        → IsReport at past report
+        → IsReport at past other → report ≡ other }
+    ensures count { (past : List Step) (count other : ℕ)
+        → IsStoredCount past count
+        → IsStoredCount past other → count ≡ other }
 {}
 
 /// A core is faithful to each history that it stands for: its reads gave the newest accepted values,

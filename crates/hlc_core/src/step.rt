@@ -1,7 +1,7 @@
 //! The calls of a core by cases, as events with replies.
 ghost use Rattle.std.specs.Prelude.{◌≡◌, ◌≢◌, List, IfOk, IfErr, OnErr};
 ghost use Rattle.hlc_core.specs.Kept.{nodes};
-ghost use Rattle.hlc_core.specs.History.{StandsForHistory, Steps, IsQuestion, IsRefused, IsPlain, IsReplyTo};
+ghost use Rattle.hlc_core.specs.History.{StandsForHistory, Steps, IsQuestion, IsVacuum, IsRefused, IsPlain, IsReplyTo};
 ghost use Rattle.hlc_core.specs.declared.event.CoreEvent.{CoreEvent as AnEvent};
 ghost use Rattle.hlc_core.specs.declared.reply.CoreReply.{CoreReply as AReply};
 
@@ -24,7 +24,7 @@ impl Core {
         ensures asked { IsQuestion event → self.new ≡ self.old }
         ensures refused { IfOk result (λ reply. IsRefused reply → self.new ≡ self.old) }
         ensures copied { IfOk result
-            (λ reply. event ≢ CoreEvent.Vacuum → (IsPlain reply → ⊥) → self.new ≡ self.old) }
+            (λ reply. (IsVacuum event → ⊥) → (IsPlain reply → ⊥) → self.new ≡ self.old) }
         ensures form { IfOk result (λ reply. IsReplyTo event reply) }
         ensures nodes { nodes self.new ≡ nodes self.old }
     {
@@ -42,7 +42,7 @@ impl Core {
         ensures asked { IsQuestion event.now → self.new ≡ self.old }
         ensures refused { IfOk result (λ reply. IsRefused reply → self.new ≡ self.old) }
         ensures copied { IfOk result
-            (λ reply. event.now ≢ CoreEvent.Vacuum → (IsPlain reply → ⊥) → self.new ≡ self.old) }
+            (λ reply. (IsVacuum event.now → ⊥) → (IsPlain reply → ⊥) → self.new ≡ self.old) }
         ensures form { IfOk result (λ reply. IsReplyTo event.now reply) }
         ensures nodes { nodes self.new ≡ nodes self.old }
     {
@@ -73,6 +73,14 @@ impl Core {
                 Err(_) => Ok(CoreReply::Refused(CoreFault::NoSnapshot)),
             },
             CoreEvent::Vacuum => Ok(CoreReply::Vacuumed(self.vacuum()?)),
+            CoreEvent::JoinAt(start) => match self.join_at(*start) {
+                Ok(node) => Ok(CoreReply::Joined { node, start: *start }),
+                Err(fault) => told(fault),
+            },
+            CoreEvent::VacuumTo(at) => match self.vacuum_to(*at) {
+                Ok(report) => Ok(CoreReply::Vacuumed(report)),
+                Err(fault) => told(fault),
+            },
         }
     }
 

@@ -1,6 +1,5 @@
--- The least over those that are left is the one that its definition says. It does not fall where
--- one of them rises, nor
--- where one comes to them at that very value.
+-- The least over those that are left is the one that its definition says. It does not fall where one of them rises, nor
+-- where one comes to them that is not below it.
 use Rattle.std.proofs.Common.{◌≡◌, ℕ, zero, suc, ◌+◌, ◌<◌, ◌≤◌, true, false, Bool, Some}
 use Rattle.std.proofs.Common.{None, Option, refl, ap, sym}
 use Rattle.std.proofs.Common.{◌∙◌, subst, inl, inr, arith, length}
@@ -122,15 +121,15 @@ low-rises f g gone left n top next node stamp within here up at others high =
       | inr none ↦ (let e : low g left n next ≡ next = none.1 in omega arith)
     ]
 
--- nor where one comes to them at that very value
-pub low-joins : (f g : ℕ → ℕ) (gone left : ℕ → Bool) (n top : ℕ) → g n ≡ low f gone n top
+-- nor where one comes to them that is not below it
+pub low-joins : (f g : ℕ → ℕ) (gone left : ℕ → Bool) (n top next : ℕ) → low f gone n top ≤ g n → top ≤ next
     → ((k : ℕ) → k < n → (g k ≡ f k) × (left k ≡ gone k))
-    → low f gone n top ≤ low g left (n + 1) top
-low-joins f g gone left n top at others =
+    → low f gone n top ≤ low g left (n + 1) next
+low-joins f g gone left n top next at rise others =
     let was = low-is f gone n top in
-    elim (low-is g left (n + 1) top).is [
+    elim (low-is g left (n + 1) next).is [
       | inl one ↦
-          let e : g one.0 ≡ low g left (n + 1) top = one.3 in
+          let e : g one.0 ≡ low g left (n + 1) next = one.3 in
           let lt : one.0 < n + 1 = one.1 in
           elim (cases_eq one.0 n) [
             | inl same ↦ (let x : g one.0 ≡ g n = ap g same in omega arith)
@@ -141,13 +140,44 @@ low-joins f g gone left n top at others =
                 let y : g one.0 ≡ f one.0 = o.0 in omega arith
           ]
       | inr none ↦
-          let e : low g left (n + 1) top ≡ top = none.1 in
+          let e : low g left (n + 1) next ≡ next = none.1 in
           elim was.is [
             | inl one ↦
                 absurd (let lt : one.0 < n = one.1 in let x : false ≡ true = sym one.2
                 ∙ sym (others one.0 lt).1 ∙ none.0 one.0 (omega arith) in cc)
             | inr all' ↦ (let x : low f gone n top ≡ top = all'.1 in omega arith)
           ]
+    ]
+
+-- and it stays, where another one is left
+pub low-stays : (f g : ℕ → ℕ) (gone left : ℕ → Bool) (n top next k : ℕ) → k < n → gone k ≡ false
+    → low f gone n top ≤ g n → ((k : ℕ) → k < n → (g k ≡ f k) × (left k ≡ gone k))
+    → low g left (n + 1) next ≡ low f gone n top
+low-stays f g gone left n top next k within here at others =
+    let was = low-is f gone n top in
+    let is = low-is g left (n + 1) next in
+    elim was.is [
+      | inl one ↦
+          let lt : one.0 < n = one.1 in
+          let o = others one.0 lt in
+          let e : f one.0 ≡ low f gone n top = one.3 in
+          let x : g one.0 ≡ f one.0 = o.0 in
+          let below : low g left (n + 1) next ≤ g one.0 = is.least one.0 (omega arith) (o.1 ∙ one.2) in
+          elim is.is [
+            | inl other ↦
+                let in' : other.0 < n + 1 = other.1 in
+                let y : g other.0 ≡ low g left (n + 1) next = other.3 in
+                elim (cases_eq other.0 n) [
+                  | inl same ↦ (let z : g other.0 ≡ g n = ap g same in omega arith)
+                  | inr apart ↦
+                      let p = others other.0 (omega arith) in
+                      let z : low f gone n top ≤ f other.0 =
+                      was.least other.0 (omega arith) (sym p.1 ∙ other.2) in
+                      let w : g other.0 ≡ f other.0 = p.0 in omega arith
+                ]
+            | inr none ↦ absurd (let w : false ≡ true = sym one.2 ∙ sym o.1 ∙ none.0 one.0 (omega arith) in cc)
+          ]
+      | inr none ↦ absurd (let e : false ≡ true = sym here ∙ none.0 k within in cc)
     ]
 
 -- the floor is the one that its definition says

@@ -1,6 +1,8 @@
 -- The kept heads are those of the past, so their floor is its floor.
-use Rattle.std.proofs.Common.{refl, subst}
-use Rattle.hlc_heads.specs.Heads.{IsFloor}
+use Rattle.std.proofs.Common.{◌≤◌, refl, sym, subst, arith}
+use Rattle.hlc_heads.specs.Heads.{Marks, IsFloor, floor_of}
+use Rattle.hlc_heads.proofs.LowLemmas.{floor-is}
+use Rattle.hlc_core.specs.Kept.{marks_of}
 use Rattle.hlc_core.proofs.Standing.{floor-from}
 use Rattle.hlc_core.proofs.store.Core.floor.Goals as goal
 
@@ -12,3 +14,15 @@ returns-clause-stands c = λ past h.
 pub returns-clause-least : goal.returns-clause-least
 returns-clause-least c =
     rw (← c.self.view_is) (subst (λ marks. IsFloor marks c.floor.result) c.self.invariant.0.same c.floor.ensures)
+
+pub returns-clause-value : goal.returns-clause-value
+returns-clause-value c =
+    let marks : Marks = marks_of c.self.inside.intakes.items c.self.inside.heads.top in
+    rw (← c.self.view_is)
+    (floor-is marks c.floor.result (subst (λ m. IsFloor m c.floor.result) c.self.invariant.0.same c.floor.ensures))
+
+pub returns-clause-high : goal.returns-clause-high
+returns-clause-high c =
+    let is = floor-is c.self.inside.heads c.floor.result c.floor.ensures in
+    let low = subst (λ m. c.self.inside.horizon ≤ floor_of m) (sym c.self.invariant.0.same) c.self.invariant.2.horizon in
+    rw (← c.self.view_is) (omega (arith, is, low))

@@ -1,6 +1,8 @@
 -- The node's link and head are one more each, at the floor, so the core stands for the joining too.
-use Rattle.std.proofs.Common.{◌<◌, ◌∙◌, length, arith, refl}
+use Rattle.std.proofs.Common.{◌<◌, ◌≤◌, ◌∙◌, length, arith, refl}
 use Rattle.hlc_heads.specs.declared.heads.TheConstants.{MOST_NUMBERS}
+use Rattle.hlc_heads.specs.Heads.{floor_of}
+use Rattle.hlc_heads.proofs.LowLemmas.{floor-is}
 use Rattle.hlc_core.proofs.Standing.{heads-joined, heads-length, floor-from, joins, joins-none, both}
 use Rattle.hlc_core.proofs.Held.{held-joined}
 use Rattle.hlc_core.proofs.Sound.{sound-joined}
@@ -11,6 +13,8 @@ invariant_of-self-2 c =
     let few : length c.self.inside.intakes.items < MOST_NUMBERS =
     (let len = heads-length _ _ c.self.invariant.0 in
     let f : length c.self.inside.heads.heads < MOST_NUMBERS = c.in_ok-made.ensures.0 in omega (arith, len)) in
+    let at = floor-is _ _ c.in_ok-made.ensures.2 in
+    let up : floor_of c.self.inside.heads ≤ c.in_ok-made.made.1 = omega (arith, at) in
     rw (
       c.push_reserved.ensures.items,
       c.in_ok-try_reserve.ensures.items,
@@ -18,8 +22,8 @@ invariant_of-self-2 c =
       c.in_ok-made.ensures.3,
     ) (
       heads-joined _ _ c.in_ok-made.made.1 c.self.invariant.0 few,
-      held-joined _ _ _ _ c.self.invariant.1 c.in_ok-made.ensures.2,
-      sound-joined _ _ c.self.inside.heads _ _ _ c.self.invariant.2 c.self.invariant.0 few c.in_ok-made.ensures.2,
+      held-joined _ _ _ _ c.self.invariant.1 up,
+      sound-joined _ _ c.self.inside.heads _ _ _ c.self.invariant.2 c.self.invariant.0 few up,
     )
 
 pub returns-clause-stands : goal.returns-clause-stands
@@ -37,4 +41,8 @@ returns-clause-stands c = λ past h.
       c.starting_at.ensures,
       c.in_ok-made.ensures.3,
     )
-    (none, both c.in_ok-made.made _ _ is at, joins _ past c.in_ok-made.made.0 c.in_ok-made.made.1 h' none is at)
+    (
+      none,
+      both c.in_ok-made.made _ _ is at,
+      joins _ past c.in_ok-made.made.0 c.in_ok-made.made.1 h' none is (omega (arith, at)),
+    )

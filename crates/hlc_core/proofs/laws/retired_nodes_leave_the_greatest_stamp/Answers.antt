@@ -1,0 +1,6 @@
+-- The head of each node that retired is the stamp of its last item.
+use Rattle.hlc_core.proofs.Checkpoints.{floor-retired}
+use Rattle.hlc_core.proofs.laws.retired_nodes_leave_the_greatest_stamp.Goals as goal
+
+pub returns : goal.returns
+returns c = floor-retired
