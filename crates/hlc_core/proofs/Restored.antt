@@ -78,7 +78,8 @@ under-to links top start row has under =
     elim (cases_lt row.node (length links)) [
       | inl below ↦
           let low : row.stamp ≤ (get_or links row.node d).head =
-          subst (λ o. MatchOption o ⊥ (λ link. row.stamp ≤ link.head)) (slice_get-get_or links row.node d below) under in
+          subst (λ o. MatchOption o ⊥ (λ link. row.stamp ≤ link.head)) (slice_get-get_or links row.node d below)
+          under in
           let e : (head_at (marks_of links top).heads row.node).stamp ≡ (get_or links row.node d).head =
           ap (λ h. h.stamp) (head-of links (marks_of links top) row.node had below) in
           (omega arith, omega arith)

@@ -1,8 +1,8 @@
 -- A core goes on being sound: it has its nodes and links of them, over which items may have come so far; the top is the
 -- greatest head, the horizon is not above the floor, and an item may write each row.
-use Rattle.std.proofs.Common.{◌≡◌, ℕ, zero, suc, ◌+◌, ◌<◌, ◌≤◌, List, [], ◌∷◌, ◌++◌, length, max, get_or, Bool, true, false}
+use Rattle.std.proofs.Common.{◌≡◌, ℕ, zero, suc, ◌+◌, ◌<◌, ◌≤◌, List, [], ◌∷◌, ◌++◌, length, max, get_or, Bool}
 use Rattle.std.proofs.Common.{None, refl, ap, sym, ◌∙◌, subst, inl, inr, arith, length-set, length-append, replicate}
-use Rattle.std.proofs.Common.{IsPermutation}
+use Rattle.std.proofs.Common.{IsPermutation, true, false}
 use Rattle.std.specs.Prelude.{Contains, slice_set}
 use Rattle.std.proofs.lemmas.List.{length-replicate}
 use Rattle.std.proofs.lemmas.List.Elements.{All-nil, All-weaker, All-contains, All-contains_itself, All-set, All-push}
@@ -114,7 +114,8 @@ sound-accept start links marks horizon rows node number stamp body last h have w
     let is = head-of links marks node have within in
     let here' : (head_at marks.heads node).retired ≡ false = ap (λ x. x.retired) is ∙ here in
     let up' : (head_at marks.heads node).stamp < stamp =
-    (let e : (head_at marks.heads node).stamp ≡ (get_or links node no_link).head = ap (λ x. x.stamp) is in omega arith) in
+    (let e : (head_at marks.heads node).stamp ≡ (get_or links node no_link).head = ap (λ x. x.stamp) is in
+    omega arith) in
     let old : horizon ≤ floor_of marks = subst (λ m. horizon ≤ floor_of m) (sym have.same) h.horizon in
     let rise : floor_of marks ≤ floor_of (marked marks node stamp last) =
     floor-marked marks node stamp last (omega arith) here' up' in
@@ -130,8 +131,8 @@ sound-accept start links marks horizon rows node number stamp body last h have w
       last = All-set HasLastItem links node (a_link (number + 1) stamp last) (λ gone. omega arith) h.last;
       top = ap (λ t. max t stamp) h.top
           ∙ sym (greatest-set links node (number + 1) stamp last no_link within (omega arith));
-      horizon = subst (λ m. horizon ≤ floor_of m) (heads-set links marks node (a_link (number + 1) stamp last) have).same
-          new;
+      horizon = subst (λ m. horizon ≤ floor_of m)
+          (heads-set links marks node (a_link (number + 1) stamp last) have).same new;
       limits = limits-body node stamp body rows limits h.limits;
     }
 
@@ -203,6 +204,6 @@ sound-vacuum start links top horizon floor rows fewer h is within =
       last = h.last;
       top = h.top;
       horizon = omega arith;
-      limits = All-weaker (Contains fewer) IsInLimits (λ row m. All-contains IsInLimits rows row h.limits (within row m))
-          fewer (All-contains_itself fewer);
+      limits = All-weaker (Contains fewer) IsInLimits
+          (λ row m. All-contains IsInLimits rows row h.limits (within row m)) fewer (All-contains_itself fewer);
     }

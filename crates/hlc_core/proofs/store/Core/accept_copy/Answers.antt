@@ -83,8 +83,8 @@ invariant_of-self-2 c =
           c.in_ok-store_copy.ensures.ok,
       sound-moved _ _ _ _ _ _
           (sound-accept _ _ c.self.inside.heads _ _ c.args.item.now.node c.args.item.now.number c.args.item.now.stamp
-          c.args.item.now.body (retires c.args.item.now.body) c.self.invariant.2 c.self.invariant.0 is.within is.here is.number
-          is.rising is.limits)
+          c.args.item.now.body (retires c.args.item.now.body) c.self.invariant.2 c.self.invariant.0 is.within is.here
+          is.number is.rising is.limits)
           c.in_ok-store_copy.ensures.ok,
     )
 

@@ -2,8 +2,8 @@
 use Rattle.std.proofs.Common.{◌≡◌, ◌≤◌, All, List, true≢false, sym, subst, rules}
 use Rattle.std.proofs.lemmas.Grind.{common_steps}
 use Rattle.hlc_snapshot.specs.declared.snapshot.Snapshot.{Snapshot}
-use Rattle.hlc_core.specs.Checkpoint.{HasLinks, HasRegister, floor_in}
-use Rattle.hlc_core.proofs.checkpoint.reason_against.Goals as goal
+use Rattle.hlc_checkpoint.specs.Checkpoint.{HasLinks, HasRegister, floor_in}
+use Rattle.hlc_checkpoint.proofs.checkpoint.reason_against.Goals as goal
 
 pub returns-then-not-are_at_most : goal.returns-then-not-are_at_most
 returns-then-not-are_at_most c =

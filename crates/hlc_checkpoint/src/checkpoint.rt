@@ -4,9 +4,9 @@ ghost use Rattle.hlc_heads.specs.Low.{lower};
 ghost use Rattle.std.proofs.Common.{rules};
 ghost use Rattle.std.proofs.lemmas.Grind.{common_steps};
 ghost use Rattle.hlc_heads.specs.Heads.{floor_of};
-ghost use Rattle.hlc_core.specs.Kept.{HasNodes, HasStamps, HasLastItem, greatest_head, marks_of};
-ghost use Rattle.hlc_core.specs.RestoreFaults.{fault_code};
-ghost use Rattle.hlc_core.specs.Checkpoint.{IsCheckpoint, IsFirstReason, IsUnderHead};
+ghost use Rattle.hlc_checkpoint.specs.Kept.{HasNodes, HasStamps, HasLastItem, greatest_head, marks_of};
+ghost use Rattle.hlc_checkpoint.specs.RestoreFaults.{fault_code};
+ghost use Rattle.hlc_checkpoint.specs.Checkpoint.{IsCheckpoint, IsFirstReason, IsUnderHead};
 
 use hlc_clock::Stamp;
 use hlc_heads::{MOST_NODES, MOST_NUMBERS};
@@ -69,7 +69,7 @@ impl RestoreFault {
 
 impl fmt::Display for RestoreFault {
     ghost use Rattle.std.specs.Prelude.{Some};
-    ghost use Rattle.hlc_core.specs.RestoreFaults.{fault_text};
+    ghost use Rattle.hlc_checkpoint.specs.RestoreFaults.{fault_text};
 
     ghost output = { λ fault. Some (fault_text fault) };
 
@@ -99,7 +99,7 @@ impl Exact for RestoreFault {
 }
 
 impl From<NoMemory> for RestoreFault {
-    ghost use Rattle.hlc_core.specs.declared.checkpoint.RestoreFault.TheVariants.{NoMemory as no_memory};
+    ghost use Rattle.hlc_checkpoint.specs.declared.checkpoint.RestoreFault.TheVariants.{NoMemory as no_memory};
 
     ghost from_gives = { λ _ fault. fault ≡ no_memory };
 
@@ -109,7 +109,7 @@ impl From<NoMemory> for RestoreFault {
 }
 
 impl<T: Drop> From<AllocFailed<T>> for RestoreFault {
-    ghost use Rattle.hlc_core.specs.declared.checkpoint.RestoreFault.TheVariants.{NoMemory as no_memory};
+    ghost use Rattle.hlc_checkpoint.specs.declared.checkpoint.RestoreFault.TheVariants.{NoMemory as no_memory};
 
     ghost from_gives = { λ _ fault. fault ≡ no_memory };
 
@@ -136,7 +136,7 @@ pub struct Checkpoint {
 }
 
 impl Model for Checkpoint {
-    ghost use Rattle.hlc_core.specs.Kept.{Kept, greatest_head};
+    ghost use Rattle.hlc_checkpoint.specs.Kept.{Kept, greatest_head};
 
     ghost Value = { Kept };
 
@@ -231,8 +231,9 @@ impl Checkpoint {
         self.rows.as_slice()
     }
 
-    /// The links, the open snapshots and the rows. It takes no memory.
-    pub(crate) fn into_lists(self) -> (Vec<Intake>, Vec<Snapshot>, Vec<Row>)
+    /// The links, the open snapshots and the rows, moved out: nothing is copied, and it takes no
+    /// memory. Read the other parts beforehand.
+    pub fn into_lists(self) -> (Vec<Intake>, Vec<Snapshot>, Vec<Row>)
         ensures links { result.0.items ≡ self.links }
         ensures snapshots { result.1.items ≡ self.snapshots }
         ensures rows { result.2.items ≡ self.rows }
@@ -249,8 +250,9 @@ impl Checkpoint {
     }
 }
 
-/// The first reason why this is no checkpoint. It takes no memory.
-pub(crate) fn reason_against(checkpoint: &Checkpoint) -> Option<RestoreFault>
+/// The first reason why this is no checkpoint; never out of memory. `Checkpoint::fault` is the same
+/// as a method. It takes no memory, and looks once at each link, each open snapshot and each row.
+pub fn reason_against(checkpoint: &Checkpoint) -> Option<RestoreFault>
     ensures { MatchOption result (IsCheckpoint checkpoint.now) (IsFirstReason checkpoint.now) }
 {
     let links = checkpoint.links();
