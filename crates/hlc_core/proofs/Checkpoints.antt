@@ -30,7 +30,8 @@ use Rattle.hlc_core.proofs.PastLemmas.{inside-row, below_head, writes-limits, op
 use Rattle.hlc_core.proofs.PastLemmas.{open-room, horizon-low}
 use Rattle.hlc_core.proofs.Standing.{floor-from}
 use Rattle.hlc_core.proofs.Moved.{stands-moved}
-use Rattle.hlc_core.proofs.Sound.{heads-had, floor-holds, greatest-ge, greatest-le}
+use Rattle.hlc_checkpoint.proofs.CheckpointLemmas.{heads-had}
+use Rattle.hlc_core.proofs.Sound.{floor-holds, greatest-ge, greatest-le}
 
 -- no node of the start goes
 numbered-from : (nodes : ℕ) (past : List Step) → nodes ≤ numbered nodes past

@@ -16,10 +16,11 @@ use Rattle.hlc_heads.specs.declared.heads.TheConstants.{MOST_NODES, MOST_NUMBERS
 use Rattle.hlc_heads.proofs.LowLemmas.{low-is, floor-is}
 use Rattle.hlc_witness.specs.Cost.{IsInLimits}
 use Rattle.hlc_core.specs.Past.{body_rows}
-use Rattle.hlc_core.specs.Kept.{HasNodes, HasStamps, HasLastItem, HaveHeads, IsSound, greatest_head, marks_of}
+use Rattle.hlc_core.specs.Kept.{HasStamps, HasLastItem, HaveHeads, IsSound, greatest_head, marks_of}
 use Rattle.hlc_core.proofs.PastLemmas.{limits-body}
 use Rattle.hlc_core.proofs.Held.{floor-marked, floor-joined}
-use Rattle.hlc_core.proofs.Standing.{heads-set, heads-joined, heads-length, head-of}
+use Rattle.hlc_checkpoint.proofs.CheckpointLemmas.{heads-length, head-of}
+use Rattle.hlc_core.proofs.Standing.{heads-set, heads-joined}
 
 abbrev a_link : ℕ → ℕ → Bool → Progress
 a_link next head gone = record { next = next; head = head; retired = gone }
@@ -27,12 +28,6 @@ a_link next head gone = record { next = next; head = head; retired = gone }
 -- where there is no link
 abbrev no_link : Progress
 no_link = a_link 0 0 true
-
--- where there are nodes, and links of them, the heads of those are had
-pub heads-had : (start : ℕ) (links : List Progress) (most : ℕ) → HasNodes start links
-    → HaveHeads links (marks_of links most)
-heads-had start links most h =
-    record { some = omega (arith, h.some, h.linked); few = h.given; same = refl }
 
 -- the function gives the floor of marks
 pub floor-holds : (marks : Marks) → IsFloor marks (floor_of marks)

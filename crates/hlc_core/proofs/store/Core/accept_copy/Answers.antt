@@ -3,7 +3,8 @@ use Rattle.std.proofs.Common.{◌≡◌, ◌<◌, arith, length, false, inl, inr
 use Rattle.std.proofs.lemmas.Result.{err_from_is_err_and}
 use Rattle.hlc_node.specs.Items.{retires}
 use Rattle.hlc_heads.specs.Heads.{head_at}
-use Rattle.hlc_core.proofs.Standing.{fault-due, admitted, admitted-due, heads-set, head-of, heads-length, took}
+use Rattle.hlc_checkpoint.proofs.CheckpointLemmas.{head-of, heads-length}
+use Rattle.hlc_core.proofs.Standing.{fault-due, admitted, admitted-due, heads-set, took}
 use Rattle.hlc_core.proofs.Held.{held-accept}
 use Rattle.hlc_core.proofs.Sound.{sound-accept, sound-moved}
 use Rattle.hlc_core.proofs.Moved.{fresh, held-moved, stands-moved}
