@@ -30,7 +30,8 @@ use Rattle.hlc_core.proofs.PastLemmas.{inside-row, below_head, writes-limits, op
 use Rattle.hlc_core.proofs.PastLemmas.{open-room, horizon-low}
 use Rattle.hlc_core.proofs.Standing.{floor-from}
 use Rattle.hlc_core.proofs.Moved.{stands-moved}
-use Rattle.hlc_core.proofs.Sound.{heads-had, floor-holds, greatest-ge, greatest-le}
+use Rattle.hlc_checkpoint.proofs.CheckpointLemmas.{heads-had}
+use Rattle.hlc_core.proofs.Sound.{floor-holds, greatest-ge, greatest-le}
 
 -- no node of the start goes
 numbered-from : (nodes : ℕ) (past : List Step) → nodes ≤ numbered nodes past
@@ -159,7 +160,8 @@ register-open register stamp h none =
     length-append register.snapshots (new ∷ []) in
     record {
       rising = all_pairs_push (λ older newer. older.id < newer.id) register.snapshots new h.rising
-          (λ k d lt. (let g : (get_or register.snapshots k d).id ≤ register.opened = (h.given k d lt).1 in omega arith));
+          (λ k d lt. (let g : (get_or register.snapshots k d).id ≤ register.opened = (h.given k d lt).1 in
+          omega arith));
       given = All-push (λ snapshot. (0 < snapshot.id) × (snapshot.id ≤ register.opened + 1)) register.snapshots new
           (λ k d lt. ((h.given k d lt).0, (let g = (h.given k d lt).1 in omega (arith, g)))) (omega arith, omega arith);
       few = omega arith;
@@ -264,7 +266,8 @@ checkpoint-sound kept past h some few ascend =
           (let t : kept.top ≡ top past = h.top in
           let a : head most.0 past ≡ top past = most.2 in
           let b : (get_or kept.links most.0 d).head ≡ head most.0 past = link-head kept past h most.0 d within in
-          let c : (get_or kept.links most.0 d).head ≤ greatest_head kept.links = greatest-ge kept.links most.0 d within in
+          let c : (get_or kept.links most.0 d).head ≤ greatest_head kept.links =
+          greatest-ge kept.links most.0 d within in
           let e : greatest_head kept.links ≤ top past =
           greatest-le kept.links (top past)
           (λ k d lt. (let f = link-head kept past h k d lt in

@@ -1,8 +1,8 @@
 -- A core goes on being sound: it has its nodes and links of them, over which items may have come so far; the top is the
 -- greatest head, the horizon is not above the floor, and an item may write each row.
-use Rattle.std.proofs.Common.{◌≡◌, ℕ, zero, suc, ◌+◌, ◌<◌, ◌≤◌, List, [], ◌∷◌, ◌++◌, length, max, get_or, Bool, true, false}
+use Rattle.std.proofs.Common.{◌≡◌, ℕ, zero, suc, ◌+◌, ◌<◌, ◌≤◌, List, [], ◌∷◌, ◌++◌, length, max, get_or, Bool}
 use Rattle.std.proofs.Common.{None, refl, ap, sym, ◌∙◌, subst, inl, inr, arith, length-set, length-append, replicate}
-use Rattle.std.proofs.Common.{IsPermutation}
+use Rattle.std.proofs.Common.{IsPermutation, true, false}
 use Rattle.std.specs.Prelude.{Contains, slice_set}
 use Rattle.std.proofs.lemmas.List.{length-replicate}
 use Rattle.std.proofs.lemmas.List.Elements.{All-nil, All-weaker, All-contains, All-contains_itself, All-set, All-push}
@@ -13,15 +13,16 @@ use Rattle.hlc_node.specs.Items.{body_refusal}
 use Rattle.hlc_intake.specs.Progress.{Progress}
 use Rattle.hlc_heads.specs.Heads.{Marks, IsFloor, head_at, floor_of, marked, joined}
 use Rattle.hlc_heads.specs.declared.heads.TheConstants.{MOST_NODES, MOST_NUMBERS}
-use Rattle.hlc_heads.proofs.LowLemmas.{low-is, floor-is}
+use Rattle.hlc_heads.proofs.LowLemmas.{low-is}
 use Rattle.hlc_witness.specs.Cost.{IsInLimits}
 use Rattle.hlc_core.specs.Past.{Step, body_rows, floor}
 use Rattle.hlc_core.specs.Checkpoint.{floor_in}
-use Rattle.hlc_core.specs.Kept.{Kept, nodes, StandsFor}
-use Rattle.hlc_core.specs.Kept.{HasNodes, HasStamps, HasLastItem, HaveHeads, IsSound, greatest_head, marks_of}
+use Rattle.hlc_core.specs.Kept.{Kept, nodes, StandsFor, HasNodes, HasStamps, HasLastItem, HaveHeads, IsSound}
+use Rattle.hlc_core.specs.Kept.{greatest_head, marks_of}
 use Rattle.hlc_core.proofs.PastLemmas.{limits-body}
 use Rattle.hlc_core.proofs.Held.{floor-marked, floor-joined}
-use Rattle.hlc_core.proofs.Standing.{heads-set, heads-joined, heads-length, head-of, floor-from}
+use Rattle.hlc_checkpoint.proofs.CheckpointLemmas.{heads-had, heads-length, head-of}
+use Rattle.hlc_core.proofs.Standing.{heads-set, heads-joined, floor-from}
 
 abbrev a_link : ℕ → ℕ → Bool → Progress
 a_link next head gone = record { next = next; head = head; retired = gone }
@@ -29,12 +30,6 @@ a_link next head gone = record { next = next; head = head; retired = gone }
 -- where there is no link
 abbrev no_link : Progress
 no_link = a_link 0 0 true
-
--- where there are nodes, and links of them, the heads of those are had
-pub heads-had : (start : ℕ) (links : List Progress) (most : ℕ) → HasNodes start links
-    → HaveHeads links (marks_of links most)
-heads-had start links most h =
-    record { some = omega (arith, h.some, h.linked); few = h.given; same = refl }
 
 -- the function gives the floor of marks
 pub floor-holds : (marks : Marks) → IsFloor marks (floor_of marks)
@@ -116,7 +111,8 @@ sound-accept start links marks horizon rows node number stamp body last h have w
     let is = head-of links marks node have within in
     let here' : (head_at marks.heads node).retired ≡ false = ap (λ x. x.retired) is ∙ here in
     let up' : (head_at marks.heads node).stamp < stamp =
-    (let e : (head_at marks.heads node).stamp ≡ (get_or links node no_link).head = ap (λ x. x.stamp) is in omega arith) in
+    (let e : (head_at marks.heads node).stamp ≡ (get_or links node no_link).head = ap (λ x. x.stamp) is in
+    omega arith) in
     let old : horizon ≤ floor_of marks = subst (λ m. horizon ≤ floor_of m) (sym have.same) h.horizon in
     let rise : floor_of marks ≤ floor_of (marked marks node stamp last) =
     floor-marked marks node stamp last (omega arith) here' up' in
@@ -132,8 +128,8 @@ sound-accept start links marks horizon rows node number stamp body last h have w
       last = All-set HasLastItem links node (a_link (number + 1) stamp last) (λ gone. omega arith) h.last;
       top = ap (λ t. max t stamp) h.top
           ∙ sym (greatest-set links node (number + 1) stamp last no_link within (omega arith));
-      horizon = subst (λ m. horizon ≤ floor_of m) (heads-set links marks node (a_link (number + 1) stamp last) have).same
-          new;
+      horizon = subst (λ m. horizon ≤ floor_of m)
+          (heads-set links marks node (a_link (number + 1) stamp last) have).same new;
       limits = limits-body node stamp body rows limits h.limits;
     }
 
@@ -184,8 +180,8 @@ sound-vacuum start links top horizon at rows fewer h low within =
       last = h.last;
       top = h.top;
       horizon = low;
-      limits = All-weaker (Contains fewer) IsInLimits (λ row m. All-contains IsInLimits rows row h.limits (within row m))
-          fewer (All-contains_itself fewer);
+      limits = All-weaker (Contains fewer) IsInLimits
+          (λ row m. All-contains IsInLimits rows row h.limits (within row m)) fewer (All-contains_itself fewer);
     }
 
 -- the floor of what is kept is that of the past

@@ -7,7 +7,7 @@ use Rattle.std.specs.Prelude.{⊤, ◌==◌, not, Contains, IfOk, OnErr, slice_g
 use Rattle.std.proofs.lemmas.Option.{slice_get-get_or, slice_get_past}
 use Rattle.std.proofs.lemmas.Bool.{cond-true, cond-false, eq-eqb, ne_eqb, le-leb, lt-leb, le-ltb, or_from, cases_lt}
 use Rattle.std.proofs.lemmas.Bool.{cases_eq, cases_Bool}
-use Rattle.std.proofs.lemmas.List.{get_or-map, length-map, map-set, map-append, append-nil, get_or_append_left}
+use Rattle.std.proofs.lemmas.List.{map-set, map-append, append-nil, get_or_append_left}
 use Rattle.std.proofs.Math.Seq.{get_or-append_seam}
 use Rattle.std.proofs.lemmas.List.Elements.{All-weaker, All-contains_itself}
 use Rattle.hlc_values.proofs.MemberLemmas.{Contains-first, Contains-rest, Contains-cons_cases, Contains-map}
@@ -28,6 +28,7 @@ use Rattle.hlc_core.specs.Past.{Step, Took, Opened, Closed, Joined, numbered, co
 use Rattle.hlc_core.specs.Past.{opened, writes, body_rows, item_rows, open_snapshots, link_refusal, item_refusal}
 use Rattle.hlc_core.specs.Past.{join_refusal, join_at_refusal, of_registry, of_room, room_refusal, open_refusal, stamp_of, IsLegal}
 use Rattle.hlc_core.specs.Kept.{Kept, nodes, HaveHeads, StandsFor}
+use Rattle.hlc_checkpoint.proofs.CheckpointLemmas.{heads-length, head-of}
 use Rattle.hlc_snapshot.specs.declared.fault.SnapshotFault.{SnapshotFault}
 use Rattle.hlc_snapshot.specs.declared.snapshot.Snapshot.{Snapshot}
 use Rattle.hlc_vacuum.specs.Standing.{RowsStandFor, count_above}
@@ -178,15 +179,6 @@ heads-joined links marks start h few =
           (ap (λ (m : Marks). m.heads ++ a_head start false ∷ []) h.same
           ∙ sym (map-append head_of links (a_link 0 start false ∷ [])));
     }
-
-pub heads-length : (links : List Progress) (marks : Marks) → HaveHeads links marks → length marks.heads ≡ length links
-heads-length links marks h = ap (λ (m : Marks). length m.heads) h.same ∙ length-map links head_of
-
--- a head is its link's
-pub head-of : (links : List Progress) (marks : Marks) (n : ℕ) → HaveHeads links marks → n < length links
-    → head_at marks.heads n ≡ head_of (get_or links n no_link)
-head-of links marks n h within = ap (λ (m : Marks). head_at m.heads n) h.same
-    ∙ get_or-map head_of links n no_link (a_head 0 true) within
 
 links-took : (links : List Progress) (past : List Step) (item : Item) (number : ℕ)
     → number ≡ count item.node past → item.node < length links

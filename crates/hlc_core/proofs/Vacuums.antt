@@ -1,6 +1,6 @@
 -- A vacuum to a stamp: what it leaves stands for the past with it, its report is the one expected, and what is left at
 -- or below the stamp are the fewest. The open snapshots above the stamp go on answering, as all rows above it stay.
-use Rattle.std.proofs.Common.{◌≡◌, ℕ, ◌+◌, ◌<◌, ◌≤◌, List, ◌∷◌, length, leb, None, Contains, refl, ap, sym, ◌∙◌, subst, inl}
+use Rattle.std.proofs.Common.{◌≡◌, ℕ, ◌+◌, ◌≤◌, List, ◌∷◌, length, leb, None, Contains, refl, ap, sym, ◌∙◌, subst, inl}
 use Rattle.std.proofs.Common.{inr, arith}
 use Rattle.std.specs.List.Sorted.{IsPermutation}
 use Rattle.hlc_node.specs.declared.row.Row.{Row}

@@ -3,7 +3,6 @@
 //! that answer so.
 #![tactic(auto)]
 
-mod checkpoint;
 mod event;
 mod fault;
 mod laws;
@@ -16,9 +15,9 @@ mod sorted;
 mod step;
 mod store;
 
-pub use checkpoint::{Checkpoint, RestoreFault};
 pub use event::CoreEvent;
 pub use fault::{CoreFault, NoNode};
+pub use hlc_checkpoint::{Checkpoint, RestoreFault};
 pub use hlc_clock::Stamp;
 pub use hlc_heads::Accepted;
 pub use hlc_intake::Intake;

@@ -9,8 +9,8 @@ use Rattle.sha2.specs.Sha256.{sha256}
 use Rattle.hlc_core.specs.Past.{Step}
 use Rattle.hlc_core.specs.Kept.{Kept, StandsFor}
 use Rattle.hlc_core.specs.Checkpoint.{IsCheckpoint, IsCopyOf, IsFirstReason}
-use Rattle.hlc_core.specs.declared.checkpoint.RestoreFault.{RestoreFault}
-use Rattle.hlc_core.specs.declared.checkpoint.RestoreFault.TheVariants as reasons
+use Rattle.hlc_checkpoint.specs.declared.checkpoint.RestoreFault.{RestoreFault}
+use Rattle.hlc_checkpoint.specs.declared.checkpoint.RestoreFault.TheVariants as reasons
 use Rattle.hlc_core.proofs.Checkpoints.{copy-stands}
 use Rattle.hlc_wire.specs.declared.fault.WireFault.{WireFault}
 use Rattle.hlc_wire.specs.declared.fault.DecodeError.{DecodeError}

@@ -5,4 +5,5 @@ use Rattle.hlc_heads.specs.Heads.{a_head}
 use Rattle.hlc_core.proofs.restoring.heads_of.Given as goal
 
 abbrev pub invariant-loop-link : goal.invariant-loop-link
-invariant-loop-link l = l.heads.items ≡ map (λ (link : Progress). a_head link.head link.retired) (take l.link-index l.links)
+invariant-loop-link l =
+    l.heads.items ≡ map (λ (link : Progress). a_head link.head link.retired) (take l.link-index l.links)

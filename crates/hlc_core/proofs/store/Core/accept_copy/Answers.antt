@@ -3,7 +3,8 @@ use Rattle.std.proofs.Common.{◌≡◌, ◌<◌, arith, length, false, inl, inr
 use Rattle.std.proofs.lemmas.Result.{err_from_is_err_and}
 use Rattle.hlc_node.specs.Items.{retires}
 use Rattle.hlc_heads.specs.Heads.{head_at}
-use Rattle.hlc_core.proofs.Standing.{fault-due, admitted, admitted-due, heads-set, head-of, heads-length, took}
+use Rattle.hlc_checkpoint.proofs.CheckpointLemmas.{head-of, heads-length}
+use Rattle.hlc_core.proofs.Standing.{fault-due, admitted, admitted-due, heads-set, took}
 use Rattle.hlc_core.proofs.Held.{held-accept}
 use Rattle.hlc_core.proofs.Sound.{sound-accept, sound-moved}
 use Rattle.hlc_core.proofs.Moved.{fresh, held-moved, stands-moved}
@@ -83,8 +84,8 @@ invariant_of-self-2 c =
           c.in_ok-store_copy.ensures.ok,
       sound-moved _ _ _ _ _ _
           (sound-accept _ _ c.self.inside.heads _ _ c.args.item.now.node c.args.item.now.number c.args.item.now.stamp
-          c.args.item.now.body (retires c.args.item.now.body) c.self.invariant.2 c.self.invariant.0 is.within is.here is.number
-          is.rising is.limits)
+          c.args.item.now.body (retires c.args.item.now.body) c.self.invariant.2 c.self.invariant.0 is.within is.here
+          is.number is.rising is.limits)
           c.in_ok-store_copy.ensures.ok,
     )
 

@@ -3,7 +3,8 @@ use Rattle.std.proofs.Common.{◌<◌, ◌≤◌, ◌∙◌, length, arith, refl
 use Rattle.hlc_heads.specs.declared.heads.TheConstants.{MOST_NUMBERS}
 use Rattle.hlc_heads.specs.Heads.{floor_of}
 use Rattle.hlc_heads.proofs.LowLemmas.{floor-is}
-use Rattle.hlc_core.proofs.Standing.{heads-joined, heads-length, floor-from, joins, joins-none, both}
+use Rattle.hlc_checkpoint.proofs.CheckpointLemmas.{heads-length}
+use Rattle.hlc_core.proofs.Standing.{heads-joined, floor-from, joins, joins-none, both}
 use Rattle.hlc_core.proofs.Held.{held-joined}
 use Rattle.hlc_core.proofs.Sound.{sound-joined}
 use Rattle.hlc_core.proofs.store.Core.join.Goals as goal

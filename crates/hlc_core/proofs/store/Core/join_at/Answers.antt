@@ -1,9 +1,10 @@
 -- The node's link and head are one more each, at the start, so the core stands for the joining too.
-use Rattle.std.proofs.Common.{◌≡◌, ◌<◌, ◌≤◌, ◌∙◌, length, subst, arith}
+use Rattle.std.proofs.Common.{◌<◌, ◌≤◌, ◌∙◌, length, subst, arith}
 use Rattle.hlc_heads.specs.declared.heads.TheConstants.{MOST_NUMBERS}
 use Rattle.hlc_heads.specs.Heads.{floor_of}
 use Rattle.hlc_core.specs.Past.{floor}
-use Rattle.hlc_core.proofs.Standing.{heads-joined, heads-length, joins, joins-none, joins-at_none}
+use Rattle.hlc_checkpoint.proofs.CheckpointLemmas.{heads-length}
+use Rattle.hlc_core.proofs.Standing.{heads-joined, joins, joins-none, joins-at_none}
 use Rattle.hlc_core.proofs.Held.{held-joined}
 use Rattle.hlc_core.proofs.Sound.{sound-joined, floor-in}
 use Rattle.hlc_core.proofs.store.Core.join_at.Goals as goal

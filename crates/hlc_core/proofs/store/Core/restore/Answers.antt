@@ -1,7 +1,7 @@
 -- What was made keeps what the checkpoint says, with its rows in another order.
 use Rattle.std.proofs.Common.{refl, IsPermutation}
 use Rattle.hlc_core.proofs.Checkpoints.{copy-stands}
-use Rattle.hlc_core.proofs.Restored.{restored}
+use Rattle.hlc_checkpoint.proofs.CheckpointLemmas.{restored}
 use Rattle.hlc_core.proofs.store.Core.restore.Goals as goal
 
 pub invariant_of-result : goal.invariant_of-result
@@ -20,7 +20,7 @@ invariant_of-result c =
       c.horizon.ensures,
       c.start.ensures,
     )
-    (restored c.args.checkpoint.now c.in_ok-table.table c.in_default.ensures moved)
+    (restored c.args.checkpoint.now c.in_ok-table.table c.in_default.ensures.first moved)
 
 pub returns-clause-stands : goal.returns-clause-stands
 returns-clause-stands c = λ past h.

@@ -2,8 +2,8 @@
 use Rattle.std.proofs.Common.{◌≡◌}
 use Rattle.hlc_heads.specs.Low.{least_left}
 use Rattle.hlc_heads.specs.Heads.{head_at}
-use Rattle.hlc_core.specs.Kept.{marks_of}
-use Rattle.hlc_core.proofs.checkpoint.floor_of.Given as goal
+use Rattle.hlc_checkpoint.specs.Kept.{marks_of}
+use Rattle.hlc_checkpoint.proofs.checkpoint.floor_of.Given as goal
 
 abbrev pub invariant-loop-link : goal.invariant-loop-link
 invariant-loop-link l =

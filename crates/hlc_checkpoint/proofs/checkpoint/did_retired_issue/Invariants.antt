@@ -1,8 +1,8 @@
 -- It holds of each of those so far.
 use Rattle.std.proofs.Common.{ℕ, ◌<◌, get_or}
 use Rattle.hlc_intake.specs.Progress.{Progress}
-use Rattle.hlc_core.specs.Kept.{HasLastItem}
-use Rattle.hlc_core.proofs.checkpoint.did_retired_issue.Given as goal
+use Rattle.hlc_checkpoint.specs.Kept.{HasLastItem}
+use Rattle.hlc_checkpoint.proofs.checkpoint.did_retired_issue.Given as goal
 
 abbrev pub invariant-loop-link : goal.invariant-loop-link
 invariant-loop-link l = (k : ℕ) (d : Progress) → k < l.link-index → HasLastItem (get_or l.links k d)

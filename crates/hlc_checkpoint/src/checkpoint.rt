@@ -1,12 +1,13 @@
 //! A checkpoint of a store, and the first reason why some values are none.
-ghost use Rattle.std.specs.Prelude.{◌≡◌, ◌↔◌, ◌≤◌, IsTrue, All, MatchOption, max};
+ghost use Rattle.std.specs.Prelude.{◌≡◌, ◌≢◌, IfSome, ◌↔◌, ◌≤◌, IsTrue, All, MatchOption, max};
 ghost use Rattle.hlc_heads.specs.Low.{lower};
 ghost use Rattle.std.proofs.Common.{rules};
 ghost use Rattle.std.proofs.lemmas.Grind.{common_steps};
 ghost use Rattle.hlc_heads.specs.Heads.{floor_of};
-ghost use Rattle.hlc_core.specs.Kept.{HasNodes, HasStamps, HasLastItem, greatest_head, marks_of};
-ghost use Rattle.hlc_core.specs.RestoreFaults.{fault_code};
-ghost use Rattle.hlc_core.specs.Checkpoint.{IsCheckpoint, IsFirstReason, IsUnderHead};
+ghost use Rattle.hlc_checkpoint.specs.Kept.{HasNodes, HasStamps, HasLastItem, greatest_head, marks_of};
+ghost use Rattle.hlc_checkpoint.specs.RestoreFaults.{fault_code};
+ghost use Rattle.hlc_checkpoint.specs.declared.checkpoint.RestoreFault.TheVariants.{NoMemory as no_memory};
+ghost use Rattle.hlc_checkpoint.specs.Checkpoint.{IsCheckpoint, IsFirstReason, IsUnderHead};
 
 use hlc_clock::Stamp;
 use hlc_heads::{MOST_NODES, MOST_NUMBERS};
@@ -69,7 +70,7 @@ impl RestoreFault {
 
 impl fmt::Display for RestoreFault {
     ghost use Rattle.std.specs.Prelude.{Some};
-    ghost use Rattle.hlc_core.specs.RestoreFaults.{fault_text};
+    ghost use Rattle.hlc_checkpoint.specs.RestoreFaults.{fault_text};
 
     ghost output = { λ fault. Some (fault_text fault) };
 
@@ -99,7 +100,7 @@ impl Exact for RestoreFault {
 }
 
 impl From<NoMemory> for RestoreFault {
-    ghost use Rattle.hlc_core.specs.declared.checkpoint.RestoreFault.TheVariants.{NoMemory as no_memory};
+    ghost use Rattle.hlc_checkpoint.specs.declared.checkpoint.RestoreFault.TheVariants.{NoMemory as no_memory};
 
     ghost from_gives = { λ _ fault. fault ≡ no_memory };
 
@@ -109,7 +110,7 @@ impl From<NoMemory> for RestoreFault {
 }
 
 impl<T: Drop> From<AllocFailed<T>> for RestoreFault {
-    ghost use Rattle.hlc_core.specs.declared.checkpoint.RestoreFault.TheVariants.{NoMemory as no_memory};
+    ghost use Rattle.hlc_checkpoint.specs.declared.checkpoint.RestoreFault.TheVariants.{NoMemory as no_memory};
 
     ghost from_gives = { λ _ fault. fault ≡ no_memory };
 
@@ -122,7 +123,7 @@ impl<T: Drop> From<AllocFailed<T>> for RestoreFault {
 /// its link has come; the open snapshots, the oldest first, and how many were ever opened; the
 /// horizon; the rows, by key, stamp and node.
 ///
-/// Contracts see it as they see a core, whose greatest accepted stamp is the greatest head. So a
+/// Contracts see it as they see a core, whose top is the greatest head. So a
 /// checkpoint represents a past as a core does. Anyone may make one of any parts: `Core::restore`
 /// checks all of it.
 #[derive(Debug, Drop)]
@@ -136,7 +137,7 @@ pub struct Checkpoint {
 }
 
 impl Model for Checkpoint {
-    ghost use Rattle.hlc_core.specs.Kept.{Kept, greatest_head};
+    ghost use Rattle.hlc_checkpoint.specs.Kept.{Kept, greatest_head};
 
     ghost Value = { Kept };
 
@@ -195,7 +196,8 @@ impl Checkpoint {
         self.links.as_slice()
     }
 
-    /// The greatest head, which is the greatest stamp of an accepted item. It is computed.
+    /// The greatest head: the greatest stamp of an accepted item, or of the start of a node that joined. It
+    /// is computed.
     pub fn top(&self) -> Stamp
         ensures value { result ≡ self.now.top }
         ensures greatest { result ≡ greatest_head self.now.links }
@@ -217,7 +219,7 @@ impl Checkpoint {
         self.opened
     }
 
-    /// The floor of the last vacuum.
+    /// The stamp of the last vacuum, 0.0 before the first.
     pub fn horizon(&self) -> Stamp
         ensures { result ≡ self.now.horizon }
     {
@@ -231,8 +233,9 @@ impl Checkpoint {
         self.rows.as_slice()
     }
 
-    /// The links, the open snapshots and the rows. It takes no memory.
-    pub(crate) fn into_lists(self) -> (Vec<Intake>, Vec<Snapshot>, Vec<Row>)
+    /// The links, the open snapshots and the rows, moved out: nothing is copied, and it takes no
+    /// memory. Read the other parts beforehand.
+    pub fn into_lists(self) -> (Vec<Intake>, Vec<Snapshot>, Vec<Row>)
         ensures links { result.0.items ≡ self.links }
         ensures snapshots { result.1.items ≡ self.snapshots }
         ensures rows { result.2.items ≡ self.rows }
@@ -243,15 +246,17 @@ impl Checkpoint {
     /// The first reason why this is no checkpoint, for which `Core::restore` refuses it; never out of
     /// memory. It takes no memory, and looks once at each part.
     pub fn fault(&self) -> Option<RestoreFault>
-        ensures { MatchOption result (IsCheckpoint self.now) (IsFirstReason self.now) }
+        ensures first { MatchOption result (IsCheckpoint self.now) (IsFirstReason self.now) }
+        ensures other { IfSome result (λ fault. fault ≢ no_memory) }
     {
         reason_against(self)
     }
 }
 
-/// The first reason why this is no checkpoint. It takes no memory.
-pub(crate) fn reason_against(checkpoint: &Checkpoint) -> Option<RestoreFault>
-    ensures { MatchOption result (IsCheckpoint checkpoint.now) (IsFirstReason checkpoint.now) }
+/// The first reason why this is no checkpoint; never out of memory.
+fn reason_against(checkpoint: &Checkpoint) -> Option<RestoreFault>
+    ensures first { MatchOption result (IsCheckpoint checkpoint.now) (IsFirstReason checkpoint.now) }
+    ensures other { IfSome result (λ fault. fault ≢ no_memory) }
 {
     let links = checkpoint.links();
     let snapshots = checkpoint.snapshots();

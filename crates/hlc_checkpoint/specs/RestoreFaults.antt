@@ -1,11 +1,11 @@
 -- The number and the text of each reason why no store is restored.
 use Rattle.std.specs.Prelude.{ℕ, List, codes}
-use Rattle.hlc_core.specs.declared.checkpoint.RestoreFault.{RestoreFault}
-use Rattle.hlc_core.specs.declared.checkpoint.RestoreFault.TheVariants.{NodesOutOfRange, NumberAboveHead}
-use Rattle.hlc_core.specs.declared.checkpoint.RestoreFault.TheVariants.{RetiredWithoutItem, SnapshotsNotRising}
-use Rattle.hlc_core.specs.declared.checkpoint.RestoreFault.TheVariants.{SnapshotAboveFloor, HorizonAboveFloor}
-use Rattle.hlc_core.specs.declared.checkpoint.RestoreFault.TheVariants.{RowsNotAscending, RowAboveHead, RowOutOfLimits}
-use Rattle.hlc_core.specs.declared.checkpoint.RestoreFault.TheVariants.{NoMemory}
+use Rattle.hlc_checkpoint.specs.declared.checkpoint.RestoreFault.{RestoreFault}
+use Rattle.hlc_checkpoint.specs.declared.checkpoint.RestoreFault.TheVariants.{NodesOutOfRange, NumberAboveHead}
+use Rattle.hlc_checkpoint.specs.declared.checkpoint.RestoreFault.TheVariants.{RetiredWithoutItem, SnapshotsNotRising}
+use Rattle.hlc_checkpoint.specs.declared.checkpoint.RestoreFault.TheVariants.{SnapshotAboveFloor, HorizonAboveFloor}
+use Rattle.hlc_checkpoint.specs.declared.checkpoint.RestoreFault.TheVariants.{RowsNotAscending, RowAboveHead}
+use Rattle.hlc_checkpoint.specs.declared.checkpoint.RestoreFault.TheVariants.{RowOutOfLimits, NoMemory}
 
 -- the number that stands for a fault
 abbrev pub fault_code : RestoreFault → ℕ

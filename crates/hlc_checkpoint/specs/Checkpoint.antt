@@ -9,13 +9,13 @@ use Rattle.hlc_heads.specs.Heads.{floor_of}
 use Rattle.hlc_snapshot.specs.Register.{IsRegister}
 use Rattle.hlc_witness.specs.Certificate.{RowsAscend}
 use Rattle.hlc_witness.specs.Cost.{AreInLimits}
-use Rattle.hlc_core.specs.declared.checkpoint.RestoreFault.{RestoreFault}
-use Rattle.hlc_core.specs.declared.checkpoint.RestoreFault.TheVariants.{NodesOutOfRange, NumberAboveHead}
-use Rattle.hlc_core.specs.declared.checkpoint.RestoreFault.TheVariants.{RetiredWithoutItem, SnapshotsNotRising}
-use Rattle.hlc_core.specs.declared.checkpoint.RestoreFault.TheVariants.{SnapshotAboveFloor, HorizonAboveFloor}
-use Rattle.hlc_core.specs.declared.checkpoint.RestoreFault.TheVariants.{RowsNotAscending, RowAboveHead, RowOutOfLimits}
-use Rattle.hlc_core.specs.declared.checkpoint.RestoreFault.TheVariants.{NoMemory}
-use Rattle.hlc_core.specs.Kept.{Kept, HasNodes, HasStamps, HasLastItem, greatest_head, marks_of, with_rows_left}
+use Rattle.hlc_checkpoint.specs.declared.checkpoint.RestoreFault.{RestoreFault}
+use Rattle.hlc_checkpoint.specs.declared.checkpoint.RestoreFault.TheVariants.{NodesOutOfRange, NumberAboveHead}
+use Rattle.hlc_checkpoint.specs.declared.checkpoint.RestoreFault.TheVariants.{RetiredWithoutItem, SnapshotsNotRising}
+use Rattle.hlc_checkpoint.specs.declared.checkpoint.RestoreFault.TheVariants.{SnapshotAboveFloor, HorizonAboveFloor}
+use Rattle.hlc_checkpoint.specs.declared.checkpoint.RestoreFault.TheVariants.{RowsNotAscending, RowAboveHead}
+use Rattle.hlc_checkpoint.specs.declared.checkpoint.RestoreFault.TheVariants.{RowOutOfLimits, NoMemory}
+use Rattle.hlc_checkpoint.specs.Kept.{Kept, HasNodes, HasStamps, HasLastItem, greatest_head, marks_of, with_rows_left}
 
 -- the floor of what is kept
 abbrev pub floor_in : Kept → ℕ
@@ -35,8 +35,8 @@ IsUnderHead links row = MatchOption (slice_get links row.node) ⊥ (λ link. row
 
 -- What is kept is a checkpoint: there are nodes, and their links, over which items may have come so far; the greatest
 -- stamp of an accepted item is the greatest head; the snapshots are those of a register; neither they nor the horizon
--- are above the floor; the rows ascend by key, stamp and node, none is above the head of its node, and an item may write
--- each.
+-- are above the floor; the rows ascend by key, stamp and node, none is above the head of its node, and an item may
+-- write each.
 pub record IsCheckpoint (kept : Kept) : Type 0 where
   pub nodes : HasNodes kept.start kept.links
   pub stamps : All HasStamps kept.links

@@ -1,0 +1,143 @@
+-- What is made of a checkpoint holds together as a core does, and what a core keeps, with its rows in order, is a
+-- checkpoint.
+use Rattle.std.proofs.Common.{◌≡◌, ℕ, suc, ◌<◌, ◌≤◌, List, [], ◌∷◌, length, get_or}
+use Rattle.std.proofs.Common.{refl, ap, sym, ◌∙◌, subst, inl, inr, arith, IsPermutation, true}
+use Rattle.std.specs.Prelude.{MatchOption}
+use Rattle.std.proofs.lemmas.Option.{slice_get-get_or, slice_get_past}
+use Rattle.std.proofs.lemmas.Bool.{cases_lt}
+use Rattle.std.proofs.lemmas.List.{get_or-map, length-map}
+use Rattle.std.proofs.lemmas.List.Elements.{All-weaker}
+use Rattle.std.proofs.lemmas.List.Sorted.{All-permutation, IsPermutation-keeps}
+use Rattle.hlc_node.specs.declared.row.Row.{Row}
+use Rattle.hlc_node.specs.Rows.{IsRowSet, IsSameVersion}
+use Rattle.hlc_intake.specs.Progress.{Progress}
+use Rattle.hlc_heads.specs.declared.heads.Head.{Head}
+use Rattle.hlc_heads.specs.Heads.{Marks, a_head, head_at}
+use Rattle.hlc_snapshot.specs.Register.{IsRegister}
+use Rattle.hlc_witness.specs.Cost.{IsInLimits}
+use Rattle.hlc_witness.proofs.CertificateLemmas.{ascending_rows_are_a_row_set}
+use Rattle.hlc_checkpoint.specs.Kept.{Kept, marks_of, with_rows_left, HaveHeads, HasNodes, IsHeld, IsSound}
+use Rattle.hlc_checkpoint.specs.Checkpoint.{IsCheckpoint, IsCheckpointOf, IsUnderHead}
+use Rattle.hlc_checkpoint.proofs.AscendLemmas.{AreApart, apart, apart-swap}
+
+-- where there is no link
+abbrev no_link : Progress
+no_link = record { next = 0; head = 0; retired = true }
+
+-- a link's head
+abbrev head_of : Progress → Head
+head_of link = a_head link.head link.retired
+
+-- the row is of one of the nodes, and not above its head
+abbrev pub IsUnder : List Head → Row → Type 0
+IsUnder heads row = (row.node < length heads) × (row.stamp ≤ (head_at heads row.node).stamp)
+
+from_apart : (rows : List Row) → AreApart rows → IsRowSet rows
+from_apart [] h = tt
+from_apart (row ∷ rows) h = (
+  λ other (k, lt, e) same.
+      h 0 (suc k) other (omega arith) (omega (arith, lt)) (subst (λ r. IsSameVersion row r) (sym e) same),
+  from_apart rows (λ i j d less within same. h (suc i) (suc j) d (omega (arith, less)) (omega (arith, within)) same),
+)
+
+pub row_set-moved : (rows moved : List Row) → IsRowSet rows → IsPermutation rows moved → IsRowSet moved
+row_set-moved rows moved h moves =
+    from_apart moved (IsPermutation-keeps rows AreApart (apart rows h) apart-swap moved moves)
+
+pub heads-length : (links : List Progress) (marks : Marks) → HaveHeads links marks → length marks.heads ≡ length links
+heads-length links marks h = ap (λ (m : Marks). length m.heads) h.same ∙ length-map links head_of
+
+-- a head is its link's
+pub head-of : (links : List Progress) (marks : Marks) (n : ℕ) → HaveHeads links marks → n < length links
+    → head_at marks.heads n ≡ head_of (get_or links n no_link)
+head-of links marks n h within = ap (λ (m : Marks). head_at m.heads n) h.same
+    ∙ get_or-map head_of links n no_link (a_head 0 true) within
+
+-- where there are nodes, and links of them, the heads of those are had
+pub heads-had : (start : ℕ) (links : List Progress) (most : ℕ) → HasNodes start links
+    → HaveHeads links (marks_of links most)
+heads-had start links most h =
+    record { some = omega (arith, h.some, h.linked); few = h.given; same = refl }
+
+under-to : (links : List Progress) (top start : ℕ) (row : Row) → HasNodes start links → IsUnderHead links row
+    → IsUnder (marks_of links top).heads row
+under-to links top start row has under =
+    let had = heads-had start links top has in
+    let d : Progress = record { next = 0; head = 0; retired = true } in
+    let len : length (marks_of links top).heads ≡ length links = heads-length links (marks_of links top) had in
+    elim (cases_lt row.node (length links)) [
+      | inl below ↦
+          let low : row.stamp ≤ (get_or links row.node d).head =
+          subst (λ o. MatchOption o ⊥ (λ link. row.stamp ≤ link.head)) (slice_get-get_or links row.node d below)
+          under in
+          let e : (head_at (marks_of links top).heads row.node).stamp ≡ (get_or links row.node d).head =
+          ap (λ h. h.stamp) (head-of links (marks_of links top) row.node had below) in
+          (omega arith, omega arith)
+      | inr outside ↦
+          absurd (subst (λ o. MatchOption o ⊥ (λ link. row.stamp ≤ link.head)) (slice_get_past links row.node outside)
+          under)
+    ]
+
+-- a core of a checkpoint's parts, with its rows in another order, has its heads, is held, and has its nodes
+pub restored : (kept : Kept) (rows : List Row) → IsCheckpoint kept → IsPermutation kept.rows rows
+    → HaveHeads kept.links (marks_of kept.links kept.top)
+    × IsHeld (marks_of kept.links kept.top) kept.snapshots rows
+    × IsSound kept.start kept.links kept.top kept.horizon rows
+restored kept rows is moved = (
+  heads-had kept.start kept.links kept.top is.nodes,
+  record {
+    opened = is.opened;
+    row_set = row_set-moved kept.rows rows (ascending_rows_are_a_row_set kept.rows is.ascend) moved;
+    stored = All-permutation (IsUnder (marks_of kept.links kept.top).heads) kept.rows rows moved
+        (All-weaker (IsUnderHead kept.links) (IsUnder (marks_of kept.links kept.top).heads)
+        (λ row under. under-to kept.links kept.top kept.start row is.nodes under) kept.rows is.under);
+  },
+  record {
+    nodes = is.nodes;
+    stamps = is.stamps;
+    last = is.last;
+    top = is.top;
+    horizon = is.horizon;
+    limits = All-permutation IsInLimits kept.rows rows moved is.limits;
+  },
+)
+
+under-from : (links : List Progress) (top start : ℕ) (row : Row) → HasNodes start links
+    → IsUnder (marks_of links top).heads row → IsUnderHead links row
+under-from links top start row has under =
+    let had = heads-had start links top has in
+    let d : Progress = record { next = 0; head = 0; retired = true } in
+    let len : length (marks_of links top).heads ≡ length links = heads-length links (marks_of links top) had in
+    let node : row.node < length (marks_of links top).heads = under.0 in
+    let below : row.node < length links = omega arith in
+    let low : row.stamp ≤ (head_at (marks_of links top).heads row.node).stamp = under.1 in
+    let e : (head_at (marks_of links top).heads row.node).stamp ≡ (get_or links row.node d).head =
+    ap (λ h. h.stamp) (head-of links (marks_of links top) row.node had below) in
+    subst (λ o. MatchOption o ⊥ (λ link. row.stamp ≤ link.head)) (sym (slice_get-get_or links row.node d below))
+    (omega arith)
+
+-- and what a core keeps, with its rows in order, is a checkpoint
+pub checkpoint-of : (kept copy : Kept) (marks : Marks) → HaveHeads kept.links marks → marks.top ≡ kept.top
+    → IsHeld marks kept.snapshots kept.rows → IsSound kept.start kept.links kept.top kept.horizon kept.rows
+    → IsRegister (record { snapshots = kept.snapshots; opened = kept.opened }) → IsCheckpointOf kept copy
+    → IsCheckpoint copy
+checkpoint-of kept copy marks have top held sound register is =
+    let same : marks ≡ marks_of kept.links kept.top = have.same ∙ ap (marks_of kept.links) top in
+    let held' : IsHeld (marks_of kept.links kept.top) kept.snapshots kept.rows =
+    subst (λ m. IsHeld m kept.snapshots kept.rows) same held in
+    let made : Kept = with_rows_left kept copy.rows kept.horizon in
+    let sound' : IsCheckpoint made = record {
+      nodes = sound.nodes;
+      stamps = sound.stamps;
+      last = sound.last;
+      top = sound.top;
+      register = register;
+      opened = held'.opened;
+      horizon = sound.horizon;
+      ascend = is.ascend;
+      under = All-permutation (IsUnderHead kept.links) kept.rows copy.rows is.copy.rows
+          (All-weaker (IsUnder (marks_of kept.links kept.top).heads) (IsUnderHead kept.links)
+          (λ row under. under-from kept.links kept.top kept.start row sound.nodes under) kept.rows held'.stored);
+      limits = All-permutation IsInLimits kept.rows copy.rows is.copy.rows sound.limits;
+    } in
+    subst IsCheckpoint {x = made} (sym is.copy.same) sound'

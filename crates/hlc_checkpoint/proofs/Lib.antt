@@ -1,0 +1,2 @@
+pub mod AscendLemmas
+pub mod CheckpointLemmas
