@@ -1,9 +1,10 @@
 //! What holds of every legal past, and of cores that stand for one.
 ghost use Rattle.std.specs.Prelude.{◌≡◌, ◌≢◌, ◌+◌, ◌<◌, ◌≤◌, ◌⊎◌, ◌↔◌, true, false, ℕ, List, ◌∷◌, None, All, length};
-ghost use Rattle.hlc_node.specs.Rows.{IsRowSet};
+ghost use Rattle.hlc_node.specs.Rows.{IsRowSet, answer};
 ghost use Rattle.hlc_core.specs.Past.{Step, Took, Joined, Vacuumed, IsLegal, numbered, retired, top, writes, head};
 ghost use Rattle.hlc_core.specs.Past.{floor, open_snapshots, item_refusal, join_refusal, join_at_refusal};
-ghost use Rattle.hlc_core.specs.Past.{greatest_accepted, vacuum_refusal};
+ghost use Rattle.hlc_core.specs.Past.{greatest_accepted, horizon, vacuum_refusal};
+ghost use Rattle.hlc_core.specs.Replicas.{AreReplicas, items_of, joins_of};
 ghost use Rattle.hlc_clock.specs.Points.{ArePoints};
 ghost use Rattle.hlc_snapshot.specs.Register.{stamps};
 ghost use Rattle.hlc_vacuum.specs.Vacuumed.{IsVacuumOf, rows_to};
@@ -100,6 +101,35 @@ pub fn a_vacuum_is_one_to_the_floor()
     ensures points { (nodes : ℕ) (past : List Step) (points : List ℕ) → IsLegal nodes past
         → AreVacuumPoints (floor nodes past) past points
         ↔ ArePoints (stamps (open_snapshots past)) (floor nodes past) points }
+{}
+
+/// Replicas never diverge in what they accept. Where the same nodes joined at the same starts, an item is
+/// accepted by the one just where it is accepted by the other, if both accepted the same items of its node,
+/// whatever they accepted of others. Where both accepted the same items of all nodes, in whatever order
+/// between links, their floors are equal, and a join at a start is accepted by both or by none.
+pub fn replicas_accept_alike()
+    ensures items { (nodes : ℕ) (past other : List Step) (item : AnItem)
+        → IsLegal nodes past → IsLegal nodes other → joins_of past ≡ joins_of other
+        → items_of item.node past ≡ items_of item.node other
+        → item_refusal nodes past item ≡ item_refusal nodes other item }
+    ensures floor { (nodes : ℕ) (past other : List Step) → 0 < nodes
+        → IsLegal nodes past → IsLegal nodes other → AreReplicas past other
+        → floor nodes past ≡ floor nodes other }
+    ensures joins { (nodes : ℕ) (past other : List Step) (start : ℕ) → 0 < nodes
+        → IsLegal nodes past → IsLegal nodes other → AreReplicas past other
+        → join_at_refusal nodes past start ≡ join_at_refusal nodes other start }
+{}
+
+/// Replicas that accepted the same items, in whatever order between links, answer alike at each stamp from
+/// the horizons of both on, whenever either vacuumed and whichever snapshots are open.
+pub fn replicas_answer_alike()
+    ensures accepted { (nodes : ℕ) (past other : List Step) → IsLegal nodes past
+        → AreReplicas past other → (key : List ℕ) (stamp : ℕ)
+        → answer (writes past) key stamp ≡ answer (writes other) key stamp }
+    ensures stored { (kept copy : Kept) (past other : List Step) → StandsFor kept past
+        → StandsFor copy other → AreReplicas past other → (key : List ℕ) (stamp : ℕ)
+        → horizon past ≤ stamp → horizon other ≤ stamp
+        → answer kept.rows key stamp ≡ answer copy.rows key stamp }
 {}
 
 /// There is one listing of some rows at a stamp.

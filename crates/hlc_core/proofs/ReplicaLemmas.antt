@@ -1,0 +1,262 @@
+-- A node's link follows from its items and its start, so it is alike in all replicas, and so are the floor and the rows.
+use Rattle.std.proofs.Common.{◌≡◌, ℕ, zero, suc, ◌+◌, ◌<◌, ◌≤◌, List, [], ◌∷◌, ◌++◌, length, Contains, None, Bool, false}
+use Rattle.std.proofs.Common.{refl, ap, sym, ◌∙◌, subst, inl, inr, arith}
+use Rattle.std.specs.Prelude.{◌==◌, if◌then◌else◌, Option}
+use Rattle.std.proofs.lemmas.Bool.{cond-true, cond-false, eq-eqb, ne_eqb, cases_eq}
+use Rattle.std.proofs.lemmas.List.Elements.{Contains-append_left, Contains-append_right, Contains-append_cases}
+use Rattle.hlc_values.proofs.MemberLemmas.{Contains-first, Contains-rest, Contains-cons_cases, Contains-none}
+use Rattle.hlc_node.specs.declared.row.Row.{Row}
+use Rattle.hlc_node.specs.declared.item.Item.{Item}
+use Rattle.hlc_node.specs.Items.{retires}
+use Rattle.hlc_node.specs.Rows.{answer}
+use Rattle.hlc_heads.specs.Low.{least_left, or_else, low, lower}
+use Rattle.hlc_vacuum.proofs.Parts.{same_rows}
+use Rattle.hlc_core.specs.declared.fault.CoreFault.{CoreFault}
+use Rattle.hlc_core.specs.Past.{Step, Took, Opened, Closed, Vacuumed, Joined, numbered, count, head, retired, top}
+use Rattle.hlc_core.specs.Past.{floor, horizon, writes, item_rows, link_refusal, item_refusal, join_at_refusal, IsLegal}
+use Rattle.hlc_core.specs.Kept.{Kept, nodes, StandsFor}
+use Rattle.hlc_core.specs.Replicas.{items_of, joins_of, AreReplicas}
+use Rattle.hlc_core.proofs.PastLemmas.{inside, fresh, head-same, head-other, head-joined, head-joined_other}
+use Rattle.hlc_core.proofs.PastLemmas.{retired-same, retired-other, count-other, body_rows-are, writes-row_set}
+use Rattle.hlc_core.proofs.Checkpoints.{heads-low, top-at}
+
+items-same : (n : ℕ) (item : Item) (past : List Step) → item.node ≡ n
+    → items_of n (Took item ∷ past) ≡ item ∷ items_of n past
+items-same n item past e = cond-true _ _ _ (eq-eqb _ _ e)
+
+items-other : (n : ℕ) (item : Item) (past : List Step) → (item.node ≡ n → ⊥)
+    → items_of n (Took item ∷ past) ≡ items_of n past
+items-other n item past e = cond-false _ _ _ (ne_eqb _ _ e)
+
+-- no item is of a node that is not there
+items-none : (nodes : ℕ) (past : List Step) (n : ℕ) → IsLegal nodes past → numbered nodes past ≤ n
+    → items_of n past ≡ []
+items-none nodes [] n legal out = refl
+items-none nodes (Opened stamp ∷ past) n legal out = items-none nodes past n legal.1 out
+items-none nodes (Closed id ∷ past) n legal out = items-none nodes past n legal.1 out
+items-none nodes (Vacuumed at ∷ past) n legal out = items-none nodes past n legal.1 out
+items-none nodes (Joined node start ∷ past) n legal out =
+    items-none nodes past n legal.3 (let out' : numbered nodes past + 1 ≤ n = out in omega arith)
+items-none nodes (Took item ∷ past) n legal out =
+    let within : item.node < numbered nodes past = inside nodes past item legal.0 in
+    let out' : numbered nodes past ≤ n = out in
+    items-other n item past (λ e. omega arith) ∙ items-none nodes past n legal.1 out
+
+-- the start of a node, by the joins
+abbrev start_in : ℕ → List (ℕ × ℕ) → ℕ
+start_in n [] = 0
+start_in n (join ∷ joins) = if join.0 == n then join.1 else start_in n joins
+
+-- the head and the retirement of a node, by its items and the joins
+abbrev last_head : ℕ → List Item → List (ℕ × ℕ) → ℕ
+last_head n [] joins = start_in n joins
+last_head n (item ∷ items) joins = item.stamp
+
+abbrev last_retires : List Item → Bool
+last_retires [] = false
+last_retires (item ∷ items) = retires item.body
+
+head-skips : (n node start : ℕ) (items : List Item) (joins : List (ℕ × ℕ)) → (node ≡ n → ⊥)
+    → last_head n items ((node, start) ∷ joins) ≡ last_head n items joins
+head-skips n node start [] joins e = cond-false _ _ _ (ne_eqb _ _ e)
+head-skips n node start (item ∷ items) joins e = refl
+
+head-by : (nodes : ℕ) (past : List Step) (n : ℕ) → IsLegal nodes past
+    → head n past ≡ last_head n (items_of n past) (joins_of past)
+head-by nodes [] n legal = refl
+head-by nodes (Opened stamp ∷ past) n legal = head-by nodes past n legal.1
+head-by nodes (Closed id ∷ past) n legal = head-by nodes past n legal.1
+head-by nodes (Vacuumed at ∷ past) n legal = head-by nodes past n legal.1
+head-by nodes (Joined node start ∷ past) n legal =
+    elim (cases_eq node n) [
+      | inl same ↦
+          let out : numbered nodes past ≤ n = (let is : node ≡ numbered nodes past = legal.1 in omega arith) in
+          let none = items-none nodes past n legal.3 out in
+          head-joined n node start past same
+          ∙ sym (ap (λ items. last_head n items ((node, start) ∷ joins_of past)) none
+          ∙ cond-true _ _ _ (eq-eqb _ _ same))
+      | inr other ↦
+          head-joined_other n node start past other ∙ head-by nodes past n legal.3
+          ∙ sym (head-skips n node start (items_of n past) (joins_of past) other)
+    ]
+head-by nodes (Took item ∷ past) n legal =
+    elim (cases_eq item.node n) [
+      | inl same ↦ head-same n item past same
+          ∙ sym (ap (λ items. last_head n items (joins_of past)) (items-same n item past same))
+      | inr other ↦ head-other n item past other ∙ head-by nodes past n legal.1
+          ∙ sym (ap (λ items. last_head n items (joins_of past)) (items-other n item past other))
+    ]
+
+retired-by : (past : List Step) (n : ℕ) → retired n past ≡ last_retires (items_of n past)
+retired-by [] n = refl
+retired-by (Opened stamp ∷ past) n = retired-by past n
+retired-by (Closed id ∷ past) n = retired-by past n
+retired-by (Vacuumed at ∷ past) n = retired-by past n
+retired-by (Joined node start ∷ past) n = retired-by past n
+retired-by (Took item ∷ past) n =
+    elim (cases_eq item.node n) [
+      | inl same ↦ retired-same n item past same ∙ sym (ap last_retires (items-same n item past same))
+      | inr other ↦ retired-other n item past other ∙ retired-by past n
+          ∙ sym (ap last_retires (items-other n item past other))
+    ]
+
+count-by : (past : List Step) (n : ℕ) → count n past ≡ length (items_of n past)
+count-by [] n = refl
+count-by (Opened stamp ∷ past) n = count-by past n
+count-by (Closed id ∷ past) n = count-by past n
+count-by (Vacuumed at ∷ past) n = count-by past n
+count-by (Joined node start ∷ past) n = count-by past n
+count-by (Took item ∷ past) n =
+    elim (cases_eq item.node n) [
+      | inl same ↦
+          cond-true (item.node == n) (count n past + 1) (count n past) (eq-eqb _ _ same)
+          ∙ ap (λ k. k + 1) (count-by past n) ∙ sym (ap length (items-same n item past same) ∙ (omega arith))
+      | inr other ↦ count-other n item past other ∙ count-by past n
+          ∙ sym (ap length (items-other n item past other))
+    ]
+
+numbered-by : (nodes : ℕ) (past : List Step) → numbered nodes past ≡ nodes + length (joins_of past)
+numbered-by nodes [] = omega arith
+numbered-by nodes (Took item ∷ past) = numbered-by nodes past
+numbered-by nodes (Opened stamp ∷ past) = numbered-by nodes past
+numbered-by nodes (Closed id ∷ past) = numbered-by nodes past
+numbered-by nodes (Vacuumed at ∷ past) = numbered-by nodes past
+numbered-by nodes (Joined node start ∷ past) = (let h = numbered-by nodes past in omega (arith, h))
+
+numbered-same : (nodes : ℕ) (past other : List Step) → joins_of past ≡ joins_of other
+    → numbered nodes past ≡ numbered nodes other
+numbered-same nodes past other joins =
+    numbered-by nodes past ∙ ap (λ js. nodes + length js) joins ∙ sym (numbered-by nodes other)
+
+head-agrees : (nodes : ℕ) (past other : List Step) (n : ℕ) → IsLegal nodes past → IsLegal nodes other
+    → joins_of past ≡ joins_of other → items_of n past ≡ items_of n other → head n past ≡ head n other
+head-agrees nodes past other n legal legal' joins items =
+    head-by nodes past n legal ∙ ap (λ js. last_head n (items_of n past) js) joins
+    ∙ ap (λ is. last_head n is (joins_of other)) items ∙ sym (head-by nodes other n legal')
+
+retired-agrees : (past other : List Step) (n : ℕ) → items_of n past ≡ items_of n other
+    → retired n past ≡ retired n other
+retired-agrees past other n items = retired-by past n ∙ ap last_retires items ∙ sym (retired-by other n)
+
+count-agrees : (past other : List Step) (n : ℕ) → items_of n past ≡ items_of n other → count n past ≡ count n other
+count-agrees past other n items = count-by past n ∙ ap length items ∙ sym (count-by other n)
+
+-- an item is refused alike where its own node's items are the same
+pub refusals-agree : (nodes : ℕ) (past other : List Step) (item : Item) → IsLegal nodes past → IsLegal nodes other
+    → joins_of past ≡ joins_of other → items_of item.node past ≡ items_of item.node other
+    → item_refusal nodes past item ≡ item_refusal nodes other item
+refusals-agree nodes past other item legal legal' joins items =
+    rw (
+      numbered-same nodes past other joins,
+      retired-agrees past other item.node items,
+      count-agrees past other item.node items,
+      head-agrees nodes past other item.node legal legal' joins items,
+    ) refl
+
+least-agrees : (f g : ℕ → ℕ) (gone left : ℕ → Bool) (n : ℕ) → ((k : ℕ) → f k ≡ g k) → ((k : ℕ) → gone k ≡ left k)
+    → least_left f gone n ≡ least_left g left n
+least-agrees f g gone left zero same away = refl
+least-agrees f g gone left (suc n) same away =
+    rw (same n, away n, least-agrees f g gone left n same away) refl
+
+top-le : (nodes : ℕ) (past other : List Step) → 0 < nodes → IsLegal nodes past → IsLegal nodes other
+    → ((n : ℕ) → head n past ≡ head n other) → top past ≤ top other
+top-le nodes past other some legal legal' same =
+    let one = top-at nodes past some legal in
+    let at : head one.0 past ≡ top past = one.2 in
+    let e : head one.0 past ≡ head one.0 other = same one.0 in
+    let low : head one.0 other ≤ top other = heads-low nodes other legal' one.0 in omega arith
+
+-- the floor is the same
+pub floors-agree : (nodes : ℕ) (past other : List Step) → 0 < nodes → IsLegal nodes past → IsLegal nodes other
+    → AreReplicas past other → floor nodes past ≡ floor nodes other
+floors-agree nodes past other some legal legal' are =
+    let heads : (n : ℕ) → head n past ≡ head n other =
+    λ n. head-agrees nodes past other n legal legal' are.joins (are.items n) in
+    let a : top past ≤ top other = top-le nodes past other some legal legal' heads in
+    let b : top other ≤ top past = top-le nodes other past some legal' legal (λ n. sym (heads n)) in
+    let tops : top past ≡ top other = omega arith in
+    ap (λ n. low (λ k. head k past) (λ k. retired k past) n (top past)) (numbered-same nodes past other are.joins)
+    ∙ ap (λ o. or_else o (top past))
+    (least-agrees (λ k. head k past) (λ k. head k other) (λ k. retired k past) (λ k. retired k other)
+    (numbered nodes other) heads (λ k. retired-agrees past other k (are.items k)))
+    ∙ ap (λ t. low (λ k. head k other) (λ k. retired k other) (numbered nodes other) t) tops
+
+-- so a join at a start is refused alike
+pub joins-agree : (nodes : ℕ) (past other : List Step) (start : ℕ) → 0 < nodes → IsLegal nodes past
+    → IsLegal nodes other → AreReplicas past other
+    → join_at_refusal nodes past start ≡ join_at_refusal nodes other start
+joins-agree nodes past other start some legal legal' are =
+    rw (numbered-same nodes past other are.joins, floors-agree nodes past other some legal legal' are) refl
+
+-- each accepted write is that of an item of its node
+writes-from : (past : List Step) (row : Row) → Contains (writes past) row
+    → (item : Item) × Contains (items_of row.node past) item × Contains (item_rows item) row
+writes-from [] row m = absurd (Contains-none row m)
+writes-from (Opened stamp ∷ past) row m = writes-from past row m
+writes-from (Closed id ∷ past) row m = writes-from past row m
+writes-from (Vacuumed at ∷ past) row m = writes-from past row m
+writes-from (Joined node start ∷ past) row m = writes-from past row m
+writes-from (Took item ∷ past) row m =
+    elim (Contains-append_cases (writes past) (item_rows item) row m) [
+      | inl earlier ↦
+          let found = writes-from past row earlier in (
+            found.0,
+            elim (cases_eq item.node row.node) [
+              | inl same ↦ subst (λ items. Contains items found.0) (sym (items-same row.node item past same))
+                  (Contains-rest item found.0 (items_of row.node past) found.1)
+              | inr other ↦ subst (λ items. Contains items found.0) (sym (items-other row.node item past other)) found.1
+            ],
+            found.2,
+          )
+      | inr here ↦
+          let are : (row.node ≡ item.node) × (row.stamp ≡ item.stamp) =
+          body_rows-are item.node item.stamp item.body row here in (
+            item,
+            subst (λ items. Contains items item) (sym (items-same row.node item past (sym are.0)))
+                (Contains-first item (items_of row.node past)),
+            here,
+          )
+    ]
+
+-- and the row of each item of a node is an accepted write
+writes-to : (past : List Step) (n : ℕ) (item : Item) (row : Row) → Contains (items_of n past) item
+    → Contains (item_rows item) row → Contains (writes past) row
+writes-to [] n item row m r = absurd (Contains-none item m)
+writes-to (Opened stamp ∷ past) n item row m r = writes-to past n item row m r
+writes-to (Closed id ∷ past) n item row m r = writes-to past n item row m r
+writes-to (Vacuumed at ∷ past) n item row m r = writes-to past n item row m r
+writes-to (Joined node start ∷ past) n item row m r = writes-to past n item row m r
+writes-to (Took last ∷ past) n item row m r =
+    elim (cases_eq last.node n) [
+      | inl same ↦
+          elim (Contains-cons_cases last item (items_of n past)
+          (subst (λ items. Contains items item) (items-same n last past same) m)) [
+            | inl here ↦ Contains-append_right (writes past) (item_rows last) row
+                (subst (λ x. Contains (item_rows x) row) (sym here) r)
+            | inr earlier ↦ Contains-append_left (writes past) (item_rows last) row (writes-to past n item row earlier r)
+          ]
+      | inr other ↦ Contains-append_left (writes past) (item_rows last) row
+          (writes-to past n item row (subst (λ items. Contains items item) (items-other n last past other) m) r)
+    ]
+
+writes-part : (past other : List Step) → ((n : ℕ) → items_of n past ≡ items_of n other) → (row : Row)
+    → Contains (writes past) row → Contains (writes other) row
+writes-part past other items row m =
+    let found = writes-from past row m in
+    writes-to other row.node found.0 row (subst (λ is. Contains is found.0) (items row.node) found.1) found.2
+
+-- the accepted writes answer alike
+pub answers-agree : (nodes : ℕ) (past other : List Step) → IsLegal nodes past → AreReplicas past other
+    → (key : List ℕ) (stamp : ℕ) → answer (writes past) key stamp ≡ answer (writes other) key stamp
+answers-agree nodes past other legal are =
+    same_rows (writes past) (writes other) (writes-row_set nodes past legal) (writes-part past other are.items)
+    (writes-part other past (λ n. sym (are.items n)))
+
+-- and so do the stores, at each stamp from both horizons on
+pub stores-agree : (kept copy : Kept) (past other : List Step) → StandsFor kept past → StandsFor copy other
+    → AreReplicas past other → (key : List ℕ) (stamp : ℕ) → horizon past ≤ stamp → horizon other ≤ stamp
+    → answer kept.rows key stamp ≡ answer copy.rows key stamp
+stores-agree kept copy past other h h' are key stamp up up' =
+    h.rows.from_horizon key stamp up ∙ answers-agree (nodes kept) past other h.legal are key stamp
+    ∙ sym (h'.rows.from_horizon key stamp up')

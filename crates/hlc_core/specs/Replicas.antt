@@ -1,0 +1,22 @@
+-- What replicas of one log have in common: of each node the same items, and the same nodes that joined at the same
+-- starts, whatever the order between the links, and whichever snapshots and vacuums came between.
+use Rattle.std.specs.Prelude.{◌≡◌, ℕ, List, [], ◌∷◌, ◌==◌, if◌then◌else◌}
+use Rattle.hlc_node.specs.declared.item.Item.{Item}
+use Rattle.hlc_core.specs.Past.{Step, Took, Joined}
+
+-- the accepted items of a node, the last one first
+abbrev pub items_of : ℕ → List Step → List Item
+items_of n [] = []
+items_of n (Took item ∷ past) = if item.node == n then item ∷ items_of n past else items_of n past
+items_of n (_ ∷ past) = items_of n past
+
+-- the nodes that joined, each with its start, the last one first
+abbrev pub joins_of : List Step → List (ℕ × ℕ)
+joins_of [] = []
+joins_of (Joined node start ∷ past) = (node, start) ∷ joins_of past
+joins_of (_ ∷ past) = joins_of past
+
+-- the same nodes joined at the same starts, and of each node the same items were accepted
+pub record AreReplicas (past other : List Step) : Type 0 where
+  pub joins : joins_of past ≡ joins_of other
+  pub items : (n : ℕ) → items_of n past ≡ items_of n other
