@@ -1,5 +1,5 @@
 -- The last key: a key above it is new, and what is written at it stands in the place of its column.
-use Rattle.std.proofs.Common.{◌≡◌, ◌≢◌, ℕ, ◌-◌, ◌<◌, true, false, List, [], ◌∷◌, Some, None, length, refl, sym, ap, ◌∙◌}
+use Rattle.std.proofs.Common.{◌≡◌, ◌≢◌, ℕ, ◌-◌, ◌<◌, false, List, [], ◌∷◌, Some, None, length, refl, sym, ap, ◌∙◌}
 use Rattle.std.proofs.Common.{subst, inl, inr, arith, All, MatchOption, slice_get, true≢false}
 use Rattle.std.proofs.Common.{Ordering, Less, Equal, Greater, nat_cmp, is_eq, is_lt, option_map, cond, Option, IfSome}
 use Rattle.std.specs.Ordering.{match_ordering, ordering_reverse}

@@ -10,7 +10,7 @@ use Rattle.hlc_columns.specs.Table.{table_rows}
 use Rattle.hlc_columns.proofs.Inserted.{Inserted, all_set, found_some, pushed_as, kept_as}
 use Rattle.hlc_columns.proofs.Inserted.{inserted-IsPermutation, either-IsRowSet}
 use Rattle.hlc_columns.proofs.Found.{test, absent_rows}
-use Rattle.hlc_columns.proofs.Last.{not_found, some_last, written_last}
+use Rattle.hlc_columns.proofs.Last.{not_found, written_last}
 use Rattle.hlc_columns.proofs.table.Table.insert_last.Goals as goal
 
 -- the column is that of the row's key, and what it is left as is written there

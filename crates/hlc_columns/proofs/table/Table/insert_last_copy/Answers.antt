@@ -11,7 +11,7 @@ use Rattle.hlc_columns.specs.Table.{table_rows}
 use Rattle.hlc_columns.proofs.Inserted.{Inserted, all_set, found_some, pushed_as, kept_as}
 use Rattle.hlc_columns.proofs.Inserted.{inserted-IsPermutation, either-IsRowSet}
 use Rattle.hlc_columns.proofs.Found.{test, absent_rows}
-use Rattle.hlc_columns.proofs.Last.{not_found, some_last, written_last}
+use Rattle.hlc_columns.proofs.Last.{not_found, written_last}
 use Rattle.hlc_columns.proofs.table.Table.insert_last_copy.Goals as goal
 
 -- the row that is added
