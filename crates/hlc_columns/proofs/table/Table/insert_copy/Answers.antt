@@ -1,5 +1,6 @@
 -- The row goes to the end of its key's column; where the key has none, it is inserted as any other row is.
-use Rattle.std.proofs.Common.{◌≡◌, ◌<◌, ◌≤◌, ◌++◌, ◌∷◌, [], sym, ap, subst, ℕ, List, length, arith, All, option_copied, refl}
+use Rattle.std.proofs.Common.{◌≡◌, ◌<◌, ◌≤◌, ◌++◌, ◌∷◌, [], sym, ap, subst, ℕ, List, length, arith, All}
+use Rattle.std.proofs.Common.{option_copied, refl}
 use Rattle.std.proofs.Common.{◌∙◌}
 use Rattle.std.specs.Prelude.{OnOk, OnErr}
 use Rattle.std.proofs.lemmas.Result.{on_ok_weaker, on_err_weaker}
