@@ -150,7 +150,7 @@ module _ {K : Type 0} (f : K → List ℕ) where
             ∙ newest_alone es (sorted_tail (λ a b. slice_cmp nat_cmp (f a) (f b)) e.0 (keys_of es) up) one there bound
       ]
 
-  absent_rows : (key : List ℕ) (es : List (K × List Cell)) → lookup (test f key) es ≡ None
+  pub absent_rows : (key : List ℕ) (es : List (K × List Cell)) → lookup (test f key) es ≡ None
       → rows_with key (table_rows f es) ≡ []
   absent_rows key [] h = refl
   absent_rows key (e ∷ es) h =

@@ -36,7 +36,7 @@ pub fn table_of(alloc: Global, rows: &[Row]) -> Result<Table, NoMemory>
 {
     let mut table = Table::new(alloc);
     for row in rows {
-        table.insert_copy(row.key.as_slice(), row.stamp, row.node, row.value())?;
+        table.insert_last_copy(row.key.as_slice(), row.stamp, row.node, row.value())?;
     }
     Ok(table)
 }
@@ -48,7 +48,7 @@ pub fn table_of_moved(alloc: Global, rows: Vec<Row>) -> Result<Table, AllocFaile
 {
     let mut table = Table::new(alloc);
     for row in rows {
-        table.insert(row)?;
+        table.insert_last(row)?;
     }
     Ok(table)
 }

@@ -1,14 +1,17 @@
 -- The row goes to the end of its key's column; where the key has none, it is inserted as any other row is.
-use Rattle.std.proofs.Common.{◌≡◌, ◌<◌, ◌≤◌, ◌++◌, ◌∷◌, [], sym, ap, subst, length, arith, All, option_copied, refl}
+use Rattle.std.proofs.Common.{◌≡◌, ◌<◌, ◌≤◌, ◌++◌, ◌∷◌, [], sym, ap, subst, ℕ, List, length, arith, All}
+use Rattle.std.proofs.Common.{option_copied, refl}
 use Rattle.std.proofs.Common.{◌∙◌}
-use Rattle.std.specs.Prelude.{OnOk, OnErr, Contains}
+use Rattle.std.specs.Prelude.{OnOk, OnErr}
 use Rattle.std.proofs.lemmas.Result.{on_ok_weaker, on_err_weaker}
 use Rattle.hlc_node.specs.declared.row.Row.{Row as ARow}
 use Rattle.hlc_node.specs.Rows.{IsRowSet}
 use Rattle.hlc_columns.specs.Table.{table_rows}
 use Rattle.hlc_columns.proofs.Inserted.{Inserted, all_set, found_some, pushed_as, kept_as, inserted-IsPermutation}
 use Rattle.hlc_columns.proofs.Inserted.{either-IsRowSet}
-use Rattle.hlc_columns.proofs.Found.{test}
+use Rattle.std.specs.Map.{lookup}
+use Rattle.hlc_columns.specs.Rows.{rows_with}
+use Rattle.hlc_columns.proofs.Found.{test, absent_rows}
 use Rattle.hlc_columns.proofs.table.Table.insert_copy.Goals as goal
 
 -- the row that is added
@@ -55,10 +58,11 @@ returns-in-Some-clause-ok c =
 pub returns-in-Some-clause-err : goal.returns-in-Some-clause-err
 returns-in-Some-clause-err c = stayed c
 
-pub insert-requires : goal.insert-requires
-insert-requires c = λ other inside version.
-    let same : table_rows (λ k. k.items) c.get_mut.follows.lender-at-none.entries ≡ c.args.self.now =
-    ap (λ m. table_rows (λ k. k.items) m.entries) c.get_mut.follows.holds-at-none ∙ c.self.view_is in
+pub add_column-requires : goal.add_column-requires
+add_column-requires c =
+    let after = c.get_mut.follows.lender-at-none.entries in
     let key : c.from_vec-key.result ≡ c.args.key.now = c.from_vec-key.ensures ∙ c.in_ok-from_slice.ensures.items in
-    c.requires other (subst (λ rows. Contains rows other) same inside)
-    (record { key = sym key ∙ version.key; stamp = version.stamp; node = version.node })
+    subst (λ (key : List ℕ). rows_with key (table_rows (λ k. k.items) after) ≡ []) (sym key)
+    (absent_rows (λ k. k.items) c.args.key.now after
+    (ap (λ m. lookup (test (λ k. k.items) c.args.key.now) m.entries) c.get_mut.follows.holds-at-none
+    ∙ sym c.in_default.ensures.value))
