@@ -58,7 +58,7 @@ numbered-few nodes (Joined node start ∷ past) few legal =
     ]
 
 -- no head is above the top
-heads-low : (nodes : ℕ) (past : List Step) → IsLegal nodes past → (n : ℕ) → head n past ≤ top past
+pub heads-low : (nodes : ℕ) (past : List Step) → IsLegal nodes past → (n : ℕ) → head n past ≤ top past
 heads-low nodes [] legal n = omega arith
 heads-low nodes (Opened stamp ∷ past) legal n = heads-low nodes past legal.1 n
 heads-low nodes (Closed id ∷ past) legal n = heads-low nodes past legal.1 n
@@ -81,7 +81,7 @@ heads-low nodes (Took item ∷ past) legal n =
     ]
 
 -- and one head is it
-top-at : (nodes : ℕ) (past : List Step) → 0 < nodes → IsLegal nodes past
+pub top-at : (nodes : ℕ) (past : List Step) → 0 < nodes → IsLegal nodes past
     → (n : ℕ) × (n < numbered nodes past) × (head n past ≡ top past)
 top-at nodes [] some legal = (0, some, refl)
 top-at nodes (Opened stamp ∷ past) some legal = top-at nodes past some legal.1

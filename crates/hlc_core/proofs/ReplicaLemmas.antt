@@ -1,7 +1,7 @@
 -- A node's link follows from its items and its start, so it is alike in all replicas, and so are the floor and the rows.
-use Rattle.std.proofs.Common.{◌≡◌, ℕ, zero, suc, ◌+◌, ◌<◌, ◌≤◌, List, [], ◌∷◌, ◌++◌, length, Contains, None, Bool, false}
+use Rattle.std.proofs.Common.{◌≡◌, ℕ, zero, suc, ◌+◌, ◌<◌, ◌≤◌, List, [], ◌∷◌, length, Contains, None, Bool, false}
 use Rattle.std.proofs.Common.{refl, ap, sym, ◌∙◌, subst, inl, inr, arith}
-use Rattle.std.specs.Prelude.{◌==◌, if◌then◌else◌, Option}
+use Rattle.std.specs.Prelude.{◌==◌, if◌then◌else◌, Option, Some, nat_le, nat_lt}
 use Rattle.std.proofs.lemmas.Bool.{cond-true, cond-false, eq-eqb, ne_eqb, cases_eq}
 use Rattle.std.proofs.lemmas.List.Elements.{Contains-append_left, Contains-append_right, Contains-append_cases}
 use Rattle.hlc_values.proofs.MemberLemmas.{Contains-first, Contains-rest, Contains-cons_cases, Contains-none}
@@ -9,14 +9,16 @@ use Rattle.hlc_node.specs.declared.row.Row.{Row}
 use Rattle.hlc_node.specs.declared.item.Item.{Item}
 use Rattle.hlc_node.specs.Items.{retires}
 use Rattle.hlc_node.specs.Rows.{answer}
-use Rattle.hlc_heads.specs.Low.{least_left, or_else, low, lower}
+use Rattle.hlc_heads.specs.Low.{least_left, or_else, low}
 use Rattle.hlc_vacuum.proofs.Parts.{same_rows}
+use Rattle.hlc_heads.specs.declared.heads.TheConstants.{MOST_NUMBERS}
 use Rattle.hlc_core.specs.declared.fault.CoreFault.{CoreFault}
+use Rattle.hlc_core.specs.declared.fault.CoreFault.TheVariants.{TooManyNodes, BelowFloor}
 use Rattle.hlc_core.specs.Past.{Step, Took, Opened, Closed, Vacuumed, Joined, numbered, count, head, retired, top}
-use Rattle.hlc_core.specs.Past.{floor, horizon, writes, item_rows, link_refusal, item_refusal, join_at_refusal, IsLegal}
+use Rattle.hlc_core.specs.Past.{floor, horizon, writes, item_rows, item_refusal, join_at_refusal, IsLegal}
 use Rattle.hlc_core.specs.Kept.{Kept, nodes, StandsFor}
 use Rattle.hlc_core.specs.Replicas.{items_of, joins_of, AreReplicas}
-use Rattle.hlc_core.proofs.PastLemmas.{inside, fresh, head-same, head-other, head-joined, head-joined_other}
+use Rattle.hlc_core.proofs.PastLemmas.{inside, head-same, head-other, head-joined, head-joined_other}
 use Rattle.hlc_core.proofs.PastLemmas.{retired-same, retired-other, count-other, body_rows-are, writes-row_set}
 use Rattle.hlc_core.proofs.Checkpoints.{heads-low, top-at}
 
@@ -182,12 +184,18 @@ floors-agree nodes past other some legal legal' are =
     (numbered nodes other) heads (λ k. retired-agrees past other k (are.items k)))
     ∙ ap (λ t. low (λ k. head k other) (λ k. retired k other) (numbered nodes other) t) tops
 
+-- why no node joins at a start where so many numbers were given, and at this floor
+abbrev refusal_of : ℕ → ℕ → ℕ → Option CoreFault
+refusal_of many low start =
+    if nat_le MOST_NUMBERS many then Some TooManyNodes else if nat_lt start low then Some (BelowFloor low) else None
+
 -- so a join at a start is refused alike
 pub joins-agree : (nodes : ℕ) (past other : List Step) (start : ℕ) → 0 < nodes → IsLegal nodes past
     → IsLegal nodes other → AreReplicas past other
     → join_at_refusal nodes past start ≡ join_at_refusal nodes other start
 joins-agree nodes past other start some legal legal' are =
-    rw (numbered-same nodes past other are.joins, floors-agree nodes past other some legal legal' are) refl
+    ap (λ many. refusal_of many (floor nodes past) start) (numbered-same nodes past other are.joins)
+    ∙ ap (λ low. refusal_of (numbered nodes other) low start) (floors-agree nodes past other some legal legal' are)
 
 -- each accepted write is that of an item of its node
 writes-from : (past : List Step) (row : Row) → Contains (writes past) row
