@@ -1,11 +1,12 @@
 //! The items of lines.
+use crate::verbs::Verb;
 use crate::words::{next_node, next_number, next_stamp, next_text};
 use hlc_core::{Body, Item};
 use hlc_text::words::LineWords;
 use std::alloc::Global;
 
 /// The item of a line; none where memory runs out.
-pub(crate) fn item_of(alloc: Global, verb: &[u8], words: &mut LineWords<'_>) -> Option<Item> {
+pub(crate) fn item_of(alloc: Global, verb: Verb, words: &mut LineWords<'_>) -> Option<Item> {
     let node = next_node(words);
     let number = next_number(words);
     let stamp = next_stamp(words);
@@ -19,21 +20,27 @@ pub(crate) fn item_of(alloc: Global, verb: &[u8], words: &mut LineWords<'_>) -> 
 }
 
 /// What the item says.
-fn body_of(alloc: Global, verb: &[u8], words: &mut LineWords<'_>) -> Option<Body> {
+fn body_of(alloc: Global, verb: Verb, words: &mut LineWords<'_>) -> Option<Body> {
     match verb {
-        b"write" => {
-            let key = next_text(alloc, words)?;
-            let value = next_text(alloc, words)?;
-            Some(Body::Write {
-                key,
-                value: Some(value),
-            })
-        }
-        b"delete" => {
-            let key = next_text(alloc, words)?;
-            Some(Body::Write { key, value: None })
-        }
-        b"retire" => Some(Body::Retire),
+        Verb::Write => write_of(alloc, words),
+        Verb::Delete => delete_of(alloc, words),
+        Verb::Retire => Some(Body::Retire),
         _ => Some(Body::Report),
     }
+}
+
+/// A write of the next two words.
+fn write_of(alloc: Global, words: &mut LineWords<'_>) -> Option<Body> {
+    let key = next_text(alloc, words)?;
+    let value = next_text(alloc, words)?;
+    Some(Body::Write {
+        key,
+        value: Some(value),
+    })
+}
+
+/// A deletion of the next word.
+fn delete_of(alloc: Global, words: &mut LineWords<'_>) -> Option<Body> {
+    let key = next_text(alloc, words)?;
+    Some(Body::Write { key, value: None })
 }

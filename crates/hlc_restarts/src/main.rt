@@ -5,10 +5,12 @@
 //! is answered `no memory` and made again, so that a refused request shows in nothing else.
 #![tactic(auto)]
 
+mod calls;
 mod items;
 mod player;
 mod restart;
 mod timing;
+mod verbs;
 mod words;
 
 use crate::player::Player;

@@ -6,17 +6,20 @@ use hlc_core::{Checkpoint, Core, RestoreFault};
 use hlc_saved::{
     CheckpointReader, CheckpointWriter, ResumeError, Resumed, copy_by_bytes, resume, save,
 };
-use hlc_values::NoMemory;
-use std::alloc::Global;
 
 /// Prints a store's bytes in hexadecimal digits; false where memory runs out.
 pub(crate) fn save_as_text(rt: &HostRuntime, core: &Core, word: u64) -> bool {
-    let Ok(bytes) = save(rt.alloc(), core, word) else {
-        return false;
-    };
-    match hex::encode(rt.alloc(), bytes.as_slice()) {
+    match save(rt.alloc(), core, word) {
+        Ok(bytes) => say_bytes(rt, "saved", bytes.as_slice()),
+        Err(_) => false,
+    }
+}
+
+/// Prints a line of this name and of bytes in hexadecimal digits; false where memory runs out.
+pub(crate) fn say_bytes(rt: &HostRuntime, name: &str, bytes: &[u8]) -> bool {
+    match hex::encode(rt.alloc(), bytes) {
         Ok(text) => {
-            let _ = println!(rt; "saved {text}");
+            let _ = println!(rt; "{name} {text}");
             true
         }
         Err(_) => false,
@@ -26,39 +29,37 @@ pub(crate) fn save_as_text(rt: &HostRuntime, core: &Core, word: u64) -> bool {
 /// Puts the store that is made of these bytes in place of the one that is there, and prints the word
 /// with them; or why there is none. False where memory runs out.
 pub(crate) fn resume_from(rt: &HostRuntime, core: &mut Option<Core>, bytes: &[u8]) -> bool {
-    match printed(rt, resume(rt.alloc(), bytes)) {
-        Ok(Some(made)) => {
-            *core = Some(made);
+    match resume(rt.alloc(), bytes) {
+        Ok(made) => {
+            say_word(rt, made.word);
+            *core = Some(made.core);
             true
         }
-        Ok(None) => true,
-        Err(_) => false,
+        Err(error) => say_error(rt, error),
     }
 }
 
 /// Puts the same store in place of this one, by way of its bytes. False where memory runs out: the
 /// store is then as it was.
 pub(crate) fn restart(rt: &HostRuntime, core: &mut Core, word: u64) -> bool {
-    let Ok(bytes) = save(rt.alloc(), core, word) else {
-        return false;
-    };
-    replace(rt, core, resume(rt.alloc(), bytes.as_slice()))
+    match save(rt.alloc(), core, word) {
+        Ok(bytes) => replace(rt, core, resume(rt.alloc(), bytes.as_slice())),
+        Err(_) => false,
+    }
 }
 
 /// The same in pieces: the rows are written one by one, and the bytes are read in blocks of this size.
 /// Each block that finds no memory is fed again.
 pub(crate) fn restart_in_pieces(rt: &HostRuntime, core: &mut Core, word: u64, size: u64) -> bool {
-    let Ok(checkpoint) = core.checkpoint() else {
-        return false;
-    };
-    let Ok(bytes) = written(rt.alloc(), &checkpoint, word) else {
-        return false;
-    };
-    let mut reader = CheckpointReader::new(rt.alloc());
-    for block in bytes.as_slice().chunks(block_size(size)) {
-        feed(rt, &mut reader, block);
+    let mut bytes = Vec::new(rt.alloc());
+    match write_in_pieces(&mut bytes, core, word) {
+        Ok(()) => replace(
+            rt,
+            core,
+            read_in_blocks(rt, bytes.as_slice(), block_size(size)),
+        ),
+        Err(_) => false,
     }
-    replace(rt, core, reader.finish())
 }
 
 /// Puts a copy in place of this store, by way of its bytes. False where memory runs out.
@@ -75,10 +76,7 @@ pub(crate) fn copy(rt: &HostRuntime, core: &mut Core) -> bool {
 
 /// Puts a store of a checkpoint's copies in place of this one. False where memory runs out.
 pub(crate) fn restore(rt: &HostRuntime, core: &mut Core) -> bool {
-    let Ok(checkpoint) = core.checkpoint() else {
-        return false;
-    };
-    match Core::restore(rt.alloc(), &checkpoint) {
+    match restored(rt, core) {
         Ok(made) => {
             let _ = println!(rt; "restored");
             *core = made;
@@ -92,11 +90,50 @@ pub(crate) fn restore(rt: &HostRuntime, core: &mut Core) -> bool {
     }
 }
 
+/// A store of a checkpoint's copies.
+fn restored(rt: &HostRuntime, core: &Core) -> Result<Core, RestoreFault> {
+    let checkpoint = core.checkpoint()?;
+    Core::restore(rt.alloc(), &checkpoint)
+}
+
+/// Appends a store's bytes, row by row.
+fn write_in_pieces(out: &mut Vec<u8>, core: &Core, word: u64) -> Result<(), RestoreFault> {
+    let checkpoint = core.checkpoint()?;
+    write_rows(out, &checkpoint, word)
+}
+
+/// Appends a checkpoint's bytes, row by row.
+fn write_rows(out: &mut Vec<u8>, checkpoint: &Checkpoint, word: u64) -> Result<(), RestoreFault> {
+    let mut writer = CheckpointWriter::begin(out, checkpoint, word)?;
+    for row in checkpoint.rows() {
+        writer.row(out, row)?;
+    }
+    Ok(writer.end(out)?)
+}
+
 /// A size of 1 at least.
 fn block_size(size: u64) -> usize
     ensures { 0 < result }
 {
     (size as usize).max(1)
+}
+
+/// The store of these bytes, read in blocks of this size.
+fn read_in_blocks(rt: &HostRuntime, bytes: &[u8], size: usize) -> Result<Resumed, ResumeError>
+    requires { 0 < size }
+{
+    let mut reader = CheckpointReader::new(rt.alloc());
+    feed_blocks(rt, &mut reader, bytes, size);
+    reader.finish()
+}
+
+/// Feeds bytes in blocks of this size.
+fn feed_blocks(rt: &HostRuntime, reader: &mut CheckpointReader, bytes: &[u8], size: usize)
+    requires { 0 < size }
+{
+    for block in bytes.chunks(size) {
+        feed(rt, reader, block);
+    }
 }
 
 /// Feeds a block, once more where memory runs out.
@@ -109,41 +146,31 @@ fn feed(rt: &HostRuntime, reader: &mut CheckpointReader, block: &[u8]) {
     }
 }
 
-/// A checkpoint's bytes, row by row.
-fn written(alloc: Global, checkpoint: &Checkpoint, word: u64) -> Result<Vec<u8>, RestoreFault> {
-    let mut out = Vec::new(alloc);
-    let mut writer = CheckpointWriter::begin(&mut out, checkpoint, word)?;
-    for row in checkpoint.rows() {
-        writer.row(&mut out, row)?;
-    }
-    writer.end(&mut out)?;
-    Ok(out)
-}
-
-/// Puts the store that was made in place of this one, and prints the word with it.
+/// Puts the store that was made in place of this one, and prints the word with it; or why there is
+/// none. False where memory ran out.
 fn replace(rt: &HostRuntime, core: &mut Core, made: Result<Resumed, ResumeError>) -> bool {
-    match printed(rt, made) {
-        Ok(Some(made)) => {
-            *core = made;
+    match made {
+        Ok(made) => {
+            say_word(rt, made.word);
+            *core = made.core;
             true
         }
-        Ok(None) => true,
-        Err(_) => false,
+        Err(error) => say_error(rt, error),
     }
 }
 
-/// Prints the word of a store that was made, or why there is none.
-fn printed(rt: &HostRuntime, made: Result<Resumed, ResumeError>) -> Result<Option<Core>, NoMemory> {
-    match made {
-        Ok(resumed) => {
-            let Resumed { core, word } = resumed;
-            let _ = println!(rt; "resumed {word}");
-            Ok(Some(core))
-        }
-        Err(ResumeError::NoMemory) => Err(NoMemory),
-        Err(error) => {
+/// Prints the word of a store that was made.
+fn say_word(rt: &HostRuntime, word: u64) {
+    let _ = println!(rt; "resumed {word}");
+}
+
+/// Prints why no store was made; false where memory ran out.
+fn say_error(rt: &HostRuntime, error: ResumeError) -> bool {
+    match error {
+        ResumeError::NoMemory => false,
+        _ => {
             let _ = println!(rt; "refused {error:?}");
-            Ok(None)
+            true
         }
     }
 }

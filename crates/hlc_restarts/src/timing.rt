@@ -1,10 +1,9 @@
 //! Checkpoints of many rows, timed.
+use crate::verbs::Verb;
 use crate::words::next_number;
 use hlc_core::{Body, Bytes, Checkpoint, Core, Item, RestoreFault, Stamp};
 use hlc_frame::FrameWriter;
-use hlc_saved::{
-    CheckpointReader, CheckpointWriter, ResumeError, decode_checkpoint, encode_checkpoint, resume,
-};
+use hlc_saved::{CheckpointReader, CheckpointWriter, decode_checkpoint, encode_checkpoint, resume};
 use hlc_text::words::LineWords;
 use std::alloc::{AllocError, Global};
 use std::time::Instant;
@@ -63,18 +62,30 @@ fn item_at(alloc: Global, at: u64, key: u64, size: usize) -> Result<Item, AllocE
     })
 }
 
-/// Times the parts that the words ask for, and prints a line for each.
-pub(crate) fn time(rt: &HostRuntime, core: &Core, what: &[u8]) {
+/// Times a checkpoint and what else the word asks for, and prints a line for each part.
+pub(crate) fn time(rt: &HostRuntime, core: &Core, what: Option<Verb>) {
     let begin = Instant::now(rt).ok();
-    let Ok(checkpoint) = core.checkpoint() else {
-        return;
-    };
-    tell(rt, "checkpoint", begin, checkpoint.rows().len() as u64);
+    if let Ok(checkpoint) = core.checkpoint() {
+        tell(rt, "checkpoint", begin, checkpoint.rows().len() as u64);
+        time_parts(rt, checkpoint, what);
+    }
+}
+
+/// Times what the word asks for.
+fn time_parts(rt: &HostRuntime, checkpoint: Checkpoint, what: Option<Verb>) {
     match what {
-        b"save" => drop(time_save(rt, &checkpoint)),
-        b"resume" => time_resume(rt, checkpoint),
-        b"restore" => time_restore(rt, &checkpoint),
-        b"pieces" => time_pieces(rt, &checkpoint),
+        Some(Verb::Resume) => time_resume(rt, checkpoint),
+        Some(what) => time_borrowed(rt, &checkpoint, what),
+        None => {}
+    }
+}
+
+/// Times what leaves the checkpoint as it is.
+fn time_borrowed(rt: &HostRuntime, checkpoint: &Checkpoint, what: Verb) {
+    match what {
+        Verb::Save => drop(time_save(rt, checkpoint)),
+        Verb::Restore => time_restore(rt, checkpoint),
+        Verb::Pieces => time_pieces(rt, checkpoint),
         _ => {}
     }
 }
@@ -84,31 +95,47 @@ fn time_save(rt: &HostRuntime, checkpoint: &Checkpoint) -> Result<Vec<u8>, Resto
     let begin = Instant::now(rt).ok();
     let bytes = encode_checkpoint(rt.alloc(), checkpoint, 0)?;
     tell(rt, "encode", begin, bytes.len() as u64);
-    let begin = Instant::now(rt).ok();
-    let mut out = Vec::new(rt.alloc());
-    let mut writer = FrameWriter::begin(&mut out, 0, 0)?;
-    writer.put(bytes.as_slice());
-    writer.end(&mut out)?;
-    tell(rt, "digest", begin, bytes.len() as u64);
+    time_digest(rt, bytes.as_slice());
     Ok(bytes)
 }
 
-/// Reads the bytes as a checkpoint, and makes a store of them at once.
-fn time_resume(rt: &HostRuntime, checkpoint: Checkpoint) {
-    let Ok(bytes) = time_save(rt, &checkpoint) else {
-        return;
-    };
-    drop(checkpoint);
+/// Hashes so many bytes.
+fn time_digest(rt: &HostRuntime, bytes: &[u8]) {
     let begin = Instant::now(rt).ok();
-    if let Ok(decoded) = decode_checkpoint(rt.alloc(), bytes.as_slice()) {
+    let mut out = Vec::new(rt.alloc());
+    if digest(&mut out, bytes).is_ok() {
+        tell(rt, "digest", begin, bytes.len() as u64);
+    }
+}
+
+/// Appends an empty frame's front and the digest of these bytes.
+fn digest(out: &mut Vec<u8>, bytes: &[u8]) -> Result<(), AllocError> {
+    let mut writer = FrameWriter::begin(out, 0, 0)?;
+    writer.put(bytes);
+    writer.end(out)
+}
+
+/// Reads the bytes as a checkpoint, and makes a store of them at once. The checkpoint is gone by then.
+fn time_resume(rt: &HostRuntime, checkpoint: Checkpoint) {
+    let saved = time_save(rt, &checkpoint);
+    drop(checkpoint);
+    if let Ok(bytes) = saved {
+        time_decode(rt, bytes.as_slice());
+        let begin = Instant::now(rt).ok();
+        let is_made = resume(rt.alloc(), bytes.as_slice()).is_ok();
+        tell(rt, "resume", begin, u64::from(is_made));
+    }
+}
+
+/// Reads the bytes as a checkpoint, and makes a store of that.
+fn time_decode(rt: &HostRuntime, bytes: &[u8]) {
+    let begin = Instant::now(rt).ok();
+    if let Ok(decoded) = decode_checkpoint(rt.alloc(), bytes) {
         tell(rt, "decode", begin, bytes.len() as u64);
         let begin = Instant::now(rt).ok();
-        let made = Core::from_checkpoint(rt.alloc(), decoded.checkpoint);
-        tell(rt, "from_checkpoint", begin, u64::from(made.is_ok()));
+        let is_made = Core::from_checkpoint(rt.alloc(), decoded.checkpoint).is_ok();
+        tell(rt, "from_checkpoint", begin, u64::from(is_made));
     }
-    let begin = Instant::now(rt).ok();
-    let made = resume(rt.alloc(), bytes.as_slice());
-    tell(rt, "resume", begin, u64::from(made.is_ok()));
 }
 
 /// Makes a store of copies.
@@ -122,8 +149,10 @@ fn time_restore(rt: &HostRuntime, checkpoint: &Checkpoint) {
 fn time_pieces(rt: &HostRuntime, checkpoint: &Checkpoint) {
     let begin = Instant::now(rt).ok();
     let mut reader = CheckpointReader::new(rt.alloc());
-    let fed = feed_pieces(rt.alloc(), checkpoint, &mut reader).is_ok();
-    tell(rt, "pieces fed", begin, u64::from(fed));
+    let mut out = Vec::new(rt.alloc());
+    let is_fed = feed_pieces(&mut out, checkpoint, &mut reader).is_ok();
+    tell(rt, "pieces fed", begin, u64::from(is_fed));
+    drop(out);
     let begin = Instant::now(rt).ok();
     let made = reader.finish();
     tell(rt, "pieces finished", begin, u64::from(made.is_ok()));
@@ -131,21 +160,25 @@ fn time_pieces(rt: &HostRuntime, checkpoint: &Checkpoint) {
 
 /// Writes a checkpoint row by row into blocks, and feeds each of them.
 fn feed_pieces(
-    alloc: Global,
+    out: &mut Vec<u8>,
     checkpoint: &Checkpoint,
     reader: &mut CheckpointReader,
 ) -> Result<(), RestoreFault> {
-    let mut out = Vec::new(alloc);
-    let mut writer = CheckpointWriter::begin(&mut out, checkpoint, 0)?;
+    let mut writer = CheckpointWriter::begin(out, checkpoint, 0)?;
     for row in checkpoint.rows() {
-        writer.row(&mut out, row)?;
+        writer.row(out, row)?;
         if out.len() >= BLOCK {
-            reader.feed(out.as_slice())?;
-            out.clear();
+            feed(out, reader)?;
         }
     }
-    writer.end(&mut out)?;
+    writer.end(out)?;
+    Ok(feed(out, reader)?)
+}
+
+/// Feeds a block, and empties it.
+fn feed(out: &mut Vec<u8>, reader: &mut CheckpointReader) -> Result<(), AllocError> {
     reader.feed(out.as_slice())?;
+    out.clear();
     Ok(())
 }
 

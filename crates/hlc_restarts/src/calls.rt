@@ -1,0 +1,99 @@
+//! The calls of a store.
+use crate::items::item_of;
+use crate::player::say;
+use crate::restart::{copy, restart, restart_in_pieces, restore, save_as_text};
+use crate::timing::{fill, time};
+use crate::verbs::{Verb, verb_of};
+use crate::words::{next_bytes, next_node, next_number, next_stamp, next_word};
+use hlc_core::{Core, CoreFault};
+use hlc_text::words::LineWords;
+use std::fmt::Debug;
+
+/// Makes a call of the store, and prints its answer; false where memory ran out.
+pub(crate) fn call_core(
+    rt: &HostRuntime,
+    core: &mut Core,
+    verb: Verb,
+    words: &mut LineWords<'_>,
+) -> bool {
+    match verb {
+        Verb::Write | Verb::Delete | Verb::Report | Verb::Retire => {
+            accept(rt, core, verb, words)
+        }
+        Verb::Join => answer(rt, "joined", core.join()),
+        Verb::Open => answer(rt, "snapshot", core.open(next_stamp(words))),
+        Verb::OpenFloor => answer(rt, "snapshot", core.open_floor()),
+        Verb::Vacuum => vacuum(rt, core),
+        Verb::List => answer(rt, "listing", core.list(next_number(words))),
+        Verb::Read => read(rt, core, words),
+        Verb::Save => save_as_text(rt, core, next_number(words)),
+        Verb::Restart => restart(rt, core, next_number(words)),
+        Verb::CopyByBytes => copy(rt, core),
+        Verb::Restore => restore(rt, core),
+        Verb::Pieces => {
+            let word = next_number(words);
+            restart_in_pieces(rt, core, word, next_number(words))
+        }
+        _ => {
+            ask(rt, core, verb, words);
+            true
+        }
+    }
+}
+
+/// Makes a call that takes no memory.
+fn ask(rt: &HostRuntime, core: &mut Core, verb: Verb, words: &mut LineWords<'_>) {
+    match verb {
+        Verb::Close => say(rt, "closed", &core.close(next_number(words))),
+        Verb::CloseAll => core.close_all(),
+        Verb::StampOf => say(rt, "stamp", &core.stamp_of(next_number(words))),
+        Verb::Count => say(rt, "count", &core.count(next_node(words))),
+        Verb::Floor => say(rt, "floor", &core.floor()),
+        Verb::Horizon => say(rt, "horizon", &core.horizon()),
+        Verb::Rows => say(rt, "rows", &core.rows()),
+        Verb::Fill => fill(rt, core, words),
+        Verb::Time => time(rt, core, verb_of(next_word(words))),
+        _ => {}
+    }
+}
+
+/// Accepts the item of a line.
+fn accept(rt: &HostRuntime, core: &mut Core, verb: Verb, words: &mut LineWords<'_>) -> bool {
+    match item_of(rt.alloc(), verb, words) {
+        Some(item) => answer(rt, "accepted", core.accept_copy(&item)),
+        None => false,
+    }
+}
+
+/// Prints an answer, or a refusal; false where memory ran out.
+fn answer<T: Debug + Drop>(rt: &HostRuntime, name: &str, answer: Result<T, CoreFault>) -> bool {
+    match &answer {
+        Ok(answer) => say(rt, name, answer),
+        Err(CoreFault::NoMemory) => return false,
+        Err(fault) => say(rt, "refused", fault),
+    }
+    true
+}
+
+/// Prints the value of a key in a snapshot. False where there is no memory for the key of the line.
+fn read(rt: &HostRuntime, core: &Core, words: &mut LineWords<'_>) -> bool {
+    let id = next_number(words);
+    match next_bytes(rt.alloc(), words) {
+        Some(key) => {
+            say(rt, "value", &core.read(id, key.as_slice()));
+            true
+        }
+        None => false,
+    }
+}
+
+/// Vacuums, and prints how many rows were kept and dropped, and what the kept ones cost.
+fn vacuum(rt: &HostRuntime, core: &mut Core) -> bool {
+    match core.vacuum() {
+        Ok(report) => {
+            say(rt, "vacuumed", &(report.kept, report.dropped, report.bytes));
+            true
+        }
+        Err(_) => false,
+    }
+}
