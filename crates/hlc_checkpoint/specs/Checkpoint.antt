@@ -33,8 +33,8 @@ AreAtMost floor kept = All (λ snapshot. snapshot.stamp ≤ floor) kept.snapshot
 abbrev pub IsUnderHead : List Progress → Row → Type 0
 IsUnderHead links row = MatchOption (slice_get links row.node) ⊥ (λ link. row.stamp ≤ link.head)
 
--- What is kept is a checkpoint: there are nodes, and their links, over which items may have come so far; the greatest
--- stamp of an accepted item is the greatest head; the snapshots are those of a register; neither they nor the horizon
+-- What is kept is a checkpoint: there are nodes, and their links, over which items may have come so far; the top is
+-- the greatest head; the snapshots are those of a register; neither they nor the horizon
 -- are above the floor; the rows ascend by key, stamp and node, none is above the head of its node, and an item may
 -- write each.
 pub record IsCheckpoint (kept : Kept) : Type 0 where

@@ -21,17 +21,15 @@ use Rattle.hlc_core.specs.Past.{Step, Took, Opened, Closed, Vacuumed, Joined, nu
 use Rattle.hlc_core.specs.Past.{floor, horizon, opened, open_snapshots, of_registry, of_room}
 use Rattle.hlc_core.specs.Past.{IsLegal, writes, greatest_accepted}
 use Rattle.hlc_core.specs.declared.fault.CoreFault.TheVariants.{TooManyNodes}
-use Rattle.hlc_core.specs.Kept.{Kept, nodes, greatest_head, marks_of, HasNodes, HasStamps, HasLastItem}
+use Rattle.hlc_core.specs.Kept.{Kept, nodes, greatest_head, HasNodes, HasStamps, HasLastItem}
 use Rattle.hlc_core.specs.Kept.{StandsFor}
 use Rattle.hlc_core.specs.Checkpoint.{IsCheckpoint, IsCopyOf, IsUnderHead, floor_in}
 use Rattle.hlc_core.proofs.PastLemmas.{inside, rises, head-same, head-other, head-joined, head-joined_other, floor-some}
 use Rattle.hlc_core.proofs.PastLemmas.{count-other, retired-other, fresh, accepted-low, retired-head}
 use Rattle.hlc_core.proofs.PastLemmas.{inside-row, below_head, writes-limits, open-low, open-below, open-above}
 use Rattle.hlc_core.proofs.PastLemmas.{open-room, horizon-low}
-use Rattle.hlc_core.proofs.Standing.{floor-from}
 use Rattle.hlc_core.proofs.Moved.{stands-moved}
-use Rattle.hlc_checkpoint.proofs.CheckpointLemmas.{heads-had}
-use Rattle.hlc_core.proofs.Sound.{floor-holds, greatest-ge, greatest-le}
+use Rattle.hlc_core.proofs.Sound.{floor-in, greatest-ge, greatest-le}
 
 -- no node of the start goes
 numbered-from : (nodes : ℕ) (past : List Step) → nodes ≤ numbered nodes past
@@ -252,9 +250,7 @@ checkpoint-sound kept past h some few ascend =
     let given = numbered-few (nodes kept) past few h.legal in
     let has : HasNodes kept.start kept.links =
     record { some = some; few = few; linked = omega (arith, from); given = omega (arith, given) } in
-    let at : floor_in kept ≡ floor (nodes kept) past =
-    floor-from kept past (marks_of kept.links kept.top) (floor_in kept) (heads-had kept.start kept.links kept.top has)
-    refl h (floor-holds (marks_of kept.links kept.top)) in
+    let at : floor_in kept ≡ floor (nodes kept) past = floor-in kept past has h in
     let most = top-at (nodes kept) past some h.legal in
     let within : most.0 < length kept.links = (let w : most.0 < numbered (nodes kept) past = most.1 in omega arith) in
     let d : Progress = record { next = 0; head = 0; retired = true } in

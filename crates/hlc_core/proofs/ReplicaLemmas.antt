@@ -1,4 +1,4 @@
--- A node's link follows from its items and its start, so it is alike in all replicas, and so are the floor and the rows.
+-- A node's link follows from its items and its start, so it is alike in all replicas, as are the floor and the rows.
 use Rattle.std.proofs.Common.{◌≡◌, ℕ, zero, suc, ◌+◌, ◌<◌, ◌≤◌, List, [], ◌∷◌, length, Contains, None, Bool, false}
 use Rattle.std.proofs.Common.{refl, ap, sym, ◌∙◌, subst, inl, inr, arith}
 use Rattle.std.specs.Prelude.{◌==◌, if◌then◌else◌, Option, Some, nat_le, nat_lt}
@@ -242,7 +242,8 @@ writes-to (Took last ∷ past) n item row m r =
           (subst (λ items. Contains items item) (items-same n last past same) m)) [
             | inl here ↦ Contains-append_right (writes past) (item_rows last) row
                 (subst (λ x. Contains (item_rows x) row) (sym here) r)
-            | inr earlier ↦ Contains-append_left (writes past) (item_rows last) row (writes-to past n item row earlier r)
+            | inr earlier ↦ Contains-append_left (writes past) (item_rows last) row
+                (writes-to past n item row earlier r)
           ]
       | inr other ↦ Contains-append_left (writes past) (item_rows last) row
           (writes-to past n item row (subst (λ items. Contains items item) (items-other n last past other) m) r)

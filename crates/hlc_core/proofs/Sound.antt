@@ -188,5 +188,5 @@ sound-vacuum start links top horizon at rows fewer h low within =
 pub floor-in : (kept : Kept) (past : List Step) → HasNodes kept.start kept.links → StandsFor kept past
     → floor_in kept ≡ floor (nodes kept) past
 floor-in kept past has h =
-    floor-from kept past (marks_of kept.links kept.top) (floor_in kept) (heads-had kept.start kept.links kept.top has) refl h
-    (floor-holds (marks_of kept.links kept.top))
+    floor-from kept past (marks_of kept.links kept.top) (floor_in kept) (heads-had kept.start kept.links kept.top has)
+    refl h (floor-holds (marks_of kept.links kept.top))

@@ -26,7 +26,8 @@ use Rattle.hlc_core.specs.declared.fault.CoreFault.{CoreFault}
 use Rattle.hlc_core.specs.declared.fault.CoreFault.TheVariants.{NoNode, TooManyNodes}
 use Rattle.hlc_core.specs.Past.{Step, Took, Opened, Closed, Joined, numbered, count, head, retired, top, floor, horizon}
 use Rattle.hlc_core.specs.Past.{opened, writes, body_rows, item_rows, open_snapshots, link_refusal, item_refusal}
-use Rattle.hlc_core.specs.Past.{join_refusal, join_at_refusal, of_registry, of_room, room_refusal, open_refusal, stamp_of, IsLegal}
+use Rattle.hlc_core.specs.Past.{join_refusal, join_at_refusal, of_registry, of_room, room_refusal, open_refusal}
+use Rattle.hlc_core.specs.Past.{stamp_of, IsLegal}
 use Rattle.hlc_core.specs.Kept.{Kept, nodes, HaveHeads, StandsFor}
 use Rattle.hlc_checkpoint.proofs.CheckpointLemmas.{heads-length, head-of}
 use Rattle.hlc_snapshot.specs.declared.fault.SnapshotFault.{SnapshotFault}

@@ -18,7 +18,8 @@ use Rattle.hlc_witness.specs.Certificate.{RowsAscend}
 use Rattle.hlc_vacuum.specs.declared.report.Report.{Report as AReport}
 use Rattle.hlc_core.specs.Listing.{IsListing}
 use Rattle.hlc_core.specs.Past.{Step, Took, Opened, Closed, Vacuumed, Joined, numbered, count, floor, opened, stamp_of}
-use Rattle.hlc_core.specs.Past.{writes, item_refusal, join_refusal, join_at_refusal, room_refusal, open_refusal, vacuum_refusal}
+use Rattle.hlc_core.specs.Past.{writes, item_refusal, join_refusal, join_at_refusal, room_refusal, open_refusal}
+use Rattle.hlc_core.specs.Past.{vacuum_refusal}
 use Rattle.hlc_core.specs.Stored.{IsReport, LeavesFewest}
 use Rattle.hlc_core.specs.Kept.{Kept, nodes, StandsFor}
 

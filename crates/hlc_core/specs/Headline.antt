@@ -33,8 +33,8 @@ vacuum_stamp nodes past Vacuum = Some (floor nodes past)
 vacuum_stamp nodes past (VacuumTo at) = Some at
 vacuum_stamp nodes past _ = None
 
--- each vacuum reported its points up to the stamp that was asked for, the changes of all accepted writes there and their
--- number, and no row set that answers alike at the points is smaller than the number of rows that it kept
+-- each vacuum reported its points up to the stamp that was asked for, the changes of all accepted writes there and
+-- their number, and no row set that answers alike at the points is smaller than the number of rows that it kept
 abbrev pub VacuumsAreFewest : ℕ → List (CoreEvent × CoreReply) → Type 0
 VacuumsAreFewest nodes history =
     (before : List (CoreEvent × CoreReply)) (event : CoreEvent) (report : Report)

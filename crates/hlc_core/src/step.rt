@@ -74,7 +74,10 @@ impl Core {
             },
             CoreEvent::Vacuum => Ok(CoreReply::Vacuumed(self.vacuum()?)),
             CoreEvent::JoinAt(start) => match self.join_at(*start) {
-                Ok(node) => Ok(CoreReply::Joined { node, start: *start }),
+                Ok(node) => Ok(CoreReply::Joined {
+                    node,
+                    start: *start,
+                }),
                 Err(fault) => told(fault),
             },
             CoreEvent::VacuumTo(at) => match self.vacuum_to(*at) {

@@ -24,5 +24,6 @@ returns-clause-value c =
 pub returns-clause-high : goal.returns-clause-high
 returns-clause-high c =
     let is = floor-is c.self.inside.heads c.floor.result c.floor.ensures in
-    let low = subst (λ m. c.self.inside.horizon ≤ floor_of m) (sym c.self.invariant.0.same) c.self.invariant.2.horizon in
+    let sound = c.self.invariant.2 in
+    let low = subst (λ m. c.self.inside.horizon ≤ floor_of m) (sym c.self.invariant.0.same) sound.horizon in
     rw (← c.self.view_is) (omega (arith, is, low))

@@ -41,8 +41,7 @@ returns-clause-stands c = λ past h.
       c.in_ok-try_reserve.ensures.items,
       c.starting_at.ensures,
       c.in_ok-made.ensures.3,
-    )
-    (
+    ) (
       none,
       both c.in_ok-made.made _ _ is at,
       joins _ past c.in_ok-made.made.0 c.in_ok-made.made.1 h' none is (omega (arith, at)),

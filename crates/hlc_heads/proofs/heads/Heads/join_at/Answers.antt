@@ -1,6 +1,6 @@
 -- The node's group has the lower of its least head and the start, and the least of all groups is the floor.
-use Rattle.std.proofs.Common.{rules, ◌≡◌, ◌<◌, ◌≤◌, ◌/◌, ℕ, List, [], ◌∷◌, ◌++◌, length, Some, None, Option, false, refl, sym, subst}
-use Rattle.std.proofs.Common.{slice_set, ap, ◌∙◌, arith}
+use Rattle.std.proofs.Common.{rules, ◌≡◌, ◌<◌, ◌≤◌, ◌/◌, ℕ, List, [], ◌∷◌, ◌++◌, length, Some, None, Option}
+use Rattle.std.proofs.Common.{false, refl, sym, subst, slice_set, ap, ◌∙◌, arith}
 use Rattle.std.proofs.lemmas.Grind.{common_steps}
 use Rattle.std.proofs.lemmas.List.{get_or_default}
 use Rattle.std.specs.Option.{unwrap_or}
@@ -57,7 +57,8 @@ returns-in_default c =
     let above : c.self.inside.floor ≤ c.args.start = search (rules, common_steps) in
     let old : IsFloor c.args.self.now c.self.inside.floor =
     subst (λ m. IsFloor m c.self.inside.floor) c.self.view_is c.self.invariant.1 in
-    (few, subst (λ floor. floor ≤ c.args.start) (floor-is c.args.self.now c.self.inside.floor old) above, search (rules, common_steps))
+    let below = subst (λ floor. floor ≤ c.args.start) (floor-is c.args.self.now c.self.inside.floor old) above in
+    (few, below, search (rules, common_steps))
 
 pub returns : goal.returns
 returns c =
