@@ -68,7 +68,7 @@ pub fn certify(alloc: Global, core: &mut Core, out: &mut [u8], len: &mut usize) 
 
 /// Vacuums to a stamp: 0, how many bytes the certificate has and, where they fit, the bytes; or a
 /// refusal and its word; or 15, where the vacuum may have taken place.
-#[tactic(auto, using(crate::proofs::Refusals::refused_tells, crate::proofs::Refusals::made_tells, crate::proofs::Refusals::lack_tells))]
+#[tactic(auto, using(crate::proofs::Refusals::made_tells, crate::proofs::Refusals::lack_tells))]
 pub fn certify_to(
     alloc: Global,
     core: &mut Core,
