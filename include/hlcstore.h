@@ -7,8 +7,8 @@
  *
  * Answers. A call answers HLC_OK, the number of the refusal that is due first, or HLC_CLOSED of a closed store. Every
  * call is total: it checks lengths and numbers itself, and is proved to answer as it says here, whatever it is handed.
- * After any answer but HLC_OK the store, and the node, is as it was; hlc_accept_all and hlc_vacuum_certified say
- * otherwise.
+ * After any answer but HLC_OK the store, and the node, is as it was; hlc_accept_all, hlc_vacuum_certified and
+ * hlc_vacuum_to_certified say otherwise.
  * What a pointer asks for is written at every answer, with 0 where there is nothing to tell. A buffer that an answer
  * does not fill keeps its bytes.
  *
@@ -63,7 +63,7 @@ enum {
     HLC_NOT_NEXT = 6,           /* word: the number that is next on the node's link */
     HLC_STAMP_NOT_RISING = 7,   /* word: the stamp of the node's last accepted item */
     HLC_ABOVE_FLOOR = 8,        /* word: the floor */
-    HLC_BELOW_HORIZON = 9,      /* word: the horizon */
+    HLC_BELOW_HORIZON = 9,      /* word: the horizon; of hlc_join_at: the start is below the floor, word: the floor */
     HLC_NO_SNAPSHOT = 10,       /* no open snapshot has this id */
     HLC_TOO_MANY_SNAPSHOTS = 11, /* 1,024 are open */
     HLC_BAD_KEY = 12,           /* the key has no bytes, or more than 255 */
@@ -126,6 +126,11 @@ uint32_t hlc_check_report(hlc_store *store, uint16_t node, uint64_t number, uint
 /* Lets a node join. node: its number; start: the stamp that its clock starts at, for hlc_node_open. 26, 15. */
 uint32_t hlc_join(hlc_store *store, uint16_t *node, uint64_t *start);
 
+/* Lets a node join that starts at this stamp, at or above the floor. Stores that accept the same items agree on a join
+ * if each is given the same start, whatever their floors are then. node: its number; word: the start, for
+ * hlc_node_open, or the refusal's word, which is the floor with 9. In this order: 26, 9, 15. */
+uint32_t hlc_join_at(hlc_store *store, uint64_t start, uint16_t *node, uint64_t *word);
+
 /* Opens a snapshot at a stamp. id: its id, or the refusal's word. 8, 9, 11, 14, 15. */
 uint32_t hlc_open_snapshot(hlc_store *store, uint64_t stamp, uint64_t *id);
 
@@ -161,9 +166,26 @@ uint32_t hlc_vacuum(hlc_store *store, uint64_t *floor, uint64_t *kept, uint64_t 
  * 15: the vacuum may have taken place. */
 uint32_t hlc_vacuum_certified(hlc_store *store, uint8_t *out, size_t out_len, size_t *len);
 
+/* Drops all rows at or below a stamp but for the fewest, and the cheapest, that answer as all accepted writes do at
+ * each snapshot that is open at or below the stamp, and at the stamp. All rows above it stay. No snapshot opens below
+ * the stamp from then on: it is the horizon. word: the stamp, or the refusal's word; kept, dropped, bytes: as in
+ * hlc_vacuum, of the rows at or below the stamp. In this order: 8 above the floor, 9 below the horizon, 15. Reads each
+ * key once at each point. */
+uint32_t hlc_vacuum_to(hlc_store *store, uint64_t stamp, uint64_t *word, uint64_t *kept, uint64_t *bytes,
+                       uint64_t *dropped);
+
+/* The same, with the certificate of the rows that are left up to the stamp. len: as in hlc_vacuum_certified; a further
+ * call with the same stamp is a further vacuum, which finds nothing to drop, and its certificate. word: 0, or the
+ * refusal's word. 8, 9, 15. With 15 the vacuum may have taken place. */
+uint32_t hlc_vacuum_to_certified(hlc_store *store, uint64_t stamp, uint8_t *out, size_t out_len, size_t *len,
+                                 uint64_t *word);
+
+/* Returns what hlc_vacuum_to would return for this stamp, but for 15. word: 0, or the refusal's word. No memory. */
+uint32_t hlc_check_vacuum(hlc_store *store, uint64_t stamp, uint64_t *word);
+
 /* ---- A node ---- No memory in any call. */
 
-/* A node of this number whose clock starts at a stamp: 0 at the start, else that which hlc_join told. */
+/* A node of this number whose clock starts at a stamp: 0 at the start, else that which hlc_join or hlc_join_at told. */
 hlc_node hlc_node_open(uint16_t id, uint64_t start);
 
 /* Issues an item at this reading of a physical clock. number, word: those of the item, which the store accepts with the

@@ -70,6 +70,8 @@ static void read_back(hlc_store *store)
     expect("list", code, len, HLC_OK, 17);
     code = hlc_vacuum_certified(store, NONE, &len);
     expect("certificate", code, len, HLC_OK, 49);
+    code = hlc_vacuum_to_certified(store, AT(1), NONE, &len, &word);
+    expect("certificate to a stamp", code, len + word, HLC_OK, 49);
     code = hlc_accept_write(store, 0, 1, AT(2), BYTES("b"), BYTES("red"), &word);
     expect("accept", code, word, HLC_OK, AT(2));
     code = hlc_open_snapshot_at_floor(store, &id, &word);

@@ -6,7 +6,7 @@
 
 #define BYTES(s) (const uint8_t *)(s), sizeof(s) - 1
 #define AT(l) ((uint64_t)(l) << 16)
-#define STEPS 12
+#define STEPS 15
 
 static long left = -1;
 static int wrong;
@@ -48,7 +48,10 @@ static uint32_t call(int step, hlc_store *store)
     case 7: return hlc_list(store, 1, out, sizeof out, &len);
     case 8: return hlc_close_snapshot(store, 1, &w);
     case 9: return hlc_join(store, &node, &w);
-    case 10: return hlc_vacuum(store, &v, &w, &x, &y);
+    case 10: return hlc_join_at(store, AT(30), &node, &w);
+    case 11: return hlc_vacuum_to(store, AT(12), &v, &w, &x, &y);
+    case 12: return hlc_vacuum_to_certified(store, AT(12), out, sizeof out, &len, &w);
+    case 13: return hlc_vacuum(store, &v, &w, &x, &y);
     default: return hlc_vacuum_certified(store, out, sizeof out, &len);
     }
 }

@@ -1,10 +1,12 @@
-/* Two nodes write, snapshots are read, a vacuum drops rows, a node joins and one retires: each answer on a line. */
+/* Two nodes write, snapshots are read, a vacuum drops rows, a node joins and one retires, another joins at a stamp and
+ * a vacuum to a stamp drops rows: each answer on a line. */
 #include "hlcstore.h"
 #include <inttypes.h>
 #include <stdio.h>
 #include <string.h>
 
 #define BYTES(s) (const uint8_t *)(s), sizeof(s) - 1
+#define AT(l) ((uint64_t)(l) << 16)
 
 static hlc_store store = HLC_CLOSED_STORE;
 static uint64_t number, word;
@@ -84,6 +86,36 @@ static void accept_three(hlc_node *node)
     told_two("all", code, many, word);
     code = hlc_accept_all(&store, entries + 1, 1, BYTES("lakeComotown"), &many, &word);
     told_two("all", code, many, word);
+}
+
+/* A node joins at a start that is given, and a vacuum to a stamp below the floor keeps what lies above that stamp. */
+static void keep_above(hlc_node *node)
+{
+    uint64_t kept, cost, dropped;
+    uint16_t joined;
+    uint8_t out[8];
+    uint32_t code;
+    size_t len;
+    write_item(node, 39, BYTES("city"), BYTES("Bern"));
+    report(node, 45);
+    code = hlc_join_at(&store, AT(40), &joined, &word);
+    told_two("join at", code, joined, word);
+    code = hlc_join_at(&store, AT(50), &joined, &word);
+    told_two("join at", code, joined, word);
+    code = hlc_check_vacuum(&store, AT(42), &word);
+    told("check", code, word);
+    code = hlc_check_vacuum(&store, AT(40), &word);
+    told("check", code, word);
+    code = hlc_vacuum_to(&store, AT(40), &word, &kept, &cost, &dropped);
+    told("vacuum to", code, word);
+    told_two("kept", code, kept, cost);
+    told("dropped", code, dropped);
+    code = hlc_vacuum_to(&store, AT(39), &word, &kept, &cost, &dropped);
+    told("vacuum to", code, word);
+    code = hlc_vacuum_to_certified(&store, AT(40), out, sizeof out, &len, &word);
+    told_two("certificate", code, len, word);
+    code = hlc_rows(&store, &word);
+    told("rows", code, word);
 }
 
 int main(void)
@@ -170,6 +202,7 @@ int main(void)
     write_item(&b, (uint64_t)1 << 48, BYTES("city"), BYTES("Nice"));
     write_item(&b, 31, large, 256, BYTES("Nice"));
     write_item(&b, 31, BYTES("city"), large, sizeof large);
+    keep_above(&c);
     hlc_close(&store);
     code = hlc_floor(&store, &at);
     told("floor", code, at);

@@ -30,6 +30,7 @@ CALLS = {
     "check_delete": ITEM + KEY + [WORD],
     "check_report": ITEM + [WORD],
     "join": [S, c.POINTER(U16), WORD],
+    "join_at": [S, U64, c.POINTER(U16), WORD],
     "open_snapshot": [S, U64, WORD],
     "open_snapshot_at_floor": [S, WORD, WORD],
     "close_snapshot": [S, U64, WORD],
@@ -39,6 +40,9 @@ CALLS = {
     "rows": [S, WORD],
     "vacuum": [S, WORD, WORD, WORD, WORD],
     "vacuum_certified": [S, OUT, SIZE, LEN],
+    "vacuum_to": [S, U64, WORD, WORD, WORD, WORD],
+    "vacuum_to_certified": [S, U64, OUT, SIZE, LEN, WORD],
+    "check_vacuum": [S, U64, WORD],
     "node_write": [N, U64] + KEY + KEY + [WORD, WORD],
     "node_delete": [N, U64] + KEY + [WORD, WORD],
     "node_report": [N, U64, WORD, WORD],
@@ -191,6 +195,14 @@ class Store:
     def join(self):
         return tuple(self._words(lib.hlc_join, U16(), U64()))
 
+    def join_at(self, start):
+        """A node joins that starts at this stamp: its number and the start."""
+        node, word = U16(), U64()
+        with self.lock:
+            code = lib.hlc_join_at(self.raw, start, node, word)
+        checked(code, word.value)
+        return node.value, word.value
+
     def snapshot(self, stamp):
         return self._word(lib.hlc_open_snapshot, stamp)
 
@@ -234,3 +246,19 @@ class Store:
     def vacuum_certified(self):
         """Vacuums, and returns the text of the certificate."""
         return self._bytes(lib.hlc_vacuum_certified)
+
+    def vacuum_to(self, stamp):
+        """Vacuums up to a stamp: the stamp, and what `vacuum` returns of the rows at or below it."""
+        return tuple(self._words(lib.hlc_vacuum_to, stamp, U64(), U64(), U64(), U64()))
+
+    def vacuum_to_certified(self, stamp):
+        """Vacuums up to a stamp, and returns the text of the certificate."""
+        word = U64()
+        try:
+            return self._bytes(lambda *args: lib.hlc_vacuum_to_certified(*args, word), stamp)
+        except Refused as refused:
+            raise Refused(refused.code, word.value) from None
+
+    def check_vacuum(self, stamp):
+        """Why `vacuum_to` would be refused, memory aside."""
+        return self._word(lib.hlc_check_vacuum, stamp)

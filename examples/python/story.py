@@ -11,8 +11,8 @@ def told(what, call, *args):
         print(what, 0, *(value if isinstance(value, tuple) else (value,)))
         return value
     except Refused as refused:
-        # An issued item has its number before its word, which is 0 at a refusal.
-        number = (0,) if what == "write" else ()
+        # An issued item, or a node, has its number before its word, which is 0 at a refusal.
+        number = (0,) if what in ("write", "join at") else ()
         print(what, refused.code, *number, refused.word)
 
 
@@ -61,6 +61,23 @@ def accept_three(store, node):
     accept(store.accept_all, [(node.id, second, b"town", None)])
 
 
+def keep_above(store, node):
+    """A node joins at a start that is given, and a vacuum to a stamp below the floor keeps what lies above it."""
+    write(store, node, 39, b"city", b"Bern")
+    report(store, node, 45)
+    for start in 40 << 16, 50 << 16:
+        told("join at", store.join_at, start)
+    told("check", store.check_vacuum, 42 << 16)
+    told("check", store.check_vacuum, 40 << 16)
+    at, kept, cost, dropped = store.vacuum_to(40 << 16)
+    print("vacuum to", 0, at)
+    print("kept", 0, kept, cost)
+    print("dropped", 0, dropped)
+    told("vacuum to", store.vacuum_to, 39 << 16)
+    print("certificate", 0, len(store.vacuum_to_certified(40 << 16)), 0)
+    told("rows", store.rows)
+
+
 def story(store):
     a, b = Node(0, 0), Node(1, 0)
     told("rows", store.rows)
@@ -102,8 +119,8 @@ def story(store):
     print(store.vacuum_certified().decode(), end="")
     told("rows", store.rows)
     told("snapshot", store.snapshot, 1)
-    joined = told("join", store.join)
-    write(store, Node(*joined), 1, b"city", b"Rome")
+    c = Node(*told("join", store.join))
+    write(store, c, 1, b"city", b"Rome")
     accept_three(store, b)
     item = told("retire", a.retire, 30)
     told("accept", store.retire, 0, item)
@@ -112,6 +129,7 @@ def story(store):
     write(store, b, 1 << 48, b"city", b"Nice")
     write(store, b, 31, bytes(256), b"Nice")
     write(store, b, 31, b"city", bytes(65536))
+    keep_above(store, c)
     store.close()
     told("floor", store.floor)
 

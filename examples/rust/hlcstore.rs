@@ -1,4 +1,5 @@
 //! The store and its nodes, with the unsafe calls behind safe ones.
+use std::cell::Cell;
 use std::marker::PhantomData;
 
 #[repr(C)]
@@ -48,6 +49,7 @@ unsafe extern "C" {
         value: *const u8, value_len: usize, word: *mut u64) -> u32;
     fn hlc_check_report(s: *mut Raw, node: u16, number: u64, stamp: u64, word: *mut u64) -> u32;
     fn hlc_join(s: *mut Raw, node: *mut u16, start: *mut u64) -> u32;
+    fn hlc_join_at(s: *mut Raw, start: u64, node: *mut u16, word: *mut u64) -> u32;
     fn hlc_open_snapshot(s: *mut Raw, stamp: u64, id: *mut u64) -> u32;
     fn hlc_open_snapshot_at_floor(s: *mut Raw, id: *mut u64, stamp: *mut u64) -> u32;
     fn hlc_close_snapshot(s: *mut Raw, id: u64, stamp: *mut u64) -> u32;
@@ -58,6 +60,11 @@ unsafe extern "C" {
     fn hlc_rows(s: *mut Raw, rows: *mut u64) -> u32;
     fn hlc_vacuum(s: *mut Raw, floor: *mut u64, kept: *mut u64, bytes: *mut u64, dropped: *mut u64) -> u32;
     fn hlc_vacuum_certified(s: *mut Raw, out: *mut u8, out_len: usize, len: *mut usize) -> u32;
+    fn hlc_vacuum_to(s: *mut Raw, stamp: u64, word: *mut u64, kept: *mut u64, bytes: *mut u64,
+        dropped: *mut u64) -> u32;
+    fn hlc_vacuum_to_certified(s: *mut Raw, stamp: u64, out: *mut u8, out_len: usize, len: *mut usize,
+        word: *mut u64) -> u32;
+    fn hlc_check_vacuum(s: *mut Raw, stamp: u64, word: *mut u64) -> u32;
     safe fn hlc_node_open(id: u16, start: u64) -> Node;
     fn hlc_node_write(n: *mut Node, reading: u64, key: *const u8, key_len: usize, value: *const u8,
         value_len: usize, number: *mut u64, word: *mut u64) -> u32;
@@ -236,6 +243,13 @@ impl Store {
         told(code, (node, start), 0)
     }
 
+    /// A node joins that starts at this stamp: its number and the start.
+    pub fn join_at(&mut self, start: u64) -> Result<(u16, u64), Refused> {
+        let (mut node, mut word) = (0, 0);
+        let code = unsafe { hlc_join_at(&mut self.raw, start, &mut node, &mut word) };
+        told(code, (node, word), word)
+    }
+
     pub fn snapshot(&mut self, stamp: u64) -> Result<u64, Refused> {
         self.word(|s, id| unsafe { hlc_open_snapshot(s, stamp, id) })
     }
@@ -297,6 +311,28 @@ impl Store {
     /// Vacuums, and gives the text of the certificate.
     pub fn vacuum_certified(&mut self) -> Result<Vec<u8>, Refused> {
         self.bytes(|s, out, n, len| unsafe { hlc_vacuum_certified(s, out, n, len) })
+    }
+
+    /// Vacuums up to a stamp, which is the `floor` of what is returned.
+    pub fn vacuum_to(&mut self, stamp: u64) -> Result<Vacuumed, Refused> {
+        let (mut floor, mut kept, mut bytes, mut dropped) = (0, 0, 0, 0);
+        let code =
+            unsafe { hlc_vacuum_to(&mut self.raw, stamp, &mut floor, &mut kept, &mut bytes, &mut dropped) };
+        told(code, Vacuumed { floor, kept, bytes, dropped }, floor)
+    }
+
+    /// Vacuums up to a stamp, and returns the text of the certificate.
+    pub fn vacuum_to_certified(&mut self, stamp: u64) -> Result<Vec<u8>, Refused> {
+        let word = Cell::new(0);
+        let made = self.bytes(|s, out, n, len| unsafe {
+            hlc_vacuum_to_certified(s, stamp, out, n, len, word.as_ptr())
+        });
+        made.map_err(|refused| Refused(refused.0, word.get()))
+    }
+
+    /// Why `vacuum_to` would be refused, memory aside.
+    pub fn check_vacuum(&mut self, stamp: u64) -> Result<u64, Refused> {
+        self.word(|s, word| unsafe { hlc_check_vacuum(s, stamp, word) })
     }
 }
 

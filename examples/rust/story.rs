@@ -74,6 +74,24 @@ fn accept_three(store: &mut Store, node: &mut Node) {
     accept(store, &batch);
 }
 
+// A node joins at a start that is given, and a vacuum to a stamp below the floor keeps what lies above that stamp.
+fn keep_above(store: &mut Store, node: &mut Node) {
+    write(store, node, 39, b"city", b"Bern");
+    report(store, node, 45);
+    for start in [40 << 16, 50 << 16] {
+        told_two("join at", store.join_at(start).map(|(node, start)| (node as u64, start)));
+    }
+    told("check", store.check_vacuum(42 << 16));
+    told("check", store.check_vacuum(40 << 16));
+    let vacuumed = store.vacuum_to(40 << 16).unwrap();
+    told("vacuum to", Ok(vacuumed.floor));
+    told_two("kept", Ok((vacuumed.kept, vacuumed.bytes)));
+    told("dropped", Ok(vacuumed.dropped));
+    told("vacuum to", store.vacuum_to(39 << 16).map(|vacuumed| vacuumed.floor));
+    told_two("certificate", store.vacuum_to_certified(40 << 16).map(|text| (text.len() as u64, 0)));
+    told("rows", store.rows());
+}
+
 fn main() {
     let mut store = Store::closed();
     let (mut a, mut b) = (Node::new(0, 0), Node::new(1, 0));
@@ -134,6 +152,7 @@ fn main() {
     write(&mut store, &mut b, 1 << 48, b"city", b"Nice");
     write(&mut store, &mut b, 31, &[0; 256], b"Nice");
     write(&mut store, &mut b, 31, b"city", &vec![0; 65536]);
+    keep_above(&mut store, &mut c);
     store.close();
     told("floor", store.floor());
 }

@@ -8,7 +8,7 @@ use Rattle.hlc_node.specs.declared.item.Item.{Item}
 use Rattle.hlc_core.specs.declared.fault.CoreFault.{CoreFault}
 use Rattle.hlc_core.specs.declared.fault.CoreFault.TheVariants.{NoNode, Retired, TooManyNodes, NotNext, NumbersSpent}
 use Rattle.hlc_core.specs.declared.fault.CoreFault.TheVariants.{StampNotRising, BadBody, AboveFloor, BelowHorizon}
-use Rattle.hlc_core.specs.declared.fault.CoreFault.TheVariants.{NoSnapshot, TooManySnapshots, NoMemory}
+use Rattle.hlc_core.specs.declared.fault.CoreFault.TheVariants.{BelowFloor, NoSnapshot, TooManySnapshots, NoMemory}
 use Rattle.hlc_core.specs.Past.{Step, Took}
 use Rattle.hlc_core.specs.Kept.{Kept, StandsFor}
 use Rattle.hlc_calls.specs.declared.batch.Entry.{Entry}
@@ -26,6 +26,7 @@ number_above (BadBody BadKey) = lit< tt
 number_above (BadBody ValueTooLong) = lit< tt
 number_above (AboveFloor floor) = lit< tt
 number_above (BelowHorizon horizon) = lit< tt
+number_above (BelowFloor floor) = lit< tt
 number_above NoSnapshot = lit< tt
 number_above TooManySnapshots = lit< tt
 number_above NoMemory = lit< tt

@@ -5,7 +5,7 @@ use Rattle.hlc_node.specs.declared.row.Row.{Row}
 use Rattle.hlc_node.specs.Rows.{answer}
 use Rattle.hlc_vacuum.specs.declared.report.Report.{Report}
 use Rattle.hlc_core.specs.Past.{Step, Took, Opened, Closed, Joined, numbered, floor, opened, stamp_of}
-use Rattle.hlc_core.specs.Past.{item_refusal, join_refusal, open_refusal, room_refusal}
+use Rattle.hlc_core.specs.Past.{item_refusal, join_refusal, join_at_refusal, open_refusal, room_refusal, vacuum_refusal}
 use Rattle.hlc_core.specs.Kept.{Kept, nodes, StandsFor}
 use Rattle.hlc_core.specs.Calls.{IsWrite, Vacuums}
 use Rattle.hlc_calls.specs.Told.{IsAnswered}
@@ -26,6 +26,12 @@ TellsJoined old new past code node start =
     IsAnswered (join_refusal (nodes old) past) ⊤
     ((node ≡ numbered (nodes old) past) × (start ≡ floor (nodes old) past) × StandsFor new (Joined node start ∷ past))
     code node
+
+-- a node joined at this start, and its number and its start are returned; or it was refused
+abbrev pub TellsJoinedAt : Kept → Kept → ℕ → List Step → ℕ → ℕ → ℕ → Type 0
+TellsJoinedAt old new start past code node told =
+    IsAnswered (join_at_refusal (nodes old) past start) ⊤
+    ((node ≡ numbered (nodes old) past) × (told ≡ start) × StandsFor new (Joined node start ∷ past)) code told
 
 -- a snapshot was opened at the stamp, and its id is told; or it was refused
 abbrev pub TellsOpened : Kept → Kept → ℕ → List Step → ℕ → ℕ → Type 0
@@ -67,8 +73,22 @@ TellsRead (Some stamp) rows key code len old new = TellsAnswer (answer rows key 
 abbrev pub narrowed : ℕ → ℕ
 narrowed number = min number 18446744073709551615
 
--- a vacuum took place, and this is told of its report
-abbrev pub TellsVacuumed : Kept → Kept → List Step → ℕ → ℕ → ℕ → ℕ → Type 0
-TellsVacuumed old new past floor kept bytes dropped =
-    (report : Report) × Vacuums old new past report × (floor ≡ report.floor) × (kept ≡ report.kept)
+-- a vacuum to the stamp took place, and this of its report is returned; its floor is the stamp
+abbrev pub TellsVacuumed : Kept → Kept → ℕ → List Step → ℕ → ℕ → ℕ → ℕ → Type 0
+TellsVacuumed old new at past floor kept bytes dropped =
+    (report : Report) × Vacuums old new at past report × (floor ≡ report.floor) × (kept ≡ report.kept)
     × (bytes ≡ narrowed report.bytes) × (dropped ≡ narrowed report.dropped)
+
+-- a vacuum to the floor took place, and this of its report is returned
+abbrev pub TellsVacuumedAtFloor : Kept → Kept → List Step → ℕ → ℕ → ℕ → ℕ → Type 0
+TellsVacuumedAtFloor old new past stamp kept bytes dropped =
+    TellsVacuumed old new (floor (nodes old) past) past stamp kept bytes dropped
+
+-- the same of a vacuum to this stamp, or it was refused
+abbrev pub TellsVacuumedTo : Kept → Kept → ℕ → List Step → ℕ → ℕ → ℕ → ℕ → ℕ → Type 0
+TellsVacuumedTo old new at past code told kept bytes dropped =
+    IsAnswered (vacuum_refusal (nodes old) past at) ⊤ (TellsVacuumed old new at past told kept bytes dropped) code told
+
+-- why a vacuum to the stamp would be refused, if it would, memory aside
+abbrev pub TellsVacuumChecked : Kept → ℕ → List Step → ℕ → ℕ → Type 0
+TellsVacuumChecked kept at past code told = IsAnswered (vacuum_refusal (nodes kept) past at) ⊥ (told ≡ 0) code told

@@ -5,7 +5,7 @@ use Rattle.hlc_node.specs.declared.item.BodyFault.TheVariants.{BadKey, ValueTooL
 use Rattle.hlc_core.specs.declared.fault.CoreFault.{CoreFault}
 use Rattle.hlc_core.specs.declared.fault.CoreFault.TheVariants.{NoNode, Retired, TooManyNodes, NotNext, NumbersSpent}
 use Rattle.hlc_core.specs.declared.fault.CoreFault.TheVariants.{StampNotRising, BadBody, AboveFloor, BelowHorizon}
-use Rattle.hlc_core.specs.declared.fault.CoreFault.TheVariants.{NoSnapshot, TooManySnapshots, NoMemory}
+use Rattle.hlc_core.specs.declared.fault.CoreFault.TheVariants.{BelowFloor, NoSnapshot, TooManySnapshots, NoMemory}
 
 -- the number of a refusal of what an item says
 abbrev pub body_number : BodyFault → ℕ
@@ -19,6 +19,7 @@ number (NotNext next) = 6
 number (StampNotRising head) = 7
 number (AboveFloor floor) = 8
 number (BelowHorizon horizon) = 9
+number (BelowFloor floor) = 9
 number NoSnapshot = 10
 number TooManySnapshots = 11
 number (BadBody fault) = body_number fault
@@ -33,6 +34,7 @@ word (NotNext next) = next
 word (StampNotRising head) = head
 word (AboveFloor floor) = floor
 word (BelowHorizon horizon) = horizon
+word (BelowFloor floor) = floor
 word NoNode = 0
 word Retired = 0
 word TooManyNodes = 0

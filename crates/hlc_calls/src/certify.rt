@@ -1,13 +1,13 @@
 //! The certificate of a vacuum, as text.
 ghost use Rattle.std.specs.Prelude.{◌≡◌, ◌≢◌, List, IfSome};
 ghost use Rattle.hlc_node.specs.declared.row.Row.{Row as ARow};
-ghost use Rattle.hlc_core.specs.Past.{Step};
+ghost use Rattle.hlc_core.specs.Past.{Step, floor};
 ghost use Rattle.hlc_core.specs.Kept.{nodes, StandsFor};
 ghost use Rattle.hlc_core.specs.Calls.{AreRowsTo};
 ghost use Rattle.hlc_certificate.specs.CertificateText.{certificate_text};
-ghost use Rattle.hlc_calls.specs.Certified.{IsCertified, IsHalf};
+ghost use Rattle.hlc_calls.specs.Certified.{IsCertified, IsCertifiedTo, IsHalf};
 
-use crate::open_store;
+use crate::{codes, open_store};
 use hlc_certificate::put_certificate;
 use hlc_core::{Core, Report, Row, Stamp, Witness};
 use hlc_text::print::finish;
@@ -46,16 +46,49 @@ fn certificate_of(alloc: Global, core: &Core, report: &Report) -> Option<Vec<u8>
 /// vacuum may have taken place.
 pub fn certify(alloc: Global, core: &mut Core, out: &mut [u8], len: &mut usize) -> u32
     ensures certified { result ≡ 0 → (past : List Step) → StandsFor core.old past
-        → IsCertified core.old core.new past len.new out.old out.new }
+        → IsCertified core.old core.new (floor (nodes core.old) past) past
+        len.new out.old out.new }
     ensures lack { result ≢ 0 → (result ≡ 15) × (len.new ≡ 0) × (out.new ≡ out.old) }
     ensures half { result ≢ 0 → (past : List Step) → StandsFor core.old past
-        → IsHalf core.old core.new past }
+        → IsHalf core.old core.new (floor (nodes core.old) past) past }
     ensures nodes { nodes core.new ≡ nodes core.old }
 {
     *len = 0;
     let Ok(report) = core.vacuum() else {
         return 15;
     };
+    match certificate_of(alloc, core, &report) {
+        Some(text) => {
+            open_store::fill(text.as_slice(), out, len);
+            0
+        }
+        None => 15,
+    }
+}
+
+/// Vacuums to a stamp: 0, how many bytes the certificate has and, where they fit, the bytes; or a
+/// refusal and its word; or 15, where the vacuum may have taken place.
+#[tactic(auto, using(crate::proofs::Refusals::made_tells, crate::proofs::Refusals::lack_tells))]
+pub fn certify_to(
+    alloc: Global,
+    core: &mut Core,
+    at: Stamp,
+    out: &mut [u8],
+    len: &mut usize,
+    told: &mut u64,
+) -> u32
+    ensures answer { (past : List Step) → StandsFor core.old past
+        → IsCertifiedTo core.old core.new at past result told.new len.new out.old out.new }
+    ensures same { result ≢ 0 → result ≢ 15 → core.new ≡ core.old }
+    ensures nothing { result ≢ 0 → (len.new ≡ 0) × (out.new ≡ out.old) }
+    ensures nodes { nodes core.new ≡ nodes core.old }
+{
+    *len = 0;
+    let report = match core.vacuum_to(at) {
+        Ok(report) => report,
+        Err(fault) => return codes::refuse(fault, told),
+    };
+    *told = 0;
     match certificate_of(alloc, core, &report) {
         Some(text) => {
             open_store::fill(text.as_slice(), out, len);

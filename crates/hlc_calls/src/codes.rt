@@ -38,6 +38,7 @@ fn refusal(fault: CoreFault) -> (u32, u64)
         CoreFault::StampNotRising { head } => stamped(7, head),
         CoreFault::AboveFloor { floor } => stamped(8, floor),
         CoreFault::BelowHorizon { horizon } => stamped(9, horizon),
+        CoreFault::BelowFloor { floor } => stamped(9, floor),
         CoreFault::NoSnapshot => pair(10, 0),
         CoreFault::TooManySnapshots => pair(11, 0),
         CoreFault::BadBody(fault) => pair(body_code(fault), 0),

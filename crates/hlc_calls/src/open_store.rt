@@ -4,11 +4,12 @@ ghost use Rattle.hlc_node.specs.Items.{an_item};
 ghost use Rattle.hlc_core.specs.Past.{Step, Took, item_refusal, stamp_of, writes};
 ghost use Rattle.hlc_core.specs.Kept.{nodes, StandsFor};
 ghost use Rattle.hlc_core.specs.Calls.{IsWrite, IsRefusal};
-ghost use Rattle.hlc_calls.specs.Answers.{TellsAccepted, TellsJoined, TellsOpened, TellsOpenedAtFloor, TellsClosed};
-ghost use Rattle.hlc_calls.specs.Answers.{IsCopied, TellsRead, TellsVacuumed, narrowed};
+ghost use Rattle.hlc_calls.specs.Answers.{TellsAccepted, TellsJoined, TellsJoinedAt, TellsOpened, TellsOpenedAtFloor};
+ghost use Rattle.hlc_calls.specs.Answers.{TellsClosed, IsCopied, TellsRead, TellsVacuumedAtFloor, TellsVacuumedTo};
+ghost use Rattle.hlc_calls.specs.Answers.{TellsVacuumChecked, narrowed};
 
 use crate::codes::{answer, number_of, refuse};
-use hlc_core::{Body, Core, CoreFault, Item, Stamp};
+use hlc_core::{Body, Core, CoreFault, Item, Report, Stamp};
 
 /// Accepts an item: the stamp that it has, or why it is refused.
 fn accept_item(core: &mut Core, item: Item) -> Result<u64, CoreFault>
@@ -72,6 +73,27 @@ pub fn join(core: &mut Core, node: &mut u16, start: &mut u64) -> u32
             *node = 0;
             *start = 0;
             number_of(fault)
+        }
+    }
+}
+
+/// A node joins at this start: 0, its number and its start, or a refusal and its word.
+#[tactic(auto, using(crate::proofs::Refusals::refused_tells, crate::proofs::Refusals::made_tells))]
+pub fn join_at(core: &mut Core, start: Stamp, node: &mut u16, told: &mut u64) -> u32
+    ensures answer { (past : List Step) → StandsFor core.old past
+        → TellsJoinedAt core.old core.new start past result node.new told.new }
+    ensures same { result ≢ 0 → (core.new ≡ core.old) × (node.new ≡ 0) }
+    ensures nodes { nodes core.new ≡ nodes core.old }
+{
+    match core.join_at(start) {
+        Ok(number) => {
+            *node = number;
+            *told = start.bits();
+            0
+        }
+        Err(fault) => {
+            *node = 0;
+            refuse(fault, told)
         }
     }
 }
@@ -173,6 +195,19 @@ pub fn rows(core: &Core) -> u64
     narrow(core.rows())
 }
 
+/// Writes what a report says: its floor, how many rows were kept, what they cost in bytes, and how many
+/// were dropped.
+fn put_report(report: &Report, floor: &mut u64, kept: &mut u64, bytes: &mut u64, dropped: &mut u64)
+    ensures counts { (floor.new ≡ report.now.floor) × (kept.new ≡ report.now.kept) }
+    ensures sizes { (bytes.new ≡ narrowed report.now.bytes)
+        × (dropped.new ≡ narrowed report.now.dropped) }
+{
+    *floor = report.floor.bits();
+    *kept = report.kept;
+    *bytes = narrow(report.bytes);
+    *dropped = narrow(report.dropped);
+}
+
 /// Vacuums: 0, the floor, how many rows were kept, what they cost in bytes, and how many were
 /// dropped; or 15.
 pub fn vacuum(
@@ -183,7 +218,8 @@ pub fn vacuum(
     dropped: &mut u64,
 ) -> u32
     ensures vacuumed { result ≡ 0 → (past : List Step) → StandsFor core.old past
-        → TellsVacuumed core.old core.new past floor.new kept.new bytes.new dropped.new }
+        → TellsVacuumedAtFloor core.old core.new past
+        floor.new kept.new bytes.new dropped.new }
     ensures due { result ≢ 0 → (result ≡ 15) × (core.new ≡ core.old) }
     ensures nothing { result ≢ 0
         → (floor.new ≡ 0) × (kept.new ≡ 0) × (bytes.new ≡ 0) × (dropped.new ≡ 0) }
@@ -195,12 +231,54 @@ pub fn vacuum(
     *dropped = 0;
     match core.vacuum() {
         Ok(report) => {
-            *floor = report.floor.bits();
-            *kept = report.kept;
-            *bytes = narrow(report.bytes);
-            *dropped = narrow(report.dropped);
+            put_report(&report, floor, kept, bytes, dropped);
             0
         }
         Err(_) => 15,
+    }
+}
+
+/// Tells why a vacuum to a stamp would be refused, memory aside: 0, or the refusal and its word.
+#[tactic(auto, using(crate::proofs::Refusals::due_tells, crate::proofs::Refusals::made_tells))]
+pub fn check_vacuum(core: &Core, at: Stamp, told: &mut u64) -> u32
+    ensures { (past : List Step) → StandsFor core.now past
+        → TellsVacuumChecked core.now at past result told.new }
+{
+    match core.check_vacuum(at) {
+        Ok(()) => {
+            *told = 0;
+            0
+        }
+        Err(fault) => refuse(fault, told),
+    }
+}
+
+/// Vacuums to a stamp: 0, the stamp, how many rows were kept, what they cost in bytes, and how many
+/// were dropped; or a refusal and its word.
+#[tactic(auto, using(crate::proofs::Refusals::refused_tells, crate::proofs::Refusals::made_tells))]
+pub fn vacuum_to(
+    core: &mut Core,
+    at: Stamp,
+    told: &mut u64,
+    kept: &mut u64,
+    bytes: &mut u64,
+    dropped: &mut u64,
+) -> u32
+    ensures answer { (past : List Step) → StandsFor core.old past
+        → TellsVacuumedTo core.old core.new at past result told.new
+        kept.new bytes.new dropped.new }
+    ensures same { result ≢ 0 → core.new ≡ core.old }
+    ensures nothing { result ≢ 0 → (kept.new ≡ 0) × (bytes.new ≡ 0) × (dropped.new ≡ 0) }
+    ensures nodes { nodes core.new ≡ nodes core.old }
+{
+    *kept = 0;
+    *bytes = 0;
+    *dropped = 0;
+    match core.vacuum_to(at) {
+        Ok(report) => {
+            put_report(&report, told, kept, bytes, dropped);
+            0
+        }
+        Err(fault) => refuse(fault, told),
     }
 }

@@ -36,7 +36,7 @@ pub record Certifies (nodes : ℕ) (past : List Step) (left : List Row) (text : 
   pub points : List ℕ
   pub rows : List Row
   pub changes : List Witness
-  pub are_points : AreVacuumPoints nodes past points
+  pub are_points : AreVacuumPoints (floor nodes past) past points
   pub are_rows : AreRowsTo left (floor nodes past) rows
   pub are_changes : AreChanges (writes past) points changes
   pub spelled : text ≡ certificate_text points rows changes
@@ -48,7 +48,7 @@ pub record Tells {W : Type 0} (contents : W → Option (List ℕ)) (old new : Wa
   pub past : List Step
   pub stands : StandsFor core past
   pub vacuumed : Kept
-  pub stands_vacuumed : StandsFor vacuumed (Vacuumed ∷ past)
+  pub stands_vacuumed : StandsFor vacuumed (Vacuumed (floor (nodes core) past) ∷ past)
   pub early : ℕ
   pub late : ℕ
   pub certificate : List ℕ

@@ -2,7 +2,7 @@
 ghost use Rattle.std.specs.Prelude.{◌≡◌, ◌∷◌, ℕ, List, IfOk, IfErr, IsOk};
 ghost use Rattle.hlc_text.specs.Printing.{Prints};
 ghost use Rattle.hlc_witness.specs.Certificate.{IsCertificate};
-ghost use Rattle.hlc_core.specs.Past.{Step, Vacuumed};
+ghost use Rattle.hlc_core.specs.Past.{Step, Vacuumed, floor};
 ghost use Rattle.hlc_core.specs.Kept.{StandsFor, nodes};
 ghost use Rattle.hlc_certificate.specs.CertificateText.{certificate_text};
 ghost use Rattle.hlc_certificate.specs.ReadBack.{IsAnsweredFewest};
@@ -24,7 +24,7 @@ pub(crate) fn put_vacuum<W: Write>(
     core: &mut Core,
 ) -> Result<Shown, Stopped>
     ensures stands { (past : List Step) → StandsFor core.old past
-        → IfOk result (λ _. StandsFor core.new (Vacuumed ∷ past)) }
+        → IfOk result (λ _. StandsFor core.new (Vacuumed (floor (nodes core.old) past) ∷ past)) }
     ensures printed { IfOk result (λ shown. (text : List ℕ)
         × Prints W.contents writer.old writer.new waiting.old waiting.new text
         × IsAnsweredFewest text shown.rows shown.cost

@@ -5,13 +5,13 @@ ghost use Rattle.hlc_node.specs.declared.item.Body.TheVariants.{Retire as a_reti
 ghost use Rattle.hlc_node.specs.Items.{an_item};
 ghost use Rattle.hlc_core.specs.Past.{Step};
 ghost use Rattle.hlc_core.specs.Kept.{StandsFor};
-ghost use Rattle.hlc_calls.specs.Answers.{TellsAccepted, TellsChecked, TellsJoined};
+ghost use Rattle.hlc_calls.specs.Answers.{TellsAccepted, TellsChecked, TellsJoined, TellsJoinedAt};
 ghost use Rattle.hlc_ffi.specs.Held.{OnStore, nodes_held};
 
 use crate::held::on_core;
 use hlc_calls::items::write_fault;
 use hlc_calls::{items, open_store};
-use hlc_core::Core;
+use hlc_core::{Core, Stamp};
 use hlc_handle::Store;
 use std::alloc::Global;
 
@@ -212,4 +212,30 @@ pub extern "C" fn hlc_join(alloc: Global, store: &mut Store, node: &mut u16, sta
     *node = 0;
     *start = 0;
     on_core!(alloc, store, |core| open_store::join(core, node, start))
+}
+
+/// Lets a node join at a start: 0, its number and the start; or 26, 9 with the floor where the start
+/// is below it, or 15.
+#[unsafe(no_mangle)]
+pub extern "C" fn hlc_join_at(
+    alloc: Global,
+    store: &mut Store,
+    start: u64,
+    node: &mut u16,
+    word: &mut u64,
+) -> u32
+    ensures answer { OnStore store.old.room.value store.new.room.value
+        ((result ≡ 100) × (node.new ≡ 0) × (word.new ≡ 0))
+        (λ old new. (past : List Step) → StandsFor old past
+        → TellsJoinedAt old new start past result node.new word.new) }
+    ensures nothing { result ≢ 0 → node.new ≡ 0 }
+    ensures same { result ≢ 0 → store.new.room.value ≡ store.old.room.value }
+    ensures nodes { nodes_held store.new.room.value ≡ nodes_held store.old.room.value }
+{
+    *node = 0;
+    *word = 0;
+    let start = Stamp::from_bits(start);
+    on_core!(alloc, store, |core| {
+        open_store::join_at(core, start, node, word)
+    })
 }

@@ -1,14 +1,15 @@
 //! The calls by which a store drops what no reader needs.
 ghost use Rattle.std.specs.Prelude.{◌≡◌, ◌≢◌, List};
-ghost use Rattle.hlc_core.specs.Past.{Step};
-ghost use Rattle.hlc_core.specs.Kept.{StandsFor};
-ghost use Rattle.hlc_calls.specs.Answers.{TellsVacuumed};
-ghost use Rattle.hlc_calls.specs.Certified.{IsCertified, IsHalf};
+ghost use Rattle.hlc_core.specs.Past.{Step, floor};
+ghost use Rattle.hlc_core.specs.Kept.{nodes, StandsFor};
+ghost use Rattle.hlc_calls.specs.Answers.{TellsVacuumedAtFloor, TellsVacuumedTo, TellsVacuumChecked};
+ghost use Rattle.hlc_calls.specs.Certified.{IsCertified, IsCertifiedTo, IsHalf};
 ghost use Rattle.hlc_ffi.specs.Held.{OnStore, nodes_held};
 
 use crate::held::on_core;
-use hlc_calls::certify::certify;
+use hlc_calls::certify::{certify, certify_to};
 use hlc_calls::open_store;
+use hlc_core::Stamp;
 use hlc_handle::Store;
 use std::alloc::Global;
 
@@ -25,7 +26,7 @@ pub extern "C" fn hlc_vacuum(
 ) -> u32
     ensures answer { OnStore store.old.room.value store.new.room.value
         (result ≡ 100) (λ old new. result ≡ 0 → (past : List Step) → StandsFor old past
-        → TellsVacuumed old new past floor.new kept.new bytes.new dropped.new) }
+        → TellsVacuumedAtFloor old new past floor.new kept.new bytes.new dropped.new) }
     ensures lack { OnStore store.old.room.value store.new.room.value (result ≡ 100)
         (λ old new. result ≢ 0 → result ≡ 15) }
     ensures nothing { result ≢ 0
@@ -56,13 +57,94 @@ pub extern "C" fn hlc_vacuum_certified(
 ) -> u32
     ensures answer { OnStore store.old.room.value store.new.room.value (result ≡ 100)
         (λ old new. result ≡ 0 → (past : List Step) → StandsFor old past
-        → IsCertified old new past len.new out.old out.new) }
+        → IsCertified old new (floor (nodes old) past) past len.new out.old out.new) }
     ensures half { OnStore store.old.room.value store.new.room.value (result ≡ 100)
         (λ old new. result ≢ 0 → (result ≡ 15) × ((past : List Step) → StandsFor old past
-        → IsHalf old new past)) }
+        → IsHalf old new (floor (nodes old) past) past)) }
     ensures nothing { result ≢ 0 → (len.new ≡ 0) × (out.new ≡ out.old) }
     ensures nodes { nodes_held store.new.room.value ≡ nodes_held store.old.room.value }
 {
     *len = 0;
     on_core!(alloc, store, |core| certify(alloc, core, out, len))
+}
+
+/// Why `hlc_vacuum_to` would refuse a stamp, memory aside: 0, or 8 and the floor, or 9 and the
+/// horizon. It takes no memory.
+#[unsafe(no_mangle)]
+pub extern "C" fn hlc_check_vacuum(alloc: Global, store: &mut Store, at: u64, word: &mut u64) -> u32
+    ensures answer { OnStore store.old.room.value store.new.room.value
+        ((result ≡ 100) × (word.new ≡ 0)) (λ old new. (past : List Step) → StandsFor old past
+        → TellsVacuumChecked old at past result word.new) }
+    ensures same { store.new.room.value ≡ store.old.room.value }
+{
+    *word = 0;
+    let at = Stamp::from_bits(at);
+    on_core!(
+        alloc,
+        store,
+        |core| open_store::check_vacuum(core, at, word)
+    )
+}
+
+/// Drops the rows at or below a stamp that no reader needs: 0, the stamp, how many rows at or below
+/// it were kept, what they cost in bytes, and how many were dropped; or 8 and the floor, 9 and the
+/// horizon, or 15. Rows above the stamp stay.
+#[unsafe(no_mangle)]
+pub extern "C" fn hlc_vacuum_to(
+    alloc: Global,
+    store: &mut Store,
+    at: u64,
+    word: &mut u64,
+    kept: &mut u64,
+    bytes: &mut u64,
+    dropped: &mut u64,
+) -> u32
+    ensures answer { OnStore store.old.room.value store.new.room.value
+        ((result ≡ 100) × (word.new ≡ 0)) (λ old new. (past : List Step) → StandsFor old past
+        → TellsVacuumedTo old new at past result word.new kept.new bytes.new dropped.new) }
+    ensures nothing { result ≢ 0 → (kept.new ≡ 0) × (bytes.new ≡ 0) × (dropped.new ≡ 0) }
+    ensures same { result ≢ 0 → store.new.room.value ≡ store.old.room.value }
+    ensures nodes { nodes_held store.new.room.value ≡ nodes_held store.old.room.value }
+{
+    *word = 0;
+    *kept = 0;
+    *bytes = 0;
+    *dropped = 0;
+    let at = Stamp::from_bits(at);
+    on_core!(
+        alloc,
+        store,
+        |core| open_store::vacuum_to(core, at, word, kept, bytes, dropped)
+    )
+}
+
+/// The same, with the certificate of the rows that are left up to the stamp: 0, how many bytes it has
+/// and, where they fit, the bytes; or a refusal and its word; or 15, where the vacuum may have taken
+/// place all the same. Where they do not fit, a further call to the same stamp certifies a further
+/// vacuum, which finds nothing to drop.
+#[unsafe(no_mangle)]
+pub extern "C" fn hlc_vacuum_to_certified(
+    alloc: Global,
+    store: &mut Store,
+    at: u64,
+    out: &mut [u8],
+    len: &mut usize,
+    word: &mut u64,
+) -> u32
+    ensures answer { OnStore store.old.room.value store.new.room.value
+        ((result ≡ 100) × (word.new ≡ 0)) (λ old new. (past : List Step) → StandsFor old past
+        → IsCertifiedTo old new at past result word.new len.new out.old out.new) }
+    ensures nothing { result ≢ 0 → (len.new ≡ 0) × (out.new ≡ out.old) }
+    ensures same { result ≢ 0 → result ≢ 15
+        → store.new.room.value ≡ store.old.room.value }
+    ensures nodes { nodes_held store.new.room.value ≡ nodes_held store.old.room.value }
+{
+    *len = 0;
+    *word = 0;
+    let at = Stamp::from_bits(at);
+    on_core!(
+        alloc,
+        store,
+        |core| certify_to(alloc, core, at, out, len, word)
+    )
 }

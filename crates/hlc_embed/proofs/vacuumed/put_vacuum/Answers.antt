@@ -13,7 +13,7 @@ returns-clause-printed g c = (
         rows = c.as_slice.result.now;
         changes = c.as_slice-witnesses.result.now;
         are_points = rw c.as_slice-points.ensures vacuumed.due.points;
-        are_rows = rw (c.as_slice.ensures.value, ← vacuumed.due.at_floor) c.in_ok-rows.ensures;
+        are_rows = rw (c.as_slice.ensures.value, ← vacuumed.due.at_stamp) c.in_ok-rows.ensures;
         are_changes = rw (c.as_slice-points.ensures, c.as_slice-witnesses.ensures) vacuumed.due.witnesses;
         spelled = refl;
       },
