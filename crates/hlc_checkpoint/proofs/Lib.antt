@@ -1,2 +1,3 @@
 pub mod AscendLemmas
 pub mod CheckpointLemmas
+mod Restored

@@ -9,7 +9,6 @@ mod laws;
 mod link;
 mod listing;
 mod reply;
-mod restoring;
 mod rows;
 mod sorted;
 mod step;

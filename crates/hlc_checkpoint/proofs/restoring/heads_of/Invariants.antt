@@ -2,7 +2,7 @@
 use Rattle.std.proofs.Common.{◌≡◌, map, take}
 use Rattle.hlc_intake.specs.Progress.{Progress}
 use Rattle.hlc_heads.specs.Heads.{a_head}
-use Rattle.hlc_core.proofs.restoring.heads_of.Given as goal
+use Rattle.hlc_checkpoint.proofs.restoring.heads_of.Given as goal
 
 abbrev pub invariant-loop-link : goal.invariant-loop-link
 invariant-loop-link l =

@@ -3,7 +3,7 @@ ghost use Rattle.std.specs.Prelude.{◌≡◌, ◌<◌, ◌≤◌, IfOk, length}
 ghost use Rattle.std.specs.List.Sorted.{IsPermutation};
 ghost use Rattle.hlc_heads.specs.declared.heads.TheConstants.{MOST_NUMBERS};
 ghost use Rattle.hlc_witness.specs.Certificate.{RowsAscend};
-ghost use Rattle.hlc_core.specs.Kept.{marks_of};
+ghost use Rattle.hlc_checkpoint.specs.Kept.{marks_of};
 
 use hlc_clock::Stamp;
 use hlc_columns::Table;
@@ -13,7 +13,7 @@ use hlc_node::Row;
 use hlc_values::NoMemory;
 use std::alloc::{AllocFailed, Global};
 
-/// The heads of some links, and this greatest stamp.
+/// The heads of some links, 1 to 1,024 of them, and this greatest head. Refused where memory runs out.
 pub fn heads_of(alloc: Global, links: &[Intake], top: Stamp) -> Result<Heads, NoMemory>
     requires some { 0 < length links.now }
     requires few { length links.now ≤ MOST_NUMBERS }
@@ -29,7 +29,8 @@ pub fn heads_of(alloc: Global, links: &[Intake], top: Stamp) -> Result<Heads, No
     Ok(Heads::resuming(heads, top))
 }
 
-/// A table of copies of some rows, which ascend by key, stamp and node.
+/// A table of copies of some rows, which ascend by key, stamp and node. A key is looked up for its first row
+/// alone. Refused where memory runs out.
 pub fn table_of(alloc: Global, rows: &[Row]) -> Result<Table, NoMemory>
     requires { RowsAscend rows.now }
     ensures { IfOk result (λ table. IsPermutation rows.now table) }
@@ -41,7 +42,8 @@ pub fn table_of(alloc: Global, rows: &[Row]) -> Result<Table, NoMemory>
     Ok(table)
 }
 
-/// A table of some rows, which ascend by key, stamp and node. They are moved.
+/// A table of some rows, which ascend by key, stamp and node. They are moved, and lost where memory runs
+/// out, but for the one that found none.
 pub fn table_of_moved(alloc: Global, rows: Vec<Row>) -> Result<Table, AllocFailed<Row>>
     requires { RowsAscend rows.items }
     ensures { IfOk result (λ table. IsPermutation rows.items table) }

@@ -1,8 +1,8 @@
 -- The rows of a checkpoint are stored one by one, each of a new version.
-use Rattle.std.proofs.Common.{◌≡◌, ℕ, ◌+◌, ◌<◌, List, [], ◌∷◌, ◌++◌, length, get_or, take, Some}
-use Rattle.std.proofs.Common.{ap, sym, ◌∙◌, subst, arith, IsPermutation, append_assoc}
-use Rattle.std.specs.Prelude.{All, slice_get}
-use Rattle.std.proofs.lemmas.Option.{slice_get-get_or, slice_get_within, get_or_from_slice_get}
+use Rattle.std.proofs.Common.{◌≡◌, ℕ, ◌+◌, ◌<◌, List, [], ◌∷◌, ◌++◌, length, get_or, take}
+use Rattle.std.proofs.Common.{ap, sym, ◌∙◌, subst, arith, IsPermutation}
+use Rattle.std.specs.Prelude.{All}
+use Rattle.std.proofs.lemmas.Option.{slice_get-get_or, get_or_from_slice_get}
 use Rattle.std.proofs.Math.Seq.{take-append_seam, get_or-append_seam}
 use Rattle.std.proofs.lemmas.List.{take_more, get_or-take, length-append, length-take-le}
 use Rattle.std.proofs.lemmas.List.Elements.{All-contains}
@@ -49,11 +49,3 @@ pub row-more : (rows : List Row) (i : ℕ) (row : Row) (table new : List Row) �
 row-more rows i row table new lt is moved step =
     subst (λ xs. IsPermutation xs new) (sym (take_more rows i row lt ∙ ap (λ r. take i rows ++ r ∷ []) (sym is)))
     (IsPermutation-trans _ _ _ (IsPermutation-append_left (row ∷ []) (take i rows) table moved) step)
-
--- one place on
-pub whole-on : (rows : List Row) (i : ℕ) (row : Row) (old now new : List Row) → slice_get rows i ≡ Some row
-    → now ≡ old ++ take i rows → new ≡ now ++ row ∷ [] → new ≡ old ++ take (i + 1) rows
-whole-on rows i row old now new at told is =
-    is ∙ ap (λ xs. xs ++ row ∷ []) told ∙ append_assoc old (take i rows) (row ∷ [])
-    ∙ ap (λ xs. old ++ xs) (sym (take_more rows i row (slice_get_within rows i row at)
-    ∙ ap (λ r. take i rows ++ r ∷ []) (get_or_from_slice_get rows i row row at)))

@@ -1,8 +1,8 @@
 -- One row more is stored, which is of a new version.
 use Rattle.std.proofs.Common.{◌∙◌, ◌++◌, ◌∷◌, [], sym, ap, append_assoc}
 use Rattle.std.proofs.lemmas.List.Sorted.{IsPermutation-trans, IsPermutation-append_left}
-use Rattle.hlc_core.proofs.Restored.{fresh-next}
-use Rattle.hlc_core.proofs.restoring.table_of_moved.Goals as goal
+use Rattle.hlc_checkpoint.proofs.Restored.{fresh-next}
+use Rattle.hlc_checkpoint.proofs.restoring.table_of_moved.Goals as goal
 
 pub insert_last-requires : goal.insert_last-requires
 insert_last-requires c =
