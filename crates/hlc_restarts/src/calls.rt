@@ -5,9 +5,12 @@ use crate::restart::{copy, restart, restart_in_pieces, restore, save_as_text};
 use crate::timing::{fill, time};
 use crate::verbs::{Verb, verb_of};
 use crate::words::{next_bytes, next_node, next_number, next_stamp, next_word};
-use hlc_core::{Core, CoreFault};
+use hlc_core::{Core, CoreFault, Report, Stamp};
 use hlc_text::words::LineWords;
 use std::fmt::Debug;
+
+/// How many rows a vacuum kept and dropped, and what the kept ones cost.
+type Counts = (u64, u128, u128);
 
 /// Makes a call of the store, and prints its answer; false where memory ran out.
 pub(crate) fn call_core(
@@ -21,9 +24,11 @@ pub(crate) fn call_core(
             accept(rt, core, verb, words)
         }
         Verb::Join => answer(rt, "joined", core.join()),
+        Verb::JoinAt => answer(rt, "joined", join_at(core, next_stamp(words))),
         Verb::Open => answer(rt, "snapshot", core.open(next_stamp(words))),
         Verb::OpenFloor => answer(rt, "snapshot", core.open_floor()),
-        Verb::Vacuum => vacuum(rt, core),
+        Verb::Vacuum => answer(rt, "vacuumed", vacuum(core)),
+        Verb::VacuumTo => answer(rt, "vacuumed", vacuum_to(core, next_stamp(words))),
         Verb::List => answer(rt, "listing", core.list(next_number(words))),
         Verb::Read => read(rt, core, words),
         Verb::Save => save_as_text(rt, core, next_number(words)),
@@ -87,13 +92,22 @@ fn read(rt: &HostRuntime, core: &Core, words: &mut LineWords<'_>) -> bool {
     }
 }
 
-/// Vacuums, and prints how many rows were kept and dropped, and what the kept ones cost.
-fn vacuum(rt: &HostRuntime, core: &mut Core) -> bool {
-    match core.vacuum() {
-        Ok(report) => {
-            say(rt, "vacuumed", &(report.kept, report.dropped, report.bytes));
-            true
-        }
-        Err(_) => false,
-    }
+/// A node joins at a start: its number, and the start.
+fn join_at(core: &mut Core, start: Stamp) -> Result<(u16, Stamp), CoreFault> {
+    Ok((core.join_at(start)?, start))
+}
+
+/// Vacuums up to the floor: what the report counts.
+fn vacuum(core: &mut Core) -> Result<Counts, CoreFault> {
+    Ok(counts(&core.vacuum()?))
+}
+
+/// Vacuums up to a stamp: what the report counts.
+fn vacuum_to(core: &mut Core, at: Stamp) -> Result<Counts, CoreFault> {
+    Ok(counts(&core.vacuum_to(at)?))
+}
+
+/// What a report counts.
+fn counts(report: &Report) -> Counts {
+    (report.kept, report.dropped, report.bytes)
 }

@@ -8,7 +8,7 @@ use Rattle.std.proofs.lemmas.List.{take_at, drop_at, get_or-take, get_or-drop, g
 use Rattle.sha2.specs.Sha256.{sha256}
 use Rattle.hlc_core.specs.Past.{Step}
 use Rattle.hlc_core.specs.Kept.{Kept, StandsFor}
-use Rattle.hlc_core.specs.Checkpoint.{IsCheckpoint, IsCopyOf, IsFirstReason}
+use Rattle.hlc_checkpoint.specs.Checkpoint.{IsCheckpoint, IsCopyOf, IsFirstReason}
 use Rattle.hlc_checkpoint.specs.declared.checkpoint.RestoreFault.{RestoreFault}
 use Rattle.hlc_checkpoint.specs.declared.checkpoint.RestoreFault.TheVariants as reasons
 use Rattle.hlc_core.proofs.Checkpoints.{copy-stands}

@@ -1,6 +1,6 @@
 -- The text of each fault.
 use Rattle.std.specs.Prelude.{ℕ, List, codes}
-use Rattle.hlc_core.specs.RestoreFaults as reasons
+use Rattle.hlc_checkpoint.specs.RestoreFaults as reasons
 use Rattle.hlc_wire.specs.Faults.{fault_text}
 use Rattle.hlc_saved.specs.declared.fault.ResumeError.{ResumeError}
 use Rattle.hlc_saved.specs.declared.fault.ResumeError.TheVariants.{NoMemory, Bytes, Parts}

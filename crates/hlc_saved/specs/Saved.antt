@@ -2,7 +2,7 @@
 use Rattle.std.specs.Prelude.{◌≡◌, ◌≢◌, ℕ, List, Result, Ok, Err}
 use Rattle.hlc_core.specs.Past.{Step}
 use Rattle.hlc_core.specs.Kept.{Kept, StandsFor}
-use Rattle.hlc_core.specs.Checkpoint.{IsCheckpoint, IsCheckpointOf, IsCopyOf, IsFirstReason}
+use Rattle.hlc_checkpoint.specs.Checkpoint.{IsCheckpoint, IsCheckpointOf, IsCopyOf, IsFirstReason}
 use Rattle.hlc_checkpoint.specs.declared.checkpoint.RestoreFault.TheVariants as reasons
 use Rattle.hlc_saved.specs.declared.fault.ResumeError.{ResumeError}
 use Rattle.hlc_saved.specs.declared.fault.ResumeError.TheVariants.{NoMemory, Bytes, Parts}

@@ -1,6 +1,6 @@
 //! What stands before the rows of a checkpoint.
 ghost use Rattle.std.specs.Prelude.{◌≡◌, ◌++◌, ◌<◌, OnOk, length};
-ghost use Rattle.hlc_core.specs.Checkpoint.{IsCheckpoint};
+ghost use Rattle.hlc_checkpoint.specs.Checkpoint.{IsCheckpoint};
 ghost use Rattle.hlc_wire.specs.Reading.{Gives};
 ghost use Rattle.hlc_saved.specs.Spelling.{preamble_bytes, preamble_of, kept_of};
 ghost use Rattle.hlc_saved.specs.Reading.{preamble_at};

@@ -2,7 +2,7 @@
 ghost use Rattle.std.specs.Prelude.{◌≡◌, ◌<◌, ◌+◌, ◌*◌, All, OnSome, SomeIff, length};
 ghost use Rattle.std.specs.List.{flat_map};
 ghost use Rattle.hlc_witness.specs.Cost.{IsInLimits, AreInLimits};
-ghost use Rattle.hlc_core.specs.Checkpoint.{IsCheckpoint};
+ghost use Rattle.hlc_checkpoint.specs.Checkpoint.{IsCheckpoint};
 ghost use Rattle.hlc_saved.specs.Spelling.{
   row_bytes,
   checkpoint_bytes,

@@ -4,7 +4,7 @@ ghost use Rattle.std.specs.List.{flat_map};
 ghost use Rattle.hlc_node.specs.declared.row.Row.{Row as ARow};
 ghost use Rattle.hlc_witness.specs.Cost.{IsInLimits, AreInLimits};
 ghost use Rattle.hlc_core.specs.Kept.{Kept};
-ghost use Rattle.hlc_core.specs.Checkpoint.{IsCheckpoint, IsFirstReason};
+ghost use Rattle.hlc_checkpoint.specs.Checkpoint.{IsCheckpoint, IsFirstReason};
 ghost use Rattle.hlc_saved.specs.Spelling.{row_bytes, checkpoint_bytes, saved_bytes, CheckpointFits, SavedFits};
 ghost use Rattle.hlc_saved.specs.Writing.{HasWritten, begin_bytes, end_bytes};
 

@@ -1,7 +1,7 @@
 //! Calls of what lies under the lock of a shared store, with a trail and without.
 ghost use Rattle.std.specs.Prelude.{◌≡◌};
 
-use crate::items::{bytes, write_of};
+use crate::items::{bytes, stamp_of, write_of};
 use crate::lines::{Called, call_all, next_number, next_text, number_of, parts};
 use crate::screen::Screen;
 use crate::settling;
@@ -101,7 +101,9 @@ fn event_of(alloc: Global, letter: u8, rest: &[u8]) -> Option<CoreEvent> {
         b'l' => Some(CoreEvent::List(number_of(rest))),
         b'c' => Some(CoreEvent::Close(number_of(rest))),
         b'j' => Some(CoreEvent::Join),
+        b'J' => Some(CoreEvent::JoinAt(stamp_of(rest))),
         b'v' => Some(CoreEvent::Vacuum),
+        b'V' => Some(CoreEvent::VacuumTo(stamp_of(rest))),
         _ => None,
     }
 }

@@ -1,5 +1,5 @@
 //! Items and rows, of the words of a line.
-use crate::lines::{next_number, next_text};
+use crate::lines::{next_number, next_text, number_of};
 use hlc_core::{Body, Bytes, Item, Row, Stamp};
 use hlc_text::words::LineWords;
 use std::alloc::{AllocError, Global};
@@ -17,6 +17,11 @@ pub(crate) fn next_node(words: &mut LineWords<'_>) -> u16 {
 /// The next word as the bits of a stamp, or 0.0.
 pub(crate) fn next_stamp(words: &mut LineWords<'_>) -> Stamp {
     Stamp::from_bits(next_number(words))
+}
+
+/// The stamp of these bits, or 0.0.
+pub(crate) fn stamp_of(rest: &[u8]) -> Stamp {
+    Stamp::from_bits(number_of(rest))
 }
 
 /// The write of a line: its node, its number, its stamp, its key and its value.

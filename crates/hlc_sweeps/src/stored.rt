@@ -1,6 +1,6 @@
 //! The calls of a store in one thread.
 use crate::asking::{ask_store, put_listing, put_rows};
-use crate::items::{item_of, next_node, next_stamp, write_of};
+use crate::items::{item_of, next_node, next_stamp, stamp_of, write_of};
 use crate::lines::{Called, call_all, next_number, next_text, number_of, parts};
 use crate::screen::Screen;
 use hlc_core::{Body, Core, Item, Stamp};
@@ -56,11 +56,13 @@ impl Called for Stored {
             b't' => self.held = Some(item_of(rest, Body::Retire)),
             b'i' => self.hand_in(screen),
             b'q' => self.check_item(screen),
-            b'o' => screen.say(&self.core.open(Stamp::from_bits(number_of(rest)))),
+            b'o' => screen.say(&self.core.open(stamp_of(rest))),
             b'f' => screen.say(&self.core.open_floor()),
             b'c' => screen.say(&self.core.close(number_of(rest))),
             b'j' => screen.say(&self.core.join()),
+            b'J' => screen.say(&self.core.join_at(stamp_of(rest))),
             b'v' => screen.told(self.core.vacuum().ok()),
+            b'V' => screen.told(self.core.vacuum_to(stamp_of(rest)).ok()),
             _ => self.ask(screen, letter, &mut LineWords::of(rest)),
         }
     }
