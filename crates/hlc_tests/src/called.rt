@@ -1,6 +1,7 @@
 //! The small callers, called.
 use crate::callers::{
-    admit_twice, are_equal, deliver_twice, is_complete, least_count, open_twice, two_events, write_of,
+    admit_twice, are_equal, deliver_twice, is_complete, least_count, open_twice, two_events,
+    write_of,
 };
 use crate::expected::must_be;
 use crate::makers::bytes;
