@@ -11,7 +11,7 @@ use Rattle.hlc_node.specs.declared.item.Item.{Item}
 use Rattle.hlc_node.specs.declared.item.Message.{Message}
 use Rattle.hlc_node.specs.declared.row.Row.{Row}
 use Rattle.hlc_core.specs.declared.listing.Pair.{Pair}
-use Rattle.hlc_core.specs.Past.{Step}
+use Rattle.hlc_core.specs.Past.{Step, floor}
 use Rattle.hlc_core.specs.History.{IsAnswer}
 use Rattle.hlc_core.specs.Calls.{IsListed}
 use Rattle.hlc_core.proofs.ListingLemmas.{one-listing}
@@ -134,10 +134,10 @@ due_once nodes schedule (Close id) (Closed stamp) other due also = absurd also
 due_once nodes schedule Floor (FloorIs stamp) (FloorIs stamp2) due also = ap FloorIs (due ∙ sym also)
 due_once nodes schedule Floor (FloorIs stamp) other due also = absurd also
 due_once nodes schedule Vacuum (Vacuumed report) (Vacuumed report2) due also =
-    ap Vacuumed (there_is_one_report nodes (core_past schedule) report report2 due also)
+    ap Vacuumed (there_is_one_report (floor nodes (core_past schedule)) (core_past schedule) report report2 due also)
 due_once nodes schedule Vacuum (Vacuumed report) other due also = absurd also
 due_once nodes schedule Rows (RowsAre count) (RowsAre count2) due also =
-    ap RowsAre (there_is_one_count nodes (core_past schedule) count count2 due also)
+    ap RowsAre (there_is_one_count (core_past schedule) count count2 due also)
 due_once nodes schedule Rows (RowsAre count) other due also = absurd also
 due_once nodes schedule _ _ _ due also = absurd due
 

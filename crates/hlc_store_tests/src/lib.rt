@@ -1,10 +1,7 @@
-//! Tests of the store and of worlds, by their public calls: single calls, vacuums, nodes that join and retire, and
-//! a whole run; of scripts and certificates, with streams that fail; and the small caller of the page of
-//! `hlc_core`. There is nothing else here.
+//! Tests of single calls of the store, of a whole run of a world, of scripts and certificates, with streams that fail,
+//! by their public calls. There is nothing else here.
 #![tactic(auto)]
 
-#[cfg(test)]
-mod callers;
 #[cfg(test)]
 mod certified;
 #[cfg(test)]
@@ -14,8 +11,6 @@ mod failures;
 #[cfg(test)]
 mod items;
 #[cfg(test)]
-mod joins;
-#[cfg(test)]
 mod run;
 #[cfg(test)]
 mod scripts;
@@ -23,5 +18,3 @@ mod scripts;
 mod store;
 #[cfg(test)]
 mod streams;
-#[cfg(test)]
-mod vacuums;

@@ -122,7 +122,7 @@ taken-entry nodes s (ListAll id) (Listing pairs) given ordered h = h
 taken-entry nodes s (Close id) (Closed st) given ordered h =
     λ n. taken-more (issued n s) (count n (core_past s)) (core_past s) (ClosedOf id) (h n)
 taken-entry nodes s Vacuum (Vacuumed report) given ordered h =
-    λ n. taken-more (issued n s) (count n (core_past s)) (core_past s) VacuumedOf (h n)
+    λ n. taken-more (issued n s) (count n (core_past s)) (core_past s) (VacuumedOf report.floor) (h n)
 taken-entry nodes s _ _ given ordered h = h
 
 taken : (nodes : ℕ) (s : List (Event × Reply)) → IsLegal nodes s → AllTaken s

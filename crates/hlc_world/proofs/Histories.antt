@@ -1,13 +1,17 @@
 -- The store's history of a legal schedule is legal, since what is due to an event that asks something of the store is
 -- what the store owes; and what took place in a legal history is a legal past.
-use Rattle.std.proofs.Common.{◌≡◌, ℕ, ◌≤◌, List, [], ◌∷◌, Some, None, Option, ◌∙◌, sym, subst, arith}
+use Rattle.std.proofs.Common.{◌≡◌, ℕ, ◌≤◌, List, [], ◌∷◌, Some, None, Option, ◌∙◌, sym, subst, inl, inr, arith}
+use Rattle.std.proofs.lemmas.Bool.{cond-true, cond-false, lt-leb, le-leb, lt-ltb, cases_lt}
 use Rattle.hlc_node.specs.declared.item.Item.{Item}
 use Rattle.hlc_core.specs.declared.event.CoreEvent.{CoreEvent}
 use Rattle.hlc_core.specs.declared.event.CoreEvent.TheVariants as core_event
 use Rattle.hlc_core.specs.declared.reply.CoreReply.{CoreReply}
 use Rattle.hlc_core.specs.declared.reply.CoreReply.TheVariants as core_reply
-use Rattle.hlc_core.specs.Past.{Step, floor, horizon, stamp_of, open_refusal, IsLegal as IsLegalPast}
-use Rattle.hlc_core.proofs.PastLemmas.{open-room, horizon-low}
+use Rattle.hlc_heads.specs.declared.heads.TheConstants.{MOST_NUMBERS}
+use Rattle.hlc_core.specs.declared.fault.CoreFault.TheVariants.{TooManyNodes, BelowFloor}
+use Rattle.hlc_core.specs.Past.{Step, numbered, floor, horizon, stamp_of, join_refusal, join_at_refusal, open_refusal}
+use Rattle.hlc_core.specs.Past.{IsLegal as IsLegalPast}
+use Rattle.hlc_core.proofs.PastLemmas.{open-room, vacuum-none, horizon-low}
 use Rattle.hlc_core.specs.Calls.{list_refusal}
 use Rattle.hlc_core.specs.History.{step_of, with_step, past_of, IsDue, IsLegalHistory}
 use Rattle.hlc_world.specs.declared.event.Event.TheVariants.{Deliver, OpenAt, OpenFloor, Read, List as ListAll, Close}
@@ -50,6 +54,24 @@ no-list : (o : Option ℕ) → list_refusal o ≡ None → o ≡ None → ⊥
 no-list None h e = absurd (cc)
 no-list (Some stamp) h e = absurd (cc)
 
+-- a start that is not refused is not below the floor
+starts : (nodes : ℕ) (past : List Step) (start : ℕ) → join_at_refusal nodes past start ≡ None
+    → (join_refusal nodes past ≡ None) × (floor nodes past ≤ start)
+starts nodes past start none =
+    elim (cases_lt (numbered nodes past) MOST_NUMBERS) [
+      | inl few ↦
+          let f = lt-leb MOST_NUMBERS (numbered nodes past) few in (
+            cond-false _ _ _ f,
+            elim (cases_lt start (floor nodes past)) [
+              | inl below ↦ absurd (let e : Some (BelowFloor (floor nodes past)) ≡ None =
+                  sym (cond-true _ _ _ (lt-ltb start (floor nodes past) below)) ∙ sym (cond-false _ _ _ f) ∙ none in cc)
+              | inr up ↦ up
+            ],
+          )
+      | inr full ↦ absurd (let e : Some TooManyNodes ≡ None =
+          sym (cond-true _ _ _ (le-leb MOST_NUMBERS (numbered nodes past) full)) ∙ none in cc)
+    ]
+
 past-step : (nodes : ℕ) (past : List Step) (event : CoreEvent) (reply : CoreReply) → IsDue nodes past event reply
     → IsLegalPast nodes past → IsLegalPast nodes (with_step (step_of event reply) past)
 past-step nodes past (core_event.Accept item) (core_reply.Accepted acceptance) due legal = (due.0, legal)
@@ -57,11 +79,20 @@ past-step nodes past (core_event.OpenAt at) (core_reply.Opened id st) due legal 
     (subst (λ x. open_refusal nodes past x ≡ None) (sym due.1.1) due.0, legal)
 past-step nodes past core_event.OpenFloor (core_reply.Opened id st) due legal =
     let e : st ≡ floor nodes past = due.1.1 in
-    let low : horizon nodes past ≤ floor nodes past = horizon-low nodes past legal in
+    let low : horizon past ≤ floor nodes past = horizon-low nodes past legal in
     (open-room nodes past st (omega arith) (omega arith) ∙ due.0, legal)
 past-step nodes past (core_event.Close id) (core_reply.Closed st) due legal = (no-list (stamp_of id past) due.0, legal)
-past-step nodes past core_event.Join (core_reply.Joined node start) due legal = (due.0, due.1.0, due.1.1, legal)
-past-step nodes past core_event.Vacuum (core_reply.Vacuumed report) due legal = legal
+past-step nodes past core_event.Join (core_reply.Joined node start) due legal =
+    let e : start ≡ floor nodes past = due.1.1 in (due.0, due.1.0, omega arith, legal)
+past-step nodes past (core_event.JoinAt at) (core_reply.Joined node start) due legal =
+    let free = starts nodes past at due.0 in
+    let up : floor nodes past ≤ at = free.1 in
+    let e : start ≡ at = due.1.1 in (free.0, due.1.0, omega arith, legal)
+past-step nodes past core_event.Vacuum (core_reply.Vacuumed report) due legal =
+    let e : report.floor ≡ floor nodes past = due.1.at_stamp in
+    let low : horizon past ≤ floor nodes past = horizon-low nodes past legal in
+    (vacuum-none nodes past report.floor (omega arith) (omega arith), legal)
+past-step nodes past (core_event.VacuumTo at) (core_reply.Vacuumed report) due legal = (due.0, legal)
 past-step nodes past _ _ due legal = legal
 
 past-legal : (nodes : ℕ) (h : List (CoreEvent × CoreReply)) → IsLegalHistory nodes h → IsLegalPast nodes (past_of h)

@@ -31,7 +31,7 @@ opening-low : (past : List Step) (id stamp : ℕ) → opening id past ≡ Some s
 opening-low [] id stamp is = absurd (cc)
 opening-low (Took item ∷ past) id stamp is = opening-low past id stamp is
 opening-low (ClosedOf other ∷ past) id stamp is = opening-low past id stamp is
-opening-low (VacuumedOf ∷ past) id stamp is = opening-low past id stamp is
+opening-low (VacuumedOf at ∷ past) id stamp is = opening-low past id stamp is
 opening-low (JoinedOf node start ∷ past) id stamp is = opening-low past id stamp is
 opening-low (Opened at ∷ past) id stamp is =
     elim (cases_eq (opened past + 1) id) [
@@ -45,7 +45,7 @@ opening-stays : (step : Step) (past : List Step) (id stamp : ℕ) → opening id
     → opening id (step ∷ past) ≡ Some stamp
 opening-stays (Took item) past id stamp is = is
 opening-stays (ClosedOf other) past id stamp is = is
-opening-stays VacuumedOf past id stamp is = is
+opening-stays (VacuumedOf at) past id stamp is = is
 opening-stays (JoinedOf node start) past id stamp is = is
 opening-stays (Opened at) past id stamp is =
     cond-false _ _ _ (ne_eqb (opened past + 1) id
@@ -68,7 +68,7 @@ opening-here past id stamp is = cond-true _ _ _ (eq-eqb _ _ (sym is))
 open-opening : (past : List Step) (id stamp : ℕ) → stamp_of id past ≡ Some stamp → opening id past ≡ Some stamp
 open-opening [] id stamp is = absurd (cc)
 open-opening (Took item ∷ past) id stamp is = open-opening past id stamp is
-open-opening (VacuumedOf ∷ past) id stamp is = open-opening past id stamp is
+open-opening (VacuumedOf at ∷ past) id stamp is = open-opening past id stamp is
 open-opening (JoinedOf node start ∷ past) id stamp is = open-opening past id stamp is
 open-opening (Opened at ∷ past) id stamp is =
     elim (stamp_in-push_cases id stamp (record { id = opened past + 1; stamp = at }) (open_snapshots past) is) [

@@ -84,8 +84,8 @@ open-rise nodes past stamp head e =
           ap core_refusal (sym (cond-true _ _ _ above)) ∙ e in cc)
       | inr low ↦
           let e1 = ap core_refusal (sym (cond-false _ _ _ low)) ∙ e in
-          elim (cases_Bool (nat_lt stamp (horizon nodes past))) [
-            | inl below ↦ absurd (let g : Some (BelowHorizon (horizon nodes past)) ≡ Some (StampNotRising head) =
+          elim (cases_Bool (nat_lt stamp (horizon past))) [
+            | inl below ↦ absurd (let g : Some (BelowHorizon (horizon past)) ≡ Some (StampNotRising head) =
                 ap core_refusal (sym (cond-true _ _ _ below)) ∙ e1 in cc)
             | inr high ↦ room-rise (room_in (length (open_snapshots past)) (opened past)) head
                 (ap core_refusal (sym (cond-false _ _ _ high)) ∙ e1)

@@ -44,7 +44,8 @@ abbrev pub of_clock : ClockFault → Refusal
 of_clock clock_fault.ReadingTooLarge = ReadingTooLarge
 of_clock (clock_fault.CounterFull at) = CounterFull at
 
--- the core's fault, as a refusal
+-- The core's fault, as a refusal. No start is below the floor, since nodes join at it: the core never refuses that in a
+-- world, and a refusal says it by the same number.
 abbrev pub of_core : CoreFault → Refusal
 of_core core_fault.NoNode = NoNode
 of_core core_fault.Retired = Retired
@@ -55,6 +56,7 @@ of_core (core_fault.StampNotRising head) = StampNotRising head
 of_core (core_fault.BadBody fault) = of_body fault
 of_core (core_fault.AboveFloor floor) = AboveFloor floor
 of_core (core_fault.BelowHorizon horizon) = BelowHorizon horizon
+of_core (core_fault.BelowFloor floor) = BelowHorizon floor
 of_core core_fault.NoSnapshot = NoSnapshot
 of_core core_fault.TooManySnapshots = TooManySnapshots
 of_core core_fault.NoMemory = NoMemory
@@ -165,7 +167,7 @@ IsDueReply nodes schedule (Receive node reading message) (Received stamp) =
 IsDueReply nodes schedule (Observe node reading id) (Observed stamp) =
     IsObserved (stamp_of id (core_past schedule)) (last_stamp node schedule) reading stamp
 IsDueReply nodes schedule Floor (FloorIs stamp) = stamp ≡ floor nodes (core_past schedule)
-IsDueReply nodes schedule Rows (RowsAre count) = IsStoredCount nodes (core_past schedule) count
+IsDueReply nodes schedule Rows (RowsAre count) = IsStoredCount (core_past schedule) count
 IsDueReply nodes schedule event reply = IsOwed nodes (core_past schedule) (share schedule event reply)
 
 -- the store may want memory for what it is asked

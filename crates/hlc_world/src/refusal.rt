@@ -112,6 +112,8 @@ impl From<CoreFault> for Refusal {
             CoreFault::BadBody(fault) => Refusal::from(fault),
             CoreFault::AboveFloor { floor } => Refusal::AboveFloor { floor },
             CoreFault::BelowHorizon { horizon } => Refusal::BelowHorizon { horizon },
+            // Never in a world, whose nodes join at the floor.
+            CoreFault::BelowFloor { floor } => Refusal::BelowHorizon { horizon: floor },
             CoreFault::NoSnapshot => Refusal::NoSnapshot,
             CoreFault::TooManySnapshots => Refusal::TooManySnapshots,
             CoreFault::NoMemory => Refusal::NoMemory,

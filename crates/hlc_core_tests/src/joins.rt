@@ -1,7 +1,7 @@
-//! A store of nodes that join and retire, fed items that no world makes.
+//! A store of nodes that join, at the floor or at a stamp, and retire, fed items that no world makes.
 use crate::expected::must_be;
 use crate::items::{item, said, stamp};
-use hlc_core::{Body, Core, CoreFault, Item, NoNode};
+use hlc_core::{Body, Core, CoreFault, Item, NoNode, Stamp};
 use std::alloc::Global;
 use std::process::Abort;
 use std::test::*;
@@ -46,8 +46,37 @@ fn refuses<R: Abort>(rt: &R, core: &mut Core, item: Item, due: CoreFault) {
 /// A node joins, with this number and its start at a reading, and nothing of it was accepted.
 fn joins<R: Abort>(rt: &R, core: &mut Core, node: u16, start: u64) {
     must_be(rt, core.join(), Ok((node, stamp(start))));
+    is_last(rt, core, node);
+}
+
+/// The same of a node that joins where this start is asked for.
+fn joins_at<R: Abort>(rt: &R, core: &mut Core, node: u16, start: u64) {
+    must_be(rt, core.join_at(stamp(start)), Ok(node));
+    is_last(rt, core, node);
+}
+
+/// Nothing of this node was accepted, and there is none of the next number.
+fn is_last<R: Abort>(rt: &R, core: &Core, node: u16) {
     must_be(rt, core.count(node), Ok(0));
     must_be(rt, core.count(node.wrapping_add(1)), Err(NoNode));
+}
+
+/// No node joins at a reading, which is below the floor.
+fn is_below_the_floor<R: Abort>(rt: &R, core: &mut Core, start: u64, floor: u64) {
+    let below = CoreFault::BelowFloor {
+        floor: stamp(floor),
+    };
+    must_be(rt, core.join_at(stamp(start)), Err(below));
+    has_come_to(rt, core, floor);
+}
+
+/// The first item of a node is refused at the reading of its start, and taken one stamp above it.
+fn begins_above<R: Abort>(rt: &R, core: &mut Core, node: u16, start: u64) {
+    let rising = CoreFault::StampNotRising { head: stamp(start) };
+    refuses(rt, core, says((node, 0, start), Body::Report), rising);
+    let above = stamp(start).bits().wrapping_add(1);
+    let first = said((node, 0, above), Body::Report);
+    must_be(rt, told(core, first), (Ok(()), false));
 }
 
 /// The floor is at a reading.
@@ -85,6 +114,38 @@ fn join_and_retire<R: Abort>(rt: &R, alloc: Global, core: &mut Core) {
 }
 
 #[test]
+fn nodes_join_at_a_stamp(rt: HostRuntime) {
+    let mut core = Core::new(rt.alloc(), 1).expect(&rt, "a store");
+    join_above_the_floor(&rt, rt.alloc(), &mut core);
+    join_where_all_retired(&rt, &mut core);
+}
+
+/// The floor is at 5.0, and a node joins at 8.0. When the first one retires, the floor is its item at
+/// 8.1.
+fn join_above_the_floor<R: Abort>(rt: &R, alloc: Global, core: &mut Core) {
+    writes(rt, alloc, core, (0, 0, 5), b"x");
+    is_below_the_floor(rt, core, 4, 5);
+    joins_at(rt, core, 1, 8);
+    has_come_to(rt, core, 5);
+    begins_above(rt, core, 1, 8);
+    has_come_to(rt, core, 5);
+    retires(rt, core, (0, 1, 7));
+    must_be(rt, core.floor(), Stamp::from_bits(524_289));
+}
+
+/// The last node retires at 10.0, and the one that joins at 12.0 raises the floor.
+fn join_where_all_retired<R: Abort>(rt: &R, core: &mut Core) {
+    retires(rt, core, (1, 1, 10));
+    has_come_to(rt, core, 10);
+    is_below_the_floor(rt, core, 9, 10);
+    joins_at(rt, core, 2, 12);
+    has_come_to(rt, core, 12);
+    joins_at(rt, core, 3, 12);
+    begins_above(rt, core, 2, 12);
+    has_come_to(rt, core, 12);
+}
+
+#[test]
 fn a_store_has_1024_numbers(rt: HostRuntime) {
     let mut core = Core::new(rt.alloc(), 64).expect(&rt, "a store");
     take_all_numbers(&rt, &mut core);
@@ -96,6 +157,7 @@ fn take_all_numbers<R: Abort>(rt: &R, core: &mut Core) {
         must_be(rt, core.join(), Ok((number, stamp(0))));
     }
     must_be(rt, core.join(), Err(CoreFault::TooManyNodes));
+    must_be(rt, core.join_at(stamp(0)), Err(CoreFault::TooManyNodes));
     must_be(rt, core.count(1_023), Ok(0));
     must_be(rt, core.count(1_024), Err(NoNode));
 }

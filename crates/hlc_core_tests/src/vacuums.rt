@@ -9,7 +9,7 @@ use std::process::Abort;
 use std::test::*;
 
 /// The store takes a node's write of key `a` at a reading, or a deletion where there is no value.
-fn takes<R: Abort>(
+pub(crate) fn takes<R: Abort>(
     rt: &R,
     alloc: Global,
     core: &mut Core,
@@ -35,8 +35,7 @@ fn witness<R: Abort>(rt: &R, alloc: Global, before: Option<u64>, at: u64) -> Wit
     }
 }
 
-/// The report of a vacuum. It has this floor, this number of rows kept with what they cost, and this
-/// number of rows dropped, and its certificate shows that number and that cost.
+/// The report of a vacuum to the floor, of which that holds.
 fn leaves<R: Abort>(
     rt: &R,
     core: &mut Core,
@@ -45,11 +44,24 @@ fn leaves<R: Abort>(
     dropped: u128,
 ) -> Report {
     let report = core.vacuum().expect(rt, "memory");
+    reports(rt, core, &report, floor, kept, dropped);
+    report
+}
+
+/// The report of the last vacuum has this floor, this number of rows kept with what they cost, and this
+/// number of rows dropped, and its certificate shows that number and that cost.
+pub(crate) fn reports<R: Abort>(
+    rt: &R,
+    core: &Core,
+    report: &Report,
+    floor: u64,
+    kept: (u64, u128),
+    dropped: u128,
+) {
     must_be(rt, (report.kept, report.bytes), kept);
     must_be(rt, (report.floor, report.dropped), (stamp(floor), dropped));
     must_be(rt, core.horizon(), stamp(floor));
-    is_certified(rt, core, &report);
-    report
+    is_certified(rt, core, report);
 }
 
 /// The certificate of a report shows how many rows were kept, and what they cost.
@@ -80,7 +92,7 @@ fn take_three<R: Abort>(
 }
 
 /// A snapshot opens at a reading, with this id.
-fn opens<R: Abort>(rt: &R, core: &mut Core, reading: u64, id: u64) {
+pub(crate) fn opens<R: Abort>(rt: &R, core: &mut Core, reading: u64, id: u64) {
     must_be(rt, core.open(stamp(reading)), Ok(id));
 }
 
@@ -91,7 +103,12 @@ fn least_rows<R: Abort>(rt: &R, core: &mut Core, count: u64) {
 }
 
 /// The report has these changes of key `a` as its witnesses, and no others.
-fn has_changes<R: Abort>(rt: &R, alloc: Global, report: &Report, changes: &[(Option<u64>, u64)]) {
+pub(crate) fn has_changes<R: Abort>(
+    rt: &R,
+    alloc: Global,
+    report: &Report,
+    changes: &[(Option<u64>, u64)],
+) {
     assert!(rt; report.witnesses.len() == changes.len());
     for (place, change) in changes.iter().enumerate() {
         let due = witness(rt, alloc, change.0, change.1);
