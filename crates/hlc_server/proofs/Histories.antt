@@ -7,8 +7,13 @@ use Rattle.std.specs.Prelude.{if◌then◌else◌}
 use Rattle.std.specs.Option.{ForSome}
 use Rattle.hlc_core.specs.declared.event.CoreEvent.{CoreEvent}
 use Rattle.hlc_core.specs.declared.reply.CoreReply.{CoreReply}
-use Rattle.hlc_core.specs.Kept.{Kept, StandsFor}
-use Rattle.hlc_core.specs.History.{StandsForHistory, IsStep}
+use Rattle.hlc_vacuum.specs.declared.report.Report.{Report}
+use Rattle.hlc_core.specs.declared.event.CoreEvent.TheVariants.{VacuumTo}
+use Rattle.hlc_core.specs.declared.reply.CoreReply.TheVariants.{Vacuumed}
+use Rattle.hlc_core.specs.Past.{vacuum_refusal}
+use Rattle.hlc_core.specs.Kept.{Kept, nodes, StandsFor}
+use Rattle.hlc_core.specs.Calls.{Vacuums}
+use Rattle.hlc_core.specs.History.{StandsForHistory, IsStep, IsDue, IsLegalHistory, past_of}
 use Rattle.hlc_server.specs.declared.entry.Entry.{Entry}
 use Rattle.hlc_server.specs.Trails.{history_after, history_of, IsAudited, HasHistory, entry, with_entry, entries_of}
 use Rattle.hlc_server.specs.declared.trail.Trail.{Trail}
@@ -73,3 +78,16 @@ audited_first core audit trail total stands is none = λ t some. first t (sym so
         let empty : t ≡ [] = cond-empty audit t are in
         subst (λ l. IsAudited core l total) (sym empty)
         (record { legal = tt; stands = record { legal = tt; core = stands }; counted = sym none })
+
+-- A vacuum to a stamp is a step of each history that the core stood for.
+pub vacuum_is_step : (old new : Kept) (at : ℕ) (history : List (CoreEvent × CoreReply)) (report : Report)
+    → nodes new ≡ nodes old → StandsForHistory old history → vacuum_refusal (nodes old) (past_of history) at ≡ None
+    → Vacuums old new at (past_of history) report → IsStep old new (VacuumTo at) history (Vacuumed report)
+vacuum_is_step old new at history report same stands none made = (
+  (none, made.due),
+  record {
+    legal = subst (λ n. IsDue n (past_of history) (VacuumTo at) (Vacuumed report) × IsLegalHistory n history) (sym same)
+        ((none, made.due), stands.legal);
+    core = made.stands;
+  },
+)

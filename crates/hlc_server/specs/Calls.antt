@@ -69,3 +69,13 @@ abbrev pub Enters : Kept → Kept → Option (List Entry) → Option (List Entry
 Enters old new before after caller event made =
     MatchResult made (λ reply. IsEntered old new before after caller event reply)
     (λ lack. (new ≡ old) × (after ≡ before))
+
+-- A call of the core was made, and its reply, which has the event's form, was made twice: after each history that the
+-- core stood for, the reply is due and the core stands for the history with it. Without memory nothing changed.
+abbrev pub RepliesTwice : Kept → Kept → CoreEvent → Result (CoreReply × CoreReply) AllocError → Type 0
+RepliesTwice old new event made =
+    MatchResult made
+    (λ replies. (replies.0 ≡ replies.1) × IsReplyTo event replies.0
+    × ((history : List (CoreEvent × CoreReply)) → StandsForHistory old history
+    → IsStep old new event history replies.0))
+    (λ lack. new ≡ old)

@@ -1,20 +1,22 @@
 //! What lies under the lock, and the calls there.
-ghost use Rattle.std.specs.Prelude.{◌≡◌, ◌≢◌, ◌<◌, ◌≤◌, ◌+◌, ◌-◌, ◌^◌, [], ⊤, Some, None, IfOk};
-ghost use Rattle.std.specs.Prelude.{MatchResult, map, if◌then◌else◌};
+ghost use Rattle.std.specs.Prelude.{◌≡◌, ◌≢◌, ◌<◌, ◌≤◌, ◌+◌, ◌-◌, ◌^◌, [], ⊤, ℕ, Some, None, IfOk};
+ghost use Rattle.std.specs.Prelude.{MatchResult, OnErr, map, if◌then◌else◌};
 ghost use Rattle.std.specs.Option.{ForSome};
 ghost use Rattle.std.specs.List.{range_with_len};
 ghost use Rattle.hlc_core.specs.Kept.{nodes as nodes_of};
 ghost use Rattle.hlc_core.specs.Calls.{new_refusal, IsRefusal};
-ghost use Rattle.hlc_core.specs.History.{StandsForHistory};
+ghost use Rattle.hlc_core.specs.History.{StandsForHistory, IsVacuum};
 ghost use Rattle.hlc_core.specs.declared.event.CoreEvent.{CoreEvent as AnEvent};
+ghost use Rattle.hlc_core.specs.declared.reply.CoreReply.{CoreReply as AReply};
+ghost use Rattle.hlc_core.specs.declared.fault.CoreFault.{CoreFault as AFault};
 ghost use Rattle.hlc_server.specs.Seats.{fresh_seat};
 ghost use Rattle.hlc_server.specs.Trails.{IsAudited, HasHistory, entries_of};
-ghost use Rattle.hlc_server.specs.Calls.{IsToldFor, Holds, Enters};
+ghost use Rattle.hlc_server.specs.Calls.{IsToldFor, Holds, Enters, RepliesTwice};
 
 use crate::caller::Caller;
 use crate::entry::{Entry, NotDone, Receipt};
 use crate::trail::Trail;
-use hlc_core::{Core, CoreEvent, CoreFault, CoreReply, NoMemory};
+use hlc_core::{Core, CoreEvent, CoreFault, CoreReply, NoMemory, Stamp};
 use std::alloc::Global;
 use std::marker::Model;
 use std::sync::ledger::{Blank, Book, Ledger, Share};
@@ -187,6 +189,38 @@ pub fn vacuum_guarded<L: Ledger>(
     }
 }
 
+/// The same for a vacuum to a stamp, which is planned by several threads.
+pub fn vacuum_to_guarded<L: Ledger>(
+    rt: &(impl Threads + Sync),
+    guarded: &mut Guarded<L>,
+    caller: Caller<L>,
+    at: Stamp,
+) -> (Caller<L>, Result<Receipt, (NotDone, CoreEvent)>)
+    ensures held { Holds guarded.old guarded.new (AnEvent.VacuumTo at) result.1 }
+    ensures told { IsToldFor caller (AnEvent.VacuumTo at) result }
+{
+    if guarded.calls == u64::MAX {
+        return (
+            caller,
+            Err((NotDone::NumbersSpent, CoreEvent::VacuumTo(at))),
+        );
+    }
+    let by = caller.number;
+    match make_vacuum_to(rt, &mut guarded.core, &mut guarded.trail, by, at) {
+        Ok(reply) => {
+            let (caller, number) = count_call(&mut guarded.calls, &mut guarded.book, caller);
+            let receipt = Receipt {
+                caller: by,
+                number,
+                event: CoreEvent::VacuumTo(at),
+                reply,
+            };
+            (caller, Ok(receipt))
+        }
+        Err(_) => (caller, Err((NotDone::NoMemory, CoreEvent::VacuumTo(at)))),
+    }
+}
+
 /// Counts a call of a caller, and gives the number of the calls before.
 fn count_call<L: Ledger>(calls: &mut u64, book: &mut Book<L>, caller: Caller<L>) -> (Caller<L>, u64)
     requires { calls.old < 2 ^ 64 - 1 }
@@ -212,6 +246,7 @@ fn make_call(
     caller: u16,
     event: &CoreEvent,
 ) -> Result<CoreReply, NoMemory>
+    requires { (calls : ℕ) × HasHistory core.old calls }
     ensures { Enters core.old core.new (entries_of trail.old) (entries_of trail.new)
         caller event.now result }
 {
@@ -219,6 +254,7 @@ fn make_call(
         None => core.step_ref(event),
         Some(trail) => match event {
             CoreEvent::Vacuum => write_vacuum(core, trail, caller),
+            CoreEvent::VacuumTo(at) => write_vacuum_to(core, trail, caller, *at),
             _ => write_call(core, trail, caller, event),
         },
     }
@@ -232,7 +268,7 @@ fn write_call(
     caller: u16,
     event: &CoreEvent,
 ) -> Result<CoreReply, NoMemory>
-    requires { event.now ≢ AnEvent.Vacuum }
+    requires { IsVacuum event.now → ⊥ }
     ensures { Enters core.old core.new (Some trail.old.entries.items) (Some trail.new.entries.items)
         caller event.now result }
 {
@@ -269,6 +305,65 @@ fn write_vacuum(core: &mut Core, trail: &mut Trail, caller: u16) -> Result<CoreR
         reply: CoreReply::Vacuumed(told),
     });
     Ok(CoreReply::Vacuumed(report))
+}
+
+/// Vacuums the core to a stamp, and makes the entry of that. Both replies are made before anything
+/// changes.
+fn write_vacuum_to(
+    core: &mut Core,
+    trail: &mut Trail,
+    caller: u16,
+    at: Stamp,
+) -> Result<CoreReply, NoMemory>
+    requires { (calls : ℕ) × HasHistory core.old calls }
+    ensures { Enters core.old core.new (Some trail.old.entries.items) (Some trail.new.entries.items)
+        caller (AnEvent.VacuumTo at) result }
+{
+    let Ok(()) = trail.entries.reserve(1) else {
+        return Err(NoMemory);
+    };
+    let (reply, copy) = vacuum_twice_to(core, at)?;
+    trail.entries.push_reserved(Entry {
+        caller,
+        event: CoreEvent::VacuumTo(at),
+        reply: copy,
+    });
+    Ok(reply)
+}
+
+/// Vacuums the core to a stamp, and makes the reply twice.
+fn vacuum_twice_to(core: &mut Core, at: Stamp) -> Result<(CoreReply, CoreReply), NoMemory>
+    requires { (calls : ℕ) × HasHistory core.old calls }
+    ensures { RepliesTwice core.old core.new (AnEvent.VacuumTo at) result }
+{
+    match core.vacuum_pair_to(at) {
+        Ok((report, copy)) => Ok((CoreReply::Vacuumed(report), CoreReply::Vacuumed(copy))),
+        Err(fault) => refuse_twice(fault),
+    }
+}
+
+/// A refusal as the reply to a call. Out of memory is no reply: then no call was made.
+fn refuse(fault: CoreFault) -> Result<CoreReply, NoMemory>
+    ensures ok { IfOk result
+        (λ reply. (reply ≡ AReply.Refused fault) × (fault ≢ AFault.NoMemory)) }
+    ensures err { OnErr result (fault ≡ AFault.NoMemory) }
+{
+    match fault {
+        CoreFault::NoMemory => Err(NoMemory),
+        fault => Ok(CoreReply::Refused(fault)),
+    }
+}
+
+/// The same, and a copy of it.
+fn refuse_twice(fault: CoreFault) -> Result<(CoreReply, CoreReply), NoMemory>
+    ensures { IfOk result (λ replies. (replies.0 ≡ AReply.Refused fault)
+        × (replies.1 ≡ AReply.Refused fault) × (fault ≢ AFault.NoMemory)) }
+{
+    let reply = refuse(fault)?;
+    let Ok(copy) = reply.clone() else {
+        return Err(NoMemory);
+    };
+    Ok((reply, copy))
 }
 
 /// Vacuums the core by a plan of several threads, and writes that into the trail.
@@ -310,4 +405,64 @@ fn write_parallel_vacuum(
         reply: CoreReply::Vacuumed(copy),
     });
     Ok(CoreReply::Vacuumed(report))
+}
+
+/// Vacuums the core to a stamp by a plan of several threads, and writes that into the trail.
+fn make_vacuum_to(
+    rt: &(impl Threads + Sync),
+    core: &mut Core,
+    trail: &mut Option<Trail>,
+    caller: u16,
+    at: Stamp,
+) -> Result<CoreReply, NoMemory>
+    requires { (calls : ℕ) × HasHistory core.old calls }
+    ensures { Enters core.old core.new (entries_of trail.old) (entries_of trail.new)
+        caller (AnEvent.VacuumTo at) result }
+{
+    match trail {
+        None => match core.vacuum_to_parallel(rt, at) {
+            Ok(report) => Ok(CoreReply::Vacuumed(report)),
+            Err(fault) => refuse(fault),
+        },
+        Some(trail) => write_parallel_vacuum_to(rt, core, trail, caller, at),
+    }
+}
+
+/// The same as `write_vacuum_to`, by a plan of several threads.
+fn write_parallel_vacuum_to(
+    rt: &(impl Threads + Sync),
+    core: &mut Core,
+    trail: &mut Trail,
+    caller: u16,
+    at: Stamp,
+) -> Result<CoreReply, NoMemory>
+    requires { (calls : ℕ) × HasHistory core.old calls }
+    ensures { Enters core.old core.new (Some trail.old.entries.items) (Some trail.new.entries.items)
+        caller (AnEvent.VacuumTo at) result }
+{
+    let Ok(()) = trail.entries.reserve(1) else {
+        return Err(NoMemory);
+    };
+    let (reply, copy) = vacuum_twice_to_parallel(rt, core, at)?;
+    trail.entries.push_reserved(Entry {
+        caller,
+        event: CoreEvent::VacuumTo(at),
+        reply: copy,
+    });
+    Ok(reply)
+}
+
+/// The same as `vacuum_twice_to`, by a plan of several threads.
+fn vacuum_twice_to_parallel(
+    rt: &(impl Threads + Sync),
+    core: &mut Core,
+    at: Stamp,
+) -> Result<(CoreReply, CoreReply), NoMemory>
+    requires { (calls : ℕ) × HasHistory core.old calls }
+    ensures { RepliesTwice core.old core.new (AnEvent.VacuumTo at) result }
+{
+    match core.vacuum_pair_to_parallel(rt, at) {
+        Ok((report, copy)) => Ok((CoreReply::Vacuumed(report), CoreReply::Vacuumed(copy))),
+        Err(fault) => refuse_twice(fault),
+    }
 }

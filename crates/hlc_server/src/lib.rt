@@ -13,7 +13,7 @@ mod trail;
 
 pub use caller::Caller;
 pub use entry::{Entry, NotDone, Receipt};
-pub use guarded::{Guarded, step_guarded, vacuum_guarded};
+pub use guarded::{Guarded, step_guarded, vacuum_guarded, vacuum_to_guarded};
 pub use hlc_core::{Bytes, Core, CoreEvent, CoreReply, Item, Stamp};
 pub use settle::{SettleFault, Settled, settle_guarded};
 pub use shared::Shared;

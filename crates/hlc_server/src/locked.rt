@@ -6,8 +6,8 @@ ghost use Rattle.hlc_server.specs.Calls.{IsToldFor, Holds};
 
 use crate::caller::Caller;
 use crate::entry::{NotDone, Receipt};
-use crate::guarded::{Guarded, step_guarded, vacuum_guarded};
-use hlc_core::CoreEvent;
+use crate::guarded::{Guarded, step_guarded, vacuum_guarded, vacuum_to_guarded};
+use hlc_core::{CoreEvent, Stamp};
 use std::sync::ledger::Ledger;
 use std::thread::Threads;
 
@@ -41,5 +41,17 @@ impl<L: Ledger, const TRAILS: usize> Locked<L, TRAILS> {
         ensures told { IsToldFor caller AnEvent.Vacuum result }
     {
         vacuum_guarded(rt, &mut self.guarded, caller)
+    }
+    /// Vacuums to a stamp by a plan of several threads.
+    pub(crate) fn vacuum_to(
+        &mut self,
+        rt: &(impl Threads + Sync),
+        caller: Caller<L>,
+        at: Stamp,
+    ) -> (Caller<L>, Result<Receipt, (NotDone, CoreEvent)>)
+        ensures held { Holds self.old.guarded self.new.guarded (AnEvent.VacuumTo at) result.1 }
+        ensures told { IsToldFor caller (AnEvent.VacuumTo at) result }
+    {
+        vacuum_to_guarded(rt, &mut self.guarded, caller, at)
     }
 }

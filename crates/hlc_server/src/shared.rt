@@ -79,8 +79,8 @@ impl<L: Ledger> Shared<L> {
         lock.into_inner()
     }
 
-    /// Makes the call that an event asks for. A vacuum is planned by this thread alone; `vacuum` plans
-    /// it by several.
+    /// Makes the call that an event asks for. A vacuum is planned by this thread alone; `vacuum` and
+    /// `vacuum_to` plan it by several.
     pub fn step<R: Wait>(
         &self,
         rt: &R,
@@ -117,6 +117,23 @@ impl<L: Ledger> Shared<L> {
         ensures { IsToldFor caller AnEvent.Join result }
     {
         self.step(rt, caller, CoreEvent::Join)
+    }
+
+    /// Lets a node join at a stamp, where its clock starts. The reply tells its number and that start:
+    /// from them the node's side is made, as after `join`. Its items at or below the start are refused.
+    ///
+    /// The reply is a refusal, in this order: 1,024 node numbers were given already; the start is below
+    /// the floor. A refusal leaves the store unchanged but for its trail, and out of memory no call is
+    /// made.
+    pub fn join_at<R: Wait>(
+        &self,
+        rt: &R,
+        caller: Caller<L>,
+        start: Stamp,
+    ) -> (Caller<L>, Result<Receipt, (NotDone, CoreEvent)>)
+        ensures { IsToldFor caller (AnEvent.JoinAt start) result }
+    {
+        self.step(rt, caller, CoreEvent::JoinAt(start))
     }
 
     /// Opens a snapshot at a stamp.
@@ -191,6 +208,25 @@ impl<L: Ledger> Shared<L> {
         match &self.lock {
             StoreLock::Audited(lock) => lock.lock(rt).vacuum(rt, caller),
             StoreLock::Plain(lock) => lock.lock(rt).vacuum(rt, caller),
+        }
+    }
+    /// Drops the rows at or below a stamp that no reader needs, by a plan of several threads. The lock is
+    /// held all the while. The rows above the stamp stay, and snapshots can be opened from it on.
+    ///
+    /// The reply is a refusal, in this order: the stamp is above the floor; it is below the horizon, the
+    /// stamp of the last vacuum. A refusal leaves the store unchanged but for its trail, and out of
+    /// memory no call is made.
+    pub fn vacuum_to<R: Wait + Threads + Sync>(
+        &self,
+        rt: &R,
+        caller: Caller<L>,
+        at: Stamp,
+    ) -> (Caller<L>, Result<Receipt, (NotDone, CoreEvent)>)
+        ensures { IsToldFor caller (AnEvent.VacuumTo at) result }
+    {
+        match &self.lock {
+            StoreLock::Audited(lock) => lock.lock(rt).vacuum_to(rt, caller, at),
+            StoreLock::Plain(lock) => lock.lock(rt).vacuum_to(rt, caller, at),
         }
     }
 }

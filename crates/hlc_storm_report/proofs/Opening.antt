@@ -11,7 +11,7 @@ use Rattle.hlc_core.specs.Past.{Step, Took, Opened, Closed, Vacuumed, Joined, op
 ids_low : (past : List Step) → All (λ (s : Snapshot). s.id ≤ opened past) (open_snapshots past)
 ids_low [] = All-nil (λ (s : Snapshot). s.id ≤ 0)
 ids_low (Took item ∷ past) = ids_low past
-ids_low (Vacuumed ∷ past) = ids_low past
+ids_low (Vacuumed at ∷ past) = ids_low past
 ids_low (Joined node start ∷ past) = ids_low past
 ids_low (Closed id ∷ past) =
     All-filter (λ (s : Snapshot). not (s.id == id)) (λ (s : Snapshot). s.id ≤ opened past)

@@ -16,14 +16,14 @@ use Rattle.hlc_storm_report.specs.declared.report.StormFault.TheVariants.{Work, 
 use Rattle.hlc_workers.specs.declared.room.WorkEnd.TheVariants.{Done}
 
 -- Of a past of a core of so many nodes: the number of accepted items of each node of the plan, the floor, the keys that
--- have a value there, with the newest accepted one, and the rows that a vacuum keeps,
--- made once the snapshot of the listing is closed.
+-- have a value there, with the newest accepted one, and the rows that a vacuum to the floor keeps, made once the
+-- snapshot of the listing is closed.
 pub record IsFoundIn (plan : StormPlan) (nodes : ℕ) (past : List Step) (report : StormReport) : Type 0 where
   pub accepted : report.accepted.items ≡ map (λ node. count node past) (range_with_len 0 plan.nodes)
   pub floor : report.floor ≡ floor nodes past
   pub pairs : IsListing (writes past) report.floor report.pairs
   pub vacuum : Report
-  pub due : IsReport nodes (Closed (opened past + 1) ∷ Opened report.floor ∷ past) vacuum
+  pub due : IsReport report.floor (Closed (opened past + 1) ∷ Opened report.floor ∷ past) vacuum
   pub kept : report.kept ≡ vacuum.kept
 
 -- why a storm may have no report: for no worker that was done, and never for want of a trail, since it keeps one

@@ -65,11 +65,12 @@ fn listed_at_floor(core: &mut Core) -> Result<(Stamp, Listing), StormFault>
     Ok((floor, pairs))
 }
 
-/// How many rows a vacuum keeps.
+/// How many rows a vacuum to the floor keeps.
 fn kept_by_vacuum(core: &mut Core) -> Result<u64, StormFault>
     ensures kept { IfOk result
         (λ kept. (past : List Step) → StandsFor core.old past
-        → (report : AReport) × IsReport (nodes core.old) past report × (kept ≡ report.kept)) }
+        → (report : AReport) × IsReport (floor (nodes core.old) past) past report
+        × (kept ≡ report.kept)) }
     ensures memory { IfErr result (λ fault. fault ≡ StormFault.NoMemory) }
 {
     match core.vacuum() {

@@ -1,7 +1,7 @@
 -- Each call says what it did to the past that the core stood for before it: the listing at the floor, and then the
 -- vacuum.
-use Rattle.std.proofs.Common.{◌+◌, ◌∷◌, subst}
-use Rattle.hlc_core.specs.Past.{Opened, Closed, opened}
+use Rattle.std.proofs.Common.{◌+◌, ◌∷◌, ◌∙◌, ap, sym, subst}
+use Rattle.hlc_core.specs.Past.{Opened, Closed, floor, opened}
 use Rattle.hlc_core.specs.Stored.{IsReport}
 use Rattle.hlc_storm_report.proofs.found.found_in.Goals as goal
 
@@ -14,7 +14,7 @@ returns-clause-found c past stands =
       floor = listed.0;
       pairs = listed.1;
       vacuum = made.0;
-      due = subst (λ n. IsReport n (Closed (opened past + 1) ∷ Opened c.in_ok-listed.listed.0 ∷ past) made.0)
-          c.in_ok-listed.ensures.nodes made.1;
+      due = subst (λ at. IsReport at (Closed (opened past + 1) ∷ Opened c.in_ok-listed.listed.0 ∷ past) made.0)
+          (ap (λ n. floor n past) c.in_ok-listed.ensures.nodes ∙ sym listed.0) made.1;
       kept = made.2;
     }
