@@ -1,11 +1,20 @@
-//! The small caller of the page of `hlc_core`, with what it may rely on.
-ghost use Rattle.std.specs.Prelude.{◌≡◌, List, length, IfOk, IsOkAnd};
+//! The small callers of the pages of `hlc_checkpoint` and `hlc_core`, each with what it may rely on.
+ghost use Rattle.std.specs.Prelude.{◌≡◌, true, List, length, IfOk, IsOkAnd};
+ghost use Rattle.hlc_checkpoint.specs.Checkpoint.{IsCheckpoint};
 ghost use Rattle.hlc_vacuum.specs.Vacuumed.{rows_to};
 ghost use Rattle.hlc_core.specs.Past.{Step, floor};
 ghost use Rattle.hlc_core.specs.Kept.{nodes, StandsFor};
 
+use hlc_checkpoint::Checkpoint;
 use hlc_core::{Core, NoMemory};
 use hlc_witness::{NotShown, Shown, check};
+
+/// Whether this is a checkpoint, so that a store is restored from it where there is memory.
+pub(crate) fn is_checkpoint(checkpoint: &Checkpoint) -> bool
+    ensures { result ≡ true → IsCheckpoint checkpoint.now }
+{
+    checkpoint.fault().is_none()
+}
 
 /// Vacuums a store, and checks by the report alone that the rows left up to its floor are the
 /// fewest, and the cheapest. They always are.

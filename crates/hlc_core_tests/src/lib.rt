@@ -1,9 +1,12 @@
-//! Tests of the store alone, by the public calls of `Core`: vacuums to the floor and to a stamp below it, and nodes that
-//! join and retire; and the small caller of the page of `hlc_core`. There is nothing else here.
+//! Tests of the store alone, by the public calls of `Core`: vacuums to the floor and to a stamp below it, and nodes
+//! that join and retire; and the small callers of the pages of `hlc_checkpoint` and `hlc_core`. There is nothing else
+//! here.
 #![tactic(auto)]
 
 #[cfg(test)]
 mod callers;
+#[cfg(test)]
+mod checkpoints;
 #[cfg(test)]
 mod expected;
 #[cfg(test)]

@@ -1,11 +1,10 @@
 //! The small callers, called.
 use crate::callers::{
-    admit_twice, are_equal, deliver_twice, is_checkpoint, is_complete, least_count, open_twice,
-    two_events, write_of,
+    admit_twice, are_equal, deliver_twice, is_complete, least_count, open_twice, two_events,
+    write_of,
 };
 use crate::expected::must_be;
 use crate::makers::bytes;
-use hlc_checkpoint::Checkpoint;
 use hlc_clock::{Clock, Stamp};
 use hlc_heads::Heads;
 use hlc_intake::{Intake, LinkFault};
@@ -80,19 +79,6 @@ fn two_snapshots_at_one_stamp(rt: HostRuntime) {
         open_twice(&mut registry, Stamp::from_bits(1)),
         Ok((1, 2)),
     );
-}
-
-#[test]
-fn a_checkpoint_has_nodes(rt: HostRuntime) {
-    let links = vec![in rt.alloc(); Intake::new(); 1].expect(&rt, "memory");
-    assert!(rt; is_checkpoint(&of_links(rt.alloc(), 1, links)));
-    assert!(rt; !is_checkpoint(&of_links(rt.alloc(), 0, Vec::new(rt.alloc()))));
-}
-
-/// So many nodes with these links, and nothing else.
-fn of_links(alloc: Global, start: u16, links: Vec<Intake>) -> Checkpoint {
-    let horizon = Stamp::from_bits(0);
-    Checkpoint::of(start, links, Vec::new(alloc), 0, horizon, Vec::new(alloc))
 }
 
 #[test]

@@ -1,10 +1,9 @@
-//! The small callers of the pages of values, clock, node, link, floor, snapshot, witness, lanes, columns, vacuum,
-//! checkpoint and world, each with what it may rely on.
+//! The small callers of the pages of values, clock, node, link, floor, snapshot, witness, lanes, columns, vacuum and
+//! world, each with what it may rely on.
 ghost use Rattle.std.specs.Prelude.{ℕ, ◌≡◌, ◌<◌, ◌≤◌, ◌↔◌, ◌+◌, ◌++◌, ◌∷◌, []};
 ghost use Rattle.std.specs.Prelude.{List, None, Some, true};
 ghost use Rattle.std.specs.Prelude.{length, false, IsTrue, IfOk, IfSome, IsErr, OnOk, count_by, nat_le};
 ghost use Rattle.std.specs.List.Sorted.{IsPermutation};
-ghost use Rattle.hlc_checkpoint.specs.Checkpoint.{IsCheckpoint};
 ghost use Rattle.hlc_clock.specs.Points.{PointsAscend};
 ghost use Rattle.hlc_heads.specs.Heads.{head_at};
 ghost use Rattle.hlc_node.specs.Items.{body_refusal};
@@ -16,7 +15,6 @@ ghost use Rattle.hlc_world.specs.Schedule.{Event as AnEvent};
 ghost use Rattle.hlc_world.specs.declared.reply.Reply.{Reply as AReply};
 ghost use Rattle.hlc_world.specs.State.{StandsFor};
 
-use hlc_checkpoint::Checkpoint;
 use hlc_clock::{Clock, ClockFault, Stamp};
 use hlc_columns::Table;
 use hlc_heads::Heads;
@@ -86,13 +84,6 @@ pub(crate) fn open_twice(registry: &mut Registry, stamp: Stamp) -> Result<(u64, 
     let first = registry.open(stamp)?;
     let second = registry.open(stamp)?;
     Ok((first, second))
-}
-
-/// Whether this is a checkpoint, so that a store is restored from it where there is memory.
-pub(crate) fn is_checkpoint(checkpoint: &Checkpoint) -> bool
-    ensures { result ≡ true → IsCheckpoint checkpoint.now }
-{
-    checkpoint.fault().is_none()
 }
 
 /// Delivers an item twice, and gives both replies.
