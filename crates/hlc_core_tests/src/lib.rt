@@ -1,6 +1,6 @@
 //! Tests of the store alone, by the public calls of `Core`: vacuums to the floor and to a stamp below it, and nodes
-//! that join and retire; and the small callers of the pages of `hlc_checkpoint` and `hlc_core`. There is nothing
-//! else here.
+//! that join and retire; and the small callers of the pages of `hlc_checkpoint` and `hlc_core`. There is nothing else
+//! here.
 #![tactic(auto)]
 
 #[cfg(test)]
