@@ -32,6 +32,8 @@ fn call<L: Ledger, R: Wait + Threads + Sync>(
         CoreEvent::List(id) => shared.list(rt, caller, id),
         CoreEvent::Close(id) => shared.close(rt, caller, id),
         CoreEvent::Vacuum => shared.vacuum(rt, caller),
+        CoreEvent::JoinAt(start) => shared.join_at(rt, caller, start),
+        CoreEvent::VacuumTo(at) => shared.vacuum_to(rt, caller, at),
     }
 }
 

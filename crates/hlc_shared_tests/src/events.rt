@@ -61,9 +61,9 @@ fn lists<R: Abort>(rt: &R, alloc: Global, core: &mut Core, id: u64) {
     );
 }
 
-/// A vacuum at 1.0 keeps that row, and drops none.
-fn vacuums<R: Abort>(rt: &R, core: &mut Core) {
-    match reply(rt, core, CoreEvent::Vacuum) {
+/// This vacuum, at 1.0, keeps that row, and drops none.
+fn vacuums<R: Abort>(rt: &R, core: &mut Core, event: CoreEvent) {
+    match reply(rt, core, event) {
         CoreReply::Vacuumed(report) => {
             must_be(
                 rt,
@@ -92,6 +92,15 @@ fn each_event_gets_its_reply(rt: HostRuntime) {
     replies(
         &rt,
         &mut core,
+        CoreEvent::JoinAt(at_second(2)),
+        CoreReply::Joined {
+            node: 2,
+            start: at_second(2),
+        },
+    );
+    replies(
+        &rt,
+        &mut core,
         CoreEvent::OpenAt(stamp),
         CoreReply::Opened { id: 1, stamp },
     );
@@ -109,7 +118,8 @@ fn each_event_gets_its_reply(rt: HostRuntime) {
         CoreEvent::Close(2),
         CoreReply::Closed(stamp),
     );
-    vacuums(&rt, &mut core);
+    vacuums(&rt, &mut core, CoreEvent::Vacuum);
+    vacuums(&rt, &mut core, CoreEvent::VacuumTo(stamp));
 }
 
 /// The node's next write is accepted.

@@ -21,6 +21,8 @@ mod joins;
 mod links;
 pub mod makers;
 #[cfg(test)]
+mod stamps;
+#[cfg(test)]
 mod threads;
 #[cfg(test)]
 mod vacuums;

@@ -27,7 +27,7 @@ fn lists_and_closes<L: Ledger, R: Wait + Threads + Abort + Sync>(
 }
 
 /// Reads the key `k` in a snapshot, and looks whether its value is this number.
-fn shows<L: Ledger, R: Wait + Threads + Abort + Sync>(
+pub(crate) fn shows<L: Ledger, R: Wait + Threads + Abort + Sync>(
     rt: &R,
     alloc: Global,
     shared: &Shared<L>,

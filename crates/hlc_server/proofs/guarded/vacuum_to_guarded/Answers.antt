@@ -17,5 +17,6 @@ invariant_of-guarded g c =
           c.count_call-caller.new.book.total
           c.guarded.invariant.1 c.in-Ok.ensures.trail c.in-Ok.ensures.step total,
       history_more c.guarded.inside.core c.make_vacuum_to.new.core (VacuumTo c.args.at) c.in-Ok.reply
-          c.guarded.inside.book.total c.count_call-caller.new.book.total c.guarded.invariant.2 c.in-Ok.ensures.step total,
+          c.guarded.inside.book.total c.count_call-caller.new.book.total c.guarded.invariant.2
+          c.in-Ok.ensures.step total,
     )

@@ -13,6 +13,6 @@ returns-in-Ok g c =
       tt,
       λ history stands.
           let made = c.in-Ok.ensures.stands (past_of history) stands.core in
-          vacuum_is_step c.args.core.now c.vacuum_pair_to_parallel.new.self c.args.at history c.in-Ok.report c.in-Ok.ensures.nodes stands made.0
-          made.2,
+          vacuum_is_step c.args.core.now c.vacuum_pair_to_parallel.new.self c.args.at history c.in-Ok.report
+          c.in-Ok.ensures.nodes stands made.0 made.2,
     )
