@@ -3,7 +3,7 @@ use crate::asking::{ask_store, put_listing, put_rows};
 use crate::items::{item_of, next_node, next_stamp, stamp_of, write_of};
 use crate::lines::{Called, call_all, next_number, next_text, number_of, parts};
 use crate::screen::Screen;
-use hlc_core::{Body, Core, Item, Stamp};
+use hlc_core::{Body, Core, Item};
 use hlc_text::words::LineWords;
 use std::thread::Threads;
 
@@ -72,28 +72,17 @@ impl Stored {
     /// Asks what changes nothing.
     fn ask(&self, screen: &mut Screen<'_>, letter: u8, words: &mut LineWords<'_>) {
         match letter {
-            b'?' => self.ask_all(screen),
+            b'?' => ask_store(screen, &self.core),
             b'r' => self.read(screen, words),
             b's' => screen.say(&self.core.stamp_of(next_number(words))),
-            b'l' => self.list(screen, next_number(words)),
+            b'l' => put_listing(screen, &self.core, next_number(words), b""),
             b'n' => screen.say(&self.core.count(next_node(words))),
             b'R' => screen.say(&self.core.rows()),
-            b'b' => self.rows_to(screen, next_stamp(words)),
+            b'b' => put_rows(screen, &self.core, next_stamp(words), b"no memory\n"),
             b'F' => screen.say(&self.core.floor()),
             b'z' => screen.say(&self.core.horizon()),
             _ => {},
         }
-    }
-
-    /// The rows at or below a stamp.
-    fn rows_to(&self, screen: &mut Screen<'_>, bound: Stamp) {
-        put_rows(screen, &self.core, bound, b"no memory\n");
-        screen.finish();
-    }
-
-    /// The listing of a snapshot.
-    fn list(&self, screen: &mut Screen<'_>, id: u64) {
-        put_listing(screen, &self.core, id, b"");
         screen.finish();
     }
 
@@ -115,12 +104,6 @@ impl Stored {
         if let Some(item) = &self.held {
             screen.say(&self.core.check_item(item));
         }
-    }
-
-    /// All that can be asked.
-    fn ask_all(&self, screen: &mut Screen<'_>) {
-        ask_store(screen, &self.core);
-        screen.finish();
     }
 
     /// The value of a key in a snapshot.
