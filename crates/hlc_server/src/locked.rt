@@ -42,6 +42,7 @@ impl<L: Ledger, const TRAILS: usize> Locked<L, TRAILS> {
     {
         vacuum_guarded(rt, &mut self.guarded, caller)
     }
+
     /// Vacuums to a stamp by a plan of several threads.
     pub(crate) fn vacuum_to(
         &mut self,

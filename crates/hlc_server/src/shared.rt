@@ -210,6 +210,7 @@ impl<L: Ledger> Shared<L> {
             StoreLock::Plain(lock) => lock.lock(rt).vacuum(rt, caller),
         }
     }
+
     /// Drops the rows at or below a stamp that no reader needs, by a plan of several threads. The lock is
     /// held all the while. The rows above the stamp stay, and snapshots can be opened from it on.
     ///
