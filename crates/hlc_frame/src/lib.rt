@@ -9,8 +9,6 @@ mod laws;
 mod open;
 mod reader;
 mod rest;
-#[cfg(test)]
-mod tests;
 mod writer;
 
 pub use front::{DIGEST_BYTES, FORMAT_VERSION, FRONT_BYTES};

@@ -13,8 +13,6 @@ mod reading;
 mod saving;
 mod size;
 mod stage;
-#[cfg(test)]
-mod tests;
 mod writer;
 mod writing;
 

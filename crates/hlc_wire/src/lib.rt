@@ -6,8 +6,6 @@ mod fault;
 mod fields;
 mod item;
 mod message;
-#[cfg(test)]
-mod tests;
 
 pub use fault::{DecodeError, EncodeError, WireFault};
 pub use fields::{

@@ -3,13 +3,13 @@
 ghost use Rattle.std.specs.Prelude.{◌++◌};
 ghost use Rattle.hlc_saved.specs.Saved.{Resumes};
 
-use crate::{
-    Checkpoint, CheckpointReader, CheckpointWriter, NoMemory, RestoreFault, ResumeError, Resumed,
-    Row, WireFault, copy_by_bytes, decode_checkpoint, encode_checkpoint, resume, save,
-};
 use hlc_clock::Stamp;
 use hlc_core::{Intake, Snapshot};
 use hlc_node::Bytes;
+use hlc_saved::{
+    Checkpoint, CheckpointReader, CheckpointWriter, NoMemory, RestoreFault, ResumeError, Resumed,
+    Row, WireFault, copy_by_bytes, decode_checkpoint, encode_checkpoint, resume, save,
+};
 use std::alloc::Global;
 use std::process::Abort;
 use std::test::*;

@@ -3,7 +3,7 @@ ghost use Rattle.std.specs.Prelude.{◌≡◌, ◌++◌, ◌<◌, List, ℕ, OnO
 ghost use Rattle.hlc_frame.specs.Frame.{frame_bytes};
 ghost use Rattle.hlc_frame.specs.Reading.{word_of};
 
-use crate::{FrameReader, FrameWriter, WireFault, open_frame};
+use hlc_frame::{FrameReader, FrameWriter, WireFault, open_frame};
 use std::alloc::AllocError;
 
 const ABC: [u8; 55] = [

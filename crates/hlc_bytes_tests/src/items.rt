@@ -1,8 +1,10 @@
-//! Items and messages against bytes written out by hand, and the small caller of the README.
+//! Items and messages against bytes written out by hand, and the small caller of the page of hlc_wire.
 ghost use Rattle.std.specs.Prelude.{◌≡◌, IfSome};
 
-use crate::{Body, Bytes, Item, Message, decode_item, decode_message, encode_item, encode_message};
 use hlc_clock::Stamp;
+use hlc_wire::{
+    Body, Bytes, Item, Message, decode_item, decode_message, encode_item, encode_message,
+};
 use std::alloc::Global;
 use std::fmt::Debug;
 use std::process::Abort;
