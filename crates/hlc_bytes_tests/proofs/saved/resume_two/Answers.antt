@@ -1,6 +1,6 @@
 -- The reader was fed the first block, and then the second.
 use Rattle.std.proofs.Common.{[], ◌++◌}
-use Rattle.hlc_saved.proofs.tests.resume_two.Goals as goal
+use Rattle.hlc_bytes_tests.proofs.saved.resume_two.Goals as goal
 
 pub returns : goal.returns
 returns c =

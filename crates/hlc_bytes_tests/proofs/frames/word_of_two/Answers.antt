@@ -1,6 +1,6 @@
 -- Both blocks were fed.
 use Rattle.std.proofs.Common.{[], ◌++◌}
-use Rattle.hlc_frame.proofs.tests.word_of_two.Goals as goal
+use Rattle.hlc_bytes_tests.proofs.frames.word_of_two.Goals as goal
 
 pub returns : goal.returns
 returns c =
