@@ -1,43 +1,39 @@
-// The same job as `hlcstore run`, as far as RocksDB 7 goes by its user-defined timestamps: a script on standard input,
-// its replies on standard output, the files in memory, no write-ahead log. It is for the scripts of the bench, in which
-// nothing is refused: at any other line it ends with status 1. Two things differ. A vacuum is a full compaction with
-// the least of the open snapshots and the floor as `full_history_ts_low`: every version above that stays, also between
-// snapshots. And its reply has no counts and no witnesses; `rows` is answered only where the word `count` is given, by
-// a pass over all.
-#include <rocksdb/comparator.h>
-#include <rocksdb/db.h>
-#include <rocksdb/env.h>
-#include <rocksdb/options.h>
+// The same job as `hlcstore run` over a peer's store: a script on standard input, its replies on standard output. It is
+// for the scripts of the bench, in which nothing is refused: at any other line it ends with status 1. The reply of a
+// vacuum has no counts and no witnesses; `rows` is answered only where the word `count` is given.
+#include PEER
 
+#include <algorithm>
 #include <charconv>
-#include <cstdint>
-#include <cstdio>
-#include <cstdlib>
-#include <cstring>
 #include <map>
 #include <memory>
-#include <string>
-#include <string_view>
-#include <vector>
-
-namespace ROCKSDB_NAMESPACE {
-// Exported by the library; versions before 8 declare it in no header that they install.
-extern const Comparator* BytewiseComparatorWithU64Ts();
-}  // namespace ROCKSDB_NAMESPACE
 
 namespace {
-using rocksdb::Slice;
-using std::string;
-using std::string_view;
 using Word = string_view;
 
-[[noreturn]] void give_up(const char* why) {
-  std::fprintf(stderr, "rocks: %s\n", why);
-  std::exit(1);
+uint64_t number(Word word) {
+  uint64_t value = 0;
+  auto [end, error] = std::from_chars(word.data(), word.data() + word.size(), value);
+  if (error != std::errc() || end != word.data() + word.size()) give_up("no number");
+  return value;
 }
 
-void check(const rocksdb::Status& status) {
-  if (!status.ok()) give_up(status.ToString().c_str());
+int digit(char c) { return c >= '0' && c <= '9' ? c - '0' : c >= 'A' && c <= 'F' ? c - 'A' + 10 : -1; }
+
+string bytes(Word word) {
+  if (word == "%") return "";
+  if (word.find('%') == Word::npos) return string(word);
+  string made;
+  for (size_t at = 0; at < word.size(); at++) {
+    if (word[at] != '%') {
+      made.push_back(word[at]);
+      continue;
+    }
+    if (at + 2 >= word.size() || digit(word[at + 1]) < 0 || digit(word[at + 2]) < 0) give_up("no bytes");
+    made.push_back(static_cast<char>(digit(word[at + 1]) * 16 + digit(word[at + 2])));
+    at += 2;
+  }
+  return made;
 }
 
 struct Item {
@@ -51,93 +47,10 @@ struct Node {
   std::vector<Item> issued;
 };
 
-uint64_t number(Word word) {
-  uint64_t value = 0;
-  auto [end, error] = std::from_chars(word.data(), word.data() + word.size(), value);
-  if (error != std::errc() || end != word.data() + word.size()) give_up("no number");
-  return value;
-}
-
-int digit(char c) { return c >= '0' && c <= '9' ? c - '0' : c >= 'A' && c <= 'F' ? c - 'A' + 10 : -1; }
-
-string bytes(Word word) {
-  if (word == "%") return "";
-  string made;
-  made.reserve(word.size());
-  for (size_t at = 0; at < word.size(); at++) {
-    if (word[at] != '%') {
-      made.push_back(word[at]);
-      continue;
-    }
-    if (at + 2 >= word.size() || digit(word[at + 1]) < 0 || digit(word[at + 2]) < 0) give_up("no bytes");
-    made.push_back(static_cast<char>(digit(word[at + 1]) * 16 + digit(word[at + 2])));
-    at += 2;
-  }
-  return made;
-}
-
-// A version's timestamp: its stamp and its node, as two nodes may bear one stamp. 64 nodes leave 42 bits to readings.
-uint64_t timestamp(uint64_t stamp, uint64_t node) { return stamp << 6 | node; }
-
-Slice slice(const uint64_t& ts) { return Slice(reinterpret_cast<const char*>(&ts), sizeof ts); }  // little-endian
-
-class Store {
- public:
-  Store() : env_(rocksdb::NewMemEnv(rocksdb::Env::Default())) {
-    rocksdb::Options options;
-    options.create_if_missing = true;
-    options.env = env_.get();
-    options.comparator = rocksdb::BytewiseComparatorWithU64Ts();
-    options.compression = rocksdb::kNoCompression;
-    rocksdb::DB* opened = nullptr;
-    check(rocksdb::DB::Open(options, "/rocks", &opened));
-    db_.reset(opened);
-    unlogged_.disableWAL = true;
-  }
-
-  void accept(uint64_t node, const Item& item) {
-    const uint64_t ts = timestamp(item.stamp, node);
-    auto* family = db_->DefaultColumnFamily();
-    check(item.has_value ? db_->Put(unlogged_, family, item.key, slice(ts), item.value)
-                         : db_->Delete(unlogged_, family, item.key, slice(ts)));
-  }
-
-  bool read(uint64_t stamp, const string& key, rocksdb::PinnableSlice* value) {
-    const uint64_t ts = timestamp(stamp, 63);
-    const Slice bound = slice(ts);
-    rocksdb::ReadOptions options;
-    options.timestamp = &bound;
-    const rocksdb::Status status = db_->Get(options, db_->DefaultColumnFamily(), key, value);
-    if (!status.IsNotFound()) check(status);
-    return status.ok();
-  }
-
-  void compact(uint64_t least) {
-    const uint64_t ts = timestamp(least, 63);
-    const Slice low = slice(ts);
-    rocksdb::CompactRangeOptions options;
-    options.full_history_ts_low = &low;
-    options.bottommost_level_compaction = rocksdb::BottommostLevelCompaction::kForce;
-    check(db_->CompactRange(options, db_->DefaultColumnFamily(), nullptr, nullptr));
-  }
-
-  uint64_t rows() {
-    const uint64_t first = 0, last = UINT64_MAX;
-    const Slice from = slice(first), to = slice(last);
-    rocksdb::ReadOptions options;
-    options.iter_start_ts = &from;
-    options.timestamp = &to;
-    std::unique_ptr<rocksdb::Iterator> all(db_->NewIterator(options));
-    uint64_t count = 0;
-    for (all->SeekToFirst(); all->Valid(); all->Next()) count++;
-    check(all->status());
-    return count;
-  }
-
- private:
-  std::unique_ptr<rocksdb::Env> env_;
-  std::unique_ptr<rocksdb::DB> db_;
-  rocksdb::WriteOptions unlogged_;
+// A delivered write that waits until the floor has passed it, for a store that wants the order of stamps.
+struct Waiting {
+  uint64_t stamp, node;
+  Item item;
 };
 
 class World {
@@ -156,24 +69,22 @@ class World {
     } else if (verb == "deliver" && words.size() == 3) {
       deliver(number(words[1]), number(words[2]));
     } else if (verb == "open" && words.size() == 2 && words[1] == "floor") {
+      hand_over(floor());
       snapshots_[++opened_] = floor();
+      store_.open(opened_, floor());
       put("snapshot ").put(opened_).put(" at ").stamp(floor());
     } else if (verb == "read" && words.size() == 3) {
-      rocksdb::PinnableSlice value;
-      if (store_.read(snapshots_.at(number(words[1])), bytes(words[2]), &value)) {
-        put("value ").spelled({value.data(), value.size()});
-      } else {
-        put("none");
-      }
+      read(number(words[1]), bytes(words[2]));
     } else if (verb == "close" && words.size() == 2) {
       auto found = snapshots_.find(number(words[1]));
       if (found == snapshots_.end()) give_up("no such snapshot");
       put("closed ").stamp(found->second);
+      store_.close(found->first);
       snapshots_.erase(found);
     } else if (verb == "vacuum" && words.size() == 1) {
-      uint64_t least = floor();
-      for (const auto& snapshot : snapshots_) least = std::min(least, snapshot.second);
-      store_.compact(least);
+      hand_over(floor());
+      store_.flush();
+      store_.vacuum(points(), floor());
       put("vacuum ").stamp(floor());
     } else if (verb == "rows" && words.size() == 1) {
       put("rows ");
@@ -186,7 +97,7 @@ class World {
 
   World& put(Word text) {
     out_ += text;
-    if (out_.size() >= 8192) flush();
+    if (out_.size() >= 8192) write();
     return *this;
   }
 
@@ -195,19 +106,30 @@ class World {
     return put(Word(digits, std::to_chars(digits, digits + 20, value).ptr - digits));
   }
 
-  void flush() {
+  void end() {
+    hand_over(UINT64_MAX);
+    store_.flush();
+    write();
+  }
+
+ private:
+  void write() {
     if (std::fwrite(out_.data(), 1, out_.size(), stdout) != out_.size()) give_up("a write failed");
     out_.clear();
   }
 
- private:
   void stamp(uint64_t stamp) { put(stamp >> 16).put(".").put(stamp & 0xffff); }
 
   void spelled(Word value) {
     if (value.empty()) put("%");
+    const auto is_plain = [](char c) { return c >= 33 && c <= 126 && c != '%'; };
+    if (std::all_of(value.begin(), value.end(), is_plain)) {
+      put(value);
+      return;
+    }
     for (const char c : value) {
       char escape[4] = {c, 0, 0, 0};
-      if (c < 33 || c > 126 || c == '%') std::snprintf(escape, 4, "%%%02X", static_cast<unsigned char>(c));
+      if (!is_plain(c)) std::snprintf(escape, 4, "%%%02X", static_cast<unsigned char>(c));
       put(escape);
     }
   }
@@ -216,6 +138,14 @@ class World {
     uint64_t least = UINT64_MAX;
     for (const Node& node : nodes_) least = std::min(least, node.head);
     return least;
+  }
+
+  Points points() const {
+    Points points{floor()};
+    for (const auto& snapshot : snapshots_) points.push_back(snapshot.second);
+    std::sort(points.begin(), points.end());
+    points.erase(std::unique(points.begin(), points.end()), points.end());
+    return points;
   }
 
   void issue(const std::vector<Word>& words, bool is_write, string key, string value, bool has_value) {
@@ -232,10 +162,48 @@ class World {
     Node& node = nodes_.at(from);
     if (at != node.accepted || at >= node.issued.size()) give_up("not the next item");
     const Item& item = node.issued[at];
-    if (item.is_write) store_.accept(from, item);
+    if (item.is_write) accept(from, item);
     node.accepted++;
     node.head = item.stamp;
     put("accepted ").stamp(item.stamp);
+  }
+
+  void accept(uint64_t node, const Item& item) {
+    if (!Store::wants_order) {
+      put_in(node, item);
+      return;
+    }
+    waiting_.push_back({item.stamp, node, item});
+    if (waiting_.size() >= BATCH) hand_over(floor());
+  }
+
+  void put_in(uint64_t node, const Item& item) {
+    const string_view value = item.value;
+    store_.put(item.stamp, node, item.key, item.has_value ? &value : nullptr);
+  }
+
+  // What waits and stands at or below the floor goes to the store, in the order of stamps and nodes.
+  void hand_over(uint64_t floor) {
+    const auto below = [](const Waiting& a, const Waiting& b) {
+      return a.stamp != b.stamp ? a.stamp < b.stamp : a.node < b.node;
+    };
+    std::sort(waiting_.begin(), waiting_.end(), below);
+    size_t many = 0;
+    for (; many < waiting_.size() && waiting_[many].stamp <= floor; many++) {
+      put_in(waiting_[many].node, waiting_[many].item);
+    }
+    waiting_.erase(waiting_.begin(), waiting_.begin() + many);
+  }
+
+  void read(uint64_t id, const string& key) {
+    const auto found = snapshots_.find(id);
+    if (found == snapshots_.end()) give_up("no such snapshot");
+    string_view value;
+    if (store_.read(id, found->second, key, &value)) {
+      put("value ").spelled(value);
+    } else {
+      put("none");
+    }
   }
 
   std::vector<Node> nodes_;
@@ -243,13 +211,14 @@ class World {
   Store store_;
   std::map<uint64_t, uint64_t> snapshots_;
   uint64_t opened_ = 0;
+  std::vector<Waiting> waiting_;
   string out_;
 };
 }  // namespace
 
 int main(int argc, char** argv) {
   string input;
-  char block[65536];
+  static char block[65536];
   while (const size_t taken = std::fread(block, 1, sizeof block, stdin)) input.append(block, taken);
   std::unique_ptr<World> world;
   std::vector<Word> words;
@@ -257,7 +226,7 @@ int main(int argc, char** argv) {
     const size_t end = std::min(input.find('\n', at), input.size());
     words.clear();
     for (size_t next = at; next <= end;) {
-      const size_t space = std::min(input.find(' ', next), end);
+      const size_t space = std::min(Word(input).substr(0, end).find(' ', next), end);
       words.push_back(Word(input).substr(next, space - next));
       next = space + 1;
     }
@@ -272,5 +241,5 @@ int main(int argc, char** argv) {
     at = end + 1;
   }
   if (!world) give_up("no header");
-  world->flush();
+  world->end();
 }
