@@ -4,6 +4,8 @@ ghost use Rattle.std.specs.Prelude.{if◌then◌else◌, All, IfOk, IfErr, OnErr
 ghost use Rattle.hlc_snapshot.specs.Register.{IsRegister, IsRefusal, closed, opened_at, room_refusal};
 ghost use Rattle.hlc_snapshot.specs.Register.{ids_rise, stamp_in, stamps, stamps_to};
 ghost use Rattle.hlc_clock.specs.Points.{ArePoints};
+ghost use Rattle.std.specs.Prelude.{AllPairs, nat_lt, false};
+ghost use Rattle.std.specs.List.Sorted.{IsPartitionPoint};
 
 use crate::fault::{NoSnapshot, SnapshotFault};
 use crate::snapshot::Snapshot;
@@ -101,15 +103,16 @@ impl Registry {
         Ok(id)
     }
 
-    /// The stamp of the open snapshot that has this id.
+    /// The stamp of the open snapshot that has this id. It costs a binary search of the ids.
     pub fn stamp_of(&self, id: u64) -> Option<Stamp>
         ensures value { result ≡ stamp_in id self.now.snapshots }
         ensures register { IsRegister self.now }
     {
-        self.snapshots
-            .iter()
-            .find(|snapshot| snapshot.id == id)
-            .map(|snapshot| snapshot.stamp)
+        let snapshots = self.snapshots.as_slice();
+        match snapshots.get(count_below(snapshots, id)) {
+            Some(snapshot) if snapshot.id == id => Some(snapshot.stamp),
+            _ => None,
+        }
     }
 
     /// Closes the snapshot that has this id, and gives its stamp. Takes no memory.
@@ -179,6 +182,15 @@ pub fn is_register(snapshots: &[Snapshot], opened: u64) -> bool
         return false;
     }
     do_ids_rise(snapshots, opened)
+}
+
+/// How many snapshots have a lower id. They stand in front.
+fn count_below(snapshots: &[Snapshot], id: u64) -> usize
+    requires { AllPairs (λ older newer. older.id < newer.id) snapshots.now }
+    ensures { IsPartitionPoint (λ snapshot. IsTrue (nat_lt snapshot.id id))
+        (λ snapshot. nat_lt snapshot.id id ≡ false) snapshots.now result }
+{
+    snapshots.partition_point(|snapshot| snapshot.id < id)
 }
 
 /// Whether the ids rise, and lie from 1 to the number of those ever opened.
