@@ -1,5 +1,5 @@
 -- An item, and what it may say.
-use Rattle.std.specs.Prelude.{ℕ, Bool, true, false, List, length, ◌==◌, ◌||◌, nat_lt, Option, Some, None, if◌then◌else◌}
+use Rattle.std.specs.Prelude.{ℕ, ◌≤◌, ⊤, Bool, true, false, List, length, ◌==◌, ◌||◌, nat_lt, Option, Some, None, if◌then◌else◌}
 use Rattle.hlc_node.specs.declared.item.Item.{Item}
 use Rattle.hlc_node.specs.declared.item.Body.{Body}
 use Rattle.hlc_node.specs.declared.item.Body.TheVariants.{Write, Report, Retire}
@@ -22,6 +22,17 @@ body_refusal Retire = None
 -- an item with these parts
 abbrev pub an_item : ℕ → ℕ → ℕ → Body → Item
 an_item node number stamp body = record { node = node; number = number; stamp = stamp; body = body }
+
+-- there is no value, or one of at most 22 bytes
+abbrev pub IsShortValue : Option (List ℕ) → Type 0
+IsShortValue None = ⊤
+IsShortValue (Some value) = length value ≤ 22
+
+-- what it writes, if it writes, is a key and a value of at most 22 bytes each
+abbrev pub IsShort : Body → Type 0
+IsShort (Write key value) = (length key ≤ 22) × IsShortValue value
+IsShort Report = ⊤
+IsShort Retire = ⊤
 
 -- an item that says this is its node's last one
 abbrev pub retires : Body → Bool

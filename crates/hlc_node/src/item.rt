@@ -2,7 +2,7 @@
 ghost use Rattle.std.specs.Prelude.{◌≡◌, ◌⊎◌};
 ghost use Rattle.std.proofs.Common.{rules};
 ghost use Rattle.std.proofs.lemmas.Grind.{common_steps};
-ghost use Rattle.hlc_node.specs.Items.{body_refusal, retires};
+ghost use Rattle.hlc_node.specs.Items.{body_refusal, retires, IsShort};
 ghost use Rattle.hlc_node.specs.declared.item.Body.TheVariants.{Write as a_write, Report, Retire};
 ghost use Rattle.hlc_node.specs.declared.item.TheConstants.{MOST_KEY_BYTES, MOST_VALUE_BYTES};
 
@@ -71,7 +71,7 @@ pub enum BodyFault {
 impl Clone for Body {
     ghost is_clone = { λ body copy. copy ≡ body };
 
-    ghost is_infallible = { λ body. (body ≡ Report) ⊎ (body ≡ Retire) };
+    ghost is_infallible = { IsShort };
 
     fn clone(&self) -> Result<Body, NoMemory> {
         match self {

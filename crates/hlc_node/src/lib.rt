@@ -3,10 +3,14 @@
 #![tactic(auto)]
 
 mod bytes;
+#[cfg(test)]
+mod bytes_tests;
 mod item;
 mod laws;
+mod mark;
 mod node;
 mod row;
+mod short;
 
 pub use bytes::Bytes;
 pub use hlc_clock::Stamp;
@@ -17,5 +21,7 @@ pub use item::{
 pub use laws::{
     newest_is_greatest, newest_is_unique, newest_stays, no_newest_no_row, other_keys_do_not_count,
 };
+pub use mark::ValueOrMark;
 pub use node::{NodeCore, NodeFault, RefusedWrite};
 pub use row::Row;
+pub use short::{MOST_SHORT_BYTES, most_short_bytes_are_22};

@@ -1,5 +1,6 @@
 //! What a table stores of a write.
-ghost use Rattle.std.specs.Prelude.{◌≡◌, option_copied};
+ghost use Rattle.std.specs.Prelude.{◌≡◌, ◌≤◌, length, option_copied};
+ghost use Rattle.hlc_node.specs.Items.{IsShortValue};
 ghost use Rattle.std.proofs.Common.{rules};
 ghost use Rattle.std.proofs.lemmas.Grind.{common_steps};
 
@@ -32,6 +33,8 @@ impl Row {
 
 impl Clone for Row {
     ghost is_clone = { λ row copy. copy ≡ row };
+
+    ghost is_infallible = { λ row. (length row.key ≤ 22) × IsShortValue row.value };
 
     fn clone(&self) -> Result<Row, NoMemory> {
         Ok(Row {

@@ -1,0 +1,69 @@
+//! Bytes that stand in place.
+ghost use Rattle.std.specs.Prelude.{◌≡◌, ◌≤◌, length, IsOk};
+
+use std::marker::Model;
+
+/// The most bytes that stand in place, without memory of their own.
+pub const MOST_SHORT_BYTES: usize = 22;
+
+/// At most 22 bytes stand in place.
+pub fn most_short_bytes_are_22()
+    ensures { MOST_SHORT_BYTES ≡ 22 }
+{}
+
+/// At most 22 bytes, in place. Contracts see their list.
+#[derive(Drop)]
+pub(crate) struct Short {
+    len: u8,
+    bytes: [u8; MOST_SHORT_BYTES],
+}
+
+impl Model for Short {
+    ghost use Rattle.std.specs.Prelude.{List, ℕ, ◌≤◌, take};
+    ghost use Rattle.std.specs.Coded.{coded_list, coded_ℕ};
+
+    ghost Value = { List ℕ };
+
+    ghost coded = { coded_list coded_ℕ };
+
+    ghost view = { λ short. take short.len short.bytes };
+
+    ghost invariant = { λ short. short.len ≤ 22 };
+}
+
+impl Short {
+    /// A copy of these bytes.
+    #[inline]
+    pub(crate) fn of(items: &[u8]) -> Short
+        requires { length items.now ≤ 22 }
+        ensures { result ≡ items.now }
+    {
+        let len = items.len();
+        let mut bytes = [0; MOST_SHORT_BYTES];
+        bytes[..len].copy_from_slice(items);
+        Short {
+            len: len as u8,
+            bytes,
+        }
+    }
+
+    /// The bytes as a slice.
+    #[inline]
+    pub(crate) fn as_slice(&self) -> &[u8]
+        ensures bytes { result.now ≡ self.now }
+        ensures few { length self.now ≤ 22 }
+    {
+        &self.bytes[..self.len as usize]
+    }
+
+    /// The same bytes again.
+    #[inline]
+    pub(crate) fn copy(&self) -> Short
+        ensures { result ≡ self.now }
+    {
+        Short {
+            len: self.len,
+            bytes: self.bytes,
+        }
+    }
+}
