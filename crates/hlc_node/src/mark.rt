@@ -1,5 +1,5 @@
 //! What a row stores of its write.
-ghost use Rattle.std.specs.Prelude.{◌≡◌, option_copied};
+ghost use Rattle.std.specs.Prelude.{◌≡◌, None, option_copied};
 
 use crate::bytes::{Bytes, Held};
 use crate::short::Short;
@@ -30,6 +30,16 @@ impl Model for ValueOrMark {
     ghost coded = { coded_option (coded_list coded_ℕ) };
 
     ghost view = { λ kept. value_of kept.held };
+}
+
+impl Default for ValueOrMark {
+    ghost is_default = { λ kept. kept ≡ None };
+
+    fn default() -> ValueOrMark {
+        ValueOrMark {
+            held: HeldOrMark::Mark,
+        }
+    }
 }
 
 impl ValueOrMark {

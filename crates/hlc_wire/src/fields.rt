@@ -70,7 +70,7 @@ pub fn bytes_at(alloc: Global, count: usize, bytes: &[u8]) -> Result<(Bytes, &[u
         return Err(DecodeError::Fault(WireFault::Short));
     }
     let (front, rest) = bytes.split_at(count);
-    let copy = Bytes::from_vec(Vec::from_slice(alloc, front)?);
+    let copy = Bytes::from_slice(alloc, front)?;
     Ok((copy, rest))
 }
 

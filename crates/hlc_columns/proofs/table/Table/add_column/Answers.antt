@@ -29,18 +29,18 @@ added_row : (c : goal.Joined-insert-2)
     → Inserted c.args.self.now c.args.row (table_rows (λ k. k.items) c.insert.new.self.entries)
 added_row c =
     added_as (λ k. k.items) c.args.row c.self.inside.columns.entries c.insert.new.self.entries
-    c.args.self.now c.self.view_is c.args.row.key c.into_vec.result c.of_row-column.result refl c.into_vec.ensures
-    (sym (new_key c)) c.in-Ok.ensures.entries c.of_row-column.ensures
+    c.args.self.now c.self.view_is c.args.row.key c.in-Ok.key c.of_row-column.result refl c.in-Ok.ensures.bytes
+    (sym (new_key c)) c.in-Ok-insert.ensures.entries c.of_row-column.ensures
 
 pub invariant_of-self : goal.invariant_of-self
 invariant_of-self c =
     let one = ap length c.of_row-column.ensures in (
-      subst (All (λ e. 0 < length e.1)) (sym c.in-Ok.ensures.entries)
-          (all_inserted _ c.self.inside.columns.entries c.into_vec.result c.of_row-column.result
+      subst (All (λ e. 0 < length e.1)) (sym c.in-Ok-insert.ensures.entries)
+          (all_inserted _ c.self.inside.columns.entries c.in-Ok.key c.of_row-column.result
           c.self.invariant.0 (omega (arith, one))),
       inserted-IsRowSet c.args.self.now c.args.row _ (added_row c) (new_version c)
           (subst IsRowSet c.self.view_is c.self.invariant.1),
     )
 
-pub returns-in-Ok-clause-ok : goal.returns-in-Ok-clause-ok
-returns-in-Ok-clause-ok c = inserted-IsPermutation c.args.self.now c.args.row _ (added_row c)
+pub returns-in-Ok-insert-clause-ok : goal.returns-in-Ok-insert-clause-ok
+returns-in-Ok-insert-clause-ok c = inserted-IsPermutation c.args.self.now c.args.row _ (added_row c)
