@@ -39,6 +39,19 @@ pub stamps_partitioned_below : (ss ns order : List ℕ) (stamp : ℕ) → IsInde
 stamps_partitioned_below ss ns order stamp =
     partitioned_by (λ s. ltb s stamp) (λ x y le pass. grind (arith, nat_tests)) ss ns order
 
+-- where the last is at or below the bound all are
+pub all_indexed : (ss ns order : List ℕ) (bound : ℕ) → IsIndex ss ns order
+    → get_or ss (get_or order (length order - 1) 0) 0 ≤ bound
+    → IsPartitionPoint (λ p. leb (get_or ss p 0) bound ≡ true) (λ p. leb (get_or ss p 0) bound ≡ false) order
+    (length order)
+all_indexed ss ns order bound (long, below, every, rises) last = (
+  λ i d lt inside.
+      let e : get_or order i d ≡ get_or order i 0 = get_or_default order i d 0 inside in
+      let le = (rises i (length order - 1) (omega (arith, inside)) (omega (arith, inside))).0 in
+      subst (λ (p : ℕ). leb (get_or ss p 0) bound ≡ true) (sym e) (let low = le in grind (arith, nat_tests)),
+  λ i d past inside. absurd (omega (arith, past, inside)),
+)
+
 -- none is at or below the bound
 pub none_indexed : (ss ns order : List ℕ) (bound : ℕ) → IsIndex ss ns order
     → IsPartitionPoint (λ p. leb (get_or ss p 0) bound ≡ true) (λ p. leb (get_or ss p 0) bound ≡ false) order 0

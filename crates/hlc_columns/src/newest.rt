@@ -1,5 +1,5 @@
 //! The place of the newest of some stamps and nodes, which stand side by side.
-ghost use Rattle.std.specs.Prelude.{◌≡◌, ◌↔◌, ◌≤◌, ◌<◌, ◌⊎◌, ℕ, IsTrue, Some, IfSome, MatchOption, length, slice_index};
+ghost use Rattle.std.specs.Prelude.{◌≡◌, ◌↔◌, ◌≤◌, ◌<◌, ◌-◌, ◌⊎◌, ℕ, IsTrue, Some, IfSome, MatchOption, length, slice_index};
 ghost use Rattle.std.specs.Prelude.{take, count_by, nat_le, false};
 ghost use Rattle.std.specs.List.Sorted.{IsPartitionPoint};
 ghost use Rattle.hlc_columns.specs.Newest.{NotAbove, IsNewestBelow, IsGreatestAt};
@@ -142,7 +142,19 @@ pub(crate) fn newest_indexed(
     Some(order[count - 1] as usize)
 }
 
-/// How many of the rows that an index has are at or below the bound, by binary search.
+/// Whether the last row of an index is at or below the bound.
+fn is_last_within(stamps: &[u64], order: &[u32], bound: u64) -> bool
+    ensures { IsTrue result
+        → slice_index stamps.now (slice_index order.now (length order.now - 1)) ≤ bound }
+{
+    match order.last() {
+        Some(place) => stamp_at(stamps, *place as usize) <= bound,
+        None => false,
+    }
+}
+
+/// How many of the rows that an index has are at or below the bound: all of them where its last is,
+/// and else it is found by binary search.
 pub(crate) fn count_indexed(stamps: &[u64], nodes: &[u16], order: &[u32], bound: u64) -> usize
     requires { IsIndex stamps.now nodes.now order.now }
     ensures point { IsPartitionPoint (λ place. IsTrue (nat_le (slice_index stamps.now place) bound))
@@ -151,5 +163,8 @@ pub(crate) fn count_indexed(stamps: &[u64], nodes: &[u16], order: &[u32], bound:
     ensures count { result ≡ count_by
         (λ stamp. nat_le stamp bound) (take (length order.now) stamps.now) }
 {
+    if is_last_within(stamps, order, bound) {
+        return order.len();
+    }
     order.partition_point(|place| stamp_at(stamps, *place as usize) <= bound)
 }

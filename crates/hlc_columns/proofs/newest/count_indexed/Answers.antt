@@ -1,10 +1,20 @@
 -- The rows at or below the bound stand in front of the index.
-use Rattle.std.proofs.Common.{◌≡◌, ℕ, get_or, rules, leb, true, false}
+use Rattle.std.proofs.Common.{◌≡◌, ℕ, get_or, rules, leb, true, false, length, arith}
 use Rattle.std.specs.List.Sorted.{IsPartitionPoint}
 use Rattle.std.proofs.lemmas.List.Sorted.{IsPartitionPoint-from_clause}
-use Rattle.hlc_columns.proofs.Places.{stamps_partitioned}
+use Rattle.hlc_columns.proofs.Places.{stamps_partitioned, all_indexed}
 use Rattle.hlc_columns.proofs.Counted.{index_counted}
 use Rattle.hlc_columns.proofs.newest.count_indexed.Goals as goal
+
+pub returns-then-is_last_within : goal.returns-then-is_last_within
+returns-then-is_last_within c =
+    let point = all_indexed c.args.stamps.now c.args.nodes.now c.args.order.now c.args.bound c.requires
+    (c.is_last_within.ensures c.if-is_last_within.true) in record {
+      point = point;
+      few = omega arith;
+      count = index_counted c.args.stamps.now c.args.nodes.now c.args.order.now c.args.bound (length c.args.order.now)
+          c.requires (omega arith) point;
+    }
 
 pub returns : goal.returns
 returns c =
