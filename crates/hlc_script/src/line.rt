@@ -1,11 +1,10 @@
 //! The lines of events, read without memory.
-ghost use Rattle.std.specs.Prelude.{◌≡◌, ◌≢◌, ◌<◌, ◌^◌, ◌∷◌, [], codes, decimal, ℕ};
+ghost use Rattle.std.specs.Prelude.{◌≡◌, ◌≢◌, ◌<◌, ◌^◌, ◌∷◌, [], codes, decimal, ℕ, List};
 ghost use Rattle.std.specs.Prelude.{IfOk, MatchOption, OnErr};
 ghost use Rattle.hlc_text.specs.Text.{Reads};
 ghost use Rattle.hlc_script.specs.Line.{event_words, event_line, HasLine, BearsBytes};
 
 use hlc_text::bytes::{Spelled, bytes};
-use hlc_text::number;
 use hlc_text::stamp::stamp;
 use hlc_text::words::LineWords;
 use hlc_values::NoMemory;
@@ -165,13 +164,12 @@ fn store_event<'a>(verb: &[u8], words: &mut LineWords<'a>) -> Option<Event<Spell
 fn write<'a>(words: &mut LineWords<'a>) -> Option<Event<Spelled<'a>>>
     ensures { Reads event_words HasLine (codes "write" ∷ words.old) result }
 {
-    let node = words.next()?;
-    let reading = words.next()?;
+    let (node, reading) = front_numbers(words)?;
     let key = words.next()?;
     let value = words.last()?;
     Some(Event::Write {
-        node: number::node(node)?,
-        reading: number::number(reading)?,
+        node,
+        reading,
         key: bytes(key)?,
         value: bytes(value)?,
     })
@@ -181,12 +179,11 @@ fn write<'a>(words: &mut LineWords<'a>) -> Option<Event<Spelled<'a>>>
 fn delete<'a>(words: &mut LineWords<'a>) -> Option<Event<Spelled<'a>>>
     ensures { Reads event_words HasLine (codes "delete" ∷ words.old) result }
 {
-    let node = words.next()?;
-    let reading = words.next()?;
+    let (node, reading) = front_numbers(words)?;
     let key = words.last()?;
     Some(Event::Delete {
-        node: number::node(node)?,
-        reading: number::number(reading)?,
+        node,
+        reading,
         key: bytes(key)?,
     })
 }
@@ -267,10 +264,10 @@ fn open<'a>(words: &mut LineWords<'a>) -> Option<Event<Spelled<'a>>>
 fn read<'a>(words: &mut LineWords<'a>) -> Option<Event<Spelled<'a>>>
     ensures { Reads event_words HasLine (codes "read" ∷ words.old) result }
 {
-    let id = words.next()?;
+    let id = words.number()?;
     let key = words.last()?;
     Some(Event::Read {
-        id: number::number(id)?,
+        id,
         key: bytes(key)?,
     })
 }
@@ -331,7 +328,23 @@ fn no_more(words: &mut LineWords<'_>) -> Option<()>
 fn one_number(words: &mut LineWords<'_>) -> Option<u64>
     ensures { Reads (λ x. decimal x ∷ []) (λ x. x < 2 ^ 64) words.old result }
 {
-    number::number(words.last()?)
+    let id = words.number()?;
+    no_more(words)?;
+    Some(id)
+}
+
+/// A node and a number, whatever comes after them.
+#[inline(always)]
+fn front_numbers(words: &mut LineWords<'_>) -> Option<(u16, u64)>
+    ensures { MatchOption result
+        ((m n : ℕ) (rest : List (List ℕ)) → m < 2 ^ 16 → n < 2 ^ 64
+        → words.old ≢ decimal m ∷ decimal n ∷ rest)
+        (λ x. (x.0 < 2 ^ 16) × (x.1 < 2 ^ 64)
+        × (words.old ≡ decimal x.0 ∷ decimal x.1 ∷ words.new)) }
+{
+    let node = words.node()?;
+    let number = words.number()?;
+    Some((node, number))
 }
 
 /// A node and a number.
@@ -340,10 +353,8 @@ fn node_number(words: &mut LineWords<'_>) -> Option<(u16, u64)>
         ((m n : ℕ) → m < 2 ^ 16 → n < 2 ^ 64 → words.old ≢ decimal m ∷ decimal n ∷ [])
         (λ x. (x.0 < 2 ^ 16) × (x.1 < 2 ^ 64) × (words.old ≡ decimal x.0 ∷ decimal x.1 ∷ [])) }
 {
-    let first = words.next()?;
-    let second = words.last()?;
-    let first = number::node(first)?;
-    let second = number::number(second)?;
+    let (first, second) = front_numbers(words)?;
+    no_more(words)?;
     Some((first, second))
 }
 
@@ -355,11 +366,8 @@ fn node_two_numbers(words: &mut LineWords<'_>) -> Option<(u16, u64, u64)>
         (λ x. (x.0 < 2 ^ 16) × (x.1 < 2 ^ 64) × (x.2 < 2 ^ 64)
         × (words.old ≡ decimal x.0 ∷ decimal x.1 ∷ decimal x.2 ∷ [])) }
 {
-    let first = words.next()?;
-    let second = words.next()?;
-    let third = words.last()?;
-    let first = number::node(first)?;
-    let second = number::number(second)?;
-    let third = number::number(third)?;
+    let (first, second) = front_numbers(words)?;
+    let third = words.number()?;
+    no_more(words)?;
     Some((first, second, third))
 }

@@ -1,0 +1,19 @@
+-- The bytes before the next 8 are none, and so are those of the 8 that come before the first.
+use Rattle.std.proofs.Common.{◌≤◌, ◌+◌, length, arith}
+use Rattle.hlc_text.proofs.Places.{place_found, none_found}
+use Rattle.hlc_text.proofs.place.near_place.Goals as goal
+
+pub returns-then-before-lt8 : goal.returns-then-before-lt8
+returns-then-before-lt8 c =
+    place_found c.args.text.now c.args.byte c.loop-from.from 8 c.before_of_8-before.result
+    (omega (arith, c.loop-from-test.true, c.loop-from.invariant.0)) c.before_of_8-before.ensures
+    c.loop-from.invariant.1 c.if-before-lt8.true
+
+pub loop-from-preserved : goal.loop-from-preserved
+loop-from-preserved c =
+    let room : c.loop-from.from + 8 ≤ length c.args.text.now =
+    omega (arith, c.loop-from-test.true, c.loop-from.invariant.0) in (
+      room,
+      none_found c.args.text.now c.args.byte c.loop-from.from 8 c.before_of_8-before.result room
+          c.before_of_8-before.ensures c.loop-from.invariant.1 c.if-before-lt8.false,
+    )
