@@ -72,8 +72,8 @@ fn push_pair(alloc: Global, pairs: &mut Vec<Pair>, key: &[u8], value: &[u8]) -> 
     ensures { OnOk result (pairs.new.items
         ≡ pairs.old.items ++ record { key = key.now; value = value.now } ∷ []) }
 {
-    let key = Bytes::from_vec(Vec::from_slice(alloc, key)?);
-    let value = Bytes::from_vec(Vec::from_slice(alloc, value)?);
+    let key = Bytes::from_slice(alloc, key)?;
+    let value = Bytes::from_slice(alloc, value)?;
     pairs.push(Pair { key, value })?;
     Ok(())
 }

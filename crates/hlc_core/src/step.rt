@@ -96,8 +96,8 @@ impl Core {
         match self.read(id, key) {
             Err(_) => Ok(CoreReply::Refused(CoreFault::NoSnapshot)),
             Ok(None) => Ok(CoreReply::Answer(None)),
-            Ok(Some(bytes)) => match Vec::from_slice(self.alloc, bytes) {
-                Ok(copy) => Ok(CoreReply::Answer(Some(Bytes::from_vec(copy)))),
+            Ok(Some(bytes)) => match Bytes::from_slice(self.alloc, bytes) {
+                Ok(copy) => Ok(CoreReply::Answer(Some(copy))),
                 Err(_) => Err(NoMemory),
             },
         }
