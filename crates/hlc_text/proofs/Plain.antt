@@ -1,11 +1,14 @@
 -- Bytes that each stand as themselves are read as themselves, since the first does and the rest are such bytes.
 use Rattle.std.proofs.Common.{◌<◌, ◌∙◌, if◌then◌else◌, length, arith, nat_eq, ne_eqb, sym, ◌≡◌, ℕ, List, [], ◌∷◌, Bool}
-use Rattle.std.proofs.Common.{true, false, Some, ap, refl}
+use Rattle.std.proofs.Common.{true, false, Option, Some, None, ap, refl, not, ◌&&◌, ◌==◌, ◌+◌, ◌*◌}
 use Rattle.std.specs.Prelude.{unwrap_or}
-use Rattle.std.proofs.lemmas.Bool.{and_parts, false≢true}
+use Rattle.std.proofs.Common.{inl, inr}
+use Rattle.std.proofs.lemmas.Bool.{and_parts, false≢true, cases_Bool}
 use Rattle.std.specs.List.{list_all}
-use Rattle.hlc_text.specs.Text.{stands_as_itself}
-use Rattle.hlc_text.specs.Spelling.{spelled_bytes, token_bytes, bytes_in, with_byte}
+use Rattle.hlc_text.specs.Text.{stands_as_itself, percent}
+use Rattle.hlc_text.specs.Spelling.{spelled_bytes, token_bytes, bytes_in, with_byte, is_own_spelling}
+use Rattle.hlc_text.specs.Spelling.{is_hex, hex_value, is_escaped}
+use Rattle.std.proofs.lemmas.Option.{same_Some}
 
 first_stands : (b : ℕ) (bs : List ℕ) → list_all stands_as_itself (b ∷ bs) ≡ true
     → (stands_as_itself b ≡ true) × (list_all stands_as_itself bs ≡ true)
@@ -30,3 +33,84 @@ plain_token (b ∷ c ∷ rest) some h = read_plain (b ∷ c ∷ rest) h
 
 pub plain_bytes : (bs : List ℕ) → 0 < length bs → list_all stands_as_itself bs ≡ true → bytes_in bs ≡ bs
 plain_bytes bs some h = ap (λ read. unwrap_or read []) (plain_token bs some h)
+
+some≢none : {bs : List ℕ} → None ≡ Some bs → ⊥
+some≢none e = cc
+
+cons_not_nil : {d : ℕ} {bs : List ℕ} → Some [] ≡ Some (d ∷ bs) → ⊥
+cons_not_nil e = cc
+
+-- what was read behind a byte that was put in front
+behind_byte : (b : ℕ) (read : Option (List ℕ)) (bs : List ℕ) → with_byte b read ≡ Some bs
+    → (rest : List ℕ) × ((read ≡ Some rest) × (b ∷ rest ≡ bs))
+behind_byte b None bs is = absurd (some≢none is)
+behind_byte b (Some rest) bs is = (rest, (refl, same_Some (b ∷ rest) bs is))
+
+-- one byte that stands as itself, in front of such bytes
+read_front : (b : ℕ) (text bs : List ℕ)
+    → ((rest : List ℕ) → spelled_bytes text ≡ Some rest → list_all stands_as_itself rest ≡ true → rest ≡ text)
+    → with_byte b (spelled_bytes text) ≡ Some bs → list_all stands_as_itself bs ≡ true → bs ≡ b ∷ text
+read_front b text bs behind is h =
+    let w = behind_byte b (spelled_bytes text) bs is in
+    let all = first_stands b w.0 (ap (list_all stands_as_itself) w.1.1 ∙ h) in
+    sym w.1.1 ∙ ap (λ (l : List ℕ). b ∷ l) (behind w.0 w.1.0 all.1)
+
+-- no escape spells a byte that stands as itself
+not_escaped : (high low : ℕ) (read : Option (List ℕ)) (bs : List ℕ) → is_escaped high low ≡ true
+    → with_byte (16 * hex_value high + hex_value low) read ≡ Some bs → list_all stands_as_itself bs ≡ true → ⊥
+not_escaped high low read bs escaped is h =
+    let v = 16 * hex_value high + hex_value low in
+    let w = behind_byte v read bs is in
+    let all = first_stands v w.0 (ap (list_all stands_as_itself) w.1.1 ∙ h) in
+    false≢true (sym (ap not all.0) ∙ (and_parts (is_hex high && is_hex low) (not (stands_as_itself v)) escaped).1)
+
+-- what is read as bytes that each stand as themselves is those bytes
+read_as_plain : (text bs : List ℕ) → spelled_bytes text ≡ Some bs → list_all stands_as_itself bs ≡ true → bs ≡ text
+read_as_plain [] bs is h = sym (same_Some [] bs is)
+read_as_plain (b ∷ []) bs is h =
+    elim (cases_Bool (stands_as_itself b)) [
+      | inl plain ↦ sym (same_Some (b ∷ []) bs (rw plain at is))
+      | inr other ↦ absurd (some≢none (rw other at is))
+    ]
+read_as_plain (b ∷ c ∷ []) bs is h =
+    elim (cases_Bool (stands_as_itself b)) [
+      | inl plain ↦ read_front b (c ∷ []) bs (read_as_plain (c ∷ [])) (rw plain at is) h
+      | inr other ↦ absurd (some≢none (rw other at is))
+    ]
+read_as_plain (b ∷ high ∷ low ∷ rest) bs is h =
+    elim (cases_Bool (stands_as_itself b)) [
+      | inl plain ↦ read_front b (high ∷ low ∷ rest) bs (read_as_plain (high ∷ low ∷ rest)) (rw plain at is) h
+      | inr other ↦ elim (cases_Bool (b == percent && is_escaped high low)) [
+        | inl escape ↦ absurd (not_escaped high low (spelled_bytes rest) bs
+            (and_parts (b == percent) (is_escaped high low) escape).1 (rw (other, escape) at is) h)
+        | inr none ↦ absurd (some≢none (rw (other, none) at is))
+      ]
+    ]
+
+pub own_spelling : (word bs : List ℕ) → token_bytes word ≡ Some bs → is_own_spelling bs ≡ true → bs ≡ word
+own_spelling [] bs is own = absurd (some≢none is)
+own_spelling (b ∷ []) [] is own = absurd (false≢true own)
+own_spelling (b ∷ []) (d ∷ bs) is own =
+    elim (cases_Bool (b == percent)) [
+      | inl mark ↦ absurd (cons_not_nil (rw mark at is))
+      | inr other ↦ read_as_plain (b ∷ []) (d ∷ bs)
+          (sym (ap (λ (t : Bool). if t then Some [] else spelled_bytes (b ∷ [])) other) ∙ is) own
+    ]
+own_spelling (b ∷ c ∷ rest) [] is own = absurd (false≢true own)
+own_spelling (b ∷ c ∷ rest) (d ∷ bs) is own = read_as_plain (b ∷ c ∷ rest) (d ∷ bs) is own
+
+-- so a word that is no spelling of itself spells no bytes that are
+pub not_own_spelling : (word bs : List ℕ) → token_bytes word ≡ Some bs → is_own_spelling word ≡ false
+    → is_own_spelling bs ≡ false
+not_own_spelling word bs is other =
+    elim (cases_Bool (is_own_spelling bs)) [
+      | inl own ↦ absurd (false≢true (sym other ∙ ap is_own_spelling (sym (own_spelling word bs is own)) ∙ own))
+      | inr plain ↦ plain
+    ]
+
+pub own_token : (bs : List ℕ) → is_own_spelling bs ≡ true → token_bytes bs ≡ Some bs
+own_token [] own = absurd (false≢true own)
+own_token (b ∷ bs) own = plain_token (b ∷ bs) (omega arith) own
+
+pub own_bytes : (bs : List ℕ) → is_own_spelling bs ≡ true → bytes_in bs ≡ bs
+own_bytes bs own = ap (λ read. unwrap_or read []) (own_token bs own)
