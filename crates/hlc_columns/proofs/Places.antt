@@ -16,7 +16,7 @@ use Rattle.std.proofs.lemmas.List.{get_or_push, length-append, append_assoc, app
 use Rattle.std.proofs.lemmas.List.Sorted.{All-permutation, Contains-permutation, IsPermutation-append_right}
 use Rattle.std.proofs.lemmas.List.Sorted.{length_permutation, sorted_far, ranks_by}
 use Rattle.hlc_columns.specs.Newest.{NotAbove, IsNewestBelow}
-use Rattle.hlc_columns.specs.Order.{Rises, IsIndex, IsNumbered, place_cmp}
+use Rattle.hlc_columns.specs.Order.{Rises, IsIndex, IsNumbered, AreFirstWithin, place_cmp}
 use Rattle.hlc_columns.proofs.Best.{not_above_itself, not_above_trans}
 
 -- the stamps rise along an index, so those that pass a test, which each lesser one passes too, stand in front
@@ -50,6 +50,38 @@ all_indexed ss ns order bound (long, below, every, rises) last = (
       let le = (rises i (length order - 1) (omega (arith, inside)) (omega (arith, inside))).0 in
       subst (λ (p : ℕ). leb (get_or ss p 0) bound ≡ true) (sym e) (let low = le in grind (arith, nat_tests)),
   λ i d past inside. absurd (omega (arith, past, inside)),
+)
+
+-- those before one at or below the bound are so too
+pub first_within : (ss ns order : List ℕ) (bound count : ℕ) → IsIndex ss ns order → 0 < count → count ≤ length order
+    → get_or ss (get_or order (count - 1) 0) 0 ≤ bound → AreFirstWithin ss order bound count
+first_within ss ns order bound count (long, below, every, rises) some inside last i lt =
+    let le = (rises i (count - 1) (omega (arith, lt)) (omega (arith, some, inside))).0 in omega (arith, le, last)
+
+-- one more is
+pub within_more : (ss order : List ℕ) (bound count : ℕ) → AreFirstWithin ss order bound count
+    → get_or ss (get_or order count 0) 0 ≤ bound → AreFirstWithin ss order bound (count + 1)
+within_more ss order bound count first here i lt = elim (cases_lt i count) [
+  | inl before ↦ first i before
+  | inr after ↦ let e : i ≡ count = omega (arith, lt, after) in
+      subst (λ j. get_or ss (get_or order j 0) 0 ≤ bound) (sym e) here
+]
+
+-- the first are at or below the bound, and the next is not
+pub point_after : (ss ns order : List ℕ) (bound count : ℕ) → IsIndex ss ns order → count ≤ length order
+    → AreFirstWithin ss order bound count
+    → (count < length order → bound < get_or ss (get_or order count 0) 0)
+    → IsPartitionPoint (λ p. leb (get_or ss p 0) bound ≡ true) (λ p. leb (get_or ss p 0) bound ≡ false) order count
+point_after ss ns order bound count (long, below, every, rises) some first next = (
+  λ i d least lt.
+      let e : get_or order i d ≡ get_or order i 0 = get_or_default order i d 0 (omega (arith, lt, some)) in
+      subst (λ (p : ℕ). leb (get_or ss p 0) bound ≡ true) (sym e) (let low = first i lt in grind (arith, nat_tests)),
+  λ i d past inside.
+      let e : get_or order i d ≡ get_or order i 0 = get_or_default order i d 0 inside in
+      let high = next (omega (arith, past, inside)) in
+      let le = (rises count i past inside).0 in
+      subst (λ (p : ℕ). leb (get_or ss p 0) bound ≡ false) (sym e) (let h = high in let l = le in
+      grind (arith, nat_tests)),
 )
 
 -- none is at or below the bound

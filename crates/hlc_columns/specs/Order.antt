@@ -16,6 +16,11 @@ IsIndex stamps nodes order =
     (length order ≤ length stamps) × All (λ p. p < length order) order
     × ((p : ℕ) → p < length order → Contains order p) × Rises stamps nodes order
 
+-- the first rows of an index, so many, are at or below a bound
+abbrev pub AreFirstWithin : List ℕ → List ℕ → ℕ → ℕ → Type 0
+AreFirstWithin stamps order bound count =
+    (i : ℕ) → i < count → slice_index stamps (slice_index order i) ≤ bound
+
 -- by stamp, then by node, and then the later place first
 abbrev pub place_cmp : List ℕ → List ℕ → ℕ → ℕ → Ordering
 place_cmp stamps nodes p q =

@@ -3,7 +3,7 @@ ghost use Rattle.std.specs.Prelude.{◌≡◌, ◌↔◌, ◌≤◌, ◌<◌, �
 ghost use Rattle.std.specs.Prelude.{take, count_by, nat_le, false};
 ghost use Rattle.std.specs.List.Sorted.{IsPartitionPoint};
 ghost use Rattle.hlc_columns.specs.Newest.{NotAbove, IsNewestBelow, IsGreatestAt};
-ghost use Rattle.hlc_columns.specs.Order.{IsIndex};
+ghost use Rattle.hlc_columns.specs.Order.{IsIndex, AreFirstWithin};
 
 use hlc_lanes::{greatest_node, newest_at, place_of};
 
@@ -125,21 +125,64 @@ pub(crate) fn newest_from(
     Some(newer(stamps, nodes, first, from + place))
 }
 
-/// The newest of the rows that an index has.
-pub(crate) fn newest_indexed(
+/// The newest of the rows that an index has, where so many of them are at or below the bound.
+pub(crate) fn newest_of_first(
     stamps: &[u64],
     nodes: &[u16],
     order: &[u32],
     bound: u64,
+    count: usize,
 ) -> Option<usize>
-    requires { IsIndex stamps.now nodes.now order.now }
+    requires index { IsIndex stamps.now nodes.now order.now }
+    requires point { IsPartitionPoint (λ place. IsTrue (nat_le (slice_index stamps.now place) bound))
+        (λ place. nat_le (slice_index stamps.now place) bound ≡ false) order.now count }
+    requires few { count ≤ length order.now }
     ensures { IsNewestBelow stamps.now nodes.now bound (length order.now) result }
 {
-    let count = count_indexed(stamps, nodes, order, bound);
     if count == 0 {
         return None;
     }
     Some(order[count - 1] as usize)
+}
+
+/// Whether the first rows of an index, so many, are all at or below the bound.
+fn are_first_within(stamps: &[u64], nodes: &[u16], order: &[u32], bound: u64, count: usize) -> bool
+    requires { IsIndex stamps.now nodes.now order.now }
+    ensures few { IsTrue result → count ≤ length order.now }
+    ensures within { IsTrue result → AreFirstWithin stamps.now order.now bound count }
+{
+    if count == 0 {
+        return true;
+    }
+    match order.get(count - 1) {
+        Some(place) => stamp_at(stamps, *place as usize) <= bound,
+        None => false,
+    }
+}
+
+/// How many of the rows that an index has are at or below the bound, sought from a place on, one row
+/// after another. From any place it is the same.
+pub(crate) fn count_from(
+    stamps: &[u64],
+    nodes: &[u16],
+    order: &[u32],
+    bound: u64,
+    from: usize,
+) -> usize
+    requires { IsIndex stamps.now nodes.now order.now }
+    ensures point { IsPartitionPoint (λ place. IsTrue (nat_le (slice_index stamps.now place) bound))
+        (λ place. nat_le (slice_index stamps.now place) bound ≡ false) order.now result }
+    ensures few { result ≤ length order.now }
+{
+    if !are_first_within(stamps, nodes, order, bound, from) {
+        return count_indexed(stamps, nodes, order, bound);
+    }
+    for count in from..order.len() {
+        if stamp_at(stamps, order[count] as usize) > bound {
+            return count;
+        }
+    }
+    order.len()
 }
 
 /// Whether the last row of an index is at or below the bound.

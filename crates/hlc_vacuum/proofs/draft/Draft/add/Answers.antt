@@ -74,7 +74,7 @@ loop-point-preserved c =
     let on = c.loop-point.self in
     let at : p ≡ get_or points i 0 = c.point-item.is ∙ get_or_default points i p 0 c.loop-point-test.true in
     let told : option_copied c.value_of-told.result ≡ answer rows key (get_or points i 0) =
-    c.value_of-told.ensures key p c.newest-place.ensures.within (c.newest-place.ensures.newest key)
+    c.value_of-told.ensures key p c.newest_on-place.ensures.within (c.newest_on-place.ensures.newest key)
     ∙ ap (answer rows key) at in
     let fields = λ (d : Draft) (same : c.if-not-are_equal.self ≡ d)
     (added : AddedSoFar rows key points (i + 1) old.witnesses.items d.witnesses.items old.keep.items d.keep.items)
@@ -90,17 +90,17 @@ loop-point-preserved c =
       | then-not-are_equal+in_ok-note_change w ↦
           fields (record { keep = w.mark.new.flags; witnesses = w.note_change.new.witnesses }) w.self-is
           (change_added rows key points i c.loop-point-test.true old.witnesses.items on.witnesses.items
-          w.note_change.new.witnesses.items old.keep.items on.keep.items w.mark.new.flags.items c.newest-place.result
+          w.note_change.new.witnesses.items old.keep.items on.keep.items w.mark.new.flags.items c.newest_on-place.result.0
           (λ e. true≢false (sym (c.are_equal.ensures.1 (told ∙ e ∙ sym inv.told)) ∙ w.if-not-are_equal.true))
-          (subst (λ n. IfSome c.newest-place.result (λ j. j < n)) (sym (length-map column (row_of key)))
-          c.newest-place.ensures.within)
-          (c.newest-place.ensures.newest key ∙ ap (newest rows key) at)
+          (subst (λ n. IfSome c.newest_on-place.result.0 (λ j. j < n)) (sym (length-map column (row_of key)))
+          c.newest_on-place.ensures.within)
+          (c.newest_on-place.ensures.newest key ∙ ap (newest rows key) at)
           (w.in_ok-note_change.ensures ∙ ap₂ (λ (b : Option ℕ) (q : ℕ). on.witnesses.items
           ++ record { key = key; before = b; at = q } ∷ []) inv.before at)
-          (subst (λ n. MatchOption c.newest-place.result (w.mark.new.flags.items ≡ on.keep.items)
+          (subst (λ n. MatchOption c.newest_on-place.result.0 (w.mark.new.flags.items ≡ on.keep.items)
           (λ j. w.mark.new.flags.items ≡ set on.keep.items (n + j) true)) (from_here c) w.mark.ensures)
           inv.added)
-          (marked_length on.keep.items w.mark.new.flags.items c.len-from.result c.newest-place.result w.mark.ensures)
+          (marked_length on.keep.items w.mark.new.flags.items c.len-from.result c.newest_on-place.result.0 w.mark.ensures)
       | else-not-are_equal w ↦
           fields on w.self-is
           (same_added rows key points i c.loop-point-test.true old.witnesses.items on.witnesses.items
