@@ -3,6 +3,7 @@
 //! that answer so.
 #![tactic(auto)]
 
+mod boxed;
 mod event;
 mod fault;
 mod laws;
@@ -14,6 +15,7 @@ mod sorted;
 mod step;
 mod store;
 
+pub use boxed::BoxedReport;
 pub use event::CoreEvent;
 pub use fault::{CoreFault, NoNode};
 pub use hlc_checkpoint::{Checkpoint, RestoreFault};

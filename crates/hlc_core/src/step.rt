@@ -9,6 +9,7 @@ use crate::event::CoreEvent;
 use crate::fault::CoreFault;
 use crate::reply::CoreReply;
 use crate::store::Core;
+use hlc_clock::Stamp;
 use hlc_node::Bytes;
 use hlc_values::NoMemory;
 
@@ -72,7 +73,11 @@ impl Core {
                 Ok(stamp) => Ok(CoreReply::Closed(stamp)),
                 Err(_) => Ok(CoreReply::Refused(CoreFault::NoSnapshot)),
             },
-            CoreEvent::Vacuum => Ok(CoreReply::Vacuumed(self.vacuum()?)),
+            CoreEvent::Vacuum => {
+                let block = self.report_block()?;
+                let report = self.vacuum()?;
+                Ok(CoreReply::Vacuumed(block.with(report)))
+            }
             CoreEvent::JoinAt(start) => match self.join_at(*start) {
                 Ok(node) => Ok(CoreReply::Joined {
                     node,
@@ -80,10 +85,26 @@ impl Core {
                 }),
                 Err(fault) => told(fault),
             },
-            CoreEvent::VacuumTo(at) => match self.vacuum_to(*at) {
-                Ok(report) => Ok(CoreReply::Vacuumed(report)),
-                Err(fault) => told(fault),
-            },
+            CoreEvent::VacuumTo(at) => self.vacuum_to_boxed(*at),
+        }
+    }
+
+    /// The reply to a vacuum to a stamp. The block of its report is taken before anything changes.
+    fn vacuum_to_boxed(&mut self, at: Stamp) -> Result<CoreReply, NoMemory>
+        ensures stands { (history : List (AnEvent × AReply)) → StandsForHistory self.old history
+            → Steps self.old self.new (CoreEvent.VacuumTo at) history result }
+        ensures err { OnErr result (self.new ≡ self.old) }
+        ensures refused { IfOk result (λ reply. IsRefused reply → self.new ≡ self.old) }
+        ensures form { IfOk result (λ reply. IsReplyTo (CoreEvent.VacuumTo at) reply) }
+        ensures nodes { nodes self.new ≡ nodes self.old }
+    {
+        if let Err(fault) = self.check_vacuum(at) {
+            return Ok(CoreReply::Refused(fault));
+        }
+        let block = self.report_block()?;
+        match self.vacuum_to(at) {
+            Ok(report) => Ok(CoreReply::Vacuumed(block.with(report))),
+            Err(fault) => told(fault),
         }
     }
 

@@ -298,13 +298,15 @@ fn write_vacuum(core: &mut Core, trail: &mut Trail, caller: u16) -> Result<CoreR
     let Ok(()) = trail.entries.reserve(1) else {
         return Err(NoMemory);
     };
+    let block = core.report_block()?;
+    let other = core.report_block()?;
     let (report, told) = core.vacuum_pair()?;
     trail.entries.push_reserved(Entry {
         caller,
         event: CoreEvent::Vacuum,
-        reply: CoreReply::Vacuumed(told),
+        reply: CoreReply::Vacuumed(other.with(told)),
     });
-    Ok(CoreReply::Vacuumed(report))
+    Ok(CoreReply::Vacuumed(block.with(report)))
 }
 
 /// Vacuums the core to a stamp, and makes the entry of that. Both replies are made before anything
@@ -336,8 +338,13 @@ fn vacuum_twice_to(core: &mut Core, at: Stamp) -> Result<(CoreReply, CoreReply),
     requires { (calls : ℕ) × HasHistory core.old calls }
     ensures { RepliesTwice core.old core.new (AnEvent.VacuumTo at) result }
 {
+    let block = core.report_block()?;
+    let other = core.report_block()?;
     match core.vacuum_pair_to(at) {
-        Ok((report, copy)) => Ok((CoreReply::Vacuumed(report), CoreReply::Vacuumed(copy))),
+        Ok((report, copy)) => Ok((
+            CoreReply::Vacuumed(block.with(report)),
+            CoreReply::Vacuumed(other.with(copy)),
+        )),
         Err(fault) => refuse_twice(fault),
     }
 }
@@ -377,10 +384,11 @@ fn make_vacuum(
         caller AnEvent.Vacuum result }
 {
     match trail {
-        None => match core.vacuum_parallel(rt) {
-            Ok(report) => Ok(CoreReply::Vacuumed(report)),
-            Err(lack) => Err(lack),
-        },
+        None => {
+            let block = core.report_block()?;
+            let report = core.vacuum_parallel(rt)?;
+            Ok(CoreReply::Vacuumed(block.with(report)))
+        }
         Some(trail) => write_parallel_vacuum(rt, core, trail, caller),
     }
 }
@@ -398,13 +406,15 @@ fn write_parallel_vacuum(
     let Ok(()) = trail.entries.reserve(1) else {
         return Err(NoMemory);
     };
+    let block = core.report_block()?;
+    let other = core.report_block()?;
     let (report, copy) = core.vacuum_pair_parallel(rt)?;
     trail.entries.push_reserved(Entry {
         caller,
         event: CoreEvent::Vacuum,
-        reply: CoreReply::Vacuumed(copy),
+        reply: CoreReply::Vacuumed(other.with(copy)),
     });
-    Ok(CoreReply::Vacuumed(report))
+    Ok(CoreReply::Vacuumed(block.with(report)))
 }
 
 /// Vacuums the core to a stamp by a plan of several threads, and writes that into the trail.
@@ -420,10 +430,13 @@ fn make_vacuum_to(
         caller (AnEvent.VacuumTo at) result }
 {
     match trail {
-        None => match core.vacuum_to_parallel(rt, at) {
-            Ok(report) => Ok(CoreReply::Vacuumed(report)),
-            Err(fault) => refuse(fault),
-        },
+        None => {
+            let block = core.report_block()?;
+            match core.vacuum_to_parallel(rt, at) {
+                Ok(report) => Ok(CoreReply::Vacuumed(block.with(report))),
+                Err(fault) => refuse(fault),
+            }
+        }
         Some(trail) => write_parallel_vacuum_to(rt, core, trail, caller, at),
     }
 }
@@ -461,8 +474,13 @@ fn vacuum_twice_to_parallel(
     requires { (calls : ℕ) × HasHistory core.old calls }
     ensures { RepliesTwice core.old core.new (AnEvent.VacuumTo at) result }
 {
+    let block = core.report_block()?;
+    let other = core.report_block()?;
     match core.vacuum_pair_to_parallel(rt, at) {
-        Ok((report, copy)) => Ok((CoreReply::Vacuumed(report), CoreReply::Vacuumed(copy))),
+        Ok((report, copy)) => Ok((
+            CoreReply::Vacuumed(block.with(report)),
+            CoreReply::Vacuumed(other.with(copy)),
+        )),
         Err(fault) => refuse_twice(fault),
     }
 }

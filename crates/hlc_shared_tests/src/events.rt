@@ -64,7 +64,8 @@ fn lists<R: Abort>(rt: &R, alloc: Global, core: &mut Core, id: u64) {
 /// This vacuum, at 1.0, keeps that row, and drops none.
 fn vacuums<R: Abort>(rt: &R, core: &mut Core, event: CoreEvent) {
     match reply(rt, core, event) {
-        CoreReply::Vacuumed(report) => {
+        CoreReply::Vacuumed(boxed) => {
+            let report = boxed.get();
             must_be(
                 rt,
                 (report.floor, report.kept, report.dropped),

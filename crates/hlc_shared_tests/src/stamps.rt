@@ -69,7 +69,8 @@ fn fills<L: Ledger, R: Wait + Threads + Abort + Sync>(
 fn has_vacuumed<L: Ledger, R: Abort>(rt: &R, client: &Client<L>) {
     let receipt = client.receipts.last().expect(rt, "a call that was made");
     match &receipt.reply {
-        CoreReply::Vacuumed(report) => {
+        CoreReply::Vacuumed(boxed) => {
+            let report = boxed.get();
             let counts = (report.floor, report.kept, report.dropped);
             must_be(rt, counts, (at_second(2), 1, 1))
         }

@@ -1,7 +1,9 @@
 -- The core stands for some history, after which the two reports are alike; and the vacuum is a step of each history.
-use Rattle.std.proofs.Common.{ap}
+use Rattle.std.specs.Prelude.{◌≡◌}
+use Rattle.std.proofs.Common.{ap, sym, subst, ◌∙◌}
 use Rattle.hlc_core.specs.declared.reply.CoreReply.TheVariants.{Vacuumed}
-use Rattle.hlc_core.specs.History.{past_of}
+use Rattle.hlc_core.specs.declared.event.CoreEvent.TheVariants.{VacuumTo}
+use Rattle.hlc_core.specs.History.{IsStep, past_of}
 use Rattle.hlc_server.proofs.Histories.{vacuum_is_step}
 use Rattle.hlc_server.proofs.guarded.vacuum_twice_to_parallel.Goals as goal
 
@@ -9,10 +11,12 @@ pub returns-in-Ok : goal.returns-in-Ok
 returns-in-Ok g c =
     let had = c.requires.1 in
     let alike = (c.in-Ok.ensures.stands (past_of had.history) had.stands.core).1 in (
-      ap Vacuumed alike,
+      ap Vacuumed (c.with.ensures ∙ alike ∙ sym c.with-in-Ok.ensures),
       tt,
       λ history stands.
           let made = c.in-Ok.ensures.stands (past_of history) stands.core in
-          vacuum_is_step c.args.core.now c.vacuum_pair_to_parallel.new.self c.args.at history c.in-Ok.report
-          c.in-Ok.ensures.nodes stands made.0 made.2,
+          subst (λ r. IsStep c.args.core.now c.vacuum_pair_to_parallel.new.self (VacuumTo c.args.at) history (Vacuumed r))
+          (sym c.with.ensures)
+          (vacuum_is_step c.args.core.now c.vacuum_pair_to_parallel.new.self c.args.at history c.in-Ok.report
+          c.in-Ok.ensures.nodes stands made.0 made.2),
     )
