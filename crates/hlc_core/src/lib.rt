@@ -3,7 +3,6 @@
 //! that answer so.
 #![tactic(auto)]
 
-mod boxed;
 mod event;
 mod fault;
 mod laws;
@@ -15,7 +14,6 @@ mod sorted;
 mod step;
 mod store;
 
-pub use boxed::BoxedReport;
 pub use event::CoreEvent;
 pub use fault::{CoreFault, NoNode};
 pub use hlc_checkpoint::{Checkpoint, RestoreFault};
@@ -24,7 +22,7 @@ pub use hlc_heads::Accepted;
 pub use hlc_intake::Intake;
 pub use hlc_node::{Body, BodyFault, Bytes, Item, Row};
 pub use hlc_snapshot::{NoSnapshot, Snapshot};
-pub use hlc_vacuum::{Points, Report, Witnesses};
+pub use hlc_vacuum::{BoxedReport, Points, Report, Witnesses};
 pub use hlc_values::NoMemory;
 pub use hlc_witness::Witness;
 pub use laws::{

@@ -61,17 +61,9 @@ fn push_told(
     ensures { OnOk result (pairs.new.items
         ≡ pairs.old.items ++ pair_of key.now (option_copied told.entry)) }
 {
-    match told {
-        Some(value) => push_pair(alloc, pairs, key, value),
-        None => Ok(()),
-    }
-}
-
-/// Adds a pair with copies of a key and a value.
-fn push_pair(alloc: Global, pairs: &mut Vec<Pair>, key: &[u8], value: &[u8]) -> Result<(), NoMemory>
-    ensures { OnOk result (pairs.new.items
-        ≡ pairs.old.items ++ record { key = key.now; value = value.now } ∷ []) }
-{
+    let Some(value) = told else {
+        return Ok(());
+    };
     let key = Bytes::from_slice(alloc, key)?;
     let value = Bytes::from_slice(alloc, value)?;
     pairs.push(Pair { key, value })?;

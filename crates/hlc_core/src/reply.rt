@@ -9,12 +9,12 @@ ghost use Rattle.hlc_core.specs.declared.listing.Pair.{Pair as APair};
 ghost use Rattle.hlc_core.specs.contracts.listing.PairExact.TheImpl.Laws.{equal-law as pair_equal};
 ghost use Rattle.hlc_core.specs.History.{IsPlain};
 
-use crate::boxed::BoxedReport;
 use crate::fault::CoreFault;
 use crate::listing::Listing;
 use hlc_clock::Stamp;
 use hlc_heads::Accepted;
 use hlc_node::Bytes;
+use hlc_vacuum::BoxedReport;
 use hlc_values::{Exact, NoMemory};
 
 /// What a store answers to an event.
@@ -32,7 +32,7 @@ pub enum CoreReply {
     Listing(Listing),
     /// The snapshot was closed; this was its stamp.
     Closed(Stamp),
-    /// The vacuum took place, and did this. The report has a block of its own, so that all replies are small.
+    /// The vacuum took place, and did this. The report has a block of its own: all replies are small.
     Vacuumed(BoxedReport),
     /// The event did not take place.
     Refused(CoreFault),

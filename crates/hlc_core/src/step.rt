@@ -11,6 +11,7 @@ use crate::reply::CoreReply;
 use crate::store::Core;
 use hlc_clock::Stamp;
 use hlc_node::Bytes;
+use hlc_vacuum::BoxedReport;
 use hlc_values::NoMemory;
 
 impl Core {
@@ -87,6 +88,11 @@ impl Core {
             },
             CoreEvent::VacuumTo(at) => self.vacuum_to_boxed(*at),
         }
+    }
+
+    /// A block for the report of a vacuum that is still to come.
+    pub fn report_block(&self) -> Result<BoxedReport, NoMemory> {
+        BoxedReport::blank(self.alloc)
     }
 
     /// The reply to a vacuum to a stamp. The block of its report is taken before anything changes.

@@ -4,14 +4,16 @@ ghost use Rattle.hlc_vacuum.specs.contracts.report.ReportPartialEq.TheImpl.Laws.
 ghost use Rattle.hlc_vacuum.specs.contracts.report.ReportEq.TheImpl.Laws.{laws-law as report_eq};
 ghost use Rattle.hlc_vacuum.specs.contracts.report.ReportExact.TheImpl.Laws.{equal-law as report_equal};
 
-use crate::store::Core;
+use crate::points::Points;
+use crate::report::Report;
+use crate::witnesses::Witnesses;
 use hlc_clock::Stamp;
-use hlc_vacuum::{Points, Report, Witnesses};
 use hlc_values::{Exact, NoMemory};
 use std::alloc::Global;
 use std::marker::Model;
 
-/// A report in a block of memory of its own, so that what holds it, as a reply, is small. Contracts see the report.
+/// A report in a block of memory of its own, so that what has it in a field is small. Contracts see
+/// the report.
 #[derive(Debug, Drop)]
 pub struct BoxedReport {
     held: Box<Report>,
@@ -26,8 +28,8 @@ impl Model for BoxedReport {
 }
 
 impl BoxedReport {
-    /// A block for a report that is still to be made, with a report of nothing in it. So memory can be taken before
-    /// anything changes.
+    /// A block for a report that is still to be made, with a report of nothing in it. So memory can be
+    /// taken before anything changes.
     pub fn blank(alloc: Global) -> Result<BoxedReport, NoMemory>
         ensures { IfOk result (λ boxed. boxed.witnesses ≡ []) }
     {
@@ -57,15 +59,6 @@ impl BoxedReport {
         ensures { result.now ≡ self.now }
     {
         &self.held
-    }
-}
-
-impl Core {
-    /// A block for the report of a vacuum that is still to come, with a report of nothing in it.
-    pub fn report_block(&self) -> Result<BoxedReport, NoMemory>
-        ensures { IfOk result (λ boxed. boxed.witnesses ≡ []) }
-    {
-        BoxedReport::blank(self.alloc)
     }
 }
 
