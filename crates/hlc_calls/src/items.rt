@@ -92,10 +92,7 @@ fn write_refusal(
 fn copy(alloc: Global, bytes: &[u8]) -> Option<Bytes>
     ensures { IfSome result (λ copy. copy ≡ bytes.now) }
 {
-    match Vec::from_slice(alloc, bytes) {
-        Ok(items) => Some(Bytes::from_vec(items)),
-        Err(_) => None,
-    }
+    Bytes::from_slice(alloc, bytes).ok()
 }
 
 /// What a write or a deletion says, or nothing where memory is refused.

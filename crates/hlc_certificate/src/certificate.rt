@@ -56,13 +56,13 @@ impl Certificate {
                 node,
                 value,
             } => self.rows.push(Row {
-                key: Bytes::from_vec(key.to_vec(alloc)?),
+                key: to_bytes(alloc, key)?,
                 stamp: *stamp,
                 node: *node,
                 value: to_value(alloc, value)?,
             })?,
             CheckLine::Witness { key, before, at } => self.witnesses.push(Witness {
-                key: Bytes::from_vec(key.to_vec(alloc)?),
+                key: to_bytes(alloc, key)?,
                 before: *before,
                 at: *at,
             })?,
@@ -71,13 +71,23 @@ impl Certificate {
     }
 }
 
-/// The value, in memory of its own.
+/// The bytes by themselves.
+fn to_bytes(alloc: Global, spelled: &Spelled<'_>) -> Result<Bytes, NoMemory>
+    ensures { IfOk result (λ copy. copy ≡ spelled.now) }
+{
+    match spelled.as_word() {
+        Some(word) => Bytes::from_slice(alloc, word),
+        None => Ok(Bytes::from_vec(spelled.to_vec(alloc)?)),
+    }
+}
+
+/// The value by itself.
 fn to_value(alloc: Global, value: &Option<Spelled<'_>>) -> Result<Option<Bytes>, NoMemory>
     ensures { IfOk result (λ copy. copy ≡ value.now) }
 {
     match value {
         None => Ok(None),
-        Some(bytes) => Ok(Some(Bytes::from_vec(bytes.to_vec(alloc)?))),
+        Some(bytes) => Ok(Some(to_bytes(alloc, bytes)?)),
     }
 }
 

@@ -84,11 +84,14 @@ fn owned_write(
     })
 }
 
-/// The bytes in memory of their own.
+/// The bytes by themselves. Up to 22 bytes that are their own spelling take no memory.
 fn owned(alloc: Global, spelled: Spelled<'_>) -> Result<Bytes, NoMemory>
     ensures { IfOk result (λ owned. owned ≡ spelled.entry) }
 {
-    Ok(Bytes::from_vec(spelled.to_vec(alloc)?))
+    match spelled.as_word() {
+        Some(word) => Bytes::from_slice(alloc, word),
+        None => Ok(Bytes::from_vec(spelled.to_vec(alloc)?)),
+    }
 }
 
 /// The event of the words.

@@ -201,10 +201,8 @@ impl World {
         match self.core.read(id, key) {
             Err(_) => Reply::Refused(Refusal::NoSnapshot),
             Ok(None) => Reply::Answer { value: None },
-            Ok(Some(bytes)) => match Vec::from_slice(self.alloc, bytes) {
-                Ok(copy) => Reply::Answer {
-                    value: Some(Bytes::from_vec(copy)),
-                },
+            Ok(Some(bytes)) => match Bytes::from_slice(self.alloc, bytes) {
+                Ok(copy) => Reply::Answer { value: Some(copy) },
                 Err(_) => Reply::Refused(Refusal::NoMemory),
             },
         }
