@@ -36,7 +36,7 @@ pub(crate) fn item(node: u16, number: u32, body: Body) -> Item {
 
 /// Some bytes, copied.
 pub(crate) fn bytes(alloc: Global, bytes: &[u8]) -> Result<Bytes, AllocError> {
-    Ok(Bytes::from_vec(Vec::from_slice(alloc, bytes)?))
+    Ok(Bytes::from_slice(alloc, bytes)?)
 }
 
 /// The write of this number of the first node.

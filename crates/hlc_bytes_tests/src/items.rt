@@ -77,7 +77,7 @@ fn spells<R: Abort>(rt: &R, alloc: Global, body: Body, spelling: &[u8]) {
 
 /// The bytes of a text.
 fn bytes<R: Abort>(rt: &R, alloc: Global, text: &[u8]) -> Bytes {
-    Bytes::from_vec(Vec::from_slice(alloc, text).expect(rt, "memory"))
+    Bytes::from_slice(alloc, text).expect(rt, "memory")
 }
 
 /// The value is the expected one.

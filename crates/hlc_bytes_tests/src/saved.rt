@@ -42,8 +42,8 @@ fn checkpoint(alloc: Global, horizon: u64) -> Result<Checkpoint, NoMemory> {
     let stamp = Stamp::from_bits(0x20000);
     let links = vec![in alloc; Intake::resuming(1, head, false)]?;
     let snapshots = vec![in alloc; Snapshot { id: 2, stamp }]?;
-    let key = Bytes::from_vec(Vec::from_slice(alloc, b"k")?);
-    let value = Some(Bytes::from_vec(Vec::from_slice(alloc, b"vw")?));
+    let key = Bytes::from_slice(alloc, b"k")?;
+    let value = Some(Bytes::from_slice(alloc, b"vw")?);
     let row = Row {
         key,
         stamp,

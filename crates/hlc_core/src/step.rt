@@ -4,6 +4,7 @@ ghost use Rattle.hlc_core.specs.Kept.{nodes};
 ghost use Rattle.hlc_core.specs.History.{StandsForHistory, Steps, IsQuestion, IsVacuum, IsRefused, IsPlain, IsReplyTo};
 ghost use Rattle.hlc_core.specs.declared.event.CoreEvent.{CoreEvent as AnEvent};
 ghost use Rattle.hlc_core.specs.declared.reply.CoreReply.{CoreReply as AReply};
+ghost use Rattle.hlc_vacuum.specs.Report.{blank_report};
 
 use crate::event::CoreEvent;
 use crate::fault::CoreFault;
@@ -91,7 +92,9 @@ impl Core {
     }
 
     /// A block for the report of a vacuum that is still to come.
-    pub fn report_block(&self) -> Result<BoxedReport, NoMemory> {
+    pub fn report_block(&self) -> Result<BoxedReport, NoMemory>
+        ensures { IfOk result (λ boxed. boxed ≡ blank_report) }
+    {
         BoxedReport::blank(self.alloc)
     }
 

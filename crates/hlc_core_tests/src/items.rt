@@ -11,7 +11,7 @@ pub(crate) fn stamp(reading: u64) -> Stamp {
 
 /// The text, as bytes of their own.
 pub(crate) fn bytes<R: Abort>(rt: &R, alloc: Global, text: &[u8]) -> Bytes {
-    Bytes::from_vec(Vec::from_slice(alloc, text).expect(rt, "memory"))
+    Bytes::from_slice(alloc, text).expect(rt, "memory")
 }
 
 /// The item of a write to this key, or of a deletion where there is no value. It is named by its

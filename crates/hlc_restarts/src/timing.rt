@@ -52,7 +52,7 @@ fn feed_all(
 
 /// The write of this number, to the key of this number.
 fn item_at(alloc: Global, at: u64, key: u64, size: usize) -> Result<Item, AllocError> {
-    let key = Bytes::from_vec(Vec::from_slice(alloc, &key.to_be_bytes())?);
+    let key = Bytes::from_slice(alloc, &key.to_be_bytes())?;
     let value = Some(Bytes::from_vec(vec![in alloc; b'v'; size]?));
     Ok(Item {
         node: 0,

@@ -20,7 +20,7 @@ fn item_of<R: Abort>(rt: &R, alloc: Global, turn: u64) -> Item {
 
 /// The write of v to a key of two bytes.
 fn written<R: Abort>(rt: &R, alloc: Global, key: [u8; 2]) -> Body {
-    let key = Bytes::from_vec(Vec::from_slice(alloc, &key).expect(rt, "memory"));
+    let key = Bytes::from_slice(alloc, &key).expect(rt, "memory");
     let value = Some(bytes(alloc, b'v').expect(rt, "memory"));
     Body::Write { key, value }
 }

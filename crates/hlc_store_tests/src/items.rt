@@ -15,7 +15,7 @@ pub(crate) fn stamp(reading: u64) -> Stamp {
 pub(crate) fn bytes<R: Abort>(rt: &R, alloc: Global, text: &[u8]) -> Bytes
     ensures { result ≡ text.now }
 {
-    Bytes::from_vec(Vec::from_slice(alloc, text).expect(rt, "memory"))
+    Bytes::from_slice(alloc, text).expect(rt, "memory")
 }
 
 /// The item of a write to this key, or of a deletion where there is no value. It is named by its

@@ -36,7 +36,7 @@ fn key_of(alloc: Global, number: u64) -> Result<Bytes, NoMemory>
     ensures { IfOk result (λ key. key ≡ key_text number) }
 {
     let text = format!(in alloc; "k{number}")?;
-    Ok(Bytes::from_vec(text.into_bytes()))
+    Bytes::from_slice(alloc, text.as_bytes())
 }
 
 /// All keys of a storm.
@@ -56,7 +56,7 @@ fn value_of(alloc: Global, node: u16, number: u64) -> Result<Bytes, NoMemory>
     ensures { IfOk result (λ value. value ≡ value_text node number) }
 {
     let text = format!(in alloc; "{node}.{number}")?;
-    Ok(Bytes::from_vec(text.into_bytes()))
+    Bytes::from_slice(alloc, text.as_bytes())
 }
 
 /// The writer of a node: all its items are put on a new link, and then the end. The sending end is dropped in its

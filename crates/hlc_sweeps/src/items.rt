@@ -6,7 +6,7 @@ use std::alloc::{AllocError, Global};
 
 /// These bytes, as a key or a value.
 pub(crate) fn bytes(alloc: Global, text: &[u8]) -> Result<Bytes, AllocError> {
-    Ok(Bytes::from_vec(Vec::from_slice(alloc, text)?))
+    Ok(Bytes::from_slice(alloc, text)?)
 }
 
 /// The next word as a node, or 0.

@@ -6,5 +6,5 @@ use std::test::*;
 
 /// The bytes of a text.
 pub(crate) fn bytes<R: Abort>(rt: &R, alloc: Global, text: &[u8]) -> Bytes {
-    Bytes::from_vec(Vec::from_slice(alloc, text).expect(rt, "memory"))
+    Bytes::from_slice(alloc, text).expect(rt, "memory")
 }

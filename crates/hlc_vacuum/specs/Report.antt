@@ -1,5 +1,5 @@
 -- What a plan reports.
-use Rattle.std.specs.Prelude.{length, count_by, not}
+use Rattle.std.specs.Prelude.{[], length, count_by, not}
 use Rattle.hlc_clock.specs.Points.{last_point}
 use Rattle.hlc_vacuum.specs.declared.report.Report.{Report}
 use Rattle.hlc_vacuum.specs.Plan.{Planned}
@@ -15,3 +15,7 @@ report_of plan = record {
   dropped = count_by not plan.keep;
   witnesses = plan.witnesses;
 }
+
+-- of no vacuum
+abbrev pub blank_report : Report
+blank_report = record { floor = 0; points = []; kept = 0; bytes = 0; dropped = 0; witnesses = [] }

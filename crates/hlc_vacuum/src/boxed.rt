@@ -1,5 +1,6 @@
 //! Reports that lie in a block of memory of their own.
-ghost use Rattle.std.specs.Prelude.{◌≡◌, [], IfOk};
+ghost use Rattle.std.specs.Prelude.{◌≡◌, IfOk};
+ghost use Rattle.hlc_vacuum.specs.Report.{blank_report};
 ghost use Rattle.hlc_vacuum.specs.contracts.report.ReportPartialEq.TheImpl.Laws.{laws-law as report_partial_eq};
 ghost use Rattle.hlc_vacuum.specs.contracts.report.ReportEq.TheImpl.Laws.{laws-law as report_eq};
 ghost use Rattle.hlc_vacuum.specs.contracts.report.ReportExact.TheImpl.Laws.{equal-law as report_equal};
@@ -31,7 +32,7 @@ impl BoxedReport {
     /// A block for a report that is still to be made, with a report of nothing in it. So memory can be
     /// taken before anything changes.
     pub fn blank(alloc: Global) -> Result<BoxedReport, NoMemory>
-        ensures { IfOk result (λ boxed. boxed.witnesses ≡ []) }
+        ensures { IfOk result (λ boxed. boxed ≡ blank_report) }
     {
         let report = Report {
             floor: Stamp::from_bits(0),
