@@ -20,7 +20,7 @@ use std::io::Write;
 fn bytes(alloc: Global, text: &[u8]) -> Result<Bytes, NoMemory>
     ensures { IfOk result (λ bytes. bytes ≡ text.now) }
 {
-    Ok(Bytes::from_vec(Vec::from_slice(alloc, text)?))
+    Ok(Bytes::from_slice(alloc, text)?)
 }
 
 /// Reads a city of a new store in an old snapshot and in a new one, and vacuums.
