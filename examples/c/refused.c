@@ -33,17 +33,17 @@ void *__wrap_realloc(void *at, size_t size)
 
 static uint32_t call(int step, hlc_store *store)
 {
-    static uint8_t out[256];
+    static uint8_t out[1024];
     uint64_t v, w, x, y;
     uint16_t node;
     size_t len;
     switch (step) {
     case 0: return hlc_open(store, 2);
-    case 1: return hlc_accept_write(store, 0, 0, AT(10), BYTES("apple"), BYTES("red"), &w);
+    case 1: return hlc_accept_write(store, 0, 0, AT(10), BYTES("apple"), BYTES("a red that takes memory"), &w);
     case 2: return hlc_accept_report(store, 1, 0, AT(12), &w);
     case 3: return hlc_open_snapshot_at_floor(store, &v, &w);
     case 4: return hlc_accept_write(store, 0, 1, AT(20), BYTES("apple"), BYTES("green"), &w);
-    case 5: return hlc_accept_delete(store, 1, 1, AT(21), BYTES("pear"), &w);
+    case 5: return hlc_accept_delete(store, 1, 1, AT(21), BYTES("a pear whose key takes memory"), &w);
     case 6: return hlc_open_snapshot(store, AT(20), &v);
     case 7: return hlc_list(store, 1, out, sizeof out, &len);
     case 8: return hlc_close_snapshot(store, 1, &w);
