@@ -1,0 +1,4 @@
+pub mod Heads
+pub mod LeafLemmas
+pub mod Tops
+pub mod Joined
