@@ -68,7 +68,7 @@ digits (suc n) a b p q e i lt =
 is_less : (x y : ℕ) → x < y → nat_cmp x y ≡ Less
 is_less x y lt = grind (arith, nat_tests)
 
-is_equal : (x y : ℕ) → x ≡ y → nat_cmp x y ≡ Equal
+pub is_equal : (x y : ℕ) → x ≡ y → nat_cmp x y ≡ Equal
 is_equal x y e = grind (arith, nat_tests)
 
 less_from : (j : ℕ) (a b : List ℕ) → ((i : ℕ) → i < j → get_or a i 0 ≡ get_or b i 0) → get_or a j 0 < get_or b j 0

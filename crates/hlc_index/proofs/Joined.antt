@@ -7,12 +7,12 @@ use Rattle.std.proofs.lemmas.List.{set_split, take_more_set, drop-set-lt, get_or
 use Rattle.hlc_index.specs.Entries.{entries_in, entries_with}
 
 -- an entry put into the front of two lists, or into the back
-insert_front : {X : Type 0} (xs ys : List X) (i : ℕ) (e : X) → i ≤ length xs → insert xs i e ++ ys ≡ insert (xs ++ ys) i e
+pub insert_front : {X : Type 0} (xs ys : List X) (i : ℕ) (e : X) → i ≤ length xs → insert xs i e ++ ys ≡ insert (xs ++ ys) i e
 insert_front xs ys i e le =
     append_assoc (take i xs) (e ∷ drop i xs) ys
     ∙ ap₂ (λ us vs. us ++ e ∷ vs) (sym (take-append-le i xs ys le)) (sym (drop-append-le i xs ys le))
 
-insert_back : {X : Type 0} (xs ys : List X) (n j : ℕ) (e : X) → n ≡ length xs + j → xs ++ insert ys j e ≡ insert (xs ++ ys) n e
+pub insert_back : {X : Type 0} (xs ys : List X) (n j : ℕ) (e : X) → n ≡ length xs + j → xs ++ insert ys j e ≡ insert (xs ++ ys) n e
 insert_back [] ys n j e is = ap (λ m. insert ys m e) (let f : j ≡ n = omega (arith, is) in f)
 insert_back (x ∷ xs) ys zero j e is = absurd (omega (arith, is))
 insert_back (x ∷ xs) ys (suc n) j e is = ap (λ zs. x ∷ zs) (insert_back xs ys n j e (omega (arith, is)))

@@ -2,3 +2,5 @@ pub mod Heads
 pub mod LeafLemmas
 pub mod Tops
 pub mod Joined
+pub mod Slots
+pub mod Places

@@ -1,5 +1,5 @@
 //! Leaves side by side, and the heads of their first keys.
-ghost use Rattle.std.specs.Prelude.{◌≡◌, ◌≢◌, ◌-◌, ◌+◌, ◌++◌, ◌∷◌, ◌≤◌, ◌<◌, [], List, length, slice_index_or, OnErr, IfErr, OnOk};
+ghost use Rattle.std.specs.Prelude.{◌≡◌, ◌≢◌, ◌-◌, ◌+◌, ◌++◌, ◌∷◌, ◌≤◌, ◌<◌, [], List, length, slice_index_or, All, IsTrue, OnErr, IfErr, OnOk};
 ghost use Rattle.std.specs.Prelude.{take, drop, slice_set};
 ghost use Rattle.std.specs.List.{insert};
 ghost use Rattle.hlc_index.specs.Head.{head_of, AreBytes};
@@ -77,6 +77,7 @@ impl<V: Drop> Leaves<V> {
         ensures inside { result ≤ length self.now }
         ensures upto { IsUptoAt (first_keys self.now) result key.now }
         ensures above { IsAboveAt (first_keys self.now) result key.now }
+        ensures filled { All (λ leaf. 0 < length leaf) self.now }
     {
         let (place, is_alike) = place_of_head(self.tops.as_slice(), head);
         if !is_alike {
@@ -104,6 +105,16 @@ impl<V: Drop> Leaves<V> {
             }
         }
         low
+    }
+
+    /// Whether a slot is the end of all entries and its leaf is full.
+    pub(crate) fn is_full_end(&self, at: usize, slot: usize) -> bool
+        requires { at < length self.now }
+        ensures last { IsTrue result → length self.now ≡ at + 1 }
+        ensures end { IsTrue result → slot ≡ length (slice_index_or self.now at []) }
+    {
+        let last = self.len() - 1;
+        at == last && slot >= MOST_ENTRIES && slot == self.leaf(at).len()
     }
 
     /// Puts an entry into a leaf. Where memory lacks, it comes back, and nothing is changed.

@@ -2,5 +2,10 @@
 #![tactic(auto)]
 
 mod head;
+mod index;
 mod leaf;
 mod leaves;
+
+pub use hlc_node::Bytes;
+pub use hlc_values::NoMemory;
+pub use index::Index;
