@@ -4,3 +4,4 @@ pub mod Tops
 pub mod Joined
 pub mod Slots
 pub mod Places
+pub mod Values

@@ -16,13 +16,13 @@ use Rattle.std.proofs.lemmas.Bool.{cases_lt}
 use Rattle.std.proofs.lemmas.List.{length-map, length-append, map-append, get_or_append_left}
 use Rattle.hlc_index.specs.Entries.{keys_in, key_cmp, is_key, IsSlot, first_key}
 
-other : (a b : List ℕ) → key_cmp a b ≡ Less → key_cmp b a ≡ Greater
+pub other : (a b : List ℕ) → key_cmp a b ≡ Less → key_cmp b a ≡ Greater
 other a b lt = nat_list_cmp_total.antisymm b a ∙ ap ordering_reverse lt
 
 over : (a b : List ℕ) → key_cmp a b ≡ Greater → key_cmp b a ≡ Less
 over a b gt = nat_list_cmp_total.antisymm b a ∙ ap ordering_reverse gt
 
-itself : (key : List ℕ) → key_cmp key key ≡ Equal
+pub itself : (key : List ℕ) → key_cmp key key ≡ Equal
 itself [] = refl
 itself (x ∷ xs) = ap (λ o. ordering_then o (slice_cmp nat_cmp xs xs)) (is_equal x x refl) ∙ itself xs
 
@@ -133,7 +133,7 @@ module _ {V : Type 0} where
   )
 
   -- from a leaf's slot to the whole list
-  keys_joined : (front leaf back : List (List ℕ × V)) (i : ℕ) → i < length leaf
+  pub keys_joined : (front leaf back : List (List ℕ × V)) (i : ℕ) → i < length leaf
       → get_or (keys_in (front ++ leaf ++ back)) (length front + i) [] ≡ get_or (keys_in leaf) i []
   keys_joined [] leaf back i lt =
       ap (λ (ks : List (List ℕ)). get_or ks (0 + i) []) (map-append (λ (e : List ℕ × V). e.0) leaf back)

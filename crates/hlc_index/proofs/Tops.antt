@@ -1,12 +1,12 @@
 -- What the heads of the leaves' first keys stay when leaves change.
 use Rattle.std.proofs.Common.{◌≡◌, ◌≤◌, ◌<◌, ◌+◌, ◌-◌, length-append, Less, Greater, ◌++◌, ◌∷◌, ◌∙◌, ℕ, zero, suc, List, [], get_or, set, length, arith, refl, ap, ap₂, sym, subst, All, map, take, drop}
 use Rattle.std.specs.List.{insert}
-use Rattle.std.proofs.lemmas.List.{length-map, length-drop, length-take, get_or_read, get_or-drop, map-append, take-map, drop-map, map-set, map_push, get_or-map, set-get_or}
+use Rattle.std.proofs.lemmas.List.{length-set, length-map, length-drop, length-take, get_or_read, get_or-drop, map-append, take-map, drop-map, map-set, map_push, get_or-map, set-get_or}
 use Rattle.std.proofs.lemmas.List.Elements.{All-append, All-take, All-drop, All-cons, All-set, All-push}
 use Rattle.hlc_index.specs.Head.{head_of, AreBytes}
-use Rattle.hlc_index.specs.Entries.{keys_in, first_key, first_keys, IsUptoAt, IsAboveAt}
+use Rattle.hlc_index.specs.Entries.{keys_in, first_key, first_keys, IsUptoAt, IsAboveAt, with_value}
 use Rattle.hlc_index.proofs.Heads.{below_by_head, above_by_head}
-use Rattle.hlc_index.proofs.LeafLemmas.{heads_insert, all_insert}
+use Rattle.hlc_index.proofs.LeafLemmas.{heads_insert, all_insert, keys_with}
 
 -- what leaves side by side keep
 abbrev pub AreLeaves : {V : Type 0} → List ℕ → List (List (List ℕ × V)) → Type 0
@@ -155,3 +155,14 @@ module _ {V : Type 0} where
     told_above lt =
         above_by_head (first_keys now) slice heads_are bytes_are key own n
         (λ inside. subst (λ m. m < get_or slice n 0) is (lt (omega (arith, inside, as_many))))
+
+  pub leaves_valued : (tops : List ℕ) (leaves : List (List (List ℕ × V))) (at slot : ℕ) (leaf : List (List ℕ × V)) (w : V)
+      → AreLeaves tops leaves → at < length leaves → leaf ≡ get_or leaves at leaf
+      → AreLeaves tops (set leaves at (with_value leaf slot w))
+  leaves_valued tops leaves at slot leaf w inv inside read =
+      let own : leaf ≡ get_or leaves at [] = get_or_read leaves at leaf inside read [] in
+      let keys = keys_with leaf slot w in
+      leaves_kept tops leaves (set leaves at (with_value leaf slot w)) at (with_value leaf slot w) inv inside
+      (let some = inv.2 at [] inside in let n = ap length own in let m = length-set leaf slot (get_or (keys_in leaf) slot [], w) in
+      omega (arith, some, n, m))
+      (ap (λ (ks : List (List ℕ)). get_or ks 0 []) keys ∙ ap first_key own) refl

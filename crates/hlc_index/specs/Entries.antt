@@ -1,6 +1,6 @@
 -- Keys with their values, and where a key stands among them.
 use Rattle.std.specs.Prelude.{◌≡◌, ◌≢◌, ◌-◌, ◌+◌, ◌<◌, ◌≤◌, ℕ, Bool, true, false, List, map, length, slice_index_or, []}
-use Rattle.std.specs.Prelude.{flat_map, take, drop, ◌++◌}
+use Rattle.std.specs.Prelude.{slice_set, flat_map, take, drop, ◌++◌}
 use Rattle.std.specs.List.{insert}
 use Rattle.std.specs.Ordering.{nat_cmp, is_eq}
 use Rattle.std.specs.declared.cmp.Ordering.{Ordering}
@@ -52,3 +52,11 @@ is_key key other = is_eq (key_cmp key other)
 abbrev pub entries_with : {V : Type 0} → List (List (List ℕ × V)) → ℕ → ℕ → List ℕ × V → List (List ℕ × V)
 entries_with leaves at slot entry =
     entries_in (take at leaves) ++ insert (slice_index_or leaves at []) slot entry ++ entries_in (drop (at + 1) leaves)
+
+-- the entries with another value at a slot
+abbrev pub with_value : {V : Type 0} → List (List ℕ × V) → ℕ → V → List (List ℕ × V)
+with_value entries slot value = slice_set entries slot (slice_index_or (keys_in entries) slot [], value)
+
+-- the leaves with another value at a slot of one
+abbrev pub with_value_in : {V : Type 0} → List (List (List ℕ × V)) → ℕ → ℕ → V → List (List (List ℕ × V))
+with_value_in leaves at slot value = slice_set leaves at (with_value (slice_index_or leaves at []) slot value)

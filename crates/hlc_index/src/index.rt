@@ -1,6 +1,9 @@
 //! The map.
 ghost use Rattle.std.specs.Prelude.{◌≡◌, [], ℕ, None, option_copied, OnOk, OnErr, IfErr};
-ghost use Rattle.std.specs.Map.{lookup};
+ghost use Rattle.std.specs.Map.{lookup, set_value};
+ghost use Rattle.std.specs.Borrow.{Lends, sem};
+ghost use Rattle.std.specs.Prelude.{IsSome, Some};
+ghost use Rattle.hlc_index.specs.contracts.index.Index.{the_row};
 ghost use Rattle.std.specs.BTreeMap.{insert_entry};
 ghost use Rattle.hlc_index.specs.Entries.{key_cmp, is_key};
 
@@ -81,5 +84,18 @@ impl<V: Drop> Index<V> {
             return self.leaves.push(entry, head);
         }
         self.leaves.put(at, slot, entry, head)
+    }
+
+    /// The value of a key that is there, to be changed. It takes no memory.
+    pub fn value_mut(&mut self, key: &[u8]) -> &mut V
+        requires { IsSome (lookup (is_key key.now) self.old) }
+        ensures* lends { sem 𝓛 (Lends (the_row V.row) V.row self.entry result
+            (set_value (is_key key.now) self.old)) }
+        ensures value { lookup (is_key key.now) self.old ≡ Some result.now }
+    {
+        let head = head_of(key);
+        let at = self.leaves.count_upto(key, head) - 1;
+        let (slot, _) = self.leaves.leaf(at).find(key, head);
+        self.leaves.value_mut(at, slot)
     }
 }

@@ -4,6 +4,9 @@ ghost use Rattle.std.specs.Prelude.{take, drop, slice_get, Some};
 ghost use Rattle.std.specs.List.{insert};
 ghost use Rattle.hlc_index.specs.Head.{head_of, AreBytes};
 ghost use Rattle.hlc_index.specs.Entries.{keys_in, key_cmp, IsSlot, IsBelowAt, IsAboveAt};
+ghost use Rattle.hlc_index.specs.Entries.{with_value};
+ghost use Rattle.std.specs.Borrow.{Lends, sem};
+ghost use Rattle.hlc_index.specs.contracts.leaf.Leaf.{the_row};
 
 use crate::head::{head_of, place_of_head};
 use hlc_node::Bytes;
@@ -166,5 +169,17 @@ impl<V> Leaf<V> {
         ensures bytes { All AreBytes (keys_in self.now) }
     {
         self.heads[slot]
+    }
+
+    /// The value at a slot, to be changed.
+    pub(crate) fn value_mut(&mut self, slot: usize) -> &mut V
+        requires { slot < length self.old }
+        ensures* lends { sem 𝓛 (Lends (the_row V.row) V.row self.entry result
+            (with_value self.old slot)) }
+        ensures value { slice_get self.old slot
+            ≡ Some (slice_index_or (keys_in self.old) slot [], result.now) }
+    {
+        let entry = &mut self.entries[slot];
+        &mut entry.1
     }
 }

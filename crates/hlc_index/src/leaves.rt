@@ -4,7 +4,10 @@ ghost use Rattle.std.specs.Prelude.{take, drop, slice_set};
 ghost use Rattle.std.specs.List.{insert};
 ghost use Rattle.hlc_index.specs.Head.{head_of, AreBytes};
 ghost use Rattle.hlc_index.specs.Entries.{keys_in, first_keys, IsUptoAt, IsAboveAt};
-ghost use Rattle.hlc_index.specs.Entries.{entries_in, entries_with};
+ghost use Rattle.hlc_index.specs.Entries.{entries_in, entries_with, with_value_in};
+ghost use Rattle.std.specs.Borrow.{Lends, sem};
+ghost use Rattle.std.specs.Prelude.{slice_get, Some};
+ghost use Rattle.hlc_index.specs.contracts.leaves.Leaves.{the_row};
 
 use crate::head::place_of_head;
 use crate::leaf::{Leaf, MOST_ENTRIES};
@@ -221,5 +224,18 @@ impl<V: Drop> Leaves<V> {
         } else {
             self.insert(at + 1, slot - HALF, entry, head)
         }
+    }
+
+    /// The value at a slot of a leaf, to be changed.
+    pub(crate) fn value_mut(&mut self, at: usize, slot: usize) -> &mut V
+        requires leaf { at < length self.old }
+        requires inside { slot < length (slice_index_or self.old at []) }
+        ensures* lends { sem 𝓛 (Lends (the_row V.row) V.row self.entry result
+            (with_value_in self.old at slot)) }
+        ensures value { slice_get (slice_index_or self.old at []) slot
+            ≡ Some (slice_index_or (keys_in (slice_index_or self.old at [])) slot [], result.now) }
+    {
+        let leaf = &mut self.leaves[at];
+        leaf.value_mut(slot)
     }
 }
