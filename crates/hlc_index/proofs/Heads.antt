@@ -9,8 +9,8 @@ use Rattle.std.specs.Cmp.Lexicographic.{nat_list_cmp_total}
 use Rattle.std.specs.Cmp.Lexicographic.{texts_ties}
 use Rattle.std.specs.Ordering.{is_eq}
 use Rattle.std.proofs.lemmas.Slice.Eq.{bytes_eq-Decides}
-use Rattle.std.proofs.lemmas.List.{get_or-map, length-map}
-use Rattle.std.proofs.Common.{map}
+use Rattle.std.proofs.lemmas.List.{get_or-map, length-map, get_or-drop, drop_all}
+use Rattle.std.proofs.Common.{map, drop, ap₂}
 use Rattle.hlc_index.specs.Entries.{IsBelowAt, IsAboveAt}
 use Rattle.hlc_index.specs.Head.{head_of, head_upto, AreBytes}
 use Rattle.hlc_index.specs.Entries.{key_cmp, keys_in}
@@ -48,9 +48,41 @@ pub head_more : (n : ℕ) (key : List ℕ) → head_upto (n + 1) key ≡ head_up
 unfolding head_upto
 head_more n key = ap (λ m. head_upto m key) (let e : n + 1 ≡ suc n = omega arith in e)
 
-pub head_whole : (key : List ℕ) → head_of key ≡ ((((((((get_or key 0 0) * 256 + get_or key 1 0) * 256 + get_or key 2 0) * 256 + get_or key 3 0) * 256 + get_or key 4 0) * 256 + get_or key 5 0) * 256 + get_or key 6 0) * 256 + get_or key 7 0)
+pub head_whole : (key : List ℕ) → head_upto 8 key ≡ ((((((((get_or key 0 0) * 256 + get_or key 1 0) * 256 + get_or key 2 0) * 256 + get_or key 3 0) * 256 + get_or key 4 0) * 256 + get_or key 5 0) * 256 + get_or key 6 0) * 256 + get_or key 7 0)
 unfolding head_upto
 head_whole key = omega arith
+
+-- the first bytes in front of those behind them
+step : (a h p b x y : ℕ) → a ≡ h * p + b → x ≡ y → a * 256 + x ≡ h * (p * 256) + (b * 256 + y)
+step a h p b x y e f = grind arith
+
+head_split : (n m k : ℕ) (key : List ℕ) → m ≡ k + n → head_upto m key ≡ head_upto k key * most n + head_upto n (drop k key)
+unfolding head_upto
+head_split zero m k key e = ap (λ i. head_upto i key) (let f : m ≡ k = omega (arith, e) in f) ∙ omega arith
+head_split (suc n) zero k key e = absurd (omega (arith, e))
+head_split (suc n) (suc m) k key e =
+    step (head_upto m key) (head_upto k key) (most n) (head_upto n (drop k key)) (get_or key m 0) (get_or (drop k key) n 0)
+    (head_split n m k key (omega (arith, e)))
+    (ap (λ i. get_or key i 0) (let f : m ≡ k + n = omega (arith, e) in f) ∙ sym (get_or-drop k key n 0))
+
+none_upto : (n : ℕ) → head_upto n [] ≡ 0
+unfolding head_upto
+none_upto zero = refl
+none_upto (suc n) = let e = none_upto n in omega (arith, e)
+
+eight_most : most 8 ≡ 2 ^ 64
+eight_most = refl
+
+pub head_two : (key : List ℕ) (front back : ℕ) → front ≡ head_upto 8 key → back ≡ head_upto 8 (drop 8 key)
+    → front * 2 ^ 64 + back ≡ head_of key
+head_two key front back e f =
+    ap₂ (λ x y. x * 2 ^ 64 + y) e f ∙ ap (λ p. head_upto 8 key * p + head_upto 8 (drop 8 key)) (sym eight_most)
+    ∙ sym (head_split 8 16 8 key (omega arith))
+
+pub head_one : (key : List ℕ) (front : ℕ) → front ≡ head_upto 8 key → length key ≤ 8 → front * 2 ^ 64 ≡ head_of key
+head_one key front e few =
+    (let m : front * 2 ^ 64 ≡ front * 2 ^ 64 + 0 = omega arith in m)
+    ∙ head_two key front 0 e (sym (ap (head_upto 8) (drop_all 8 key few) ∙ none_upto 8))
 
 digits : (n : ℕ) (a b : List ℕ) → AreBytes a → AreBytes b → head_upto n a ≡ head_upto n b → (i : ℕ) → i < n → get_or a i 0 ≡ get_or b i 0
 unfolding head_upto
@@ -95,7 +127,7 @@ head_upto_below (suc n) a b p q lt =
 
 -- where one head is below another, the key is
 pub head_below : (a b : List ℕ) → AreBytes a → AreBytes b → head_of a < head_of b → key_cmp a b ≡ Less
-head_below a b p q lt = head_upto_below 8 a b p q lt
+head_below a b p q lt = head_upto_below 16 a b p q lt
 
 pub head_above : (a b : List ℕ) → AreBytes a → AreBytes b → head_of b < head_of a → key_cmp a b ≡ Greater
 head_above a b p q lt = nat_list_cmp_total.antisymm a b ∙ ap ordering_reverse (head_below b a q p lt)

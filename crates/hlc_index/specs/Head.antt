@@ -10,5 +10,6 @@ unfoldable pub head_upto : ℕ → List ℕ → ℕ
 head_upto zero key = 0
 head_upto (suc n) key = head_upto n key * 256 + slice_index key n
 
+-- its first sixteen bytes
 abbrev pub head_of : List ℕ → ℕ
-head_of key = head_upto 8 key
+head_of key = head_upto 16 key

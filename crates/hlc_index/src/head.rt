@@ -1,10 +1,26 @@
-//! The head of a key: its first eight bytes as one number.
+//! The head of a key: its first sixteen bytes as one number.
 ghost use Rattle.std.specs.Prelude.{◌≡◌, ◌-◌, ◌≤◌, ◌<◌, IsTrue, false, length, slice_index};
-ghost use Rattle.hlc_index.specs.Head.{head_of, AreBytes};
+ghost use Rattle.hlc_index.specs.Head.{head_of, head_upto, AreBytes};
 
-/// The first eight bytes of a key, the first one highest, with zeros behind a shorter key.
-pub(crate) fn head_of(key: &[u8]) -> u64
+/// What a number of eight bytes is multiplied by to stand in front of eight others.
+const ABOVE: u128 = 0x1_0000_0000_0000_0000;
+
+/// The first sixteen bytes of a key, the first one highest, with zeros behind a shorter key.
+pub(crate) fn head_of(key: &[u8]) -> u128
     ensures value { result ≡ head_of key.now }
+    ensures bytes { AreBytes key.now }
+{
+    let front = first_eight(key);
+    if key.len() <= 8 {
+        return front as u128 * ABOVE;
+    }
+    let back = first_eight(&key[8..]);
+    front as u128 * ABOVE + back as u128
+}
+
+/// The first eight bytes, the first one highest, with zeros behind fewer.
+fn first_eight(key: &[u8]) -> u64
+    ensures value { result ≡ head_upto 8 key.now }
     ensures bytes { AreBytes key.now }
 {
     if key.len() < 8 {
@@ -15,9 +31,9 @@ pub(crate) fn head_of(key: &[u8]) -> u64
     ])
 }
 
-/// The head of a key of fewer than eight bytes.
+/// The same of fewer than eight bytes.
 fn short_head(key: &[u8]) -> u64
-    ensures { result ≡ head_of key.now }
+    ensures { result ≡ head_upto 8 key.now }
 {
     let mut head = 0u64;
     for i in 0..8 {
@@ -34,7 +50,7 @@ fn byte_at(key: &[u8], i: usize) -> u8
 }
 
 /// How many of the first heads are below a head, where no later one is below it.
-fn count_below(heads: &[u64], head: u64) -> usize
+fn count_below(heads: &[u128], head: u128) -> usize
     ensures inside { result ≤ length heads.now }
     ensures below { 0 < result → slice_index heads.now (result - 1) < head }
     ensures above { result < length heads.now → head ≤ slice_index heads.now result }
@@ -53,7 +69,7 @@ fn count_below(heads: &[u64], head: u64) -> usize
 }
 
 /// How many of the first heads are below a head, where no later one is below it, and whether the next is that head.
-pub(crate) fn place_of_head(heads: &[u64], head: u64) -> (usize, bool)
+pub(crate) fn place_of_head(heads: &[u128], head: u128) -> (usize, bool)
     ensures inside { result.0 ≤ length heads.now }
     ensures below { 0 < result.0 → slice_index heads.now (result.0 - 1) < head }
     ensures alike { IsTrue result.1 → result.0 < length heads.now }

@@ -21,7 +21,7 @@ pub(crate) const MOST_ENTRIES: usize = 128;
 /// Some entries in the order of their keys. Contracts see their list.
 #[derive(Drop)]
 pub(crate) struct Leaf<V> {
-    heads: Vec<u64>,
+    heads: Vec<u128>,
     entries: Vec<(Bytes, V)>,
 }
 
@@ -69,7 +69,7 @@ impl<V> Leaf<V> {
     }
 
     /// Where a key stands, or would stand. Heads decide, and where they are alike, whole keys.
-    pub(crate) fn find(&self, key: &[u8], head: u64) -> (usize, bool)
+    pub(crate) fn find(&self, key: &[u8], head: u128) -> (usize, bool)
         requires head { head ≡ head_of key.now }
         requires bytes { AreBytes key.now }
         ensures { IsSlot (keys_in self.now) key.now result.0 result.1 }
@@ -118,7 +118,7 @@ impl<V> Leaf<V> {
         &mut self,
         slot: usize,
         entry: (Bytes, V),
-        head: u64,
+        head: u128,
     ) -> Result<(), AllocFailed<(Bytes, V)>>
         requires inside { slot ≤ length self.old }
         requires head { head ≡ head_of entry.0 }
@@ -163,7 +163,7 @@ impl<V> Leaf<V> {
     }
 
     /// The head of the key at a slot.
-    pub(crate) fn head(&self, slot: usize) -> u64
+    pub(crate) fn head(&self, slot: usize) -> u128
         requires { slot < length self.now }
         ensures value { result ≡ head_of (slice_index_or (keys_in self.now) slot []) }
         ensures bytes { All AreBytes (keys_in self.now) }

@@ -24,7 +24,7 @@ const HALF: usize = MOST_ENTRIES / 2;
 #[derive(Drop)]
 pub(crate) struct Leaves<V> {
     alloc: Global,
-    tops: Vec<u64>,
+    tops: Vec<u128>,
     leaves: Vec<Leaf<V>>,
 }
 
@@ -74,7 +74,7 @@ impl<V: Drop> Leaves<V> {
     }
 
     /// How many of the first leaves begin at or below a key.
-    pub(crate) fn count_upto(&self, key: &[u8], head: u64) -> usize
+    pub(crate) fn count_upto(&self, key: &[u8], head: u128) -> usize
         requires head { head ≡ head_of key.now }
         requires bytes { AreBytes key.now }
         ensures inside { result ≤ length self.now }
@@ -126,7 +126,7 @@ impl<V: Drop> Leaves<V> {
         at: usize,
         slot: usize,
         entry: (Bytes, V),
-        head: u64,
+        head: u128,
     ) -> Result<(), AllocFailed<(Bytes, V)>>
         requires leaf { at < length self.old }
         requires inside { slot ≤ length (slice_index_or self.old at []) }
@@ -148,7 +148,7 @@ impl<V: Drop> Leaves<V> {
     pub(crate) fn push(
         &mut self,
         entry: (Bytes, V),
-        head: u64,
+        head: u128,
     ) -> Result<(), AllocFailed<(Bytes, V)>>
         requires head { head ≡ head_of entry.0 }
         requires bytes { AreBytes entry.0 }
@@ -201,7 +201,7 @@ impl<V: Drop> Leaves<V> {
         at: usize,
         slot: usize,
         entry: (Bytes, V),
-        head: u64,
+        head: u128,
     ) -> Result<(), AllocFailed<(Bytes, V)>>
         requires leaf { at < length self.old }
         requires inside { slot ≤ length (slice_index_or self.old at []) }
