@@ -5,3 +5,4 @@ pub mod Joined
 pub mod Slots
 pub mod Places
 pub mod Values
+pub mod Listed

@@ -1,6 +1,7 @@
 -- Keys with their values, and where a key stands among them.
 use Rattle.std.specs.Prelude.{◌≡◌, ◌≢◌, ◌-◌, ◌+◌, ◌<◌, ◌≤◌, ℕ, Bool, true, false, List, map, length, slice_index_or, []}
 use Rattle.std.specs.Prelude.{slice_set, flat_map, take, drop, ◌++◌}
+use Rattle.std.specs.Borrow.{Bor}
 use Rattle.std.specs.List.{insert}
 use Rattle.std.specs.Ordering.{nat_cmp, is_eq}
 use Rattle.std.specs.declared.cmp.Ordering.{Ordering}
@@ -60,3 +61,7 @@ with_value entries slot value = slice_set entries slot (slice_index_or (keys_in 
 -- the leaves with another value at a slot of one
 abbrev pub with_value_in : {V : Type 0} → List (List (List ℕ × V)) → ℕ → ℕ → V → List (List (List ℕ × V))
 with_value_in leaves at slot value = slice_set leaves at (with_value (slice_index_or leaves at []) slot value)
+
+-- the entries behind references
+abbrev pub seen_in : {V : Type 0} → List (Bor (List ℕ) × Bor V) → List (List ℕ × V)
+seen_in list = map (λ e. (e.0.now, e.1.now)) list

@@ -5,11 +5,14 @@ ghost use Rattle.std.specs.Borrow.{Lends, sem};
 ghost use Rattle.std.specs.Prelude.{IsSome, Some};
 ghost use Rattle.hlc_index.specs.contracts.index.Index.{the_row};
 ghost use Rattle.std.specs.BTreeMap.{insert_entry};
-ghost use Rattle.hlc_index.specs.Entries.{key_cmp, is_key};
+ghost use Rattle.hlc_index.specs.Entries.{key_cmp, is_key, keys_in, seen_in};
+ghost use Rattle.std.specs.List.Sorted.{IsStrictlySortedBy};
+ghost use Rattle.std.specs.Prelude.{IfOk};
 
 use crate::head::head_of;
 use crate::leaves::Leaves;
 use hlc_node::Bytes;
+use hlc_values::NoMemory;
 use std::alloc::{AllocFailed, Global};
 use std::marker::Model;
 
@@ -97,5 +100,13 @@ impl<V: Drop> Index<V> {
         let at = self.leaves.count_upto(key, head) - 1;
         let (slot, _) = self.leaves.leaf(at).find(key, head);
         self.leaves.value_mut(at, slot)
+    }
+
+    /// The entries, in the order of their keys.
+    pub fn entries(&self, alloc: Global) -> Result<Vec<(&[u8], &V)>, NoMemory>
+        ensures exact { IfOk result (λ list. seen_in list.items ≡ self.now) }
+        ensures ascend { IsStrictlySortedBy key_cmp (keys_in self.now) }
+    {
+        self.leaves.entries(alloc)
     }
 }

@@ -1,10 +1,10 @@
 //! A leaf: some entries of the map in the order of their keys, with the heads of the keys side by side.
-ghost use Rattle.std.specs.Prelude.{◌≡◌, ◌-◌, ◌≤◌, ◌<◌, [], List, length, slice_index_or, All, OnErr, IfOk, IfErr, OnOk};
+ghost use Rattle.std.specs.Prelude.{◌≡◌, ◌++◌, ◌-◌, ◌≤◌, ◌<◌, [], List, length, slice_index_or, All, OnErr, IfOk, IfErr, OnOk};
 ghost use Rattle.std.specs.Prelude.{take, drop, slice_get, Some};
 ghost use Rattle.std.specs.List.{insert};
 ghost use Rattle.hlc_index.specs.Head.{head_of, AreBytes};
 ghost use Rattle.hlc_index.specs.Entries.{keys_in, key_cmp, IsSlot, IsBelowAt, IsAboveAt};
-ghost use Rattle.hlc_index.specs.Entries.{with_value};
+ghost use Rattle.hlc_index.specs.Entries.{with_value, seen_in};
 ghost use Rattle.std.specs.Borrow.{Lends, sem};
 ghost use Rattle.hlc_index.specs.contracts.leaf.Leaf.{the_row};
 
@@ -181,5 +181,15 @@ impl<V> Leaf<V> {
     {
         let entry = &mut self.entries[slot];
         &mut entry.1
+    }
+
+    /// Puts the entries last in a list. Where memory lacks, the list may have some of them.
+    pub(crate) fn list<'a>(&'a self, list: &mut Vec<(&'a [u8], &'a V)>) -> Result<(), NoMemory>
+        ensures { OnOk result (seen_in list.new.items ≡ seen_in list.old.items ++ self.now) }
+    {
+        for slot in 0..self.len() {
+            list.push((self.key(slot), self.value(slot)))?;
+        }
+        Ok(())
     }
 }

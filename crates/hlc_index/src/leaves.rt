@@ -4,9 +4,9 @@ ghost use Rattle.std.specs.Prelude.{take, drop, slice_set};
 ghost use Rattle.std.specs.List.{insert};
 ghost use Rattle.hlc_index.specs.Head.{head_of, AreBytes};
 ghost use Rattle.hlc_index.specs.Entries.{keys_in, first_keys, IsUptoAt, IsAboveAt};
-ghost use Rattle.hlc_index.specs.Entries.{entries_in, entries_with, with_value_in};
+ghost use Rattle.hlc_index.specs.Entries.{entries_in, entries_with, with_value_in, seen_in};
 ghost use Rattle.std.specs.Borrow.{Lends, sem};
-ghost use Rattle.std.specs.Prelude.{slice_get, Some};
+ghost use Rattle.std.specs.Prelude.{slice_get, Some, IfOk};
 ghost use Rattle.hlc_index.specs.contracts.leaves.Leaves.{the_row};
 
 use crate::head::place_of_head;
@@ -237,5 +237,16 @@ impl<V: Drop> Leaves<V> {
     {
         let leaf = &mut self.leaves[at];
         leaf.value_mut(slot)
+    }
+
+    /// The entries of the leaves, one leaf after another.
+    pub(crate) fn entries(&self, alloc: Global) -> Result<Vec<(&[u8], &V)>, NoMemory>
+        ensures { IfOk result (λ list. seen_in list.items ≡ entries_in self.now) }
+    {
+        let mut list = Vec::new(alloc);
+        for at in 0..self.len() {
+            self.leaf(at).list(&mut list)?;
+        }
+        Ok(list)
     }
 }
