@@ -1,5 +1,6 @@
 //! A leaf: some entries of the map in the order of their keys, with the heads of the keys side by side.
-ghost use Rattle.std.specs.Prelude.{◌≡◌, ◌++◌, ◌-◌, ◌≤◌, ◌<◌, [], List, length, slice_index_or, All, OnErr, IfOk, IfErr, OnOk};
+ghost use Rattle.std.specs.Prelude.{◌≡◌, ◌++◌, ◌-◌, ◌≤◌, ◌<◌, [], List, length, slice_index_or, All};
+ghost use Rattle.std.specs.Prelude.{OnErr, IfOk, IfErr, OnOk};
 ghost use Rattle.std.specs.Prelude.{take, drop, slice_get, Some};
 ghost use Rattle.std.specs.List.{insert};
 ghost use Rattle.hlc_index.specs.Head.{head_of, AreBytes};

@@ -5,6 +5,8 @@ mod head;
 mod index;
 mod leaf;
 mod leaves;
+#[cfg(test)]
+mod tests;
 
 pub use hlc_node::Bytes;
 pub use hlc_values::NoMemory;
