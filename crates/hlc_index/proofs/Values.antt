@@ -12,7 +12,7 @@ use Rattle.hlc_index.proofs.Heads.{length_keys}
 use Rattle.hlc_index.proofs.LeafLemmas.{keys_with}
 use Rattle.hlc_index.proofs.Joined.{joined_all, joined_set}
 use Rattle.hlc_index.proofs.Slots.{itself, other, keys_joined, none_some, found_lookup, entry_joined}
-use Rattle.hlc_index.proofs.Places.{none_first, none_there}
+use Rattle.hlc_index.proofs.Places.{none_first, none_there, end_place}
 
 no_none : {X : Type 0} (o : Option X) → None ≡ o → IsSome o → ⊥
 no_none None e s = true≢false (sym s)
@@ -110,3 +110,20 @@ module _ {V : Type 0} where
     let lt = is.0 in let m = length_keys leaf in let e = ap length own in omega (arith, lt, m, e),
     ap (λ (l : List (List ℕ × V)). get_or (keys_in l) slot []) (sym own) ∙ is.1,
   )
+
+  -- the last entry of the last leaf is the last of all
+  pub last_is : (ls : List (List (List ℕ × V))) (now : List (List ℕ × V)) (count slot : ℕ) (leaf : List (List ℕ × V)) (key : List ℕ) (v : V)
+      → (count ≡ 0 → ⊥) → count ≡ length ls → leaf ≡ get_or ls (count - 1) [] → 0 < length leaf → slot ≡ length leaf - 1
+      → entries_in ls ≡ now → key ≡ get_or (keys_in leaf) slot [] → slice_get leaf slot ≡ Some (get_or (keys_in leaf) slot [], v)
+      → slice_get now (length now - 1) ≡ Some (key, v)
+  last_is ls now count slot leaf key v some all own filled end view is read =
+      let lt : slot < length leaf = omega (arith, end, filled) in
+      let inside : count - 1 < length ls = omega (arith, some, all) in
+      let whole = joined_all ls (count - 1) inside in
+      let place = end_place ls count (length leaf) leaf some all own refl in
+      let same = ap length view in
+      ap (slice_get now) (let e : length now - 1 ≡ length (entries_in (take (count - 1) ls)) + slot = omega (arith, place, same, end, filled) in e)
+      ∙ ap (λ (l : List (List ℕ × V)). slice_get l (length (entries_in (take (count - 1) ls)) + slot)) (sym view ∙ whole)
+      ∙ entry_joined (entries_in (take (count - 1) ls)) (get_or ls (count - 1) []) (entries_in (drop (count - 1 + 1) ls)) slot
+      (let e = ap length own in omega (arith, lt, e))
+      ∙ ap (λ (l : List (List ℕ × V)). slice_get l slot) (sym own) ∙ read ∙ ap (λ k. Some (k, v)) (sym is)

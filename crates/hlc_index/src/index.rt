@@ -7,7 +7,7 @@ ghost use Rattle.hlc_index.specs.contracts.index.Index.{the_row};
 ghost use Rattle.std.specs.BTreeMap.{insert_entry};
 ghost use Rattle.hlc_index.specs.Entries.{key_cmp, is_key, keys_in, seen_in};
 ghost use Rattle.std.specs.List.Sorted.{IsStrictlySortedBy};
-ghost use Rattle.std.specs.Prelude.{IfOk};
+ghost use Rattle.std.specs.Prelude.{IfOk, IfSome, IsNone, slice_get, length, ◌-◌, ◌↔◌};
 
 use crate::head::head_of;
 use crate::leaves::Leaves;
@@ -108,5 +108,20 @@ impl<V: Drop> Index<V> {
         ensures ascend { IsStrictlySortedBy key_cmp (keys_in self.now) }
     {
         self.leaves.entries(alloc)
+    }
+
+    /// The entry of the greatest key. It takes no memory.
+    pub fn last(&self) -> Option<(&[u8], &V)>
+        ensures absent { IsNone result ↔ (self.now ≡ []) }
+        ensures last { IfSome result (λ e. slice_get self.now (length self.now - 1)
+            ≡ Some (e.0.now, e.1.now)) }
+    {
+        let count = self.leaves.len();
+        if count == 0 {
+            return None;
+        }
+        let last = self.leaves.leaf(count - 1);
+        let slot = last.len() - 1;
+        Some((last.key(slot), last.value(slot)))
     }
 }

@@ -45,6 +45,9 @@ fn are_alike(alloc: Global, count: u16) -> Result<bool, AllocError> {
         }
     }
     let entries = index.entries(alloc)?;
+    if index.last().map(|last| *last.1) != tree.last_key_value().map(|last| *last.1) {
+        return Ok(false);
+    }
     let mut place = 0;
     for (key, value) in &tree {
         let is_same = match entries.get(place) {
