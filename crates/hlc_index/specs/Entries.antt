@@ -1,0 +1,67 @@
+-- Keys with their values, and where a key stands among them.
+use Rattle.std.specs.Prelude.{◌≡◌, ◌≢◌, ◌-◌, ◌+◌, ◌<◌, ◌≤◌, ℕ, Bool, true, false, List, map, length, slice_index_or, []}
+use Rattle.std.specs.Prelude.{slice_set, flat_map, take, drop, ◌++◌}
+use Rattle.std.specs.Borrow.{Bor}
+use Rattle.std.specs.List.{insert}
+use Rattle.std.specs.Ordering.{nat_cmp, is_eq}
+use Rattle.std.specs.declared.cmp.Ordering.{Ordering}
+use Rattle.std.specs.declared.cmp.Ordering.TheVariants.{Less, Greater}
+use Rattle.std.specs.Cmp.Lexicographic.{slice_cmp}
+
+-- how two keys compare, byte by byte
+abbrev pub key_cmp : List ℕ → List ℕ → Ordering
+key_cmp a b = slice_cmp nat_cmp a b
+
+-- the keys of some entries
+abbrev pub keys_in : {V : Type 0} → List (List ℕ × V) → List (List ℕ)
+keys_in entries = map (λ e. e.0) entries
+
+-- the key in front of a place is below a key
+abbrev pub IsBelowAt : List (List ℕ) → ℕ → List ℕ → Type 0
+IsBelowAt keys n key = 0 < n → key_cmp (slice_index_or keys (n - 1) []) key ≡ Less
+
+-- the key at a place is above a key
+abbrev pub IsAboveAt : List (List ℕ) → ℕ → List ℕ → Type 0
+IsAboveAt keys n key = n < length keys → key_cmp (slice_index_or keys n []) key ≡ Greater
+
+-- a key stands at a place, or would stand there
+abbrev pub IsSlot : List (List ℕ) → List ℕ → ℕ → Bool → Type 0
+IsSlot keys key n true = (n < length keys) × (slice_index_or keys n [] ≡ key)
+IsSlot keys key n false = (n ≤ length keys) × IsBelowAt keys n key × IsAboveAt keys n key
+
+-- the first key of some entries
+abbrev pub first_key : {V : Type 0} → List (List ℕ × V) → List ℕ
+first_key entries = slice_index_or (keys_in entries) 0 []
+
+-- the first key of each list of entries
+abbrev pub first_keys : {V : Type 0} → List (List (List ℕ × V)) → List (List ℕ)
+first_keys leaves = map first_key leaves
+
+-- the key in front of a place is not above a key
+abbrev pub IsUptoAt : List (List ℕ) → ℕ → List ℕ → Type 0
+IsUptoAt keys n key = 0 < n → key_cmp (slice_index_or keys (n - 1) []) key ≢ Greater
+
+-- the entries of the leaves, one leaf after another
+abbrev pub entries_in : {V : Type 0} → List (List (List ℕ × V)) → List (List ℕ × V)
+entries_in leaves = flat_map (λ leaf. leaf) leaves
+
+-- the entry of a key, if there is one
+abbrev pub is_key : List ℕ → List ℕ → Bool
+is_key key other = is_eq (key_cmp key other)
+
+-- the same with one entry more in a leaf
+abbrev pub entries_with : {V : Type 0} → List (List (List ℕ × V)) → ℕ → ℕ → List ℕ × V → List (List ℕ × V)
+entries_with leaves at slot entry =
+    entries_in (take at leaves) ++ insert (slice_index_or leaves at []) slot entry ++ entries_in (drop (at + 1) leaves)
+
+-- the entries with another value at a slot
+abbrev pub with_value : {V : Type 0} → List (List ℕ × V) → ℕ → V → List (List ℕ × V)
+with_value entries slot value = slice_set entries slot (slice_index_or (keys_in entries) slot [], value)
+
+-- the leaves with another value at a slot of one
+abbrev pub with_value_in : {V : Type 0} → List (List (List ℕ × V)) → ℕ → ℕ → V → List (List (List ℕ × V))
+with_value_in leaves at slot value = slice_set leaves at (with_value (slice_index_or leaves at []) slot value)
+
+-- the entries behind references
+abbrev pub seen_in : {V : Type 0} → List (Bor (List ℕ) × Bor V) → List (List ℕ × V)
+seen_in list = map (λ e. (e.0.now, e.1.now)) list

@@ -1,0 +1,196 @@
+//! A leaf: some entries of the map in the order of their keys, with the heads of the keys side by side.
+ghost use Rattle.std.specs.Prelude.{◌≡◌, ◌++◌, ◌-◌, ◌≤◌, ◌<◌, [], List, length, slice_index_or, All};
+ghost use Rattle.std.specs.Prelude.{OnErr, IfOk, IfErr, OnOk};
+ghost use Rattle.std.specs.Prelude.{take, drop, slice_get, Some};
+ghost use Rattle.std.specs.List.{insert};
+ghost use Rattle.hlc_index.specs.Head.{head_of, AreBytes};
+ghost use Rattle.hlc_index.specs.Entries.{keys_in, key_cmp, IsSlot, IsBelowAt, IsAboveAt};
+ghost use Rattle.hlc_index.specs.Entries.{with_value, seen_in};
+ghost use Rattle.std.specs.Borrow.{Lends, sem};
+ghost use Rattle.hlc_index.specs.contracts.leaf.Leaf.{the_row};
+
+use crate::head::{head_of, place_of_head};
+use hlc_node::Bytes;
+use hlc_values::NoMemory;
+use std::alloc::{AllocFailed, Global};
+use std::cmp::Ordering;
+use std::marker::Model;
+
+/// A leaf has at most so many entries.
+pub(crate) const MOST_ENTRIES: usize = 128;
+
+/// Some entries in the order of their keys. Contracts see their list.
+#[derive(Drop)]
+pub(crate) struct Leaf<V> {
+    heads: Vec<u128>,
+    entries: Vec<(Bytes, V)>,
+}
+
+impl<V> Model for Leaf<V> {
+    ghost use Rattle.std.specs.Prelude.{◌≡◌, List, ℕ, All, map};
+    ghost use Rattle.hlc_index.specs.Head.{head_of, AreBytes};
+    ghost use Rattle.hlc_index.specs.Entries.{keys_in};
+    ghost use Rattle.std.specs.Coded.{coded_list, coded×, coded_ℕ};
+
+    ghost Value = { List (List ℕ × V) };
+
+    ghost coded = { coded_list (coded× (coded_list coded_ℕ) V.code) };
+
+    ghost view = { λ leaf. leaf.entries.items };
+
+    ghost invariant = { λ leaf. (leaf.heads.items ≡ map head_of (keys_in leaf.entries.items))
+        × All AreBytes (keys_in leaf.entries.items) };
+}
+
+impl<V> Leaf<V> {
+    /// A leaf without entries.
+    pub(crate) fn new(alloc: Global) -> Leaf<V>
+        ensures { result ≡ [] }
+    {
+        Leaf {
+            heads: Vec::new(alloc),
+            entries: Vec::new(alloc),
+        }
+    }
+
+    /// How many entries there are.
+    pub(crate) fn len(&self) -> usize
+        ensures { result ≡ length self.now }
+    {
+        self.entries.len()
+    }
+
+    /// The key at a slot.
+    pub(crate) fn key(&self, slot: usize) -> &[u8]
+        requires { slot < length self.now }
+        ensures { result.now ≡ slice_index_or (keys_in self.now) slot [] }
+    {
+        let entry = &self.entries[slot];
+        entry.0.as_slice()
+    }
+
+    /// Where a key stands, or would stand. Heads decide, and where they are alike, whole keys.
+    pub(crate) fn find(&self, key: &[u8], head: u128) -> (usize, bool)
+        requires head { head ≡ head_of key.now }
+        requires bytes { AreBytes key.now }
+        ensures { IsSlot (keys_in self.now) key.now result.0 result.1 }
+    {
+        let (first, is_alike) = place_of_head(self.heads.as_slice(), head);
+        if !is_alike {
+            return (first, false);
+        }
+        match self.key(first).cmp(key) {
+            Ordering::Equal => (first, true),
+            Ordering::Greater => (first, false),
+            Ordering::Less => self.find_from(first + 1, key),
+        }
+    }
+
+    /// The same from a slot on, by whole keys.
+    fn find_from(&self, from: usize, key: &[u8]) -> (usize, bool)
+        requires inside { from ≤ length self.now }
+        requires below { IsBelowAt (keys_in self.now) from key.now }
+        ensures { IsSlot (keys_in self.now) key.now result.0 result.1 }
+    {
+        let mut low = from;
+        let mut high = self.len();
+        while low < high {
+            let middle = low + (high - low) / 2;
+            match self.key(middle).cmp(key) {
+                Ordering::Less => low = middle + 1,
+                Ordering::Equal => return (middle, true),
+                Ordering::Greater => high = middle,
+            }
+        }
+        (low, false)
+    }
+
+    /// A leaf without entries, with room for as many as a leaf may have.
+    pub(crate) fn with_room(alloc: Global) -> Result<Leaf<V>, NoMemory>
+        ensures { IfOk result (λ leaf. leaf ≡ []) }
+    {
+        let heads = Vec::with_capacity(alloc, MOST_ENTRIES)?;
+        let entries = Vec::with_capacity(alloc, MOST_ENTRIES)?;
+        Ok(Leaf { heads, entries })
+    }
+
+    /// Puts an entry at a slot. Where memory lacks, it comes back, and nothing is changed.
+    pub(crate) fn insert(
+        &mut self,
+        slot: usize,
+        entry: (Bytes, V),
+        head: u128,
+    ) -> Result<(), AllocFailed<(Bytes, V)>>
+        requires inside { slot ≤ length self.old }
+        requires head { head ≡ head_of entry.0 }
+        requires bytes { AreBytes entry.0 }
+        ensures ok { OnOk result (self.new ≡ insert self.old slot entry) }
+        ensures err { OnErr result (self.new ≡ self.old) }
+        ensures value_returned { IfErr result (λ failed. failed.value ≡ entry) }
+    {
+        let Ok(()) = self.heads.reserve(1) else {
+            return Err(AllocFailed { value: entry });
+        };
+        match self.entries.insert(slot, entry) {
+            Err(failed) => Err(failed),
+            Ok(()) => match self.heads.insert(slot, head) {
+                Ok(()) => Ok(()),
+                Err(_) => unreachable!(),
+            },
+        }
+    }
+
+    /// Takes the entries from a slot on away into a leaf of their own. Where memory lacks, nothing is changed.
+    pub(crate) fn split_off(&mut self, alloc: Global, slot: usize) -> Result<Leaf<V>, NoMemory>
+        requires { slot ≤ length self.old }
+        ensures ok { OnOk result (self.new ≡ take slot self.old) }
+        ensures back { IfOk result (λ back. back ≡ drop slot self.old) }
+        ensures err { OnErr result (self.new ≡ self.old) }
+    {
+        let mut heads = Vec::with_capacity(alloc, MOST_ENTRIES)?;
+        heads.extend_from_slice(&self.heads[slot..])?;
+        let entries = self.entries.split_off(slot)?;
+        self.heads.truncate(slot);
+        Ok(Leaf { heads, entries })
+    }
+
+    /// The value at a slot.
+    pub(crate) fn value(&self, slot: usize) -> &V
+        requires { slot < length self.now }
+        ensures { slice_get self.now slot ≡ Some (slice_index_or (keys_in self.now) slot [], result.now) }
+    {
+        let entry = &self.entries[slot];
+        &entry.1
+    }
+
+    /// The head of the key at a slot.
+    pub(crate) fn head(&self, slot: usize) -> u128
+        requires { slot < length self.now }
+        ensures value { result ≡ head_of (slice_index_or (keys_in self.now) slot []) }
+        ensures bytes { All AreBytes (keys_in self.now) }
+    {
+        self.heads[slot]
+    }
+
+    /// The value at a slot, to be changed.
+    pub(crate) fn value_mut(&mut self, slot: usize) -> &mut V
+        requires { slot < length self.old }
+        ensures* lends { sem 𝓛 (Lends (the_row V.row) V.row self.entry result
+            (with_value self.old slot)) }
+        ensures value { slice_get self.old slot
+            ≡ Some (slice_index_or (keys_in self.old) slot [], result.now) }
+    {
+        let entry = &mut self.entries[slot];
+        &mut entry.1
+    }
+
+    /// Puts the entries last in a list. Where memory lacks, the list may have some of them.
+    pub(crate) fn list<'a>(&'a self, list: &mut Vec<(&'a [u8], &'a V)>) -> Result<(), NoMemory>
+        ensures { OnOk result (seen_in list.new.items ≡ seen_in list.old.items ++ self.now) }
+    {
+        for slot in 0..self.len() {
+            list.push((self.key(slot), self.value(slot)))?;
+        }
+        Ok(())
+    }
+}

@@ -1,0 +1,253 @@
+//! Leaves side by side, and the heads of their first keys.
+ghost use Rattle.std.specs.Prelude.{◌≡◌, ◌≢◌, ◌-◌, ◌+◌, ◌++◌, ◌∷◌, ◌≤◌, ◌<◌, [], List, length, slice_index_or};
+ghost use Rattle.std.specs.Prelude.{All, IsTrue, OnErr, IfErr, OnOk};
+ghost use Rattle.std.specs.Prelude.{take, drop, slice_set};
+ghost use Rattle.std.specs.List.{insert};
+ghost use Rattle.hlc_index.specs.Head.{head_of, AreBytes};
+ghost use Rattle.hlc_index.specs.Entries.{keys_in, first_keys, IsUptoAt, IsAboveAt};
+ghost use Rattle.hlc_index.specs.Entries.{entries_in, entries_with, with_value_in, seen_in};
+ghost use Rattle.std.specs.Borrow.{Lends, sem};
+ghost use Rattle.std.specs.Prelude.{slice_get, Some, IfOk};
+ghost use Rattle.hlc_index.specs.contracts.leaves.Leaves.{the_row};
+
+use crate::head::place_of_head;
+use crate::leaf::{Leaf, MOST_ENTRIES};
+use hlc_node::Bytes;
+use hlc_values::NoMemory;
+use std::alloc::{AllocFailed, Global};
+use std::cmp::Ordering;
+use std::marker::Model;
+
+/// A full leaf is cut in two there.
+const HALF: usize = MOST_ENTRIES / 2;
+
+/// Leaves side by side, none of them empty. Contracts see the list of what contracts see of each.
+#[derive(Drop)]
+pub(crate) struct Leaves<V> {
+    alloc: Global,
+    tops: Vec<u128>,
+    leaves: Vec<Leaf<V>>,
+}
+
+impl<V> Model for Leaves<V> {
+    ghost use Rattle.std.specs.Prelude.{◌≡◌, ◌<◌, List, ℕ, All, map, length};
+    ghost use Rattle.hlc_index.specs.Head.{head_of, AreBytes};
+    ghost use Rattle.hlc_index.specs.Entries.{first_keys, first_key};
+    ghost use Rattle.std.specs.Coded.{coded_list, coded×, coded_ℕ};
+
+    ghost Value = { List (List (List ℕ × V)) };
+
+    ghost coded = { coded_list (coded_list (coded× (coded_list coded_ℕ) V.code)) };
+
+    ghost view = { λ all. all.leaves.items };
+
+    ghost invariant = { λ all. (all.tops.items ≡ map head_of (first_keys all.leaves.items))
+        × All AreBytes (first_keys all.leaves.items) × All (λ leaf. 0 < length leaf) all.leaves.items };
+}
+
+impl<V: Drop> Leaves<V> {
+    /// No leaves.
+    pub(crate) fn new(alloc: Global) -> Leaves<V>
+        ensures { result ≡ [] }
+    {
+        Leaves {
+            alloc,
+            tops: Vec::new(alloc),
+            leaves: Vec::new(alloc),
+        }
+    }
+
+    /// How many leaves there are.
+    pub(crate) fn len(&self) -> usize
+        ensures { result ≡ length self.now }
+    {
+        self.leaves.len()
+    }
+
+    /// A leaf. It has an entry.
+    pub(crate) fn leaf(&self, at: usize) -> &Leaf<V>
+        requires { at < length self.now }
+        ensures value { result.now ≡ slice_index_or self.now at [] }
+        ensures filled { 0 < length result.now }
+    {
+        let _ = &self.tops;
+        &self.leaves[at]
+    }
+
+    /// How many of the first leaves begin at or below a key.
+    pub(crate) fn count_upto(&self, key: &[u8], head: u128) -> usize
+        requires head { head ≡ head_of key.now }
+        requires bytes { AreBytes key.now }
+        ensures inside { result ≤ length self.now }
+        ensures upto { IsUptoAt (first_keys self.now) result key.now }
+        ensures above { IsAboveAt (first_keys self.now) result key.now }
+        ensures filled { All (λ leaf. 0 < length leaf) self.now }
+    {
+        let (place, is_alike) = place_of_head(self.tops.as_slice(), head);
+        if !is_alike {
+            return place;
+        }
+        self.count_from(place, key)
+    }
+
+    /// The same by whole keys, from a leaf on.
+    fn count_from(&self, from: usize, key: &[u8]) -> usize
+        requires inside { from ≤ length self.now }
+        requires upto { IsUptoAt (first_keys self.now) from key.now }
+        ensures inside { result ≤ length self.now }
+        ensures upto { IsUptoAt (first_keys self.now) result key.now }
+        ensures above { IsAboveAt (first_keys self.now) result key.now }
+    {
+        let mut low = from;
+        let mut high = self.len();
+        while low < high {
+            let middle = low + (high - low) / 2;
+            if self.leaf(middle).key(0).cmp(key) == Ordering::Greater {
+                high = middle;
+            } else {
+                low = middle + 1;
+            }
+        }
+        low
+    }
+
+    /// Whether a slot is the end of all entries and its leaf is full.
+    pub(crate) fn is_full_end(&self, at: usize, slot: usize) -> bool
+        requires { at < length self.now }
+        ensures last { IsTrue result → length self.now ≡ at + 1 }
+        ensures end { IsTrue result → slot ≡ length (slice_index_or self.now at []) }
+    {
+        let last = self.len() - 1;
+        at == last && slot >= MOST_ENTRIES && slot == self.leaf(at).len()
+    }
+
+    /// Puts an entry into a leaf. Where memory lacks, it comes back, and nothing is changed.
+    pub(crate) fn insert(
+        &mut self,
+        at: usize,
+        slot: usize,
+        entry: (Bytes, V),
+        head: u128,
+    ) -> Result<(), AllocFailed<(Bytes, V)>>
+        requires leaf { at < length self.old }
+        requires inside { slot ≤ length (slice_index_or self.old at []) }
+        requires head { head ≡ head_of entry.0 }
+        requires bytes { AreBytes entry.0 }
+        ensures ok { OnOk result (self.new
+            ≡ slice_set self.old at (insert (slice_index_or self.old at []) slot entry)) }
+        ensures err { OnErr result (self.new ≡ self.old) }
+        ensures value_returned { IfErr result (λ failed. failed.value ≡ entry) }
+    {
+        self.leaves[at].insert(slot, entry, head)?;
+        if slot == 0 {
+            self.tops[at] = head;
+        }
+        Ok(())
+    }
+
+    /// Adds a leaf of one entry at the end. Where memory lacks, the entry comes back, and nothing is changed.
+    pub(crate) fn push(
+        &mut self,
+        entry: (Bytes, V),
+        head: u128,
+    ) -> Result<(), AllocFailed<(Bytes, V)>>
+        requires head { head ≡ head_of entry.0 }
+        requires bytes { AreBytes entry.0 }
+        ensures ok { OnOk result (self.new ≡ self.old ++ (entry ∷ []) ∷ []) }
+        ensures err { OnErr result (self.new ≡ self.old) }
+        ensures value_returned { IfErr result (λ failed. failed.value ≡ entry) }
+    {
+        let Ok(()) = self.tops.reserve(1) else {
+            return Err(AllocFailed { value: entry });
+        };
+        let Ok(()) = self.leaves.reserve(1) else {
+            return Err(AllocFailed { value: entry });
+        };
+        let Ok(mut leaf) = Leaf::with_room(self.alloc) else {
+            return Err(AllocFailed { value: entry });
+        };
+        leaf.insert(0, entry, head)?;
+        self.tops.push_reserved(head);
+        self.leaves.push_reserved(leaf);
+        Ok(())
+    }
+
+    /// Cuts a leaf in two at a slot. Where memory lacks, nothing is changed.
+    pub(crate) fn split(&mut self, at: usize, slot: usize) -> Result<(), NoMemory>
+        requires leaf { at < length self.old }
+        requires front { 0 < slot }
+        requires back { slot < length (slice_index_or self.old at []) }
+        ensures ok { OnOk result (self.new ≡ insert
+            (slice_set self.old at (take slot (slice_index_or self.old at []))) (at + 1)
+            (drop slot (slice_index_or self.old at []))) }
+        ensures err { OnErr result (self.new ≡ self.old) }
+    {
+        self.tops.reserve(1)?;
+        self.leaves.reserve(1)?;
+        let head = self.leaves[at].head(slot);
+        let back = self.leaves[at].split_off(self.alloc, slot)?;
+        let Ok(()) = self.tops.insert(at + 1, head) else {
+            unreachable!()
+        };
+        let Ok(()) = self.leaves.insert(at + 1, back) else {
+            unreachable!()
+        };
+        Ok(())
+    }
+
+    /// Puts an entry into a leaf, which is cut in two where it is full. Where memory lacks, the entry comes back,
+    /// and the entries stay.
+    pub(crate) fn put(
+        &mut self,
+        at: usize,
+        slot: usize,
+        entry: (Bytes, V),
+        head: u128,
+    ) -> Result<(), AllocFailed<(Bytes, V)>>
+        requires leaf { at < length self.old }
+        requires inside { slot ≤ length (slice_index_or self.old at []) }
+        requires head { head ≡ head_of entry.0 }
+        requires bytes { AreBytes entry.0 }
+        ensures ok { OnOk result (entries_in self.new ≡ entries_with self.old at slot entry) }
+        ensures err { OnErr result (entries_in self.new ≡ entries_in self.old) }
+        ensures value_returned { IfErr result (λ failed. failed.value ≡ entry) }
+    {
+        // Reading the list says how many leaves there can be.
+        let _known = self.len();
+        if self.leaf(at).len() < MOST_ENTRIES {
+            return self.insert(at, slot, entry, head);
+        }
+        let Ok(()) = self.split(at, HALF) else {
+            return Err(AllocFailed { value: entry });
+        };
+        if slot <= HALF {
+            self.insert(at, slot, entry, head)
+        } else {
+            self.insert(at + 1, slot - HALF, entry, head)
+        }
+    }
+
+    /// The value at a slot of a leaf, to be changed.
+    pub(crate) fn value_mut(&mut self, at: usize, slot: usize) -> &mut V
+        requires leaf { at < length self.old }
+        requires inside { slot < length (slice_index_or self.old at []) }
+        ensures* lends { sem 𝓛 (Lends (the_row V.row) V.row self.entry result
+            (with_value_in self.old at slot)) }
+        ensures value { slice_get (slice_index_or self.old at []) slot
+            ≡ Some (slice_index_or (keys_in (slice_index_or self.old at [])) slot [], result.now) }
+    {
+        let leaf = &mut self.leaves[at];
+        leaf.value_mut(slot)
+    }
+
+    /// The entries of the leaves, one leaf after another.
+    pub(crate) fn entries(&self, alloc: Global) -> Result<Vec<(&[u8], &V)>, NoMemory>
+        ensures { IfOk result (λ list. seen_in list.items ≡ entries_in self.now) }
+    {
+        let mut list = Vec::new(alloc);
+        for at in 0..self.len() {
+            self.leaf(at).list(&mut list)?;
+        }
+        Ok(list)
+    }
+}
