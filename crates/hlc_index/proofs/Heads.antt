@@ -1,5 +1,6 @@
 -- Heads rise with the keys: where the heads differ, the first byte that differs is among those that they are made of.
-use Rattle.std.proofs.Common.{◌≡◌, ◌≤◌, ◌<◌, ◌+◌, ◌-◌, ◌*◌, ◌^◌, ◌∙◌, ℕ, zero, suc, List, [], ◌∷◌, get_or, length, arith, refl, ap, sym}
+use Rattle.std.proofs.Common.{◌≡◌, ◌≤◌, ◌<◌, ◌+◌, ◌-◌, ◌*◌, ◌^◌, ◌∙◌, ℕ, zero, suc, List, [], ◌∷◌, get_or, length}
+use Rattle.std.proofs.Common.{arith, refl, ap, sym}
 use Rattle.std.proofs.lemmas.Bool.{cases_lt}
 use Rattle.std.proofs.Common.{inl, inr, All, subst, nat_cmp, Less, Greater, Equal}
 use Rattle.std.specs.Cmp.Lexicographic.{slice_cmp}
@@ -48,7 +49,9 @@ pub head_more : (n : ℕ) (key : List ℕ) → head_upto (n + 1) key ≡ head_up
 unfolding head_upto
 head_more n key = ap (λ m. head_upto m key) (let e : n + 1 ≡ suc n = omega arith in e)
 
-pub head_whole : (key : List ℕ) → head_upto 8 key ≡ ((((((((get_or key 0 0) * 256 + get_or key 1 0) * 256 + get_or key 2 0) * 256 + get_or key 3 0) * 256 + get_or key 4 0) * 256 + get_or key 5 0) * 256 + get_or key 6 0) * 256 + get_or key 7 0)
+pub head_whole : (key : List ℕ) → head_upto 8 key ≡ ((((((((get_or key 0 0) * 256 + get_or key 1 0) * 256 + get_or key 2
+    0) * 256 + get_or key 3 0) * 256 + get_or key 4 0) * 256 + get_or key 5 0) * 256 + get_or key 6 0) * 256 + get_or
+    key 7 0)
 unfolding head_upto
 head_whole key = omega arith
 
@@ -56,12 +59,14 @@ head_whole key = omega arith
 step : (a h p b x y : ℕ) → a ≡ h * p + b → x ≡ y → a * 256 + x ≡ h * (p * 256) + (b * 256 + y)
 step a h p b x y e f = grind arith
 
-head_split : (n m k : ℕ) (key : List ℕ) → m ≡ k + n → head_upto m key ≡ head_upto k key * most n + head_upto n (drop k key)
+head_split : (n m k : ℕ) (key : List ℕ) → m ≡ k + n → head_upto m key ≡ head_upto k key * most n + head_upto n (drop k
+    key)
 unfolding head_upto
 head_split zero m k key e = ap (λ i. head_upto i key) (let f : m ≡ k = omega (arith, e) in f) ∙ omega arith
 head_split (suc n) zero k key e = absurd (omega (arith, e))
 head_split (suc n) (suc m) k key e =
-    step (head_upto m key) (head_upto k key) (most n) (head_upto n (drop k key)) (get_or key m 0) (get_or (drop k key) n 0)
+    step (head_upto m key) (head_upto k key) (most n) (head_upto n (drop k key)) (get_or key m 0) (get_or (drop k key) n
+    0)
     (head_split n m k key (omega (arith, e)))
     (ap (λ i. get_or key i 0) (let f : m ≡ k + n = omega (arith, e) in f) ∙ sym (get_or-drop k key n 0))
 
@@ -84,7 +89,8 @@ head_one key front e few =
     (let m : front * 2 ^ 64 ≡ front * 2 ^ 64 + 0 = omega arith in m)
     ∙ head_two key front 0 e (sym (ap (head_upto 8) (drop_all 8 key few) ∙ none_upto 8))
 
-digits : (n : ℕ) (a b : List ℕ) → AreBytes a → AreBytes b → head_upto n a ≡ head_upto n b → (i : ℕ) → i < n → get_or a i 0 ≡ get_or b i 0
+digits : (n : ℕ) (a b : List ℕ) → AreBytes a → AreBytes b → head_upto n a ≡ head_upto n b → (i : ℕ) → i < n → get_or a i
+    0 ≡ get_or b i 0
 unfolding head_upto
 digits zero a b p q e i lt = absurd (omega (arith, lt))
 digits (suc n) a b p q e i lt =
@@ -112,7 +118,8 @@ less_from (suc j) (x ∷ xs) (y ∷ ys) same lt =
     ap (λ o. ordering_then o (slice_cmp nat_cmp xs ys)) (is_equal x y (same 0 (omega arith)))
     ∙ less_from j xs ys (λ i few. same (suc i) (omega (arith, few))) lt
 
-pub head_upto_below : (n : ℕ) (a b : List ℕ) → AreBytes a → AreBytes b → head_upto n a < head_upto n b → key_cmp a b ≡ Less
+pub head_upto_below : (n : ℕ) (a b : List ℕ) → AreBytes a → AreBytes b → head_upto n a < head_upto n b → key_cmp a b ≡
+    Less
 unfolding head_upto
 head_upto_below zero a b p q lt = absurd (omega (arith, lt))
 head_upto_below (suc n) a b p q lt =
@@ -136,7 +143,8 @@ pub same_key : (a b : List ℕ) → key_cmp a b ≡ Equal → a ≡ b
 same_key a b e = (bytes_eq-Decides a b).0 (texts_ties a b ∙ ap is_eq e)
 
 -- heads side by side with keys: what is told of the one at a place is told of the other
-module _ (keys : List (List ℕ)) (heads : List ℕ) (is : heads ≡ map head_of keys) (bytes : All AreBytes keys) (key : List ℕ)
+module _ (keys : List (List ℕ)) (heads : List ℕ) (is : heads ≡ map head_of keys) (bytes : All AreBytes keys) (key : List
+    ℕ)
     (own : AreBytes key) where
   at : (n : ℕ) → n < length keys → get_or heads n 0 ≡ head_of (get_or keys n [])
   at n lt = ap (λ (hs : List ℕ). get_or hs n 0) is ∙ get_or-map head_of keys n [] 0 lt
@@ -158,7 +166,8 @@ length_keys {V} es = length-map es (λ (e : List ℕ × V). e.0)
 
 -- what the heads of a leaf tell of its keys
 module _ {V : Type 0} (es now : List (List ℕ × V)) (view : es ≡ now) (heads slice : List ℕ) (same : slice ≡ heads)
-    (inv : (heads ≡ map head_of (keys_in es)) × All AreBytes (keys_in es)) (key : List ℕ) (own : AreBytes key) (head : ℕ)
+    (inv : (heads ≡ map head_of (keys_in es)) × All AreBytes (keys_in es)) (key : List ℕ) (own : AreBytes key) (head :
+    ℕ)
     (is : head ≡ head_of key) (n : ℕ) where
   heads_are : slice ≡ map head_of (keys_in now)
   heads_are = same ∙ inv.0 ∙ ap (λ (l : List (List ℕ × V)). map head_of (keys_in l)) view

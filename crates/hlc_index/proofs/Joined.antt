@@ -1,18 +1,23 @@
 -- The entries of leaves, one leaf after another: one entry more in a leaf, and a leaf cut in two.
-use Rattle.std.proofs.Common.{◌≡◌, ◌≤◌, ◌<◌, ◌+◌, ◌-◌, ◌++◌, ◌∷◌, ◌∙◌, ℕ, zero, suc, List, [], get_or, set, length, arith, ap, ap₂, sym, take, drop}
+use Rattle.std.proofs.Common.{◌≡◌, ◌≤◌, ◌<◌, ◌+◌, ◌-◌, ◌++◌, ◌∷◌, ◌∙◌, ℕ, zero, suc, List, [], get_or, set, length}
+use Rattle.std.proofs.Common.{arith, ap, ap₂, sym, take, drop}
 use Rattle.std.proofs.Common.{append_assoc}
 use Rattle.std.specs.List.{insert}
 use Rattle.std.proofs.lemmas.List.Concat.{flat_map-append}
-use Rattle.std.proofs.lemmas.List.{set_split, take_more_set, drop-set-lt, get_or_at, set_at, length-take, take-append-drop, drop_more, take-append-le, drop-append-le, length-append, length-drop}
+use Rattle.std.proofs.lemmas.List.{set_split, take_more_set, drop-set-lt, get_or_at, set_at, length-take}
+use Rattle.std.proofs.lemmas.List.{take-append-drop, drop_more, take-append-le, drop-append-le, length-append}
+use Rattle.std.proofs.lemmas.List.{length-drop}
 use Rattle.hlc_index.specs.Entries.{entries_in, entries_with}
 
 -- an entry put into the front of two lists, or into the back
-pub insert_front : {X : Type 0} (xs ys : List X) (i : ℕ) (e : X) → i ≤ length xs → insert xs i e ++ ys ≡ insert (xs ++ ys) i e
+pub insert_front : {X : Type 0} (xs ys : List X) (i : ℕ) (e : X) → i ≤ length xs → insert xs i e ++ ys ≡ insert (xs ++
+    ys) i e
 insert_front xs ys i e le =
     append_assoc (take i xs) (e ∷ drop i xs) ys
     ∙ ap₂ (λ us vs. us ++ e ∷ vs) (sym (take-append-le i xs ys le)) (sym (drop-append-le i xs ys le))
 
-pub insert_back : {X : Type 0} (xs ys : List X) (n j : ℕ) (e : X) → n ≡ length xs + j → xs ++ insert ys j e ≡ insert (xs ++ ys) n e
+pub insert_back : {X : Type 0} (xs ys : List X) (n j : ℕ) (e : X) → n ≡ length xs + j → xs ++ insert ys j e ≡ insert (xs
+    ++ ys) n e
 insert_back [] ys n j e is = ap (λ m. insert ys m e) (let f : j ≡ n = omega (arith, is) in f)
 insert_back (x ∷ xs) ys zero j e is = absurd (omega (arith, is))
 insert_back (x ∷ xs) ys (suc n) j e is = ap (λ zs. x ∷ zs) (insert_back xs ys n j e (omega (arith, is)))
@@ -61,22 +66,27 @@ module _ {V : Type 0} where
     many =
         let e = length-take at ls in
         let f = length-drop (at + 1) ls in
-        ap length two ∙ length-append (take at ls) (take cut (get_or ls at []) ∷ drop cut (get_or ls at []) ∷ drop (at + 1) ls)
+        ap length two ∙ length-append (take at ls) (take cut (get_or ls at []) ∷ drop cut (get_or ls at []) ∷ drop (at +
+        1) ls)
         ∙ omega (arith, e, f, inside)
 
     pub front_is : get_or now at [] ≡ take cut (get_or ls at [])
     front_is = ap (λ zs. get_or zs at []) two
-        ∙ get_or_at (take at ls) (take cut (get_or ls at [])) (drop cut (get_or ls at []) ∷ drop (at + 1) ls) [] at before
+        ∙ get_or_at (take at ls) (take cut (get_or ls at [])) (drop cut (get_or ls at []) ∷ drop (at + 1) ls) [] at
+        before
 
     two_behind : now ≡ (take at ls ++ take cut (get_or ls at []) ∷ []) ++ drop cut (get_or ls at []) ∷ drop (at + 1) ls
-    two_behind = two ∙ sym (append_assoc (take at ls) (take cut (get_or ls at []) ∷ []) (drop cut (get_or ls at []) ∷ drop (at + 1) ls))
+    two_behind = two ∙ sym (append_assoc (take at ls) (take cut (get_or ls at []) ∷ []) (drop cut (get_or ls at []) ∷
+        drop (at + 1) ls))
 
     before_behind : length (take at ls ++ take cut (get_or ls at []) ∷ []) ≡ at + 1
-    before_behind = let e = before in let f = length-append (take at ls) (take cut (get_or ls at []) ∷ []) in omega (arith, e, f)
+    before_behind = let e = before in let f = length-append (take at ls) (take cut (get_or ls at []) ∷ []) in omega
+        (arith, e, f)
 
     pub back_is : get_or now (at + 1) [] ≡ drop cut (get_or ls at [])
     back_is = ap (λ zs. get_or zs (at + 1) []) two_behind
-        ∙ get_or_at (take at ls ++ take cut (get_or ls at []) ∷ []) (drop cut (get_or ls at [])) (drop (at + 1) ls) [] (at + 1)
+        ∙ get_or_at (take at ls ++ take cut (get_or ls at []) ∷ []) (drop cut (get_or ls at [])) (drop (at + 1) ls) []
+        (at + 1)
         before_behind
 
     whole : take cut (get_or ls at []) ++ drop cut (get_or ls at []) ≡ get_or ls at []
@@ -84,7 +94,8 @@ module _ {V : Type 0} where
 
     pub cut_same : entries_in now ≡ entries_in ls
     cut_same =
-        ap entries_in two ∙ joined_two (take at ls) (take cut (get_or ls at [])) (drop cut (get_or ls at [])) (drop (at + 1) ls)
+        ap entries_in two ∙ joined_two (take at ls) (take cut (get_or ls at [])) (drop cut (get_or ls at [])) (drop (at
+        + 1) ls)
         ∙ ap (λ m. entries_in (take at ls) ++ m ++ entries_in (drop (at + 1) ls)) whole
         ∙ sym (joined_all ls at inside)
 
@@ -94,7 +105,8 @@ module _ {V : Type 0} where
         let a : List (List ℕ × V) = take cut (get_or ls at []) in
         let b : List (List ℕ × V) = drop cut (get_or ls at []) in
         let z : List (List ℕ × V) = insert (get_or now at []) slot e in
-        ap (λ zs. entries_in (set zs at z)) two ∙ ap entries_in (set_at (take at ls) a (b ∷ drop (at + 1) ls) z at before)
+        ap (λ zs. entries_in (set zs at z)) two ∙ ap entries_in (set_at (take at ls) a (b ∷ drop (at + 1) ls) z at
+        before)
         ∙ joined_two (take at ls) z b (drop (at + 1) ls)
         ∙ ap (λ m. entries_in (take at ls) ++ m ++ entries_in (drop (at + 1) ls))
         (ap (λ l. insert l slot e ++ b) front_is

@@ -1,5 +1,6 @@
 -- What a leaf's heads and keys stay when entries come and go.
-use Rattle.std.proofs.Common.{◌≡◌, ◌<◌, ◌++◌, ◌∷◌, ◌∙◌, ℕ, zero, suc, List, [], ap, ap₂, refl, sym, subst, arith, All, map, take, drop}
+use Rattle.std.proofs.Common.{◌≡◌, ◌<◌, ◌++◌, ◌∷◌, ◌∙◌, ℕ, zero, suc, List, [], ap, ap₂, refl, sym, subst, arith, All}
+use Rattle.std.proofs.Common.{map, take, drop}
 use Rattle.std.proofs.Common.{length, get_or, set, Some}
 use Rattle.std.specs.Prelude.{slice_get}
 use Rattle.std.specs.List.{insert}
@@ -12,44 +13,54 @@ use Rattle.hlc_index.specs.Entries.{keys_in, with_value}
 abbrev pub IsLeaf : {V : Type 0} → List ℕ → List (List ℕ × V) → Type 0
 IsLeaf heads es = (heads ≡ map head_of (keys_in es)) × All AreBytes (keys_in es)
 
-pub heads_insert : (ks : List (List ℕ)) (n : ℕ) (k : List ℕ) → map head_of (insert ks n k) ≡ insert (map head_of ks) n (head_of k)
+pub heads_insert : (ks : List (List ℕ)) (n : ℕ) (k : List ℕ) → map head_of (insert ks n k) ≡ insert (map head_of ks) n
+    (head_of k)
 heads_insert ks n k =
     map-append head_of (take n ks) (k ∷ drop n ks)
     ∙ ap₂ (λ xs ys. xs ++ head_of k ∷ ys) (sym (take-map head_of n ks)) (sym (drop-map head_of n ks))
 
 pub all_insert : (ks : List (List ℕ)) (n : ℕ) (k : List ℕ) → All AreBytes ks → AreBytes k → All AreBytes (insert ks n k)
 all_insert ks n k all one =
-    All-append AreBytes (take n ks) (k ∷ drop n ks) (All-take AreBytes n ks all) (All-cons AreBytes k (drop n ks) one (All-drop AreBytes n ks all))
+    All-append AreBytes (take n ks) (k ∷ drop n ks) (All-take AreBytes n ks all) (All-cons AreBytes k (drop n ks) one
+    (All-drop AreBytes n ks all))
 
 module _ {V : Type 0} where
   keys_insert : (es : List (List ℕ × V)) (n : ℕ) (e : List ℕ × V)
       → keys_in (insert es n e) ≡ insert (keys_in es) n e.0
   keys_insert es n e =
       map-append (λ (e : List ℕ × V). e.0) (take n es) (e ∷ drop n es)
-      ∙ ap₂ (λ xs ys. xs ++ e.0 ∷ ys) (sym (take-map (λ (e : List ℕ × V). e.0) n es)) (sym (drop-map (λ (e : List ℕ × V). e.0) n es))
+      ∙ ap₂ (λ xs ys. xs ++ e.0 ∷ ys) (sym (take-map (λ (e : List ℕ × V). e.0) n es)) (sym (drop-map (λ (e : List ℕ ×
+      V). e.0) n es))
 
-  pub leaf_insert : (heads : List ℕ) (es : List (List ℕ × V)) (more : List ℕ) (now : List (List ℕ × V)) (n : ℕ) (key : List ℕ)
-      (v : V) (h : ℕ) → IsLeaf heads es → h ≡ head_of key → AreBytes key → more ≡ insert heads n h → now ≡ insert es n (key, v)
+  pub leaf_insert : (heads : List ℕ) (es : List (List ℕ × V)) (more : List ℕ) (now : List (List ℕ × V)) (n : ℕ) (key :
+      List ℕ)
+      (v : V) (h : ℕ) → IsLeaf heads es → h ≡ head_of key → AreBytes key → more ≡ insert heads n h → now ≡ insert es n
+      (key, v)
       → IsLeaf more now
   leaf_insert heads es more now n key v h inv is bytes e f =
       subst (λ hs. IsLeaf hs now) (sym e) (subst (IsLeaf (insert heads n h)) (sym f) (
-        ap₂ (λ hs k. insert hs n k) inv.0 is ∙ sym (heads_insert (keys_in es) n key) ∙ ap (map head_of) (sym (keys_insert es n (key, v))),
+        ap₂ (λ hs k. insert hs n k) inv.0 is ∙ sym (heads_insert (keys_in es) n key) ∙ ap (map head_of) (sym
+            (keys_insert es n (key, v))),
         subst (All AreBytes) (sym (keys_insert es n (key, v))) (all_insert (keys_in es) n key inv.1 bytes),
       ))
 
-  pub leaf_take : (heads : List ℕ) (es : List (List ℕ × V)) (less : List ℕ) (now : List (List ℕ × V)) (n : ℕ) → IsLeaf heads es
+  pub leaf_take : (heads : List ℕ) (es : List (List ℕ × V)) (less : List ℕ) (now : List (List ℕ × V)) (n : ℕ) → IsLeaf
+      heads es
       → less ≡ take n heads → now ≡ take n es → IsLeaf less now
   leaf_take heads es less now n inv e f =
       subst (λ hs. IsLeaf hs now) (sym e) (subst (IsLeaf (take n heads)) (sym f) (
-        ap (take n) inv.0 ∙ take-map head_of n (keys_in es) ∙ ap (map head_of) (take-map (λ (e : List ℕ × V). e.0) n es),
+        ap (take n) inv.0 ∙ take-map head_of n (keys_in es) ∙ ap (map head_of) (take-map (λ (e : List ℕ × V). e.0) n
+            es),
         subst (All AreBytes) (take-map (λ (e : List ℕ × V). e.0) n es) (All-take AreBytes n (keys_in es) inv.1),
       ))
 
-  pub leaf_drop : (heads : List ℕ) (es : List (List ℕ × V)) (less : List ℕ) (now : List (List ℕ × V)) (n : ℕ) → IsLeaf heads es
+  pub leaf_drop : (heads : List ℕ) (es : List (List ℕ × V)) (less : List ℕ) (now : List (List ℕ × V)) (n : ℕ) → IsLeaf
+      heads es
       → less ≡ drop n heads → now ≡ drop n es → IsLeaf less now
   leaf_drop heads es less now n inv e f =
       subst (λ hs. IsLeaf hs now) (sym e) (subst (IsLeaf (drop n heads)) (sym f) (
-        ap (drop n) inv.0 ∙ drop-map head_of n (keys_in es) ∙ ap (map head_of) (drop-map (λ (e : List ℕ × V). e.0) n es),
+        ap (drop n) inv.0 ∙ drop-map head_of n (keys_in es) ∙ ap (map head_of) (drop-map (λ (e : List ℕ × V). e.0) n
+            es),
         subst (All AreBytes) (drop-map (λ (e : List ℕ × V). e.0) n es) (All-drop AreBytes n (keys_in es) inv.1),
       ))
 
@@ -80,7 +91,11 @@ module _ {V : Type 0} where
       → slice_get now n ≡ Some (get_or (keys_in now) n [], e.1)
   entry_read es now n e same lt is = go now n lt (is ∙ ap (λ (l : List (List ℕ × V)). get_or l n e) same)
     where
-      go : (now : List (List ℕ × V)) (n : ℕ) → n < length now → e ≡ get_or now n e → slice_get now n ≡ Some (get_or (keys_in now) n [], e.1)
+      go : (now : List (List ℕ × V)) (n : ℕ) → n < length now → e ≡ get_or now n e → slice_get now n ≡ Some (
+        get_or
+            (keys_in now) n [],
+        e.1,
+      )
       go [] n lt is = absurd (omega (arith, lt))
       go (x ∷ xs) zero lt is = ap (λ (p : List ℕ × V). Some (x.0, p.1)) (sym is)
       go (x ∷ xs) (suc n) lt is = go xs n (omega (arith, lt)) is

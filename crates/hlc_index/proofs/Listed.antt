@@ -1,5 +1,6 @@
 -- Entries listed one by one, leaf by leaf.
-use Rattle.std.proofs.Common.{◌≡◌, ◌<◌, ◌+◌, ◌++◌, ◌∷◌, ◌∙◌, ℕ, zero, suc, List, [], Some, get_or, length, arith, refl, ap, ap₂, sym, take, unwrap_or, append_assoc}
+use Rattle.std.proofs.Common.{◌≡◌, ◌<◌, ◌+◌, ◌++◌, ◌∷◌, ◌∙◌, ℕ, zero, suc, List, [], Some, get_or, length, arith, refl}
+use Rattle.std.proofs.Common.{ap, ap₂, sym, take, unwrap_or, append_assoc}
 use Rattle.std.specs.Prelude.{slice_get}
 use Rattle.std.specs.Borrow.{Bor}
 use Rattle.std.proofs.lemmas.List.{map_push, append-nil}
@@ -16,7 +17,8 @@ pub taken : {X : Type 0} (xs : List X) (n : ℕ) (x : X) → slice_get xs n ≡ 
 taken xs n x is = ap (λ m. take m xs) (let e : n + 1 ≡ suc n = omega arith in e) ∙ taken_suc xs n x is
 
 module _ {V : Type 0} where
-  pub listed_more : (es : List (List ℕ × V)) (n : ℕ) (first list more : List (Bor (List ℕ) × Bor V)) (e : Bor (List ℕ) × Bor V)
+  pub listed_more : (es : List (List ℕ × V)) (n : ℕ) (first list more : List (Bor (List ℕ) × Bor V)) (e : Bor (List ℕ) ×
+      Bor V)
       → seen_in list ≡ seen_in first ++ take n es → more ≡ list ++ e ∷ [] → e.0.now ≡ get_or (keys_in es) n []
       → slice_get es n ≡ Some (get_or (keys_in es) n [], e.1.now) → seen_in more ≡ seen_in first ++ take (n + 1) es
   listed_more es n first list more e inv is key value =
@@ -30,8 +32,10 @@ module _ {V : Type 0} where
   at_place (x ∷ xs) zero lt = refl
   at_place (x ∷ xs) (suc n) lt = at_place xs n (omega (arith, lt))
 
-  pub leaf_more : (ls : List (List (List ℕ × V))) (n : ℕ) (leaf : List (List ℕ × V)) (list more : List (Bor (List ℕ) × Bor V))
-      → n < length ls → leaf ≡ get_or ls n [] → seen_in list ≡ entries_in (take n ls) → seen_in more ≡ seen_in list ++ leaf
+  pub leaf_more : (ls : List (List (List ℕ × V))) (n : ℕ) (leaf : List (List ℕ × V)) (list more : List (Bor (List ℕ) ×
+      Bor V))
+      → n < length ls → leaf ≡ get_or ls n [] → seen_in list ≡ entries_in (take n ls) → seen_in more ≡ seen_in list ++
+      leaf
       → seen_in more ≡ entries_in (take (n + 1) ls)
   leaf_more ls n leaf list more inside own inv is =
       is ∙ ap₂ (λ l m. l ++ m) inv own

@@ -1,5 +1,6 @@
 -- From a leaf and a slot to the place in the whole list, and what that place says.
-use Rattle.std.proofs.Common.{◌≡◌, ◌≤◌, ◌<◌, ◌+◌, ◌-◌, ◌++◌, ◌∷◌, ◌∙◌, ℕ, zero, suc, List, [], get_or, length, arith, refl, ap, sym, subst, take, drop}
+use Rattle.std.proofs.Common.{◌≡◌, ◌≤◌, ◌<◌, ◌+◌, ◌-◌, ◌++◌, ◌∷◌, ◌∙◌, ℕ, zero, suc, List, [], get_or, length, arith}
+use Rattle.std.proofs.Common.{refl, ap, sym, subst, take, drop}
 use Rattle.std.proofs.Common.{Bool, true, false, None, Some, Greater, All}
 use Rattle.std.specs.Prelude.{slice_get}
 use Rattle.std.specs.List.{insert}
@@ -11,9 +12,11 @@ use Rattle.std.proofs.Common.{inl, inr, ap₂, true≢false, Ok, Err, OnOk, OnEr
 use Rattle.std.proofs.lemmas.List.Concat.{flat_map-append}
 use Rattle.std.proofs.lemmas.List.{take_all, drop_all}
 use Rattle.std.proofs.lemmas.List.{length-append, drop_more, get_or-map, length-map, length-drop}
-use Rattle.hlc_index.specs.Entries.{keys_in, key_cmp, is_key, IsSlot, IsAboveAt, IsUptoAt, first_key, first_keys, entries_in, entries_with}
+use Rattle.hlc_index.specs.Entries.{keys_in, key_cmp, is_key, IsSlot, IsAboveAt, IsUptoAt, first_key, first_keys}
+use Rattle.hlc_index.specs.Entries.{entries_in, entries_with}
 use Rattle.hlc_index.proofs.Joined.{joined_all, insert_front, insert_back}
-use Rattle.hlc_index.proofs.Slots.{parts, absent_lookup, inserted_at, found_lookup, ascend_with, entry_joined, slot_joined, none_some}
+use Rattle.hlc_index.proofs.Slots.{parts, absent_lookup, inserted_at, found_lookup, ascend_with, entry_joined}
+use Rattle.hlc_index.proofs.Slots.{slot_joined, none_some}
 use Rattle.hlc_index.proofs.Heads.{length_keys}
 
 module _ {V : Type 0} where
@@ -21,16 +24,20 @@ module _ {V : Type 0} where
   pub put_at : (es : List (List ℕ × V)) (key : List ℕ) (v : V) (n : ℕ) → IsStrictlySortedBy key_cmp (keys_in es)
       → IsSlot (keys_in es) key n false → insert_entry key_cmp es key v ≡ insert es n (key, v)
   put_at es key v n up slot =
-      inserted_at es key v n (let le = slot.0 in let m = length_keys es in omega (arith, le, m)) (parts es key n up slot)
+      inserted_at es key v n (let le = slot.0 in let m = length_keys es in omega (arith, le, m)) (parts es key n up
+      slot)
 
-  pub still_ascend : (es now : List (List ℕ × V)) (key : List ℕ) (v : V) (n : ℕ) → IsStrictlySortedBy key_cmp (keys_in es)
+  pub still_ascend : (es now : List (List ℕ × V)) (key : List ℕ) (v : V) (n : ℕ) → IsStrictlySortedBy key_cmp (keys_in
+      es)
       → IsSlot (keys_in es) key n false → now ≡ insert es n (key, v) → IsStrictlySortedBy key_cmp (keys_in now)
   still_ascend es now key v n up slot is =
       subst (λ l. IsStrictlySortedBy key_cmp (keys_in l)) (sym is)
-      (ascend_with es key v n (let le = slot.0 in let m = length_keys es in omega (arith, le, m)) (parts es key n up slot) up)
+      (ascend_with es key v n (let le = slot.0 in let m = length_keys es in omega (arith, le, m)) (parts es key n up
+      slot) up)
 
   -- the entries with one more in a leaf are the whole list with one more at its place
-  pub with_is : (ls : List (List (List ℕ × V))) (at slot : ℕ) (e : List ℕ × V) → at < length ls → slot ≤ length (get_or ls at [])
+  pub with_is : (ls : List (List (List ℕ × V))) (at slot : ℕ) (e : List ℕ × V) → at < length ls → slot ≤ length (get_or
+      ls at [])
       → entries_with ls at slot e ≡ insert (entries_in ls) (length (entries_in (take at ls)) + slot) e
   with_is ls at slot e inside le =
       ap (λ zs. zs ++ entries_in (drop (at + 1) ls))
@@ -46,13 +53,15 @@ module _ {V : Type 0} where
 
   -- behind the leaves that begin at or below a key all keys are above it
   pub first_behind : (ls : List (List (List ℕ × V))) (n : ℕ) (key : List ℕ) → All (λ leaf. 0 < length leaf) ls
-      → IsAboveAt (first_keys ls) n key → 0 < length (entries_in (drop n ls)) → key_cmp (first_key (entries_in (drop n ls))) key ≡ Greater
+      → IsAboveAt (first_keys ls) n key → 0 < length (entries_in (drop n ls)) → key_cmp (first_key (entries_in (drop n
+      ls))) key ≡ Greater
   first_behind ls n key filled above some = elim (cases_lt n (length ls)) [
     | inl less ↦
         let e : drop n ls ≡ get_or ls n [] ∷ drop (n + 1) ls = drop_more ls n [] less in
         let f : get_or (first_keys ls) n [] ≡ first_key (get_or ls n []) = get_or-map first_key ls n [] [] less in
         subst (λ k. key_cmp k key ≡ Greater)
-        (f ∙ sym (ap (λ l. first_key (entries_in l)) e ∙ first_of (get_or ls n []) (entries_in (drop (n + 1) ls)) (filled n [] less)))
+        (f ∙ sym (ap (λ l. first_key (entries_in l)) e ∙ first_of (get_or ls n []) (entries_in (drop (n + 1) ls))
+        (filled n [] less)))
         (above (let m = length-map ls first_key in omega (arith, m, less)))
     | inr more ↦ absurd (none_left (drop n ls) (let m = length-drop n ls in omega (arith, m, more)) some)
   ]
@@ -71,7 +80,8 @@ module _ {V : Type 0} where
     next : count - 1 + 1 ≡ count
     next = omega (arith, some)
 
-    whole : entries_in ls ≡ entries_in (take (count - 1) ls) ++ get_or ls (count - 1) [] ++ entries_in (drop (count - 1 + 1) ls)
+    whole : entries_in ls ≡ entries_in (take (count - 1) ls) ++ get_or ls (count - 1) [] ++ entries_in (drop (count - 1
+        + 1) ls)
     whole = joined_all ls (count - 1) (omega (arith, some, inside))
 
     first_is : get_or (first_keys ls) (count - 1) [] ≡ get_or (keys_in (get_or ls (count - 1) [])) 0 []
@@ -88,25 +98,33 @@ module _ {V : Type 0} where
           let f = filled (count - 1) [] (omega (arith, some, inside)) in omega (arith, none, m, f)))))
     ]
 
-    pub slot_whole : IsSlot (keys_in (get_or ls (count - 1) [])) key slot false → IsSlot (keys_in (entries_in ls)) key place false
+    pub slot_whole : IsSlot (keys_in (get_or ls (count - 1) [])) key slot false → IsSlot (keys_in (entries_in ls)) key
+        place false
     slot_whole is =
         subst (λ l. IsSlot (keys_in l) key place false) (sym whole)
-        (slot_joined (entries_in (take (count - 1) ls)) (get_or ls (count - 1) []) (entries_in (drop (count - 1 + 1) ls)) key slot
-        (not_first is) is (first_behind ls (count - 1 + 1) key filled (subst (λ n. IsAboveAt (first_keys ls) n key) (sym next) above)))
+        (slot_joined (entries_in (take (count - 1) ls)) (get_or ls (count - 1) []) (entries_in (drop (count - 1 + 1)
+        ls)) key slot
+        (not_first is) is (first_behind ls (count - 1 + 1) key filled (subst (λ n. IsAboveAt (first_keys ls) n key) (sym
+        next) above)))
 
-    pub entry_whole : (v : V) → slot < length (get_or ls (count - 1) []) → slice_get (get_or ls (count - 1) []) slot ≡ Some (key, v)
+    pub entry_whole : (v : V) → slot < length (get_or ls (count - 1) []) → slice_get (get_or ls (count - 1) []) slot ≡
+        Some (key, v)
         → IsStrictlySortedBy key_cmp (keys_in (entries_in ls)) → lookup (is_key key) (entries_in ls) ≡ Some v
     entry_whole v lt is up =
         let front = length-append (entries_in (take (count - 1) ls)) (get_or ls (count - 1) []) in
-        let long = length-append (entries_in (take (count - 1) ls) ++ get_or ls (count - 1) []) (entries_in (drop (count - 1 + 1) ls)) in
+        let long = length-append (entries_in (take (count - 1) ls) ++ get_or ls (count - 1) []) (entries_in (drop (count
+        - 1 + 1) ls)) in
         let same = ap length whole in
-        found_lookup (entries_in ls) key v place up ((let p : place ≡ length (entries_in (take (count - 1) ls)) + slot = refl in omega (arith, lt, front, long, same, p)))
+        found_lookup (entries_in ls) key v place up ((let p : place ≡ length (entries_in (take (count - 1) ls)) + slot =
+        refl in omega (arith, lt, front, long, same, p)))
         (ap (λ l. slice_get l place) whole
-        ∙ entry_joined (entries_in (take (count - 1) ls)) (get_or ls (count - 1) []) (entries_in (drop (count - 1 + 1) ls)) slot lt
+        ∙ entry_joined (entries_in (take (count - 1) ls)) (get_or ls (count - 1) []) (entries_in (drop (count - 1 + 1)
+        ls)) slot lt
         ∙ is)
 
   -- in front of all leaves
-  pub slot_first : (ls : List (List (List ℕ × V))) (key : List ℕ) → All (λ leaf. 0 < length leaf) ls → IsAboveAt (first_keys ls) 0 key
+  pub slot_first : (ls : List (List (List ℕ × V))) (key : List ℕ) → All (λ leaf. 0 < length leaf) ls → IsAboveAt
+      (first_keys ls) 0 key
       → IsSlot (keys_in (entries_in ls)) key 0 false
   slot_first ls key filled above = (
     omega arith,
@@ -115,8 +133,10 @@ module _ {V : Type 0} where
   )
 
   -- ---- looking a key up
-  pub none_first : (ls : List (List (List ℕ × V))) (now : List (List ℕ × V)) (key : List ℕ) (count : ℕ) → All (λ leaf. 0 < length leaf) ls
-      → IsAboveAt (first_keys ls) count key → count ≡ 0 → IsStrictlySortedBy key_cmp (keys_in (entries_in ls)) → entries_in ls ≡ now
+  pub none_first : (ls : List (List (List ℕ × V))) (now : List (List ℕ × V)) (key : List ℕ) (count : ℕ) → All (λ leaf. 0
+      < length leaf) ls
+      → IsAboveAt (first_keys ls) count key → count ≡ 0 → IsStrictlySortedBy key_cmp (keys_in (entries_in ls)) →
+      entries_in ls ≡ now
       → None ≡ lookup (is_key key) now
   none_first ls now key count filled above none up view =
       sym (ap (lookup (is_key key)) (sym view)
@@ -128,13 +148,15 @@ module _ {V : Type 0} where
       → (count ≡ 0 → ⊥) → count ≤ length ls → IsUptoAt (first_keys ls) count key → IsAboveAt (first_keys ls) count key
       → leaf ≡ get_or ls (count - 1) [] → IsSlot (keys_in leaf) key slot b → b ≡ false
       → IsStrictlySortedBy key_cmp (keys_in (entries_in ls)) → entries_in ls ≡ now → None ≡ lookup (is_key key) now
-  none_there ls now count slot key leaf true filled some inside upto above own is not_there up view = absurd (true≢false not_there)
+  none_there ls now count slot key leaf true filled some inside upto above own is not_there up view = absurd (true≢false
+      not_there)
   none_there ls now count slot key leaf false filled some inside upto above own is not_there up view =
       let more : 0 < count = omega (arith, some) in
       let n = place ls count slot key filled more inside upto above in
       sym (ap (lookup (is_key key)) (sym view)
       ∙ absent_lookup (entries_in ls) key n (parts (entries_in ls) key n up
-      (slot_whole ls count slot key filled more inside upto above (subst (λ l. IsSlot (keys_in l) key slot false) own is))))
+      (slot_whole ls count slot key filled more inside upto above (subst (λ l. IsSlot (keys_in l) key slot false) own
+      is))))
 
   pub some_there : (ls : List (List (List ℕ × V))) (now : List (List ℕ × V)) (count slot : ℕ) (key : List ℕ)
       (leaf : List (List ℕ × V)) (b : Bool) (v : V) → All (λ leaf. 0 < length leaf) ls
@@ -142,7 +164,8 @@ module _ {V : Type 0} where
       → leaf ≡ get_or ls (count - 1) [] → IsSlot (keys_in leaf) key slot b → b ≡ true
       → slice_get leaf slot ≡ Some (get_or (keys_in leaf) slot [], v)
       → IsStrictlySortedBy key_cmp (keys_in (entries_in ls)) → entries_in ls ≡ now → Some v ≡ lookup (is_key key) now
-  some_there ls now count slot key leaf false v filled some inside upto above own is there_too there up view = absurd (true≢false (sym there_too))
+  some_there ls now count slot key leaf false v filled some inside upto above own is there_too there up view = absurd
+      (true≢false (sym there_too))
   some_there ls now count slot key leaf true v filled some inside upto above own is there_too there up view =
       sym (ap (lookup (is_key key)) (sym view)
       ∙ entry_whole ls count slot key filled (omega (arith, some)) inside upto above v
@@ -150,7 +173,11 @@ module _ {V : Type 0} where
       (ap (λ l. slice_get l slot) (sym own) ∙ there ∙ ap (λ k. Some (k, v)) is.1) up)
 
   -- ---- adding a key
-  entry_at : (es : List (List ℕ × V)) (n : ℕ) → n < length es → (v : V) × (slice_get es n ≡ Some (get_or (keys_in es) n [], v))
+  entry_at : (es : List (List ℕ × V)) (n : ℕ) → n < length es → (v : V) × (slice_get es n ≡ Some (
+    get_or (keys_in es) n
+        [],
+    v,
+  ))
   entry_at [] n lt = absurd (omega (arith, lt))
   entry_at (e ∷ es) zero lt = (e.1, refl)
   entry_at (e ∷ es) (suc n) lt = entry_at es n (omega (arith, lt))
@@ -167,15 +194,18 @@ module _ {V : Type 0} where
   new_slot ls now count slot key leaf true filled some inside upto above own is up view new =
       let lt : slot < length leaf = (let lt = is.0 in let m = length_keys leaf in omega (arith, lt, m)) in
       let e = entry_at leaf slot lt in
-      absurd (none_some (sym new ∙ sym (some_there ls now count slot key leaf true e.0 filled some inside upto above own is refl e.1 up view)))
+      absurd (none_some (sym new ∙ sym (some_there ls now count slot key leaf true e.0 filled some inside upto above own
+      is refl e.1 up view)))
 
   pub grown : (ls new : List (List (List ℕ × V))) (now : List (List ℕ × V)) (key : List ℕ) (v : V) (n : ℕ)
-      → IsStrictlySortedBy key_cmp (keys_in (entries_in ls)) → entries_in ls ≡ now → IsSlot (keys_in (entries_in ls)) key n false
+      → IsStrictlySortedBy key_cmp (keys_in (entries_in ls)) → entries_in ls ≡ now → IsSlot (keys_in (entries_in ls))
+      key n false
       → entries_in new ≡ insert (entries_in ls) n (key, v) → entries_in new ≡ insert_entry key_cmp now key v
   grown ls new now key v n up view slot is =
       is ∙ sym (put_at (entries_in ls) key v n up slot) ∙ ap (λ l. insert_entry key_cmp l key v) view
 
-  pub grown_ascend : {E : Type 0} (ls new : List (List (List ℕ × V))) (key : List ℕ) (v : V) (n : ℕ) (r : Result (Unit {0}) E)
+  pub grown_ascend : {E : Type 0} (ls new : List (List (List ℕ × V))) (key : List ℕ) (v : V) (n : ℕ) (r : Result (Unit
+      {0}) E)
       → IsStrictlySortedBy key_cmp (keys_in (entries_in ls)) → IsSlot (keys_in (entries_in ls)) key n false
       → OnOk r (entries_in new ≡ insert (entries_in ls) n (key, v)) → OnErr r (entries_in new ≡ entries_in ls)
       → IsStrictlySortedBy key_cmp (keys_in (entries_in new))
@@ -187,17 +217,26 @@ module _ {V : Type 0} where
       → entries_in new ≡ insert (entries_in ls) (length (entries_in ls)) e
   pushed ls new e is =
       ap entries_in is ∙ flat_map-append (λ (leaf : List (List ℕ × V)). leaf) ls ((e ∷ []) ∷ [])
-      ∙ sym (ap₂ (λ xs ys. xs ++ e ∷ ys) (take_all (length (entries_in ls)) (entries_in ls) (omega arith)) (drop_all (length (entries_in ls)) (entries_in ls) (omega arith)))
+      ∙ sym (ap₂ (λ xs ys. xs ++ e ∷ ys) (take_all (length (entries_in ls)) (entries_in ls) (omega arith)) (drop_all
+      (length (entries_in ls)) (entries_in ls) (omega arith)))
 
   -- the end of the last leaf is the end of all
-  pub end_place : (ls : List (List (List ℕ × V))) (count slot : ℕ) (leaf : List (List ℕ × V)) → (count ≡ 0 → ⊥) → count ≡ length ls
-      → leaf ≡ get_or ls (count - 1) [] → slot ≡ length leaf → length (entries_in (take (count - 1) ls)) + slot ≡ length (entries_in ls)
+  pub end_place : (ls : List (List (List ℕ × V))) (count slot : ℕ) (leaf : List (List ℕ × V)) → (count ≡ 0 → ⊥) → count
+      ≡ length ls
+      → leaf ≡ get_or ls (count - 1) [] → slot ≡ length leaf → length (entries_in (take (count - 1) ls)) + slot ≡ length
+      (entries_in ls)
   end_place ls count slot leaf some all own last =
       let whole = ap length (joined_all ls (count - 1) (omega (arith, some, all))) in
       let front = length-append (entries_in (take (count - 1) ls)) (get_or ls (count - 1) []) in
-      let long = length-append (entries_in (take (count - 1) ls) ++ get_or ls (count - 1) []) (entries_in (drop (count - 1 + 1) ls)) in
+      let long = length-append (entries_in (take (count - 1) ls) ++ get_or ls (count - 1) []) (entries_in (drop (count -
+      1 + 1) ls)) in
       let same = ap length own in
-      let none = none_left (drop (count - 1 + 1) ls) (let m = length-drop (count - 1 + 1) ls in omega (arith, m, some, all)) in
+      let none = none_left (drop (count - 1 + 1) ls) (let m = length-drop (count - 1 + 1) ls in omega (
+        arith,
+        m,
+        some,
+        all,
+      )) in
       omega (arith, whole, front, long, same, last, none)
     where
       none_left : (xs : List (List (List ℕ × V))) → length xs ≡ 0 → length (entries_in xs) ≡ 0
@@ -209,6 +248,7 @@ module _ {V : Type 0} where
   slot_empty [] key none = (omega arith, (λ some. absurd (omega (arith, some))), λ some. absurd (omega (arith, some)))
   slot_empty (x ∷ xs) key none = absurd (omega (arith, none))
 
-  pub slot_end : (ls : List (List (List ℕ × V))) (key : List ℕ) (n m : ℕ) → n ≡ m → IsSlot (keys_in (entries_in ls)) key n false
+  pub slot_end : (ls : List (List (List ℕ × V))) (key : List ℕ) (n m : ℕ) → n ≡ m → IsSlot (keys_in (entries_in ls)) key
+      n false
       → IsSlot (keys_in (entries_in ls)) key m false
   slot_end ls key n m same = subst (λ i. IsSlot (keys_in (entries_in ls)) key i false) same

@@ -1,5 +1,6 @@
 -- Where a key stands among ascending keys says what looking it up finds and where a new entry goes.
-use Rattle.std.proofs.Common.{◌≡◌, ◌≤◌, ◌<◌, ◌+◌, ◌-◌, ◌++◌, ◌∷◌, ◌∙◌, ℕ, zero, suc, List, [], get_or, length, arith, refl, ap, sym, subst}
+use Rattle.std.proofs.Common.{◌≡◌, ◌≤◌, ◌<◌, ◌+◌, ◌-◌, ◌++◌, ◌∷◌, ◌∙◌, ℕ, zero, suc, List, [], get_or, length, arith}
+use Rattle.std.proofs.Common.{refl, ap, sym, subst}
 use Rattle.std.specs.Prelude.{slice_get}
 use Rattle.std.specs.Ordering.{ordering_then}
 use Rattle.hlc_index.proofs.Heads.{is_equal, length_keys}
@@ -41,8 +42,13 @@ module _ {V : Type 0} where
       ((i : ℕ) → i < n → key_cmp (get_or (keys_in es) i []) key ≡ Less)
       × ((i : ℕ) → n ≤ i → i < length es → key_cmp (get_or (keys_in es) i []) key ≡ Greater)
 
-  tail_front : (e : List ℕ × V) (es : List (List ℕ × V)) (key : List ℕ) (n : ℕ) → Parts (e ∷ es) key (suc n) → Parts es key n
-  tail_front e es key n p = (λ i lt. p.0 (suc i) (omega (arith, lt)), λ i le lt. p.1 (suc i) (omega (arith, le)) (omega (arith, lt)))
+  tail_front : (e : List ℕ × V) (es : List (List ℕ × V)) (key : List ℕ) (n : ℕ) → Parts (e ∷ es) key (suc n) → Parts es
+      key n
+  tail_front e es key n p = (
+    λ i lt. p.0 (suc i) (omega (arith, lt)),
+    λ i le lt. p.1 (suc i) (omega (arith, le)) (omega
+        (arith, lt)),
+  )
 
   tail_back : (e : List ℕ × V) (es : List (List ℕ × V)) (key : List ℕ) → Parts (e ∷ es) key 0 → Parts es key 0
   tail_back e es key p = (λ i lt. absurd (omega (arith, lt)), λ i le lt. p.1 (suc i) (omega arith) (omega (arith, lt)))
@@ -81,7 +87,8 @@ module _ {V : Type 0} where
     ],
     λ i le lt. let long = length-map es (λ (e : List ℕ × V). e.0) in
         elim (cases_lt n i) [
-          | inl less ↦ other key (get_or (keys_in es) i []) (nat_list_cmp_total.trans key (get_or (keys_in es) n []) (get_or (keys_in es) i [])
+          | inl less ↦ other key (get_or (keys_in es) i []) (nat_list_cmp_total.trans key (get_or (keys_in es) n [])
+              (get_or (keys_in es) i [])
               (over (get_or (keys_in es) n []) key (slot.2 (omega (arith, less, lt, long))))
               (Less-from_sorted key_cmp (keys_in es) n i [] up less (omega (arith, lt, long))))
           | inr more ↦ subst (λ m. key_cmp (get_or (keys_in es) m []) key ≡ Greater)
@@ -112,7 +119,8 @@ module _ {V : Type 0} where
       ∙ found_lookup es key v n (sorted_tail key_cmp e.0 (keys_in es) up) (omega (arith, lt)) is
 
   -- with a new key at its slot the keys still ascend
-  all_with : (P : List ℕ → Type 0) (es : List (List ℕ × V)) (n : ℕ) (e : List ℕ × V) → AllByRecursion P (keys_in es) → P e.0
+  all_with : (P : List ℕ → Type 0) (es : List (List ℕ × V)) (n : ℕ) (e : List ℕ × V) → AllByRecursion P (keys_in es) → P
+      e.0
       → AllByRecursion P (keys_in (insert es n e))
   all_with P [] zero e all one = (one, tt)
   all_with P [] (suc n) e all one = (one, tt)
@@ -140,7 +148,8 @@ module _ {V : Type 0} where
       ∙ get_or_append_left (keys_in leaf) (keys_in back) [] (0 + i) (let m = length_keys leaf in omega (arith, lt, m))
       ∙ ap (λ m. get_or (keys_in leaf) m []) (let e : 0 + i ≡ i = omega arith in e)
   keys_joined (x ∷ xs) leaf back i lt =
-      ap (λ m. get_or (keys_in (x ∷ (xs ++ leaf ++ back))) m []) (let e : length (x ∷ xs) + i ≡ suc (length xs + i) = omega arith in e)
+      ap (λ m. get_or (keys_in (x ∷ (xs ++ leaf ++ back))) m []) (let e : length (x ∷ xs) + i ≡ suc (length xs + i) =
+      omega arith in e)
       ∙ keys_joined xs leaf back i lt
 
   pub entry_joined : (front leaf back : List (List ℕ × V)) (i : ℕ) → i < length leaf
@@ -148,12 +157,14 @@ module _ {V : Type 0} where
   entry_joined [] leaf back i lt =
       ap (slice_get (leaf ++ back)) (let e : 0 + i ≡ i = omega arith in e) ∙ entry_front leaf back i lt
     where
-      entry_front : (leaf back : List (List ℕ × V)) (i : ℕ) → i < length leaf → slice_get (leaf ++ back) i ≡ slice_get leaf i
+      entry_front : (leaf back : List (List ℕ × V)) (i : ℕ) → i < length leaf → slice_get (leaf ++ back) i ≡ slice_get
+          leaf i
       entry_front [] back i lt = absurd (omega (arith, lt))
       entry_front (y ∷ ys) back zero lt = refl
       entry_front (y ∷ ys) back (suc i) lt = entry_front ys back i (omega (arith, lt))
   entry_joined (x ∷ xs) leaf back i lt =
-      ap (λ m. slice_get (x ∷ (xs ++ leaf ++ back)) m) (let e : length (x ∷ xs) + i ≡ suc (length xs + i) = omega arith in e)
+      ap (λ m. slice_get (x ∷ (xs ++ leaf ++ back)) m) (let e : length (x ∷ xs) + i ≡ suc (length xs + i) = omega arith
+      in e)
       ∙ entry_joined xs leaf back i lt
 
   first_back : (front back : List (List ℕ × V)) (n : ℕ) → n ≡ length front → 0 < length back
@@ -165,7 +176,8 @@ module _ {V : Type 0} where
       at_end [] back = refl
       at_end (x ∷ xs) back = at_end xs back
 
-  pub slot_joined : (front leaf back : List (List ℕ × V)) (key : List ℕ) (n : ℕ) → 0 < n → IsSlot (keys_in leaf) key n false
+  pub slot_joined : (front leaf back : List (List ℕ × V)) (key : List ℕ) (n : ℕ) → 0 < n → IsSlot (keys_in leaf) key n
+      false
       → (0 < length back → key_cmp (first_key back) key ≡ Greater)
       → IsSlot (keys_in (front ++ leaf ++ back)) key (length front + n) false
   slot_joined front leaf back key n some slot above =
@@ -176,11 +188,13 @@ module _ {V : Type 0} where
       let le = slot.0 in (
         omega (arith, long, few, sum, sum', le),
         λ _. subst (λ k. key_cmp k key ≡ Less)
-            (sym (ap (λ m. get_or (keys_in (front ++ leaf ++ back)) m []) (let e : length front + n - 1 ≡ length front + (n - 1) = omega (arith, some) in e)
+            (sym (ap (λ m. get_or (keys_in (front ++ leaf ++ back)) m []) (let e : length front + n - 1 ≡ length front +
+            (n - 1) = omega (arith, some) in e)
             ∙ keys_joined front leaf back (n - 1) (omega (arith, some, le, few))))
             (slot.1 some),
         λ inside. elim (cases_lt n (length leaf)) [
-          | inl less ↦ subst (λ k. key_cmp k key ≡ Greater) (sym (keys_joined front leaf back n less)) (slot.2 (omega (arith, less, few)))
+          | inl less ↦ subst (λ k. key_cmp k key ≡ Greater) (sym (keys_joined front leaf back n less)) (slot.2 (omega
+              (arith, less, few)))
           | inr more ↦
               let end : n ≡ length leaf = omega (arith, more, le, few) in
               let left : 0 < length back = omega (arith, inside, long, sum, sum', end) in

@@ -1,5 +1,6 @@
 -- Another value for a key that is there: the one at its place in its leaf.
-use Rattle.std.proofs.Common.{◌≡◌, ◌≤◌, ◌<◌, ◌+◌, ◌-◌, ◌++◌, ◌∷◌, ◌∙◌, ℕ, zero, suc, List, [], get_or, length, arith, refl, ap, sym, subst, take, drop}
+use Rattle.std.proofs.Common.{◌≡◌, ◌≤◌, ◌<◌, ◌+◌, ◌-◌, ◌++◌, ◌∷◌, ◌∙◌, ℕ, zero, suc, List, [], get_or, length, arith}
+use Rattle.std.proofs.Common.{refl, ap, sym, subst, take, drop}
 use Rattle.std.proofs.Common.{Bool, true, false, cond, None, Some, Option, IsSome, true≢false, Less, Equal, All}
 use Rattle.std.specs.List.Sorted.{IsStrictlySortedBy}
 use Rattle.std.specs.Prelude.{slice_get}
@@ -7,7 +8,8 @@ use Rattle.std.specs.Map.{lookup, set_value}
 use Rattle.std.specs.Ordering.{is_eq}
 use Rattle.std.proofs.lemmas.Map.Keys.{Less-from_sorted, sorted_tail}
 use Rattle.std.proofs.lemmas.List.{length-append}
-use Rattle.hlc_index.specs.Entries.{keys_in, key_cmp, is_key, IsSlot, IsUptoAt, IsAboveAt, first_keys, entries_in, with_value, with_value_in}
+use Rattle.hlc_index.specs.Entries.{keys_in, key_cmp, is_key, IsSlot, IsUptoAt, IsAboveAt, first_keys, entries_in}
+use Rattle.hlc_index.specs.Entries.{with_value, with_value_in}
 use Rattle.hlc_index.proofs.Heads.{length_keys}
 use Rattle.hlc_index.proofs.LeafLemmas.{keys_with}
 use Rattle.hlc_index.proofs.Joined.{joined_all, joined_set}
@@ -19,7 +21,8 @@ no_none None e s = true≢false (sym s)
 no_none (Some x) e s = none_some e
 
 module _ {V : Type 0} where
-  set_at : (es : List (List ℕ × V)) (key : List ℕ) (n : ℕ) (w : V) → IsStrictlySortedBy key_cmp (keys_in es) → n < length es
+  set_at : (es : List (List ℕ × V)) (key : List ℕ) (n : ℕ) (w : V) → IsStrictlySortedBy key_cmp (keys_in es) → n <
+      length es
       → get_or (keys_in es) n [] ≡ key → with_value es n w ≡ set_value (is_key key) es w
   set_at [] key n w up lt is = absurd (omega (arith, lt))
   set_at (e ∷ es) key zero w up lt is =
@@ -33,7 +36,8 @@ module _ {V : Type 0} where
       ∙ sym (ap (λ o. cond (is_eq o) ((e.0, w) ∷ es) (e ∷ set_value (is_key key) es w))
       (other e.0 key (subst (λ k. key_cmp e.0 k ≡ Less) is less)))
 
-  value_back : (leaf back : List (List ℕ × V)) (i : ℕ) (w : V) → i < length leaf → with_value (leaf ++ back) i w ≡ with_value leaf i w ++ back
+  value_back : (leaf back : List (List ℕ × V)) (i : ℕ) (w : V) → i < length leaf → with_value (leaf ++ back) i w ≡
+      with_value leaf i w ++ back
   value_back [] back i w lt = absurd (omega (arith, lt))
   value_back (x ∷ xs) back zero w lt = refl
   value_back (x ∷ xs) back (suc i) w lt = ap (λ l. x ∷ l) (value_back xs back i w (omega (arith, lt)))
@@ -43,11 +47,13 @@ module _ {V : Type 0} where
   value_joined [] leaf back i w lt =
       ap (λ m. with_value (leaf ++ back) m w) (let e : 0 + i ≡ i = omega arith in e) ∙ value_back leaf back i w lt
   value_joined (x ∷ xs) leaf back i w lt =
-      ap (λ m. with_value (x ∷ (xs ++ leaf ++ back)) m w) (let e : length (x ∷ xs) + i ≡ suc (length xs + i) = omega arith in e)
+      ap (λ m. with_value (x ∷ (xs ++ leaf ++ back)) m w) (let e : length (x ∷ xs) + i ≡ suc (length xs + i) = omega
+      arith in e)
       ∙ ap (λ l. x ∷ l) (value_joined xs leaf back i w lt)
 
   -- the place of a slot among all entries
-  module _ (ls : List (List (List ℕ × V))) (at slot : ℕ) (inside : at < length ls) (lt : slot < length (get_or ls at [])) where
+  module _ (ls : List (List (List ℕ × V))) (at slot : ℕ) (inside : at < length ls) (lt : slot < length (get_or ls at
+      [])) where
     abbrev place : ℕ
     place = length (entries_in (take at ls)) + slot
 
@@ -59,9 +65,11 @@ module _ {V : Type 0} where
 
     pub valued_ascend : (w : V) → IsStrictlySortedBy key_cmp (keys_in (entries_in ls))
         → IsStrictlySortedBy key_cmp (keys_in (entries_in (with_value_in ls at slot w)))
-    valued_ascend w = subst (IsStrictlySortedBy key_cmp) (sym (ap keys_in (valued w) ∙ keys_with (entries_in ls) place w))
+    valued_ascend w = subst (IsStrictlySortedBy key_cmp) (sym (ap keys_in (valued w) ∙ keys_with (entries_in ls) place
+        w))
 
-    pub valued_is : (now : List (List ℕ × V)) (key : List ℕ) (w : V) → IsStrictlySortedBy key_cmp (keys_in (entries_in ls))
+    pub valued_is : (now : List (List ℕ × V)) (key : List ℕ) (w : V) → IsStrictlySortedBy key_cmp (keys_in (entries_in
+        ls))
         → get_or (keys_in (get_or ls at [])) slot [] ≡ key → entries_in ls ≡ now
         → entries_in (with_value_in ls at slot w) ≡ set_value (is_key key) now w
     valued_is now key w up is view =
@@ -69,14 +77,17 @@ module _ {V : Type 0} where
         let long = length-append (entries_in (take at ls) ++ get_or ls at []) (entries_in (drop (at + 1) ls)) in
         let same = ap length (joined_all ls at inside) in
         valued w
-        ∙ set_at (entries_in ls) key place w up (let p : place ≡ length (entries_in (take at ls)) + slot = refl in omega (arith, lt, front, long, same, p))
+        ∙ set_at (entries_in ls) key place w up (let p : place ≡ length (entries_in (take at ls)) + slot = refl in omega
+        (arith, lt, front, long, same, p))
         (ap (λ (l : List (List ℕ × V)). get_or (keys_in l) place []) (joined_all ls at inside)
         ∙ keys_joined (entries_in (take at ls)) (get_or ls at []) (entries_in (drop (at + 1) ls)) slot lt ∙ is)
         ∙ ap (λ l. set_value (is_key key) l w) view
 
-    pub there_is : (now : List (List ℕ × V)) (key : List ℕ) (v : V) → IsStrictlySortedBy key_cmp (keys_in (entries_in ls))
+    pub there_is : (now : List (List ℕ × V)) (key : List ℕ) (v : V) → IsStrictlySortedBy key_cmp (keys_in (entries_in
+        ls))
         → get_or (keys_in (get_or ls at [])) slot [] ≡ key → entries_in ls ≡ now
-        → slice_get (get_or ls at []) slot ≡ Some (get_or (keys_in (get_or ls at [])) slot [], v) → lookup (is_key key) now ≡ Some v
+        → slice_get (get_or ls at []) slot ≡ Some (get_or (keys_in (get_or ls at [])) slot [], v) → lookup (is_key key)
+        now ≡ Some v
     there_is now key v up is view read =
         let front = length-append (entries_in (take at ls)) (get_or ls at []) in
         let long = length-append (entries_in (take at ls) ++ get_or ls at []) (entries_in (drop (at + 1) ls)) in
@@ -89,7 +100,8 @@ module _ {V : Type 0} where
         ∙ read ∙ ap (λ k. Some (k, v)) is)
 
   -- a key that is there stands behind the first key of some leaf
-  pub some_count : (ls : List (List (List ℕ × V))) (now : List (List ℕ × V)) (key : List ℕ) (count : ℕ) → All (λ leaf. 0 < length leaf) ls
+  pub some_count : (ls : List (List (List ℕ × V))) (now : List (List ℕ × V)) (key : List ℕ) (count : ℕ) → All (λ leaf. 0
+      < length leaf) ls
       → IsAboveAt (first_keys ls) count key → IsStrictlySortedBy key_cmp (keys_in (entries_in ls)) → entries_in ls ≡ now
       → IsSome (lookup (is_key key) now) → 0 < count
   some_count ls now key zero filled above up view there =
@@ -105,16 +117,22 @@ module _ {V : Type 0} where
       → (slot < length (get_or ls (count - 1) [])) × (get_or (keys_in (get_or ls (count - 1) [])) slot [] ≡ key)
   some_slot ls now count slot key leaf false filled some inside upto above own is up view there =
       absurd (no_none (lookup (is_key key) now)
-      (none_there ls now count slot key leaf false filled (λ none. omega (arith, none, some)) inside upto above own is refl up view) there)
+      (none_there ls now count slot key leaf false filled (λ none. omega (arith, none, some)) inside upto above own is
+      refl up view) there)
   some_slot ls now count slot key leaf true filled some inside upto above own is up view there = (
     let lt = is.0 in let m = length_keys leaf in let e = ap length own in omega (arith, lt, m, e),
     ap (λ (l : List (List ℕ × V)). get_or (keys_in l) slot []) (sym own) ∙ is.1,
   )
 
   -- the last entry of the last leaf is the last of all
-  pub last_is : (ls : List (List (List ℕ × V))) (now : List (List ℕ × V)) (count slot : ℕ) (leaf : List (List ℕ × V)) (key : List ℕ) (v : V)
+  pub last_is : (ls : List (List (List ℕ × V))) (now : List (List ℕ × V)) (count slot : ℕ) (leaf : List (List ℕ × V))
+      (key : List ℕ) (v : V)
       → (count ≡ 0 → ⊥) → count ≡ length ls → leaf ≡ get_or ls (count - 1) [] → 0 < length leaf → slot ≡ length leaf - 1
-      → entries_in ls ≡ now → key ≡ get_or (keys_in leaf) slot [] → slice_get leaf slot ≡ Some (get_or (keys_in leaf) slot [], v)
+      → entries_in ls ≡ now → key ≡ get_or (keys_in leaf) slot [] → slice_get leaf slot ≡ Some (
+        get_or (keys_in leaf)
+            slot [],
+        v,
+      )
       → slice_get now (length now - 1) ≡ Some (key, v)
   last_is ls now count slot leaf key v some all own filled end view is read =
       let lt : slot < length leaf = omega (arith, end, filled) in
@@ -122,8 +140,16 @@ module _ {V : Type 0} where
       let whole = joined_all ls (count - 1) inside in
       let place = end_place ls count (length leaf) leaf some all own refl in
       let same = ap length view in
-      ap (slice_get now) (let e : length now - 1 ≡ length (entries_in (take (count - 1) ls)) + slot = omega (arith, place, same, end, filled) in e)
-      ∙ ap (λ (l : List (List ℕ × V)). slice_get l (length (entries_in (take (count - 1) ls)) + slot)) (sym view ∙ whole)
-      ∙ entry_joined (entries_in (take (count - 1) ls)) (get_or ls (count - 1) []) (entries_in (drop (count - 1 + 1) ls)) slot
+      ap (slice_get now) (let e : length now - 1 ≡ length (entries_in (take (count - 1) ls)) + slot = omega (
+        arith,
+        place,
+        same,
+        end,
+        filled,
+      ) in e)
+      ∙ ap (λ (l : List (List ℕ × V)). slice_get l (length (entries_in (take (count - 1) ls)) + slot)) (sym view ∙
+      whole)
+      ∙ entry_joined (entries_in (take (count - 1) ls)) (get_or ls (count - 1) []) (entries_in (drop (count - 1 + 1)
+      ls)) slot
       (let e = ap length own in omega (arith, lt, e))
       ∙ ap (λ (l : List (List ℕ × V)). slice_get l slot) (sym own) ∙ read ∙ ap (λ k. Some (k, v)) (sym is)

@@ -16,18 +16,23 @@ overflow_sub-at g c = some g (goal.at.overflow_sub-at g c).After-count_upto-at
 
 slot : (g : Over) (c : After-find-slot g)
     → (c.find-slot.result.0 < length (get_or c.self.inside.leaves (c.count_upto-at.result - 1) []))
-    × (get_or (keys_in (get_or c.self.inside.leaves (c.count_upto-at.result - 1) [])) c.find-slot.result.0 [] ≡ c.args.key.now)
+    × (get_or (keys_in (get_or c.self.inside.leaves (c.count_upto-at.result - 1) [])) c.find-slot.result.0 [] ≡
+    c.args.key.now)
 slot g c =
-    some_slot c.self.inside.leaves c.args.self.now c.count_upto-at.result c.find-slot.result.0 c.args.key.now c.leaf.result.now
+    some_slot c.self.inside.leaves c.args.self.now c.count_upto-at.result c.find-slot.result.0 c.args.key.now
+    c.leaf.result.now
     c.find-slot.result.1 c.count_upto-at.ensures.filled
-    (some_count c.self.inside.leaves c.args.self.now c.args.key.now c.count_upto-at.result c.count_upto-at.ensures.filled
+    (some_count c.self.inside.leaves c.args.self.now c.args.key.now c.count_upto-at.result
+    c.count_upto-at.ensures.filled
     c.count_upto-at.ensures.above c.self.invariant c.self.view_is c.requires)
-    c.count_upto-at.ensures.inside c.count_upto-at.ensures.upto c.count_upto-at.ensures.above c.leaf.ensures.value c.find-slot.ensures
+    c.count_upto-at.ensures.inside c.count_upto-at.ensures.upto c.count_upto-at.ensures.above c.leaf.ensures.value
+    c.find-slot.ensures
     c.self.invariant c.self.view_is c.requires
 
 inside : (g : Over) (c : After-find-slot g) → c.count_upto-at.result - 1 < length c.self.inside.leaves
 inside g c =
-    let more = some_count c.self.inside.leaves c.args.self.now c.args.key.now c.count_upto-at.result c.count_upto-at.ensures.filled
+    let more = some_count c.self.inside.leaves c.args.self.now c.args.key.now c.count_upto-at.result
+    c.count_upto-at.ensures.filled
     c.count_upto-at.ensures.above c.self.invariant c.self.view_is c.requires in
     let le = c.count_upto-at.ensures.inside in
     omega (arith, more, le)
@@ -38,19 +43,23 @@ value_mut-requires-clause-inside g c = (slot g (goal.at.value_mut-requires-claus
 pub invariant_of-self-lent : goal.invariant_of-self-lent
 invariant_of-self-lent g c w =
     let at = (goal.at.invariant_of-self-lent g c).After-find-slot in
-    valued_ascend c.self.inside.leaves (c.count_upto-at.result - 1) c.find-slot.result.0 (inside g at) (slot g at).0 w c.self.invariant
+    valued_ascend c.self.inside.leaves (c.count_upto-at.result - 1) c.find-slot.result.0 (inside g at) (slot g at).0 w
+    c.self.invariant
 
 pub returns : goal.returns
 returns g c =
     let at = (goal.at.returns g c).After-find-slot in (
       (
         refl,
-        λ w. valued_is c.self.inside.leaves (c.count_upto-at.result - 1) c.find-slot.result.0 (inside g at) (slot g at).0
+        λ w. valued_is c.self.inside.leaves (c.count_upto-at.result - 1) c.find-slot.result.0 (inside g at) (slot g
+            at).0
             c.args.self.now c.args.key.now w c.self.invariant (slot g at).1 c.self.view_is,
       ),
       record {
         lends = tt;
-        value = there_is c.self.inside.leaves (c.count_upto-at.result - 1) c.find-slot.result.0 (inside g at) (slot g at).0
-            c.args.self.now c.args.key.now c.value_mut.result.now c.self.invariant (slot g at).1 c.self.view_is c.value_mut.ensures.value;
+        value = there_is c.self.inside.leaves (c.count_upto-at.result - 1) c.find-slot.result.0 (inside g at) (slot g
+            at).0
+            c.args.self.now c.args.key.now c.value_mut.result.now c.self.invariant (slot g at).1 c.self.view_is
+            c.value_mut.ensures.value;
       },
     )

@@ -13,9 +13,11 @@ many g c =
     c.as_slice.ensures.value c.self.invariant c.args.key.now c.requires.bytes c.args.head c.requires.head
     c.place_of_head-first.result.0
 
-below : (g : Over) (c : After-place_of_head-first g) → IsBelowAt (keys_in c.args.self.now) c.place_of_head-first.result.0 c.args.key.now
+below : (g : Over) (c : After-place_of_head-first g) → IsBelowAt (keys_in c.args.self.now)
+    c.place_of_head-first.result.0 c.args.key.now
 below g c =
-    told_below c.self.inside.entries.items c.args.self.now c.self.view_is c.self.inside.heads.items c.as_slice.result.now
+    told_below c.self.inside.entries.items c.args.self.now c.self.view_is c.self.inside.heads.items
+    c.as_slice.result.now
     c.as_slice.ensures.value c.self.invariant c.args.key.now c.requires.bytes c.args.head c.requires.head
     c.place_of_head-first.result.0 c.place_of_head-first.ensures.inside c.place_of_head-first.ensures.below
 
@@ -25,7 +27,8 @@ returns-then-not-is_alike g c =
     let inside = c.place_of_head-first.ensures.inside in (
       omega (arith, inside, long),
       below g (goal.at.returns-then-not-is_alike g c).After-place_of_head-first,
-      told_above c.self.inside.entries.items c.args.self.now c.self.view_is c.self.inside.heads.items c.as_slice.result.now
+      told_above c.self.inside.entries.items c.args.self.now c.self.view_is c.self.inside.heads.items
+          c.as_slice.result.now
           c.as_slice.ensures.value c.self.invariant c.args.key.now c.requires.bytes c.args.head c.requires.head
           c.place_of_head-first.result.0 (c.place_of_head-first.ensures.apart c.if-not-is_alike.true),
     )
@@ -38,10 +41,17 @@ inside g c is =
     omega (arith, lt, long)
 
 pub returns-in-Equal : goal.returns-in-Equal
-returns-in-Equal g c =
-    (inside g (goal.at.returns-in-Equal g c).After-place_of_head-first c.if-not-is_alike.false, sym c.key.ensures ∙ same_key c.key.result.now c.args.key.now (sym c.in-Equal.ensures))
+returns-in-Equal g c = (
+  inside g (goal.at.returns-in-Equal g c).After-place_of_head-first c.if-not-is_alike.false,
+  sym c.key.ensures ∙
+      same_key c.key.result.now c.args.key.now (sym c.in-Equal.ensures),
+)
 
 pub returns-in-Greater : goal.returns-in-Greater
 returns-in-Greater g c =
-    let lt = inside g (goal.at.returns-in-Greater g c).After-place_of_head-first c.if-not-is_alike.false in
-    (omega (arith, lt), below g (goal.at.returns-in-Greater g c).After-place_of_head-first, λ _. subst (λ k. key_cmp k c.args.key.now ≡ Greater) c.key.ensures (sym c.in-Greater.ensures))
+    let lt = inside g (goal.at.returns-in-Greater g c).After-place_of_head-first c.if-not-is_alike.false in (
+      omega (arith, lt),
+      below g (goal.at.returns-in-Greater g c).After-place_of_head-first,
+      λ _. subst (λ k. key_cmp k
+          c.args.key.now ≡ Greater) c.key.ensures (sym c.in-Greater.ensures),
+    )

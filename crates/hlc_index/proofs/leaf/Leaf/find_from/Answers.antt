@@ -7,5 +7,8 @@ pub returns-in-Equal : goal.returns-in-Equal
 returns-in-Equal g c =
     let few = c.loop-low-test.true in
     let inside = c.loop-low.invariant.inside in
-    let long = length_keys c.args.self.now in
-    (omega (arith, few, inside, long), sym c.key.ensures ∙ same_key c.key.result.now c.args.key.now (sym c.in-Equal.ensures))
+    let long = length_keys c.args.self.now in (
+      omega (arith, few, inside, long),
+      sym c.key.ensures ∙ same_key c.key.result.now c.args.key.now (sym
+          c.in-Equal.ensures),
+    )

@@ -9,8 +9,10 @@ invariant_of-result g c =
     leaf_drop c.self.inside.heads.items c.self.inside.entries.items c.extend_from_slice.new.self.items
     c.in_ok-entries.entries.items c.args.slot c.self.invariant
     (c.in_ok-extend_from_slice.ensures.items
-    ∙ ap (λ (l : List ℕ). l ++ take (length c.deref.result.now - c.args.slot) (drop c.args.slot c.deref.result.now)) c.in_ok-heads.ensures.items
-    ∙ take_rest c.deref.result.now c.args.slot ∙ ap (drop c.args.slot) c.deref.ensures.value) c.in_ok-entries.ensures.tail
+    ∙ ap (λ (l : List ℕ). l ++ take (length c.deref.result.now - c.args.slot) (drop c.args.slot c.deref.result.now))
+    c.in_ok-heads.ensures.items
+    ∙ take_rest c.deref.result.now c.args.slot ∙ ap (drop c.args.slot) c.deref.ensures.value)
+    c.in_ok-entries.ensures.tail
 
 pub invariant_of-self-2 : goal.invariant_of-self-2
 invariant_of-self-2 g c =

@@ -5,10 +5,13 @@ use Rattle.hlc_index.proofs.leaves.Leaves.count_upto.Given.{Over}
 use Rattle.hlc_index.proofs.leaves.Leaves.count_upto.Goals as goal
 use Rattle.hlc_index.proofs.leaves.Leaves.count_upto.Goals.{After-place_of_head-place}
 
-upto : (g : Over) (c : After-place_of_head-place g) → IsUptoAt (first_keys c.args.self.now) c.place_of_head-place.result.0 c.args.key.now
+upto : (g : Over) (c : After-place_of_head-place g) → IsUptoAt (first_keys c.args.self.now)
+    c.place_of_head-place.result.0 c.args.key.now
 upto g c =
-    told_upto c.self.inside.tops.items c.self.inside.leaves.items c.args.self.now c.as_slice.result.now c.args.key.now c.args.head
-    c.place_of_head-place.result.0 c.self.invariant c.self.view_is c.as_slice.ensures.value c.requires.bytes c.requires.head
+    told_upto c.self.inside.tops.items c.self.inside.leaves.items c.args.self.now c.as_slice.result.now c.args.key.now
+    c.args.head
+    c.place_of_head-place.result.0 c.self.invariant c.self.view_is c.as_slice.ensures.value c.requires.bytes
+    c.requires.head
     c.place_of_head-place.ensures.inside c.place_of_head-place.ensures.below
 
 pub returns-then-not-is_alike-clause-upto : goal.returns-then-not-is_alike-clause-upto
@@ -17,8 +20,10 @@ returns-then-not-is_alike-clause-upto g c =
 
 pub returns-then-not-is_alike-clause-above : goal.returns-then-not-is_alike-clause-above
 returns-then-not-is_alike-clause-above g c =
-    told_above c.self.inside.tops.items c.self.inside.leaves.items c.args.self.now c.as_slice.result.now c.args.key.now c.args.head
-    c.place_of_head-place.result.0 c.self.invariant c.self.view_is c.as_slice.ensures.value c.requires.bytes c.requires.head
+    told_above c.self.inside.tops.items c.self.inside.leaves.items c.args.self.now c.as_slice.result.now c.args.key.now
+    c.args.head
+    c.place_of_head-place.result.0 c.self.invariant c.self.view_is c.as_slice.ensures.value c.requires.bytes
+    c.requires.head
     (c.place_of_head-place.ensures.apart c.if-not-is_alike.true)
 
 pub count_from-requires-clause-upto : goal.count_from-requires-clause-upto

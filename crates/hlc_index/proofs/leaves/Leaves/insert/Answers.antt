@@ -8,7 +8,8 @@ pub invariant_of-self-then-slot-eq0 : goal.invariant_of-self-then-slot-eq0
 invariant_of-self-then-slot-eq0 g c =
     let first = put_front c.index_mut.result.now c.insert.new.self c.args.slot c.args.entry c.in_ok-insert.ensures.ok
     c.if-slot-eq0.true in
-    leaves_set c.self.inside.tops.items c.self.inside.leaves.items _ _ c.args.at c.insert.new.self c.args.head c.self.invariant
+    leaves_set c.self.inside.tops.items c.self.inside.leaves.items _ _ c.args.at c.insert.new.self c.args.head
+    c.self.invariant
     (put_filled c.index_mut.result.now c.insert.new.self c.args.slot c.args.entry c.in_ok-insert.ensures.ok)
     (subst AreBytes first c.requires.bytes) (c.requires.head ∙ ap head_of first) refl refl
 

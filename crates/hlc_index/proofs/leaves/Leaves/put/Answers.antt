@@ -42,20 +42,24 @@ insert-requires-else-slot-le-HALF-clause-inside g c =
 
 pub returns-then-slot-le-HALF-clause-ok : goal.returns-then-slot-le-HALF-clause-ok
 returns-then-slot-le-HALF-clause-ok g c =
-    on_ok_weaker c.insert-then-slot-le-HALF.result (λ e. ap entries_in e ∙ cut_front c.args.self.now c.split.new.self c.args.at 64 c.requires.leaf c.in-Ok.ensures.ok
+    on_ok_weaker c.insert-then-slot-le-HALF.result (λ e. ap entries_in e ∙ cut_front c.args.self.now c.split.new.self
+    c.args.at 64 c.requires.leaf c.in-Ok.ensures.ok
     c.args.slot c.args.entry c.if-slot-le-HALF.true c.requires.inside) c.insert-then-slot-le-HALF.ensures.ok
 
 pub returns-then-slot-le-HALF-clause-err : goal.returns-then-slot-le-HALF-clause-err
 returns-then-slot-le-HALF-clause-err g c =
-    on_err_weaker c.insert-then-slot-le-HALF.result (λ e. ap entries_in e ∙ cut_same c.args.self.now c.split.new.self c.args.at 64 c.requires.leaf c.in-Ok.ensures.ok) c.insert-then-slot-le-HALF.ensures.err
+    on_err_weaker c.insert-then-slot-le-HALF.result (λ e. ap entries_in e ∙ cut_same c.args.self.now c.split.new.self
+    c.args.at 64 c.requires.leaf c.in-Ok.ensures.ok) c.insert-then-slot-le-HALF.ensures.err
 
 pub returns-else-slot-le-HALF-clause-ok : goal.returns-else-slot-le-HALF-clause-ok
 returns-else-slot-le-HALF-clause-ok g c =
     let past = c.if-slot-le-HALF.false in
     let inside = c.requires.inside in
-    on_ok_weaker c.insert-else-slot-le-HALF.result (λ e. ap entries_in e ∙ cut_back c.args.self.now c.split.new.self c.args.at 64 c.requires.leaf c.in-Ok.ensures.ok
+    on_ok_weaker c.insert-else-slot-le-HALF.result (λ e. ap entries_in e ∙ cut_back c.args.self.now c.split.new.self
+    c.args.at 64 c.requires.leaf c.in-Ok.ensures.ok
     c.args.slot c.args.entry (omega (arith, past)) (omega (arith, past, inside))) c.insert-else-slot-le-HALF.ensures.ok
 
 pub returns-else-slot-le-HALF-clause-err : goal.returns-else-slot-le-HALF-clause-err
 returns-else-slot-le-HALF-clause-err g c =
-    on_err_weaker c.insert-else-slot-le-HALF.result (λ e. ap entries_in e ∙ cut_same c.args.self.now c.split.new.self c.args.at 64 c.requires.leaf c.in-Ok.ensures.ok) c.insert-else-slot-le-HALF.ensures.err
+    on_err_weaker c.insert-else-slot-le-HALF.result (λ e. ap entries_in e ∙ cut_same c.args.self.now c.split.new.self
+    c.args.at 64 c.requires.leaf c.in-Ok.ensures.ok) c.insert-else-slot-le-HALF.ensures.err

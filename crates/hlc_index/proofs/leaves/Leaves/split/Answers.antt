@@ -10,7 +10,8 @@ invariant_of-self-2 g c =
     let long = ap length (same ∙ c.self.view_is) in
     let lt = c.requires.leaf in
     split_leaves c.self.inside.tops.items c.reserve-2.new.self.items c.insert.new.self.items c.insert-2.new.self.items
-    c.args.at c.args.slot c.index_mut.result.now c.index.result.now c.split_off.new.self c.in_ok-back.back c.head-head.result
+    c.args.at c.args.slot c.index_mut.result.now c.index.result.now c.split_off.new.self c.in_ok-back.back
+    c.head-head.result
     (subst (AreLeaves c.self.inside.tops.items) (sym same) c.self.invariant) (omega (arith, lt, long))
     c.index_mut.ensures.value c.index.ensures c.in_ok-back.ensures.ok c.in_ok-back.ensures.back c.requires.front
     (let few = c.requires.back in let m = ap (λ l. length (get_or l c.args.at [])) (same ∙ c.self.view_is) in
