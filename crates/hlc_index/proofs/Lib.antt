@@ -1,8 +1,9 @@
 pub mod Heads
+pub mod Kept
 pub mod LeafLemmas
 pub mod Tops
 pub mod Joined
 pub mod Slots
 pub mod Places
 pub mod Values
-pub mod Listed
+pub mod EntryLemmas

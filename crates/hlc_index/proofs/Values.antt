@@ -124,32 +124,33 @@ module _ {V : Type 0} where
     ap (λ (l : List (List ℕ × V)). get_or (keys_in l) slot []) (sym own) ∙ is.1,
   )
 
+  -- the slot that was found has the key
+  pub there_slot : (ls : List (List (List ℕ × V))) (count slot : ℕ) (key : List ℕ) (leaf : List (List ℕ × V)) (b : Bool)
+      → b ≡ true → leaf ≡ get_or ls (count - 1) [] → IsSlot (keys_in leaf) key slot b
+      → (slot < length (get_or ls (count - 1) [])) × (get_or (keys_in (get_or ls (count - 1) [])) slot [] ≡ key)
+  there_slot ls count slot key leaf false hit own is = absurd (true≢false (sym hit))
+  there_slot ls count slot key leaf true hit own is = (
+    let lt = is.0 in let m = length_keys leaf in let e = ap length own in omega (arith, lt, m, e),
+    ap (λ (l : List (List ℕ × V)). get_or (keys_in l) slot []) (sym own) ∙ is.1,
+  )
+
   -- the last entry of the last leaf is the last of all
-  pub last_is : (ls : List (List (List ℕ × V))) (now : List (List ℕ × V)) (count slot : ℕ) (leaf : List (List ℕ × V))
-      (key : List ℕ) (v : V)
-      → (count ≡ 0 → ⊥) → count ≡ length ls → leaf ≡ get_or ls (count - 1) [] → 0 < length leaf → slot ≡ length leaf - 1
-      → entries_in ls ≡ now → key ≡ get_or (keys_in leaf) slot [] → slice_get leaf slot ≡ Some (
-        get_or (keys_in leaf)
-            slot [],
-        v,
-      )
-      → slice_get now (length now - 1) ≡ Some (key, v)
-  last_is ls now count slot leaf key v some all own filled end view is read =
+  pub last_at : (ls : List (List (List ℕ × V))) (count slot : ℕ) (leaf : List (List ℕ × V)) → (count ≡ 0 → ⊥)
+      → count ≡ length ls → leaf ≡ get_or ls (count - 1) [] → 0 < length leaf → slot ≡ length leaf - 1
+      → slice_get (get_or ls (count - 1) []) slot ≡ slice_get (entries_in ls) (length (entries_in ls) - 1)
+  last_at ls count slot leaf some all own filled end =
       let lt : slot < length leaf = omega (arith, end, filled) in
       let inside : count - 1 < length ls = omega (arith, some, all) in
       let whole = joined_all ls (count - 1) inside in
       let place = end_place ls count (length leaf) leaf some all own refl in
-      let same = ap length view in
-      ap (slice_get now) (let e : length now - 1 ≡ length (entries_in (take (count - 1) ls)) + slot = omega (
+      sym (ap (slice_get (entries_in ls))
+      (let e : length (entries_in ls) - 1 ≡ length (entries_in (take (count - 1) ls)) + slot = omega (
         arith,
         place,
-        same,
         end,
         filled,
       ) in e)
-      ∙ ap (λ (l : List (List ℕ × V)). slice_get l (length (entries_in (take (count - 1) ls)) + slot)) (sym view ∙
-      whole)
+      ∙ ap (λ (l : List (List ℕ × V)). slice_get l (length (entries_in (take (count - 1) ls)) + slot)) whole
       ∙ entry_joined (entries_in (take (count - 1) ls)) (get_or ls (count - 1) []) (entries_in (drop (count - 1 + 1)
       ls)) slot
-      (let e = ap length own in omega (arith, lt, e))
-      ∙ ap (λ (l : List (List ℕ × V)). slice_get l slot) (sym own) ∙ read ∙ ap (λ k. Some (k, v)) (sym is)
+      (let e = ap length own in omega (arith, lt, e)))

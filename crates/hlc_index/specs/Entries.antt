@@ -1,7 +1,8 @@
 -- Keys with their values, and where a key stands among them.
 use Rattle.std.specs.Prelude.{◌≡◌, ◌≢◌, ◌-◌, ◌+◌, ◌<◌, ◌≤◌, ℕ, Bool, true, false, List, map, length, slice_index_or, []}
 use Rattle.std.specs.Prelude.{slice_set, flat_map, take, drop, ◌++◌}
-use Rattle.std.specs.Borrow.{Bor}
+use Rattle.std.specs.Prelude.{Option, None, Some}
+use Rattle.std.specs.Map.{lookup}
 use Rattle.std.specs.List.{insert}
 use Rattle.std.specs.Ordering.{nat_cmp, is_eq}
 use Rattle.std.specs.declared.cmp.Ordering.{Ordering}
@@ -62,6 +63,13 @@ with_value entries slot value = slice_set entries slot (slice_index_or (keys_in 
 abbrev pub with_value_in : {V : Type 0} → List (List (List ℕ × V)) → ℕ → ℕ → V → List (List (List ℕ × V))
 with_value_in leaves at slot value = slice_set leaves at (with_value (slice_index_or leaves at []) slot value)
 
--- the entries behind references
-abbrev pub seen_in : {V : Type 0} → List (Bor (List ℕ) × Bor V) → List (List ℕ × V)
-seen_in list = map (λ e. (e.0.now, e.1.now)) list
+-- a key is at a slot of a leaf
+abbrev pub IsEntryAt : {V : Type 0} → List (List (List ℕ × V)) → List ℕ → ℕ → ℕ → Type 0
+IsEntryAt leaves key at slot =
+    (at < length leaves) × (slot < length (slice_index_or leaves at []))
+    × (slice_index_or (keys_in (slice_index_or leaves at [])) slot [] ≡ key)
+
+-- the leaf and the slot of a key, or none where no entry has it
+abbrev pub IsPlace : {V : Type 0} → List (List (List ℕ × V)) → List ℕ → Option (ℕ × ℕ) → Type 0
+IsPlace leaves key None = lookup (is_key key) (entries_in leaves) ≡ None
+IsPlace leaves key (Some p) = IsEntryAt leaves key p.0 p.1

@@ -1,22 +1,22 @@
 //! The map.
-ghost use Rattle.std.specs.Prelude.{◌≡◌, [], ℕ, None, option_copied, OnOk, OnErr, IfErr};
-ghost use Rattle.std.specs.Map.{lookup, set_value};
-ghost use Rattle.std.specs.Borrow.{Lends, sem};
-ghost use Rattle.std.specs.Prelude.{IsSome, Some};
-ghost use Rattle.hlc_index.specs.contracts.index.Index.{the_row};
+ghost use Rattle.std.specs.Prelude.{◌≡◌, ◌-◌, ◌<◌, ◌↔◌, [], ℕ, None, Some, length, slice_get, slice_index_or};
+ghost use Rattle.std.specs.Prelude.{filter, IsNone, IfSome, OnOk, OnErr, IfErr, option_copied};
+ghost use Rattle.std.specs.Map.{lookup};
 ghost use Rattle.std.specs.BTreeMap.{insert_entry};
-ghost use Rattle.hlc_index.specs.Entries.{key_cmp, is_key, keys_in, seen_in};
+ghost use Rattle.std.specs.Borrow.{Lends, sem};
 ghost use Rattle.std.specs.List.Sorted.{IsStrictlySortedBy};
-ghost use Rattle.std.specs.Prelude.{IfOk, IfSome, IsNone, slice_get, length, ◌-◌, ◌↔◌};
+ghost use Rattle.hlc_index.specs.contracts.index.Index.{the_row};
+ghost use Rattle.hlc_index.specs.Entries.{key_cmp, is_key, keys_in, entries_in, with_value_in, IsPlace};
 
+use crate::filled::Filled;
 use crate::head::head_of;
 use crate::leaves::Leaves;
 use hlc_node::Bytes;
-use hlc_values::NoMemory;
 use std::alloc::{AllocFailed, Global};
 use std::marker::Model;
 
-/// A map from keys to values. Contracts see the list of its entries, whose keys ascend byte by byte.
+/// A map from keys to values. Contracts see its leaves, the list of the entries of each. One after another these are
+/// the entries of the map, whose keys ascend byte by byte.
 #[derive(Drop)]
 pub struct Index<V> {
     leaves: Leaves<V>,
@@ -28,11 +28,11 @@ impl<V> Model for Index<V> {
     ghost use Rattle.hlc_index.specs.Entries.{keys_in, entries_in, key_cmp};
     ghost use Rattle.std.specs.Coded.{coded_list, coded×, coded_ℕ};
 
-    ghost Value = { List (List ℕ × V) };
+    ghost Value = { List (List (List ℕ × V)) };
 
-    ghost coded = { coded_list (coded× (coded_list coded_ℕ) V.code) };
+    ghost coded = { coded_list (coded_list (coded× (coded_list coded_ℕ) V.code)) };
 
-    ghost view = { λ index. entries_in index.leaves };
+    ghost view = { λ index. index.leaves };
 
     ghost invariant = { λ index. IsStrictlySortedBy key_cmp (keys_in (entries_in index.leaves)) };
 }
@@ -47,9 +47,26 @@ impl<V: Drop> Index<V> {
         }
     }
 
+    /// How many leaves there are. No leaf is empty.
+    pub fn leaves(&self) -> usize
+        ensures count { result ≡ length self.now }
+        ensures ascend { IsStrictlySortedBy key_cmp (keys_in (entries_in self.now)) }
+    {
+        self.leaves.len()
+    }
+
+    /// The entries of a leaf.
+    pub fn leaf(&self, at: usize) -> &[(Bytes, V)]
+        requires { at < length self.now }
+        ensures { result.now ≡ slice_index_or self.now at [] }
+    {
+        self.leaves.leaf(at).entries()
+    }
+
     /// The value of a key. It takes no memory.
     pub fn get(&self, key: &[u8]) -> Option<&V>
-        ensures { option_copied result ≡ lookup (is_key key.now) self.now }
+        ensures value { option_copied result ≡ lookup (is_key key.now) (entries_in self.now) }
+        ensures ascend { IsStrictlySortedBy key_cmp (keys_in (entries_in self.now)) }
     {
         let head = head_of(key);
         let count = self.leaves.count_upto(key, head);
@@ -65,11 +82,30 @@ impl<V: Drop> Index<V> {
         }
     }
 
+    /// The leaf and the slot of a key. It takes no memory.
+    pub fn find(&self, key: &[u8]) -> Option<(usize, usize)>
+        ensures place { IsPlace self.now key.now result }
+        ensures ascend { IsStrictlySortedBy key_cmp (keys_in (entries_in self.now)) }
+    {
+        let head = head_of(key);
+        let count = self.leaves.count_upto(key, head);
+        if count == 0 {
+            return None;
+        }
+        let (slot, is_there) = self.leaves.leaf(count - 1).find(key, head);
+        if is_there {
+            Some((count - 1, slot))
+        } else {
+            None
+        }
+    }
+
     /// Adds an entry whose key is new. Where memory lacks, it comes back, and nothing is changed.
     pub fn insert(&mut self, key: Bytes, value: V) -> Result<(), AllocFailed<(Bytes, V)>>
-        requires { lookup (is_key key) self.old ≡ None }
-        ensures ok { OnOk result (self.new ≡ insert_entry key_cmp self.old key value) }
-        ensures err { OnErr result (self.new ≡ self.old) }
+        requires { lookup (is_key key) (entries_in self.old) ≡ None }
+        ensures ok { OnOk result
+            (entries_in self.new ≡ insert_entry key_cmp (entries_in self.old) key value) }
+        ensures err { OnErr result (entries_in self.new ≡ entries_in self.old) }
         ensures value_returned { IfErr result (λ failed. failed.value ≡ (key, value)) }
     {
         let head = head_of(key.as_slice());
@@ -89,39 +125,43 @@ impl<V: Drop> Index<V> {
         self.leaves.put(at, slot, entry, head)
     }
 
-    /// The value of a key that is there, to be changed. It takes no memory.
-    pub fn value_mut(&mut self, key: &[u8]) -> &mut V
-        requires { IsSome (lookup (is_key key.now) self.old) }
+    /// The value at a slot of a leaf, to be changed.
+    pub fn value_mut(&mut self, at: usize, slot: usize) -> &mut V
+        requires leaf { at < length self.old }
+        requires inside { slot < length (slice_index_or self.old at []) }
         ensures* lends { sem 𝓛 (Lends (the_row V.row) V.row self.entry result
-            (set_value (is_key key.now) self.old)) }
-        ensures value { lookup (is_key key.now) self.old ≡ Some result.now }
+            (with_value_in self.old at slot)) }
+        ensures value { slice_get (slice_index_or self.old at []) slot
+            ≡ Some (slice_index_or (keys_in (slice_index_or self.old at [])) slot [], result.now) }
+        ensures ascend { IsStrictlySortedBy key_cmp (keys_in (entries_in self.old)) }
     {
-        let head = head_of(key);
-        let at = self.leaves.count_upto(key, head) - 1;
-        let (slot, _) = self.leaves.leaf(at).find(key, head);
         self.leaves.value_mut(at, slot)
     }
 
-    /// The entries, in the order of their keys.
-    pub fn entries(&self, alloc: Global) -> Result<Vec<(&[u8], &V)>, NoMemory>
-        ensures exact { IfOk result (λ list. seen_in list.items ≡ self.now) }
-        ensures ascend { IsStrictlySortedBy key_cmp (keys_in self.now) }
-    {
-        self.leaves.entries(alloc)
-    }
-
-    /// The entry of the greatest key. It takes no memory.
-    pub fn last(&self) -> Option<(&[u8], &V)>
-        ensures absent { IsNone result ↔ (self.now ≡ []) }
-        ensures last { IfSome result (λ e. slice_get self.now (length self.now - 1)
-            ≡ Some (e.0.now, e.1.now)) }
+    /// The leaf and the slot of the greatest key. It takes no memory.
+    pub fn last(&self) -> Option<(usize, usize)>
+        ensures absent { IsNone result ↔ (entries_in self.now ≡ []) }
+        ensures leaf { IfSome result (λ p. p.0 < length self.now) }
+        ensures inside { IfSome result (λ p. p.1 < length (slice_index_or self.now p.0 [])) }
+        ensures last { IfSome result
+            (λ p. slice_get (slice_index_or self.now p.0 []) p.1
+            ≡ slice_get (entries_in self.now) (length (entries_in self.now) - 1)) }
+        ensures ascend { IsStrictlySortedBy key_cmp (keys_in (entries_in self.now)) }
     {
         let count = self.leaves.len();
         if count == 0 {
             return None;
         }
-        let last = self.leaves.leaf(count - 1);
-        let slot = last.len() - 1;
-        Some((last.key(slot), last.value(slot)))
+        let slot = self.leaves.leaf(count - 1).len() - 1;
+        Some((count - 1, slot))
+    }
+}
+
+impl<V: Drop + Filled> Index<V> {
+    /// Removes the entries whose value is not filled. It takes no memory. A leaf that is left without entries goes too.
+    pub fn keep_filled(&mut self)
+        ensures { entries_in self.new ≡ filter (λ e. V.is_filled e.1) (entries_in self.old) }
+    {
+        self.leaves.keep_filled();
     }
 }

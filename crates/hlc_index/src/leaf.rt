@@ -1,14 +1,15 @@
 //! A leaf: some entries of the map in the order of their keys, with the heads of the keys side by side.
 ghost use Rattle.std.specs.Prelude.{◌≡◌, ◌++◌, ◌-◌, ◌≤◌, ◌<◌, [], List, length, slice_index_or, All};
 ghost use Rattle.std.specs.Prelude.{OnErr, IfOk, IfErr, OnOk};
-ghost use Rattle.std.specs.Prelude.{take, drop, slice_get, Some};
+ghost use Rattle.std.specs.Prelude.{take, drop, slice_get, Some, map, filter};
 ghost use Rattle.std.specs.List.{insert};
 ghost use Rattle.hlc_index.specs.Head.{head_of, AreBytes};
 ghost use Rattle.hlc_index.specs.Entries.{keys_in, key_cmp, IsSlot, IsBelowAt, IsAboveAt};
-ghost use Rattle.hlc_index.specs.Entries.{with_value, seen_in};
+ghost use Rattle.hlc_index.specs.Entries.{with_value};
 ghost use Rattle.std.specs.Borrow.{Lends, sem};
 ghost use Rattle.hlc_index.specs.contracts.leaf.Leaf.{the_row};
 
+use crate::filled::Filled;
 use crate::head::{head_of, place_of_head};
 use hlc_node::Bytes;
 use hlc_values::NoMemory;
@@ -58,6 +59,13 @@ impl<V> Leaf<V> {
         ensures { result ≡ length self.now }
     {
         self.entries.len()
+    }
+
+    /// The entries.
+    pub(crate) fn entries(&self) -> &[(Bytes, V)]
+        ensures { result.now ≡ self.now }
+    {
+        self.entries.as_slice()
     }
 
     /// The key at a slot.
@@ -183,14 +191,34 @@ impl<V> Leaf<V> {
         let entry = &mut self.entries[slot];
         &mut entry.1
     }
+}
 
-    /// Puts the entries last in a list. Where memory lacks, the list may have some of them.
-    pub(crate) fn list<'a>(&'a self, list: &mut Vec<(&'a [u8], &'a V)>) -> Result<(), NoMemory>
-        ensures { OnOk result (seen_in list.new.items ≡ seen_in list.old.items ++ self.now) }
+impl<V: Drop + Filled> Leaf<V> {
+    /// Removes the entries whose value is not filled. It takes no memory.
+    pub(crate) fn keep_filled(&mut self)
+        ensures { self.new ≡ filter (λ e. V.is_filled e.1) self.old }
     {
-        for slot in 0..self.len() {
-            list.push((self.key(slot), self.value(slot)))?;
-        }
-        Ok(())
+        let kept = move_filled(self.heads.as_mut_slice(), self.entries.as_mut_slice());
+        self.heads.truncate(kept);
+        self.entries.truncate(kept);
     }
+}
+
+/// Moves the entries whose value is filled to the front, in their order, and their heads with them. The result says
+/// how many there are.
+fn move_filled<V: Filled>(heads: &mut [u128], entries: &mut [(Bytes, V)]) -> usize
+    requires { heads.old ≡ map head_of (keys_in entries.old) }
+    ensures few { result ≤ length entries.new }
+    ensures heads { heads.new ≡ map head_of (keys_in entries.new) }
+    ensures front { take result entries.new ≡ filter (λ e. V.is_filled e.1) entries.old }
+{
+    let mut kept = 0;
+    for i in 0..entries.len() {
+        if entries[i].1.is_filled() {
+            heads.swap(kept, i);
+            entries.swap(kept, i);
+            kept += 1;
+        }
+    }
+    kept
 }

@@ -1,15 +1,16 @@
 //! Leaves side by side, and the heads of their first keys.
 ghost use Rattle.std.specs.Prelude.{◌≡◌, ◌≢◌, ◌-◌, ◌+◌, ◌++◌, ◌∷◌, ◌≤◌, ◌<◌, [], List, length, slice_index_or};
 ghost use Rattle.std.specs.Prelude.{All, IsTrue, OnErr, IfErr, OnOk};
-ghost use Rattle.std.specs.Prelude.{take, drop, slice_set};
+ghost use Rattle.std.specs.Prelude.{take, drop, slice_set, map, filter};
 ghost use Rattle.std.specs.List.{insert};
 ghost use Rattle.hlc_index.specs.Head.{head_of, AreBytes};
 ghost use Rattle.hlc_index.specs.Entries.{keys_in, first_keys, IsUptoAt, IsAboveAt};
-ghost use Rattle.hlc_index.specs.Entries.{entries_in, entries_with, with_value_in, seen_in};
+ghost use Rattle.hlc_index.specs.Entries.{entries_in, entries_with, with_value_in};
 ghost use Rattle.std.specs.Borrow.{Lends, sem};
-ghost use Rattle.std.specs.Prelude.{slice_get, Some, IfOk};
+ghost use Rattle.std.specs.Prelude.{slice_get, Some};
 ghost use Rattle.hlc_index.specs.contracts.leaves.Leaves.{the_row};
 
+use crate::filled::Filled;
 use crate::head::place_of_head;
 use crate::leaf::{Leaf, MOST_ENTRIES};
 use hlc_node::Bytes;
@@ -239,15 +240,38 @@ impl<V: Drop> Leaves<V> {
         let leaf = &mut self.leaves[at];
         leaf.value_mut(slot)
     }
+}
 
-    /// The entries of the leaves, one leaf after another.
-    pub(crate) fn entries(&self, alloc: Global) -> Result<Vec<(&[u8], &V)>, NoMemory>
-        ensures { IfOk result (λ list. seen_in list.items ≡ entries_in self.now) }
+impl<V: Drop + Filled> Leaves<V> {
+    /// Removes the entries whose value is not filled, and the leaves that are left without entries. It takes no memory.
+    pub(crate) fn keep_filled(&mut self)
+        ensures { entries_in self.new ≡ filter (λ e. V.is_filled e.1) (entries_in self.old) }
     {
-        let mut list = Vec::new(alloc);
-        for at in 0..self.len() {
-            self.leaf(at).list(&mut list)?;
-        }
-        Ok(list)
+        let kept = move_filled(self.tops.as_mut_slice(), self.leaves.as_mut_slice());
+        self.tops.truncate(kept);
+        self.leaves.truncate(kept);
     }
+}
+
+/// Removes the entries whose value is not filled, and moves the leaves that still have an entry to the front, in their
+/// order, with the heads of their first keys. The result says how many there are.
+fn move_filled<V: Drop + Filled>(tops: &mut [u128], leaves: &mut [Leaf<V>]) -> usize
+    requires { length tops.old ≡ length leaves.old }
+    ensures few { result ≤ length leaves.new }
+    ensures tops { take result tops.new ≡ map head_of (first_keys (take result leaves.new)) }
+    ensures bytes { All AreBytes (first_keys (take result leaves.new)) }
+    ensures filled { All (λ leaf. 0 < length leaf) (take result leaves.new) }
+    ensures entries { entries_in (take result leaves.new)
+        ≡ filter (λ e. V.is_filled e.1) (entries_in leaves.old) }
+{
+    let mut kept = 0;
+    for i in 0..leaves.len() {
+        leaves[i].keep_filled();
+        if leaves[i].len() > 0 {
+            tops[kept] = leaves[i].head(0);
+            leaves.swap(kept, i);
+            kept += 1;
+        }
+    }
+    kept
 }

@@ -1,6 +1,7 @@
 //! An ordered map from keys to values, made for look-ups: leaves of keys with their first bytes side by side.
 #![tactic(auto)]
 
+mod filled;
 mod head;
 mod index;
 mod leaf;
@@ -8,6 +9,7 @@ mod leaves;
 #[cfg(test)]
 mod tests;
 
+pub use filled::Filled;
 pub use hlc_node::Bytes;
 pub use hlc_values::NoMemory;
 pub use index::Index;

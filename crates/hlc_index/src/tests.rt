@@ -1,7 +1,22 @@
 //! The index beside std's map.
-use crate::{Bytes, Index};
-use std::alloc::{AllocError, Global};
+ghost use Rattle.std.specs.Prelude.{not};
+ghost use Rattle.std.proofs.Common.{nat_eq};
+
+use crate::{Bytes, Filled, Index};
+use std::alloc::{AllocError, AllocFailed, Global};
 use std::collections::BTreeMap;
+
+/// A count, which has nothing in it where it is 0.
+#[derive(Drop, Clone, Copy, PartialEq)]
+struct Count(u16);
+
+impl Filled for Count {
+    ghost is_filled = { λ count. not (nat_eq count.0 0) };
+
+    fn is_filled(&self) -> bool {
+        self.0 != 0
+    }
+}
 
 /// A key of this number: some begin alike, and some are short.
 fn key(alloc: Global, number: u16) -> Result<Vec<u8>, AllocError> {
@@ -19,52 +34,107 @@ fn key(alloc: Global, number: u16) -> Result<Vec<u8>, AllocError> {
     Ok(key)
 }
 
+/// The count of a number: many are 0, and so are all those of the keys that begin alike in one way.
+fn value_of(number: u16) -> Count {
+    Count(if number % 4 == 1 || number % 7 == 0 {
+        0
+    } else {
+        number
+    })
+}
+
 /// Gives a key the value, whether it is new or not.
-fn put(index: &mut Index<u16>, alloc: Global, key: &[u8], value: u16) -> Result<(), AllocError> {
-    if index.get(key).is_some() {
-        *index.value_mut(key) = value;
-        return Ok(());
-    }
-    let copy = Bytes::from_vec(Vec::from_slice(alloc, key)?);
-    match index.insert(copy, value) {
-        Ok(()) => Ok(()),
-        Err(_) => Err(AllocError),
+fn put(
+    index: &mut Index<Count>,
+    alloc: Global,
+    key: &[u8],
+    value: Count,
+) -> Result<(), AllocError> {
+    match index.find(key) {
+        Some((at, slot)) => {
+            *index.value_mut(at, slot) = value;
+            Ok(())
+        }
+        None => {
+            let copy = Bytes::from_vec(Vec::from_slice(alloc, key)?);
+            match index.insert(copy, value) {
+                Ok(()) => Ok(()),
+                Err(_) => Err(AllocError),
+            }
+        }
     }
 }
 
-/// Whether both maps have the same entries after so many keys in a scattered order.
-fn are_alike(alloc: Global, count: u16) -> Result<bool, AllocError> {
-    let mut index = Index::new(alloc);
-    let mut tree: BTreeMap<Vec<u8>, u16> = BTreeMap::new(alloc);
-    for i in 0..count {
-        let key = key(alloc, i.wrapping_mul(40_503))?;
-        put(&mut index, alloc, key.as_slice(), i)?;
-        match tree.insert(key, i) {
+/// Puts so many entries into both maps, in a scattered order.
+fn fill(
+    index: &mut Index<Count>,
+    tree: &mut BTreeMap<Vec<u8>, Count>,
+    alloc: Global,
+    entries: u16,
+) -> Result<(), AllocError> {
+    for i in 0..entries {
+        let number = i.wrapping_mul(40_503);
+        let key = key(alloc, number)?;
+        put(index, alloc, key.as_slice(), value_of(number))?;
+        match tree.insert(key, value_of(number)) {
             Ok(_) => (),
             Err(_) => return Err(AllocError),
         }
     }
-    let entries = index.entries(alloc)?;
-    if index.last().map(|last| *last.1) != tree.last_key_value().map(|last| *last.1) {
-        return Ok(false);
-    }
-    let mut place = 0;
-    for (key, value) in &tree {
-        let is_same = match entries.get(place) {
-            Some(entry) => entry.0 == key.as_slice() && entry.1 == value,
-            None => false,
-        };
-        if !is_same || index.get(key.as_slice()) != Some(value) {
-            return Ok(false);
+    Ok(())
+}
+
+/// The value of the greatest key.
+fn last(index: &Index<Count>) -> Option<Count> {
+    let (at, slot) = index.last()?;
+    Some(index.leaf(at)[slot].1)
+}
+
+/// Whether both maps have the same entries, in the same order.
+fn are_alike(index: &Index<Count>, tree: &BTreeMap<Vec<u8>, Count>) -> bool {
+    let mut rest = tree.iter();
+    for at in 0..index.leaves() {
+        for (key, value) in index.leaf(at) {
+            let is_next = match rest.next() {
+                Some(next) => next.0.as_slice() == key.as_slice() && next.1 == value,
+                None => false,
+            };
+            if !is_next || index.get(key.as_slice()) != Some(value) {
+                return false;
+            }
         }
-        place = place.saturating_add(1);
     }
-    Ok(place == entries.len() && index.get(b"user;").is_none())
+    rest.next().is_none() && last(index) == tree.last_key_value().map(|last| *last.1)
+}
+
+/// Whether both maps stay alike when they are filled, what is empty is removed, and they are filled again.
+fn stay_alike(alloc: Global, entries: u16) -> Result<bool, AllocError> {
+    let mut index = Index::new(alloc);
+    let mut tree: BTreeMap<Vec<u8>, Count> = BTreeMap::new(alloc);
+    fill(&mut index, &mut tree, alloc, entries)?;
+    let are_filled = are_alike(&index, &tree);
+    index.keep_filled();
+    tree.retain(|_, count| count.0 != 0);
+    let are_kept = are_alike(&index, &tree);
+    fill(&mut index, &mut tree, alloc, entries)?;
+    Ok(are_filled && are_kept && are_alike(&index, &tree) && index.get(b"user;").is_none())
 }
 
 #[test]
 fn the_index_has_the_entries_of_a_tree(rt: HostRuntime) {
-    for count in [0, 1, 5, 200, 3_000] {
-        assert!(rt; are_alike(rt.alloc(), count) == Ok(true));
+    for entries in [0, 1, 5, 200, 3_000] {
+        assert!(rt; stay_alike(rt.alloc(), entries) == Ok(true));
     }
+}
+
+/// Whether a box of nothing is filled, and whether a box of something is.
+fn are_filled(alloc: Global) -> Result<(bool, bool), AllocFailed<Count>> {
+    let nothing = Box::new(alloc, Count(0))?;
+    let something = Box::new(alloc, Count(1))?;
+    Ok((nothing.is_filled(), something.is_filled()))
+}
+
+#[test]
+fn a_box_is_filled_as_its_value_is(rt: HostRuntime) {
+    assert!(rt; are_filled(rt.alloc()).is_ok_and(|filled| filled == (false, true)));
 }

@@ -43,8 +43,9 @@ invariant_of-self-then-count-eq0 g c =
 pub returns-then-count-eq0-clause-ok : goal.returns-then-count-eq0-clause-ok
 returns-then-count-eq0-clause-ok g c =
     let at = (goal.at.returns-then-count-eq0-clause-ok g c).After-put in
-    on_ok_weaker c.put.result (λ e. grown c.self.inside.leaves c.put.new.self c.args.self.now c.args.key c.args.value 0
-    c.self.invariant c.self.view_is (above_all g at)
+    on_ok_weaker c.put.result (λ e. grown c.self.inside.leaves c.put.new.self (entries_in c.args.self.now) c.args.key
+    c.args.value 0
+    c.self.invariant (ap entries_in c.self.view_is) (above_all g at)
     (e ∙ with_is c.self.inside.leaves 0 0 (c.args.key, c.args.value) (some_leaf g at) (omega arith))) c.put.ensures.ok
 
 -- in the last leaf that begins below it
@@ -62,13 +63,14 @@ module _ (g : Over) (c : After-find-slot g) where
 
   slot : IsSlot (keys_in (get_or leaves (c.count_upto-count.result - 1) [])) c.args.key c.find-slot.result.0 false
   slot =
-      new_slot leaves c.args.self.now c.count_upto-count.result c.find-slot.result.0 c.args.key c.leaf.result.now
+      new_slot leaves (entries_in c.args.self.now) c.count_upto-count.result c.find-slot.result.0 c.args.key
+      c.leaf.result.now
       c.find-slot.result.1
       c.count_upto-count.ensures.filled c.if-count-eq0.false c.count_upto-count.ensures.inside upto above
       c.leaf.ensures.value
       (subst (λ k. IsSlot (keys_in c.leaf.result.now) k c.find-slot.result.0 c.find-slot.result.1) c.as_slice-3.ensures
       c.find-slot.ensures)
-      c.self.invariant c.self.view_is c.requires
+      c.self.invariant (ap entries_in c.self.view_is) c.requires
 
   abbrev where_to : ℕ
   where_to = length (entries_in (take (c.count_upto-count.result - 1) leaves)) + c.find-slot.result.0
@@ -111,9 +113,10 @@ invariant_of-self-2 g c =
 pub returns-clause-ok : goal.returns-clause-ok
 returns-clause-ok g c =
     let at = (goal.at.returns-clause-ok g c).After-find-slot in
-    on_ok_weaker c.put-2.result (λ e. grown c.self.inside.leaves c.put-2.new.self c.args.self.now c.args.key
+    on_ok_weaker c.put-2.result (λ e. grown c.self.inside.leaves c.put-2.new.self (entries_in c.args.self.now)
+    c.args.key
     c.args.value (where_to g at)
-    c.self.invariant c.self.view_is (whole g at)
+    c.self.invariant (ap entries_in c.self.view_is) (whole g at)
     (e ∙ with_is c.self.inside.leaves (c.count_upto-count.result - 1) c.find-slot.result.0 (c.args.key, c.args.value)
     (leaf_inside g at) (inside_leaf g at))) c.put-2.ensures.ok
 
@@ -136,9 +139,10 @@ pub returns-then-is_full_end-clause-ok : goal.returns-then-is_full_end-clause-ok
 returns-then-is_full_end-clause-ok g c =
     let at = (goal.at.returns-then-is_full_end-clause-ok g c).After-find-slot in
     on_ok_weaker c.push-then-is_full_end.result
-    (λ e. grown c.self.inside.leaves c.push-then-is_full_end.new.self c.args.self.now c.args.key c.args.value (length
+    (λ e. grown c.self.inside.leaves c.push-then-is_full_end.new.self (entries_in c.args.self.now) c.args.key
+    c.args.value (length
     (entries_in c.self.inside.leaves))
-    c.self.invariant c.self.view_is
+    c.self.invariant (ap entries_in c.self.view_is)
     (slot_end c.self.inside.leaves c.args.key (where_to g at) (length (entries_in c.self.inside.leaves))
     (behind g at (c.is_full_end.ensures.last c.if-is_full_end.true) (c.is_full_end.ensures.end c.if-is_full_end.true))
     (whole g at))
