@@ -22,10 +22,9 @@ use Rattle.hlc_columns.proofs.First.{newest_nil}
 use Rattle.hlc_columns.proofs.RowLemmas.{row_key}
 use Rattle.hlc_columns.specs.Cells.{Cell}
 use Rattle.hlc_columns.specs.Rows.{row_of, rows_of, rows_with, KeyCells, rows_in_one}
-use Rattle.hlc_columns.specs.Table.{table_rows}
+use Rattle.hlc_columns.specs.Table.{table_rows, keyed}
 use Rattle.std.specs.Str.{bytes_eq}
 use Rattle.hlc_values.proofs.MemberLemmas.{Contains-none, Contains-cons_cases}
-use Rattle.hlc_columns.proofs.Keys.{keyed}
 
 pub same_key : (a b : List ℕ) → is_eq (slice_cmp nat_cmp a b) ≡ true → a ≡ b
 same_key a b e = (bytes_eq-Decides a b).0 (texts_ties a b ∙ e)
@@ -38,8 +37,8 @@ cells_in None = []
 cells_in (Some cells) = cells
 
 -- a key's test
-abbrev pub test : {K : Type 0} → (K → List ℕ) → List ℕ → K → Bool
-test f key k = is_eq (slice_cmp nat_cmp key (f k))
+abbrev pub test : List ℕ → List ℕ → Bool
+test key k = is_eq (slice_cmp nat_cmp key k)
 
 -- of a column's rows, all have its key and none another
 own_rows : (key : List ℕ) (cells : List Cell) → rows_with key (rows_of key cells) ≡ rows_of key cells
@@ -58,128 +57,128 @@ other_rows k key (c ∷ cs) apart =
           ∙ other_rows k key cs apart
     ]
 
-module _ {K : Type 0} (f : K → List ℕ) where
-  pub none_here : (key : List ℕ) (e : K × List Cell) (es : List (K × List Cell)) → lookup (test f key) (e ∷ es) ≡ None
-      → (test f key e.0 ≡ false) × (lookup (test f key) es ≡ None)
-  none_here key e es h =
-      elim (cases_Bool (test f key e.0)) [
-        | inl t ↦ absurd (none-some e.1 (sym h ∙ ap (λ b. cond b (Some e.1) (lookup (test f key) es)) t))
-        | inr n ↦ (n, sym (ap (λ b. cond b (Some e.1) (lookup (test f key) es)) n) ∙ h)
-      ]
+pub none_here : (key : List ℕ) (e : List ℕ × List Cell) (es : List (List ℕ × List Cell))
+    → lookup (test key) (e ∷ es) ≡ None
+    → (test key e.0 ≡ false) × (lookup (test key) es ≡ None)
+none_here key e es h =
+    elim (cases_Bool (test key e.0)) [
+      | inl t ↦ absurd (none-some e.1 (sym h ∙ ap (λ b. cond b (Some e.1) (lookup (test key) es)) t))
+      | inr n ↦ (n, sym (ap (λ b. cond b (Some e.1) (lookup (test key) es)) n) ∙ h)
+    ]
 
-  pub none_in_table : (key : List ℕ) (s : ℕ) (es : List (K × List Cell)) → lookup (test f key) es ≡ None
-      → newest (table_rows f es) key s ≡ None
-  none_in_table key s [] h = newest_nil key s
-  none_in_table key s (e ∷ es) h =
-      let p = none_here key e es h in
-      newest_after_others (rows_of (f e.0) e.1) (table_rows f es) key s
-      (λ row m same. other_key key (f e.0) p.0 (sym same ∙ row_key (f e.0) e.1 row m))
-      ∙ none_in_table key s es p.1
+pub none_in_table : (key : List ℕ) (s : ℕ) (es : List (List ℕ × List Cell)) → lookup (test key) es ≡ None
+    → newest (table_rows es) key s ≡ None
+none_in_table key s [] h = newest_nil key s
+none_in_table key s (e ∷ es) h =
+    let p = none_here key e es h in
+    newest_after_others (rows_of e.0 e.1) (table_rows es) key s
+    (λ row m same. other_key key e.0 p.0 (sym same ∙ row_key e.0 e.1 row m))
+    ∙ none_in_table key s es p.1
 
-  none_past : (key : List ℕ) (es : List (K × List Cell))
-      → AllByRecursion (λ y. slice_cmp nat_cmp key (f y) ≡ Less) (keys_of es) → lookup (test f key) es ≡ None
-  none_past key [] h = refl
-  none_past key (e ∷ es) h = ap (λ o. cond (is_eq o) (Some e.1) (lookup (test f key) es)) h.0 ∙ none_past key es h.1
+none_past : (key : List ℕ) (es : List (List ℕ × List Cell))
+    → AllByRecursion (λ y. slice_cmp nat_cmp key y ≡ Less) (keys_of es) → lookup (test key) es ≡ None
+none_past key [] h = refl
+none_past key (e ∷ es) h = ap (λ o. cond (is_eq o) (Some e.1) (lookup (test key) es)) h.0 ∙ none_past key es h.1
 
-  -- a key that has no column has no row
-  pub no_row : (key : List ℕ) (es : List (K × List Cell)) → lookup (test f key) es ≡ None → (row : Row)
-      → Contains (table_rows f es) row → row.key ≢ key
-  no_row key [] h row m same = Contains-none row m
-  no_row key (e ∷ es) h row m same =
-      let p = none_here key e es h in
-      elim (Contains-append_cases (rows_of (f e.0) e.1) (table_rows f es) row m) [
-        | inl here ↦ other_key key (f e.0) p.0 (sym same ∙ row_key (f e.0) e.1 row here)
-        | inr there ↦ no_row key es p.1 row there same
-      ]
+-- a key that has no column has no row
+pub no_row : (key : List ℕ) (es : List (List ℕ × List Cell)) → lookup (test key) es ≡ None → (row : Row)
+    → Contains (table_rows es) row → row.key ≢ key
+no_row key [] h row m same = Contains-none row m
+no_row key (e ∷ es) h row m same =
+    let p = none_here key e es h in
+    elim (Contains-append_cases (rows_of e.0 e.1) (table_rows es) row m) [
+      | inl here ↦ other_key key e.0 p.0 (sym same ∙ row_key e.0 e.1 row here)
+      | inr there ↦ no_row key es p.1 row there same
+    ]
 
-  -- the newest row of a key in the table is the newest of its column
-  pub newest_in_table : (key : List ℕ) (s : ℕ) (es : List (K × List Cell))
-      → IsStrictlySortedBy (λ a b. slice_cmp nat_cmp (f a) (f b)) (keys_of es)
-      → newest (table_rows f es) key s ≡ newest (rows_of key (cells_in (lookup (test f key) es))) key s
-  newest_in_table key s [] up = refl
-  newest_in_table key s (e ∷ es) up =
-      elim (cases_Bool (test f key e.0)) [
-        | inl t ↦
-            let same = same_key key (f e.0) t in
-            let past = none_past key es
-            (subst (λ k. AllByRecursion (λ y. slice_cmp nat_cmp k (f y) ≡ Less) (keys_of es)) (sym same)
-            (sorted_head (λ a b. slice_cmp nat_cmp (f a) (f b)) e.0 (keys_of es) up)) in
-            newest_before_others (rows_of (f e.0) e.1) (table_rows f es) key s (no_row key es past)
-            ∙ ap (λ k. newest (rows_of k e.1) key s) (sym same)
-            ∙ ap (λ b. newest (rows_of key (cells_in (cond b (Some e.1) (lookup (test f key) es)))) key s) (sym t)
-        | inr n ↦
-            newest_after_others (rows_of (f e.0) e.1) (table_rows f es) key s
-            (λ row m same. other_key key (f e.0) n (sym same ∙ row_key (f e.0) e.1 row m))
-            ∙ newest_in_table key s es (sorted_tail (λ a b. slice_cmp nat_cmp (f a) (f b)) e.0 (keys_of es) up)
-            ∙ ap (λ b. newest (rows_of key (cells_in (cond b (Some e.1) (lookup (test f key) es)))) key s) (sym n)
-      ]
+-- the newest row of a key in the table is the newest of its column
+pub newest_in_table : (key : List ℕ) (s : ℕ) (es : List (List ℕ × List Cell))
+    → IsStrictlySortedBy (λ a b. slice_cmp nat_cmp a b) (keys_of es)
+    → newest (table_rows es) key s ≡ newest (rows_of key (cells_in (lookup (test key) es))) key s
+newest_in_table key s [] up = refl
+newest_in_table key s (e ∷ es) up =
+    elim (cases_Bool (test key e.0)) [
+      | inl t ↦
+          let same = same_key key e.0 t in
+          let past = none_past key es
+          (subst (λ k. AllByRecursion (λ y. slice_cmp nat_cmp k y ≡ Less) (keys_of es)) (sym same)
+          (sorted_head (λ a b. slice_cmp nat_cmp a b) e.0 (keys_of es) up)) in
+          newest_before_others (rows_of e.0 e.1) (table_rows es) key s (no_row key es past)
+          ∙ ap (λ k. newest (rows_of k e.1) key s) (sym same)
+          ∙ ap (λ b. newest (rows_of key (cells_in (cond b (Some e.1) (lookup (test key) es)))) key s) (sym t)
+      | inr n ↦
+          newest_after_others (rows_of e.0 e.1) (table_rows es) key s
+          (λ row m same. other_key key e.0 n (sym same ∙ row_key e.0 e.1 row m))
+          ∙ newest_in_table key s es (sorted_tail (λ a b. slice_cmp nat_cmp a b) e.0 (keys_of es) up)
+          ∙ ap (λ b. newest (rows_of key (cells_in (cond b (Some e.1) (lookup (test key) es)))) key s) (sym n)
+    ]
 
-  pub answer_in_table : (key : List ℕ) (s : ℕ) (es : List (K × List Cell))
-      → IsStrictlySortedBy (λ a b. slice_cmp nat_cmp (f a) (f b)) (keys_of es)
-      → answer (table_rows f es) key s ≡ answer (rows_of key (cells_in (lookup (test f key) es))) key s
-  answer_in_table key s es up = ap (option_and_then (λ (r : Row). r.value)) (newest_in_table key s es up)
+pub answer_in_table : (key : List ℕ) (s : ℕ) (es : List (List ℕ × List Cell))
+    → IsStrictlySortedBy (λ a b. slice_cmp nat_cmp a b) (keys_of es)
+    → answer (table_rows es) key s ≡ answer (rows_of key (cells_in (lookup (test key) es))) key s
+answer_in_table key s es up = ap (option_and_then (λ (r : Row). r.value)) (newest_in_table key s es up)
 
-  -- the key of each other column comes later
-  column_later : (k : List ℕ) (es : List (K × List Cell)) (one : KeyCells)
-      → AllByRecursion (λ y. slice_cmp nat_cmp k (f y) ≡ Less) (keys_of es) → Contains (keyed f es) one
-      → slice_cmp nat_cmp k one.key ≡ Less
-  column_later k [] one h i = absurd (Contains-none one i)
-  column_later k (e ∷ es) one h i =
-      elim (Contains-cons_cases (record { key = f e.0; cells = e.1 }) one (keyed f es) i) [
-        | inl is ↦ subst (λ (x : KeyCells). slice_cmp nat_cmp k x.key ≡ Less) is h.0
-        | inr there ↦ column_later k es one h.1 there
-      ]
+-- the key of each other column comes later
+column_later : (k : List ℕ) (es : List (List ℕ × List Cell)) (one : KeyCells)
+    → AllByRecursion (λ y. slice_cmp nat_cmp k y ≡ Less) (keys_of es) → Contains (keyed es) one
+    → slice_cmp nat_cmp k one.key ≡ Less
+column_later k [] one h i = absurd (Contains-none one i)
+column_later k (e ∷ es) one h i =
+    elim (Contains-cons_cases (record { key = e.0; cells = e.1 }) one (keyed es) i) [
+      | inl is ↦ subst (λ (x : KeyCells). slice_cmp nat_cmp k x.key ≡ Less) is h.0
+      | inr there ↦ column_later k es one h.1 there
+    ]
 
-  -- so the newest row of each column's key is that of the column
-  pub newest_alone : (es : List (K × List Cell))
-      → IsStrictlySortedBy (λ a b. slice_cmp nat_cmp (f a) (f b)) (keys_of es) → (one : KeyCells)
-      → Contains (keyed f es) one → (bound : ℕ)
-      → newest (table_rows f es) one.key bound ≡ newest (rows_in_one one) one.key bound
-  newest_alone [] up one i bound = absurd (Contains-none one i)
-  newest_alone (e ∷ es) up one i bound =
-      let later = sorted_head (λ a b. slice_cmp nat_cmp (f a) (f b)) e.0 (keys_of es) up in
-      elim (Contains-cons_cases (record { key = f e.0; cells = e.1 }) one (keyed f es) i) [
-        | inl is ↦
-            subst (λ (x : KeyCells). newest (table_rows f (e ∷ es)) x.key bound ≡ newest (rows_in_one x) x.key bound) is
-            (newest_before_others (rows_of (f e.0) e.1) (table_rows f es) (f e.0) bound
-            (no_row (f e.0) es (none_past (f e.0) es later)))
-        | inr there ↦
-            newest_after_others (rows_of (f e.0) e.1) (table_rows f es) one.key bound
-            (λ row m same. other_key (f e.0) one.key (ap is_eq (column_later (f e.0) es one later there))
-            (sym (row_key (f e.0) e.1 row m) ∙ same))
-            ∙ newest_alone es (sorted_tail (λ a b. slice_cmp nat_cmp (f a) (f b)) e.0 (keys_of es) up) one there bound
-      ]
+-- so the newest row of each column's key is that of the column
+pub newest_alone : (es : List (List ℕ × List Cell))
+    → IsStrictlySortedBy (λ a b. slice_cmp nat_cmp a b) (keys_of es) → (one : KeyCells)
+    → Contains (keyed es) one → (bound : ℕ)
+    → newest (table_rows es) one.key bound ≡ newest (rows_in_one one) one.key bound
+newest_alone [] up one i bound = absurd (Contains-none one i)
+newest_alone (e ∷ es) up one i bound =
+    let later = sorted_head (λ a b. slice_cmp nat_cmp a b) e.0 (keys_of es) up in
+    elim (Contains-cons_cases (record { key = e.0; cells = e.1 }) one (keyed es) i) [
+      | inl is ↦
+          subst (λ (x : KeyCells). newest (table_rows (e ∷ es)) x.key bound ≡ newest (rows_in_one x) x.key bound) is
+          (newest_before_others (rows_of e.0 e.1) (table_rows es) e.0 bound
+          (no_row e.0 es (none_past e.0 es later)))
+      | inr there ↦
+          newest_after_others (rows_of e.0 e.1) (table_rows es) one.key bound
+          (λ row m same. other_key e.0 one.key (ap is_eq (column_later e.0 es one later there))
+          (sym (row_key e.0 e.1 row m) ∙ same))
+          ∙ newest_alone es (sorted_tail (λ a b. slice_cmp nat_cmp a b) e.0 (keys_of es) up) one there bound
+    ]
 
-  pub absent_rows : (key : List ℕ) (es : List (K × List Cell)) → lookup (test f key) es ≡ None
-      → rows_with key (table_rows f es) ≡ []
-  absent_rows key [] h = refl
-  absent_rows key (e ∷ es) h =
-      let p = none_here key e es h in
-      filter-append (λ (row : Row). bytes_eq row.key key) (rows_of (f e.0) e.1) (table_rows f es)
-      ∙ ap₂ (λ xs ys. xs ++ ys) (other_rows (f e.0) key e.1 (other_key key (f e.0) p.0)) (absent_rows key es p.1)
+pub absent_rows : (key : List ℕ) (es : List (List ℕ × List Cell)) → lookup (test key) es ≡ None
+    → rows_with key (table_rows es) ≡ []
+absent_rows key [] h = refl
+absent_rows key (e ∷ es) h =
+    let p = none_here key e es h in
+    filter-append (λ (row : Row). bytes_eq row.key key) (rows_of e.0 e.1) (table_rows es)
+    ∙ ap₂ (λ xs ys. xs ++ ys) (other_rows e.0 key e.1 (other_key key e.0 p.0)) (absent_rows key es p.1)
 
-  -- the rows of a key are those of its column
-  pub rows_in_table : (key : List ℕ) (es : List (K × List Cell))
-      → IsStrictlySortedBy (λ a b. slice_cmp nat_cmp (f a) (f b)) (keys_of es)
-      → rows_with key (table_rows f es) ≡ rows_of key (cells_in (lookup (test f key) es))
-  rows_in_table key [] up = refl
-  rows_in_table key (e ∷ es) up =
-      filter-append (λ (row : Row). bytes_eq row.key key) (rows_of (f e.0) e.1) (table_rows f es)
-      ∙ elim (cases_Bool (test f key e.0)) [
-        | inl t ↦
-            let same = same_key key (f e.0) t in
-            let past = none_past key es
-            (subst (λ k. AllByRecursion (λ y. slice_cmp nat_cmp k (f y) ≡ Less) (keys_of es)) (sym same)
-            (sorted_head (λ a b. slice_cmp nat_cmp (f a) (f b)) e.0 (keys_of es) up)) in
-            ap₂ (λ xs ys. xs ++ ys) (ap (λ k. rows_with key (rows_of k e.1)) (sym same) ∙ own_rows key e.1)
-            (absent_rows key es past)
-            ∙ append-nil (rows_of key e.1)
-            ∙ ap (λ b. rows_of key (cells_in (cond b (Some e.1) (lookup (test f key) es)))) (sym t)
-        | inr n ↦
-            ap₂ (λ xs ys. xs ++ ys) (other_rows (f e.0) key e.1 (other_key key (f e.0) n))
-            (rows_in_table key es (sorted_tail (λ a b. slice_cmp nat_cmp (f a) (f b)) e.0 (keys_of es) up))
-            ∙ ap (λ b. rows_of key (cells_in (cond b (Some e.1) (lookup (test f key) es)))) (sym n)
-      ]
+-- the rows of a key are those of its column
+pub rows_in_table : (key : List ℕ) (es : List (List ℕ × List Cell))
+    → IsStrictlySortedBy (λ a b. slice_cmp nat_cmp a b) (keys_of es)
+    → rows_with key (table_rows es) ≡ rows_of key (cells_in (lookup (test key) es))
+rows_in_table key [] up = refl
+rows_in_table key (e ∷ es) up =
+    filter-append (λ (row : Row). bytes_eq row.key key) (rows_of e.0 e.1) (table_rows es)
+    ∙ elim (cases_Bool (test key e.0)) [
+      | inl t ↦
+          let same = same_key key e.0 t in
+          let past = none_past key es
+          (subst (λ k. AllByRecursion (λ y. slice_cmp nat_cmp k y ≡ Less) (keys_of es)) (sym same)
+          (sorted_head (λ a b. slice_cmp nat_cmp a b) e.0 (keys_of es) up)) in
+          ap₂ (λ xs ys. xs ++ ys) (ap (λ k. rows_with key (rows_of k e.1)) (sym same) ∙ own_rows key e.1)
+          (absent_rows key es past)
+          ∙ append-nil (rows_of key e.1)
+          ∙ ap (λ b. rows_of key (cells_in (cond b (Some e.1) (lookup (test key) es)))) (sym t)
+      | inr n ↦
+          ap₂ (λ xs ys. xs ++ ys) (other_rows e.0 key e.1 (other_key key e.0 n))
+          (rows_in_table key es (sorted_tail (λ a b. slice_cmp nat_cmp a b) e.0 (keys_of es) up))
+          ∙ ap (λ b. rows_of key (cells_in (cond b (Some e.1) (lookup (test key) es)))) (sym n)
+    ]
 
 pub answer_nothing : (key : List ℕ) (s : ℕ) → answer [] key s ≡ None
 unfolding newest

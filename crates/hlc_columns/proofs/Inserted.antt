@@ -19,92 +19,88 @@ use Rattle.hlc_columns.specs.Rows.{row_of, rows_of}
 use Rattle.std.specs.List.Sorted.{IsPermutation}
 use Rattle.std.proofs.lemmas.List.Sorted.{IsPermutation-append_right, IsPermutation-append_comm}
 use Rattle.std.proofs.lemmas.List.Elements.{Contains-append_cases, Contains-append_left, Contains-append_right}
-use Rattle.hlc_columns.specs.Table.{table_rows, HasNoVersion}
+use Rattle.hlc_columns.specs.Table.{table_rows, HasNoVersion, Inserted}
 use Rattle.hlc_columns.proofs.Found.{test, same_key, none_here}
 use Rattle.hlc_values.proofs.MemberLemmas.{Contains-rest, Contains-cons_cases}
 
--- new is old with one more row at some place
-abbrev pub Inserted : List Row → Row → List Row → Type 0
-Inserted old row new = (front : List Row) × (back : List Row) × (old ≡ front ++ back) × (new ≡ front ++ row ∷ back)
+more_before : (xs : List Row) (old : List Row) (row : Row) (new : List Row) → Inserted old row new
+    → Inserted (xs ++ old) row (xs ++ new)
+more_before xs old row new (front, back, was, is) = (
+  xs ++ front,
+  back,
+  ap (λ ys. xs ++ ys) was ∙ sym (append_assoc xs front back),
+  ap (λ ys. xs ++ ys) is ∙ sym (append_assoc xs front (row ∷ back)),
+)
 
-module _ {K : Type 0} (f : K → List ℕ) where
-  more_before : (xs : List Row) (old : List Row) (row : Row) (new : List Row) → Inserted old row new
-      → Inserted (xs ++ old) row (xs ++ new)
-  more_before xs old row new (front, back, was, is) = (
-    xs ++ front,
-    back,
-    ap (λ ys. xs ++ ys) was ∙ sym (append_assoc xs front back),
-    ap (λ ys. xs ++ ys) is ∙ sym (append_assoc xs front (row ∷ back)),
-  )
+-- one more row at the end of a key's column
+pub pushed : (key : List ℕ) (cell : Cell) (cells : List Cell) (es : List (List ℕ × List Cell))
+    → lookup (test key) es ≡ Some cells
+    → Inserted (table_rows es) (row_of key cell) (table_rows (set_value (test key) es (cells ++ cell ∷ [])))
+pushed key cell cells [] h = absurd (none-some cells h)
+pushed key cell cells (e ∷ es) h =
+    elim (cases_Bool (test key e.0)) [
+      | inl t ↦
+          let same = same_key key e.0 t in
+          let is : e.1 ≡ cells =
+          same_Some e.1 cells (sym (ap (λ b. cond b (Some e.1) (lookup (test key) es)) t) ∙ h) in (
+            rows_of e.0 e.1,
+            table_rows es,
+            refl,
+            ap (λ b. table_rows
+                (cond b ((e.0, cells ++ cell ∷ []) ∷ es) (e ∷ set_value (test key) es (cells ++ cell ∷ [])))) t
+                ∙ ap (λ (cs : List Cell). rows_of e.0 (cs ++ cell ∷ []) ++ table_rows es) (sym is)
+                ∙ ap (λ rows. rows ++ table_rows es) (map-append (row_of e.0) e.1 (cell ∷ []))
+                ∙ append_assoc (rows_of e.0 e.1) (row_of e.0 cell ∷ []) (table_rows es)
+                ∙ ap (λ k. rows_of e.0 e.1 ++ row_of k cell ∷ table_rows es) (sym same),
+          )
+      | inr n ↦
+          let rest = pushed key cell cells es (sym (ap (λ b. cond b (Some e.1) (lookup (test key) es)) n) ∙ h) in
+          subst (λ b. Inserted (table_rows (e ∷ es)) (row_of key cell) (table_rows
+          (cond b ((e.0, cells ++ cell ∷ []) ∷ es) (e ∷ set_value (test key) es (cells ++ cell ∷ []))))) (sym n)
+          (more_before (rows_of e.0 e.1) (table_rows es) (row_of key cell)
+          (table_rows (set_value (test key) es (cells ++ cell ∷ []))) rest)
+    ]
 
-  -- one more row at the end of a key's column
-  pub pushed : (key : List ℕ) (cell : Cell) (cells : List Cell) (es : List (K × List Cell))
-      → lookup (test f key) es ≡ Some cells
-      → Inserted (table_rows f es) (row_of key cell) (table_rows f (set_value (test f key) es (cells ++ cell ∷ [])))
-  pushed key cell cells [] h = absurd (none-some cells h)
-  pushed key cell cells (e ∷ es) h =
-      elim (cases_Bool (test f key e.0)) [
-        | inl t ↦
-            let same = same_key key (f e.0) t in
-            let is : e.1 ≡ cells =
-            same_Some e.1 cells (sym (ap (λ b. cond b (Some e.1) (lookup (test f key) es)) t) ∙ h) in (
-              rows_of (f e.0) e.1,
-              table_rows f es,
-              refl,
-              ap (λ b. table_rows f
-                  (cond b ((e.0, cells ++ cell ∷ []) ∷ es) (e ∷ set_value (test f key) es (cells ++ cell ∷ [])))) t
-                  ∙ ap (λ (cs : List Cell). rows_of (f e.0) (cs ++ cell ∷ []) ++ table_rows f es) (sym is)
-                  ∙ ap (λ rows. rows ++ table_rows f es) (map-append (row_of (f e.0)) e.1 (cell ∷ []))
-                  ∙ append_assoc (rows_of (f e.0) e.1) (row_of (f e.0) cell ∷ []) (table_rows f es)
-                  ∙ ap (λ k. rows_of (f e.0) e.1 ++ row_of k cell ∷ table_rows f es) (sym same),
-            )
-        | inr n ↦
-            let rest = pushed key cell cells es (sym (ap (λ b. cond b (Some e.1) (lookup (test f key) es)) n) ∙ h) in
-            subst (λ b. Inserted (table_rows f (e ∷ es)) (row_of key cell) (table_rows f
-            (cond b ((e.0, cells ++ cell ∷ []) ∷ es) (e ∷ set_value (test f key) es (cells ++ cell ∷ []))))) (sym n)
-            (more_before (rows_of (f e.0) e.1) (table_rows f es) (row_of key cell)
-            (table_rows f (set_value (test f key) es (cells ++ cell ∷ []))) rest)
-      ]
+-- a column of one row for a new key
+pub added : (k : List ℕ) (cell : Cell) (es : List (List ℕ × List Cell)) → lookup (test k) es ≡ None
+    → Inserted (table_rows es) (row_of k cell)
+    (table_rows (insert_entry (λ a b. slice_cmp nat_cmp a b) es k (cell ∷ [])))
+added k cell [] h = ([], [], refl, refl)
+added k cell (e ∷ es) h =
+    let p = none_here k e es h in
+    elim (slice_cmp nat_cmp k e.0) as (λ o. slice_cmp nat_cmp k e.0 ≡ o
+    → Inserted (table_rows (e ∷ es)) (row_of k cell)
+    (table_rows (match_ordering o ((k, cell ∷ []) ∷ e ∷ es) ((e.0, cell ∷ []) ∷ es)
+    (e ∷ insert_entry (λ a b. slice_cmp nat_cmp a b) es k (cell ∷ []))))) [
+      | Less ↦ λ is. ([], table_rows (e ∷ es), refl, refl)
+      | Equal ↦ λ is. absurd (true≢false (ap is_eq (sym is) ∙ p.0))
+      | Greater ↦ λ is. more_before (rows_of e.0 e.1) (table_rows es) (row_of k cell)
+          (table_rows (insert_entry (λ a b. slice_cmp nat_cmp a b) es k (cell ∷ []))) (added k cell es p.1)
+    ] refl
 
-  -- a column of one row for a new key
-  pub added : (k : K) (cell : Cell) (es : List (K × List Cell)) → lookup (test f (f k)) es ≡ None
-      → Inserted (table_rows f es) (row_of (f k) cell)
-      (table_rows f (insert_entry (λ a b. slice_cmp nat_cmp (f a) (f b)) es k (cell ∷ [])))
-  added k cell [] h = ([], [], refl, refl)
-  added k cell (e ∷ es) h =
-      let p = none_here f (f k) e es h in
-      elim (slice_cmp nat_cmp (f k) (f e.0)) as (λ o. slice_cmp nat_cmp (f k) (f e.0) ≡ o
-      → Inserted (table_rows f (e ∷ es)) (row_of (f k) cell)
-      (table_rows f (match_ordering o ((k, cell ∷ []) ∷ e ∷ es) ((e.0, cell ∷ []) ∷ es)
-      (e ∷ insert_entry (λ a b. slice_cmp nat_cmp (f a) (f b)) es k (cell ∷ []))))) [
-        | Less ↦ λ is. ([], table_rows f (e ∷ es), refl, refl)
-        | Equal ↦ λ is. absurd (true≢false (ap is_eq (sym is) ∙ p.0))
-        | Greater ↦ λ is. more_before (rows_of (f e.0) e.1) (table_rows f es) (row_of (f k) cell)
-            (table_rows f (insert_entry (λ a b. slice_cmp nat_cmp (f a) (f b)) es k (cell ∷ []))) (added k cell es p.1)
-      ] refl
-
-  -- writing back what stood there
-  pub same_set : (key : List ℕ) (cells : List Cell) (es : List (K × List Cell)) → lookup (test f key) es ≡ Some cells
-      → set_value (test f key) es cells ≡ es
-  same_set key cells [] h = absurd (none-some cells h)
-  same_set key cells (e ∷ es) h =
-      elim (cases_Bool (test f key e.0)) [
-        | inl t ↦
-            let is : e.1 ≡ cells =
-            same_Some e.1 cells (sym (ap (λ b. cond b (Some e.1) (lookup (test f key) es)) t) ∙ h) in
-            ap (λ b. cond b ((e.0, cells) ∷ es) (e ∷ set_value (test f key) es cells)) t
-            ∙ ap (λ (cs : List Cell). (e.0, cs) ∷ es) (sym is)
-        | inr n ↦ ap (λ b. cond b ((e.0, cells) ∷ es) (e ∷ set_value (test f key) es cells)) n ∙ ap (λ xs. e ∷ xs)
-            (same_set key cells es (sym (ap (λ b. cond b (Some e.1) (lookup (test f key) es)) n) ∙ h))
-      ]
+-- writing back what stood there
+pub same_set : (key : List ℕ) (cells : List Cell) (es : List (List ℕ × List Cell)) → lookup (test key) es ≡ Some cells
+    → set_value (test key) es cells ≡ es
+same_set key cells [] h = absurd (none-some cells h)
+same_set key cells (e ∷ es) h =
+    elim (cases_Bool (test key e.0)) [
+      | inl t ↦
+          let is : e.1 ≡ cells =
+          same_Some e.1 cells (sym (ap (λ b. cond b (Some e.1) (lookup (test key) es)) t) ∙ h) in
+          ap (λ b. cond b ((e.0, cells) ∷ es) (e ∷ set_value (test key) es cells)) t
+          ∙ ap (λ (cs : List Cell). (e.0, cs) ∷ es) (sym is)
+      | inr n ↦ ap (λ b. cond b ((e.0, cells) ∷ es) (e ∷ set_value (test key) es cells)) n ∙ ap (λ xs. e ∷ xs)
+          (same_set key cells es (sym (ap (λ b. cond b (Some e.1) (lookup (test key) es)) n) ∙ h))
+    ]
 
 -- no column is empty
-pub all_set : {K : Type 0} (is_key : K → Bool) (es : List (K × List Cell)) (cells : List Cell)
+pub all_set : (is_key : List ℕ → Bool) (es : List (List ℕ × List Cell)) (cells : List Cell)
     → All (λ e. 0 < length e.1) es → 0 < length cells → All (λ e. 0 < length e.1) (set_value is_key es cells)
-all_set {K} is_key es cells h p = All-from_recursion (λ (e : K × List Cell). 0 < length e.1) (set_value is_key es cells)
-    (go es (recursion_from_All (λ (e : K × List Cell). 0 < length e.1) es h))
+all_set is_key es cells h p = All-from_recursion (λ (e : List ℕ × List Cell). 0 < length e.1) (set_value is_key es
+    cells)
+    (go es (recursion_from_All (λ (e : List ℕ × List Cell). 0 < length e.1) es h))
   where
-    go : (es : List (K × List Cell)) → AllByRecursion (λ e. 0 < length e.1) es
+    go : (es : List (List ℕ × List Cell)) → AllByRecursion (λ e. 0 < length e.1) es
         → AllByRecursion (λ e. 0 < length e.1) (set_value is_key es cells)
     go [] h = tt
     go (e ∷ es) h = elim (is_key e.0) as (λ b. AllByRecursion (λ e. 0 < length e.1)
@@ -113,12 +109,12 @@ all_set {K} is_key es cells h p = All-from_recursion (λ (e : K × List Cell). 0
           | false ↦ (h.0, go es h.1)
         ]
 
-pub all_inserted : {K : Type 0} (cmp : K → K → Ordering) (es : List (K × List Cell)) (k : K) (cells : List Cell)
+pub all_inserted : (cmp : List ℕ → List ℕ → Ordering) (es : List (List ℕ × List Cell)) (k : List ℕ) (cells : List Cell)
     → All (λ e. 0 < length e.1) es → 0 < length cells → All (λ e. 0 < length e.1) (insert_entry cmp es k cells)
-all_inserted {K} cmp es k cells h p = All-from_recursion (λ (e : K × List Cell). 0 < length e.1)
-    (insert_entry cmp es k cells) (go es (recursion_from_All (λ (e : K × List Cell). 0 < length e.1) es h))
+all_inserted cmp es k cells h p = All-from_recursion (λ (e : List ℕ × List Cell). 0 < length e.1)
+    (insert_entry cmp es k cells) (go es (recursion_from_All (λ (e : List ℕ × List Cell). 0 < length e.1) es h))
   where
-    go : (es : List (K × List Cell)) → AllByRecursion (λ e. 0 < length e.1) es
+    go : (es : List (List ℕ × List Cell)) → AllByRecursion (λ e. 0 < length e.1) es
         → AllByRecursion (λ e. 0 < length e.1) (insert_entry cmp es k cells)
     go [] h = (p, tt)
     go (e ∷ es) h = elim (cmp k e.0) as (λ o. AllByRecursion (λ e. 0 < length e.1)
@@ -132,34 +128,34 @@ all_inserted {K} cmp es k cells h p = All-from_recursion (λ (e : K × List Cell
 abbrev pub cell_of : Row → Cell
 cell_of row = record { stamp = row.stamp; node = row.node; value = row.value }
 
-module _ {K : Type 0} (f : K → List ℕ) (row : Row) (es after : List (K × List Cell)) (old : List Row)
-    (was : table_rows f es ≡ old) where
-  pub pushed_as : (key : List ℕ) (cells new : List Cell) → key ≡ row.key → Some cells ≡ lookup (test f key) es
-      → after ≡ set_value (test f key) es new → new ≡ cells ++ cell_of row ∷ []
-      → Inserted old row (table_rows f after)
+module _ (row : Row) (es after : List (List ℕ × List Cell)) (old : List Row)
+    (was : table_rows es ≡ old) where
+  pub pushed_as : (key : List ℕ) (cells new : List Cell) → key ≡ row.key → Some cells ≡ lookup (test key) es
+      → after ≡ set_value (test key) es new → new ≡ cells ++ cell_of row ∷ []
+      → Inserted old row (table_rows after)
   pushed_as key cells new same found is more =
-      subst (λ o. Inserted o row (table_rows f after)) was
-      (subst (λ k. Inserted (table_rows f es) (row_of k (cell_of row)) (table_rows f after)) same
-      (subst (λ a. Inserted (table_rows f es) (row_of key (cell_of row)) (table_rows f a))
-      (sym (is ∙ ap (set_value (test f key) es) more)) (pushed f key (cell_of row) cells es (sym found))))
+      subst (λ o. Inserted o row (table_rows after)) was
+      (subst (λ k. Inserted (table_rows es) (row_of k (cell_of row)) (table_rows after)) same
+      (subst (λ a. Inserted (table_rows es) (row_of key (cell_of row)) (table_rows a))
+      (sym (is ∙ ap (set_value (test key) es) more)) (pushed key (cell_of row) cells es (sym found))))
 
-  pub kept_as : (key : List ℕ) (cells new : List Cell) → Some cells ≡ lookup (test f key) es
-      → after ≡ set_value (test f key) es new → new ≡ cells → table_rows f after ≡ old
+  pub kept_as : (key : List ℕ) (cells new : List Cell) → Some cells ≡ lookup (test key) es
+      → after ≡ set_value (test key) es new → new ≡ cells → table_rows after ≡ old
   kept_as key cells new found is stays =
-      ap (table_rows f) (is ∙ ap (set_value (test f key) es) stays ∙ same_set f key cells es (sym found)) ∙ was
+      ap (table_rows) (is ∙ ap (set_value (test key) es) stays ∙ same_set key cells es (sym found)) ∙ was
 
-  pub added_as : (key : List ℕ) (k : K) (cells : List Cell) → key ≡ row.key → f k ≡ row.key
-      → None ≡ lookup (test f key) es → after ≡ insert_entry (λ a b. slice_cmp nat_cmp (f a) (f b)) es k cells
+  pub added_as : (key : List ℕ) (k : List ℕ) (cells : List Cell) → key ≡ row.key → k ≡ row.key
+      → None ≡ lookup (test key) es → after ≡ insert_entry (λ a b. slice_cmp nat_cmp a b) es k cells
       → cells ≡ cell_of row ∷ []
-      → Inserted old row (table_rows f after)
+      → Inserted old row (table_rows after)
   added_as key k cells same names absent is one =
-      subst (λ o. Inserted o row (table_rows f after)) was
-      (subst (λ n. Inserted (table_rows f es) (row_of n (cell_of row)) (table_rows f after)) names
-      (subst (λ a. Inserted (table_rows f es) (row_of (f k) (cell_of row)) (table_rows f a))
-      (sym (is ∙ ap (insert_entry (λ a b. slice_cmp nat_cmp (f a) (f b)) es k) one))
-      (added f k (cell_of row) es (ap (λ n. lookup (test f n) es) (names ∙ sym same) ∙ sym absent))))
+      subst (λ o. Inserted o row (table_rows after)) was
+      (subst (λ n. Inserted (table_rows es) (row_of n (cell_of row)) (table_rows after)) names
+      (subst (λ a. Inserted (table_rows es) (row_of k (cell_of row)) (table_rows a))
+      (sym (is ∙ ap (insert_entry (λ a b. slice_cmp nat_cmp a b) es k) one))
+      (added k (cell_of row) es (ap (λ n. lookup (test n) es) (names ∙ sym same) ∙ sym absent))))
 
-pub found_some : {K : Type 0} (is_key : K → Bool) (es : List (K × List Cell)) (cells : List Cell)
+pub found_some : (is_key : List ℕ → Bool) (es : List (List ℕ × List Cell)) (cells : List Cell)
     → All (λ e. 0 < length e.1) es → Some cells ≡ lookup is_key es → 0 < length cells
 found_some is_key es cells h found =
     subst (λ o. IfSome o (λ cs. 0 < length cs)) (sym found) (All-lookup (λ cs. 0 < length cs) is_key es h)

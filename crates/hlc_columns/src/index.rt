@@ -1,5 +1,5 @@
-//! The index of a key of many rows: the places of its first rows, in the order of their stamps and
-//! nodes. It only makes reads fast, so want of memory leaves it as it was.
+//! The index of a key of many rows: the places of its first rows, in the order of their stamps and nodes. It only makes
+//! reads fast, so want of memory leaves it as it was.
 ghost use Rattle.std.specs.Prelude.{◌≡◌, ◌≤◌, ◌<◌, ◌+◌, ◌++◌, [], ℕ, IsTrue, IfOk, length, take, drop, slice_index};
 ghost use Rattle.std.specs.Prelude.{◌/◌, ◌==◌, false, min, nat_le, if◌then◌else◌};
 ghost use Rattle.std.specs.List.Sorted.{IsPermutation};
@@ -100,8 +100,7 @@ fn replace_tail(order: &mut Vec<u32>, from: usize, tail: Vec<u32>)
     let _ = order.append(&mut tail);
 }
 
-/// Takes all rows into the index, if there is memory. It sorts only from the least of the new
-/// stamps on.
+/// Takes all rows into the index, if there is memory. It sorts only from the least of the new stamps on.
 fn index_all(order: &mut Vec<u32>, stamps: &[u64], nodes: &[u16])
     requires { IsIndex stamps.now nodes.now order.old.items }
     ensures { IsIndex stamps.now nodes.now order.new.items }
@@ -142,8 +141,22 @@ fn most_behind(count: usize) -> usize
     }
 }
 
-/// Extends the index after a row was added: by that row where it is the only one outside and above
-/// all others, and else by all rows once many stand outside.
+/// Whether taking all rows into the index now sorts no more of those that it has than of the others. It is asked at
+/// each `LEAST` rows outside alone, since it passes over them.
+fn sorts_few(order: &[u32], stamps: &[u64], nodes: &[u16]) -> bool
+    requires { IsIndex stamps.now nodes.now order.now }
+{
+    let count = order.len();
+    let outside = stamps.len() - count;
+    if outside % LEAST != 0 {
+        return false;
+    }
+    let least = least_from(stamps, count);
+    count - count_below(stamps, nodes, order, least) <= outside
+}
+
+/// Extends the index after a row was added: by that row where it is the only one outside and above all others, and
+/// else by all rows once many are outside, or fewer where that sorts few of those that it has.
 pub(crate) fn extend_index(order: &mut Vec<u32>, stamps: &[u64], nodes: &[u16])
     requires { IsIndex stamps.now nodes.now order.old.items }
     ensures { IsIndex stamps.now nodes.now order.new.items }
@@ -152,7 +165,7 @@ pub(crate) fn extend_index(order: &mut Vec<u32>, stamps: &[u64], nodes: &[u16])
     let outside = stamps.len() - count;
     if outside == 1 {
         index_next(order, stamps, nodes);
-    } else if outside > most_behind(count) {
+    } else if outside > most_behind(count) || sorts_few(order.as_slice(), stamps, nodes) {
         index_all(order, stamps, nodes);
     }
 }

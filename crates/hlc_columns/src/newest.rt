@@ -1,5 +1,6 @@
 //! The place of the newest of some stamps and nodes, which stand side by side.
-ghost use Rattle.std.specs.Prelude.{◌≡◌, ◌↔◌, ◌≤◌, ◌<◌, ◌-◌, ◌⊎◌, ℕ, IsTrue, Some, IfSome, MatchOption, length, slice_index};
+ghost use Rattle.std.specs.Prelude.{◌≡◌, ◌↔◌, ◌≤◌, ◌<◌, ◌-◌, ◌⊎◌, ℕ, IsTrue, Some, IfSome, MatchOption, length};
+ghost use Rattle.std.specs.Prelude.{slice_index};
 ghost use Rattle.std.specs.Prelude.{take, count_by, nat_le, false};
 ghost use Rattle.std.specs.List.Sorted.{IsPartitionPoint};
 ghost use Rattle.hlc_columns.specs.Newest.{NotAbove, IsNewestBelow, IsGreatestAt};
@@ -96,8 +97,8 @@ fn is_above(stamps: &[u64], first: Option<usize>, stamp: u64) -> bool
     }
 }
 
-/// The newest of all rows, where the first is that of those before a place. Of many rows it is found by
-/// the kernels: the stamp, its greatest node, and their first place.
+/// The newest of all rows, where the first is that of those before a place. Of many rows it is found by the kernels:
+/// the stamp, its greatest node, and their first place.
 pub(crate) fn newest_from(
     stamps: &[u64],
     nodes: &[u16],
@@ -160,8 +161,8 @@ fn are_first_within(stamps: &[u64], nodes: &[u16], order: &[u32], bound: u64, co
     }
 }
 
-/// How many of the rows that an index has are at or below the bound, sought from a place on, one row
-/// after another. From any place it is the same.
+/// How many of the rows that an index has are at or below the bound, sought from a place on, one row after another.
+/// From any place it is the same.
 pub(crate) fn count_from(
     stamps: &[u64],
     nodes: &[u16],
@@ -196,8 +197,8 @@ fn is_last_within(stamps: &[u64], order: &[u32], bound: u64) -> bool
     }
 }
 
-/// How many of the rows that an index has are at or below the bound: all of them where its last is,
-/// and else it is found by binary search.
+/// How many of the rows that an index has are at or below the bound: all of them where its last is, and else it is
+/// found by binary search.
 pub(crate) fn count_indexed(stamps: &[u64], nodes: &[u16], order: &[u32], bound: u64) -> usize
     requires { IsIndex stamps.now nodes.now order.now }
     ensures point { IsPartitionPoint (λ place. IsTrue (nat_le (slice_index stamps.now place) bound))

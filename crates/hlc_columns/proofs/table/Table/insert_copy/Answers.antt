@@ -1,68 +1,37 @@
--- The row goes to the end of its key's column; where the key has none, it is inserted as any other row is.
-use Rattle.std.proofs.Common.{◌≡◌, ◌<◌, ◌≤◌, ◌++◌, ◌∷◌, [], sym, ap, subst, ℕ, List, length, arith, All}
-use Rattle.std.proofs.Common.{option_copied, refl}
-use Rattle.std.proofs.Common.{◌∙◌}
+-- The row goes to the end of its key's column, or into a column of its own; all others stay.
+use Rattle.std.proofs.Common.{◌≡◌, ◌∙◌, subst, option_copied}
 use Rattle.std.specs.Prelude.{OnOk, OnErr}
 use Rattle.std.proofs.lemmas.Result.{on_ok_weaker, on_err_weaker}
 use Rattle.hlc_node.specs.declared.row.Row.{Row as ARow}
 use Rattle.hlc_node.specs.Rows.{IsRowSet}
-use Rattle.hlc_columns.specs.Table.{table_rows}
-use Rattle.hlc_columns.proofs.Inserted.{Inserted, all_set, found_some, pushed_as, kept_as, inserted-IsPermutation}
-use Rattle.hlc_columns.proofs.Inserted.{either-IsRowSet}
-use Rattle.std.specs.Map.{lookup}
-use Rattle.hlc_columns.specs.Rows.{rows_with}
-use Rattle.hlc_columns.proofs.Found.{test, absent_rows}
+use Rattle.hlc_columns.specs.Table.{indexed_rows, Inserted}
+use Rattle.hlc_columns.proofs.Inserted.{inserted-IsPermutation, either-IsRowSet}
 use Rattle.hlc_columns.proofs.table.Table.insert_copy.Goals as goal
+use Rattle.hlc_columns.proofs.table.Table.insert_copy.Goals.{After-put_copy}
 
 -- the row that is added
-abbrev row_in : goal.After-self-in-Some-1 → ARow
+abbrev row_in : After-put_copy → ARow
 row_in c = record { key = c.args.key.now; stamp = c.args.stamp; node = c.args.node; value = option_copied c.args.value }
 
-put : (c : goal.After-self-in-Some-1) → OnOk c.push_cell.result (Inserted c.args.self.now (row_in c)
-    (table_rows (λ k. k.items) (c.get_mut.follows.lender c.push_cell.new.column).entries))
-put c =
-    on_ok_weaker c.push_cell.result (λ more. pushed_as (λ k. k.items) (row_in c) c.self.inside.columns.entries
-    (c.get_mut.follows.lender c.push_cell.new.column).entries c.args.self.now c.self.view_is c.args.key.now
-    c.in-Some.column.now c.push_cell.new.column
-    refl c.in-Some.ensures.value (c.get_mut.follows.holds c.push_cell.new.column).0
-    (subst (λ value. c.push_cell.new.column ≡ c.in-Some.column.now
-    ++ record { stamp = c.args.stamp; node = c.args.node; value = value } ∷ []) c.in_ok-value.ensures more))
-    c.push_cell.ensures.ok
+added : (c : After-put_copy)
+    → OnOk c.put_copy.result (Inserted c.args.self.now (row_in c) (indexed_rows c.put_copy.new.columns))
+added c =
+    on_ok_weaker c.put_copy.result
+    (subst (λ old. Inserted old (row_in c) (indexed_rows c.put_copy.new.columns)) c.self.view_is) c.put_copy.ensures.ok
 
-stayed : (c : goal.After-self-in-Some-1) → OnErr c.push_cell.result
-    (table_rows (λ k. k.items) (c.get_mut.follows.lender c.push_cell.new.column).entries ≡ c.args.self.now)
-stayed c =
-    on_err_weaker c.push_cell.result (λ stays. kept_as (λ k. k.items) (row_in c) c.self.inside.columns.entries
-    (c.get_mut.follows.lender c.push_cell.new.column).entries c.args.self.now c.self.view_is c.args.key.now
-    c.in-Some.column.now c.push_cell.new.column
-    c.in-Some.ensures.value (c.get_mut.follows.holds c.push_cell.new.column).0 stays) c.push_cell.ensures.err
+stayed : (c : After-put_copy) → OnErr c.put_copy.result (indexed_rows c.put_copy.new.columns ≡ c.args.self.now)
+stayed c = on_err_weaker c.put_copy.result (λ same. same ∙ c.self.view_is) c.put_copy.ensures.err
 
 pub invariant_of-self : goal.invariant_of-self
 invariant_of-self c =
-    let es = c.self.inside.columns.entries in
-    let some : 0 < length c.in-Some.column.now =
-    found_some
-    (test (λ k. k.items) c.args.key.now) es c.in-Some.column.now c.self.invariant.0 c.in-Some.ensures.value in
-    let grows : length c.in-Some.column.now ≤ length c.push_cell.new.column = c.push_cell.ensures.grows in (
-      subst (All (λ e. 0 < length e.1)) (sym (c.get_mut.follows.holds c.push_cell.new.column).0)
-          (all_set (test (λ k. k.items) c.args.key.now) es c.push_cell.new.column c.self.invariant.0
-          (omega (arith, some, grows))),
-      either-IsRowSet c.push_cell.result c.args.self.now (row_in c) _ (put c) (stayed c) c.requires
+    let at = (goal.at.invariant_of-self c).After-put_copy in (
+      c.put_copy.ensures.filled,
+      either-IsRowSet c.put_copy.result c.args.self.now (row_in at) _ (added at) (stayed at) c.requires
           (subst IsRowSet c.self.view_is c.self.invariant.1),
+      c.put_copy.ensures.count,
     )
 
-pub returns-in-Some-clause-ok : goal.returns-in-Some-clause-ok
-returns-in-Some-clause-ok c =
-    on_ok_weaker c.push_cell.result (inserted-IsPermutation c.args.self.now (row_in c) _) (put c)
-
-pub returns-in-Some-clause-err : goal.returns-in-Some-clause-err
-returns-in-Some-clause-err c = stayed c
-
-pub add_column-requires : goal.add_column-requires
-add_column-requires c =
-    let after = c.get_mut.follows.lender-at-none.entries in
-    let key : c.from_vec-key.result ≡ c.args.key.now = c.from_vec-key.ensures ∙ c.in_ok-from_slice.ensures.items in
-    subst (λ (key : List ℕ). rows_with key (table_rows (λ k. k.items) after) ≡ []) (sym key)
-    (absent_rows (λ k. k.items) c.args.key.now after
-    (ap (λ m. lookup (test (λ k. k.items) c.args.key.now) m.entries) c.get_mut.follows.holds-at-none
-    ∙ sym c.in_default.ensures.value))
+pub returns-clause-ok : goal.returns-clause-ok
+returns-clause-ok c =
+    let at = (goal.at.returns-clause-ok c).After-put_copy in
+    on_ok_weaker c.put_copy.result (inserted-IsPermutation c.args.self.now (row_in at) _) (added at)

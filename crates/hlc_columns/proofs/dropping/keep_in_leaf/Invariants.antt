@@ -1,0 +1,12 @@
+-- The first columns of the leaf have their flagged rows alone, and the flags of the others are left.
+use Rattle.std.proofs.Common.{◌≡◌, ◌++◌, take, drop, set, get_or, []}
+use Rattle.hlc_columns.proofs.Kept.{run, total, kept_one, many}
+use Rattle.hlc_columns.proofs.dropping.keep_in_leaf.Given as goal
+
+abbrev pub invariant-loop-slot : goal.invariant-loop-slot
+invariant-loop-slot l = record {
+  columns : l.columns ≡ set l.initial.columns l.at
+      (run kept_one many l.flags (take l.slot (get_or l.initial.columns l.at []))
+      ++ drop l.slot (get_or l.initial.columns l.at []));
+  left : l.left ≡ drop (total kept_one many (take l.slot (get_or l.initial.columns l.at []))) l.flags;
+}

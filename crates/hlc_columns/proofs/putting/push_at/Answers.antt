@@ -1,0 +1,54 @@
+-- The row goes to the end of the column of the key at that place; all others stay.
+use Rattle.std.proofs.Common.{◌<◌, ◌≤◌, refl, sym, subst, length, arith, All, List, ℕ, [], get_or}
+use Rattle.std.proofs.lemmas.Result.{on_ok_weaker, on_err_weaker}
+use Rattle.hlc_index.specs.Entries.{entries_in, keys_in, with_value_in, IsEntryAt}
+use Rattle.hlc_index.proofs.EntryLemmas.{entry_found, entry_written}
+use Rattle.hlc_columns.specs.Table.{indexed_rows}
+use Rattle.hlc_columns.proofs.Found.{test}
+use Rattle.hlc_columns.proofs.Inserted.{all_set, found_some, pushed_as, kept_as}
+use Rattle.hlc_columns.proofs.putting.push_at.Goals as goal
+
+-- the key at the place
+abbrev own : goal.After-columns-1 → List ℕ
+own c = get_or (keys_in (get_or c.args.columns.now c.args.at [])) c.args.slot []
+
+place : (c : goal.After-columns-1) → IsEntryAt c.args.columns.now (own c) c.args.at c.args.slot
+place c = (c.requires.leaf, c.requires.inside, refl)
+
+pub returns-clause-ok : goal.returns-clause-ok
+returns-clause-ok c key there =
+    on_ok_weaker c.push_cell.result
+    (λ more. pushed_as (record { key = key; stamp = c.args.stamp; node = c.args.node; value = c.args.value })
+    (entries_in c.args.columns.now)
+    (entries_in (with_value_in c.args.columns.now c.args.at c.args.slot c.push_cell.new.column))
+    (indexed_rows c.args.columns.now) refl key c.value_mut-column.result.now c.push_cell.new.column refl
+    (sym (entry_found c.args.columns.now key c.args.at c.args.slot there c.value_mut-column.ensures.ascend
+    c.value_mut-column.result.now c.value_mut-column.ensures.value))
+    (entry_written c.args.columns.now key c.args.at c.args.slot there c.value_mut-column.ensures.ascend
+    c.push_cell.new.column) more) c.push_cell.ensures.ok
+
+pub returns-clause-err : goal.returns-clause-err
+returns-clause-err c =
+    on_err_weaker c.push_cell.result
+    (λ stays. kept_as (record { key = own c; stamp = c.args.stamp; node = c.args.node; value = c.args.value })
+    (entries_in c.args.columns.now)
+    (entries_in (with_value_in c.args.columns.now c.args.at c.args.slot c.push_cell.new.column))
+    (indexed_rows c.args.columns.now) refl (own c) c.value_mut-column.result.now c.push_cell.new.column
+    (sym (entry_found c.args.columns.now (own c) c.args.at c.args.slot (place c) c.value_mut-column.ensures.ascend
+    c.value_mut-column.result.now c.value_mut-column.ensures.value))
+    (entry_written c.args.columns.now (own c) c.args.at c.args.slot (place c) c.value_mut-column.ensures.ascend
+    c.push_cell.new.column) stays) c.push_cell.ensures.err
+
+pub returns-clause-filled : goal.returns-clause-filled
+returns-clause-filled c =
+    let found = sym (entry_found c.args.columns.now (own c) c.args.at c.args.slot (place c)
+    c.value_mut-column.ensures.ascend
+    c.value_mut-column.result.now c.value_mut-column.ensures.value) in
+    let some : 0 < length c.value_mut-column.result.now =
+    found_some (test (own c)) (entries_in c.args.columns.now) c.value_mut-column.result.now c.requires.filled found in
+    let grows : length c.value_mut-column.result.now ≤ length c.push_cell.new.column = c.push_cell.ensures.grows in
+    subst (All (λ e. 0 < length e.1))
+    (sym (entry_written c.args.columns.now (own c) c.args.at c.args.slot (place c) c.value_mut-column.ensures.ascend
+    c.push_cell.new.column))
+    (all_set (test (own c)) (entries_in c.args.columns.now) c.push_cell.new.column c.requires.filled
+    (omega (arith, some, grows)))

@@ -1,0 +1,71 @@
+//! A column in a block of memory of its own.
+ghost use Rattle.std.specs.Prelude.{◌≡◌, ◌<◌, ◌∷◌, [], length, nat_lt, IfOk, IfErr};
+ghost use Rattle.std.specs.Borrow.{Lends, sem};
+ghost use Rattle.hlc_columns.specs.Cells.{Cell};
+ghost use Rattle.hlc_columns.specs.contracts.boxed.BoxedColumn.{the_row as boxed_row};
+ghost use Rattle.hlc_columns.specs.contracts.column.Column.{the_row as column_row};
+
+use crate::column::Column;
+use hlc_clock::Stamp;
+use hlc_node::Bytes;
+use std::alloc::{AllocFailed, Global};
+use std::marker::Model;
+
+/// A column in a block of memory of its own, so that an entry of the index is small. Contracts see its cells.
+#[derive(Drop)]
+pub struct BoxedColumn {
+    block: Box<Column>,
+}
+
+impl Model for BoxedColumn {
+    ghost use Rattle.std.specs.Prelude.{List};
+    ghost use Rattle.hlc_columns.specs.Cells.{Cell};
+
+    ghost Value = { List Cell };
+
+    ghost view = { λ boxed. boxed.block.value };
+}
+
+impl BoxedColumn {
+    /// A column of one row. Where memory lacks, the value comes back.
+    pub(crate) fn of_row(
+        alloc: Global,
+        stamp: Stamp,
+        node: u16,
+        value: Option<Bytes>,
+    ) -> Result<BoxedColumn, AllocFailed<Option<Bytes>>>
+        ensures ok { IfOk result
+            (λ boxed. boxed ≡ record { stamp = stamp; node = node; value = value } ∷ []) }
+        ensures value_returned { IfErr result (λ failed. failed.value ≡ value) }
+    {
+        match Box::new(alloc, Column::of_row(alloc, stamp, node, value)) {
+            Ok(block) => Ok(BoxedColumn { block }),
+            Err(AllocFailed { value: column }) => Err(AllocFailed {
+                value: column.into_value(),
+            }),
+        }
+    }
+
+    /// The column.
+    pub(crate) fn get(&self) -> &Column
+        ensures { result.now ≡ self.now }
+    {
+        &self.block
+    }
+
+    /// The column, to be changed.
+    pub(crate) fn get_mut(&mut self) -> &mut Column
+        ensures* lends { sem 𝓛 (Lends boxed_row column_row self.entry result (λ cells. cells)) }
+        ensures value { result.now ≡ self.old }
+    {
+        &mut self.block
+    }
+
+    /// The value of the only row.
+    pub(crate) fn into_value(self) -> Option<Bytes>
+        ensures { (cell : Cell) → self ≡ cell ∷ [] → result ≡ cell.value }
+    {
+        let BoxedColumn { block } = self;
+        Box::into_inner(block).into_value()
+    }
+}

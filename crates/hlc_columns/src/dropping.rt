@@ -1,0 +1,81 @@
+//! Rows dropped from the columns of an index.
+ghost use Rattle.std.specs.Prelude.{◌≡◌, ◌≤◌, ◌<◌, [], count_by, length, take, drop, nat_lt, slice_set, slice_index_or};
+ghost use Rattle.std.specs.List.{items_where_true};
+ghost use Rattle.hlc_index.specs.Entries.{with_value_in};
+ghost use Rattle.hlc_columns.specs.Table.{indexed_rows, table_rows, kept_in, cells_at, AreFilled};
+
+use crate::boxed::BoxedColumn;
+use hlc_index::{Filled, Index};
+
+impl Filled for BoxedColumn {
+    ghost is_filled = { λ cells. nat_lt 0 (length cells) };
+
+    fn is_filled(&self) -> bool {
+        !self.get().is_empty()
+    }
+}
+
+/// Keeps just the flagged rows, in their order. A key without rows is removed. It takes no memory.
+pub(crate) fn keep_rows(columns: &mut Index<BoxedColumn>, flags: &[bool])
+    requires { length flags.now ≡ length (indexed_rows columns.old) }
+    ensures rows { indexed_rows columns.new
+        ≡ items_where_true flags.now (indexed_rows columns.old) }
+    ensures filled { AreFilled columns.new }
+{
+    let mut left = flags;
+    for at in 0..columns.leaves() {
+        left = keep_in_leaf(columns, at, left);
+    }
+    columns.keep_filled();
+}
+
+/// Keeps just the rows of a leaf that the first flags name, and returns the flags of the rows behind.
+fn keep_in_leaf<'a>(columns: &mut Index<BoxedColumn>, at: usize, flags: &'a [bool]) -> &'a [bool]
+    requires leaf { at < length columns.old }
+    requires many { length (table_rows (slice_index_or columns.old at [])) ≤ length flags.now }
+    ensures kept { columns.new
+        ≡ slice_set columns.old at (kept_in flags.now (slice_index_or columns.old at [])) }
+    ensures left { result.now ≡ drop (length (table_rows (slice_index_or columns.old at []))) flags.now }
+{
+    let mut left = flags;
+    for slot in 0..columns.leaf(at).len() {
+        left = keep_at(columns, at, slot, left);
+    }
+    left
+}
+
+/// Keeps just the rows of a column that the first flags name, and returns the flags of the rows behind.
+fn keep_at<'a>(
+    columns: &mut Index<BoxedColumn>,
+    at: usize,
+    slot: usize,
+    flags: &'a [bool],
+) -> &'a [bool]
+    requires leaf { at < length columns.old }
+    requires inside { slot < length (slice_index_or columns.old at []) }
+    requires many { length (cells_at columns.old at slot) ≤ length flags.now }
+    ensures kept { columns.new ≡ with_value_in columns.old at slot (items_where_true
+        (take (length (cells_at columns.old at slot)) flags.now) (cells_at columns.old at slot)) }
+    ensures left { result.now ≡ drop (length (cells_at columns.old at slot)) flags.now }
+{
+    let column = columns.value_mut(at, slot);
+    keep_first(column, flags)
+}
+
+/// The same of a column.
+fn keep_first<'a>(column: &mut BoxedColumn, flags: &'a [bool]) -> &'a [bool]
+    requires { length column.old ≤ length flags.now }
+    ensures kept { column.new ≡ items_where_true (take (length column.old) flags.now) column.old }
+    ensures left { result.now ≡ drop (length column.old) flags.now }
+{
+    let (first, left) = flags.split_at(column.get().len());
+    column.get_mut().keep(first);
+    left
+}
+
+/// How many flags are set.
+pub(crate) fn count_set(flags: &[bool]) -> usize
+    ensures { result ≡ count_by (λ flag. flag) flags.now }
+{
+    flags.iter().filter(|flag| **flag).count()
+}
