@@ -1,6 +1,6 @@
 -- The drafts of the pieces of some columns, joined: each piece adds its draft to those before it, since keys ascend
 -- over all of them.
-use Rattle.std.proofs.Common.{◌≡◌, ◌∙◌, ◌<◌, ℕ, zero, suc, List, [], ◌∷◌, ◌++◌, length, Result, Ok, sym, ap, refl}
+use Rattle.std.proofs.Common.{◌≡◌, ◌∙◌, ◌+◌, ◌<◌, ℕ, zero, suc, List, [], ◌∷◌, ◌++◌, length, Result, Ok, sym, ap, refl}
 use Rattle.std.proofs.Common.{subst, arith}
 use Rattle.std.proofs.Common.{get_or}
 use Rattle.std.specs.List.{AllZip}
@@ -50,32 +50,35 @@ abbrev pub JoinsPieces : List (Result Draft AllocError) → Draft → Type 0
 JoinsPieces drafts whole =
     (points : List ℕ) (pieces : List (List KeyCells)) → KeysAscend (columns_of pieces)
     → AllZip (DraftsPiece points) pieces
-    drafts → IsJoined (columns_of pieces) points whole.witnesses.items whole.keep.items
+    drafts → IsJoined (columns_of pieces) points whole.witnesses.items whole.keep.items whole.bytes
 
 -- one piece on
 pub pieces_on : (drafts : List (Result Draft AllocError)) (whole more new : Draft)
     → JoinsPieces drafts whole
     → new.witnesses.items ≡ whole.witnesses.items ++ more.witnesses.items
     → new.keep.items ≡ whole.keep.items ++ more.keep.items
+    → new.bytes ≡ whole.bytes + more.bytes
     → JoinsPieces (drafts ++ Ok more ∷ []) new
-pieces_on drafts whole more new so news keeps = λ points pieces up each.
+pieces_on drafts whole more new so news keeps total = λ points pieces up each.
     let parts = last_of_zip (DraftsPiece points) pieces drafts (Ok more) each in
     let both : columns_of pieces ≡ columns_of parts.front ++ parts.last =
     ap columns_of parts.is ∙ flat_map-append (λ piece. piece) parts.front (parts.last ∷ []) ∙ ap
     (λ xs. columns_of parts.front ++ xs) (append-nil parts.last) in
     let ascend = subst KeysAscend both up in
     let front = so points parts.front (ascend_front (columns_of parts.front) parts.last ascend) parts.fronts in
-    subst (λ xs. IsJoined xs points new.witnesses.items new.keep.items) (sym both)
-    (subst (λ cs. IsJoined (columns_of parts.front ++ parts.last) points cs new.keep.items) (sym news)
+    subst (λ xs. IsJoined xs points new.witnesses.items new.keep.items new.bytes) (sym both)
+    (subst (λ cs. IsJoined (columns_of parts.front ++ parts.last) points cs new.keep.items new.bytes) (sym news)
     (subst (λ fs. IsJoined (columns_of parts.front ++ parts.last) points
-    (whole.witnesses.items ++ more.witnesses.items) fs)
+    (whole.witnesses.items ++ more.witnesses.items) fs new.bytes)
     (sym keeps)
+    (subst (IsJoined (columns_of parts.front ++ parts.last) points (whole.witnesses.items ++ more.witnesses.items)
+    (whole.keep.items ++ more.keep.items)) (sym total)
     (joined_append points
     (columns_of parts.front) parts.last ascend whole.witnesses.items more.witnesses.items
-    whole.keep.items more.keep.items front parts.lasts)))
+    whole.keep.items more.keep.items whole.bytes more.bytes front parts.lasts))))
 
 -- of no piece
 pub pieces_none : (pieces : List (List KeyCells)) (points : List ℕ) → AllZip (DraftsPiece points) pieces []
-    → IsJoined (columns_of pieces) points [] []
+    → IsJoined (columns_of pieces) points [] [] 0
 pieces_none [] points each = joined_none points
 pieces_none (piece ∷ pieces) points each = absurd each

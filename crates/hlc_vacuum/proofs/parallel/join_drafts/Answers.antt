@@ -12,7 +12,8 @@ pub loop-one-init : goal.loop-one-init
 loop-one-init c = record {
   all' = search rules;
   joined = λ points pieces up each.
-      rw (c.new-whole.ensures.keep, c.new-whole.ensures.witnesses) (pieces_none pieces points each);
+      rw (c.new-whole.ensures.keep, c.new-whole.ensures.witnesses, c.new-whole.ensures.bytes)
+      (pieces_none pieces points each);
 }
 
 pub loop-one-preserved : goal.loop-one-preserved
@@ -23,13 +24,14 @@ loop-one-preserved c =
       joined =
           subst (λ one. JoinsPieces (c.loop-one.yielded ++ one ∷ []) c.append.new.self) (sym c.in_ok-one.was)
           (pieces_on c.loop-one.yielded c.loop-one.whole c.in_ok-one.field-0 c.append.new.self
-          inv.joined c.in_ok-append.ensures.witnesses c.in_ok-append.ensures.keep);
+          inv.joined c.in_ok-append.ensures.witnesses c.in_ok-append.ensures.keep c.in_ok-append.ensures.bytes);
     }
 
 pub returns : goal.returns
 returns c = λ points columns up drafts.
     let all' = c.loop-one.invariant.all' in
     let end : c.loop-one.yielded ≡ c.args.drafts.items = grind (arith, common_steps) in
-    subst (λ xs. IsJoined xs points c.loop-one.whole.witnesses.items c.loop-one.whole.keep.items) drafts.1
+    subst (λ xs. IsJoined xs points c.loop-one.whole.witnesses.items c.loop-one.whole.keep.items
+    c.loop-one.whole.bytes) drafts.1
     (c.loop-one.invariant.joined points drafts.0 (subst KeysAscend (sym drafts.1) up)
     (subst (AllZip (DraftsPiece points) drafts.0) (sym end) drafts.2))

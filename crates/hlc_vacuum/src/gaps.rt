@@ -1,0 +1,48 @@
+//! Gaps between stamps, in which no answer changes.
+ghost use Rattle.std.specs.Prelude.{◌≤◌, All};
+ghost use Rattle.hlc_vacuum.specs.Gaps.{NoneBetween};
+
+/// Of more stamps than these a pass for each gap costs more than the points in it.
+const FEW: usize = 32;
+
+/// Where a gap ends that begins at a stamp: after the greatest stamp at `u64::MAX`, else at the least
+/// one from there on. Of many stamps, or as many as there are points, it ends at once, since few
+/// points would be in a gap.
+pub(crate) fn gap_end(stamps: &[u64], greatest: u64, from: u64, points: usize) -> u64
+    requires { All (λ stamp. stamp ≤ greatest) stamps.now }
+    ensures { NoneBetween stamps.now from result }
+{
+    if greatest < from {
+        return u64::MAX;
+    }
+    if stamps.len() > FEW || stamps.len() >= points {
+        return from;
+    }
+    least_from(stamps, from)
+}
+
+/// The least of the stamps from one on, `u64::MAX` where there is none.
+fn least_from(stamps: &[u64], from: u64) -> u64
+    ensures { NoneBetween stamps.now from result }
+{
+    let mut least = u64::MAX;
+    for stamp in stamps {
+        if from <= *stamp && *stamp < least {
+            least = *stamp;
+        }
+    }
+    least
+}
+
+/// The greatest of some stamps, 0 of none.
+pub(crate) fn greatest_of(stamps: &[u64]) -> u64
+    ensures { All (λ stamp. stamp ≤ result) stamps.now }
+{
+    let mut greatest = 0;
+    for stamp in stamps {
+        if greatest < *stamp {
+            greatest = *stamp;
+        }
+    }
+    greatest
+}
