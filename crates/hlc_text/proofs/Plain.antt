@@ -4,8 +4,8 @@ use Rattle.std.proofs.Common.{true, false, Option, Some, None, ap, refl, not, �
 use Rattle.std.specs.Prelude.{unwrap_or}
 use Rattle.std.proofs.Common.{inl, inr}
 use Rattle.std.proofs.lemmas.Bool.{and_parts, false≢true, cases_Bool}
-use Rattle.std.specs.List.{list_all}
-use Rattle.hlc_text.specs.Text.{stands_as_itself, percent}
+use Rattle.std.specs.List.{list_all, flat_map}
+use Rattle.hlc_text.specs.Text.{stands_as_itself, percent, byte_token, bytes_token}
 use Rattle.hlc_text.specs.Spelling.{spelled_bytes, token_bytes, bytes_in, with_byte, is_own_spelling}
 use Rattle.hlc_text.specs.Spelling.{is_hex, hex_value, is_escaped}
 use Rattle.std.proofs.lemmas.Option.{same_Some}
@@ -114,3 +114,13 @@ own_token (b ∷ bs) own = plain_token (b ∷ bs) (omega arith) own
 
 pub own_bytes : (bs : List ℕ) → is_own_spelling bs ≡ true → bytes_in bs ≡ bs
 own_bytes bs own = ap (λ read. unwrap_or read []) (own_token bs own)
+
+-- and the word that spells them is they themselves
+own_words : (bs : List ℕ) → list_all stands_as_itself bs ≡ true → flat_map byte_token bs ≡ bs
+own_words [] h = refl
+own_words (b ∷ bs) h =
+    let both = first_stands b bs h in rw both.0 (ap (λ (l : List ℕ). b ∷ l) (own_words bs both.1))
+
+pub own_word : (bs : List ℕ) → is_own_spelling bs ≡ true → bytes_token bs ≡ bs
+own_word [] own = absurd (false≢true own)
+own_word (b ∷ bs) own = own_words (b ∷ bs) own
