@@ -111,7 +111,7 @@ taken : (state : State) (s : List (Event × Reply)) (p k : ℕ) (item : Item) (c
     → nodes core ≡ nodes state.core → StandsFor state s
     → item_at p k s ≡ Some item → item_refusal (nodes state.core) (core_past s) item ≡ None
     → CoreStandsFor core (Took item ∷ core_past s)
-    → StandsFor (record { core = core; nodes = state.nodes; messages = state.messages })
+    → StandsFor (record { core = core; nodes = state.nodes; sent_stamps = state.sent_stamps })
     ((Deliver p k, Accepted item.stamp) ∷ s)
 taken state s p k item core same h at none took =
     let ordered = orderly (world_nodes state) s h.legal in
@@ -130,7 +130,7 @@ taken state s p k item core same h at none took =
       many = subst (λ o. length state.nodes ≡ numbered (nodes core) (past_taken p item.stamp o (store_history s)))
           (sym at) (h.many ∙ ap (λ n. numbered n (core_past s)) (sym same));
       nodes = h.nodes;
-      messages = h.messages;
+      sent_stamps = h.sent_stamps;
     }
 
 -- the reply to what the core answered
@@ -147,16 +147,16 @@ pub answered : (state : State) (s : List (Event × Reply)) (p k : ℕ) (item : I
     (Took item ∷ core_past s))
     (λ fault. IsRefusal (item_refusal (nodes state.core) (core_past s) item) (IsWrite item.body) fault
     × (core ≡ state.core))
-    → StandsFor (record { core = core; nodes = state.nodes; messages = state.messages })
+    → StandsFor (record { core = core; nodes = state.nodes; sent_stamps = state.sent_stamps })
     ((Deliver p k, reply_of result) ∷ s)
 answered state s p k item core (Ok stamp) same h at a =
-    let t : StandsFor (record { core = core; nodes = state.nodes; messages = state.messages })
+    let t : StandsFor (record { core = core; nodes = state.nodes; sent_stamps = state.sent_stamps })
     ((Deliver p k, Accepted item.stamp) ∷ s) =
     taken state s p k item core same h at a.1 a.2 in
-    subst (λ x. StandsFor (record { core = core; nodes = state.nodes; messages = state.messages })
+    subst (λ x. StandsFor (record { core = core; nodes = state.nodes; sent_stamps = state.sent_stamps })
     ((Deliver p k, Accepted x) ∷ s)) (sym a.0) t
 answered state s p k item core (Err f) same h at a =
-    subst (λ x. StandsFor (record { core = x; nodes = state.nodes; messages = state.messages })
+    subst (λ x. StandsFor (record { core = x; nodes = state.nodes; sent_stamps = state.sent_stamps })
     ((Deliver p k, Refused (of_core f)) ∷ s)) (sym a.1)
     (elim a.0 [
       | inl due ↦ refused state s p k item f h at due

@@ -52,7 +52,7 @@ pub joins : (state : State) (s : List (Event × Reply)) (node start : ℕ) (core
     → CoreStandsFor core (JoinedOf node start ∷ core_past s) → StandsFor (record {
       core = core;
       nodes = state.nodes ++ a_node node start [] false ∷ [];
-      messages = state.messages;
+      sent_stamps = state.sent_stamps;
     }) ((Join, Joined node start) ∷ s)
 joins state s node start core h same none is at stands =
     let x : KeptIssuer = a_node node start [] false in
@@ -86,7 +86,7 @@ joins state s node start core h same none is at stands =
                 ∙ sym (ap (λ a. Some (a_node n a (issued n s) (gone n s)))
                 (stamp_or-other n node start (last_stamp n s) other))
           ];
-      messages = h.messages;
+      sent_stamps = h.sent_stamps;
     }
 
 -- none joined: 1,024 numbers were given

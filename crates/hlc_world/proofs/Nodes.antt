@@ -1,7 +1,7 @@
 -- The world goes on standing for its schedule: new nodes, the events of nodes, and events that change nothing.
 use Rattle.std.proofs.Common.{◌≡◌, ℕ, zero, suc, ◌+◌, ◌<◌, Bool, true, false, List, [], ◌∷◌, ◌++◌, length, Some, None}
 use Rattle.std.proofs.Common.{Ok, Err, Option, Result, refl, ap, sym, ◌∙◌, subst, inl, inr, arith, length-set}
-use Rattle.std.proofs.Common.{length-append}
+use Rattle.std.proofs.Common.{length-append, option_map}
 use Rattle.std.specs.Prelude.{slice_get, slice_set, if◌then◌else◌}
 use Rattle.std.proofs.lemmas.Bool.{cond-true, cond-false, eq-eqb, ne_eqb, lt-leb, cases_eq}
 use Rattle.hlc_clock.specs.NextStamp.{stamp_due}
@@ -27,7 +27,9 @@ use Rattle.hlc_world.specs.Schedule.{Event, issuing, issued, gone, last_stamp, s
 use Rattle.hlc_world.specs.Store.{asked, told, paired, with_entry, store_history, core_past}
 use Rattle.hlc_world.specs.Due.{of_node, issue_refusal, stamp_refusal, receive_refusal, observe_refusal, on_link}
 use Rattle.hlc_world.specs.Due.{on_node, refusal_due, IsReceived, IsObserved, MayLackMemory, IsGiven}
-use Rattle.hlc_world.specs.State.{KeptIssuer, State, world_nodes, StandsFor, fresh_issuers, Issues, Sees}
+use Rattle.hlc_world.specs.State.{KeptIssuer, State, world_nodes, StandsFor, fresh_issuers, stamps_of, Issues, Sees}
+use Rattle.std.proofs.lemmas.List.{map-append, length-map}
+use Rattle.std.proofs.lemmas.Option.{slice_get-map}
 use Rattle.hlc_world.proofs.Lists.{some-injective, get-set_at, get-set_other, set-same, get-append_left, get-push}
 
 -- what is kept of a node
@@ -170,7 +172,7 @@ goes-on : (state : State) (s : List (Event × Reply)) (e : Event) (reply : Reply
     (mark : Option (ℕ × ℕ)) (nodes : List KeptIssuer) → deed s e reply ≡ (item, mark, None, None)
     → IsGiven (world_nodes state) s e reply → StandsFor state s → length nodes ≡ length state.nodes
     → ((n : ℕ) → n < length nodes → slice_get nodes n ≡ Some (node_by n mark item s))
-    → StandsFor (record { core = state.core; nodes = nodes; messages = state.messages }) ((e, reply) ∷ s)
+    → StandsFor (record { core = state.core; nodes = nodes; sent_stamps = state.sent_stamps }) ((e, reply) ∷ s)
 goes-on state s e reply item mark nodes did given h same each =
     record {
       legal = (given, h.legal);
@@ -178,7 +180,8 @@ goes-on state s e reply item mark nodes did given h same each =
       many = subst (λ (d : Deed). length nodes ≡ numbered (world_nodes state) (past_told s e d.3)) (sym did)
           (same ∙ h.many);
       nodes = λ n lt. subst (λ (d : Deed). slice_get nodes n ≡ Some (node_by n d.1 d.0 s)) (sym did) (each n lt);
-      messages = subst (λ (d : Deed). state.messages ≡ with_message d.2 (sent s)) (sym did) h.messages;
+      sent_stamps = subst (λ (d : Deed). state.sent_stamps ≡ stamps_of (with_message d.2 (sent s))) (sym did)
+          h.sent_stamps;
     }
 
 -- a refused event leaves all as it was
@@ -189,13 +192,14 @@ stays state s e refusal nothing given h =
     goes-on state s e (Refused refusal) None None state.nodes nothing given h refl h.nodes
 
 abbrev with_node : State → ℕ → KeptIssuer → State
-with_node state p node = record { core = state.core; nodes = slice_set state.nodes p node; messages = state.messages }
+with_node state p node =
+    record { core = state.core; nodes = slice_set state.nodes p node; sent_stamps = state.sent_stamps }
 
 -- to write back what is kept of a node changes nothing
 pub put-back : (state : State) (s : List (Event × Reply)) (p : ℕ) (node : KeptIssuer)
     → slice_get state.nodes p ≡ Some node → StandsFor state s → StandsFor (with_node state p node) s
 put-back state s p node at h =
-    subst (λ xs. StandsFor (record { core = state.core; nodes = xs; messages = state.messages }) s)
+    subst (λ xs. StandsFor (record { core = state.core; nodes = xs; sent_stamps = state.sent_stamps }) s)
     (sym (set-same state.nodes p node at)) h
 
 -- an event by which a node issues an item that says this
@@ -273,17 +277,16 @@ issues_not state s p reading body before after refusal h inside at left =
 
 -- a message that a node sent
 pub sends : (state : State) (s : List (Event × Reply)) (p reading : ℕ) (before : KeptIssuer) (node : Node)
-    (message : Message) (messages : List Message) → StandsFor state s → p < length state.nodes
+    (st : ℕ) (stamps : List ℕ) → StandsFor state s → p < length state.nodes
     → slice_get state.nodes p ≡ Some before
-    → event_due before.node (before.node.last ∷ []) reading ≡ Ok message.stamp
-    → message.from ≡ before.node.id → node ≡ stamped before.node message.stamp
-    → messages ≡ state.messages ++ message ∷ [] → StandsFor (record {
+    → event_due before.node (before.node.last ∷ []) reading ≡ Ok st
+    → node ≡ stamped before.node st
+    → stamps ≡ state.sent_stamps ++ st ∷ [] → StandsFor (record {
       core = state.core;
       nodes = slice_set state.nodes p (record { node = node; issued = before.issued });
-      messages = messages;
-    }) ((Send p reading, Sent message.stamp (length state.messages)) ∷ s)
-sends state s p reading before node message messages h inside at due from node-is posted =
-    let st : ℕ = message.stamp in
+      sent_stamps = stamps;
+    }) ((Send p reading, Sent st (length state.sent_stamps)) ∷ s)
+sends state s p reading before node st stamps h inside at due node-is posted =
     let after : KeptIssuer = record { node = node; issued = before.issued } in
     let so : before ≡ a_node p (last_stamp p s) (issued p s) (gone p s) = was state s p before h inside at in
     let by : event_due (node_of p s) (last_stamp p s ∷ []) reading ≡ Ok st =
@@ -292,14 +295,13 @@ sends state s p reading before node message messages h inside at due from node-i
     let came : after ≡ a_node p st (issued p s) (gone p s) =
     ap (λ c. record { node = c; issued = before.issued }) node-is
     ∙ ap (λ issuer. record { node = stamped issuer.node st; issued = issuer.issued }) so in
-    let is : message ≡ record { from = p; stamp = st } =
-    ap (λ n. record { from = n; stamp = st }) (from ∙ ap (λ issuer. issuer.node.id) so) in
+    let last : Message = record { from = p; stamp = st } in
     let same : length (slice_set state.nodes p after) ≡ length state.nodes = length-set state.nodes p after in
     record {
       legal = (
         (
           sight-due (world_nodes state) s p _ (there state s p h inside) ∙ ap issue_refusal by,
-          (due', ap length h.messages),
+          (due', ap length h.sent_stamps ∙ length-map (sent s) (λ (message : Message). message.stamp)),
         ),
         h.legal,
       );
@@ -309,7 +311,8 @@ sends state s p reading before node message messages h inside at due from node-i
           subst (λ x. slice_get (slice_set state.nodes p x) n ≡ Some (node_by n (Some (p, st)) None s)) (sym came)
           (nodes-stamped state.nodes (λ k. last_stamp k s) (λ k. issued k s) (λ k. gone k s) p st inside
           h.nodes n (rw same at lt));
-      messages = posted ∙ ap (λ xs. xs ++ message ∷ []) h.messages ∙ ap (λ x. sent s ++ x ∷ []) is;
+      sent_stamps = posted ∙ ap (λ xs. xs ++ st ∷ []) h.sent_stamps
+          ∙ sym (map-append (λ (message : Message). message.stamp) (sent s) (last ∷ []));
     }
 
 -- why the world refuses a message is why the node does
@@ -349,15 +352,36 @@ pub record IsSight (nodes : ℕ) (s : List (Event × Reply)) (e : Event) (reply 
   pub given : (st : ℕ) → refusal_due nodes s e ≡ None → stamp_due (last_stamp p s ∷ seen ∷ []) reading ≡ Ok st
       → IsGiven nodes s e (reply st)
 
-pub receive-is : (nodes : ℕ) (s : List (Event × Reply)) (p reading number : ℕ) (message : Message)
+-- a message was sent where its stamp is kept
+was-sent : (o : Option Message) (seen : ℕ) → option_map (λ (message : Message). message.stamp) o ≡ Some seen
+    → (message : Message) × (o ≡ Some message) × (message.stamp ≡ seen)
+was-sent None seen h = absurd (cc)
+was-sent (Some message) seen h = (message, refl, some-injective _ _ h)
+
+pub message-there : (state : State) (s : List (Event × Reply)) (number seen : ℕ) → StandsFor state s
+    → slice_get state.sent_stamps number ≡ Some seen
+    → (message : Message) × (message_at number s ≡ Some message) × (message.stamp ≡ seen)
+message-there state s number seen h at =
+    was-sent (message_at number s) seen
+    (sym (slice_get-map (λ (message : Message). message.stamp) (sent s) number)
+    ∙ ap (λ xs. slice_get xs number) (sym h.sent_stamps) ∙ at)
+
+receives : (nodes : ℕ) (s : List (Event × Reply)) (p reading number : ℕ) (message : Message)
     → message_at number s ≡ Some message → IsSight nodes s (Receive p reading number) Received p message.stamp reading
-receive-is nodes s p reading number message found =
+receives nodes s p reading number message found =
     record {
       due = ap (λ o. on_node nodes s p (receive_refusal o (last_stamp p s) reading)) found;
       done = λ st. refl;
       left = λ f. refl;
       given = λ st none due. (none, subst (λ o. IsReceived o (last_stamp p s) reading st) (sym found) due);
     }
+
+pub receive-is : (nodes : ℕ) (s : List (Event × Reply)) (p reading number seen : ℕ)
+    → ((message : Message) × (message_at number s ≡ Some message) × (message.stamp ≡ seen))
+    → IsSight nodes s (Receive p reading number) Received p seen reading
+receive-is nodes s p reading number seen (message, found, same) =
+    subst (λ x. IsSight nodes s (Receive p reading number) Received p x reading) same
+    (receives nodes s p reading number message found)
 
 pub observe-is : (nodes : ℕ) (s : List (Event × Reply)) (p reading id seen : ℕ) → stamp_of id (core_past s) ≡ Some seen
     → IsSight nodes s (Observe p reading id) Observed p seen reading
@@ -419,11 +443,11 @@ fresh-at (suc n) k h =
 
 -- a new world
 pub starts : (n : ℕ) (core : Kept) → core_nodes core ≡ n → CoreStandsFor core []
-    → StandsFor (record { core = core; nodes = fresh_issuers n; messages = [] }) []
+    → StandsFor (record { core = core; nodes = fresh_issuers n; sent_stamps = [] }) []
 starts n core is h = record {
   legal = tt;
   core = h;
   many = fresh-length n ∙ sym is;
   nodes = λ k lt. fresh-at n k (let e = fresh-length n in omega (arith, e));
-  messages = refl;
+  sent_stamps = refl;
 }

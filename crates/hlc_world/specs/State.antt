@@ -1,6 +1,6 @@
 -- What a world keeps, and which schedule it stands for.
 use Rattle.std.specs.Prelude.{◌≡◌, ℕ, false, zero, suc, ◌<◌, ◌⊎◌, List, [], ◌∷◌, ◌++◌, length, Some, None, slice_get}
-use Rattle.std.specs.Prelude.{MatchOption, Result, Ok, Err}
+use Rattle.std.specs.Prelude.{MatchOption, Result, Ok, Err, map}
 use Rattle.hlc_node.specs.declared.item.Item.{Item}
 use Rattle.hlc_node.specs.declared.item.Body.{Body}
 use Rattle.hlc_node.specs.declared.item.Message.{Message}
@@ -20,11 +20,15 @@ pub record KeptIssuer : Type 0 where
   pub node : Node
   pub issued : List Item
 
--- what a world keeps: the core of the store, each node, and the messages that were sent
+-- the stamps of some messages, which are all that a receipt depends on
+abbrev pub stamps_of : List Message → List ℕ
+stamps_of messages = map (λ message. message.stamp) messages
+
+-- what a world keeps: the core of the store, each node, and the stamps of the messages that were sent
 pub record State : Type 0 where
   pub core : Kept
   pub nodes : List KeptIssuer
-  pub messages : List Message
+  pub sent_stamps : List ℕ
 
 -- how many nodes there were at the start
 abbrev pub world_nodes : State → ℕ
@@ -37,7 +41,7 @@ pub record StandsFor (state : State) (schedule : List (Event × Reply)) : Type 0
   pub many : length state.nodes ≡ numbered (world_nodes state) (core_past schedule)
   pub nodes : (n : ℕ) → n < length state.nodes
       → slice_get state.nodes n ≡ Some (record { node = node_of n schedule; issued = issued n schedule })
-  pub messages : state.messages ≡ sent schedule
+  pub sent_stamps : state.sent_stamps ≡ stamps_of (sent schedule)
 
 -- so many nodes, on which nothing took place
 abbrev pub fresh_issuers : ℕ → List KeptIssuer

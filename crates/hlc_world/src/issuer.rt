@@ -4,7 +4,7 @@ ghost use Rattle.hlc_world.specs.State.{Issues, Keeps, Sees};
 
 use crate::refusal::Refusal;
 use hlc_clock::Stamp;
-use hlc_node::{Body, Item, Message, NodeCore};
+use hlc_node::{Body, Item, NodeCore};
 use std::alloc::Global;
 use std::marker::Model;
 
@@ -79,18 +79,8 @@ impl Issuer {
         self.keep(node, item)
     }
 
-    /// Receives a message, and gives the stamp of that.
-    pub fn receive(&mut self, message: &Message, reading: u64) -> Result<Stamp, Refusal>
-        ensures { Sees self.old self.new message.now.stamp reading result }
-    {
-        match self.node.receive(message, reading) {
-            Ok(stamp) => Ok(stamp),
-            Err(fault) => Err(Refusal::from(fault)),
-        }
-    }
-
-    /// Observes a snapshot at a stamp, and gives the stamp of that.
-    pub fn observe(&mut self, seen: Stamp, reading: u64) -> Result<Stamp, Refusal>
+    /// Sees a stamp, that of a snapshot or of a message that it receives, and gives the stamp of that event.
+    pub fn see(&mut self, seen: Stamp, reading: u64) -> Result<Stamp, Refusal>
         ensures { Sees self.old self.new seen reading result }
     {
         match self.node.observe(seen, reading) {

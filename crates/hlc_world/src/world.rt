@@ -1,6 +1,6 @@
 //! The world and its events.
 ghost use Rattle.std.specs.Prelude.{◌≡◌, ◌≢◌, ◌<◌, ℕ, [], ◌∷◌, ◌++◌, List, MatchBool, MatchResult, IfOk, IfErr, OnErr};
-ghost use Rattle.std.specs.Prelude.{length};
+ghost use Rattle.std.specs.Prelude.{length, option_copied};
 ghost use Rattle.hlc_core.specs.Past.{Step, Took, item_refusal};
 ghost use Rattle.hlc_core.specs.Kept.{nodes, StandsFor as CoreStandsFor};
 ghost use Rattle.hlc_core.specs.Calls.{IsRefusal, IsWrite};
@@ -19,7 +19,7 @@ use crate::reply::Reply;
 use hlc_clock::Stamp;
 use hlc_core::{Core, CoreFault, NoMemory};
 use hlc_heads::MOST_NUMBERS;
-use hlc_node::{Body, Bytes, Item, Message};
+use hlc_node::{Body, Bytes, Item};
 use std::alloc::Global;
 use std::marker::Model;
 
@@ -33,7 +33,7 @@ pub struct World {
     alloc: Global,
     core: Core,
     nodes: Vec<Issuer>,
-    messages: Vec<Message>,
+    sent_stamps: Vec<Stamp>,
 }
 
 impl Model for World {
@@ -41,8 +41,8 @@ impl Model for World {
 
     ghost Value = { State };
 
-    ghost view = { λ world.
-        record { core = world.core; nodes = world.nodes.items; messages = world.messages.items } };
+    ghost view = { λ world. record
+        { core = world.core; nodes = world.nodes.items; sent_stamps = world.sent_stamps.items } };
 }
 
 impl World {
@@ -57,7 +57,7 @@ impl World {
             alloc,
             core,
             nodes,
-            messages: Vec::new(alloc),
+            sent_stamps: Vec::new(alloc),
         })
     }
 
@@ -74,6 +74,7 @@ impl World {
     /// where the event makes an item, a node, a message, a snapshot or a listing, stores a row,
     /// gives a value or is a Vacuum, want of memory. A Vacuum is refused for nothing else, and Floor
     /// and Rows are never refused. Read, List, Floor and Rows change nothing, whatever the reply.
+    #[inline(always)]
     pub fn step(&mut self, event: Event) -> Reply
         ensures stands { (schedule : List (AnEvent × AReply)) → StandsFor self.old schedule
             → StandsFor self.new ((event, result) ∷ schedule) }
@@ -101,6 +102,24 @@ impl World {
         ensures nodes { world_nodes self.new ≡ world_nodes self.old }
     {
         self.take_place(event)
+    }
+
+    /// The value that a key has in an open snapshot, or none: what a Read answers, but where it stands and not as a
+    /// copy, so that it takes no memory.
+    #[inline]
+    pub fn look(&self, id: u64, key: &[u8]) -> Result<Option<&[u8]>, Refusal>
+        ensures { (schedule : List (AnEvent × AReply)) → StandsFor self.now schedule
+            → MatchResult result
+            (λ value. StandsFor self.now
+            ((Event.Read id key.now, Reply.Answer (option_copied value)) ∷ schedule))
+            (λ refusal. StandsFor self.now
+            ((Event.Read id key.now, Reply.Refused refusal) ∷ schedule)) }
+    {
+        let found = self.core.read(id, key);
+        match found {
+            Ok(value) => Ok(value),
+            Err(_) => Err(Refusal::NoSnapshot),
+        }
     }
 
     /// The events in turn. Room for all replies is made first: where that is refused, no event took
@@ -208,6 +227,7 @@ impl World {
         }
     }
 
+    #[inline(always)]
     fn take_place(&mut self, event: Event) -> Reply
         ensures stands { (schedule : List (AnEvent × AReply)) → StandsFor self.old schedule
             → StandsFor self.new ((event, result) ∷ schedule) }
@@ -221,14 +241,11 @@ impl World {
                 reading,
                 key,
                 value,
-            } => {
-                let value = Some(value);
-                self.issue(node, reading, Body::Write { key, value })
-            }
+            } => self.write(node, reading, key, value),
             Event::Delete { node, reading, key } => {
                 self.issue(node, reading, Body::Write { key, value: None })
             }
-            Event::Report { node, reading } => self.issue(node, reading, Body::Report),
+            Event::Report { node, reading } => self.report(node, reading),
             Event::Retire { node, reading } => self.issue(node, reading, Body::Retire),
             Event::Join => self.join(),
             Event::Send { node, reading } => self.send(node, reading),
@@ -252,6 +269,29 @@ impl World {
                 count: self.core.rows(),
             },
         }
+    }
+
+    /// The reply to a Write, as `step` gives it.
+    #[inline(always)]
+    pub fn write(&mut self, node: u16, reading: u64, key: Bytes, value: Bytes) -> Reply
+        ensures stands { (schedule : List (AnEvent × AReply)) → StandsFor self.old schedule
+            → StandsFor self.new ((Event.Write node reading key value, result) ∷ schedule) }
+        ensures unchanged { IsRefused result → self.new ≡ self.old }
+        ensures nodes { world_nodes self.new ≡ world_nodes self.old }
+    {
+        let value = Some(value);
+        self.issue(node, reading, Body::Write { key, value })
+    }
+
+    /// The reply to a Report, as `step` gives it.
+    #[inline(always)]
+    pub fn report(&mut self, node: u16, reading: u64) -> Reply
+        ensures stands { (schedule : List (AnEvent × AReply)) → StandsFor self.old schedule
+            → StandsFor self.new ((Event.Report node reading, result) ∷ schedule) }
+        ensures unchanged { IsRefused result → self.new ≡ self.old }
+        ensures nodes { world_nodes self.new ≡ world_nodes self.old }
+    {
+        self.issue(node, reading, Body::Report)
     }
 
     /// A node issues the item that says this.
@@ -295,7 +335,9 @@ impl World {
         }
     }
 
-    fn send(&mut self, node: u16, reading: u64) -> Reply
+    /// The reply to a Send, as `step` gives it.
+    #[inline(always)]
+    pub fn send(&mut self, node: u16, reading: u64) -> Reply
         ensures stands { (schedule : List (AnEvent × AReply)) → StandsFor self.old schedule
             → StandsFor self.new ((Event.Send node reading, result) ∷ schedule) }
         ensures unchanged { IsRefused result → self.new ≡ self.old }
@@ -309,8 +351,8 @@ impl World {
             Err(fault) => Reply::Refused(Refusal::from(fault)),
             Ok(sent) => {
                 let stamp = sent.stamp;
-                let message = self.messages.len() as u64;
-                if !post(&mut self.messages, sent) {
+                let message = self.sent_stamps.len() as u64;
+                if !post(&mut self.sent_stamps, stamp) {
                     return Reply::Refused(Refusal::NoMemory);
                 }
                 issuer.go_on(sender);
@@ -319,7 +361,9 @@ impl World {
         }
     }
 
-    fn receive(&mut self, node: u16, reading: u64, message: u64) -> Reply
+    /// The reply to a Receive, as `step` gives it.
+    #[inline(always)]
+    pub fn receive(&mut self, node: u16, reading: u64, message: u64) -> Reply
         ensures stands { (schedule : List (AnEvent × AReply)) → StandsFor self.old schedule
             → StandsFor self.new ((Event.Receive node reading message, result) ∷ schedule) }
         ensures unchanged { IsRefused result → self.new ≡ self.old }
@@ -331,10 +375,10 @@ impl World {
         if issuer.is_retired() {
             return Reply::Refused(Refusal::Retired);
         }
-        let Some(sent) = self.messages.as_slice().get(message as usize) else {
+        let Some(sent) = self.sent_stamps.as_slice().get(message as usize) else {
             return Reply::Refused(Refusal::NoMessage);
         };
-        match issuer.receive(sent, reading) {
+        match issuer.see(*sent, reading) {
             Ok(stamp) => Reply::Received { stamp },
             Err(refusal) => Reply::Refused(refusal),
         }
@@ -355,13 +399,15 @@ impl World {
         let Some(seen) = self.core.stamp_of(id) else {
             return Reply::Refused(Refusal::NoSnapshot);
         };
-        match issuer.observe(seen, reading) {
+        match issuer.see(seen, reading) {
             Ok(stamp) => Reply::Observed { stamp },
             Err(refusal) => Reply::Refused(refusal),
         }
     }
 
-    fn deliver(&mut self, node: u16, number: u64) -> Reply
+    /// The reply to a Deliver, as `step` gives it.
+    #[inline(always)]
+    pub fn deliver(&mut self, node: u16, number: u64) -> Reply
         ensures stands { (schedule : List (AnEvent × AReply)) → StandsFor self.old schedule
             → StandsFor self.new ((Event.Deliver node number, result) ∷ schedule) }
         ensures unchanged { IsRefused result → self.new ≡ self.old }
@@ -391,12 +437,12 @@ fn fresh_nodes(alloc: Global, count: u16) -> Result<Vec<Issuer>, NoMemory>
     Ok(made)
 }
 
-/// Adds a message to those that were sent, if there is memory.
-fn post(messages: &mut Vec<Message>, message: Message) -> bool
-    ensures { MatchBool result (messages.new.items ≡ messages.old.items ++ message ∷ [])
-        (messages.new.items ≡ messages.old.items) }
+/// Adds the stamp of a message to those of the messages before it, if there is memory.
+fn post(stamps: &mut Vec<Stamp>, stamp: Stamp) -> bool
+    ensures { MatchBool result (stamps.new.items ≡ stamps.old.items ++ stamp ∷ [])
+        (stamps.new.items ≡ stamps.old.items) }
 {
-    messages.push(message).is_ok()
+    stamps.push(stamp).is_ok()
 }
 
 /// Hands an item to the store, which takes a copy, and gives its stamp.

@@ -16,9 +16,9 @@ returns-clause-stands c = λ s h.
     let there : stamp_of c.args.id (core_past s) ≡ Some c.in-Some-stamp_of.seen =
     sym (c.in-Some-stamp_of.ensures (core_past s) h'.core) in
     let is = observe-is _ s c.args.node c.args.reading c.args.id c.in-Some-stamp_of.seen there in
-    elim c.match-observe.branch [
+    elim c.match-see.branch [
       | in-Ok w ↦ rw w.result-is (sees _ s _ Observed c.args.node c.in-Some-stamp_of.seen c.args.reading w.in-Ok.stamp
-          c.in-Some.issuer.now c.observe.new.self is h' lent.3.0 at w.in-Ok.ensures)
+          c.in-Some.issuer.now c.see.new.self is h' lent.3.0 at w.in-Ok.ensures)
       | in-Err w ↦ rw w.result-is (sees_not _ s _ Observed c.args.node c.in-Some-stamp_of.seen c.args.reading
-          c.in-Some.issuer.now c.observe.new.self _ is h' lent.3.0 at w.in-Err.ensures)
+          c.in-Some.issuer.now c.see.new.self _ is h' lent.3.0 at w.in-Err.ensures)
     ]

@@ -1,10 +1,9 @@
--- The node sees the stamp of the message.
+-- The node sees the stamp of the message, which is kept under the message's number.
 use Rattle.std.proofs.Common.{◌≡◌, refl, sym, ◌∙◌, ap, Some}
 use Rattle.std.proofs.lemmas.Option.{slice_get_read}
 use Rattle.std.specs.Prelude.{slice_get}
-use Rattle.hlc_world.specs.Schedule.{message_at}
 use Rattle.hlc_world.specs.declared.reply.Reply.TheVariants.{Received}
-use Rattle.hlc_world.proofs.Nodes.{receive-is, sees, sees_not}
+use Rattle.hlc_world.proofs.Nodes.{message-there, receive-is, sees, sees_not}
 use Rattle.hlc_world.proofs.world.World.receive.Goals as goal
 use Rattle.hlc_world.proofs.world.World.receive.Goals.{in-Ok, in-Err}
 
@@ -14,13 +13,14 @@ returns-clause-stands c = λ s h.
     let lent = c.in-Some.ensures.item in
     let at = slice_get_read c.self.inside.nodes.items _ c.args.node c.in-Some.issuer.now refl lent.3.0 lent.1 in
     let l = c.in-Some-get.ensures.lookup in
-    let there : message_at c.args.message s ≡ Some c.in-Some-get.sent.now =
-    ap (λ xs. slice_get xs c.args.message) (sym h'.messages ∙ sym c.as_slice.ensures.value)
+    let kept : slice_get c.self.inside.sent_stamps.items c.args.message ≡ Some c.in-Some-get.sent.now =
+    ap (λ xs. slice_get xs c.args.message) (sym c.as_slice.ensures.value)
     ∙ slice_get_read c.as_slice.result.now _ c.args.message c.in-Some-get.sent.now refl l.3.0 l.1 in
-    let is = receive-is _ s c.args.node c.args.reading c.args.message c.in-Some-get.sent.now there in
-    elim c.match-receive.branch [
-      | in-Ok w ↦ rw w.result-is (sees _ s _ Received c.args.node c.in-Some-get.sent.now.stamp c.args.reading
-          w.in-Ok.stamp c.in-Some.issuer.now c.receive.new.self is h' lent.3.0 at w.in-Ok.ensures)
-      | in-Err w ↦ rw w.result-is (sees_not _ s _ Received c.args.node c.in-Some-get.sent.now.stamp c.args.reading
-          c.in-Some.issuer.now c.receive.new.self _ is h' lent.3.0 at w.in-Err.ensures)
+    let is = receive-is _ s c.args.node c.args.reading c.args.message c.in-Some-get.sent.now
+    (message-there _ s c.args.message _ h' kept) in
+    elim c.match-see.branch [
+      | in-Ok w ↦ rw w.result-is (sees _ s _ Received c.args.node c.in-Some-get.sent.now c.args.reading
+          w.in-Ok.stamp c.in-Some.issuer.now c.see.new.self is h' lent.3.0 at w.in-Ok.ensures)
+      | in-Err w ↦ rw w.result-is (sees_not _ s _ Received c.args.node c.in-Some-get.sent.now c.args.reading
+          c.in-Some.issuer.now c.see.new.self _ is h' lent.3.0 at w.in-Err.ensures)
     ]

@@ -21,12 +21,11 @@ returns-else-not-post-clause-stands c = λ s h.
     let at = slice_get_read c.self.inside.nodes.items _ c.args.node c.in-Some.issuer.now refl lent.3.0 lent.1 in
     let sender : c.node-sender.result ≡ c.in-Some.issuer.now.node = c.node-sender.ensures in
     let due = c.in-Ok.ensures.due in
-    let many : c.len-message.result ≡ length c.self.inside.messages.items =
-    omega (arith, c.len-message.ensures, c.self.inside.messages.ok.0) in
+    let many : c.len-message.result ≡ length c.self.inside.sent_stamps.items =
+    omega (arith, c.len-message.ensures, c.self.inside.sent_stamps.ok.0) in
     rw (c.go_on.ensures, many)
-    (sends _ s c.args.node c.args.reading c.in-Some.issuer.now c.send.new.self c.in-Ok.sent
-    c.post.new.messages.items h' lent.3.0 at
+    (sends _ s c.args.node c.args.reading c.in-Some.issuer.now c.send.new.self c.in-Ok.sent.stamp
+    c.post.new.stamps.items h' lent.3.0 at
     (ap (λ node. event_due node (node.last ∷ []) c.args.reading) (sym sender) ∙ due.0)
-    (due.1 ∙ ap (λ node. node.id) sender)
     (due.2 ∙ ap (λ node. stamped node c.in-Ok.sent.stamp) sender)
     c.if-not-post.ensures)
