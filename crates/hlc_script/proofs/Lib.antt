@@ -2,3 +2,4 @@ pub mod Lines
 pub mod Going
 pub mod Taken
 pub mod Outputs
+pub mod LineParts

@@ -13,6 +13,7 @@ use std::alloc::Global;
 
 /// The event of a line, with its bytes still as they are spelled, or none where no event has this
 /// line.
+#[inline(always)]
 pub fn read_line(line: &[u8]) -> Option<Event<Spelled<'_>>>
     ensures { Reads event_line HasLine line.now result }
 {
@@ -35,11 +36,11 @@ pub fn owned_event(alloc: Global, event: Event<Spelled<'_>>) -> Result<Event, No
         Event::Delete { node, reading, key } => Ok(Event::Delete {
             node,
             reading,
-            key: owned(alloc, key)?,
+            key: owned(alloc, &key)?,
         }),
         Event::Read { id, key } => Ok(Event::Read {
             id,
-            key: owned(alloc, key)?,
+            key: owned(alloc, &key)?,
         }),
         Event::Report { node, reading } => Ok(Event::Report { node, reading }),
         Event::Retire { node, reading } => Ok(Event::Retire { node, reading }),
@@ -79,14 +80,15 @@ fn owned_write(
     Ok(Event::Write {
         node,
         reading,
-        key: owned(alloc, key)?,
-        value: owned(alloc, value)?,
+        key: owned(alloc, &key)?,
+        value: owned(alloc, &value)?,
     })
 }
 
 /// The bytes by themselves. Up to 22 bytes that are their own spelling take no memory.
-fn owned(alloc: Global, spelled: Spelled<'_>) -> Result<Bytes, NoMemory>
-    ensures { IfOk result (λ owned. owned ≡ spelled.entry) }
+#[inline(always)]
+pub(crate) fn owned(alloc: Global, spelled: &Spelled<'_>) -> Result<Bytes, NoMemory>
+    ensures { IfOk result (λ owned. owned ≡ spelled.now) }
 {
     match spelled.as_word() {
         Some(word) => Bytes::from_slice(alloc, word),

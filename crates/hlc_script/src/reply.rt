@@ -1,5 +1,5 @@
 //! The lines of replies and refusals. Here alone a refusal has its number.
-ghost use Rattle.std.specs.Prelude.{map, ◌++◌, codes};
+ghost use Rattle.std.specs.Prelude.{map, ◌++◌, codes, Some, option_copied};
 ghost use Rattle.std.specs.List.{flat_map};
 ghost use Rattle.hlc_text.specs.Printing.{Prints};
 ghost use Rattle.hlc_text.specs.Text.{printed};
@@ -7,19 +7,22 @@ ghost use Rattle.hlc_script.specs.Reply.{reply_line, more_lines, pair_line, repo
 ghost use Rattle.hlc_script.specs.Reply.{answer_line};
 
 use hlc_certificate::put_witnesses;
-use hlc_text::print::{put, put_named_bytes, put_named_count, put_named_number, put_named_stamp};
+use hlc_text::print::{
+    put, put_named_bytes, put_named_count, put_named_number, put_named_stamp,
+    put_numbered_stamp_line, put_stamp_line,
+};
 use hlc_text::waiting::Waiting;
 use hlc_text::watched::Watched;
-use hlc_world::{Bytes, Pair, Refusal, Reply, Report};
+use hlc_world::{Pair, Refusal, Reply, Report};
 use std::io::Write;
 
 /// Prints the lines of a reply: one, and behind that of a listing one for each pair, behind that of
 /// a vacuum one for each change.
+#[inline(always)]
 pub fn put_reply<W: Write>(writer: &mut Watched<W>, waiting: &mut Waiting, reply: Reply)
     ensures { Prints W.contents writer.old writer.new waiting.old waiting.new (reply_text reply) }
 {
-    put_reply_text(writer, waiting, &reply);
-    put(writer, waiting, b"\n");
+    put_first_line(writer, waiting, &reply);
     put_more(writer, waiting, &reply);
 }
 
@@ -53,39 +56,50 @@ fn put_pair<W: Write>(writer: &mut Watched<W>, waiting: &mut Waiting, pair: &Pai
     put(writer, waiting, b"\n");
 }
 
-fn put_reply_text<W: Write>(writer: &mut Watched<W>, waiting: &mut Waiting, reply: &Reply)
+/// Prints the first line of a reply.
+#[inline(always)]
+fn put_first_line<W: Write>(writer: &mut Watched<W>, waiting: &mut Waiting, reply: &Reply)
     ensures { Prints W.contents writer.old writer.new waiting.old waiting.new
-        (reply_line reply.now) }
+        (printed (reply_line reply.now)) }
 {
     match reply {
         Reply::Stamped { stamp, item } => {
-            put_named_stamp(writer, waiting, b"stamp ", *stamp);
-            put_named_number(writer, waiting, b" item ", *item);
+            put_numbered_stamp_line(writer, waiting, b"stamp ", *stamp, b" item ", *item)
         }
         Reply::Joined { node, start } => {
             put_named_number(writer, waiting, b"joined ", *node as u64);
-            put_named_stamp(writer, waiting, b" start ", *start);
+            put_stamp_line(writer, waiting, b" start ", *start);
         }
         Reply::Sent { stamp, message } => {
-            put_named_stamp(writer, waiting, b"stamp ", *stamp);
-            put_named_number(writer, waiting, b" message ", *message);
+            put_numbered_stamp_line(writer, waiting, b"stamp ", *stamp, b" message ", *message)
         }
-        Reply::Received { stamp } => put_named_stamp(writer, waiting, b"stamp ", *stamp),
-        Reply::Observed { stamp } => put_named_stamp(writer, waiting, b"stamp ", *stamp),
-        Reply::Accepted { stamp } => put_named_stamp(writer, waiting, b"accepted ", *stamp),
+        Reply::Received { stamp } => put_stamp_line(writer, waiting, b"stamp ", *stamp),
+        Reply::Observed { stamp } => put_stamp_line(writer, waiting, b"stamp ", *stamp),
+        Reply::Accepted { stamp } => put_stamp_line(writer, waiting, b"accepted ", *stamp),
         Reply::Snapshot { id, stamp } => {
             put_named_number(writer, waiting, b"snapshot ", *id);
-            put_named_stamp(writer, waiting, b" at ", *stamp);
+            put_stamp_line(writer, waiting, b" at ", *stamp);
         }
-        Reply::Answer { value } => put_answer(writer, waiting, value),
+        Reply::Closed { stamp } => put_stamp_line(writer, waiting, b"closed ", *stamp),
+        Reply::Floor { stamp } => put_stamp_line(writer, waiting, b"floor ", *stamp),
+        Reply::Answer { value: None } => put(writer, waiting, b"none\n"),
+        Reply::Answer { value: Some(bytes) } => put_value(writer, waiting, bytes.as_slice()),
         Reply::Listing { pairs } => {
-            put_named_number(writer, waiting, b"listing ", pairs.len() as u64)
+            put_named_number(writer, waiting, b"listing ", pairs.len() as u64);
+            put(writer, waiting, b"\n");
         }
-        Reply::Closed { stamp } => put_named_stamp(writer, waiting, b"closed ", *stamp),
-        Reply::Floor { stamp } => put_named_stamp(writer, waiting, b"floor ", *stamp),
-        Reply::Vacuumed { report } => put_report(writer, waiting, report),
-        Reply::Rows { count } => put_named_count(writer, waiting, b"rows ", *count),
-        Reply::Refused(refusal) => put_refusal(writer, waiting, *refusal),
+        Reply::Vacuumed { report } => {
+            put_report(writer, waiting, report);
+            put(writer, waiting, b"\n");
+        }
+        Reply::Rows { count } => {
+            put_named_count(writer, waiting, b"rows ", *count);
+            put(writer, waiting, b"\n");
+        }
+        Reply::Refused(refusal) => {
+            put_refusal(writer, waiting, *refusal);
+            put(writer, waiting, b"\n");
+        }
     }
 }
 
@@ -99,14 +113,28 @@ fn put_report<W: Write>(writer: &mut Watched<W>, waiting: &mut Waiting, report: 
     put_named_count(writer, waiting, b" bytes ", report.bytes);
 }
 
-fn put_answer<W: Write>(writer: &mut Watched<W>, waiting: &mut Waiting, value: &Option<Bytes>)
+/// Prints the line of a key's value, or that of none.
+pub(crate) fn put_value_line<W: Write>(
+    writer: &mut Watched<W>,
+    waiting: &mut Waiting,
+    value: Option<&[u8]>,
+)
     ensures { Prints W.contents writer.old writer.new waiting.old waiting.new
-        (answer_line value.now) }
+        (reply_text (Reply.Answer (option_copied value.entry))) }
 {
     match value {
-        None => put(writer, waiting, b"none"),
-        Some(bytes) => put_named_bytes(writer, waiting, b"value ", bytes.as_slice()),
+        None => put(writer, waiting, b"none\n"),
+        Some(bytes) => put_value(writer, waiting, bytes),
     }
+}
+
+/// Prints the line of a value.
+fn put_value<W: Write>(writer: &mut Watched<W>, waiting: &mut Waiting, value: &[u8])
+    ensures { Prints W.contents writer.old writer.new waiting.old waiting.new
+        (printed (answer_line (Some value.now))) }
+{
+    put_named_bytes(writer, waiting, b"value ", value);
+    put(writer, waiting, b"\n");
 }
 
 /// Prints the text of a refusal: its number, and what the table of refusals adds.

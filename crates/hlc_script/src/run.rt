@@ -11,10 +11,11 @@ ghost use Rattle.hlc_world.specs.Schedule.{Event as AnEvent};
 ghost use Rattle.hlc_world.specs.declared.reply.Reply.{Reply as AReply};
 ghost use Rattle.hlc_world.specs.State.{StandsFor, world_nodes};
 ghost use Rattle.hlc_script.specs.Line.{header_line, header_words, HasHeader};
+ghost use Rattle.hlc_script.specs.Reply.{reply_text};
 ghost use Rattle.hlc_script.specs.Run.{Answers, AnswersLine, MayWrite, IsOfHeld, ReadsScript, RunsScript, status_of};
 
-use crate::line::{owned_event, read_line};
-use crate::reply::put_reply;
+use crate::line::{owned, owned_event, read_line};
+use crate::reply::{put_reply, put_value_line};
 use hlc_text::bytes::Spelled;
 use hlc_text::input::{InputFault, first_line, put_fault, read_input};
 use hlc_text::number;
@@ -206,17 +207,142 @@ fn answer_lines<W: Write>(
             put_bad_line(writer, waiting, number);
             return Some(number);
         };
-        let reply = answer_line(alloc, world, event);
-        put_reply(writer, waiting, reply);
+        answer_line(alloc, world, event, writer, waiting);
         rest = after;
         number += 1;
     }
     None
 }
 
+/// Prints the answer to a good line. The events that bear no bytes go to the world at once.
+#[inline(always)]
+fn answer_line<W: Write>(
+    alloc: Global,
+    world: &mut World,
+    event: Event<Spelled<'_>>,
+    writer: &mut Watched<W>,
+    waiting: &mut Waiting,
+)
+    ensures nodes { world_nodes world.new ≡ world_nodes world.old }
+    ensures answers { (reply : AReply)
+        × ((schedule : List (AnEvent × AReply)) → StandsFor world.old schedule
+        → (after : List (AnEvent × AReply))
+        × AnswersLine (world_nodes world.old) schedule event.entry reply after
+        × StandsFor world.new after)
+        × Prints W.contents writer.old writer.new waiting.old waiting.new (reply_text reply) }
+{
+    match &event {
+        Event::Report { node, reading } => {
+            let reply = world.report(*node, *reading);
+            put_reply(writer, waiting, reply);
+        }
+        Event::Send { node, reading } => {
+            let reply = world.send(*node, *reading);
+            put_reply(writer, waiting, reply);
+        }
+        Event::Receive {
+            node,
+            reading,
+            message,
+        } => {
+            let reply = world.receive(*node, *reading, *message);
+            put_reply(writer, waiting, reply);
+        }
+        Event::Deliver { node, number } => {
+            let reply = world.deliver(*node, *number);
+            put_reply(writer, waiting, reply);
+        }
+        _ => answer_other(alloc, world, event, writer, waiting),
+    }
+}
+
+/// The answer to a write: what the world replies to it, or want of memory where there was none for its bytes.
+#[inline(always)]
+fn reply_to_write(
+    alloc: Global,
+    world: &mut World,
+    node: u16,
+    reading: u64,
+    key: &Spelled<'_>,
+    value: &Spelled<'_>,
+) -> Reply
+    ensures nodes { world_nodes world.new ≡ world_nodes world.old }
+    ensures answers { (schedule : List (AnEvent × AReply)) → StandsFor world.old schedule
+        → (after : List (AnEvent × AReply))
+        × AnswersLine (world_nodes world.old) schedule (Event.Write node reading key.now value.now)
+        result after
+        × StandsFor world.new after }
+{
+    let Ok(key) = owned(alloc, key) else {
+        return Reply::Refused(Refusal::NoMemory);
+    };
+    let Ok(value) = owned(alloc, value) else {
+        return Reply::Refused(Refusal::NoMemory);
+    };
+    world.write(node, reading, key, value)
+}
+
+/// Prints the answer to a good line, whatever its event. A key that is read is looked up where it stands in the line,
+/// if it can be, and its value is printed from where it is stored.
+fn answer_other<W: Write>(
+    alloc: Global,
+    world: &mut World,
+    event: Event<Spelled<'_>>,
+    writer: &mut Watched<W>,
+    waiting: &mut Waiting,
+)
+    ensures nodes { world_nodes world.new ≡ world_nodes world.old }
+    ensures answers { (reply : AReply)
+        × ((schedule : List (AnEvent × AReply)) → StandsFor world.old schedule
+        → (after : List (AnEvent × AReply))
+        × AnswersLine (world_nodes world.old) schedule event.entry reply after
+        × StandsFor world.new after)
+        × Prints W.contents writer.old writer.new waiting.old waiting.new (reply_text reply) }
+{
+    if let Event::Write {
+        node,
+        reading,
+        key,
+        value,
+    } = &event
+    {
+        let reply = reply_to_write(alloc, world, *node, *reading, key, value);
+        put_reply(writer, waiting, reply);
+        return;
+    }
+    if let Event::Read { id, key } = &event {
+        if let Some(word) = key.as_word() {
+            answer_read(world, *id, word, writer, waiting);
+            return;
+        }
+    }
+    let reply = reply_to(alloc, world, event);
+    put_reply(writer, waiting, reply);
+}
+
+/// Prints the answer to a read.
+fn answer_read<W: Write>(
+    world: &World,
+    id: u64,
+    key: &[u8],
+    writer: &mut Watched<W>,
+    waiting: &mut Waiting,
+)
+    ensures { (reply : AReply)
+        × ((schedule : List (AnEvent × AReply)) → StandsFor world.now schedule
+        → StandsFor world.now ((Event.Read id key.now, reply) ∷ schedule))
+        × Prints W.contents writer.old writer.new waiting.old waiting.new (reply_text reply) }
+{
+    match world.look(id, key) {
+        Ok(value) => put_value_line(writer, waiting, value),
+        Err(refusal) => put_reply(writer, waiting, Reply::Refused(refusal)),
+    }
+}
+
 /// The answer to a good line: what the world replies to its event, or want of memory where there
 /// was none for the event's bytes.
-fn answer_line(alloc: Global, world: &mut World, event: Event<Spelled<'_>>) -> Reply
+#[inline(always)]
+fn reply_to(alloc: Global, world: &mut World, event: Event<Spelled<'_>>) -> Reply
     ensures nodes { world_nodes world.new ≡ world_nodes world.old }
     ensures answers { (schedule : List (AnEvent × AReply)) → StandsFor world.old schedule
         → (after : List (AnEvent × AReply))

@@ -1,6 +1,6 @@
--- The first line is printed, its line feed, and then the lines behind it.
+-- The first line is printed, and then the lines behind it.
 use Rattle.hlc_text.proofs.PrintLemmas.{printed_then}
 use Rattle.hlc_script.proofs.reply.put_reply.Goals as goal
 
 pub returns : goal.returns
-returns g c = printed_then (printed_then c.put_reply_text.ensures c.put.ensures) c.put_more.ensures
+returns g c = printed_then c.put_first_line.ensures c.put_more.ensures

@@ -14,13 +14,13 @@ returns-in_default g c =
 
 pub loop-rest-preserved : goal.loop-rest-preserved
 loop-rest-preserved g c = record {
-  nodes = c.answer_line-reply.ensures.nodes ∙ c.loop-rest.invariant.nodes;
+  nodes = c.answer_line.ensures.nodes ∙ c.loop-rest.invariant.nodes;
   bound = omega (arith, c.loop-rest.invariant.bound, c.first_line.ensures.shorter);
   going =
       going_more _ _ _ _ _ c.first_line.result.1.now _ _ _ _ _ _ _ _ _ _ _ _ _
       c.loop-rest.invariant.going c.first_line.ensures.line
-      c.in-Some.ensures.0 c.in-Some.ensures.1 c.loop-rest.invariant.nodes c.answer_line-reply.ensures.answers
-      c.put_reply.ensures;
+      c.in-Some.ensures.0 c.in-Some.ensures.1 c.loop-rest.invariant.nodes c.answer_line.ensures.answers.1
+      c.answer_line.ensures.answers.2;
 }
 
 pub returns : goal.returns
