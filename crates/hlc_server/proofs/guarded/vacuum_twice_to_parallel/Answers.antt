@@ -15,7 +15,8 @@ returns-in-Ok g c =
       tt,
       λ history stands.
           let made = c.in-Ok.ensures.stands (past_of history) stands.core in
-          subst (λ r. IsStep c.args.core.now c.vacuum_pair_to_parallel.new.self (VacuumTo c.args.at) history (Vacuumed r))
+          subst (λ r. IsStep c.args.core.now c.vacuum_pair_to_parallel.new.self (VacuumTo c.args.at) history
+          (Vacuumed r))
           (sym c.with.ensures)
           (vacuum_is_step c.args.core.now c.vacuum_pair_to_parallel.new.self c.args.at history c.in-Ok.report
           c.in-Ok.ensures.nodes stands made.0 made.2),
