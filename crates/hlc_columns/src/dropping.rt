@@ -11,7 +11,7 @@ impl Filled for BoxedColumn {
     ghost is_filled = { λ cells. nat_lt 0 (length cells) };
 
     fn is_filled(&self) -> bool {
-        !self.get().is_empty()
+        self.get().len() > 0
     }
 }
 

@@ -15,9 +15,10 @@ const FEW: usize = 16;
 pub(crate) fn stamp_at(stamps: &[u64], place: usize) -> u64
     ensures { result ≡ slice_index stamps.now place }
 {
-    match stamps.get(place) {
-        Some(stamp) => *stamp,
-        None => 0,
+    if place < stamps.len() {
+        stamps[place]
+    } else {
+        0
     }
 }
 
@@ -25,10 +26,7 @@ pub(crate) fn stamp_at(stamps: &[u64], place: usize) -> u64
 pub(crate) fn node_at(nodes: &[u16], place: usize) -> u16
     ensures { result ≡ slice_index nodes.now place }
 {
-    match nodes.get(place) {
-        Some(node) => *node,
-        None => 0,
-    }
+    if place < nodes.len() { nodes[place] } else { 0 }
 }
 
 /// Whether a row is below one that came later.
@@ -81,9 +79,7 @@ fn greatest_place(stamps: &[u64], nodes: &[u16], stamp: u64) -> Option<usize>
     requires { length nodes.now ≡ length stamps.now }
     ensures { IsGreatestAt stamps.now nodes.now stamp result }
 {
-    let Some(node) = greatest_node(stamps, nodes, stamp) else {
-        return None;
-    };
+    let node = greatest_node(stamps, nodes, stamp)?;
     place_of(stamps, nodes, stamp, node)
 }
 

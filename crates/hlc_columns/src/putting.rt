@@ -28,9 +28,7 @@ pub(crate) struct RowParts<'a> {
 pub(crate) fn find_last(columns: &Index<BoxedColumn>, key: &[u8]) -> Option<(usize, usize)>
     ensures { IsPlace columns.now key.now result }
 {
-    let Some((at, slot)) = columns.last() else {
-        return None;
-    };
+    let (at, slot) = columns.last()?;
     let leaf = columns.leaf(at);
     match key.cmp(leaf[slot].0.as_slice()) {
         Ordering::Less => columns.find(key),
@@ -90,14 +88,47 @@ pub(crate) fn put_copy(
     let Some(more) = count.checked_add(1) else {
         return Err(NoMemory);
     };
-    let put = match place {
-        Some((at, slot)) => push_copy(columns, alloc, at, slot, row),
-        None => add_copy(columns, alloc, row),
-    };
+    let put = add_copy(columns, alloc, place, row);
     if put.is_ok() {
         *count = more;
     }
     put
+}
+
+/// The same, without the count.
+fn add_copy(
+    columns: &mut Index<BoxedColumn>,
+    alloc: Global,
+    place: Option<(usize, usize)>,
+    row: &RowParts<'_>,
+) -> Result<(), NoMemory>
+    requires place { IsPlace columns.old row.now.key.now place }
+    requires filled { AreFilled columns.old }
+    ensures ok { OnOk result (Inserted (indexed_rows columns.old) (parts_row row.now)
+        (indexed_rows columns.new)) }
+    ensures err { OnErr result (indexed_rows columns.new ≡ indexed_rows columns.old) }
+    ensures filled { AreFilled columns.new }
+{
+    let stamp = row.stamp;
+    let node = row.node;
+    let value = copy_of(alloc, row.value)?;
+    let Some((at, slot)) = place else {
+        let key = Bytes::from_slice(alloc, row.key)?;
+        let row = Row {
+            key,
+            stamp,
+            node,
+            value,
+        };
+        return match add_row(columns, alloc, row) {
+            Ok(()) => Ok(()),
+            Err(_) => Err(NoMemory),
+        };
+    };
+    match push_at(columns, at, slot, stamp, node, value) {
+        Ok(()) => Ok(()),
+        Err(_) => Err(NoMemory),
+    }
 }
 
 /// Puts a row last in the column at a place, whose key it has.
@@ -122,37 +153,21 @@ fn push_row(
     } = row;
     match push_at(columns, at, slot, stamp, node, value) {
         Ok(()) => Ok(()),
-        Err(AllocFailed { value }) => Err(AllocFailed {
-            value: Row {
-                key,
-                stamp,
-                node,
-                value,
-            },
-        }),
+        Err(AllocFailed { value }) => Err(given_back(key, stamp, node, value)),
     }
 }
 
-/// Puts a copy of a row last in the column at a place, whose key it has.
-fn push_copy(
-    columns: &mut Index<BoxedColumn>,
-    alloc: Global,
-    at: usize,
-    slot: usize,
-    row: &RowParts<'_>,
-) -> Result<(), NoMemory>
-    requires there { IsEntryAt columns.old row.now.key.now at slot }
-    requires filled { AreFilled columns.old }
-    ensures ok { OnOk result (Inserted (indexed_rows columns.old) (parts_row row.now)
-        (indexed_rows columns.new)) }
-    ensures err { OnErr result (indexed_rows columns.new ≡ indexed_rows columns.old) }
-    ensures filled { AreFilled columns.new }
+/// The answer of a call that had no memory for a row.
+fn given_back(key: Bytes, stamp: Stamp, node: u16, value: Option<Bytes>) -> AllocFailed<Row>
+    ensures { result.value ≡ record { key = key; stamp = stamp; node = node; value = value } }
 {
-    let value = copy_of(alloc, row.value)?;
-    match push_at(columns, at, slot, row.stamp, row.node, value) {
-        Ok(()) => Ok(()),
-        Err(_) => Err(NoMemory),
-    }
+    let row = Row {
+        key,
+        stamp,
+        node,
+        value,
+    };
+    AllocFailed { value: row }
 }
 
 /// Puts a row last in the column at a place. Where memory lacks, its value comes back.
@@ -215,16 +230,7 @@ fn add_row(
     } = row;
     let column = match BoxedColumn::of_row(alloc, stamp, node, value) {
         Ok(column) => column,
-        Err(AllocFailed { value }) => {
-            return Err(AllocFailed {
-                value: Row {
-                    key,
-                    stamp,
-                    node,
-                    value,
-                },
-            });
-        }
+        Err(AllocFailed { value }) => return Err(given_back(key, stamp, node, value)),
     };
     match columns.insert(key, column) {
         Ok(()) => Ok(()),
@@ -232,43 +238,6 @@ fn add_row(
             AllocFailed {
                 value: (key, column),
             },
-        ) => Err(AllocFailed {
-            value: Row {
-                key,
-                stamp,
-                node,
-                value: column.into_value(),
-            },
-        }),
-    }
-}
-
-/// Adds a column of one row, a copy, whose key is new.
-fn add_copy(
-    columns: &mut Index<BoxedColumn>,
-    alloc: Global,
-    row: &RowParts<'_>,
-) -> Result<(), NoMemory>
-    requires new { lookup (is_key row.now.key.now) (entries_in columns.old) ≡ None }
-    requires filled { AreFilled columns.old }
-    ensures ok { OnOk result (Inserted (indexed_rows columns.old) (parts_row row.now)
-        (indexed_rows columns.new)) }
-    ensures err { OnErr result (indexed_rows columns.new ≡ indexed_rows columns.old) }
-    ensures filled { AreFilled columns.new }
-{
-    let value = copy_of(alloc, row.value)?;
-    let key = Bytes::from_slice(alloc, row.key)?;
-    match add_row(
-        columns,
-        alloc,
-        Row {
-            key,
-            stamp: row.stamp,
-            node: row.node,
-            value,
-        },
-    ) {
-        Ok(()) => Ok(()),
-        Err(_) => Err(NoMemory),
+        ) => Err(given_back(key, stamp, node, column.into_value())),
     }
 }

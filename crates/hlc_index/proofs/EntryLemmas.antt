@@ -1,6 +1,6 @@
 -- For callers: the entry of a key at a slot of a leaf, and the entries leaf by leaf.
 use Rattle.std.proofs.Common.{◌≡◌, ◌<◌, ◌+◌, ◌++◌, ◌∷◌, ◌∙◌, ℕ, zero, suc, List, [], Some, get_or, length, arith, refl}
-use Rattle.std.proofs.Common.{ap, sym, take, drop}
+use Rattle.std.proofs.Common.{ap, take}
 use Rattle.std.specs.Prelude.{slice_get}
 use Rattle.std.specs.Map.{lookup, set_value}
 use Rattle.std.specs.List.Sorted.{IsStrictlySortedBy}

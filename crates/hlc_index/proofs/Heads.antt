@@ -10,7 +10,7 @@ use Rattle.std.specs.Cmp.Lexicographic.{nat_list_cmp_total}
 use Rattle.std.specs.Cmp.Lexicographic.{texts_ties}
 use Rattle.std.specs.Ordering.{is_eq}
 use Rattle.std.proofs.lemmas.Slice.Eq.{bytes_eq-Decides}
-use Rattle.std.proofs.lemmas.List.{get_or-map, length-map, get_or-drop, drop_all}
+use Rattle.std.proofs.lemmas.List.{get_or-map, length-map, get_or-drop, drop_all, get_or_past}
 use Rattle.std.proofs.Common.{map, drop, ap₂}
 use Rattle.hlc_index.specs.Entries.{IsBelowAt, IsAboveAt}
 use Rattle.hlc_index.specs.Head.{head_of, head_upto, AreBytes}
@@ -187,3 +187,24 @@ module _ {V : Type 0} (es now : List (List ℕ × V)) (view : es ≡ now) (heads
   told_above lt =
       above_by_head (keys_in now) slice heads_are bytes_are key own n
       (λ inside. subst (λ m. m < get_or slice n 0) is (lt (omega (arith, inside, as_many))))
+
+-- keys with the same bytes, one of which may go on with zeros, compare as their lengths
+same_upto : (a b : List ℕ) → ((i : ℕ) → get_or a i 0 ≡ get_or b i 0) → key_cmp a b ≡ nat_cmp (length a) (length b)
+same_upto [] [] f = refl
+same_upto [] (y ∷ ys) f = grind (arith, nat_tests)
+same_upto (x ∷ xs) [] f = grind (arith, nat_tests)
+same_upto (x ∷ xs) (y ∷ ys) f =
+    ap (λ o. ordering_then o (slice_cmp nat_cmp xs ys)) (is_equal x y (f 0))
+    ∙ same_upto xs ys (λ i. f (suc i))
+    ∙ grind (arith, nat_tests)
+
+-- of keys that are no longer than a head, one head and the lengths tell all
+pub alike_short : (a b : List ℕ) → AreBytes a → AreBytes b → head_of a ≡ head_of b → length a ≤ 16 → length b ≤ 16
+    → key_cmp a b ≡ nat_cmp (length a) (length b)
+alike_short a b p q e la lb = same_upto a b each
+  where
+    each : (i : ℕ) → get_or a i 0 ≡ get_or b i 0
+    each i = elim (cases_lt i 16) [
+      | inl below ↦ digits 16 a b p q e i below
+      | inr above ↦ get_or_past a i 0 (omega (arith, above, la)) ∙ sym (get_or_past b i 0 (omega (arith, above, lb)))
+    ]

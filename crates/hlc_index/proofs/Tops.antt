@@ -187,6 +187,28 @@ module _ {V : Type 0} where
         above_by_head (first_keys now) slice heads_are bytes_are key own n
         (λ inside. subst (λ m. m < get_or slice n 0) is (lt (omega (arith, inside, as_many))))
 
+    pub told_alike : n < length slice → get_or slice n 0 ≡ head → head_of (get_or (first_keys now) n []) ≡ head
+    told_alike inside alike =
+        sym (get_or-map head_of (first_keys now) n [] 0 (omega (arith, inside, as_many)))
+        ∙ ap (λ (hs : List ℕ). get_or hs n 0) (sym heads_are) ∙ alike
+
+    pub told_inside : n < length slice → n < length now
+    told_inside inside = let m = length-map now first_key in omega (arith, inside, as_many, m)
+
+  pub first_bytes : (tops : List ℕ) (leaves now : List (List (List ℕ × V))) (n : ℕ) → AreLeaves tops leaves → leaves ≡ now
+      → n < length now → AreBytes (get_or (first_keys now) n [])
+  first_bytes tops leaves now n inv view inside =
+      subst (λ (l : List (List (List ℕ × V))). All AreBytes (first_keys l)) view inv.1 n []
+      (let m = length-map now first_key in omega (arith, inside, m))
+
+  pub first_read : (leaves now : List (List (List ℕ × V))) (n : ℕ) (leaf : List (List ℕ × V)) (key : List ℕ)
+      → leaves ≡ now → n < length now → leaf ≡ get_or leaves n leaf → key ≡ get_or (keys_in leaf) 0 []
+      → key ≡ get_or (first_keys now) n []
+  first_read leaves now n leaf key view inside read is =
+      let few : n < length leaves = let long = ap length view in omega (arith, inside, long) in
+      is ∙ ap first_key (get_or_read leaves n leaf few read []) ∙ sym (get_or-map first_key leaves n [] [] few)
+      ∙ ap (λ (l : List (List (List ℕ × V))). get_or (first_keys l) n []) view
+
   pub leaves_valued : (tops : List ℕ) (leaves : List (List (List ℕ × V))) (at slot : ℕ) (leaf : List (List ℕ × V)) (w :
       V)
       → AreLeaves tops leaves → at < length leaves → leaf ≡ get_or leaves at leaf

@@ -1,6 +1,15 @@
 //! The head of a key: its first sixteen bytes as one number.
-ghost use Rattle.std.specs.Prelude.{◌≡◌, ◌-◌, ◌≤◌, ◌<◌, IsTrue, false, length, slice_index};
+ghost use Rattle.std.specs.Prelude.{◌≡◌, ◌+◌, ◌-◌, ◌*◌, ◌≤◌, ◌<◌, IsTrue, false, length, slice_index};
+ghost use Rattle.hlc_index.specs.Entries.{key_cmp};
 ghost use Rattle.hlc_index.specs.Head.{head_of, head_upto, AreBytes};
+
+use std::cmp::Ordering;
+
+/// A head has so many bytes.
+const HEAD: usize = 16;
+
+/// So many heads at equal distances are compared at once.
+const SAMPLES: usize = 16;
 
 /// What a number of eight bytes is multiplied by to stand in front of eight others.
 const ABOVE: u128 = 0x1_0000_0000_0000_0000;
@@ -49,23 +58,63 @@ fn byte_at(key: &[u8], i: usize) -> u8
     if i < key.len() { key[i] } else { 0 }
 }
 
+/// How two keys of one head compare. Where neither is longer than a head, their lengths tell.
+pub(crate) fn compare_alike(key: &[u8], other: &[u8]) -> Ordering
+    requires alike { head_of key.now ≡ head_of other.now }
+    requires bytes { AreBytes key.now }
+    requires other_bytes { AreBytes other.now }
+    ensures { result ≡ key_cmp key.now other.now }
+{
+    if key.len() <= HEAD && other.len() <= HEAD {
+        return key.len().cmp(&other.len());
+    }
+    key.cmp(other)
+}
+
+/// How many of some heads are below a head: of those that lie a step apart from a place on.
+fn samples_below(heads: &[u128], from: usize, step: usize, head: u128) -> usize
+    requires step { 0 < step }
+    requires inside { from + SAMPLES * step ≤ length heads.now }
+    ensures { result ≤ SAMPLES }
+{
+    let mut count = 0;
+    let mut at = from + step - 1;
+    for _ in 0..SAMPLES {
+        count += (heads[at] < head) as usize;
+        at += step;
+    }
+    count
+}
+
+/// About where a head stands among heads that rise: at most `SAMPLES` in front of its place. It compares many heads at
+/// once and never waits for an answer to know which to compare next, as a search by halves does.
+fn place_near(heads: &[u128], head: u128) -> usize
+    ensures { result ≤ length heads.now }
+{
+    let mut low = 0;
+    let mut high = heads.len();
+    while high - low > SAMPLES {
+        let step = (high - low) / SAMPLES;
+        low += step * samples_below(heads, low, step, head);
+        high = high.min(low + step);
+    }
+    low
+}
+
 /// How many of the first heads are below a head, where no later one is below it.
 fn count_below(heads: &[u128], head: u128) -> usize
     ensures inside { result ≤ length heads.now }
     ensures below { 0 < result → slice_index heads.now (result - 1) < head }
     ensures above { result < length heads.now → head ≤ slice_index heads.now result }
 {
-    let mut low = 0;
-    let mut high = heads.len();
-    while low < high {
-        let middle = low + (high - low) / 2;
-        if heads[middle] < head {
-            low = middle + 1;
-        } else {
-            high = middle;
-        }
+    let mut place = place_near(heads, head);
+    while place > 0 && heads[place - 1] >= head {
+        place -= 1;
     }
-    low
+    while place < heads.len() && heads[place] < head {
+        place += 1;
+    }
+    place
 }
 
 /// How many of the first heads are below a head, where no later one is below it, and whether the next is that head.
@@ -73,6 +122,7 @@ pub(crate) fn place_of_head(heads: &[u128], head: u128) -> (usize, bool)
     ensures inside { result.0 ≤ length heads.now }
     ensures below { 0 < result.0 → slice_index heads.now (result.0 - 1) < head }
     ensures alike { IsTrue result.1 → result.0 < length heads.now }
+    ensures same { IsTrue result.1 → slice_index heads.now result.0 ≡ head }
     ensures apart { result.1 ≡ false → result.0 < length heads.now
         → head < slice_index heads.now result.0 }
 {

@@ -10,7 +10,7 @@ ghost use Rattle.std.specs.Borrow.{Lends, sem};
 ghost use Rattle.hlc_index.specs.contracts.leaf.Leaf.{the_row};
 
 use crate::filled::Filled;
-use crate::head::{head_of, place_of_head};
+use crate::head::{compare_alike, head_of, place_of_head};
 use hlc_node::Bytes;
 use hlc_values::NoMemory;
 use std::alloc::{AllocFailed, Global};
@@ -87,7 +87,7 @@ impl<V> Leaf<V> {
         if !is_alike {
             return (first, false);
         }
-        match self.key(first).cmp(key) {
+        match compare_alike(self.key(first), key) {
             Ordering::Equal => (first, true),
             Ordering::Greater => (first, false),
             Ordering::Less => self.find_from(first + 1, key),

@@ -11,7 +11,7 @@ ghost use Rattle.std.specs.Prelude.{slice_get, Some};
 ghost use Rattle.hlc_index.specs.contracts.leaves.Leaves.{the_row};
 
 use crate::filled::Filled;
-use crate::head::place_of_head;
+use crate::head::{compare_alike, place_of_head};
 use crate::leaf::{Leaf, MOST_ENTRIES};
 use hlc_node::Bytes;
 use hlc_values::NoMemory;
@@ -88,7 +88,48 @@ impl<V: Drop> Leaves<V> {
         if !is_alike {
             return place;
         }
-        self.count_from(place, key)
+        self.count_alike(place, key, head)
+    }
+
+    /// The same where a leaf begins at the head of the key, and all in front of it below.
+    fn count_alike(&self, place: usize, key: &[u8], head: u128) -> usize
+        requires inside { place < length self.now }
+        requires alike { head_of (slice_index_or (first_keys self.now) place []) ≡ head }
+        requires upto { IsUptoAt (first_keys self.now) place key.now }
+        requires head { head ≡ head_of key.now }
+        requires bytes { AreBytes key.now }
+        ensures inside { result ≤ length self.now }
+        ensures upto { IsUptoAt (first_keys self.now) result key.now }
+        ensures above { IsAboveAt (first_keys self.now) result key.now }
+    {
+        let count = self.len();
+        if place + 1 < count && !self.is_above(place + 1, key, head) {
+            return self.count_from(place, key);
+        }
+        match compare_alike(self.first_key(place), key) {
+            Ordering::Greater => place,
+            _ => place + 1,
+        }
+    }
+
+    /// Whether the head of a key tells that a leaf begins above it.
+    fn is_above(&self, at: usize, key: &[u8], head: u128) -> bool
+        requires inside { at < length self.now }
+        requires head { head ≡ head_of key.now }
+        requires bytes { AreBytes key.now }
+        ensures { IsTrue result → IsAboveAt (first_keys self.now) at key.now }
+    {
+        self.tops[at] > head
+    }
+
+    /// The first key of a leaf.
+    fn first_key(&self, at: usize) -> &[u8]
+        requires { at < length self.now }
+        ensures key { result.now ≡ slice_index_or (first_keys self.now) at [] }
+        ensures bytes { AreBytes result.now }
+    {
+        let _ = &self.tops;
+        self.leaves[at].key(0)
     }
 
     /// The same by whole keys, from a leaf on.
@@ -103,7 +144,7 @@ impl<V: Drop> Leaves<V> {
         let mut high = self.len();
         while low < high {
             let middle = low + (high - low) / 2;
-            if self.leaf(middle).key(0).cmp(key) == Ordering::Greater {
+            if self.first_key(middle).cmp(key) == Ordering::Greater {
                 high = middle;
             } else {
                 low = middle + 1;

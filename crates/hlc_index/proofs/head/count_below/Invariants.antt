@@ -1,14 +1,18 @@
--- The heads below are in front of the part that is left, and the others behind it.
+-- First the heads behind the place are not below, and then none in front of it is passed over.
 use Rattle.std.proofs.Common.{◌-◌, ◌≤◌, ◌<◌, length, slice_index}
 use Rattle.hlc_index.proofs.head.count_below.Given as goal
 
-abbrev pub invariant-loop-low : goal.invariant-loop-low
-invariant-loop-low l = record {
-  order : l.low ≤ l.high;
-  inside : l.high ≤ length l.heads;
-  below : 0 < l.low → slice_index l.heads (l.low - 1) < l.head;
-  above : l.high < length l.heads → l.head ≤ slice_index l.heads l.high;
+abbrev pub invariant-loop-place : goal.invariant-loop-place
+invariant-loop-place l = l.place ≤ length l.heads
+
+abbrev pub decreases-loop-place : goal.decreases-loop-place
+decreases-loop-place l = l.place
+
+abbrev pub invariant-loop-place-2 : goal.invariant-loop-place-2
+invariant-loop-place-2 l = record {
+  inside : l.place ≤ length l.heads;
+  below : 0 < l.place → slice_index l.heads (l.place - 1) < l.head;
 }
 
-abbrev pub decreases-loop-low : goal.decreases-loop-low
-decreases-loop-low l = l.high - l.low
+abbrev pub decreases-loop-place-2 : goal.decreases-loop-place-2
+decreases-loop-place-2 l = length l.heads - l.place

@@ -26,5 +26,5 @@ returns-then-not-is_alike-clause-above g c =
     c.requires.head
     (c.place_of_head-place.ensures.apart c.if-not-is_alike.true)
 
-pub count_from-requires-clause-upto : goal.count_from-requires-clause-upto
-count_from-requires-clause-upto g c = upto g (goal.at.count_from-requires-clause-upto g c).After-place_of_head-place
+pub count_alike-requires-clause-upto : goal.count_alike-requires-clause-upto
+count_alike-requires-clause-upto g c = upto g (goal.at.count_alike-requires-clause-upto g c).After-place_of_head-place
