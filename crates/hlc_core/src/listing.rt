@@ -9,6 +9,7 @@ ghost use Rattle.hlc_core.specs.Listing.{IsListing, pair_of, pairs_of};
 use hlc_clock::Stamp;
 use hlc_columns::{Keyed, Table};
 use hlc_node::Bytes;
+use hlc_vacuum::rows_ahead;
 use hlc_values::{Exact, Listed, NoMemory};
 use std::alloc::Global;
 
@@ -37,15 +38,16 @@ pub fn listing_at(alloc: Global, table: &Table, stamp: Stamp) -> Result<Listing,
     Ok(Listing::from_vec(pairs))
 }
 
-/// Of the keys of these columns in turn, those that have a value at a stamp, with that value. Each
-/// key's own column is asked.
+/// Of the keys of these columns in turn, those that have a value at a stamp, with it. Each key's own column is asked.
 fn pairs_at(alloc: Global, columns: &[Keyed], stamp: Stamp) -> Result<Vec<Pair>, NoMemory>
     requires { AreAlone columns.now }
     ensures { IfOk result
         (λ pairs. pairs.items ≡ pairs_of (rows_in columns.now) stamp (keys_in columns.now)) }
 {
     let mut pairs = Vec::new(alloc);
-    for one in columns {
+    for i in 0..columns.len() {
+        pairs.reserve(rows_ahead(columns, i).min(columns.len() - i))?;
+        let one = &columns[i];
         push_told(alloc, &mut pairs, one.key(), one.column().answer(stamp))?;
     }
     Ok(pairs)

@@ -1,0 +1,22 @@
+//! Columns fetched from memory before they are read.
+ghost use Rattle.std.specs.Prelude.{◌<◌, length};
+
+use hlc_columns::Keyed;
+
+/// So many columns are fetched together.
+const AHEAD: usize = 64;
+
+/// How many rows the next 64 columns have, asked at every 64th place, and 0 at the others. None of these looks waits for
+/// the one before it, so who then goes through those columns does not wait for memory at each.
+pub fn rows_ahead(columns: &[Keyed], from: usize) -> usize
+    requires { from < length columns.now }
+{
+    if from % AHEAD != 0 {
+        return 0;
+    }
+    let mut rows = 0usize;
+    for i in from..columns.len().min(from.saturating_add(AHEAD)) {
+        rows = rows.saturating_add(columns[i].column().fetched_len());
+    }
+    rows
+}
