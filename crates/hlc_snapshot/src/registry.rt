@@ -1,6 +1,6 @@
 //! The registry of open snapshots.
 ghost use Rattle.std.specs.Prelude.{◌≡◌, ℕ, ◌+◌, ◌<◌, ◌≤◌, ◌==◌, [], ◌∷◌, ◌++◌, ◌↔◌, IsTrue, length};
-ghost use Rattle.std.specs.Prelude.{if◌then◌else◌, All, IfOk, IfErr, OnErr};
+ghost use Rattle.std.specs.Prelude.{if◌then◌else◌, All, IfOk, IfErr, IfSome, OnErr};
 ghost use Rattle.hlc_snapshot.specs.Register.{IsRegister, IsRefusal, closed, opened_at, room_refusal};
 ghost use Rattle.hlc_snapshot.specs.Register.{ids_rise, stamp_in, stamps, stamps_to};
 ghost use Rattle.hlc_clock.specs.Points.{ArePoints};
@@ -103,12 +103,17 @@ impl Registry {
         Ok(id)
     }
 
-    /// The stamp of the open snapshot that has this id. It costs a binary search of the ids.
+    /// The stamp of the open snapshot that has this id. It costs one look where no snapshot from the oldest open one to
+    /// this one was closed, and else a binary search of the ids.
     pub fn stamp_of(&self, id: u64) -> Option<Stamp>
         ensures value { result ≡ stamp_in id self.now.snapshots }
         ensures register { IsRegister self.now }
     {
         let snapshots = self.snapshots.as_slice();
+        let stamp = stamp_at(snapshots, place_after_oldest(snapshots, id), id);
+        if stamp.is_some() {
+            return stamp;
+        }
         match snapshots.get(count_below(snapshots, id)) {
             Some(snapshot) if snapshot.id == id => Some(snapshot.stamp),
             _ => None,
@@ -182,6 +187,27 @@ pub fn is_register(snapshots: &[Snapshot], opened: u64) -> bool
         return false;
     }
     do_ids_rise(snapshots, opened)
+}
+
+/// Where a snapshot stands if none from the oldest open one to this one was closed: ids are given in turn.
+fn place_after_oldest(snapshots: &[Snapshot], id: u64) -> usize {
+    match snapshots.first() {
+        Some(oldest) => id.saturating_sub(oldest.id) as usize,
+        None => 0,
+    }
+}
+
+/// The stamp of the snapshot at a place, if it has this id.
+fn stamp_at(snapshots: &[Snapshot], place: usize, id: u64) -> Option<Stamp>
+    requires { AllPairs (λ older newer. older.id < newer.id) snapshots.now }
+    ensures { IfSome result (λ stamp. stamp_in id snapshots.now ≡ Some stamp) }
+{
+    let snapshot = snapshots.get(place)?;
+    if snapshot.id == id {
+        Some(snapshot.stamp)
+    } else {
+        None
+    }
 }
 
 /// How many snapshots have a lower id. They stand in front.
