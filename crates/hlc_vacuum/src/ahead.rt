@@ -1,5 +1,6 @@
 //! Columns fetched from memory before they are read.
-ghost use Rattle.std.specs.Prelude.{◌<◌, length};
+ghost use Rattle.std.specs.Prelude.{◌≤◌, ◌<◌, length};
+ghost use Rattle.hlc_columns.specs.Rows.{rows_in};
 
 use hlc_columns::Keyed;
 
@@ -10,6 +11,7 @@ const AHEAD: usize = 64;
 /// the one before it, so who then goes through those columns does not wait for memory at each.
 pub fn rows_ahead(columns: &[Keyed], from: usize) -> usize
     requires { from < length columns.now }
+    ensures { result ≤ length (rows_in columns.now) }
 {
     if from % AHEAD != 0 {
         return 0;
