@@ -1,5 +1,5 @@
 //! The head of a key: its first sixteen bytes as one number.
-ghost use Rattle.std.specs.Prelude.{◌≡◌, ◌+◌, ◌-◌, ◌*◌, ◌≤◌, ◌<◌, IsTrue, false, length, slice_index};
+ghost use Rattle.std.specs.Prelude.{◌≡◌, ◌-◌, ◌*◌, ◌≤◌, ◌<◌, IsTrue, false, length, slice_index};
 ghost use Rattle.hlc_index.specs.Entries.{key_cmp};
 ghost use Rattle.hlc_index.specs.Head.{head_of, head_upto, AreBytes};
 
@@ -8,8 +8,11 @@ use std::cmp::Ordering;
 /// A head has so many bytes.
 const HEAD: usize = 16;
 
-/// So many heads at equal distances are compared at once.
-const SAMPLES: usize = 16;
+/// Among more heads than these a place is sought by halves first.
+const MANY: usize = 256;
+
+/// Of so many heads side by side the last is compared first.
+const RUN: usize = 16;
 
 /// What a number of eight bytes is multiplied by to stand in front of eight others.
 const ABOVE: u128 = 0x1_0000_0000_0000_0000;
@@ -71,43 +74,67 @@ pub(crate) fn compare_alike(key: &[u8], other: &[u8]) -> Ordering
     key.cmp(other)
 }
 
-/// How many of some heads are below a head: of those that lie a step apart from a place on.
-fn samples_below(heads: &[u128], from: usize, step: usize, head: u128) -> usize
-    requires step { 0 < step }
-    requires inside { from + SAMPLES * step ≤ length heads.now }
-    ensures { result ≤ SAMPLES }
+/// The bounds of at most `MANY` heads among which a head has its place, where they rise.
+fn narrowed(heads: &[u128], head: u128) -> (usize, usize)
+    ensures order { result.0 ≤ result.1 }
+    ensures inside { result.1 ≤ length heads.now }
+{
+    let mut low = 0;
+    let mut high = heads.len();
+    while high - low > MANY {
+        let middle = low + (high - low) / 2;
+        if heads[middle] < head {
+            low = middle + 1;
+        } else {
+            high = middle;
+        }
+    }
+    (low, high)
+}
+
+/// How many runs of heads end below a head.
+fn runs_below(heads: &[u128], head: u128) -> usize
+    ensures { RUN * result ≤ length heads.now }
 {
     let mut count = 0;
-    let mut at = from + step - 1;
-    for _ in 0..SAMPLES {
-        count += (heads[at] < head) as usize;
-        at += step;
+    let mut at = 0;
+    while heads.len() - at >= RUN {
+        count += (heads[at + RUN - 1] < head) as usize;
+        at += RUN;
     }
     count
 }
 
-/// About where a head stands among heads that rise: at most `SAMPLES` in front of its place. It compares many heads at
-/// once and never waits for an answer to know which to compare next, as a search by halves does.
-fn place_near(heads: &[u128], head: u128) -> usize
+/// How many of some heads are below a head.
+fn heads_below(heads: &[u128], head: u128) -> usize
     ensures { result ≤ length heads.now }
 {
-    let mut low = 0;
-    let mut high = heads.len();
-    while high - low > SAMPLES {
-        let step = (high - low) / SAMPLES;
-        low += step * samples_below(heads, low, step, head);
-        high = high.min(low + step);
+    let mut count = 0;
+    for i in 0..heads.len() {
+        count += (heads[i] < head) as usize;
     }
-    low
+    count
 }
 
-/// How many of the first heads are below a head, where no later one is below it.
+/// Where a head stands among heads that rise. Of others it is some place. What is compared next does not depend on what
+/// was found, as it does by halves, so a processor waits for no answer and guesses none.
+fn likely_place(heads: &[u128], head: u128) -> usize
+    ensures { result ≤ length heads.now }
+{
+    let (low, high) = narrowed(heads, head);
+    let run = low + RUN * runs_below(&heads[low..high], head);
+    let end = high.min(run + RUN);
+    run + heads_below(&heads[run..end], head)
+}
+
+/// How many of the first heads are below a head, where no later one is below it: sought from the likely place on, which
+/// it is where heads rise.
 fn count_below(heads: &[u128], head: u128) -> usize
     ensures inside { result ≤ length heads.now }
     ensures below { 0 < result → slice_index heads.now (result - 1) < head }
     ensures above { result < length heads.now → head ≤ slice_index heads.now result }
 {
-    let mut place = place_near(heads, head);
+    let mut place = likely_place(heads, head);
     while place > 0 && heads[place - 1] >= head {
         place -= 1;
     }

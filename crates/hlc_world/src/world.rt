@@ -295,7 +295,6 @@ impl World {
     }
 
     /// A node issues the item that says this.
-    #[inline(always)]
     fn issue(&mut self, node: u16, reading: u64, body: Body) -> Reply
         ensures stands { (schedule : List (AnEvent × AReply)) → StandsFor self.old schedule
             → StandsFor self.new ((issuing node reading body, result) ∷ schedule) }

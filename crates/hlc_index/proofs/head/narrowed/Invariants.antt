@@ -1,6 +1,6 @@
 -- What is left gets smaller.
 use Rattle.std.proofs.Common.{◌-◌, ◌≤◌, length}
-use Rattle.hlc_index.proofs.head.place_near.Given as goal
+use Rattle.hlc_index.proofs.head.narrowed.Given as goal
 
 abbrev pub invariant-loop-high : goal.invariant-loop-high
 invariant-loop-high l = record {
