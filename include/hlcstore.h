@@ -87,9 +87,9 @@ uint32_t hlc_open(hlc_store *store, uint16_t nodes);
 void hlc_close(hlc_store *store);
 
 /* Accepts the item that a node issued under this number with this stamp. word: the stamp, or the refusal's word.
- * Refused in this order: 1, 27, 6, 14, 7, 12, 13, 15. A refusal that is due is told before memory is taken. Costs two
- * copies, each with an allocation where it is longer than 22 bytes, one for a new key, and a look at one key's newest
- * rows; a report and a retirement take no memory. */
+ * Refused in this order: 1, 27, 6, 14, 7, 12, 13, 15. A refusal that is due is told before memory is taken. Costs a
+ * copy of the value, and of a key that has no rows yet, each with an allocation where it is longer than 22 bytes; a
+ * block for such a key's rows; and a look at one key's newest rows. A report and a retirement take no memory. */
 uint32_t hlc_accept_write(hlc_store *store, uint16_t node, uint64_t number, uint64_t stamp,
                           const uint8_t *key, size_t key_len, const uint8_t *value, size_t value_len, uint64_t *word);
 uint32_t hlc_accept_delete(hlc_store *store, uint16_t node, uint64_t number, uint64_t stamp,

@@ -1,7 +1,7 @@
 //! Calls of a shared store by one caller: reads whose receipts are kept, and openings that are refused.
 use crate::{bytes, write};
 use hlc_core::{Accepted, CoreEvent, CoreFault, CoreReply, Stamp};
-use hlc_server::{Caller, NotDone, Receipt, Shared};
+use hlc_server::{CallResult, Caller, Receipt, Shared};
 use std::alloc::Global;
 use std::sync::Wait;
 use std::sync::ledger::Ledger;
@@ -12,7 +12,7 @@ const KEYS: u8 = 64;
 /// How many reads all threads make.
 pub(crate) const CALLS: u64 = 400_000;
 
-/// A caller, but while it is in a call, and what its last call was answered.
+/// A caller, where one was left, and what its last call was answered.
 #[derive(Drop)]
 pub(crate) struct Seat<L: Ledger> {
     pub(crate) caller: Option<Caller<L>>,
@@ -33,16 +33,14 @@ impl<L: Ledger> Seat<L> {
         event: CoreEvent,
         keeps: bool,
     ) {
-        let Some(caller) = self.caller.take() else {
-            return;
-        };
-        let (caller, answer) = shared.step(rt, caller, event);
-        self.caller = Some(caller);
-        self.take_in(answer, keeps);
+        if let Some(caller) = &mut self.caller {
+            let answer = shared.call(rt, caller, event);
+            self.take_in(answer, keeps);
+        }
     }
 
     /// Takes in what a call was answered, and may keep its receipt.
-    fn take_in(&mut self, answer: Result<Receipt, (NotDone, CoreEvent)>, keeps: bool) {
+    fn take_in(&mut self, answer: CallResult, keeps: bool) {
         if let Ok(receipt) = answer {
             self.hear(&receipt.reply);
             if keeps {

@@ -6,37 +6,63 @@ use Rattle.std.proofs.lemmas.List.{take_more, map-append}
 use Rattle.hlc_node.specs.declared.item.BodyFault.TheVariants.{BadKey, ValueTooLong}
 use Rattle.hlc_node.specs.declared.item.Item.{Item}
 use Rattle.hlc_core.specs.declared.fault.CoreFault.{CoreFault}
-use Rattle.hlc_core.specs.declared.fault.CoreFault.TheVariants.{NoNode, Retired, TooManyNodes, NotNext, NumbersSpent}
-use Rattle.hlc_core.specs.declared.fault.CoreFault.TheVariants.{StampNotRising, BadBody, AboveFloor, BelowHorizon}
-use Rattle.hlc_core.specs.declared.fault.CoreFault.TheVariants.{BelowFloor, NoSnapshot, TooManySnapshots, NoMemory}
+use Rattle.hlc_core.specs.declared.fault.CoreFault.TheVariants.{NoNode, Link, Body, Join, AboveFloor, BelowHorizon}
+use Rattle.hlc_core.specs.declared.fault.CoreFault.TheVariants.{Snapshot, NoSnapshot, NoMemory}
+use Rattle.hlc_core.specs.Faults.{core_code}
+use Rattle.hlc_intake.specs.Faults.{link_code}
+use Rattle.hlc_intake.specs.declared.intake.LinkFault.{LinkFault}
+use Rattle.hlc_intake.specs.declared.intake.LinkFault.TheVariants.{Retired, NotNext, NumbersSpent, StampNotRising}
+use Rattle.hlc_heads.specs.Faults.{join_code}
+use Rattle.hlc_heads.specs.declared.heads.JoinFault.{JoinFault}
+use Rattle.hlc_heads.specs.declared.heads.JoinFault.TheVariants.{TooManyNodes, BelowFloor, NoMemory as NoRoom}
+use Rattle.hlc_snapshot.specs.Faults.{snapshot_code}
+use Rattle.hlc_snapshot.specs.declared.fault.SnapshotFault.{SnapshotFault}
+use Rattle.hlc_snapshot.specs.declared.fault.SnapshotFault.TheVariants as snapshot_fault
+use Rattle.hlc_node.specs.Faults.{body_code}
+use Rattle.hlc_node.specs.declared.item.BodyFault.{BodyFault}
 use Rattle.hlc_core.specs.Past.{Step, Took}
 use Rattle.hlc_core.specs.Kept.{Kept, StandsFor}
 use Rattle.hlc_calls.specs.declared.batch.Entry.{Entry}
-use Rattle.hlc_calls.specs.Told.{number, IsAnswered}
+use Rattle.hlc_calls.specs.Told.{IsAnswered}
 use Rattle.hlc_calls.specs.Batch.{item_of, is_within, took, entered, IsEntered}
 
-number_above : (fault : CoreFault) → 0 < number fault
-number_above NoNode = lit< tt
-number_above Retired = lit< tt
-number_above TooManyNodes = lit< tt
-number_above (NotNext next) = lit< tt
-number_above NumbersSpent = lit< tt
-number_above (StampNotRising head) = lit< tt
-number_above (BadBody BadKey) = lit< tt
-number_above (BadBody ValueTooLong) = lit< tt
-number_above (AboveFloor floor) = lit< tt
-number_above (BelowHorizon horizon) = lit< tt
-number_above (BelowFloor floor) = lit< tt
-number_above NoSnapshot = lit< tt
-number_above TooManySnapshots = lit< tt
-number_above NoMemory = lit< tt
+link_above : (fault : LinkFault) → 0 < link_code fault
+link_above Retired = lit< tt
+link_above (NotNext next) = lit< tt
+link_above NumbersSpent = lit< tt
+link_above (StampNotRising head) = lit< tt
+
+body_above : (fault : BodyFault) → 0 < body_code fault
+body_above BadKey = lit< tt
+body_above ValueTooLong = lit< tt
+
+join_above : (fault : JoinFault) → 0 < join_code fault
+join_above TooManyNodes = lit< tt
+join_above (BelowFloor floor) = lit< tt
+join_above NoRoom = lit< tt
+
+snapshot_above : (fault : SnapshotFault) → 0 < snapshot_code fault
+snapshot_above snapshot_fault.TooManySnapshots = lit< tt
+snapshot_above snapshot_fault.NumbersSpent = lit< tt
+snapshot_above snapshot_fault.NoMemory = lit< tt
+
+code_above : (fault : CoreFault) → 0 < core_code fault
+code_above NoNode = lit< tt
+code_above (Link fault) = link_above fault
+code_above (Body fault) = body_above fault
+code_above (Join fault) = join_above fault
+code_above (AboveFloor floor) = lit< tt
+code_above (BelowHorizon horizon) = lit< tt
+code_above (Snapshot fault) = snapshot_above fault
+code_above NoSnapshot = lit< tt
+code_above NoMemory = lit< tt
 
 not_above : (n : ℕ) → 0 < n → 0 ≡ n → ⊥
 not_above n above is = omega arith
 
 -- at 0 the call was made
 made_of : (due : Option CoreFault) (MayGrow Made : Type 0) (told : ℕ) → IsAnswered due MayGrow Made 0 told → Made
-made_of (Some fault) MayGrow Made told (is, word) = absurd (not_above (number fault) (number_above fault) is)
+made_of (Some fault) MayGrow Made told (is, word) = absurd (not_above (core_code fault) (code_above fault) is)
 made_of None MayGrow Made told (inl (is, made)) = made
 made_of None MayGrow Made told (inr (is, nothing, may)) = absurd (not_above 15 (lit< tt) is)
 

@@ -1,4 +1,3 @@
 pub mod Batches
 pub mod Bytes
 pub mod Refusals
-pub mod Whole

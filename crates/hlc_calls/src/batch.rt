@@ -5,8 +5,7 @@ ghost use Rattle.hlc_core.specs.Kept.{nodes, StandsFor};
 ghost use Rattle.hlc_calls.specs.Batch.{piece, lies, value_of, is_within, IsEntered, AreEntered};
 
 use crate::items;
-use hlc_core::Core;
-use std::alloc::Global;
+use hlc_core::{Core, ItemRef, Stamp};
 
 /// A write, or a deletion, that a node issued, with the places of its key and value among some bytes.
 #[repr(C)]
@@ -51,7 +50,7 @@ fn parts_of<'a>(entry: &Entry, bytes: &'a [u8]) -> Option<(&'a [u8], Option<&'a 
 }
 
 /// Accepts the item of an entry: 0 and its stamp, or a refusal and its word, or 103.
-fn enter(alloc: Global, core: &mut Core, entry: &Entry, bytes: &[u8], told: &mut u64) -> u32
+fn enter(core: &mut Core, entry: &Entry, bytes: &[u8], told: &mut u64) -> u32
     ensures answer { (past : List Step) → StandsFor core.old past
         → IsEntered core.old core.new entry.now bytes.now past result told.new }
     ensures same { result ≢ 0 → core.new ≡ core.old }
@@ -61,23 +60,15 @@ fn enter(alloc: Global, core: &mut Core, entry: &Entry, bytes: &[u8], told: &mut
         *told = 0;
         return 103;
     };
-    items::write(
-        alloc,
-        core,
-        entry.node,
-        entry.number,
-        entry.stamp,
-        key,
-        value,
-        told,
-    )
+    let stamp = Stamp::from_bits(entry.stamp);
+    let item = ItemRef::write(entry.node, entry.number, stamp, key, value);
+    items::accept(core, &item, told)
 }
 
 /// Accepts the items of entries in turn, until one is refused: 0, or what is told of that one, and
 /// how many were accepted.
 #[tactic(auto, using(crate::proofs::Batches::entered_next))]
 pub fn enter_all(
-    alloc: Global,
     core: &mut Core,
     entries: &[Entry],
     bytes: &[u8],
@@ -90,7 +81,7 @@ pub fn enter_all(
 {
     let mut index = 0;
     while index < entries.len() {
-        let code = enter(alloc, core, &entries[index], bytes, told);
+        let code = enter(core, &entries[index], bytes, told);
         if code != 0 {
             *many = index;
             return code;

@@ -10,21 +10,19 @@ ghost use Rattle.hlc_calls.specs.Certified.{IsCertified, IsCertifiedTo, IsHalf};
 use crate::{codes, open_store};
 use hlc_certificate::put_certificate;
 use hlc_core::{Core, Report, Row, Stamp, Witness};
-use hlc_text::print::finish;
-use hlc_text::waiting::Waiting;
+use hlc_text::printer::Printer;
 use hlc_text::watched::Watched;
 use std::alloc::Global;
 
 /// The text of a certificate, or nothing where memory is refused.
-#[tactic(auto, using(crate::proofs::Whole::printed_whole))]
 fn text_of(alloc: Global, points: &[Stamp], rows: &[Row], witnesses: &[Witness]) -> Option<Vec<u8>>
     ensures { IfSome result
         (λ text. text.items ≡ certificate_text points.now rows.now witnesses.now) }
 {
     let mut writer = Watched::new(Vec::new(alloc));
-    let mut waiting = Waiting::new();
-    put_certificate(&mut writer, &mut waiting, points, rows, witnesses);
-    finish(&mut writer, &mut waiting);
+    let mut printer = Printer::new(&mut writer);
+    put_certificate(&mut printer, points, rows, witnesses);
+    printer.finish();
     if writer.failed() {
         return None;
     }
@@ -86,7 +84,7 @@ pub fn certify_to(
     *len = 0;
     let report = match core.vacuum_to(at) {
         Ok(report) => report,
-        Err(fault) => return codes::refuse(fault, told),
+        Err(fault) => return codes::refuse(&fault, told),
     };
     *told = 0;
     match certificate_of(alloc, core, &report) {

@@ -4,7 +4,7 @@ ghost use Rattle.hlc_core.specs.Past.{Step};
 ghost use Rattle.hlc_core.specs.Kept.{StandsFor};
 ghost use Rattle.hlc_calls.specs.Listing.{sized, listing_bytes, IsListedTo};
 
-use crate::{codes, open_store};
+use crate::open_store;
 use hlc_core::{Core, Pair};
 use hlc_values::NoMemory;
 use std::alloc::Global;
@@ -42,7 +42,7 @@ pub fn list(alloc: Global, core: &Core, id: u64, out: &mut [u8], len: &mut usize
     *len = 0;
     let listing = match core.list(id) {
         Ok(listing) => listing,
-        Err(fault) => return codes::number_of(fault),
+        Err(fault) => return fault.code(),
     };
     match bytes_of(alloc, listing.as_slice()) {
         Ok(bytes) => {

@@ -1,58 +1,13 @@
 //! The calls of an open store, with their answers as the numbers that C is told.
 ghost use Rattle.std.specs.Prelude.{◌≡◌, ◌≢◌, List, ◌∷◌, length, None, OnErr, IfOk, MatchResult};
-ghost use Rattle.hlc_node.specs.Items.{an_item};
-ghost use Rattle.hlc_core.specs.Past.{Step, Took, item_refusal, stamp_of, writes};
+ghost use Rattle.hlc_core.specs.Past.{Step, stamp_of, writes};
 ghost use Rattle.hlc_core.specs.Kept.{nodes, StandsFor};
-ghost use Rattle.hlc_core.specs.Calls.{IsWrite, IsRefusal};
-ghost use Rattle.hlc_calls.specs.Answers.{TellsAccepted, TellsJoined, TellsJoinedAt, TellsOpened, TellsOpenedAtFloor};
+ghost use Rattle.hlc_calls.specs.Answers.{TellsJoined, TellsJoinedAt, TellsOpened, TellsOpenedAtFloor};
 ghost use Rattle.hlc_calls.specs.Answers.{TellsClosed, IsCopied, TellsRead, TellsVacuumedAtFloor, TellsVacuumedTo};
 ghost use Rattle.hlc_calls.specs.Answers.{TellsVacuumChecked, narrowed};
 
-use crate::codes::{answer, number_of, refuse};
-use hlc_core::{Body, Core, CoreFault, Item, Report, Stamp};
-
-/// Accepts an item: the stamp that it has, or why it is refused.
-fn accept_item(core: &mut Core, item: Item) -> Result<u64, CoreFault>
-    ensures ok { IfOk result (λ stamp. stamp ≡ item.stamp) }
-    ensures stands { (past : List Step) → StandsFor core.old past → MatchResult result
-        (λ _. (item_refusal (nodes core.old) past item ≡ None)
-        × StandsFor core.new (Took item ∷ past))
-        (λ fault. IsRefusal (item_refusal (nodes core.old) past item) (IsWrite item.body) fault) }
-    ensures err { OnErr result (core.new ≡ core.old) }
-    ensures nodes { nodes core.new ≡ nodes core.old }
-{
-    match core.accept(item) {
-        Ok(accepted) => Ok(accepted.stamp().bits()),
-        Err(refused) => {
-            let (fault, _item) = refused;
-            Err(fault)
-        }
-    }
-}
-
-/// Accepts an item that says this: 0 and its stamp, or a refusal and its word.
-#[tactic(auto, using(crate::proofs::Refusals::refused_tells, crate::proofs::Refusals::made_tells))]
-pub(crate) fn accept(
-    core: &mut Core,
-    node: u16,
-    number: u64,
-    stamp: u64,
-    body: Body,
-    told: &mut u64,
-) -> u32
-    ensures answer { (past : List Step) → StandsFor core.old past → TellsAccepted core.old core.new
-        (an_item node number stamp body) past result told.new }
-    ensures same { result ≢ 0 → core.new ≡ core.old }
-    ensures nodes { nodes core.new ≡ nodes core.old }
-{
-    let item = Item {
-        node,
-        number,
-        stamp: Stamp::from_bits(stamp),
-        body,
-    };
-    answer(accept_item(core, item), told)
-}
+use crate::codes::{answer, refuse};
+use hlc_core::{Core, Report, Stamp};
 
 /// A node joins: 0, its number and the stamp of its start, or a refusal.
 #[tactic(auto, using(crate::proofs::Refusals::refused_tells, crate::proofs::Refusals::made_tells))]
@@ -72,7 +27,7 @@ pub fn join(core: &mut Core, node: &mut u16, start: &mut u64) -> u32
         Err(fault) => {
             *node = 0;
             *start = 0;
-            number_of(fault)
+            fault.code()
         }
     }
 }
@@ -93,7 +48,7 @@ pub fn join_at(core: &mut Core, start: Stamp, node: &mut u16, told: &mut u64) ->
         }
         Err(fault) => {
             *node = 0;
-            refuse(fault, told)
+            refuse(&fault, told)
         }
     }
 }
@@ -126,7 +81,7 @@ pub fn open_floor(core: &mut Core, told: &mut u64, stamp: &mut u64) -> u32
         }
         Err(fault) => {
             *stamp = 0;
-            refuse(fault, told)
+            refuse(&fault, told)
         }
     }
 }
@@ -249,7 +204,7 @@ pub fn check_vacuum(core: &Core, at: Stamp, told: &mut u64) -> u32
             *told = 0;
             0
         }
-        Err(fault) => refuse(fault, told),
+        Err(fault) => refuse(&fault, told),
     }
 }
 
@@ -279,6 +234,6 @@ pub fn vacuum_to(
             put_report(&report, told, kept, bytes, dropped);
             0
         }
-        Err(fault) => refuse(fault, told),
+        Err(fault) => refuse(&fault, told),
     }
 }

@@ -1,13 +1,14 @@
 -- The text of a certificate is that of its points, of its rows and of its witnesses, one after another; and its lines
 -- are those that were printed, since none of them holds a line feed.
-use Rattle.std.proofs.Common.{◌≡◌, ℕ, ◌+◌, ◌<◌, ◌∙◌, sym, ap, refl, subst, Bool, eqb}
+use Rattle.std.proofs.Common.{◌≡◌, ℕ, ◌+◌, ◌<◌, ◌∙◌, sym, ap, refl, subst, eqb}
 use Rattle.std.proofs.Common.{List, [], ◌∷◌, ◌++◌, map, take, length, get_or, Option, Some, None, append_assoc}
 use Rattle.std.specs.List.{flat_map, slice_split, AllByRecursion}
 use Rattle.std.proofs.lemmas.List.{map-append, take_more}
 use Rattle.std.proofs.lemmas.List.Concat.{flat_map-append}
 use Rattle.hlc_text.specs.Text.{printed}
 use Rattle.hlc_text.specs.Lines.{spaced, lines_of}
-use Rattle.hlc_text.specs.Printing.{Printed}
+use Rattle.hlc_text.specs.declared.printer.Printer.{Printer}
+use Rattle.hlc_text.specs.Printing.{Prints}
 use Rattle.hlc_text.proofs.PrintLemmas.{printed_line, printed_then}
 use Rattle.hlc_text.proofs.TokenLemmas.{line_has_no_feed, split_line}
 use Rattle.hlc_text.proofs.LineLemmas.{first_of_lines}
@@ -28,13 +29,13 @@ abbrev pub AllHaveLines : {X : Type 0} → (X → CheckLine) → List X → Type
 AllHaveLines says xs = AllByRecursion HasCheckLine (map says xs)
 
 -- one line more of a list that is printed line by line
-pub printed_next : {X : Type 0} {f g h : Bool} {a b c : Option (List ℕ)} {u v w : List ℕ} (line : X → List ℕ)
+pub printed_next : {X W : Type 0} {contents : W → Option (List ℕ)} {old mid new : Printer W} (line : X → List ℕ)
     (xs : List X) (i : ℕ) (d : X) → i < length xs → d ≡ get_or xs i d
-    → Printed f g a b u v (all_lines line (take i xs))
-    → Printed g h b c v w (printed (line d)) → Printed f h a c u w (all_lines line (take (i + 1) xs))
-printed_next {X} {f} {g} {h} {a} {b} {c} {u} {v} {w} line xs i d within is first second =
+    → Prints contents old mid (all_lines line (take i xs))
+    → Prints contents mid new (printed (line d)) → Prints contents old new (all_lines line (take (i + 1) xs))
+printed_next {X} {W} {contents} {old} {mid} {new} line xs i d within is first second =
     printed_line printed line xs i d within first
-    (subst (λ (x : X). Printed g h b c v w (printed (line x))) is second)
+    (subst (λ (x : X). Prints contents mid new (printed (line x))) is second)
 
 all_both : {X : Type 0} (P : X → Type 0) (xs ys : List X) → AllByRecursion P xs → AllByRecursion P ys
     → AllByRecursion P (xs ++ ys)
@@ -60,10 +61,10 @@ all_fit points rows witnesses first second third =
     all_both HasCheckLine (map says_point points ++ map says_row rows) (map says_witness witnesses) both third
 
 -- the line of a row, by its value
-pub printed_row : {f h : Bool} {a c : Option (List ℕ)} {u w : List ℕ} (key stamp node : List ℕ)
-    (value : Option (List ℕ)) → Printed f h a c u w
+pub printed_row : {W : Type 0} {contents : W → Option (List ℕ)} {old new : Printer W} (key stamp node : List ℕ)
+    (value : Option (List ℕ)) → Prints contents old new
     (printed ((114 ∷ 111 ∷ 119 ∷ 32 ∷ key) ++ ((32 ∷ stamp) ++ ((32 ∷ node) ++ (32 ∷ spaced (value_words value))))))
-    → Printed f h a c u w (printed (spaced ((114 ∷ 111 ∷ 119 ∷ []) ∷ key ∷ stamp ∷ node ∷ value_words value)))
+    → Prints contents old new (printed (spaced ((114 ∷ 111 ∷ 119 ∷ []) ∷ key ∷ stamp ∷ node ∷ value_words value)))
 printed_row key stamp node None text = text
 printed_row key stamp node (Some value) text = text
 
@@ -98,14 +99,15 @@ all_printed points rows witnesses =
     ∙ sym (text_append (p ++ r) w)
 
 -- the three lists are printed one after another
-pub printed_lists : {f g h k : Bool} {a b c d : Option (List ℕ)} {u v w x : List ℕ}
+pub printed_lists : {W : Type 0} {contents : W → Option (List ℕ)} {old with_points with_rows new : Printer W}
     (points : List ℕ) (rows : List ARow) (witnesses : List AWitness)
-    → Printed f g a b u v (all_lines point_line points) → Printed g h b c v w (all_lines row_line rows)
-    → Printed h k c d w x (all_lines witness_line witnesses)
-    → Printed f k a d u x (certificate_text points rows witnesses)
-printed_lists {f} {g} {h} {k} {a} {b} {c} {d} {u} {v} {w} {x} points rows witnesses first second third =
+    → Prints contents old with_points (all_lines point_line points)
+    → Prints contents with_points with_rows (all_lines row_line rows)
+    → Prints contents with_rows new (all_lines witness_line witnesses)
+    → Prints contents old new (certificate_text points rows witnesses)
+printed_lists {W} {contents} {old} {with_points} {with_rows} {new} points rows witnesses first second third =
     let all = printed_then (printed_then first second) third in
-    subst (λ (t : List ℕ). Printed f k a d u x t) (all_printed points rows witnesses) all
+    subst (λ (t : List ℕ). Prints contents old new t) (all_printed points rows witnesses) all
 
 -- the lines of some lines that were printed
 pub lines_again : (xs : List CheckLine) → AllByRecursion HasCheckLine xs

@@ -13,8 +13,7 @@ ghost use Rattle.hlc_certificate.specs.Check.{answer_output, fewest_line, check_
 
 use crate::certificate::{NoCertificate, read_certificate};
 use hlc_text::input::{InputFault, put_fault, read_input};
-use hlc_text::print::{finish, put, put_named_count, put_named_number};
-use hlc_text::waiting::Waiting;
+use hlc_text::printer::Printer;
 use hlc_text::watched::Watched;
 use hlc_values::Exact;
 use hlc_witness::{NotShown, check};
@@ -71,9 +70,9 @@ pub fn run_check<R: Read, W: Write>(
     ensures { RunsCheck R.remaining W.contents reader.old reader.new writer.old writer.new result }
 {
     let end = check_reader(alloc, reader);
-    let mut waiting = Waiting::new();
-    put_end(writer, &mut waiting, end);
-    finish(writer, &mut waiting);
+    let mut printer = Printer::new(writer);
+    put_end(&mut printer, end);
+    printer.finish();
     if writer.failed() {
         CheckEnd::WriteFault
     } else {
@@ -121,48 +120,34 @@ pub fn check_input(alloc: Global, input: &[u8]) -> CheckEnd
 }
 
 /// Prints the line of an end.
-fn put_end<W: Write>(writer: &mut Watched<W>, waiting: &mut Waiting, end: CheckEnd)
-    ensures { Prints W.contents writer.old writer.new waiting.old waiting.new (answer_output end) }
+fn put_end<W: Write>(printer: &mut Printer<'_, W>, end: CheckEnd)
+    ensures { Prints W.contents printer.old printer.new (answer_output end) }
 {
     match end {
-        CheckEnd::Fewest { count, bytes } => put_fewest(writer, waiting, count, bytes),
+        CheckEnd::Fewest { count, bytes } => put_fewest(printer, count, bytes),
         CheckEnd::NotShown(reason) => {
-            put_number_line(
-                writer,
-                waiting,
-                b"refused 22 reason ",
-                u64::from(reason.reason()),
-            )
+            put_number_line(printer, b"refused 22 reason ", u64::from(reason.reason()))
         }
-        CheckEnd::BadLine(number) => {
-            put_number_line(writer, waiting, b"refused 16 line ", number)
-        }
-        CheckEnd::NoMemory => put_fault(writer, waiting, InputFault::NoMemory),
-        CheckEnd::NotHeld(fault) => put_fault(writer, waiting, fault),
+        CheckEnd::BadLine(number) => put_number_line(printer, b"refused 16 line ", number),
+        CheckEnd::NoMemory => put_fault(printer, InputFault::NoMemory),
+        CheckEnd::NotHeld(fault) => put_fault(printer, fault),
         CheckEnd::WriteFault => {}
     }
 }
 
 /// Prints how many rows are the fewest, and what they cost.
-fn put_fewest<W: Write>(writer: &mut Watched<W>, waiting: &mut Waiting, count: u64, bytes: u128)
-    ensures { Prints W.contents writer.old writer.new waiting.old waiting.new
-        (printed (fewest_line count bytes)) }
+fn put_fewest<W: Write>(printer: &mut Printer<'_, W>, count: u64, bytes: u128)
+    ensures { Prints W.contents printer.old printer.new (printed (fewest_line count bytes)) }
 {
-    put_named_number(writer, waiting, b"fewest ", count);
-    put_named_count(writer, waiting, b" bytes ", bytes);
-    put(writer, waiting, b"\n");
+    printer.put_named_number(b"fewest ", count);
+    printer.put_named_count(b" bytes ", bytes);
+    printer.put(b"\n");
 }
 
 /// Prints a line of some words and a number.
-fn put_number_line<W: Write>(
-    writer: &mut Watched<W>,
-    waiting: &mut Waiting,
-    name: &[u8],
-    number: u64,
-)
-    ensures { Prints W.contents writer.old writer.new waiting.old waiting.new
-        (printed (name.now ++ decimal number)) }
+fn put_number_line<W: Write>(printer: &mut Printer<'_, W>, name: &[u8], number: u64)
+    ensures { Prints W.contents printer.old printer.new (printed (name.now ++ decimal number)) }
 {
-    put_named_number(writer, waiting, name, number);
-    put(writer, waiting, b"\n");
+    printer.put_named_number(name, number);
+    printer.put(b"\n");
 }

@@ -13,149 +13,126 @@ ghost use Rattle.hlc_certificate.specs.CertificateText.{point_line, row_line, wi
 
 use hlc_clock::Stamp;
 use hlc_node::{Bytes, Row};
-use hlc_text::print::{put, put_named_bytes, put_named_number, put_named_stamp};
-use hlc_text::waiting::Waiting;
-use hlc_text::watched::Watched;
+use hlc_text::printer::Printer;
 use hlc_witness::Witness;
 use std::io::Write;
 
 /// Prints a certificate: the lines of its points, then of its rows, and then of its witnesses. What
 /// they say is not looked at.
 pub fn put_certificate<W: Write>(
-    writer: &mut Watched<W>,
-    waiting: &mut Waiting,
+    printer: &mut Printer<'_, W>,
     points: &[Stamp],
     rows: &[Row],
     witnesses: &[Witness],
 )
-    ensures text { Prints W.contents writer.old writer.new waiting.old waiting.new
+    ensures text { Prints W.contents printer.old printer.new
         (certificate_text points.now rows.now witnesses.now) }
     ensures lines { AreLinesOf points.now rows.now witnesses.now
         (lines_of (certificate_text points.now rows.now witnesses.now)) }
 {
-    put_points(writer, waiting, points);
-    put_rows(writer, waiting, rows);
-    put_witnesses(writer, waiting, witnesses);
+    put_points(printer, points);
+    put_rows(printer, rows);
+    put_witnesses(printer, witnesses);
 }
 
-fn put_points<W: Write>(writer: &mut Watched<W>, waiting: &mut Waiting, points: &[Stamp])
-    ensures text { Prints W.contents writer.old writer.new waiting.old waiting.new
+fn put_points<W: Write>(printer: &mut Printer<'_, W>, points: &[Stamp])
+    ensures text { Prints W.contents printer.old printer.new
         (flat_map printed (map point_line points.now)) }
     ensures fits { AllByRecursion HasCheckLine (map says_point points.now) }
 {
     for point in points {
-        put_point(writer, waiting, *point);
+        put_point(printer, *point);
     }
 }
 
-fn put_point<W: Write>(writer: &mut Watched<W>, waiting: &mut Waiting, point: Stamp)
-    ensures text { Prints W.contents writer.old writer.new waiting.old waiting.new
-        (printed (point_line point)) }
+fn put_point<W: Write>(printer: &mut Printer<'_, W>, point: Stamp)
+    ensures text { Prints W.contents printer.old printer.new (printed (point_line point)) }
     ensures fits { HasCheckLine (says_point point) }
 {
-    put_stamp_behind(writer, waiting, b"point ", point);
-    put(writer, waiting, b"\n");
+    put_stamp_behind(printer, b"point ", point);
+    printer.put(b"\n");
 }
 
-fn put_rows<W: Write>(writer: &mut Watched<W>, waiting: &mut Waiting, rows: &[Row])
-    ensures text { Prints W.contents writer.old writer.new waiting.old waiting.new
+fn put_rows<W: Write>(printer: &mut Printer<'_, W>, rows: &[Row])
+    ensures text { Prints W.contents printer.old printer.new
         (flat_map printed (map row_line rows.now)) }
     ensures fits { AllByRecursion HasCheckLine (map says_row rows.now) }
 {
     for row in rows {
-        put_row(writer, waiting, row);
+        put_row(printer, row);
     }
 }
 
-fn put_row<W: Write>(writer: &mut Watched<W>, waiting: &mut Waiting, row: &Row)
-    ensures text { Prints W.contents writer.old writer.new waiting.old waiting.new
-        (printed (row_line row.now)) }
+fn put_row<W: Write>(printer: &mut Printer<'_, W>, row: &Row)
+    ensures text { Prints W.contents printer.old printer.new (printed (row_line row.now)) }
     ensures fits { HasCheckLine (says_row row.now) }
 {
-    put_bytes_behind(writer, waiting, b"row ", row.key.as_slice());
-    put_stamp_behind(writer, waiting, b" ", row.stamp);
-    put_named_number(writer, waiting, b" ", row.node as u64);
-    put_value(writer, waiting, &row.value);
-    put(writer, waiting, b"\n");
+    put_bytes_behind(printer, b"row ", row.key.as_slice());
+    put_stamp_behind(printer, b" ", row.stamp);
+    printer.put_named_number(b" ", row.node as u64);
+    put_value(printer, &row.value);
+    printer.put(b"\n");
 }
 
 /// Prints the words of a value, or of a deletion mark, behind a space.
-fn put_value<W: Write>(writer: &mut Watched<W>, waiting: &mut Waiting, value: &Option<Bytes>)
-    ensures text { Prints W.contents writer.old writer.new waiting.old waiting.new
+fn put_value<W: Write>(printer: &mut Printer<'_, W>, value: &Option<Bytes>)
+    ensures text { Prints W.contents printer.old printer.new
         (codes " " ++ spaced (value_words value.now)) }
     ensures fits { HasValueWords value.now }
 {
     match value {
-        None => put(writer, waiting, b" delete"),
-        Some(bytes) => put_bytes_behind(writer, waiting, b" value ", bytes.as_slice()),
+        None => printer.put(b" delete"),
+        Some(bytes) => put_bytes_behind(printer, b" value ", bytes.as_slice()),
     }
 }
 
 /// Prints the lines of some changes, as a certificate has them.
-pub fn put_witnesses<W: Write>(
-    writer: &mut Watched<W>,
-    waiting: &mut Waiting,
-    witnesses: &[Witness],
-)
-    ensures text { Prints W.contents writer.old writer.new waiting.old waiting.new
+pub fn put_witnesses<W: Write>(printer: &mut Printer<'_, W>, witnesses: &[Witness])
+    ensures text { Prints W.contents printer.old printer.new
         (flat_map printed (map witness_line witnesses.now)) }
     ensures fits { AllByRecursion HasCheckLine (map says_witness witnesses.now) }
 {
     for witness in witnesses {
-        put_witness(writer, waiting, witness);
+        put_witness(printer, witness);
     }
 }
 
 /// Prints the line of a change, as a certificate has it.
-fn put_witness<W: Write>(writer: &mut Watched<W>, waiting: &mut Waiting, witness: &Witness)
-    ensures text { Prints W.contents writer.old writer.new waiting.old waiting.new
-        (printed (witness_line witness.now)) }
+fn put_witness<W: Write>(printer: &mut Printer<'_, W>, witness: &Witness)
+    ensures text { Prints W.contents printer.old printer.new (printed (witness_line witness.now)) }
     ensures fits { HasCheckLine (says_witness witness.now) }
 {
-    put_bytes_behind(writer, waiting, b"witness ", witness.key.as_slice());
-    put_before(writer, waiting, witness.before);
-    put_stamp_behind(writer, waiting, b" ", witness.at);
-    put(writer, waiting, b"\n");
+    put_bytes_behind(printer, b"witness ", witness.key.as_slice());
+    put_before(printer, witness.before);
+    put_stamp_behind(printer, b" ", witness.at);
+    printer.put(b"\n");
 }
 
-fn put_before<W: Write>(writer: &mut Watched<W>, waiting: &mut Waiting, before: Option<Stamp>)
-    ensures text { Prints W.contents writer.old writer.new waiting.old waiting.new
-        (codes " " ++ before_token before) }
+fn put_before<W: Write>(printer: &mut Printer<'_, W>, before: Option<Stamp>)
+    ensures text { Prints W.contents printer.old printer.new (codes " " ++ before_token before) }
     ensures fits { HasBeforeToken before }
 {
     match before {
-        None => put(writer, waiting, b" none"),
-        Some(stamp) => put_stamp_behind(writer, waiting, b" ", stamp),
+        None => printer.put(b" none"),
+        Some(stamp) => put_stamp_behind(printer, b" ", stamp),
     }
 }
 
 // The words of stamps and bytes. What is printed of them fits, as their types say.
 
 /// Prints some words, and the stamp behind them.
-fn put_stamp_behind<W: Write>(
-    writer: &mut Watched<W>,
-    waiting: &mut Waiting,
-    name: &[u8],
-    stamp: Stamp,
-)
-    ensures text { Prints W.contents writer.old writer.new waiting.old waiting.new
-        (name.now ++ stamp_text stamp) }
+fn put_stamp_behind<W: Write>(printer: &mut Printer<'_, W>, name: &[u8], stamp: Stamp)
+    ensures text { Prints W.contents printer.old printer.new (name.now ++ stamp_text stamp) }
     ensures fits { stamp < 2 ^ 64 }
 {
     prove!(stamp.bits() <= u64::MAX);
-    put_named_stamp(writer, waiting, name, stamp);
+    printer.put_named_stamp(name, stamp);
 }
 
 /// Prints some words, and the word that spells the bytes behind them.
-fn put_bytes_behind<W: Write>(
-    writer: &mut Watched<W>,
-    waiting: &mut Waiting,
-    name: &[u8],
-    bytes: &[u8],
-)
-    ensures text { Prints W.contents writer.old writer.new waiting.old waiting.new
-        (name.now ++ bytes_token bytes.now) }
+fn put_bytes_behind<W: Write>(printer: &mut Printer<'_, W>, name: &[u8], bytes: &[u8])
+    ensures text { Prints W.contents printer.old printer.new (name.now ++ bytes_token bytes.now) }
     ensures fits { AreBytes bytes.now }
 {
-    put_named_bytes(writer, waiting, name, bytes);
+    printer.put_named_bytes(name, bytes);
 }

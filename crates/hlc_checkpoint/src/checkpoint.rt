@@ -329,7 +329,7 @@ fn did_retired_issue(links: &[Intake]) -> bool
 fn greatest_head(links: &[Intake]) -> Stamp
     ensures { result ≡ greatest_head links.now }
 {
-    let mut greatest = Stamp::from_bits(0);
+    let mut greatest = Stamp::ZERO;
     for link in links {
         greatest = greater(greatest, link.head());
     }

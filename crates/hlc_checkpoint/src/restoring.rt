@@ -1,5 +1,6 @@
 //! The heads and the table of a store, made from a checkpoint's parts.
-ghost use Rattle.std.specs.Prelude.{◌≡◌, ◌<◌, ◌≤◌, IfOk, length};
+ghost use Rattle.std.specs.Prelude.{◌≡◌, ◌<◌, ◌≤◌, ◌++◌, ◌∷◌, [], IfOk, OnOk, length};
+ghost use Rattle.hlc_columns.specs.Table.{HasNoVersion};
 ghost use Rattle.std.specs.List.Sorted.{IsPermutation};
 ghost use Rattle.hlc_heads.specs.declared.heads.TheConstants.{MOST_NUMBERS};
 ghost use Rattle.hlc_witness.specs.Certificate.{RowsAscend};
@@ -11,7 +12,7 @@ use hlc_heads::{Head, Heads};
 use hlc_intake::Intake;
 use hlc_node::Row;
 use hlc_values::NoMemory;
-use std::alloc::{AllocFailed, Global};
+use std::alloc::Global;
 
 /// The heads of some links, 1 to 1,024 of them, and this greatest head. Refused where memory runs out.
 pub fn heads_of(alloc: Global, links: &[Intake], top: Stamp) -> Result<Heads, NoMemory>
@@ -37,20 +38,35 @@ pub fn table_of(alloc: Global, rows: &[Row]) -> Result<Table, NoMemory>
 {
     let mut table = Table::new(alloc);
     for row in rows {
-        table.insert_last_copy(row.key.as_slice(), row.stamp, row.node, row.value())?;
+        let value = row.value.clone()?;
+        table.insert_last(row.key.as_slice(), row.stamp, row.node, value)?;
     }
     Ok(table)
 }
 
-/// A table of some rows, which ascend by key, stamp and node. They are moved, and lost where memory runs
-/// out, but for the one that found none.
-pub fn table_of_moved(alloc: Global, rows: Vec<Row>) -> Result<Table, AllocFailed<Row>>
+/// A table of some rows, which ascend by key, stamp and node. Their values are moved. Where memory runs out, the rows
+/// are lost.
+pub fn table_of_moved(alloc: Global, rows: Vec<Row>) -> Result<Table, NoMemory>
     requires { RowsAscend rows.items }
     ensures { IfOk result (λ table. IsPermutation rows.items table) }
 {
     let mut table = Table::new(alloc);
     for row in rows {
-        table.insert_last(row)?;
+        add_row(&mut table, row)?;
     }
     Ok(table)
+}
+
+/// Adds a row, whose value is moved.
+fn add_row(table: &mut Table, row: Row) -> Result<(), NoMemory>
+    requires { HasNoVersion table.old row }
+    ensures { OnOk result (IsPermutation (table.old ++ row ∷ []) table.new) }
+{
+    let Row {
+        key,
+        stamp,
+        node,
+        value,
+    } = row;
+    table.insert_last(key.as_slice(), stamp, node, value)
 }

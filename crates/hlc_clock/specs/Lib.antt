@@ -1,3 +1,4 @@
 pub mod Stamp
 pub mod NextStamp
 pub mod Points
+pub mod Faults

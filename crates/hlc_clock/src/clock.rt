@@ -3,9 +3,12 @@ ghost use Rattle.std.specs.Prelude.{◌≡◌, ℕ, [], ◌∷◌, IfOk, OnErr};
 ghost use Rattle.std.proofs.Common.{rules};
 ghost use Rattle.std.proofs.lemmas.Grind.{common_steps};
 ghost use Rattle.hlc_clock.specs.NextStamp.{stamp_due, IsClockAnswer};
+ghost use Rattle.hlc_clock.specs.Faults.{clock_code, clock_word};
 
 use crate::stamp::{COUNTER_BOUND, READING_BOUND, Stamp};
 use hlc_values::Exact;
+use std::error::Error;
+use std::fmt;
 use std::marker::Model;
 
 /// Why a clock gives no stamp.
@@ -22,6 +25,44 @@ impl Exact for ClockFault {
 
     ghost copied = { Prim.search rules };
 }
+
+impl ClockFault {
+    /// Its number: 2 or 3.
+    pub fn code(self) -> u32
+        ensures { result ≡ clock_code self }
+    {
+        match self {
+            ClockFault::ReadingTooLarge => 2,
+            ClockFault::CounterFull { .. } => 3,
+        }
+    }
+
+    /// The word of the stamp that comes with it, or 0.
+    pub fn word(self) -> u64
+        ensures { result ≡ clock_word self }
+    {
+        match self {
+            ClockFault::ReadingTooLarge => 0,
+            ClockFault::CounterFull { at } => at.bits(),
+        }
+    }
+}
+
+impl fmt::Display for ClockFault {
+    ghost use Rattle.std.specs.Prelude.{Some};
+    ghost use Rattle.hlc_clock.specs.Faults.{clock_text};
+
+    ghost output = { λ fault. Some (clock_text fault) };
+
+    fn fmt<W: fmt::Write>(&self, f: &mut fmt::Formatter<W>) -> fmt::Result {
+        match self {
+            ClockFault::ReadingTooLarge => f.write_str("the clock reading is 2^48 or more"),
+            ClockFault::CounterFull { at } => write!(f, "the counter has no room after {at}"),
+        }
+    }
+}
+
+impl Error for ClockFault {}
 
 /// A node's clock, which remembers the stamp of the node's last event. Contracts see it as that
 /// stamp.

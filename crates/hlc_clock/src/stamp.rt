@@ -14,6 +14,7 @@ ghost use Rattle.hlc_clock.specs.Stamp.{physical, counter, stamp_text};
 
 use hlc_values::{Exact, NoMemory};
 use std::cmp::Ordering;
+use std::error::Error;
 use std::fmt::{self, InlineText, Write};
 use std::hash::{Hash, Hasher};
 use std::marker::Model;
@@ -33,6 +34,18 @@ pub fn stamps_have_48_and_16_bits()
 /// A reading, or the physical part of a stamp, is 2^48 or more.
 #[derive(Clone, Copy, PartialEq, Eq, Debug)]
 pub struct ReadingTooLarge;
+
+impl fmt::Display for ReadingTooLarge {
+    ghost use Rattle.std.specs.Prelude.{Some, codes};
+
+    ghost output = { λ _. Some (codes "the physical part is 2^48 or more") };
+
+    fn fmt<W: fmt::Write>(&self, f: &mut fmt::Formatter<W>) -> fmt::Result {
+        f.write_str("the physical part is 2^48 or more")
+    }
+}
+
+impl Error for ReadingTooLarge {}
 
 impl Exact for ReadingTooLarge {
     ghost equal = { Prim.search (comparing, rules) };
@@ -61,6 +74,9 @@ impl Model for Stamp {
 }
 
 impl Stamp {
+    /// The stamp 0.0, which is below that of every event.
+    pub const ZERO: Stamp = Stamp { bits: 0 };
+
     /// The stamp of these parts, refused where the physical part has more than 48 bits.
     pub fn new(l: u64, c: u16) -> Result<Stamp, ReadingTooLarge>
         ensures { MatchResult result
@@ -102,6 +118,14 @@ impl Stamp {
         ensures { result ≡ counter self }
     {
         (self.bits % COUNTER_BOUND) as u16
+    }
+}
+
+impl Default for Stamp {
+    ghost is_default = { λ stamp. stamp ≡ 0 };
+
+    fn default() -> Stamp {
+        Stamp::ZERO
     }
 }
 

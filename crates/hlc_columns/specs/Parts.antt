@@ -1,12 +1,6 @@
--- The row that some parts are of.
-use Rattle.std.specs.Prelude.{option_copied}
+-- The row that a new one becomes.
 use Rattle.hlc_node.specs.declared.row.Row.{Row}
-use Rattle.hlc_columns.specs.declared.putting.RowParts.{RowParts}
+use Rattle.hlc_columns.specs.declared.putting.NewRow.{NewRow}
 
-abbrev pub parts_row : RowParts → Row
-parts_row parts = record {
-  key = parts.key.now;
-  stamp = parts.stamp;
-  node = parts.node;
-  value = option_copied parts.value;
-}
+abbrev pub new_row : NewRow → Row
+new_row row = record { key = row.key.now; stamp = row.stamp; node = row.node; value = row.value }

@@ -8,11 +8,12 @@ ghost use Rattle.hlc_columns.specs.contracts.column.Column.{the_row as column_ro
 use crate::column::Column;
 use hlc_clock::Stamp;
 use hlc_node::Bytes;
-use std::alloc::{AllocFailed, Global};
+use hlc_values::NoMemory;
+use std::alloc::Global;
 use std::marker::Model;
 
 /// A column in a block of memory of its own, so that an entry of the index is small. Contracts see its cells.
-#[derive(Drop)]
+#[derive(Debug, Drop)]
 pub struct BoxedColumn {
     block: Box<Column>,
 }
@@ -27,23 +28,18 @@ impl Model for BoxedColumn {
 }
 
 impl BoxedColumn {
-    /// A column of one row. Where memory lacks, the value comes back.
+    /// A column of one row.
     pub(crate) fn of_row(
         alloc: Global,
         stamp: Stamp,
         node: u16,
         value: Option<Bytes>,
-    ) -> Result<BoxedColumn, AllocFailed<Option<Bytes>>>
-        ensures ok { IfOk result
+    ) -> Result<BoxedColumn, NoMemory>
+        ensures { IfOk result
             (λ boxed. boxed ≡ record { stamp = stamp; node = node; value = value } ∷ []) }
-        ensures value_returned { IfErr result (λ failed. failed.value ≡ value) }
     {
-        match Box::new(alloc, Column::of_row(alloc, stamp, node, value)) {
-            Ok(block) => Ok(BoxedColumn { block }),
-            Err(AllocFailed { value: column }) => Err(AllocFailed {
-                value: column.into_value(),
-            }),
-        }
+        let block = Box::new(alloc, Column::of_row(alloc, stamp, node, value))?;
+        Ok(BoxedColumn { block })
     }
 
     /// The column.
@@ -59,13 +55,5 @@ impl BoxedColumn {
         ensures value { result.now ≡ self.old }
     {
         &mut self.block
-    }
-
-    /// The value of the only row.
-    pub(crate) fn into_value(self) -> Option<Bytes>
-        ensures { (cell : Cell) → self ≡ cell ∷ [] → result ≡ cell.value }
-    {
-        let BoxedColumn { block } = self;
-        Box::into_inner(block).into_value()
     }
 }

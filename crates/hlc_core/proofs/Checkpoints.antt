@@ -20,7 +20,8 @@ use Rattle.hlc_witness.specs.Cost.{IsInLimits}
 use Rattle.hlc_core.specs.Past.{Step, Took, Opened, Closed, Vacuumed, Joined, numbered, count, head, retired, top}
 use Rattle.hlc_core.specs.Past.{floor, horizon, opened, open_snapshots, of_registry, of_room}
 use Rattle.hlc_core.specs.Past.{IsLegal, writes, greatest_accepted}
-use Rattle.hlc_core.specs.declared.fault.CoreFault.TheVariants.{TooManyNodes}
+use Rattle.hlc_core.specs.declared.fault.CoreFault.TheVariants.{Join}
+use Rattle.hlc_heads.specs.declared.heads.JoinFault.TheVariants.{TooManyNodes}
 use Rattle.hlc_core.specs.Kept.{Kept, nodes, greatest_head, HasNodes, HasStamps, HasLastItem}
 use Rattle.hlc_core.specs.Kept.{StandsFor}
 use Rattle.hlc_core.specs.Checkpoint.{IsCheckpoint, IsCopyOf, IsUnderHead, floor_in}
@@ -51,7 +52,7 @@ numbered-few nodes (Vacuumed at ∷ past) few legal = numbered-few nodes past fe
 numbered-few nodes (Joined node start ∷ past) few legal =
     elim (cases_lt (numbered nodes past) MOST_NUMBERS) [
       | inl below ↦ (let g : numbered nodes past < MOST_NUMBERS = below in omega arith)
-      | inr full ↦ absurd (let g : Some TooManyNodes ≡ None =
+      | inr full ↦ absurd (let g : Some (Join TooManyNodes) ≡ None =
           sym (cond-true _ _ _ (le-leb MOST_NUMBERS (numbered nodes past) full)) ∙ legal.0 in cc)
     ]
 

@@ -12,8 +12,9 @@ use Rattle.hlc_node.specs.declared.row.Row.{Row}
 use Rattle.hlc_node.specs.declared.item.Item.{Item}
 use Rattle.hlc_node.specs.declared.item.Body.{Body}
 use Rattle.hlc_node.specs.declared.item.Body.TheVariants.{Write, Report, Retire}
-use Rattle.hlc_core.specs.declared.fault.CoreFault.TheVariants.{NoNode, NotNext, StampNotRising, AboveFloor}
-use Rattle.hlc_core.specs.declared.fault.CoreFault.TheVariants.{BelowHorizon, NumbersSpent, BadBody}
+use Rattle.hlc_intake.specs.declared.intake.LinkFault.TheVariants.{NotNext, NumbersSpent, StampNotRising}
+use Rattle.hlc_core.specs.declared.fault.CoreFault.TheVariants.{NoNode, Link, AboveFloor, BelowHorizon}
+use Rattle.hlc_core.specs.declared.fault.CoreFault.TheVariants.{Body as bad_body}
 use Rattle.hlc_node.specs.declared.item.BodyFault.{BodyFault}
 use Rattle.hlc_node.specs.Items.{body_refusal, retires}
 use Rattle.hlc_node.specs.Rows.{IsSameVersion, IsRowSet}
@@ -36,7 +37,7 @@ pub record IsAdmissible (gone : Bool) (next last : ℕ) (item : Item) : Type 0 w
 
 of_body-none : (fault : Option BodyFault) → of_body fault ≡ None → fault ≡ None
 of_body-none None h = refl
-of_body-none (Some fault) h = absurd (let g : Some (BadBody fault) ≡ None = h in cc)
+of_body-none (Some fault) h = absurd (let g : Some (bad_body fault) ≡ None = h in cc)
 
 pub admissible : (gone : Bool) (next last : ℕ) (item : Item) → link_refusal gone next last item ≡ None
     → IsAdmissible gone next last item
@@ -44,12 +45,12 @@ admissible true next last item h = absurd (cc)
 admissible false next last item h =
     elim (cases_eq item.number next) [
       | inr other ↦ absurd (let e : not (item.number == next) ≡ true = ap not (ne_eqb _ _ other) in
-          let g : Some (NotNext next) ≡ None = sym (cond-true _ _ _ e) ∙ h in cc)
+          let g : Some (Link (NotNext next)) ≡ None = sym (cond-true _ _ _ e) ∙ h in cc)
       | inl same ↦
           let h1 = sym (cond-false _ _ _ (ap not (eq-eqb _ _ same))) ∙ h in
           elim (cases_eq item.number 18446744073709551615) [
             | inl spent ↦
-                absurd (let g : Some NumbersSpent ≡ None = sym (cond-true _ _ _ (eq-eqb _ _ spent)) ∙ h1 in cc)
+                absurd (let g : Some (Link NumbersSpent) ≡ None = sym (cond-true _ _ _ (eq-eqb _ _ spent)) ∙ h1 in cc)
             | inr left ↦
                 let h2 = sym (cond-false _ _ _ (ne_eqb _ _ left)) ∙ h1 in
                 elim (cases_lt last item.stamp) [
@@ -62,7 +63,8 @@ admissible false next last item h =
                         (sym (cond-false _ _ _ (lt-leb item.stamp last rises)) ∙ h2);
                   }
                   | inr falls ↦ absurd
-                      (let g : Some (StampNotRising last) ≡ None = sym (cond-true _ _ _ (le-leb _ _ falls)) ∙ h2 in cc)
+                      (let g : Some (Link (StampNotRising last)) ≡ None =
+                      sym (cond-true _ _ _ (le-leb _ _ falls)) ∙ h2 in cc)
                 ]
           ]
     ]

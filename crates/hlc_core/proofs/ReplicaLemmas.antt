@@ -13,7 +13,8 @@ use Rattle.hlc_heads.specs.Low.{least_left, or_else, low}
 use Rattle.hlc_vacuum.proofs.Parts.{same_rows}
 use Rattle.hlc_heads.specs.declared.heads.TheConstants.{MOST_NUMBERS}
 use Rattle.hlc_core.specs.declared.fault.CoreFault.{CoreFault}
-use Rattle.hlc_core.specs.declared.fault.CoreFault.TheVariants.{TooManyNodes, BelowFloor}
+use Rattle.hlc_core.specs.declared.fault.CoreFault.TheVariants.{Join}
+use Rattle.hlc_heads.specs.declared.heads.JoinFault.TheVariants.{TooManyNodes, BelowFloor}
 use Rattle.hlc_core.specs.Past.{Step, Took, Opened, Closed, Vacuumed, Joined, numbered, count, head, retired, top}
 use Rattle.hlc_core.specs.Past.{floor, horizon, writes, item_rows, item_refusal, join_at_refusal, IsLegal}
 use Rattle.hlc_core.specs.Kept.{Kept, nodes, StandsFor}
@@ -187,7 +188,8 @@ floors-agree nodes past other some legal legal' are =
 -- why no node joins at a start where so many numbers were given, and at this floor
 abbrev refusal_of : ℕ → ℕ → ℕ → Option CoreFault
 refusal_of many low start =
-    if nat_le MOST_NUMBERS many then Some TooManyNodes else if nat_lt start low then Some (BelowFloor low) else None
+    if nat_le MOST_NUMBERS many then Some (Join TooManyNodes)
+    else if nat_lt start low then Some (Join (BelowFloor low)) else None
 
 -- so a join at a start is refused alike
 pub joins-agree : (nodes : ℕ) (past other : List Step) (start : ℕ) → 0 < nodes → IsLegal nodes past

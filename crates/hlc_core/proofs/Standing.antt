@@ -23,7 +23,8 @@ use Rattle.hlc_heads.specs.Heads.{Marks, IsFloor, a_head, head_at, marked as rai
 use Rattle.hlc_heads.specs.declared.heads.TheConstants.{MOST_NODES, MOST_NUMBERS}
 use Rattle.hlc_heads.specs.declared.heads.Head.{Head}
 use Rattle.hlc_core.specs.declared.fault.CoreFault.{CoreFault}
-use Rattle.hlc_core.specs.declared.fault.CoreFault.TheVariants.{NoNode, TooManyNodes}
+use Rattle.hlc_core.specs.declared.fault.CoreFault.TheVariants.{NoNode, Join}
+use Rattle.hlc_heads.specs.declared.heads.JoinFault.TheVariants.{TooManyNodes}
 use Rattle.hlc_core.specs.Past.{Step, Took, Opened, Closed, Joined, numbered, count, head, retired, top, floor, horizon}
 use Rattle.hlc_core.specs.Past.{opened, writes, body_rows, item_rows, open_snapshots, link_refusal, item_refusal}
 use Rattle.hlc_core.specs.Past.{join_refusal, join_at_refusal, of_registry, of_room, room_refusal, open_refusal}
@@ -592,7 +593,7 @@ joins-at_none nodes past start none up =
     elim (cases_lt (numbered nodes past) MOST_NUMBERS) [
       | inl few ↦ cond-false _ _ _ (lt-leb MOST_NUMBERS (numbered nodes past) few)
           ∙ cond-false _ _ _ (le-ltb start (floor nodes past) up)
-      | inr full ↦ absurd (let e : Some TooManyNodes ≡ None =
+      | inr full ↦ absurd (let e : Some (Join TooManyNodes) ≡ None =
           sym (cond-true _ _ _ (le-leb MOST_NUMBERS (numbered nodes past) full)) ∙ none in cc)
     ]
 

@@ -10,17 +10,17 @@ use Rattle.hlc_node.specs.Items.{body_refusal, retires}
 use Rattle.hlc_heads.specs.Low.{low}
 use Rattle.hlc_heads.specs.declared.heads.TheConstants.{MOST_NUMBERS}
 use Rattle.hlc_heads.specs.declared.heads.JoinFault.{JoinFault}
+use Rattle.hlc_heads.specs.declared.heads.JoinFault.TheVariants.{TooManyNodes, BelowFloor}
 use Rattle.hlc_heads.specs.declared.heads.JoinFault.TheVariants as join_fault
-use Rattle.hlc_intake.specs.declared.intake.LinkFault.{LinkFault}
-use Rattle.hlc_intake.specs.declared.intake.LinkFault.TheVariants as link_fault
+use Rattle.hlc_intake.specs.declared.intake.LinkFault.TheVariants.{Retired, NotNext, NumbersSpent, StampNotRising}
+use Rattle.hlc_values.specs.declared.bounds.TheConstants.{NUMBER_BOUND}
 use Rattle.hlc_core.specs.declared.fault.CoreFault.{CoreFault}
 use Rattle.hlc_snapshot.specs.declared.snapshot.Snapshot.{Snapshot}
 use Rattle.hlc_snapshot.specs.declared.fault.SnapshotFault.{SnapshotFault}
 use Rattle.hlc_snapshot.specs.declared.fault.SnapshotFault.TheVariants as snapshot_fault
 use Rattle.hlc_snapshot.specs.Register.{stamp_in, without, room_refusal as room_in}
-use Rattle.hlc_core.specs.declared.fault.CoreFault.TheVariants.{NoNode, Retired, TooManyNodes, NotNext, StampNotRising}
-use Rattle.hlc_core.specs.declared.fault.CoreFault.TheVariants.{AboveFloor, BelowHorizon, BelowFloor, TooManySnapshots}
-use Rattle.hlc_core.specs.declared.fault.CoreFault.TheVariants.{NumbersSpent, BadBody, NoMemory}
+use Rattle.hlc_core.specs.declared.fault.CoreFault.TheVariants.{NoNode, Link, Body as bad_body, Join, AboveFloor}
+use Rattle.hlc_core.specs.declared.fault.CoreFault.TheVariants.{BelowHorizon, Snapshot as snapshot_refused, NoMemory}
 
 -- an event that took place: an item was accepted; a snapshot was opened at a stamp; the snapshot of an id was closed;
 -- rows were vacuumed up to this stamp; a node of this number joined, and starts at this stamp
@@ -121,25 +121,18 @@ closed_all (snapshot ∷ snapshots) past = closed_all snapshots (Closed snapshot
 abbrev pub stamp_of : ℕ → List Step → Option ℕ
 stamp_of id past = stamp_in id (open_snapshots past)
 
--- the link's fault, as a fault of the core
-abbrev pub of_link : LinkFault → CoreFault
-of_link link_fault.Retired = Retired
-of_link (link_fault.NotNext next) = NotNext next
-of_link link_fault.NumbersSpent = NumbersSpent
-of_link (link_fault.StampNotRising head) = StampNotRising head
-
 -- what no item may say, as a fault of the core
 abbrev pub of_body : Option BodyFault → Option CoreFault
 of_body None = None
-of_body (Some fault) = Some (BadBody fault)
+of_body (Some fault) = Some (bad_body fault)
 
 -- the first reason to refuse an item on its link, by whether its node retired, the link's next number and its head
 abbrev pub link_refusal : Bool → ℕ → ℕ → Item → Option CoreFault
 link_refusal gone next last item =
-    if gone then Some Retired
-    else if not (item.number == next) then Some (NotNext next)
-    else if item.number == 18446744073709551615 then Some NumbersSpent
-    else if nat_le item.stamp last then Some (StampNotRising last)
+    if gone then Some (Link Retired)
+    else if not (item.number == next) then Some (Link (NotNext next))
+    else if item.number == NUMBER_BOUND then Some (Link NumbersSpent)
+    else if nat_le item.stamp last then Some (Link (StampNotRising last))
     else of_body (body_refusal item.body)
 
 -- the first reason to refuse an item, memory aside
@@ -150,26 +143,24 @@ item_refusal nodes past item =
 
 -- why no node joins, memory aside: all numbers were given
 abbrev pub join_refusal : ℕ → List Step → Option CoreFault
-join_refusal nodes past = if nat_le MOST_NUMBERS (numbered nodes past) then Some TooManyNodes else None
+join_refusal nodes past = if nat_le MOST_NUMBERS (numbered nodes past) then Some (Join TooManyNodes) else None
 
 -- the first reason that no node joins at a start, memory aside
 abbrev pub join_at_refusal : ℕ → List Step → ℕ → Option CoreFault
 join_at_refusal nodes past start =
-    if nat_le MOST_NUMBERS (numbered nodes past) then Some TooManyNodes
-    else if nat_lt start (floor nodes past) then Some (BelowFloor (floor nodes past))
+    if nat_le MOST_NUMBERS (numbered nodes past) then Some (Join TooManyNodes)
+    else if nat_lt start (floor nodes past) then Some (Join (BelowFloor (floor nodes past)))
     else None
 
--- why no node joins, as a fault of the core
+-- why no node joins, as a fault of the core: out of memory is the core's own
 abbrev pub of_join : JoinFault → CoreFault
-of_join join_fault.TooManyNodes = TooManyNodes
-of_join (join_fault.BelowFloor floor) = BelowFloor floor
 of_join join_fault.NoMemory = NoMemory
+of_join fault = Join fault
 
--- a registry's fault, as a fault of the core
+-- a registry's fault, as a fault of the core: out of memory is the core's own
 abbrev pub of_registry : SnapshotFault → CoreFault
-of_registry snapshot_fault.TooManySnapshots = TooManySnapshots
-of_registry snapshot_fault.NumbersSpent = NumbersSpent
 of_registry snapshot_fault.NoMemory = NoMemory
+of_registry fault = snapshot_refused fault
 
 -- a registry's refusal, if there is one, as a refusal of the core
 abbrev pub of_room : Option SnapshotFault → Option CoreFault

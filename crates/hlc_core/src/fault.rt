@@ -2,6 +2,7 @@
 ghost use Rattle.std.specs.Prelude.{◌≡◌};
 ghost use Rattle.std.proofs.Common.{rules};
 ghost use Rattle.std.proofs.lemmas.Grind.{common_steps};
+ghost use Rattle.hlc_core.specs.Faults.{core_code, core_word};
 
 use hlc_clock::Stamp;
 use hlc_heads::JoinFault;
@@ -9,35 +10,29 @@ use hlc_intake::LinkFault;
 use hlc_node::BodyFault;
 use hlc_snapshot::SnapshotFault;
 use hlc_values::{Exact, NoMemory};
+use std::error::Error;
+use std::fmt;
 
-/// Why a core refuses a call.
+/// Why a core refuses a call. Out of memory is `NoMemory`, whatever part of the core met it.
 #[derive(Clone, Copy, PartialEq, Eq, Debug)]
 pub enum CoreFault {
     /// No node has this number; or the count of nodes of a new core is not 1 to 64.
     NoNode,
-    /// The node retired.
-    Retired,
-    /// 1,024 node numbers were given already.
-    TooManyNodes,
-    /// The link number is not the next one.
-    NotNext { next: u64 },
-    /// No further link number, or snapshot id, is left.
-    NumbersSpent,
-    /// The stamp is not above that of the link's last accepted item.
-    StampNotRising { head: Stamp },
+    /// The item is not the next one of its link.
+    Link(LinkFault),
     /// No item may say this.
-    BadBody(BodyFault),
+    Body(BodyFault),
+    /// No node joins.
+    Join(JoinFault),
     /// The stamp is above the floor.
     AboveFloor { floor: Stamp },
     /// The stamp is below that of the last vacuum.
     BelowHorizon { horizon: Stamp },
-    /// The start of a node that joins is below the floor.
-    BelowFloor { floor: Stamp },
+    /// No snapshot is opened.
+    Snapshot(SnapshotFault),
     /// No open snapshot has that id.
     NoSnapshot,
-    /// 1,024 snapshots are open.
-    TooManySnapshots,
-    /// A growth was refused.
+    /// Out of memory.
     NoMemory,
 }
 
@@ -47,18 +42,74 @@ impl Exact for CoreFault {
     ghost copied = { Prim.search rules };
 }
 
-impl From<LinkFault> for CoreFault {
-    ghost use Rattle.hlc_core.specs.Past.{of_link};
+impl CoreFault {
+    /// Its number in outputs: 1, 6 to 15, 26 or 27.
+    pub fn code(self) -> u32
+        ensures { result ≡ core_code self }
+    {
+        match self {
+            CoreFault::NoNode => 1,
+            CoreFault::Link(fault) => fault.code(),
+            CoreFault::Body(fault) => fault.code(),
+            CoreFault::Join(fault) => fault.code(),
+            CoreFault::AboveFloor { .. } => 8,
+            CoreFault::BelowHorizon { .. } => 9,
+            CoreFault::Snapshot(fault) => fault.code(),
+            CoreFault::NoSnapshot => 10,
+            CoreFault::NoMemory => 15,
+        }
+    }
 
-    ghost from_gives = { λ fault core. core ≡ of_link fault };
+    /// The number or the word of the stamp that comes with it, or 0.
+    pub fn word(self) -> u64
+        ensures { result ≡ core_word self }
+    {
+        match self {
+            CoreFault::Link(fault) => fault.word(),
+            CoreFault::Join(fault) => fault.word(),
+            CoreFault::AboveFloor { floor } => floor.bits(),
+            CoreFault::BelowHorizon { horizon } => horizon.bits(),
+            CoreFault::NoNode
+            | CoreFault::Body(_)
+            | CoreFault::Snapshot(_)
+            | CoreFault::NoSnapshot
+            | CoreFault::NoMemory => 0,
+        }
+    }
+}
+
+impl fmt::Display for CoreFault {
+    ghost use Rattle.std.specs.Prelude.{Some};
+    ghost use Rattle.hlc_core.specs.Faults.{core_text};
+
+    ghost output = { λ fault. Some (core_text fault) };
+
+    fn fmt<W: fmt::Write>(&self, f: &mut fmt::Formatter<W>) -> fmt::Result {
+        match self {
+            CoreFault::NoNode => f.write_str("no such node, or not 1 to 64 nodes"),
+            CoreFault::Link(fault) => write!(f, "{fault}"),
+            CoreFault::Body(fault) => write!(f, "{fault}"),
+            CoreFault::Join(fault) => write!(f, "{fault}"),
+            CoreFault::AboveFloor { floor } => write!(f, "the stamp is above the floor, {floor}"),
+            CoreFault::BelowHorizon { horizon } => {
+                write!(f, "the stamp is below that of the last vacuum, {horizon}")
+            }
+            CoreFault::Snapshot(fault) => write!(f, "{fault}"),
+            CoreFault::NoSnapshot => f.write_str("no open snapshot has that id"),
+            CoreFault::NoMemory => f.write_str("out of memory"),
+        }
+    }
+}
+
+impl Error for CoreFault {}
+
+impl From<LinkFault> for CoreFault {
+    ghost use Rattle.hlc_core.specs.declared.fault.CoreFault.TheVariants.{Link};
+
+    ghost from_gives = { λ fault core. core ≡ Link fault };
 
     fn from(fault: LinkFault) -> CoreFault {
-        match fault {
-            LinkFault::Retired => CoreFault::Retired,
-            LinkFault::NotNext { next } => CoreFault::NotNext { next },
-            LinkFault::NumbersSpent => CoreFault::NumbersSpent,
-            LinkFault::StampNotRising { head } => CoreFault::StampNotRising { head },
-        }
+        CoreFault::Link(fault)
     }
 }
 
@@ -69,9 +120,8 @@ impl From<JoinFault> for CoreFault {
 
     fn from(fault: JoinFault) -> CoreFault {
         match fault {
-            JoinFault::TooManyNodes => CoreFault::TooManyNodes,
-            JoinFault::BelowFloor { floor } => CoreFault::BelowFloor { floor },
             JoinFault::NoMemory => CoreFault::NoMemory,
+            fault => CoreFault::Join(fault),
         }
     }
 }
@@ -83,9 +133,8 @@ impl From<SnapshotFault> for CoreFault {
 
     fn from(fault: SnapshotFault) -> CoreFault {
         match fault {
-            SnapshotFault::TooManySnapshots => CoreFault::TooManySnapshots,
-            SnapshotFault::NumbersSpent => CoreFault::NumbersSpent,
             SnapshotFault::NoMemory => CoreFault::NoMemory,
+            fault => CoreFault::Snapshot(fault),
         }
     }
 }
@@ -109,3 +158,15 @@ impl Exact for NoNode {
 
     ghost copied = { Prim.search rules };
 }
+
+impl fmt::Display for NoNode {
+    ghost use Rattle.std.specs.Prelude.{Some, codes};
+
+    ghost output = { λ _. Some (codes "no node has this number") };
+
+    fn fmt<W: fmt::Write>(&self, f: &mut fmt::Formatter<W>) -> fmt::Result {
+        f.write_str("no node has this number")
+    }
+}
+
+impl Error for NoNode {}

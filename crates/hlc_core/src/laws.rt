@@ -32,15 +32,13 @@ pub fn accepted_writes_are_a_row_set()
     ensures { (nodes : ℕ) (past : List Step) → IsLegal nodes past → IsRowSet (writes past) }
 {}
 
-/// What is accepted after a past lies above its floor, so no later write changes what is read at
-/// the floor or below.
+/// What is accepted after a past lies above its floor, so no later write changes what is read at the floor or below.
 pub fn later_items_are_above_the_floor()
     ensures { (nodes : ℕ) (past : List Step) (item : AnItem) → item_refusal nodes past item ≡ None
         → floor nodes past < item.stamp }
 {}
 
-/// No open snapshot is above the floor: it was not above it when it was opened, and the floor never
-/// falls.
+/// No open snapshot is above the floor: it was not above it when it was opened, and the floor never falls.
 pub fn open_snapshots_are_at_most_the_floor()
     ensures { (nodes : ℕ) (past : List Step) → IsLegal nodes past
         → All (λ snapshot. snapshot.stamp ≤ floor nodes past) (open_snapshots past) }
@@ -152,8 +150,7 @@ pub fn vacuums_keep_standing()
         → Vacuums kept (with_rows_left kept rows at) at past report }
 {}
 
-/// Just after a vacuum the rows at or below its stamp are the fewest, and the cheapest, against all
-/// accepted writes.
+/// Just after a vacuum the rows at or below its stamp are the fewest, and the cheapest, against all accepted writes.
 pub fn vacuums_leave_the_fewest()
     ensures { (kept : Kept) (at : ℕ) (past : List Step) (report : AReport)
         → StandsFor kept (Vacuumed at ∷ past)

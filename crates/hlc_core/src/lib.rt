@@ -1,6 +1,5 @@
-//! The sequential store: items are accepted in the order of each link, snapshots open from the
-//! horizon to the floor, a read gives the newest accepted value, and a vacuum keeps the fewest rows
-//! that answer so.
+//! The sequential store: items are accepted in the order of each link, snapshots open from the horizon to the floor, a
+//! read gives the newest accepted value, and a vacuum keeps the fewest rows that answer so.
 #![tactic(auto)]
 
 mod event;
@@ -18,10 +17,11 @@ pub use event::CoreEvent;
 pub use fault::{CoreFault, NoNode};
 pub use hlc_checkpoint::{Checkpoint, RestoreFault};
 pub use hlc_clock::Stamp;
-pub use hlc_heads::Accepted;
-pub use hlc_intake::Intake;
-pub use hlc_node::{Body, BodyFault, Bytes, Item, Row};
-pub use hlc_snapshot::{NoSnapshot, Snapshot};
+pub use hlc_columns::{Answers, View};
+pub use hlc_heads::{Accepted, JoinFault};
+pub use hlc_intake::{Intake, LinkFault};
+pub use hlc_node::{Body, BodyFault, Bytes, Item, ItemRef, Row};
+pub use hlc_snapshot::{NoSnapshot, Snapshot, SnapshotFault};
 pub use hlc_vacuum::{BoxedReport, Points, Report, Witnesses};
 pub use hlc_values::NoMemory;
 pub use hlc_witness::Witness;

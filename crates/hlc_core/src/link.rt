@@ -8,11 +8,11 @@ use crate::fault::CoreFault;
 use hlc_clock::Stamp;
 use hlc_heads::{Accepted, Heads};
 use hlc_intake::Intake;
-use hlc_node::{Item, body_fault, retires};
+use hlc_node::ItemRef;
 
 /// The intake of the item's link once it has admitted the item; or the first reason to refuse the
 /// item, memory aside.
-pub fn admitted(intakes: &[Intake], item: &Item) -> Result<Intake, CoreFault>
+pub fn admitted(intakes: &[Intake], item: &ItemRef<'_>) -> Result<Intake, CoreFault>
     ensures { MatchOption (slice_get intakes.now item.now.node) (result ≡ Err CoreFault.NoNode)
         (λ link. MatchResult result
         (λ new. (link_refusal link.retired link.next link.head item.now ≡ None)
@@ -20,13 +20,13 @@ pub fn admitted(intakes: &[Intake], item: &Item) -> Result<Intake, CoreFault>
         { next = item.now.number + 1; head = item.now.stamp; retired = retires item.now.body }))
         (λ fault. link_refusal link.retired link.next link.head item.now ≡ Some fault)) }
 {
-    let Some(intake) = intakes.get(item.node as usize) else {
+    let Some(intake) = intakes.get(item.node() as usize) else {
         return Err(CoreFault::NoNode);
     };
     let mut intake = *intake;
-    intake.admit(item.number, item.stamp, retires(&item.body))?;
-    match body_fault(&item.body) {
-        Some(fault) => Err(CoreFault::BadBody(fault)),
+    intake.admit(item.number(), item.stamp(), item.retires())?;
+    match item.body_fault() {
+        Some(fault) => Err(CoreFault::Body(fault)),
         None => Ok(intake),
     }
 }

@@ -1,7 +1,7 @@
 //! A store of nodes that join, at the floor or at a stamp, and retire, fed items that no world makes.
 use crate::expected::must_be;
 use crate::items::{item, said, stamp};
-use hlc_core::{Body, Core, CoreFault, Item, NoNode, Stamp};
+use hlc_core::{Body, Core, CoreFault, Item, JoinFault, LinkFault, NoNode, Stamp};
 use std::alloc::Global;
 use std::process::Abort;
 use std::test::*;
@@ -63,17 +63,26 @@ fn is_last<R: Abort>(rt: &R, core: &Core, node: u16) {
 
 /// No node joins at a reading, which is below the floor.
 fn is_below_the_floor<R: Abort>(rt: &R, core: &mut Core, start: u64, floor: u64) {
-    let below = CoreFault::BelowFloor {
+    let below = CoreFault::Join(JoinFault::BelowFloor {
         floor: stamp(floor),
-    };
+    });
     must_be(rt, core.join_at(stamp(start)), Err(below));
     has_come_to(rt, core, floor);
 }
 
+/// A stamp is not above that of a reading.
+fn rising(head: u64) -> CoreFault {
+    CoreFault::Link(LinkFault::StampNotRising { head: stamp(head) })
+}
+
 /// The first item of a node is refused at the reading of its start, and taken one stamp above it.
 fn begins_above<R: Abort>(rt: &R, core: &mut Core, node: u16, start: u64) {
-    let rising = CoreFault::StampNotRising { head: stamp(start) };
-    refuses(rt, core, says((node, 0, start), Body::Report), rising);
+    refuses(
+        rt,
+        core,
+        says((node, 0, start), Body::Report),
+        rising(start),
+    );
     let above = stamp(start).bits().wrapping_add(1);
     let first = said((node, 0, above), Body::Report);
     must_be(rt, told(core, first), (Ok(()), false));
@@ -99,14 +108,18 @@ fn a_node_joins_and_the_first_one_retires(rt: HostRuntime) {
 fn join_and_retire<R: Abort>(rt: &R, alloc: Global, core: &mut Core) {
     writes(rt, alloc, core, (0, 0, 5), b"x");
     joins(rt, core, 1, 5);
-    let rising = CoreFault::StampNotRising { head: stamp(5) };
-    refuses(rt, core, write(rt, alloc, (1, 0, 5), b"y"), rising);
+    refuses(rt, core, write(rt, alloc, (1, 0, 5), b"y"), rising(5));
     retires(rt, core, (0, 1, 7));
     has_come_to(rt, core, 5);
     writes(rt, alloc, core, (1, 0, 6), b"y");
     has_come_to(rt, core, 6);
     reads_at_floor(rt, core, 6, b"y");
-    refuses(rt, core, says((0, 2, 8), Body::Report), CoreFault::Retired);
+    refuses(
+        rt,
+        core,
+        says((0, 2, 8), Body::Report),
+        CoreFault::Link(LinkFault::Retired),
+    );
     retires(rt, core, (1, 1, 9));
     has_come_to(rt, core, 9);
     joins(rt, core, 2, 9);
@@ -156,8 +169,16 @@ fn take_all_numbers<R: Abort>(rt: &R, core: &mut Core) {
     for number in 64..1_024 {
         must_be(rt, core.join(), Ok((number, stamp(0))));
     }
-    must_be(rt, core.join(), Err(CoreFault::TooManyNodes));
-    must_be(rt, core.join_at(stamp(0)), Err(CoreFault::TooManyNodes));
+    must_be(
+        rt,
+        core.join(),
+        Err(CoreFault::Join(JoinFault::TooManyNodes)),
+    );
+    must_be(
+        rt,
+        core.join_at(stamp(0)),
+        Err(CoreFault::Join(JoinFault::TooManyNodes)),
+    );
     must_be(rt, core.count(1_023), Ok(0));
     must_be(rt, core.count(1_024), Err(NoNode));
 }

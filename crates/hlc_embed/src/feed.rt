@@ -11,6 +11,7 @@ use hlc_core::{Bytes, Core, Stamp};
 use hlc_node::NodeCore;
 
 /// Lets a node write, and delivers the item.
+#[tactic(auto, using(crate::proofs::Codes::code_of_refusal))]
 pub(crate) fn write(
     core: &mut Core,
     node: &mut NodeCore,
@@ -29,6 +30,7 @@ pub(crate) fn write(
 }
 
 /// Lets a node tell how far its stamps have come, and delivers the item.
+#[tactic(auto, using(crate::proofs::Codes::code_of_refusal))]
 pub(crate) fn report(core: &mut Core, node: &mut NodeCore, reading: u64) -> Result<Stamp, Stopped>
     ensures keeps { IsStanding core.old → IfOk result (λ _. IsStanding core.new) }
     ensures feeds { (past : List Step) → StandsFor core.old past

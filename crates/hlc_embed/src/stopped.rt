@@ -1,54 +1,52 @@
 //! Why the program stopped before its end.
 ghost use Rattle.std.specs.Prelude.{◌≡◌};
+ghost use Rattle.hlc_core.specs.Faults.{core_code};
 ghost use Rattle.hlc_embed.specs.declared.stopped.Stopped.TheVariants.{NotIssued, Refused, NotShown};
-ghost use Rattle.hlc_core.specs.declared.fault.CoreFault.TheVariants.{NoMemory as no_memory};
-ghost use Rattle.hlc_core.specs.declared.fault.CoreFault.TheVariants.{NoSnapshot as no_snapshot};
 
 use hlc_core::{CoreFault, Item, NoMemory, NoSnapshot};
 use hlc_node::{NodeFault, RefusedWrite};
 use hlc_witness::NotShown;
 
-/// Why the program stopped. The fault of each call becomes one of these by `?`. Only a core's is kept
-/// whole.
+/// Why the program stopped. The fault of each call becomes one of these by `?`.
 #[derive(Clone, Copy, PartialEq, Eq, Debug)]
 pub(crate) enum Stopped {
     /// A node issued no item.
     NotIssued,
-    /// The store refused a call.
-    Refused(CoreFault),
+    /// The store refused a call: the number of its fault.
+    Refused(u32),
     /// A certificate does not show that its rows are the fewest. Of a vacuum it always does.
     NotShown,
 }
 
 impl From<NoMemory> for Stopped {
-    ghost from_gives = { λ lack stopped. stopped ≡ Refused no_memory };
+    ghost from_gives = { λ lack stopped. stopped ≡ Refused 15 };
 
     fn from(_: NoMemory) -> Stopped {
-        Stopped::Refused(CoreFault::NoMemory)
+        Stopped::Refused(15)
     }
 }
 
 impl From<NoSnapshot> for Stopped {
-    ghost from_gives = { λ lack stopped. stopped ≡ Refused no_snapshot };
+    ghost from_gives = { λ lack stopped. stopped ≡ Refused 10 };
 
     fn from(_: NoSnapshot) -> Stopped {
-        Stopped::Refused(CoreFault::NoSnapshot)
+        Stopped::Refused(10)
     }
 }
 
 impl From<CoreFault> for Stopped {
-    ghost from_gives = { λ fault stopped. stopped ≡ Refused fault };
+    ghost from_gives = { λ fault stopped. stopped ≡ Refused (core_code fault) };
 
     fn from(fault: CoreFault) -> Stopped {
-        Stopped::Refused(fault)
+        Stopped::Refused(fault.code())
     }
 }
 
 impl From<(CoreFault, Item)> for Stopped {
-    ghost from_gives = { λ refused stopped. stopped ≡ Refused refused.0 };
+    ghost from_gives = { λ refused stopped. stopped ≡ Refused (core_code refused.0) };
 
     fn from(refused: (CoreFault, Item)) -> Stopped {
-        Stopped::Refused(refused.0)
+        Stopped::from(refused.0)
     }
 }
 

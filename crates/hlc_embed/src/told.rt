@@ -9,8 +9,7 @@ use crate::stopped::Stopped;
 use crate::vacuumed::put_vacuum;
 use hlc_core::{Bytes, Core, NoMemory, Stamp};
 use hlc_node::NodeCore;
-use hlc_text::print::finish;
-use hlc_text::waiting::Waiting;
+use hlc_text::printer::Printer;
 use hlc_text::watched::Watched;
 use hlc_witness::Shown;
 use std::alloc::Global;
@@ -41,11 +40,11 @@ fn tell_of<W: Write>(
         → IfOk result (λ shown. Tells W.contents writer.old writer.new shown) }
 {
     let (early, late) = fill(alloc, core)?;
-    let mut waiting = Waiting::new();
-    put_read(writer, &mut waiting, core, early, b"city")?;
-    put_read(writer, &mut waiting, core, late, b"city")?;
-    let shown = put_vacuum(writer, &mut waiting, core)?;
-    finish(writer, &mut waiting);
+    let mut printer = Printer::new(writer);
+    put_read(&mut printer, core, early, b"city")?;
+    put_read(&mut printer, core, late, b"city")?;
+    let shown = put_vacuum(&mut printer, core)?;
+    printer.finish();
     Ok(shown)
 }
 
@@ -60,13 +59,23 @@ fn fill(alloc: Global, core: &mut Core) -> Result<(u64, u64), Stopped>
     say(alloc, core, &mut west, 10, b"city", b"Lyon")?;
     say(alloc, core, &mut east, 12, b"river", b"Rhone")?;
     report(core, &mut west, 12)?;
-    let (early, _) = core.open_floor()?;
+    let early = open(core)?;
     say(alloc, core, &mut west, 14, b"city", b"Lyon")?;
     say(alloc, core, &mut west, 15, b"city", b"Paris")?;
     say(alloc, core, &mut east, 16, b"river", b"Seine")?;
     report(core, &mut west, 17)?;
-    let (late, _) = core.open_floor()?;
+    let late = open(core)?;
     Ok((early, late))
+}
+
+/// Opens a snapshot at the floor.
+fn open(core: &mut Core) -> Result<u64, Stopped>
+    ensures { IsStanding core.old → IfOk result (λ _. IsStanding core.new) }
+{
+    match core.open_floor() {
+        Ok((id, _)) => Ok(id),
+        Err(fault) => Err(Stopped::from(fault)),
+    }
 }
 
 /// Lets a node write, from bytes that stay where they are.

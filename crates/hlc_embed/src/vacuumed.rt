@@ -10,53 +10,50 @@ ghost use Rattle.hlc_embed.specs.Told.{Certifies};
 
 use crate::stopped::Stopped;
 use hlc_certificate::{printed_certificates_show_fewest, put_certificate};
-use hlc_core::{Core, CoreFault, Row, Stamp, Witness};
-use hlc_text::waiting::Waiting;
-use hlc_text::watched::Watched;
+use hlc_core::{Core, Row, Stamp, Witness};
+use hlc_text::printer::Printer;
 use hlc_witness::{NotShown, Shown, check};
 use std::io::Write;
 
 /// Vacuums the store, and prints the certificate of the rows that are left up to its floor. The
 /// witnesses always show that they are the fewest.
 pub(crate) fn put_vacuum<W: Write>(
-    writer: &mut Watched<W>,
-    waiting: &mut Waiting,
+    printer: &mut Printer<'_, W>,
     core: &mut Core,
 ) -> Result<Shown, Stopped>
     ensures stands { (past : List Step) → StandsFor core.old past
         → IfOk result (λ _. StandsFor core.new (Vacuumed (floor (nodes core.old) past) ∷ past)) }
     ensures printed { IfOk result (λ shown. (text : List ℕ)
-        × Prints W.contents writer.old writer.new waiting.old waiting.new text
+        × Prints W.contents printer.old printer.new text
         × IsAnsweredFewest text shown.rows shown.cost
         × ((past : List Step) → StandsFor core.old past
         → Certifies (nodes core.old) past core.new.rows text)) }
     ensures only { (past : List Step) → StandsFor core.old past
-        → IfErr result (λ stopped. stopped ≡ Stopped.Refused CoreFault.NoMemory) }
+        → IfErr result (λ stopped. stopped ≡ Stopped.Refused 15) }
 {
     let report = core.vacuum()?;
     let rows = core.rows_to(report.floor)?;
     let (points, witnesses) = (report.points.as_slice(), report.witnesses.as_slice());
-    let shown = put_checked(writer, waiting, points, rows.as_slice(), witnesses)?;
+    let shown = put_checked(printer, points, rows.as_slice(), witnesses)?;
     Ok(shown)
 }
 
 /// Prints a certificate, unless its witnesses do not show that the rows are the fewest.
 fn put_checked<W: Write>(
-    writer: &mut Watched<W>,
-    waiting: &mut Waiting,
+    printer: &mut Printer<'_, W>,
     points: &[Stamp],
     rows: &[Row],
     witnesses: &[Witness],
 ) -> Result<Shown, NotShown>
-    ensures printed { IfOk result (λ _. Prints W.contents writer.old writer.new
-        waiting.old waiting.new (certificate_text points.now rows.now witnesses.now)) }
+    ensures printed { IfOk result (λ _. Prints W.contents printer.old printer.new
+        (certificate_text points.now rows.now witnesses.now)) }
     ensures answered { IfOk result (λ shown.
         IsAnsweredFewest (certificate_text points.now rows.now witnesses.now)
         shown.rows shown.cost) }
     ensures only { IsCertificate rows.now points.now witnesses.now → IsOk result }
 {
     let shown = check(rows, points, witnesses)?;
-    put_certificate(writer, waiting, points, rows, witnesses);
+    put_certificate(printer, points, rows, witnesses);
     printed_certificates_show_fewest();
     Ok(shown)
 }

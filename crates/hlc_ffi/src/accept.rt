@@ -9,9 +9,8 @@ ghost use Rattle.hlc_calls.specs.Answers.{TellsAccepted, TellsChecked, TellsJoin
 ghost use Rattle.hlc_ffi.specs.Held.{OnStore, nodes_held};
 
 use crate::held::on_core;
-use hlc_calls::items::write_fault;
 use hlc_calls::{items, open_store};
-use hlc_core::{Core, Stamp};
+use hlc_core::{Core, ItemRef, Stamp};
 use hlc_handle::Store;
 use std::alloc::Global;
 
@@ -36,9 +35,8 @@ pub extern "C" fn hlc_accept_write(
     ensures nodes { nodes_held store.new.room.value ≡ nodes_held store.old.room.value }
 {
     *word = 0;
-    on_core!(alloc, store, |core| {
-        items::write(alloc, core, node, number, stamp, key, Some(value), word)
-    })
+    let item = ItemRef::write(node, number, Stamp::from_bits(stamp), key, Some(value));
+    on_core!(alloc, store, |core| items::accept(core, &item, word))
 }
 
 /// Accepts the deletion that a node issued under this number: 0 and its stamp, or a refusal and its
@@ -61,9 +59,8 @@ pub extern "C" fn hlc_accept_delete(
     ensures nodes { nodes_held store.new.room.value ≡ nodes_held store.old.room.value }
 {
     *word = 0;
-    on_core!(alloc, store, |core| {
-        items::write(alloc, core, node, number, stamp, key, None, word)
-    })
+    let item = ItemRef::write(node, number, Stamp::from_bits(stamp), key, None);
+    on_core!(alloc, store, |core| items::accept(core, &item, word))
 }
 
 /// Accepts the report that a node issued under this number: 0 and its stamp, or a refusal and its
@@ -85,11 +82,8 @@ pub extern "C" fn hlc_accept_report(
     ensures nodes { nodes_held store.new.room.value ≡ nodes_held store.old.room.value }
 {
     *word = 0;
-    on_core!(
-        alloc,
-        store,
-        |core| items::report(core, node, number, stamp, word)
-    )
+    let item = ItemRef::report(node, number, Stamp::from_bits(stamp));
+    on_core!(alloc, store, |core| items::accept(core, &item, word))
 }
 
 /// Accepts a node's last item, which it issued under this number: 0 and its stamp, or a refusal and
@@ -111,11 +105,8 @@ pub extern "C" fn hlc_accept_retire(
     ensures nodes { nodes_held store.new.room.value ≡ nodes_held store.old.room.value }
 {
     *word = 0;
-    on_core!(
-        alloc,
-        store,
-        |core| items::retire(core, node, number, stamp, word)
-    )
+    let item = ItemRef::retire(node, number, Stamp::from_bits(stamp));
+    on_core!(alloc, store, |core| items::accept(core, &item, word))
 }
 
 /// Why `hlc_accept_write` would refuse a write, memory aside: 0, or the refusal and its word.
@@ -137,12 +128,8 @@ pub extern "C" fn hlc_check_write(
     ensures same { store.new.room.value ≡ store.old.room.value }
 {
     *word = 0;
-    let bad = write_fault(key, Some(value));
-    on_core!(
-        alloc,
-        store,
-        |core| items::check(core, node, number, stamp, bad, word)
-    )
+    let item = ItemRef::write(node, number, Stamp::from_bits(stamp), key, Some(value));
+    on_core!(alloc, store, |core| items::check(core, &item, word))
 }
 
 /// Why `hlc_accept_delete` would refuse a deletion, memory aside: 0, or the refusal and its word.
@@ -163,12 +150,8 @@ pub extern "C" fn hlc_check_delete(
     ensures same { store.new.room.value ≡ store.old.room.value }
 {
     *word = 0;
-    let bad = write_fault(key, None);
-    on_core!(
-        alloc,
-        store,
-        |core| items::check(core, node, number, stamp, bad, word)
-    )
+    let item = ItemRef::write(node, number, Stamp::from_bits(stamp), key, None);
+    on_core!(alloc, store, |core| items::check(core, &item, word))
 }
 
 /// Why `hlc_accept_report`, or `hlc_accept_retire`, would refuse an item: 0, or the refusal and its
@@ -191,10 +174,11 @@ pub extern "C" fn hlc_check_report(
     ensures same { store.new.room.value ≡ store.old.room.value }
 {
     *word = 0;
+    let stamp = Stamp::from_bits(stamp);
     on_core!(
         alloc,
         store,
-        |core| items::check(core, node, number, stamp, None, word)
+        |core| items::check_plain(core, node, number, stamp, word)
     )
 }
 

@@ -32,6 +32,6 @@ pub extern "C" fn hlc_accept_all(
     on_core!(
         alloc,
         store,
-        |core| enter_all(alloc, core, entries, bytes, many, word)
+        |core| enter_all(core, entries, bytes, many, word)
     )
 }

@@ -13,7 +13,6 @@ pub mod node;
 pub mod read;
 pub mod vacuum;
 
-use hlc_calls::codes::number_of;
 use hlc_core::Core;
 pub use hlc_handle::Store;
 use std::alloc::Global;
@@ -30,7 +29,7 @@ pub extern "C" fn hlc_open(alloc: Global, store: &mut Store, count: u16) -> u32
     }
     let core = match Core::new(alloc, count) {
         Ok(core) => core,
-        Err(fault) => return number_of(fault),
+        Err(fault) => return fault.code(),
     };
     match Box::new(alloc, core) {
         Ok(held) => {

@@ -12,6 +12,8 @@ use hlc_clock::Stamp;
 use hlc_heads::{Accepted, MOST_NODES};
 use hlc_values::{Exact, NoMemory};
 use std::alloc::Global;
+use std::error::Error;
+use std::fmt;
 use std::marker::Model;
 
 /// As many words as there may be nodes.
@@ -104,6 +106,22 @@ impl Exact for BoardFault {
     ghost copied = { Prim.search rules };
 }
 
+impl fmt::Display for BoardFault {
+    ghost use Rattle.std.specs.Prelude.{Some};
+    ghost use Rattle.hlc_floor.specs.Faults.{board_text};
+
+    ghost output = { λ fault. Some (board_text fault) };
+
+    fn fmt<W: fmt::Write>(&self, f: &mut fmt::Formatter<W>) -> fmt::Result {
+        f.write_str(match self {
+            BoardFault::NoNode => "the count of nodes is not 1 to 64",
+            BoardFault::NoMemory => "out of memory",
+        })
+    }
+}
+
+impl Error for BoardFault {}
+
 impl From<NoMemory> for BoardFault {
     ghost use Rattle.std.specs.Prelude.{◌≡◌};
     ghost use Rattle.hlc_floor.specs.declared.board.BoardFault.{BoardFault};
@@ -168,7 +186,7 @@ fn cut_feeders(
         feeders.push(Feeder {
             seat,
             node,
-            raised: Stamp::from_bits(0),
+            raised: Stamp::ZERO,
         })?;
     }
     Ok(feeders)

@@ -1,3 +1,4 @@
 pub mod Low
 pub mod Heads
 pub mod Groups
+pub mod Faults

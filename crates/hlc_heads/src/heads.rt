@@ -3,6 +3,7 @@ ghost use Rattle.std.specs.Prelude.{◌≡◌, ◌<◌, false, true, length, max
 ghost use Rattle.std.proofs.Common.{rules};
 ghost use Rattle.std.proofs.lemmas.Grind.{common_steps};
 ghost use Rattle.hlc_heads.specs.declared.heads.TheConstants.{MOST_NODES, MOST_NUMBERS};
+ghost use Rattle.hlc_heads.specs.Faults.{join_code, join_word};
 ghost use Rattle.hlc_heads.specs.Heads.{
   Makes,
   Joins,
@@ -18,6 +19,8 @@ use crate::groups::{GROUP, groups_of, least_of, lower, regroup};
 use hlc_clock::Stamp;
 use hlc_values::Exact;
 use std::alloc::Global;
+use std::error::Error;
+use std::fmt;
 use std::marker::Model;
 
 /// The most nodes that there may be at the start.
@@ -69,6 +72,62 @@ impl Exact for JoinFault {
     ghost copied = { Prim.search rules };
 }
 
+impl fmt::Display for HeadsFault {
+    ghost use Rattle.std.specs.Prelude.{Some};
+    ghost use Rattle.hlc_heads.specs.Faults.{heads_text};
+
+    ghost output = { λ fault. Some (heads_text fault) };
+
+    fn fmt<W: fmt::Write>(&self, f: &mut fmt::Formatter<W>) -> fmt::Result {
+        match self {
+            HeadsFault::NoNode => f.write_str("the count of nodes is not 1 to 64"),
+            HeadsFault::NoMemory => f.write_str("out of memory"),
+        }
+    }
+}
+
+impl Error for HeadsFault {}
+
+impl JoinFault {
+    /// Its number: 9, 15 or 26.
+    pub fn code(self) -> u32
+        ensures { result ≡ join_code self }
+    {
+        match self {
+            JoinFault::TooManyNodes => 26,
+            JoinFault::BelowFloor { .. } => 9,
+            JoinFault::NoMemory => 15,
+        }
+    }
+
+    /// The word of the floor that comes with it, or 0.
+    pub fn word(self) -> u64
+        ensures { result ≡ join_word self }
+    {
+        match self {
+            JoinFault::BelowFloor { floor } => floor.bits(),
+            JoinFault::TooManyNodes | JoinFault::NoMemory => 0,
+        }
+    }
+}
+
+impl fmt::Display for JoinFault {
+    ghost use Rattle.std.specs.Prelude.{Some};
+    ghost use Rattle.hlc_heads.specs.Faults.{join_text};
+
+    ghost output = { λ fault. Some (join_text fault) };
+
+    fn fmt<W: fmt::Write>(&self, f: &mut fmt::Formatter<W>) -> fmt::Result {
+        match self {
+            JoinFault::TooManyNodes => f.write_str("all 1,024 node numbers were given"),
+            JoinFault::BelowFloor { floor } => write!(f, "the start is below the floor, {floor}"),
+            JoinFault::NoMemory => f.write_str("out of memory"),
+        }
+    }
+}
+
+impl Error for JoinFault {}
+
 /// The head of a node: the stamp of its last accepted item or else of its start, and whether that
 /// item was the node's last.
 #[derive(Clone, Copy, PartialEq, Eq, Debug)]
@@ -85,7 +144,7 @@ impl Exact for Head {
 
 /// The head of each node, and the greatest stamp of an accepted item or of a start. Contracts see the
 /// list of the heads, by node, and that stamp.
-#[derive(Drop)]
+#[derive(Debug, Drop)]
 pub struct Heads {
     heads: Vec<Head>,
     /// Of each group of nodes the least head of those that have not retired, if there is one.
@@ -117,15 +176,15 @@ impl Heads {
             return Err(HeadsFault::NoNode);
         }
         let head = Head {
-            stamp: Stamp::from_bits(0),
+            stamp: Stamp::ZERO,
             retired: false,
         };
         match vec![in alloc; head; nodes as usize] {
             Ok(heads) => Ok(Heads {
                 groups: groups_of(&heads),
                 heads,
-                top: Stamp::from_bits(0),
-                floor: Stamp::from_bits(0),
+                top: Stamp::ZERO,
+                floor: Stamp::ZERO,
             }),
             Err(_) => Err(HeadsFault::NoMemory),
         }

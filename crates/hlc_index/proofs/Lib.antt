@@ -7,3 +7,4 @@ pub mod Slots
 pub mod Places
 pub mod Values
 pub mod EntryLemmas
+pub mod Sought

@@ -195,8 +195,8 @@ module _ {V : Type 0} where
     pub told_inside : n < length slice → n < length now
     told_inside inside = let m = length-map now first_key in omega (arith, inside, as_many, m)
 
-  pub first_bytes : (tops : List ℕ) (leaves now : List (List (List ℕ × V))) (n : ℕ) → AreLeaves tops leaves → leaves ≡ now
-      → n < length now → AreBytes (get_or (first_keys now) n [])
+  pub first_bytes : (tops : List ℕ) (leaves now : List (List (List ℕ × V))) (n : ℕ) → AreLeaves tops leaves
+      → leaves ≡ now → n < length now → AreBytes (get_or (first_keys now) n [])
   first_bytes tops leaves now n inv view inside =
       subst (λ (l : List (List (List ℕ × V))). All AreBytes (first_keys l)) view inv.1 n []
       (let m = length-map now first_key in omega (arith, inside, m))

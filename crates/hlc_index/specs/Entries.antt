@@ -50,6 +50,14 @@ entries_in leaves = flat_map (λ leaf. leaf) leaves
 abbrev pub is_key : List ℕ → List ℕ → Bool
 is_key key other = is_eq (key_cmp key other)
 
+-- the entries in front of a slot of a leaf
+abbrev pub entries_before : {V : Type 0} → List (List (List ℕ × V)) → ℕ → ℕ → List (List ℕ × V)
+entries_before leaves at slot = entries_in (take at leaves) ++ take slot (slice_index_or leaves at [])
+
+-- the entries from a slot of a leaf on
+abbrev pub entries_from : {V : Type 0} → List (List (List ℕ × V)) → ℕ → ℕ → List (List ℕ × V)
+entries_from leaves at slot = drop slot (slice_index_or leaves at []) ++ entries_in (drop (at + 1) leaves)
+
 -- the same with one entry more in a leaf
 abbrev pub entries_with : {V : Type 0} → List (List (List ℕ × V)) → ℕ → ℕ → List ℕ × V → List (List ℕ × V)
 entries_with leaves at slot entry =

@@ -1,5 +1,6 @@
 //! The map.
-ghost use Rattle.std.specs.Prelude.{◌≡◌, ◌-◌, ◌<◌, ◌↔◌, [], ℕ, None, Some, length, slice_get, slice_index_or};
+ghost use Rattle.std.specs.Prelude.{◌≡◌, ◌≢◌, ◌-◌, ◌<◌, ◌≤◌, ◌++◌, ◌↔◌, [], ℕ, None, Some, length, slice_get};
+ghost use Rattle.std.specs.Prelude.{slice_index_or, All};
 ghost use Rattle.std.specs.Prelude.{filter, IsNone, IfSome, OnOk, OnErr, IfErr, option_copied};
 ghost use Rattle.std.specs.Map.{lookup};
 ghost use Rattle.std.specs.BTreeMap.{insert_entry};
@@ -7,6 +8,8 @@ ghost use Rattle.std.specs.Borrow.{Lends, sem};
 ghost use Rattle.std.specs.List.Sorted.{IsStrictlySortedBy};
 ghost use Rattle.hlc_index.specs.contracts.index.Index.{the_row};
 ghost use Rattle.hlc_index.specs.Entries.{key_cmp, is_key, keys_in, entries_in, with_value_in, IsPlace};
+ghost use Rattle.hlc_index.specs.Entries.{entries_before, entries_from};
+ghost use Rattle.std.specs.declared.cmp.Ordering.TheVariants.{Less};
 
 use crate::filled::Filled;
 use crate::head::head_of;
@@ -17,7 +20,7 @@ use std::marker::Model;
 
 /// A map from keys to values. Contracts see its leaves, the list of the entries of each. One after another these are
 /// the entries of the map, whose keys ascend byte by byte.
-#[derive(Drop)]
+#[derive(Debug, Drop)]
 pub struct Index<V> {
     leaves: Leaves<V>,
 }
@@ -98,6 +101,27 @@ impl<V: Drop> Index<V> {
         } else {
             None
         }
+    }
+
+    /// The leaf and the slot of the first entry whose key is not below a key, or the end of its leaf, where all entries
+    /// of that leaf are below it. It takes no memory.
+    pub fn seek(&self, key: &[u8]) -> (usize, usize)
+        ensures inside { result.1 ≤ length (slice_index_or self.now result.0 []) }
+        ensures whole { entries_in self.now
+            ≡ entries_before self.now result.0 result.1 ++ entries_from self.now result.0 result.1 }
+        ensures front { All (λ e. key_cmp e.0 key.now ≡ Less)
+            (entries_before self.now result.0 result.1) }
+        ensures back { All (λ e. key_cmp e.0 key.now ≢ Less)
+            (entries_from self.now result.0 result.1) }
+        ensures ascend { IsStrictlySortedBy key_cmp (keys_in (entries_in self.now)) }
+    {
+        let head = head_of(key);
+        let count = self.leaves.count_upto(key, head);
+        if count == 0 {
+            return (0, 0);
+        }
+        let (slot, _) = self.leaves.leaf(count - 1).find(key, head);
+        (count - 1, slot)
     }
 
     /// Adds an entry whose key is new. Where memory lacks, it comes back, and nothing is changed.

@@ -21,7 +21,7 @@ use std::marker::Model;
 pub(crate) const MOST_ENTRIES: usize = 128;
 
 /// Some entries in the order of their keys. Contracts see their list.
-#[derive(Drop)]
+#[derive(Debug, Drop)]
 pub(crate) struct Leaf<V> {
     heads: Vec<u128>,
     entries: Vec<(Bytes, V)>,

@@ -23,7 +23,7 @@ use std::marker::Model;
 const HALF: usize = MOST_ENTRIES / 2;
 
 /// Leaves side by side, none of them empty. Contracts see the list of what contracts see of each.
-#[derive(Drop)]
+#[derive(Debug, Drop)]
 pub(crate) struct Leaves<V> {
     alloc: Global,
     tops: Vec<u128>,

@@ -1,5 +1,6 @@
 -- How far a link has come, and which item comes next.
 use Rattle.std.specs.Prelude.{◌≡◌, ◌≢◌, ℕ, Bool, true, false, ◌<◌, ◌≤◌, ◌+◌, Result, Ok, Err}
+use Rattle.hlc_values.specs.declared.bounds.TheConstants.{NUMBER_BOUND}
 use Rattle.hlc_intake.specs.declared.intake.LinkFault.{LinkFault}
 use Rattle.hlc_intake.specs.declared.intake.LinkFault.TheVariants.{Retired, NotNext, NumbersSpent, StampNotRising}
 
@@ -15,7 +16,7 @@ pub record Progress : Type 0 where
 pub record IsNextItem (link : Progress) (number stamp : ℕ) : Type 0 where
   pub unretired : link.retired ≡ false
   pub in_turn : number ≡ link.next
-  pub left : number < 18446744073709551615
+  pub left : number < NUMBER_BOUND
   pub rising : link.head < stamp
 
 -- the first reason why an item of this number and stamp is not the next one
@@ -23,10 +24,10 @@ abbrev pub IsFirstRefusal : Progress → ℕ → ℕ → LinkFault → Type 0
 IsFirstRefusal link number stamp Retired = link.retired ≡ true
 IsFirstRefusal link number stamp (NotNext next) = (link.retired ≡ false) × (next ≡ link.next) × (number ≢ link.next)
 IsFirstRefusal link number stamp NumbersSpent =
-    (link.retired ≡ false) × (number ≡ link.next) × (number ≡ 18446744073709551615)
+    (link.retired ≡ false) × (number ≡ link.next) × (number ≡ NUMBER_BOUND)
 IsFirstRefusal link number stamp (StampNotRising head) =
     (link.retired ≡ false) × (head ≡ link.head) × (number ≡ link.next)
-    × (number ≢ 18446744073709551615) × (stamp ≤ link.head)
+    × (number ≢ NUMBER_BOUND) × (stamp ≤ link.head)
 
 -- the next item is admitted, and the link has come to it; any other is refused for the first reason, and the link stays
 abbrev pub Admits : Progress → Progress → ℕ → ℕ → Bool → Result Unit LinkFault → Type 0

@@ -2,10 +2,13 @@
 ghost use Rattle.std.specs.Prelude.{◌≡◌, false};
 ghost use Rattle.std.proofs.Common.{rules};
 ghost use Rattle.std.proofs.lemmas.Grind.{common_steps};
+ghost use Rattle.hlc_intake.specs.Faults.{link_code, link_word};
 ghost use Rattle.hlc_intake.specs.Progress.{Admits};
 
 use hlc_clock::Stamp;
-use hlc_values::Exact;
+use hlc_values::{Exact, NUMBER_BOUND};
+use std::error::Error;
+use std::fmt;
 use std::marker::Model;
 
 /// Why an item is not admitted.
@@ -15,7 +18,7 @@ pub enum LinkFault {
     Retired,
     /// The link number is not the next one.
     NotNext { next: u64 },
-    /// The number is u64::MAX, which no item bears: none would be left after it.
+    /// The number is 2^64 - 1, which no item bears: none would be left after it.
     NumbersSpent,
     /// The stamp is not above that of the link's last admitted item.
     StampNotRising { head: Stamp },
@@ -26,6 +29,51 @@ impl Exact for LinkFault {
 
     ghost copied = { Prim.search rules };
 }
+
+impl LinkFault {
+    /// Its number: 6, 7, 14 or 27.
+    pub fn code(self) -> u32
+        ensures { result ≡ link_code self }
+    {
+        match self {
+            LinkFault::Retired => 27,
+            LinkFault::NotNext { .. } => 6,
+            LinkFault::NumbersSpent => 14,
+            LinkFault::StampNotRising { .. } => 7,
+        }
+    }
+
+    /// The next number or the word of the head that comes with it, or 0.
+    pub fn word(self) -> u64
+        ensures { result ≡ link_word self }
+    {
+        match self {
+            LinkFault::NotNext { next } => next,
+            LinkFault::StampNotRising { head } => head.bits(),
+            LinkFault::Retired | LinkFault::NumbersSpent => 0,
+        }
+    }
+}
+
+impl fmt::Display for LinkFault {
+    ghost use Rattle.std.specs.Prelude.{Some};
+    ghost use Rattle.hlc_intake.specs.Faults.{link_text};
+
+    ghost output = { λ fault. Some (link_text fault) };
+
+    fn fmt<W: fmt::Write>(&self, f: &mut fmt::Formatter<W>) -> fmt::Result {
+        match self {
+            LinkFault::Retired => f.write_str("the node has retired"),
+            LinkFault::NotNext { next } => write!(f, "the next item of the node is number {next}"),
+            LinkFault::NumbersSpent => f.write_str("no item number is left"),
+            LinkFault::StampNotRising { head } => {
+                write!(f, "the stamp is not above that of the last item, {head}")
+            }
+        }
+    }
+}
+
+impl Error for LinkFault {}
 
 /// How far a node's link has come: the number of its next item, the stamp of the last admitted one
 /// or else of the node's start, which is the head, and whether it was its node's last item. It knows
@@ -61,7 +109,7 @@ impl Intake {
     pub fn new() -> Intake
         ensures { result ≡ record { next = 0; head = 0; retired = false } }
     {
-        Intake::starting_at(Stamp::from_bits(0))
+        Intake::starting_at(Stamp::ZERO)
     }
 
     /// The intake of the link of a node that starts at this stamp: its first item has number 0, and
@@ -124,7 +172,7 @@ impl Intake {
         if number != self.next {
             return Err(LinkFault::NotNext { next: self.next });
         }
-        if number == u64::MAX {
+        if number == NUMBER_BOUND {
             return Err(LinkFault::NumbersSpent);
         }
         if stamp <= self.head {

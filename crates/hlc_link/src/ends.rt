@@ -11,9 +11,10 @@ use crossbeam_channel::{Pass, RuledReceiver, RuledSender, bounded_with};
 use hlc_node::Item;
 use hlc_values::{Exact, NoMemory};
 use std::alloc::Global;
+use std::error::Error;
 use std::marker::Model;
-use std::mem;
 use std::sync::Wait;
+use std::{fmt, mem};
 
 /// As many items as a link carries.
 const MOST_ITEMS: u64 = 1 << 60;
@@ -33,6 +34,22 @@ impl Exact for PutFault {
     ghost copied = { Prim.search rules };
 }
 
+impl fmt::Display for PutFault {
+    ghost use Rattle.std.specs.Prelude.{Some};
+    ghost use Rattle.hlc_link.specs.Faults.{put_text};
+
+    ghost output = { λ fault. Some (put_text fault) };
+
+    fn fmt<W: fmt::Write>(&self, f: &mut fmt::Formatter<W>) -> fmt::Result {
+        f.write_str(match self {
+            PutFault::NumbersSpent => "2^60 items were put already",
+            PutFault::Closed => "the link is closed",
+        })
+    }
+}
+
+impl Error for PutFault {}
+
 /// The channel handed the call back, and nothing was put or taken. It does not say that the other end
 /// is gone.
 #[derive(Clone, Copy, PartialEq, Eq, Debug)]
@@ -43,6 +60,18 @@ impl Exact for LinkClosed {
 
     ghost copied = { Prim.search rules };
 }
+
+impl fmt::Display for LinkClosed {
+    ghost use Rattle.std.specs.Prelude.{Some, codes};
+
+    ghost output = { λ _. Some (codes "the link is closed") };
+
+    fn fmt<W: fmt::Write>(&self, f: &mut fmt::Formatter<W>) -> fmt::Result {
+        f.write_str("the link is closed")
+    }
+}
+
+impl Error for LinkClosed {}
 
 /// The sending end of a link. Contracts see its link, the items that it put, the first of them first,
 /// and whether it put the end. It can't be copied, so one thread alone puts.

@@ -2,3 +2,5 @@ pub mod Held
 pub mod Items
 pub mod Rows
 pub mod Node
+pub mod Seen
+pub mod Faults

@@ -1,5 +1,5 @@
 //! A key or a value.
-ghost use Rattle.std.specs.Prelude.{◌≡◌, ◌==◌, ◌<◌, ◌≤◌, ◌^◌, ℕ, length, IsOk, IfOk, MatchResult};
+ghost use Rattle.std.specs.Prelude.{◌≡◌, ◌==◌, ◌<◌, ◌≤◌, ◌^◌, ℕ, length, option_copied, IsOk, IfOk, MatchResult};
 ghost use Rattle.std.proofs.Common.{rules};
 ghost use Rattle.std.specs.Cmp.Rules.{comparing};
 ghost use Rattle.std.specs.Cmp.Lexicographic.{pointwise_decides, lists_per, lists_equiv};
@@ -136,6 +136,17 @@ impl Bytes {
         ensures { iter_rest result ≡ self.now }
     {
         self.as_slice().iter()
+    }
+}
+
+/// The bytes of a value, or none of a deletion mark.
+#[inline]
+pub fn value_slice(value: &Option<Bytes>) -> Option<&[u8]>
+    ensures { option_copied result ≡ value.now }
+{
+    match value {
+        None => None,
+        Some(bytes) => Some(bytes.as_slice()),
     }
 }
 

@@ -1,14 +1,18 @@
 //! Items, which a node hands on over its link, and messages to other nodes.
-ghost use Rattle.std.specs.Prelude.{◌≡◌, ◌⊎◌};
+ghost use Rattle.std.specs.Prelude.{◌≡◌, ◌⊎◌, option_copied};
 ghost use Rattle.std.proofs.Common.{rules};
 ghost use Rattle.std.proofs.lemmas.Grind.{common_steps};
 ghost use Rattle.hlc_node.specs.Items.{body_refusal, retires, IsShort};
+ghost use Rattle.hlc_node.specs.Faults.{body_code};
 ghost use Rattle.hlc_node.specs.declared.item.Body.TheVariants.{Write as a_write, Report, Retire};
 ghost use Rattle.hlc_node.specs.declared.item.TheConstants.{MOST_KEY_BYTES, MOST_VALUE_BYTES};
 
-use crate::bytes::Bytes;
+use crate::bytes::{Bytes, value_slice};
+use crate::item_ref::ItemRef;
 use hlc_clock::Stamp;
 use hlc_values::{Exact, NoMemory};
+use std::error::Error;
+use std::fmt;
 
 /// The most bytes that a key may have.
 pub const MOST_KEY_BYTES: usize = 255;
@@ -109,9 +113,64 @@ impl Exact for BodyFault {
     ghost copied = { Prim.search rules };
 }
 
+impl BodyFault {
+    /// Its number: 12 or 13.
+    pub fn code(self) -> u32
+        ensures { result ≡ body_code self }
+    {
+        match self {
+            BodyFault::BadKey => 12,
+            BodyFault::ValueTooLong => 13,
+        }
+    }
+}
+
+impl fmt::Display for BodyFault {
+    ghost use Rattle.std.specs.Prelude.{Some};
+    ghost use Rattle.hlc_node.specs.Faults.{body_text};
+
+    ghost output = { λ fault. Some (body_text fault) };
+
+    fn fmt<W: fmt::Write>(&self, f: &mut fmt::Formatter<W>) -> fmt::Result {
+        match self {
+            BodyFault::BadKey => f.write_str("the key is empty or longer than 255 bytes"),
+            BodyFault::ValueTooLong => f.write_str("the value is longer than 65,535 bytes"),
+        }
+    }
+}
+
+impl Error for BodyFault {}
+
+impl Item {
+    /// The item over the bytes of its own key and value.
+    #[inline]
+    pub fn as_ref(&self) -> ItemRef<'_>
+        ensures { result ≡ self.now }
+    {
+        let Item {
+            node,
+            number,
+            stamp,
+            body,
+        } = self;
+        match body {
+            Body::Write { key, value } => ItemRef::write(
+                *node,
+                *number,
+                *stamp,
+                key.as_slice(),
+                value_slice(value),
+            ),
+            Body::Report => ItemRef::report(*node, *number, *stamp),
+            Body::Retire => ItemRef::retire(*node, *number, *stamp),
+        }
+    }
+}
+
 /// The first reason why no item may write this value, or deletion mark, to this key.
-pub fn write_fault(key: &Bytes, value: &Option<Bytes>) -> Option<BodyFault>
-    ensures { result ≡ body_refusal (a_write key.now value.now) }
+#[inline]
+pub fn write_fault(key: &[u8], value: Option<&[u8]>) -> Option<BodyFault>
+    ensures { result ≡ body_refusal (a_write key.now (option_copied value.entry)) }
 {
     if key.is_empty() || key.len() > MOST_KEY_BYTES {
         return Some(BodyFault::BadKey);
@@ -134,7 +193,7 @@ pub fn body_fault(body: &Body) -> Option<BodyFault>
     ensures { result ≡ body_refusal body.now }
 {
     match body {
-        Body::Write { key, value } => write_fault(key, value),
+        Body::Write { key, value } => write_fault(key.as_slice(), value_slice(value)),
         Body::Report | Body::Retire => None,
     }
 }

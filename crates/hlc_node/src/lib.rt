@@ -6,18 +6,20 @@ mod bytes;
 #[cfg(test)]
 mod bytes_tests;
 mod item;
+mod item_ref;
 mod laws;
 mod mark;
 mod node;
 mod row;
 mod short;
 
-pub use bytes::Bytes;
+pub use bytes::{Bytes, value_slice};
 pub use hlc_clock::Stamp;
 pub use item::{
     Body, BodyFault, Item, MOST_KEY_BYTES, MOST_VALUE_BYTES, Message, body_fault,
     most_key_bytes_are_255, most_value_bytes_are_65535, retires, write_fault,
 };
+pub use item_ref::{ItemRef, Written};
 pub use laws::{
     newest_is_greatest, newest_is_unique, newest_stays, no_newest_no_row, other_keys_do_not_count,
 };

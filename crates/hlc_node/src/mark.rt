@@ -3,6 +3,7 @@ ghost use Rattle.std.specs.Prelude.{◌≡◌, None, option_copied};
 
 use crate::bytes::{Bytes, Held};
 use crate::short::Short;
+use std::fmt::{self, Debug, Formatter, Write};
 use std::marker::Model;
 
 /// A value, or the mark that there is none, in the room of a value. Contracts see an option of its
@@ -81,5 +82,11 @@ impl ValueOrMark {
             HeldOrMark::Here(short) => Some(short.as_slice()),
             HeldOrMark::There(vec) => Some(vec.as_slice()),
         }
+    }
+}
+
+impl Debug for ValueOrMark {
+    fn fmt<W: Write>(&self, f: &mut Formatter<W>) -> fmt::Result {
+        self.as_slice().fmt(f)
     }
 }

@@ -4,7 +4,7 @@ ghost use Rattle.hlc_node.specs.Items.{IsShortValue};
 ghost use Rattle.std.proofs.Common.{rules};
 ghost use Rattle.std.proofs.lemmas.Grind.{common_steps};
 
-use crate::bytes::Bytes;
+use crate::bytes::{Bytes, value_slice};
 use hlc_clock::Stamp;
 use hlc_values::{Exact, NoMemory};
 
@@ -24,10 +24,7 @@ impl Row {
     pub fn value(&self) -> Option<&[u8]>
         ensures { option_copied result ≡ self.now.value }
     {
-        match &self.value {
-            None => None,
-            Some(bytes) => Some(bytes.as_slice()),
-        }
+        value_slice(&self.value)
     }
 }
 

@@ -75,9 +75,14 @@ fn answer<T: Debug + Drop>(rt: &HostRuntime, name: &str, answer: Result<T, CoreF
     match &answer {
         Ok(answer) => say(rt, name, answer),
         Err(CoreFault::NoMemory) => return false,
-        Err(fault) => say(rt, "refused", fault),
+        Err(fault) => say_refusal(rt, fault),
     }
     true
+}
+
+/// Prints the number of a refusal, and its word.
+pub(crate) fn say_refusal(rt: &HostRuntime, fault: &CoreFault) {
+    say(rt, "refused", &(fault.code(), fault.word()));
 }
 
 /// Prints the value of a key in a snapshot. False where there is no memory for the key of the line.
@@ -94,7 +99,10 @@ fn read(rt: &HostRuntime, core: &Core, words: &mut LineWords<'_>) -> bool {
 
 /// A node joins at a start: its number, and the start.
 fn join_at(core: &mut Core, start: Stamp) -> Result<(u16, Stamp), CoreFault> {
-    Ok((core.join_at(start)?, start))
+    match core.join_at(start) {
+        Ok(node) => Ok((node, start)),
+        Err(fault) => Err(fault),
+    }
 }
 
 /// Vacuums up to the floor: what the report counts.
@@ -104,7 +112,10 @@ fn vacuum(core: &mut Core) -> Result<Counts, CoreFault> {
 
 /// Vacuums up to a stamp: what the report counts.
 fn vacuum_to(core: &mut Core, at: Stamp) -> Result<Counts, CoreFault> {
-    Ok(counts(&core.vacuum_to(at)?))
+    match core.vacuum_to(at) {
+        Ok(report) => Ok(counts(&report)),
+        Err(fault) => Err(fault),
+    }
 }
 
 /// What a report counts.

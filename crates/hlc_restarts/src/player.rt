@@ -1,5 +1,5 @@
 //! A store, and the lines that make one or read bytes.
-use crate::calls::call_core;
+use crate::calls::{call_core, say_refusal};
 use crate::restart::{resume_from, say_bytes};
 use crate::verbs::{Verb, verb_of};
 use crate::words::{next_bytes, next_node, next_number, next_stamp, next_word};
@@ -85,7 +85,7 @@ fn make(rt: &HostRuntime, core: &mut Option<Core>, nodes: u16) -> bool {
     match Core::new(rt.alloc(), nodes) {
         Ok(made) => *core = Some(made),
         Err(CoreFault::NoMemory) => return false,
-        Err(fault) => say(rt, "refused", &fault),
+        Err(fault) => say_refusal(rt, &fault),
     }
     true
 }

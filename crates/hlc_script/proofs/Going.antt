@@ -1,9 +1,11 @@
 -- In the midst of a script: the lines so far are answered by what was printed, and the world stands for a schedule of
 -- them.
-use Rattle.std.proofs.Common.{◌≡◌, ℕ, ◌+◌, sym, refl, subst, Bool, List, [], ◌∷◌, ◌++◌, length, Option, Some, None}
+use Rattle.std.proofs.Common.{◌≡◌, ℕ, ◌+◌, sym, refl, subst, List, [], ◌∷◌}
+use Rattle.std.proofs.Common.{◌++◌, length, Option, Some, None}
 use Rattle.std.proofs.Common.{append_assoc, inl, inr, arith, ◌≤◌}
 use Rattle.std.specs.Prelude.{◌≢◌}
-use Rattle.hlc_text.specs.Printing.{Printed}
+use Rattle.hlc_text.specs.declared.printer.Printer.{Printer}
+use Rattle.hlc_text.specs.Printing.{Prints}
 use Rattle.hlc_text.proofs.PrintLemmas.{printed_then, printed_none}
 use Rattle.std.proofs.Common.{append-nil}
 use Rattle.hlc_text.specs.Text.{printed}
@@ -16,18 +18,18 @@ use Rattle.hlc_script.specs.Reply.{reply_text}
 use Rattle.hlc_script.specs.Run.{AnswersLine, Answers, AnswersScript}
 
 -- whatever answers the lines that are left completes an answer to all of them
-pub record Going (nodes : ℕ) (world : State) (text rest : List ℕ) (number : ℕ) (failed_before failed : Bool)
-    (before after : Option (List ℕ)) (waited waits : List ℕ) : Type 0 where
+pub record Going {W : Type 0} (contents : W → Option (List ℕ)) (nodes : ℕ) (world : State) (text rest : List ℕ)
+    (number : ℕ) (old new : Printer W) : Type 0 where
   pub schedule : List (Event × Reply)
   pub so_far : List ℕ
   pub stands : StandsFor world schedule
-  pub wrote : Printed failed_before failed before after waited waits so_far
+  pub wrote : Prints contents old new so_far
   pub completes : (output : List ℕ) (bad : Option ℕ) → Answers nodes schedule number (lines_of rest) output bad
       → Answers nodes [] 2 (lines_of text) (so_far ++ output) bad
 
-pub going_first : (nodes : ℕ) (world : State) (text : List ℕ) (failed : Bool) (known : Option (List ℕ))
-    (waits : List ℕ) → StandsFor world [] → Going nodes world text text 2 failed failed known known waits waits
-going_first nodes world text failed known waits stands =
+pub going_first : {W : Type 0} {contents : W → Option (List ℕ)} {nodes : ℕ} {world : State} {text : List ℕ}
+    {old : Printer W} → StandsFor world [] → Going contents nodes world text text 2 old old
+going_first stands =
     record {
       schedule = [];
       so_far = [];
@@ -37,15 +39,16 @@ going_first nodes world text failed known waits stands =
     }
 
 -- one good line more
-pub going_more : (nodes : ℕ) (old new : State) (text rest after : List ℕ) (line : List ℕ) (number : ℕ) (f g h : Bool)
-    (a b c : Option (List ℕ)) (u v w : List ℕ) (event : Event) (reply : Reply)
-    → Going nodes old text rest number f g a b u v → lines_of rest ≡ line ∷ lines_of after → HasLine event
-    → line ≡ event_line event → world_nodes old ≡ nodes
-    → ((s : List (Event × Reply)) → StandsFor old s → (t : List (Event × Reply))
-    × AnswersLine (world_nodes old) s event reply t × StandsFor new t) → Printed g h b c v w (reply_text reply)
-    → Going nodes new text after (number + 1) f h a c u w
-going_more nodes old new text rest after line number f g h a b c u v w event reply going first has spelled same
-    answered wrote =
+pub going_more : {W : Type 0} {contents : W → Option (List ℕ)} {nodes : ℕ} {world world_after : State}
+    {text rest : List ℕ} (after : List ℕ) {line : List ℕ} {number : ℕ} {old mid new : Printer W} {event : Event}
+    {reply : Reply} → Going contents nodes world text rest number old mid → lines_of rest ≡ line ∷ lines_of after
+    → HasLine event → line ≡ event_line event → world_nodes world ≡ nodes
+    → ((s : List (Event × Reply)) → StandsFor world s → (t : List (Event × Reply))
+    × AnswersLine (world_nodes world) s event reply t × StandsFor world_after t)
+    → Prints contents mid new (reply_text reply)
+    → Going contents nodes world_after text after (number + 1) old new
+going_more {W} {contents} {nodes} {world} {world_after} {text} {rest} after {line} {number} {old} {mid} {new} {event}
+    {reply} going first has spelled same answered wrote =
     let next = answered going.schedule going.stands in
     record {
       schedule = next.0;
@@ -72,12 +75,13 @@ going_more nodes old new text rest after line number f g h a b c u v w event rep
     }
 
 -- the first bad line
-pub going_bad : (nodes : ℕ) (world : State) (text rest after : List ℕ) (line : List ℕ) (number : ℕ) (f g h : Bool)
-    (a b c : Option (List ℕ)) (u v w : List ℕ) → Going nodes world text rest number f g a b u v
-    → lines_of rest ≡ line ∷ lines_of after → ((event : Event) → HasLine event → line ≢ event_line event)
-    → Printed g h b c v w (printed (bad_line number)) → (output : List ℕ)
-    × Answers nodes [] 2 (lines_of text) output (Some number) × Printed f h a c u w output
-going_bad nodes world text rest after line number f g h a b c u v w going first bad wrote = (
+pub going_bad : {W : Type 0} {contents : W → Option (List ℕ)} {nodes : ℕ} {world : State} {text rest : List ℕ}
+    (after : List ℕ) {line : List ℕ} {number : ℕ} {old mid new : Printer W}
+    → Going contents nodes world text rest number old mid → lines_of rest ≡ line ∷ lines_of after
+    → ((event : Event) → HasLine event → line ≢ event_line event)
+    → Prints contents mid new (printed (bad_line number)) → (output : List ℕ)
+    × Answers nodes [] 2 (lines_of text) output (Some number) × Prints contents old new output
+going_bad {W} {contents} {nodes} {world} {text} {rest} after {line} {number} {old} {mid} {new} going first bad wrote = (
   going.so_far ++ printed (bad_line number),
   going.completes (printed (bad_line number)) (Some number)
       (subst
@@ -87,24 +91,25 @@ going_bad nodes world text rest after line number f g h a b c u v w going first 
 )
 
 -- no line is left
-pub going_end : (nodes : ℕ) (world : State) (text rest : List ℕ) (number : ℕ) (f g : Bool) (a b : Option (List ℕ))
-    (u v : List ℕ) → Going nodes world text rest number f g a b u v → length rest ≡ 0 → (output : List ℕ)
-    × Answers nodes [] 2 (lines_of text) output None × Printed f g a b u v output
-going_end nodes world text [] number f g a b u v going none = (
+pub going_end : {W : Type 0} {contents : W → Option (List ℕ)} {nodes : ℕ} {world : State} {text : List ℕ}
+    (rest : List ℕ) {number : ℕ} {old new : Printer W} → Going contents nodes world text rest number old new
+    → length rest ≡ 0 → (output : List ℕ)
+    × Answers nodes [] 2 (lines_of text) output None × Prints contents old new output
+going_end {W} {contents} {nodes} {world} {text} [] {number} {old} {new} going none = (
   going.so_far ++ [],
   going.completes [] None (refl, refl),
-  subst (λ (zs : List ℕ). Printed f g a b u v zs) (sym (append-nil going.so_far)) going.wrote,
+  subst (λ (zs : List ℕ). Prints contents old new zs) (sym (append-nil going.so_far)) going.wrote,
 )
-going_end nodes world text (x ∷ rest) number f g a b u v going none = absurd (omega (arith, none))
+going_end (x ∷ rest) going none = absurd (omega (arith, none))
 
 -- a header and the answers behind it
-pub script_answered : (input : List ℕ) (rest : List ℕ) (nodes made : ℕ) (bad : Option ℕ) (f g h : Bool)
-    (a b c : Option (List ℕ)) (u v w : List ℕ) → length input ≤ 16777216
+pub script_answered : {W : Type 0} {contents : W → Option (List ℕ)} {old mid new : Printer W} (input : List ℕ)
+    (rest : List ℕ) (nodes made : ℕ) (bad : Option ℕ) → length input ≤ 16777216
     → lines_of input ≡ header_line nodes ∷ lines_of rest → HasHeader nodes → made ≡ nodes
-    → Printed f g a b u v (printed (header_line nodes)) → (output : List ℕ)
-    × Answers made [] 2 (lines_of rest) output bad × Printed g h b c v w output → (output : List ℕ)
-    × ((length input ≤ 16777216) × AnswersScript input output bad) × Printed f h a c u w output
-script_answered input rest nodes made bad f g h a b c u v w fits first has same wrote (output, answers, more) = (
+    → Prints contents old mid (printed (header_line nodes)) → (output : List ℕ)
+    × Answers made [] 2 (lines_of rest) output bad × Prints contents mid new output → (output : List ℕ)
+    × ((length input ≤ 16777216) × AnswersScript input output bad) × Prints contents old new output
+script_answered input rest nodes made bad fits first has same wrote (output, answers, more) = (
   printed (header_line nodes) ++ output,
   (
     fits,

@@ -2,8 +2,9 @@
 -- was wanting.
 use Rattle.std.proofs.Common.{◌≡◌, ℕ, ◌+◌, ◌∙◌, sym, ap, refl, subst, List, [], ◌∷◌, ◌++◌, Option, Some, None, Ok}
 use Rattle.std.proofs.Common.{Result, append_assoc, arith, ◌⊎◌, inl, inr}
-use Rattle.std.specs.Prelude.{codes, ◌≢◌}
+use Rattle.std.specs.Prelude.{codes, decimal, ◌≢◌}
 use Rattle.std.specs.List.{flat_map}
+use Rattle.std.proofs.lemmas.Fmt.{decimal-digits_of}
 use Rattle.hlc_text.specs.Text.{printed}
 use Rattle.hlc_text.specs.Lines.{lines_of}
 use Rattle.hlc_clock.specs.declared.clock.ClockFault.{ClockFault}
@@ -193,9 +194,13 @@ given_once nodes schedule event reply other given also =
 abbrev Same : List ℕ → List ℕ → Option ℕ → Option ℕ → Type 0
 Same output other bad worse = ((output ≡ other) × (bad ≡ worse)) ⊎ (TellsNoMemory output ⊎ TellsNoMemory other)
 
+fifteen : decimal 15 ≡ codes "15"
+fifteen = decimal-digits_of 15 (omega arith) (omega arith)
+
 -- a reply that tells of want of memory
 tells : (reply : Reply) (rest : List ℕ) → reply ≡ Refused no_memory → TellsNoMemory (reply_text reply ++ rest)
-tells reply rest is = rw is ([], rest, refl)
+tells reply rest is =
+    rw is ([], rest, ap (λ (d : List ℕ). flat_map printed (((codes "refused " ++ d) ++ []) ∷ []) ++ rest) fifteen)
 
 -- a line in front
 behind : (line rest : List ℕ) → TellsNoMemory rest → TellsNoMemory (printed line ++ rest)

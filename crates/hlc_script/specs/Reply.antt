@@ -1,5 +1,6 @@
 -- The lines of replies and refusals.
-use Rattle.std.specs.Prelude.{ℕ, List, [], ◌∷◌, ◌++◌, length, map, codes, decimal, Option, Some, None}
+use Rattle.std.specs.Prelude.{ℕ, List, [], ◌∷◌, ◌++◌, ◌==◌, length, map, codes, decimal, Option, Some, None}
+use Rattle.std.specs.Prelude.{if◌then◌else◌}
 use Rattle.std.specs.List.{flat_map}
 use Rattle.hlc_clock.specs.Stamp.{stamp_text}
 use Rattle.hlc_text.specs.Text.{bytes_token, printed}
@@ -10,32 +11,23 @@ use Rattle.hlc_world.specs.declared.reply.Reply.TheVariants.{Stamped, Joined, Se
 use Rattle.hlc_world.specs.declared.reply.Reply.TheVariants.{Snapshot, Answer, Listing, Closed, Floor, Vacuumed, Rows}
 use Rattle.hlc_world.specs.declared.reply.Reply.TheVariants.{Refused}
 use Rattle.hlc_world.specs.declared.refusal.Refusal.{Refusal}
-use Rattle.hlc_world.specs.declared.refusal.Refusal.TheVariants.{NoNode, ReadingTooLarge, CounterFull, NoMessage}
-use Rattle.hlc_world.specs.declared.refusal.Refusal.TheVariants.{NoItem, NotNext, StampNotRising, AboveFloor}
-use Rattle.hlc_world.specs.declared.refusal.Refusal.TheVariants.{BelowHorizon, NoSnapshot, TooManySnapshots, BadKey}
-use Rattle.hlc_world.specs.declared.refusal.Refusal.TheVariants.{ValueTooLong, NumbersSpent, NoMemory, TooManyNodes}
-use Rattle.hlc_world.specs.declared.refusal.Refusal.TheVariants.{Retired}
+use Rattle.hlc_world.specs.Faults.{refusal_code, refusal_word}
 use Rattle.hlc_certificate.specs.CertificateText.{witness_line}
 
--- a refusal's number, and what it tells behind it
+-- what the table of refusals adds to a number: the word that comes with it
+abbrev pub refusal_detail : ℕ → ℕ → List ℕ
+refusal_detail code word =
+    if code == 3 then codes " at " ++ stamp_text word
+    else if code == 6 then codes " next " ++ decimal word
+    else if code == 7 then codes " head " ++ stamp_text word
+    else if code == 8 then codes " floor " ++ stamp_text word
+    else if code == 9 then codes " horizon " ++ stamp_text word
+    else []
+
+-- a refusal's number, and what is added to it
 abbrev pub refusal_line : Refusal → List ℕ
-refusal_line NoNode = codes "refused 1"
-refusal_line ReadingTooLarge = codes "refused 2"
-refusal_line (CounterFull at) = codes "refused 3 at " ++ stamp_text at
-refusal_line NoMessage = codes "refused 4"
-refusal_line NoItem = codes "refused 5"
-refusal_line (NotNext next) = codes "refused 6 next " ++ decimal next
-refusal_line (StampNotRising head) = codes "refused 7 head " ++ stamp_text head
-refusal_line (AboveFloor floor) = codes "refused 8 floor " ++ stamp_text floor
-refusal_line (BelowHorizon horizon) = codes "refused 9 horizon " ++ stamp_text horizon
-refusal_line NoSnapshot = codes "refused 10"
-refusal_line TooManySnapshots = codes "refused 11"
-refusal_line BadKey = codes "refused 12"
-refusal_line ValueTooLong = codes "refused 13"
-refusal_line NumbersSpent = codes "refused 14"
-refusal_line NoMemory = codes "refused 15"
-refusal_line TooManyNodes = codes "refused 26"
-refusal_line Retired = codes "refused 27"
+refusal_line refusal =
+    (codes "refused " ++ decimal (refusal_code refusal)) ++ refusal_detail (refusal_code refusal) (refusal_word refusal)
 
 -- the value of a key, or none
 abbrev pub answer_line : Option (List ℕ) → List ℕ

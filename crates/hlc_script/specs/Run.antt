@@ -5,7 +5,8 @@ use Rattle.std.specs.Io.KnownBytes.{Consumes}
 use Rattle.hlc_text.specs.declared.input.TheConstants.{INPUT_LIMIT}
 use Rattle.hlc_text.specs.declared.watched.Watched.{Watched}
 use Rattle.hlc_text.specs.Watched.{inner_of, has_failed}
-use Rattle.hlc_text.specs.Printing.{Printed, Writes}
+use Rattle.hlc_text.specs.declared.printer.Printer.{Printer}
+use Rattle.hlc_text.specs.Printing.{Prints, Writes}
 use Rattle.hlc_text.specs.Text.{printed}
 use Rattle.hlc_text.specs.Lines.{lines_of, bad_line}
 use Rattle.hlc_text.specs.declared.input.InputFault.TheVariants.{ReadFault}
@@ -86,8 +87,7 @@ MayTake input taken WriteFault = ⊥
 
 -- What the reader had left was read as an input, and what may be written for it at this end was printed.
 pub record ReadsScript {R W : Type 0} (remaining : R → Option (List ℕ)) (contents : W → Option (List ℕ))
-    (reader reader_after : Watched R) (writer writer_after : Watched W) (waited waits : List ℕ)
-    (end : RunEnd) : Type 0 where
+    (reader reader_after : Watched R) (printer printer_after : Printer W) (end : RunEnd) : Type 0 where
   pub input : List ℕ
   pub taken : List ℕ
   pub output : List ℕ
@@ -95,8 +95,7 @@ pub record ReadsScript {R W : Type 0} (remaining : R → Option (List ℕ)) (con
   pub consumed : Consumes (remaining (inner_of reader)) (remaining (inner_of reader_after)) taken
   pub may_take : MayTake input taken end
   pub may_write : MayWrite input output end
-  pub prints : Printed (has_failed writer) (has_failed writer_after) (contents (inner_of writer))
-      (contents (inner_of writer_after)) waited waits output
+  pub prints : Prints contents printer printer_after output
 
 -- A script was read and answered: there are an input, an output that it may have, and the end of such a run.
 -- `remaining` and `contents` tell what the reader has left and what the writer holds, where that is known.

@@ -19,8 +19,7 @@ use crate::reply::{put_reply, put_value_line};
 use hlc_text::bytes::Spelled;
 use hlc_text::input::{InputFault, first_line, put_fault, read_input};
 use hlc_text::number;
-use hlc_text::print::{finish, put, put_named_number};
-use hlc_text::waiting::Waiting;
+use hlc_text::printer::Printer;
 use hlc_text::watched::Watched;
 use hlc_text::words::LineWords;
 use hlc_values::Exact;
@@ -78,9 +77,9 @@ pub fn run_script<R: Read, W: Write>(
     requires writer_well { has_failed writer.old ≡ false }
     ensures { RunsScript R.remaining W.contents reader.old reader.new writer.old writer.new result }
 {
-    let mut waiting = Waiting::new();
-    let end = read_and_answer(alloc, reader, writer, &mut waiting);
-    finish(writer, &mut waiting);
+    let mut printer = Printer::new(writer);
+    let end = read_and_answer(alloc, reader, &mut printer);
+    printer.finish();
     if writer.failed() {
         RunEnd::WriteFault
     } else {
@@ -91,19 +90,18 @@ pub fn run_script<R: Read, W: Write>(
 fn read_and_answer<R: Read, W: Write>(
     alloc: Global,
     reader: &mut Watched<R>,
-    writer: &mut Watched<W>,
-    waiting: &mut Waiting,
+    printer: &mut Printer<'_, W>,
 ) -> RunEnd
     requires { has_failed reader.old ≡ false }
     ensures written { ReadsScript R.remaining W.contents reader.old reader.new
-        writer.old writer.new waiting.old.items waiting.new.items result }
+        printer.old printer.new result }
     ensures read_fault { (result ≡ RunEnd.NotHeld InputFault.ReadFault)
         ↔ (has_failed reader.new ≡ true) }
 {
     match read_input(alloc, reader) {
-        Ok(input) => answer_input(alloc, input.as_slice(), writer, waiting),
+        Ok(input) => answer_input(alloc, input.as_slice(), printer),
         Err(fault) => {
-            put_fault(writer, waiting, fault);
+            put_fault(printer, fault);
             RunEnd::NotHeld(fault)
         }
     }
@@ -112,27 +110,22 @@ fn read_and_answer<R: Read, W: Write>(
 /// Answers an input that is held, as `run_script` does once it has read one. It prints, and leaves
 /// `finish` to the caller.
 /// Memory is asked for only behind a header, so a first line that is none is refused as such.
-pub fn answer_input<W: Write>(
-    alloc: Global,
-    input: &[u8],
-    writer: &mut Watched<W>,
-    waiting: &mut Waiting,
-) -> RunEnd
+pub fn answer_input<W: Write>(alloc: Global, input: &[u8], printer: &mut Printer<'_, W>) -> RunEnd
     requires { length input.now ≤ INPUT_LIMIT }
     ensures held { IsOfHeld result }
     ensures written { (output : List ℕ) × MayWrite input.now output result
-        × Prints W.contents writer.old writer.new waiting.old waiting.new output }
+        × Prints W.contents printer.old printer.new output }
 {
     let Some((nodes, rest)) = split_header(input) else {
-        put(writer, waiting, b"refused 17\n");
+        printer.put(b"refused 17\n");
         return RunEnd::BadHeader;
     };
     let Ok(mut world) = World::new(alloc, nodes) else {
-        put_fault(writer, waiting, InputFault::NoMemory);
+        put_fault(printer, InputFault::NoMemory);
         return RunEnd::NoMemory;
     };
-    put_header(writer, waiting, nodes);
-    let bad = answer_lines(alloc, &mut world, rest, writer, waiting);
+    put_header(printer, nodes);
+    let bad = answer_lines(alloc, &mut world, rest, printer);
     drop(world);
     match bad {
         None => RunEnd::Answered,
@@ -176,12 +169,11 @@ fn header_of_words(words: &mut LineWords<'_>) -> Option<u16>
     Some(nodes as u16)
 }
 
-fn put_header<W: Write>(writer: &mut Watched<W>, waiting: &mut Waiting, nodes: u16)
-    ensures { Prints W.contents writer.old writer.new waiting.old waiting.new
-        (printed (header_line nodes)) }
+fn put_header<W: Write>(printer: &mut Printer<'_, W>, nodes: u16)
+    ensures { Prints W.contents printer.old printer.new (printed (header_line nodes)) }
 {
-    put_named_number(writer, waiting, b"nodes ", nodes as u64);
-    put(writer, waiting, b"\n");
+    printer.put_named_number(b"nodes ", nodes as u64);
+    printer.put(b"\n");
 }
 
 /// Answers the lines behind the header, and gives the number of the first bad line, if there is
@@ -190,24 +182,23 @@ fn answer_lines<W: Write>(
     alloc: Global,
     world: &mut World,
     text: &[u8],
-    writer: &mut Watched<W>,
-    waiting: &mut Waiting,
+    printer: &mut Printer<'_, W>,
 ) -> Option<u64>
     requires fits { length text.now ≤ INPUT_LIMIT }
     requires fresh { StandsFor world.old [] }
     ensures { (output : List ℕ)
         × Answers (world_nodes world.old) [] 2 (lines_of text.now) output result
-        × Prints W.contents writer.old writer.new waiting.old waiting.new output }
+        × Prints W.contents printer.old printer.new output }
 {
     let mut rest = text;
     let mut number = 2u64;
     while !rest.is_empty() {
         let (line, after) = first_line(rest);
         let Some(event) = read_line(line) else {
-            put_bad_line(writer, waiting, number);
+            put_bad_line(printer, number);
             return Some(number);
         };
-        answer_line(alloc, world, event, writer, waiting);
+        answer_line(alloc, world, event, printer);
         rest = after;
         number += 1;
     }
@@ -220,8 +211,7 @@ fn answer_line<W: Write>(
     alloc: Global,
     world: &mut World,
     event: Event<Spelled<'_>>,
-    writer: &mut Watched<W>,
-    waiting: &mut Waiting,
+    printer: &mut Printer<'_, W>,
 )
     ensures nodes { world_nodes world.new ≡ world_nodes world.old }
     ensures answers { (reply : AReply)
@@ -229,16 +219,16 @@ fn answer_line<W: Write>(
         → (after : List (AnEvent × AReply))
         × AnswersLine (world_nodes world.old) schedule event.entry reply after
         × StandsFor world.new after)
-        × Prints W.contents writer.old writer.new waiting.old waiting.new (reply_text reply) }
+        × Prints W.contents printer.old printer.new (reply_text reply) }
 {
     match &event {
         Event::Report { node, reading } => {
             let reply = world.report(*node, *reading);
-            put_reply(writer, waiting, reply);
+            put_reply(printer, reply);
         }
         Event::Send { node, reading } => {
             let reply = world.send(*node, *reading);
-            put_reply(writer, waiting, reply);
+            put_reply(printer, reply);
         }
         Event::Receive {
             node,
@@ -246,13 +236,13 @@ fn answer_line<W: Write>(
             message,
         } => {
             let reply = world.receive(*node, *reading, *message);
-            put_reply(writer, waiting, reply);
+            put_reply(printer, reply);
         }
         Event::Deliver { node, number } => {
             let reply = world.deliver(*node, *number);
-            put_reply(writer, waiting, reply);
+            put_reply(printer, reply);
         }
-        _ => answer_other(alloc, world, event, writer, waiting),
+        _ => answer_other(alloc, world, event, printer),
     }
 }
 
@@ -288,8 +278,7 @@ fn answer_other<W: Write>(
     alloc: Global,
     world: &mut World,
     event: Event<Spelled<'_>>,
-    writer: &mut Watched<W>,
-    waiting: &mut Waiting,
+    printer: &mut Printer<'_, W>,
 )
     ensures nodes { world_nodes world.new ≡ world_nodes world.old }
     ensures answers { (reply : AReply)
@@ -297,7 +286,7 @@ fn answer_other<W: Write>(
         → (after : List (AnEvent × AReply))
         × AnswersLine (world_nodes world.old) schedule event.entry reply after
         × StandsFor world.new after)
-        × Prints W.contents writer.old writer.new waiting.old waiting.new (reply_text reply) }
+        × Prints W.contents printer.old printer.new (reply_text reply) }
 {
     if let Event::Write {
         node,
@@ -307,35 +296,29 @@ fn answer_other<W: Write>(
     } = &event
     {
         let reply = reply_to_write(alloc, world, *node, *reading, key, value);
-        put_reply(writer, waiting, reply);
+        put_reply(printer, reply);
         return;
     }
     if let Event::Read { id, key } = &event {
         if let Some(word) = key.as_word() {
-            answer_read(world, *id, word, writer, waiting);
+            answer_read(world, *id, word, printer);
             return;
         }
     }
     let reply = reply_to(alloc, world, event);
-    put_reply(writer, waiting, reply);
+    put_reply(printer, reply);
 }
 
 /// Prints the answer to a read.
-fn answer_read<W: Write>(
-    world: &World,
-    id: u64,
-    key: &[u8],
-    writer: &mut Watched<W>,
-    waiting: &mut Waiting,
-)
+fn answer_read<W: Write>(world: &World, id: u64, key: &[u8], printer: &mut Printer<'_, W>)
     ensures { (reply : AReply)
         × ((schedule : List (AnEvent × AReply)) → StandsFor world.now schedule
         → StandsFor world.now ((Event.Read id key.now, reply) ∷ schedule))
-        × Prints W.contents writer.old writer.new waiting.old waiting.new (reply_text reply) }
+        × Prints W.contents printer.old printer.new (reply_text reply) }
 {
     match world.look(id, key) {
-        Ok(value) => put_value_line(writer, waiting, value),
-        Err(refusal) => put_reply(writer, waiting, Reply::Refused(refusal)),
+        Ok(value) => put_value_line(printer, value),
+        Err(refusal) => put_reply(printer, Reply::Refused(refusal)),
     }
 }
 
@@ -355,10 +338,9 @@ fn reply_to(alloc: Global, world: &mut World, event: Event<Spelled<'_>>) -> Repl
     }
 }
 
-fn put_bad_line<W: Write>(writer: &mut Watched<W>, waiting: &mut Waiting, number: u64)
-    ensures { Prints W.contents writer.old writer.new waiting.old waiting.new
-        (printed (bad_line number)) }
+fn put_bad_line<W: Write>(printer: &mut Printer<'_, W>, number: u64)
+    ensures { Prints W.contents printer.old printer.new (printed (bad_line number)) }
 {
-    put_named_number(writer, waiting, b"refused 16 line ", number);
-    put(writer, waiting, b"\n");
+    printer.put_named_number(b"refused 16 line ", number);
+    printer.put(b"\n");
 }

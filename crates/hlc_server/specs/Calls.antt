@@ -54,14 +54,27 @@ pub record IsLeft (old new : Lock) (fault : NotDone) : Type 0 where
 abbrev pub Holds : Lock → Lock → CoreEvent → Result Receipt (NotDone × CoreEvent) → Type 0
 Holds old new event told = MatchResult told (λ receipt. IsOneHold old new event receipt) (λ back. IsLeft old new back.0)
 
--- A call of the core was made and entered: its reply has the event's form, the trail has one entry more where there is
--- one, and after each history that the core stood for, the reply is due and the core stands for the history with it.
-pub record IsEntered (old new : Kept) (before after : Option (List Entry)) (caller : ℕ) (event : CoreEvent)
-    (reply : CoreReply) : Type 0 where
+-- The core made a call: its reply has the event's form, and after each history that the core stood for, the reply is
+-- due and the core stands for the history with it.
+pub record IsReplied (old new : Kept) (event : CoreEvent) (reply : CoreReply) : Type 0 where
   pub form : IsReplyTo event reply
-  pub trail : after ≡ with_entry before (entry caller event reply)
   pub step : (history : List (CoreEvent × CoreReply)) → StandsForHistory old history
       → IsStep old new event history reply
+
+-- a call of the core; without memory it is not made
+abbrev pub Replies : Kept → Kept → CoreEvent → Result CoreReply AllocError → Type 0
+Replies old new event made = MatchResult made (λ reply. IsReplied old new event reply) (λ lack. new ≡ old)
+
+-- the same with the reply made twice
+abbrev pub RepliesTwice : Kept → Kept → CoreEvent → Result (CoreReply × CoreReply) AllocError → Type 0
+RepliesTwice old new event made =
+    MatchResult made (λ replies. (replies.0 ≡ replies.1) × IsReplied old new event replies.0) (λ lack. new ≡ old)
+
+-- A call of the core was made and entered: the trail has one entry more where there is one.
+pub record IsEntered (old new : Kept) (before after : Option (List Entry)) (caller : ℕ) (event : CoreEvent)
+    (reply : CoreReply) : Type 0 where
+  pub made : IsReplied old new event reply
+  pub trail : after ≡ with_entry before (entry caller event reply)
 
 -- a call of the core and its entry; without memory neither is made
 abbrev pub Enters : Kept → Kept → Option (List Entry) → Option (List Entry) → ℕ → CoreEvent
@@ -69,13 +82,3 @@ abbrev pub Enters : Kept → Kept → Option (List Entry) → Option (List Entry
 Enters old new before after caller event made =
     MatchResult made (λ reply. IsEntered old new before after caller event reply)
     (λ lack. (new ≡ old) × (after ≡ before))
-
--- A call of the core was made, and its reply, which has the event's form, was made twice: after each history that the
--- core stood for, the reply is due and the core stands for the history with it. Without memory nothing changed.
-abbrev pub RepliesTwice : Kept → Kept → CoreEvent → Result (CoreReply × CoreReply) AllocError → Type 0
-RepliesTwice old new event made =
-    MatchResult made
-    (λ replies. (replies.0 ≡ replies.1) × IsReplyTo event replies.0
-    × ((history : List (CoreEvent × CoreReply)) → StandsForHistory old history
-    → IsStep old new event history replies.0))
-    (λ lack. new ≡ old)

@@ -1,6 +1,7 @@
 //! Who may call a shared store.
 ghost use Rattle.std.specs.Prelude.{◌≡◌};
 
+use crate::entry::CallResult;
 use std::marker::Model;
 use std::sync::ledger::{Ledger, Share};
 
@@ -11,6 +12,9 @@ pub struct Caller<L: Ledger> {
     pub(crate) number: u16,
     pub(crate) share: Share<L>,
 }
+
+/// What a call gives back: its caller, and what came of it.
+pub type Called<L> = (Caller<L>, CallResult);
 
 impl<L: Ledger> Model for Caller<L> {
     ghost use Rattle.std.specs.Prelude.{◌<◌};

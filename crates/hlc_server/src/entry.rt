@@ -37,6 +37,9 @@ pub enum NotDone {
     NoMemory,
 }
 
+/// The receipt of a call; or why it was not made, and its event.
+pub type CallResult = Result<Receipt, (NotDone, CoreEvent)>;
+
 impl Exact for Entry {
     ghost equal = { λ a b. let said = Decides-and _ _ (event_equal a.event b.event) (reply_equal a.reply b.reply) in
         let parts = Decides-and _ _ (Decides-eqb a.caller b.caller) said in (

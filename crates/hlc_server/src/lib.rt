@@ -3,17 +3,21 @@
 #![tactic(auto)]
 
 mod caller;
+mod calling;
 mod entry;
 mod guarded;
 mod lock;
 mod locked;
+mod planning;
 mod settle;
 mod shared;
 mod trail;
+mod writing;
 
-pub use caller::Caller;
-pub use entry::{Entry, NotDone, Receipt};
-pub use guarded::{Guarded, step_guarded, vacuum_guarded, vacuum_to_guarded};
+pub use caller::{Called, Caller};
+pub use calling::{step_guarded, vacuum_guarded, vacuum_to_guarded};
+pub use entry::{CallResult, Entry, NotDone, Receipt};
+pub use guarded::Guarded;
 pub use hlc_core::{Bytes, Core, CoreEvent, CoreReply, Item, Stamp};
 pub use settle::{SettleFault, Settled, settle_guarded};
 pub use shared::Shared;

@@ -7,8 +7,8 @@ ghost use Rattle.hlc_core.specs.declared.event.CoreEvent.{CoreEvent as AnEvent};
 ghost use Rattle.hlc_server.specs.Seats.{fresh_seat};
 ghost use Rattle.hlc_server.specs.Calls.{IsToldFor};
 
-use crate::caller::Caller;
-use crate::entry::{NotDone, Receipt};
+use crate::caller::{Called, Caller};
+use crate::entry::CallResult;
 use crate::guarded::Guarded;
 use crate::lock::StoreLock;
 use hlc_core::{Bytes, CoreEvent, CoreFault, Item, Stamp};
@@ -21,7 +21,8 @@ use std::thread::Threads;
 /// A store that threads share, behind one lock. Each call holds the lock once.
 ///
 /// A call hands its caller back, with the receipt of the call; or why it was not made, and the event.
-/// What a caller was told can be checked afterwards, by `settle`.
+/// `call` and `call_by_threads` leave the caller with its owner. What a caller was told can be checked
+/// afterwards, by `settle`.
 #[derive(Drop)]
 pub struct Shared<L: Ledger> {
     pub(crate) lock: StoreLock<L>,
@@ -71,7 +72,7 @@ impl<L: Ledger> Shared<L> {
     /// Takes the lock away, once all threads have ended: what it kept, for `settle_guarded`.
     ///
     /// Of that, contracts know what holds of every store whenever nobody is in a call
-    /// (`Guarded::is_audited`), and whether there is a trail.
+    /// (`Guarded::calls`), and whether there is a trail.
     pub fn into_guarded(self) -> Guarded<L>
         ensures { is_some result.trail ≡ self.audited }
     {
@@ -79,29 +80,44 @@ impl<L: Ledger> Shared<L> {
         lock.into_inner()
     }
 
-    /// Makes the call that an event asks for. A vacuum is planned by this thread alone; `vacuum` and
-    /// `vacuum_to` plan it by several.
-    pub fn step<R: Wait>(
-        &self,
-        rt: &R,
-        caller: Caller<L>,
-        event: CoreEvent,
-    ) -> (Caller<L>, Result<Receipt, (NotDone, CoreEvent)>)
-        ensures { IsToldFor caller event result }
+    /// Makes the call that an event asks for, and leaves the caller with its owner. A vacuum is planned
+    /// by this thread alone.
+    pub fn call<R: Wait>(&self, rt: &R, caller: &mut Caller<L>, event: CoreEvent) -> CallResult
+        ensures { IsToldFor caller.old event (caller.new, result) }
     {
         match &self.lock {
-            StoreLock::Audited(lock) => lock.lock(rt).step(caller, event),
-            StoreLock::Plain(lock) => lock.lock(rt).step(caller, event),
+            StoreLock::Audited(lock) => lock.lock(rt).call(caller, event),
+            StoreLock::Plain(lock) => lock.lock(rt).call(caller, event),
         }
     }
 
-    /// Takes the next item of a link.
-    pub fn accept<R: Wait>(
+    /// The same, but a vacuum is planned by several threads. The lock is held all the while.
+    pub fn call_by_threads<R: Wait + Threads + Sync>(
         &self,
         rt: &R,
-        caller: Caller<L>,
-        item: Item,
-    ) -> (Caller<L>, Result<Receipt, (NotDone, CoreEvent)>)
+        caller: &mut Caller<L>,
+        event: CoreEvent,
+    ) -> CallResult
+        ensures { IsToldFor caller.old event (caller.new, result) }
+    {
+        match &self.lock {
+            StoreLock::Audited(lock) => lock.lock(rt).call_by_threads(rt, caller, event),
+            StoreLock::Plain(lock) => lock.lock(rt).call_by_threads(rt, caller, event),
+        }
+    }
+
+    /// Makes the call that an event asks for. A vacuum is planned by this thread alone; `vacuum` and
+    /// `vacuum_to` plan it by several.
+    pub fn step<R: Wait>(&self, rt: &R, caller: Caller<L>, event: CoreEvent) -> Called<L>
+        ensures { IsToldFor caller event result }
+    {
+        let mut caller = caller;
+        let told = self.call(rt, &mut caller, event);
+        (caller, told)
+    }
+
+    /// Takes the next item of a link.
+    pub fn accept<R: Wait>(&self, rt: &R, caller: Caller<L>, item: Item) -> Called<L>
         ensures { IsToldFor caller (AnEvent.Accept item) result }
     {
         self.step(rt, caller, CoreEvent::Accept(item))
@@ -109,11 +125,7 @@ impl<L: Ledger> Shared<L> {
 
     /// Lets a node join. The reply tells its number and the stamp at which its clock starts: from them
     /// the node's side is made, by `NodeCore::new(node, start)`.
-    pub fn join<R: Wait>(
-        &self,
-        rt: &R,
-        caller: Caller<L>,
-    ) -> (Caller<L>, Result<Receipt, (NotDone, CoreEvent)>)
+    pub fn join<R: Wait>(&self, rt: &R, caller: Caller<L>) -> Called<L>
         ensures { IsToldFor caller AnEvent.Join result }
     {
         self.step(rt, caller, CoreEvent::Join)
@@ -125,72 +137,42 @@ impl<L: Ledger> Shared<L> {
     /// The reply is a refusal, in this order: 1,024 node numbers were given already; the start is below
     /// the floor. A refusal leaves the store unchanged but for its trail, and out of memory no call is
     /// made.
-    pub fn join_at<R: Wait>(
-        &self,
-        rt: &R,
-        caller: Caller<L>,
-        start: Stamp,
-    ) -> (Caller<L>, Result<Receipt, (NotDone, CoreEvent)>)
+    pub fn join_at<R: Wait>(&self, rt: &R, caller: Caller<L>, start: Stamp) -> Called<L>
         ensures { IsToldFor caller (AnEvent.JoinAt start) result }
     {
         self.step(rt, caller, CoreEvent::JoinAt(start))
     }
 
     /// Opens a snapshot at a stamp.
-    pub fn open<R: Wait>(
-        &self,
-        rt: &R,
-        caller: Caller<L>,
-        stamp: Stamp,
-    ) -> (Caller<L>, Result<Receipt, (NotDone, CoreEvent)>)
+    pub fn open<R: Wait>(&self, rt: &R, caller: Caller<L>, stamp: Stamp) -> Called<L>
         ensures { IsToldFor caller (AnEvent.OpenAt stamp) result }
     {
         self.step(rt, caller, CoreEvent::OpenAt(stamp))
     }
 
     /// Opens a snapshot at the floor.
-    pub fn open_floor<R: Wait>(
-        &self,
-        rt: &R,
-        caller: Caller<L>,
-    ) -> (Caller<L>, Result<Receipt, (NotDone, CoreEvent)>)
+    pub fn open_floor<R: Wait>(&self, rt: &R, caller: Caller<L>) -> Called<L>
         ensures { IsToldFor caller AnEvent.OpenFloor result }
     {
         self.step(rt, caller, CoreEvent::OpenFloor)
     }
 
     /// Reads a key in an open snapshot.
-    pub fn read<R: Wait>(
-        &self,
-        rt: &R,
-        caller: Caller<L>,
-        id: u64,
-        key: Bytes,
-    ) -> (Caller<L>, Result<Receipt, (NotDone, CoreEvent)>)
+    pub fn read<R: Wait>(&self, rt: &R, caller: Caller<L>, id: u64, key: Bytes) -> Called<L>
         ensures { IsToldFor caller (AnEvent.Read id key) result }
     {
         self.step(rt, caller, CoreEvent::Read { id, key })
     }
 
     /// Lists an open snapshot.
-    pub fn list<R: Wait>(
-        &self,
-        rt: &R,
-        caller: Caller<L>,
-        id: u64,
-    ) -> (Caller<L>, Result<Receipt, (NotDone, CoreEvent)>)
+    pub fn list<R: Wait>(&self, rt: &R, caller: Caller<L>, id: u64) -> Called<L>
         ensures { IsToldFor caller (AnEvent.List id) result }
     {
         self.step(rt, caller, CoreEvent::List(id))
     }
 
     /// Closes an open snapshot.
-    pub fn close<R: Wait>(
-        &self,
-        rt: &R,
-        caller: Caller<L>,
-        id: u64,
-    ) -> (Caller<L>, Result<Receipt, (NotDone, CoreEvent)>)
+    pub fn close<R: Wait>(&self, rt: &R, caller: Caller<L>, id: u64) -> Called<L>
         ensures { IsToldFor caller (AnEvent.Close id) result }
     {
         self.step(rt, caller, CoreEvent::Close(id))
@@ -198,17 +180,12 @@ impl<L: Ledger> Shared<L> {
 
     /// Drops the rows that no reader needs, by a plan of several threads. The lock is held all the
     /// while.
-    pub fn vacuum<R: Wait + Threads + Sync>(
-        &self,
-        rt: &R,
-        caller: Caller<L>,
-    ) -> (Caller<L>, Result<Receipt, (NotDone, CoreEvent)>)
+    pub fn vacuum<R: Wait + Threads + Sync>(&self, rt: &R, caller: Caller<L>) -> Called<L>
         ensures { IsToldFor caller AnEvent.Vacuum result }
     {
-        match &self.lock {
-            StoreLock::Audited(lock) => lock.lock(rt).vacuum(rt, caller),
-            StoreLock::Plain(lock) => lock.lock(rt).vacuum(rt, caller),
-        }
+        let mut caller = caller;
+        let told = self.call_by_threads(rt, &mut caller, CoreEvent::Vacuum);
+        (caller, told)
     }
 
     /// Drops the rows at or below a stamp that no reader needs, by a plan of several threads. The lock is
@@ -222,12 +199,11 @@ impl<L: Ledger> Shared<L> {
         rt: &R,
         caller: Caller<L>,
         at: Stamp,
-    ) -> (Caller<L>, Result<Receipt, (NotDone, CoreEvent)>)
+    ) -> Called<L>
         ensures { IsToldFor caller (AnEvent.VacuumTo at) result }
     {
-        match &self.lock {
-            StoreLock::Audited(lock) => lock.lock(rt).vacuum_to(rt, caller, at),
-            StoreLock::Plain(lock) => lock.lock(rt).vacuum_to(rt, caller, at),
-        }
+        let mut caller = caller;
+        let told = self.call_by_threads(rt, &mut caller, CoreEvent::VacuumTo(at));
+        (caller, told)
     }
 }

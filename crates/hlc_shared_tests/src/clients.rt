@@ -1,7 +1,7 @@
 //! A caller of a shared store, with its receipts.
 use crate::expected::must_be;
 use hlc_core::{CoreEvent, CoreReply};
-use hlc_server::{Caller, NotDone, Receipt, SettleFault, Shared};
+use hlc_server::{Called, Caller, Receipt, SettleFault, Shared};
 use std::alloc::Global;
 use std::process::Abort;
 use std::sync::Wait;
@@ -22,7 +22,7 @@ fn call<L: Ledger, R: Wait + Threads + Sync>(
     shared: &Shared<L>,
     caller: Caller<L>,
     event: CoreEvent,
-) -> (Caller<L>, Result<Receipt, (NotDone, CoreEvent)>) {
+) -> Called<L> {
     match event {
         CoreEvent::Accept(item) => shared.accept(rt, caller, item),
         CoreEvent::Join => shared.join(rt, caller),

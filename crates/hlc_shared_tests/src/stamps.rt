@@ -5,7 +5,7 @@ use crate::clients::{Client, lists_of, settled_calls};
 use crate::expected::must_be;
 use crate::makers::{at_second, write};
 use crate::threads::shows;
-use hlc_core::{CoreEvent, CoreFault, CoreReply, Stamp};
+use hlc_core::{CoreEvent, CoreFault, CoreReply, JoinFault, LinkFault, Stamp};
 use hlc_server::{Caller, SettleFault, Shared};
 use std::alloc::Global;
 use std::marker::Brand;
@@ -135,9 +135,9 @@ fn joins<L: Ledger, R: Wait + Threads + Abort + Sync>(
     shared: &Shared<L>,
     client: Client<L>,
 ) -> Client<L> {
-    let below = CoreFault::BelowFloor {
+    let below = CoreFault::Join(JoinFault::BelowFloor {
         floor: at_second(3),
-    };
+    });
     let client = refuses(rt, shared, client, CoreEvent::JoinAt(at_second(2)), below);
     let joined = CoreReply::Joined {
         node: 1,
@@ -159,7 +159,10 @@ fn starts<L: Ledger, R: Wait + Threads + Abort + Sync>(
 ) -> Client<L> {
     let client = writes(rt, alloc, shared, client, (1, 0, at_second(5)));
     let head = at_second(5);
-    client.was_told(rt, CoreReply::Refused(CoreFault::StampNotRising { head }));
+    client.was_told(
+        rt,
+        CoreReply::Refused(CoreFault::Link(LinkFault::StampNotRising { head })),
+    );
     writes(rt, alloc, shared, client, (1, 0, at_second(6)))
 }
 

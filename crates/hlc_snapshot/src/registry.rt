@@ -19,7 +19,7 @@ pub const MOST_OPEN: usize = 1024;
 
 /// The open snapshots of a table. Contracts see them in the order in which they were opened, and
 /// how many were ever opened.
-#[derive(Drop)]
+#[derive(Debug, Drop)]
 pub struct Registry {
     snapshots: Vec<Snapshot>,
     opened: u64,

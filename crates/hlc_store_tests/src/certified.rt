@@ -17,8 +17,7 @@ use hlc_certificate::{CheckEnd, check_input, printed_certificates_show_fewest, p
 use hlc_core::{Core, NoMemory, Row, Stamp, Witness};
 use hlc_script::read_line;
 use hlc_text::number::number;
-use hlc_text::print::{finish, put_number};
-use hlc_text::waiting::Waiting;
+use hlc_text::printer::Printer;
 use hlc_text::watched::Watched;
 use hlc_witness::{NotShown, Shown, check};
 use std::alloc::Global;
@@ -30,9 +29,9 @@ use std::test::*;
 pub(crate) fn echo<W: Write>(writer: &mut Watched<W>, word: &[u8]) -> Option<u64>
     ensures { IfSome result (λ _. Writes W.contents writer.old writer.new word.now) }
 {
-    let (value, mut waiting) = (number(word)?, Waiting::new());
-    put_number(writer, &mut waiting, value);
-    finish(writer, &mut waiting);
+    let (value, mut printer) = (number(word)?, Printer::new(writer));
+    printer.put_number(value);
+    printer.finish();
     Some(value)
 }
 
@@ -58,9 +57,9 @@ pub(crate) fn write_certificate<W: Write>(
         shown.rows shown.cost) }
     ensures only { IsCertificate rows.now points.now witnesses.now → IsOk result }
 {
-    let (shown, mut waiting) = (check(rows, points, witnesses)?, Waiting::new());
-    put_certificate(writer, &mut waiting, points, rows, witnesses);
-    finish(writer, &mut waiting);
+    let (shown, mut printer) = (check(rows, points, witnesses)?, Printer::new(writer));
+    put_certificate(&mut printer, points, rows, witnesses);
+    printer.finish();
     printed_certificates_show_fewest();
     Ok(shown)
 }

@@ -1,5 +1,6 @@
 //! A run of events with its replies, by hand.
 use crate::items::bytes;
+use hlc_core::{CoreFault, LinkFault};
 use hlc_world::{Event, Points, Refusal, Reply, Report, Stamp, Witness, Witnesses, World};
 use std::alloc::Global;
 use std::process::Abort;
@@ -45,7 +46,12 @@ fn report_of_them<R: Abort>(rt: &R, alloc: Global, floor: Stamp) -> Report {
     }
 }
 
-/// The replies that are due to them, in turn.
+/// The store expects this number of the node next.
+fn not_next(next: u64) -> Reply {
+    Reply::Refused(Refusal::Store(CoreFault::Link(LinkFault::NotNext { next })))
+}
+
+/// The expected replies, in turn.
 fn replies_to_them<R: Abort>(rt: &R, alloc: Global) -> Vec<Reply> {
     let first = Stamp::from_bits(65_536);
     let second = Stamp::from_bits(131_072);
@@ -59,9 +65,9 @@ fn replies_to_them<R: Abort>(rt: &R, alloc: Global) -> Vec<Reply> {
             stamp: second,
             item: 1,
         },
-        Reply::Refused(Refusal::NotNext { next: 0 }),
+        not_next(0),
         Reply::Accepted { stamp: first },
-        Reply::Refused(Refusal::NotNext { next: 1 }),
+        not_next(1),
         Reply::Accepted { stamp: second },
         Reply::Refused(Refusal::NoItem),
         Reply::Refused(Refusal::NoNode),

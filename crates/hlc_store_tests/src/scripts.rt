@@ -3,11 +3,12 @@
 use crate::expected::must_be;
 use crate::failures::{Input, run};
 use crate::streams::{Giving, Taking};
-use hlc_clock::Stamp;
+use hlc_clock::{ClockFault, Stamp};
+use hlc_core::{CoreFault, JoinFault, LinkFault};
+use hlc_node::NodeFault;
 use hlc_script::{put_refusal, run_script};
-use hlc_text::print::finish;
+use hlc_text::printer::Printer;
 use hlc_text::stamp::stamp;
-use hlc_text::waiting::Waiting;
 use hlc_text::watched::Watched;
 use hlc_words::{Words, read_words};
 use hlc_world::Refusal;
@@ -98,18 +99,27 @@ fn nodes_join_up_to_1024(rt: HostRuntime) {
 fn texts_of_refusals(rt: HostRuntime) {
     let at = Stamp::from_bits(327_681);
     let cases: [(Refusal, &[u8]); 6] = [
-        (Refusal::CounterFull { at }, b"refused 3 at 5.1"),
-        (Refusal::StampNotRising { head: at }, b"refused 7 head 5.1"),
-        (Refusal::NumbersSpent, b"refused 14"),
+        (
+            Refusal::Node(NodeFault::Clock(ClockFault::CounterFull { at })),
+            b"refused 3 at 5.1",
+        ),
+        (
+            Refusal::Store(CoreFault::Link(LinkFault::StampNotRising { head: at })),
+            b"refused 7 head 5.1",
+        ),
+        (Refusal::Node(NodeFault::NumbersSpent), b"refused 14"),
         (Refusal::NoMemory, b"refused 15"),
-        (Refusal::TooManyNodes, b"refused 26"),
-        (Refusal::Retired, b"refused 27"),
+        (
+            Refusal::Store(CoreFault::Join(JoinFault::TooManyNodes)),
+            b"refused 26",
+        ),
+        (Refusal::Node(NodeFault::Retired), b"refused 27"),
     ];
     for (refusal, text) in cases {
-        let mut waiting = Waiting::new();
         let mut writer = Watched::new(Taking::whole(rt.alloc()));
-        put_refusal(&mut writer, &mut waiting, refusal);
-        finish(&mut writer, &mut waiting);
+        let mut printer = Printer::new(&mut writer);
+        put_refusal(&mut printer, refusal);
+        printer.finish();
         assert_eq!(rt; writer.into_inner().taken.as_slice(), text);
     }
 }

@@ -1,7 +1,10 @@
 //! The store by itself, fed items that no world makes.
 use crate::expected::must_be;
 use crate::items::{bytes, item, said};
-use hlc_core::{Body, BodyFault, Core, CoreFault, Item, NoNode, NoSnapshot, Report, Stamp};
+use hlc_core::{
+    Body, BodyFault, Core, CoreFault, Item, LinkFault, NoNode, NoSnapshot, Report, SnapshotFault,
+    Stamp,
+};
 use hlc_world::{Event, Reply};
 use std::alloc::Global;
 use std::process::Abort;
@@ -64,16 +67,36 @@ fn come_back_in_order<R: Abort>(rt: &R, alloc: Global, core: &mut Core) {
     let long = vec![in alloc; b'v'; 65_536].expect(rt, "memory");
     let cases: [((u16, u64, u64), &[u8], CoreFault); 8] = [
         ((1, 7, 0), b"", CoreFault::NoNode),
-        ((0, 7, 0), b"", CoreFault::NotNext { next: 1 }),
-        ((0, 0, 0), b"", CoreFault::NotNext { next: 1 }),
-        ((0, u64::MAX, 0), b"", CoreFault::NotNext { next: 1 }),
-        ((0, 1, 327_679), b"", CoreFault::StampNotRising { head }),
-        ((0, 1, 327_680), b"", CoreFault::StampNotRising { head }),
-        ((0, 1, 327_681), b"", CoreFault::BadBody(BodyFault::BadKey)),
+        (
+            (0, 7, 0),
+            b"",
+            CoreFault::Link(LinkFault::NotNext { next: 1 }),
+        ),
+        (
+            (0, 0, 0),
+            b"",
+            CoreFault::Link(LinkFault::NotNext { next: 1 }),
+        ),
+        (
+            (0, u64::MAX, 0),
+            b"",
+            CoreFault::Link(LinkFault::NotNext { next: 1 }),
+        ),
+        (
+            (0, 1, 327_679),
+            b"",
+            CoreFault::Link(LinkFault::StampNotRising { head }),
+        ),
+        (
+            (0, 1, 327_680),
+            b"",
+            CoreFault::Link(LinkFault::StampNotRising { head }),
+        ),
+        ((0, 1, 327_681), b"", CoreFault::Body(BodyFault::BadKey)),
         (
             (0, 1, 327_681),
             b"a",
-            CoreFault::BadBody(BodyFault::ValueTooLong),
+            CoreFault::Body(BodyFault::ValueTooLong),
         ),
     ];
     for (at, key, due) in cases {
@@ -219,7 +242,11 @@ fn open_at_zero<R: Abort>(rt: &R, core: &mut Core, first: u64, end: u64) {
     for id in first..end {
         must_be(rt, core.open(zero), Ok(id));
     }
-    must_be(rt, core.open(zero), Err(CoreFault::TooManySnapshots));
+    must_be(
+        rt,
+        core.open(zero),
+        Err(CoreFault::Snapshot(SnapshotFault::TooManySnapshots)),
+    );
 }
 
 /// What is above the floor is refused for that, however many snapshots are open.

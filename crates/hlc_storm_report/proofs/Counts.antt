@@ -5,7 +5,8 @@ use Rattle.std.specs.List.{flat_map}
 use Rattle.std.proofs.lemmas.List.{take_more, length-take-le}
 use Rattle.std.proofs.lemmas.List.Concat.{flat_map-append}
 use Rattle.hlc_text.specs.Text.{printed}
-use Rattle.hlc_text.specs.Printing.{Printed}
+use Rattle.hlc_text.specs.declared.printer.Printer.{Printer}
+use Rattle.hlc_text.specs.Printing.{Prints}
 use Rattle.hlc_text.proofs.PrintLemmas.{printed_then}
 use Rattle.std.proofs.Common.{append-nil}
 use Rattle.hlc_storm_report.specs.Printed.{accepted_line, accepted_lines}
@@ -32,9 +33,10 @@ text_more xs i d within =
     ∙ ap (λ l. flat_map printed (accepted_lines 0 (take i xs)) ++ l)
     (append-nil (printed (accepted_line i (get_or xs i d))))
 
-pub counted_more : {f g h : Bool} {a b c : Option (List ℕ)} {u v w : List ℕ} (xs : List ℕ) (i d : ℕ) → i < length xs
-    → Printed f g a b u v (flat_map printed (accepted_lines 0 (take i xs)))
-    → Printed g h b c v w (printed (accepted_line i (get_or xs i d)))
-    → Printed f h a c u w (flat_map printed (accepted_lines 0 (take (i + 1) xs)))
-counted_more {f} {g} {h} {a} {b} {c} {u} {v} {w} xs i d within first second =
-    subst (λ (zs : List ℕ). Printed f h a c u w zs) (sym (text_more xs i d within)) (printed_then first second)
+pub counted_more : {W : Type 0} {contents : W → Option (List ℕ)} {old mid new : Printer W} (xs : List ℕ) (i d : ℕ)
+    → i < length xs
+    → Prints contents old mid (flat_map printed (accepted_lines 0 (take i xs)))
+    → Prints contents mid new (printed (accepted_line i (get_or xs i d)))
+    → Prints contents old new (flat_map printed (accepted_lines 0 (take (i + 1) xs)))
+counted_more {W} {contents} {old} {mid} {new} xs i d within first second =
+    subst (λ (zs : List ℕ). Prints contents old new zs) (sym (text_more xs i d within)) (printed_then first second)

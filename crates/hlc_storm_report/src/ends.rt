@@ -1,7 +1,7 @@
 //! How the workers of a storm ended, and what that comes to.
 ghost use Rattle.std.specs.Prelude.{◌≡◌, ◌≢◌, ◌∷◌, [], ◌++◌, false, true, None, Some, IfOk, IfErr, reverse};
 ghost use Rattle.std.proofs.Props.{props};
-ghost use Rattle.hlc_workers.specs.declared.room.WorkEnd.{WorkEnd, WorkEnd as AnEnd};
+ghost use Rattle.hlc_workers.specs.declared.end.WorkEnd.{WorkEnd, WorkEnd as AnEnd};
 ghost use Rattle.hlc_storm_report.specs.Found.{MayRefuse};
 
 use crate::report::StormFault;

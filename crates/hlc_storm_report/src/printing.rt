@@ -11,8 +11,7 @@ ghost use Rattle.hlc_storm_report.specs.Printed.{storm_text, storm_status};
 use crate::report::{StormFault, StormReport};
 use hlc_core::Pair;
 use hlc_server::{NotDone, SettleFault};
-use hlc_text::print::{finish, put, put_bytes, put_named_bytes, put_named_number, put_named_stamp};
-use hlc_text::waiting::Waiting;
+use hlc_text::printer::Printer;
 use hlc_text::watched::Watched;
 use hlc_workers::WorkEnd;
 use std::io::Write;
@@ -37,101 +36,92 @@ pub fn print_storm<W: Write>(writer: &mut Watched<W>, told: &Result<StormReport,
 fn print_told<W: Write>(writer: &mut Watched<W>, told: &Result<StormReport, StormFault>)
     ensures { Writes W.contents writer.old writer.new (storm_text told.now) }
 {
-    let mut waiting = Waiting::new();
-    put_told(writer, &mut waiting, told);
-    finish(writer, &mut waiting);
+    let mut printer = Printer::new(writer);
+    put_told(&mut printer, told);
+    printer.finish();
 }
 
-fn put_told<W: Write>(
-    writer: &mut Watched<W>,
-    waiting: &mut Waiting,
-    told: &Result<StormReport, StormFault>,
-)
-    ensures { Prints W.contents writer.old writer.new waiting.old waiting.new
-        (storm_text told.now) }
+fn put_told<W: Write>(printer: &mut Printer<'_, W>, told: &Result<StormReport, StormFault>)
+    ensures { Prints W.contents printer.old printer.new (storm_text told.now) }
 {
     match told {
-        Ok(report) => put_report(writer, waiting, report),
+        Ok(report) => put_report(printer, report),
         Err(fault) => {
-            put_fault(writer, waiting, *fault);
-            put(writer, waiting, b"\n");
+            put_fault(printer, *fault);
+            printer.put(b"\n");
         }
     }
 }
 
 /// Prints the lines of a report.
-fn put_report<W: Write>(writer: &mut Watched<W>, waiting: &mut Waiting, report: &StormReport)
-    ensures { Prints W.contents writer.old writer.new waiting.old waiting.new
-        (report_text report.now) }
+fn put_report<W: Write>(printer: &mut Printer<'_, W>, report: &StormReport)
+    ensures { Prints W.contents printer.old printer.new (report_text report.now) }
 {
-    put_counts(writer, waiting, report.accepted.as_slice());
-    put_named_stamp(writer, waiting, b"floor ", report.floor);
-    put(writer, waiting, b"\n");
-    put_pairs(writer, waiting, report.pairs.as_slice());
-    put_named_number(writer, waiting, b"kept ", report.kept);
-    put(writer, waiting, b"\n");
-    put(writer, waiting, b"history legal\n");
+    put_counts(printer, report.accepted.as_slice());
+    printer.put_named_stamp(b"floor ", report.floor);
+    printer.put(b"\n");
+    put_pairs(printer, report.pairs.as_slice());
+    printer.put_named_number(b"kept ", report.kept);
+    printer.put(b"\n");
+    printer.put(b"history legal\n");
 }
 
 /// Prints how many items of each node were accepted.
-fn put_counts<W: Write>(writer: &mut Watched<W>, waiting: &mut Waiting, counts: &[u64])
-    ensures { Prints W.contents writer.old writer.new waiting.old waiting.new
+fn put_counts<W: Write>(printer: &mut Printer<'_, W>, counts: &[u64])
+    ensures { Prints W.contents printer.old printer.new
         (flat_map printed (accepted_lines 0 counts.now)) }
 {
     for (node, count) in counts.iter().enumerate() {
-        put_count(writer, waiting, node as u64, *count);
+        put_count(printer, node as u64, *count);
     }
 }
 
-fn put_count<W: Write>(writer: &mut Watched<W>, waiting: &mut Waiting, node: u64, count: u64)
-    ensures { Prints W.contents writer.old writer.new waiting.old waiting.new
-        (printed (accepted_line node count)) }
+fn put_count<W: Write>(printer: &mut Printer<'_, W>, node: u64, count: u64)
+    ensures { Prints W.contents printer.old printer.new (printed (accepted_line node count)) }
 {
-    put_named_number(writer, waiting, b"accepted ", node);
-    put_named_number(writer, waiting, b" ", count);
-    put(writer, waiting, b"\n");
+    printer.put_named_number(b"accepted ", node);
+    printer.put_named_number(b" ", count);
+    printer.put(b"\n");
 }
 
 /// Prints the keys with their values.
-fn put_pairs<W: Write>(writer: &mut Watched<W>, waiting: &mut Waiting, pairs: &[Pair])
-    ensures { Prints W.contents writer.old writer.new waiting.old waiting.new
+fn put_pairs<W: Write>(printer: &mut Printer<'_, W>, pairs: &[Pair])
+    ensures { Prints W.contents printer.old printer.new
         (flat_map printed (map storm_pair_line pairs.now)) }
 {
     for pair in pairs {
-        put_pair(writer, waiting, pair);
+        put_pair(printer, pair);
     }
 }
 
-fn put_pair<W: Write>(writer: &mut Watched<W>, waiting: &mut Waiting, pair: &Pair)
-    ensures { Prints W.contents writer.old writer.new waiting.old waiting.new
-        (printed (storm_pair_line pair.now)) }
+fn put_pair<W: Write>(printer: &mut Printer<'_, W>, pair: &Pair)
+    ensures { Prints W.contents printer.old printer.new (printed (storm_pair_line pair.now)) }
 {
-    put_bytes(writer, waiting, pair.key.as_slice());
-    put_named_bytes(writer, waiting, b" ", pair.value.as_slice());
-    put(writer, waiting, b"\n");
+    printer.put_bytes(pair.key.as_slice());
+    printer.put_named_bytes(b" ", pair.value.as_slice());
+    printer.put(b"\n");
 }
 
 /// Prints the text of a refusal.
-fn put_fault<W: Write>(writer: &mut Watched<W>, waiting: &mut Waiting, fault: StormFault)
-    ensures { Prints W.contents writer.old writer.new waiting.old waiting.new
-        (storm_fault_line fault) }
+fn put_fault<W: Write>(printer: &mut Printer<'_, W>, fault: StormFault)
+    ensures { Prints W.contents printer.old printer.new (storm_fault_line fault) }
 {
     match fault {
-        StormFault::Work(end) => put_end(writer, waiting, end),
-        StormFault::Settle(SettleFault::NoTrail) => put(writer, waiting, b"refused 24"),
+        StormFault::Work(end) => put_end(printer, end),
+        StormFault::Settle(SettleFault::NoTrail) => printer.put(b"refused 24"),
         StormFault::Settle(SettleFault::ReceiptMismatch { index }) => {
-            put_named_number(writer, waiting, b"refused 21 index ", index)
+            printer.put_named_number(b"refused 21 index ", index)
         }
-        StormFault::NoMemory => put(writer, waiting, b"refused 15"),
+        StormFault::NoMemory => printer.put(b"refused 15"),
     }
 }
 
-fn put_end<W: Write>(writer: &mut Watched<W>, waiting: &mut Waiting, end: WorkEnd)
-    ensures { Prints W.contents writer.old writer.new waiting.old waiting.new (work_line end) }
+fn put_end<W: Write>(printer: &mut Printer<'_, W>, end: WorkEnd)
+    ensures { Prints W.contents printer.old printer.new (work_line end) }
 {
     match end {
-        WorkEnd::Spent(NotDone::NumbersSpent) => put(writer, waiting, b"refused 14"),
-        WorkEnd::Spent(NotDone::NoMemory) => put(writer, waiting, b"refused 15"),
-        _ => put(writer, waiting, b"refused 23"),
+        WorkEnd::Spent(NotDone::NumbersSpent) => printer.put(b"refused 14"),
+        WorkEnd::Spent(NotDone::NoMemory) => printer.put(b"refused 15"),
+        _ => printer.put(b"refused 23"),
     }
 }

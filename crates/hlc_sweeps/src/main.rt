@@ -24,6 +24,7 @@ use crate::requests::spend;
 use crate::screen::Screen;
 use crate::texts::GivesOnce;
 use crate::workers::Worker;
+use hlc_text::watched::Watched;
 use std::io::Read;
 use std::process::ExitCode;
 use std::sync::Wait;
@@ -34,7 +35,9 @@ fn main(rt: HostRuntime) -> ExitCode {
     let Ok(count) = rt.stdin().read(&mut text) else {
         return ExitCode::from(2);
     };
-    answer_all(&mut Screen::new(&rt), &rt, &text[..count.min(4096)]);
+    let mut writer = Watched::new(rt.stdout());
+    let mut screen = Screen::new(&rt, &mut writer);
+    answer_all(&mut screen, &rt, &text[..count.min(4096)]);
     ExitCode::from(0)
 }
 

@@ -5,28 +5,25 @@ ghost use Rattle.hlc_text.specs.Watched.{has_failed};
 use hlc_certificate::put_witnesses;
 use hlc_core::{CoreFault, Listing, Report, Row, Stamp};
 use hlc_script::put_refusal;
-use hlc_text::print;
-use hlc_text::waiting::Waiting;
+use hlc_text::printer::Printer;
 use hlc_text::watched::Watched;
 use hlc_world::Refusal;
 use std::alloc::Global;
 use std::fmt::Debug;
 use std::io::Stdout;
 
-/// Standard output, and the text that waits for it.
+/// Standard output, and its printer.
 #[derive(Drop)]
 pub(crate) struct Screen<'a> {
     rt: &'a HostRuntime,
-    writer: Watched<Stdout>,
-    waiting: Waiting,
+    printer: Printer<'a, Stdout>,
 }
 
 impl<'a> Screen<'a> {
-    pub(crate) fn new(rt: &'a HostRuntime) -> Screen<'a> {
+    pub(crate) fn new(rt: &'a HostRuntime, writer: &'a mut Watched<Stdout>) -> Screen<'a> {
         Screen {
             rt,
-            writer: Watched::new(rt.stdout()),
-            waiting: Waiting::new(),
+            printer: Printer::new(writer),
         }
     }
 
@@ -42,7 +39,7 @@ impl<'a> Screen<'a> {
 
     /// Writes all that waits.
     pub(crate) fn finish(&mut self) {
-        print::finish(&mut self.writer, &mut self.waiting);
+        self.printer.finish();
     }
 
     /// Prints an answer on a line of its own.
@@ -64,23 +61,23 @@ impl<'a> Screen<'a> {
     }
 
     pub(crate) fn text(&mut self, text: &[u8]) {
-        print::put(&mut self.writer, &mut self.waiting, text);
+        self.printer.put(text);
     }
 
     pub(crate) fn number(&mut self, name: &[u8], number: u64) {
-        print::put_named_number(&mut self.writer, &mut self.waiting, name, number);
+        self.printer.put_named_number(name, number);
     }
 
     pub(crate) fn count(&mut self, name: &[u8], count: u128) {
-        print::put_named_count(&mut self.writer, &mut self.waiting, name, count);
+        self.printer.put_named_count(name, count);
     }
 
     pub(crate) fn stamp(&mut self, name: &[u8], stamp: Stamp) {
-        print::put_named_stamp(&mut self.writer, &mut self.waiting, name, stamp);
+        self.printer.put_named_stamp(name, stamp);
     }
 
     pub(crate) fn bytes(&mut self, name: &[u8], bytes: &[u8]) {
-        print::put_named_bytes(&mut self.writer, &mut self.waiting, name, bytes);
+        self.printer.put_named_bytes(name, bytes);
     }
 
     /// A value, or none.
@@ -92,7 +89,7 @@ impl<'a> Screen<'a> {
     }
 
     pub(crate) fn fault(&mut self, fault: CoreFault) {
-        put_refusal(&mut self.writer, &mut self.waiting, Refusal::from(fault));
+        put_refusal(&mut self.printer, Refusal::from(fault));
     }
 
     /// What a vacuum did, or that memory lacked.
@@ -114,11 +111,7 @@ impl<'a> Screen<'a> {
             self.stamp(b" point ", *point);
         }
         self.text(b"\n");
-        put_witnesses(
-            &mut self.writer,
-            &mut self.waiting,
-            report.witnesses.as_slice(),
-        );
+        put_witnesses(&mut self.printer, report.witnesses.as_slice());
     }
 
     /// The pairs of a listing, one behind another.

@@ -60,7 +60,7 @@ fn a_node_that_retired_has_no_event(rt: HostRuntime) {
 #[test]
 fn a_refused_retire_changes_nothing(rt: HostRuntime) {
     let mut node = NodeCore::new(0, Stamp::from_bits(0));
-    let large = NodeFault::NoStamp(ClockFault::ReadingTooLarge);
+    let large = NodeFault::Clock(ClockFault::ReadingTooLarge);
     must_be(&rt, node.retire(1 << 48), Err(large));
     assert!(rt; !node.is_retired());
     assert!(rt; node.report(1).is_ok());

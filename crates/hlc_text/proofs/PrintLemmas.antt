@@ -1,157 +1,117 @@
--- Lemmas on printing, for proofs about what is printed piece by piece: one text printed after another, text that waits,
--- text that is written at once, what `finish` makes of it all, and the lines of a list printed one by one. Each rests
--- on what is true of two texts.
-use Rattle.std.proofs.Common.{◌≡◌, ℕ, ◌+◌, ◌<◌, get_or, ◌∙◌, sym, ap, subst, refl, Bool, true, false, List, [], ◌∷◌}
-use Rattle.std.proofs.Common.{◌++◌, take, length, map, Option, Some, None, append-nil, append_assoc}
+-- Lemmas on printing, for proofs about what is printed piece by piece: one text printed after another, the lines of a
+-- list printed one by one, and what `finish` makes of it all. A printer keeps its writer, so what several calls printed
+-- is what that took and what waits for it.
+use Rattle.std.proofs.Common.{◌≡◌, ℕ, ◌+◌, ◌<◌, get_or, ◌∙◌, sym, ap, subst, refl}
+use Rattle.std.proofs.Common.{List, [], ◌∷◌, ◌++◌, take, length}
+use Rattle.std.proofs.Common.{map, Option, append-nil}
+use Rattle.std.specs.Borrow.{MutBor}
 use Rattle.std.specs.List.{flat_map}
-use Rattle.std.specs.Io.KnownBytes.{Appends}
-use Rattle.std.proofs.lemmas.Bool.{false≢true}
 use Rattle.std.proofs.lemmas.List.{map-append, take_more}
 use Rattle.std.proofs.lemmas.List.Concat.{flat_map-append}
-use Rattle.hlc_text.specs.Printing.{Wrote, Printed}
+use Rattle.hlc_text.specs.declared.printer.Printer.{Printer}
+use Rattle.hlc_text.specs.declared.watched.Watched.{Watched}
+use Rattle.hlc_text.specs.Printing.{StartsAt, HasItsWriter, Prints, Finishes, Writes, writer_of, waiting_of}
+use Rattle.hlc_text.specs.Watched.{inner_of, has_failed}
+use Rattle.hlc_text.proofs.Texts.{Took, Appends-nil, took_both, took_none}
 
-pub Appends-nil : (known : Option (List ℕ)) → Appends known known []
-Appends-nil None = tt
-Appends-nil (Some xs) = sym (append-nil xs)
+-- what a printer's writer took
+TookOf : {W : Type 0} → (W → Option (List ℕ)) → Printer W → Printer W → List ℕ → Type 0
+TookOf contents old new text =
+    Took (has_failed (writer_of old)) (has_failed (writer_of new)) (contents (inner_of (writer_of old)))
+    (contents (inner_of (writer_of new))) (waiting_of old) (waiting_of new) text
 
-pub Appends-then : (a b c : Option (List ℕ)) (xs ys : List ℕ) → Appends a b xs → Appends b c ys → Appends a c (xs ++ ys)
-Appends-then None b c xs ys first second = tt
-Appends-then (Some x) None c xs ys first second = absurd first
-Appends-then (Some x) (Some y) None xs ys first second = absurd second
-Appends-then (Some x) (Some y) (Some z) xs ys first second = second ∙ ap (λ l. l ++ ys) first ∙ append_assoc x xs ys
-
--- nothing is written
-pub wrote_none : {f : Bool} {known : Option (List ℕ)} → Wrote f f known known []
-wrote_none {f} {known} = record {
-  front = [];
-  back = [];
-  cut = refl;
-  taken = Appends-nil known;
-  whole = λ e. (e, refl);
-  nothing = λ e. (e, refl);
+took_of : {W : Type 0} {contents : W → Option (List ℕ)} {old new : Printer W} {text : List ℕ}
+    → Prints contents old new text → TookOf contents old new text
+unfolding TookOf
+took_of printed = record {
+  front = printed.front;
+  back = printed.back;
+  cut = printed.cut;
+  taken = printed.taken;
+  whole = printed.whole;
+  nothing = printed.nothing;
 }
 
--- two texts, one after the other
-printed_both : (f g h : Bool) (a b c : Option (List ℕ)) (u v w xs ys : List ℕ) → Printed f g a b u v xs
-    → Printed g h b c v w ys → Printed f h a c u w (xs ++ ys)
-printed_both f true h a b c u v w xs ys first second = record {
-  front = first.front;
-  back = first.back ++ ys;
-  cut = sym (append_assoc u xs ys) ∙ ap (λ l. l ++ ys) first.cut ∙ append_assoc first.front first.back ys;
-  taken = subst (λ (zs : List ℕ). Appends a c zs) (append-nil first.front) (Appends-then a b c first.front []
-      first.taken (subst (λ (zs : List ℕ). Appends b c zs) (second.nothing refl).1 second.taken));
-  whole = λ e. absurd (false≢true (sym (second.whole e).0));
-  nothing = λ e. ((second.nothing refl).0, (first.nothing e).1);
+-- what waits is written, and nothing waits then
+finish_of : {W : Type 0} {contents : W → Option (List ℕ)} {old new : Printer W}
+    → Finishes contents old new → TookOf contents old new []
+unfolding TookOf
+finish_of finished = let wrote = finished.wrote in record {
+  front = wrote.front;
+  back = wrote.back;
+  cut = append-nil _ ∙ wrote.cut;
+  taken = wrote.taken;
+  whole = λ e. ((wrote.whole e).0, (wrote.whole e).1 ∙ sym finished.none_waits);
+  nothing = wrote.nothing;
 }
-printed_both f false h a b c u v w xs ys first second = record {
-  front = first.front ++ second.front;
-  back = second.back;
-  cut = sym (append_assoc u xs ys) ∙ ap (λ l. l ++ ys) (first.cut ∙ ap (λ l. first.front ++ l) (first.whole refl).1)
-      ∙ append_assoc first.front v ys ∙ ap (λ l. first.front ++ l) second.cut
-      ∙ sym (append_assoc first.front second.front second.back);
-  taken = Appends-then a b c first.front second.front first.taken second.taken;
-  whole = λ e. ((first.whole refl).0, (second.whole e).1);
-  nothing = λ e. absurd (false≢true ((first.nothing e).0));
+
+prints_of : {W : Type 0} {contents : W → Option (List ℕ)} {old new : Printer W} {text : List ℕ}
+    → HasItsWriter old new → TookOf contents old new text → Prints contents old new text
+unfolding TookOf
+prints_of same took = record {
+  same = same;
+  front = took.front;
+  back = took.back;
+  cut = took.cut;
+  taken = took.taken;
+  whole = took.whole;
+  nothing = took.nothing;
 }
 
 -- two texts printed, one after the other
-pub printed_then : {f g h : Bool} {a b c : Option (List ℕ)} {u v w xs ys : List ℕ} → Printed f g a b u v xs
-    → Printed g h b c v w ys → Printed f h a c u w (xs ++ ys)
-printed_then {f} {g} {h} {a} {b} {c} {u} {v} {w} {xs} {ys} first second =
-    printed_both f g h a b c u v w xs ys first second
+pub printed_then : {W : Type 0} {contents : W → Option (List ℕ)} {old mid new : Printer W} {xs ys : List ℕ}
+    → Prints contents old mid xs → Prints contents mid new ys → Prints contents old new (xs ++ ys)
+unfolding TookOf
+printed_then first second =
+    prints_of (second.same ∙ first.same) (took_both _ _ _ _ _ _ _ _ _ _ _ (took_of first) (took_of second))
 
 -- nothing is printed
-pub printed_none : {f : Bool} {known : Option (List ℕ)} {u : List ℕ} → Printed f f known known u u []
-printed_none {f} {known} {u} = record {
-  front = [];
-  back = u;
-  cut = append-nil u;
-  taken = Appends-nil known;
-  whole = λ e. (e, refl);
-  nothing = λ e. (e, refl);
-}
+pub printed_none : {W : Type 0} {contents : W → Option (List ℕ)} {old : Printer W} → Prints contents old old []
+unfolding TookOf
+printed_none = prints_of refl took_none
 
 -- text that waits behind what waited
-pub printed_waits : {f : Bool} {known : Option (List ℕ)} {u w xs : List ℕ} → w ≡ u ++ xs
-    → Printed f f known known u w xs
-printed_waits {f} {known} {u} {w} {xs} e = record {
+pub printed_waits : {W : Type 0} {contents : W → Option (List ℕ)} {old new : Printer W} {text : List ℕ}
+    → new.writer ≡ old.writer → waiting_of new ≡ waiting_of old ++ text → Prints contents old new text
+printed_waits {W} {contents} {old} {new} {text} same added = record {
+  same = ap (λ (writer : MutBor (Watched W)). writer.ghost_name) same;
   front = [];
-  back = w;
-  cut = sym e;
-  taken = Appends-nil known;
-  whole = λ e. (e, refl);
-  nothing = λ e. (e, refl);
+  back = waiting_of new;
+  cut = sym added;
+  taken = rw same (Appends-nil (contents (inner_of (writer_of old))));
+  whole = λ e. (rw same at e, refl);
+  nothing = λ e. (rw same e, refl);
 }
 
--- what waited is written, and text behind it
-pub printed_sent : {f g h : Bool} {a b c : Option (List ℕ)} {u v w xs : List ℕ} → v ≡ [] → Wrote f g a b u
-    → Printed g h b c v w xs → Printed f h a c u w xs
-printed_sent {f} {g} {h} {a} {b} {c} {u} {v} {w} {xs} empty first second =
-    printed_both f g h a b c u v w [] xs (record {
-      front = first.front;
-      back = first.back;
-      cut = append-nil u ∙ first.cut;
-      taken = first.taken;
-      whole = λ e. ((first.whole e).0, (first.whole e).1 ∙ sym empty);
-      nothing = first.nothing;
-    }) second
+-- what waits is written
+pub printed_at_once : {W : Type 0} {contents : W → Option (List ℕ)} {old new : Printer W}
+    → Finishes contents old new → Prints contents old new []
+printed_at_once finished = prints_of finished.same (finish_of finished)
 
--- where nothing waited and nothing waits, it is written
-pub printed_wrote : {f g : Bool} {a b : Option (List ℕ)} {u v xs : List ℕ} → u ≡ [] → v ≡ [] → Wrote f g a b xs
-    → Printed f g a b u v xs
-printed_wrote {f} {g} {a} {b} {u} {v} {xs} none empty first =
-    record {
-      front = first.front;
-      back = first.back;
-      cut = ap (λ l. l ++ xs) none ∙ first.cut;
-      taken = first.taken;
-      whole = λ e. ((first.whole e).0, (first.whole e).1 ∙ sym empty);
-      nothing = first.nothing;
-    }
-
--- two texts written, one after the other
-pub wrote_then : {f g h : Bool} {a b c : Option (List ℕ)} {xs ys : List ℕ} → Wrote f g a b xs → Wrote g h b c ys
-    → Wrote f h a c (xs ++ ys)
-wrote_then {f} {g} {h} {a} {b} {c} {xs} {ys} first second =
-    let both =
-    printed_both f g h a b c [] [] [] xs ys (printed_wrote refl refl first) (printed_wrote refl refl second) in
-    record {
-      front = both.front;
-      back = both.back;
-      cut = both.cut;
-      taken = both.taken;
-      whole = both.whole;
-      nothing = both.nothing;
-    }
-
--- printed from nothing on, and then written
-pub printed_finished : {f g h : Bool} {a b c : Option (List ℕ)} {u w xs : List ℕ} → u ≡ [] → Printed f g a b u w xs
-    → Wrote g h b c w → Wrote f h a c xs
-printed_finished {f} {g} {h} {a} {b} {c} {u} {w} {xs} none first second =
-    let both = printed_both f g h a b c u w [] xs [] first (record {
-      front = second.front;
-      back = second.back;
-      cut = append-nil w ∙ second.cut;
-      taken = second.taken;
-      whole = second.whole;
-      nothing = second.nothing;
-    }) in
-    record {
-      front = both.front;
-      back = both.back;
-      cut = sym (append-nil xs) ∙ ap (λ l. l ++ (xs ++ [])) (sym none) ∙ both.cut;
-      taken = both.taken;
-      whole = both.whole;
-      nothing = both.nothing;
-    }
+-- Printed from a start on, and then written: that is what was written to the writer, whose last state is the printer's.
+pub printed_finished : {W : Type 0} {contents : W → Option (List ℕ)} {start last : Watched W} {made old new : Printer W}
+    {text : List ℕ} → StartsAt start made → Prints contents made old text → Finishes contents old new
+    → last ≡ writer_of new → Writes contents start last text
+printed_finished {W} {contents} {start} {last} {made} {old} {new} {text} starts printed finished is =
+    let all = printed_then printed (printed_at_once finished) in
+    let wrote : Writes contents (writer_of made) (writer_of new) text = record {
+      front = all.front;
+      back = all.back;
+      cut = sym (append-nil text) ∙ ap (λ l. l ++ (text ++ [])) (sym starts.none_waits) ∙ all.cut;
+      taken = all.taken;
+      whole = λ e. ((all.whole e).0, (all.whole e).1 ∙ finished.none_waits);
+      nothing = all.nothing;
+    } in
+    subst (λ (from : Watched W). Writes contents from last text) starts.as_it_is (rw is wrote)
 
 -- one line more of a list that is printed line by line
-pub printed_line : {X : Type 0} {f g h : Bool} {a b c : Option (List ℕ)} {u v w : List ℕ}
+pub printed_line : {X W : Type 0} {contents : W → Option (List ℕ)} {old mid new : Printer W}
     (line : List ℕ → List ℕ) (text : X → List ℕ) (xs : List X) (i : ℕ) (d : X) → i < length xs
-    → Printed f g a b u v (flat_map line (map text (take i xs))) → Printed g h b c v w (line (text (get_or xs i d)))
-    → Printed f h a c u w (flat_map line (map text (take (i + 1) xs)))
-printed_line {X} {f} {g} {h} {a} {b} {c} {u} {v} {w} line text xs i d within first second =
-    subst (λ (zs : List ℕ). Printed f h a c u w zs)
+    → Prints contents old mid (flat_map line (map text (take i xs)))
+    → Prints contents mid new (line (text (get_or xs i d)))
+    → Prints contents old new (flat_map line (map text (take (i + 1) xs)))
+printed_line {X} {W} {contents} {old} {mid} {new} line text xs i d within first second =
+    subst (λ (zs : List ℕ). Prints contents old new zs)
     (sym (ap (λ (l : List X). flat_map line (map text l)) (take_more xs i d within)
     ∙ ap (flat_map line) (map-append text (take i xs) (get_or xs i d ∷ []))
     ∙ flat_map-append line (map text (take i xs)) (text (get_or xs i d) ∷ [])

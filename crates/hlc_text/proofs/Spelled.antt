@@ -8,7 +8,7 @@ use Rattle.std.proofs.lemmas.Bool.{agree_below, agree_below_at, cases_Bool}
 use Rattle.percent_encoding.specs.AsciiSet.{should_percent_encode}
 use Rattle.percent_encoding.specs.Percent.{percent_encode, percent_encode_byte}
 use Rattle.percent_encoding.proofs.PercentLemmas.{percent_encode-nil, percent_encode_escaped, percent_encode_kept}
-use Rattle.hlc_text.specs.declared.print.TheConstants.{ESCAPED}
+use Rattle.hlc_text.specs.declared.printer.TheConstants.{ESCAPED}
 use Rattle.hlc_text.specs.Text.{stands_as_itself, byte_token}
 
 tried : agree_below (should_percent_encode ESCAPED) (λ b. not (stands_as_itself b)) 256 ≡ true

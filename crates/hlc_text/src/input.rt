@@ -10,8 +10,7 @@ ghost use Rattle.hlc_text.specs.Printing.{Prints};
 ghost use Rattle.hlc_text.specs.Text.{printed};
 ghost use Rattle.hlc_text.specs.declared.input.TheConstants.{INPUT_LIMIT};
 
-use crate::print::put;
-use crate::waiting::Waiting;
+use crate::printer::Printer;
 use crate::watched::Watched;
 use crate::words::cut;
 use hlc_values::Exact;
@@ -44,14 +43,13 @@ impl Exact for InputFault {
 }
 
 /// Prints the line of a fault.
-pub fn put_fault<W: Write>(writer: &mut Watched<W>, waiting: &mut Waiting, fault: InputFault)
-    ensures { Prints W.contents writer.old writer.new waiting.old waiting.new
-        (printed (fault_line fault)) }
+pub fn put_fault<W: Write>(printer: &mut Printer<'_, W>, fault: InputFault)
+    ensures { Prints W.contents printer.old printer.new (printed (fault_line fault)) }
 {
     match fault {
-        InputFault::NoMemory => put(writer, waiting, b"refused 15\n"),
-        InputFault::ReadFault => put(writer, waiting, b"refused 18\n"),
-        InputFault::TooLong => put(writer, waiting, b"refused 20\n"),
+        InputFault::NoMemory => printer.put(b"refused 15\n"),
+        InputFault::ReadFault => printer.put(b"refused 18\n"),
+        InputFault::TooLong => printer.put(b"refused 20\n"),
     }
 }
 

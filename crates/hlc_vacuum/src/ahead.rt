@@ -7,8 +7,8 @@ use hlc_columns::Keyed;
 /// So many columns are fetched together.
 const AHEAD: usize = 64;
 
-/// How many rows the next 64 columns have, asked at every 64th place, and 0 at the others. None of these looks waits for
-/// the one before it, so who then goes through those columns does not wait for memory at each.
+/// How many rows the next 64 columns have, asked at every 64th place, and 0 at the others. None of these looks waits
+/// for the one before it, so a walk through those columns does not wait for memory at each.
 pub fn rows_ahead(columns: &[Keyed], from: usize) -> usize
     requires { from < length columns.now }
     ensures { result ≤ length (rows_in columns.now) }

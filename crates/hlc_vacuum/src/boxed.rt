@@ -35,7 +35,7 @@ impl BoxedReport {
         ensures { IfOk result (λ boxed. boxed ≡ blank_report) }
     {
         let report = Report {
-            floor: Stamp::from_bits(0),
+            floor: Stamp::ZERO,
             points: Points::from_vec(Vec::new(alloc)),
             kept: 0,
             bytes: 0,

@@ -1,11 +1,11 @@
 //! A vector that contracts see as its list.
-ghost use Rattle.std.specs.Prelude.{◌≡◌, ◌==◌, ◌<◌, ◌^◌, length};
+ghost use Rattle.std.specs.Prelude.{◌≡◌, ◌==◌, ◌<◌, ◌^◌, length, IfOk};
 ghost use Rattle.std.specs.Cmp.Lexicographic.{pointwise, pointwise_decides, lists_per, lists_equiv};
 ghost use Rattle.std.specs.Iterator.Runs.{EveryRun, ItemsMapTo};
 ghost use Rattle.std.specs.Slice.Iter.{iter_rest, iter_steps};
 
 use crate::exact::Exact;
-use std::alloc::AllocError;
+use std::alloc::{AllocError, Global};
 use std::marker::Model;
 use std::slice;
 
@@ -15,7 +15,7 @@ use std::slice;
 /// the vector back, moves it.
 #[derive(Debug, Drop)]
 pub struct Listed<T> {
-    held: Vec<T>,
+    values: Vec<T>,
 }
 
 impl<T> Model for Listed<T> {
@@ -26,51 +26,61 @@ impl<T> Model for Listed<T> {
 
     ghost coded = { coded_list T.code };
 
-    ghost view = { λ listed. listed.held.items };
+    ghost view = { λ listed. listed.values.items };
 }
 
 impl<T> Listed<T> {
     /// The values of a vector.
-    pub fn from_vec(held: Vec<T>) -> Listed<T>
-        ensures { result ≡ held.items }
+    pub fn from_vec(values: Vec<T>) -> Listed<T>
+        ensures { result ≡ values.items }
     {
-        Listed { held }
+        Listed { values }
     }
 
     /// The vector of the values.
     pub fn into_vec(self) -> Vec<T>
         ensures { result.items ≡ self }
     {
-        let Listed { held } = self;
-        held
+        let Listed { values } = self;
+        values
     }
 
     /// The values as a slice.
     pub fn as_slice(&self) -> &[T]
         ensures { result.now ≡ self.now }
     {
-        self.held.as_slice()
+        self.values.as_slice()
     }
 
     /// How many values there are.
     pub fn len(&self) -> usize
         ensures { result ≡ length self.now }
     {
-        self.held.len()
+        self.values.len()
     }
 
     /// Whether there are none.
     pub fn is_empty(&self) -> bool
         ensures { result ≡ (length self.now == 0) }
     {
-        self.held.is_empty()
+        self.values.is_empty()
     }
 
     /// The values in turn.
     pub fn iter(&self) -> slice::Iter<'_, T>
         ensures { iter_rest result ≡ self.now }
     {
-        self.held.iter()
+        self.values.iter()
+    }
+}
+
+impl<T: Exact> Listed<T> {
+    /// Copies of the values of a slice, in their order.
+    pub fn from_slice(alloc: Global, values: &[T]) -> Result<Listed<T>, AllocError>
+        ensures { IfOk result (λ listed. listed ≡ values.now) }
+    {
+        let values = Vec::from_clones(alloc, values)?;
+        Ok(Listed { values })
     }
 }
 
@@ -91,8 +101,8 @@ impl<T: Exact> Clone for Listed<T> {
     ghost is_clone = { λ listed copy. copy ≡ listed };
 
     fn clone(&self) -> Result<Listed<T>, AllocError> {
-        let held = self.held.clone()?;
-        Ok(Listed { held })
+        let values = self.values.clone()?;
+        Ok(Listed { values })
     }
 }
 
@@ -102,7 +112,7 @@ impl<T: PartialEq> PartialEq for Listed<T> {
     ghost laws = { lists_per T.laws };
 
     fn eq(&self, other: &Listed<T>) -> bool {
-        self.held == other.held
+        self.values == other.values
     }
 }
 

@@ -1,5 +1,5 @@
 -- Why rows, points and witnesses are no certificate: the first reason that holds.
-use Rattle.std.specs.Prelude.{◌≡◌, ◌≢◌, ℕ, List, ◌∷◌, ◌++◌, length, All}
+use Rattle.std.specs.Prelude.{◌≡◌, ◌≢◌, ℕ, List, ◌∷◌, ◌++◌, length, All, codes}
 use Rattle.std.specs.declared.cmp.Ordering.TheVariants.{Less}
 use Rattle.hlc_node.specs.declared.row.Row.{Row}
 use Rattle.hlc_node.specs.Rows.{answer}
@@ -23,6 +23,17 @@ reason_number NotAtPoint = 5
 reason_number SameAnswers = 6
 reason_number CountsDiffer = 7
 reason_number RowOutOfLimits = 8
+
+-- the text of a reason
+abbrev pub reason_text : NotShown → List ℕ
+reason_text PointsNotAscending = codes "there is no point, or the points do not ascend"
+reason_text RowsNotAscending = codes "the rows do not ascend by key, stamp and node"
+reason_text RowAboveLastPoint = codes "a row is above the last point"
+reason_text WitnessNotAscending = codes "the witnesses do not ascend by key and stamp"
+reason_text NotAtPoint = codes "a witness is not at a point, or not after the point before"
+reason_text SameAnswers = codes "the answers at the two points of a witness are equal"
+reason_text CountsDiffer = codes "there are not as many witnesses as rows"
+reason_text RowOutOfLimits = codes "a key or a value is out of the limits"
 
 -- the witness is above those before it
 abbrev pub IsAbove : List Witness → Witness → Type 0

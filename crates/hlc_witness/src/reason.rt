@@ -5,6 +5,8 @@ ghost use Rattle.std.proofs.lemmas.Grind.{common_steps};
 ghost use Rattle.hlc_witness.specs.Reasons.{reason_number};
 
 use hlc_values::Exact;
+use std::error::Error;
+use std::fmt;
 
 /// The reasons, in the order in which they are looked for. Each witness in turn is looked at for
 /// the fourth, the fifth and the sixth.
@@ -33,6 +35,28 @@ impl Exact for NotShown {
 
     ghost copied = { Prim.search rules };
 }
+
+impl fmt::Display for NotShown {
+    ghost use Rattle.std.specs.Prelude.{Some};
+    ghost use Rattle.hlc_witness.specs.Reasons.{reason_text};
+
+    ghost output = { λ reason. Some (reason_text reason) };
+
+    fn fmt<W: fmt::Write>(&self, f: &mut fmt::Formatter<W>) -> fmt::Result {
+        f.write_str(match self {
+            NotShown::PointsNotAscending => "there is no point, or the points do not ascend",
+            NotShown::RowsNotAscending => "the rows do not ascend by key, stamp and node",
+            NotShown::RowAboveLastPoint => "a row is above the last point",
+            NotShown::WitnessNotAscending => "the witnesses do not ascend by key and stamp",
+            NotShown::NotAtPoint => "a witness is not at a point, or not after the point before",
+            NotShown::SameAnswers => "the answers at the two points of a witness are equal",
+            NotShown::CountsDiffer => "there are not as many witnesses as rows",
+            NotShown::RowOutOfLimits => "a key or a value is out of the limits",
+        })
+    }
+}
+
+impl Error for NotShown {}
 
 impl NotShown {
     /// Its number, from 1: the first reason that is looked for has the number 1.

@@ -4,8 +4,7 @@ ghost use Rattle.std.specs.Prelude.{◌≡◌};
 use crate::rounds::Reading;
 use crate::scenes::{Paid, Scene, Seats};
 use crate::writers::Writer;
-use hlc_core::CoreEvent;
-use hlc_server::{Caller, NotDone, Receipt};
+use hlc_server::{CallResult, Caller, Receipt};
 use std::alloc::Global;
 use std::process::Abort;
 use std::sync::ledger::Ledger;
@@ -106,11 +105,7 @@ pub(crate) fn pays<'a, L: Ledger, R: Abort>(
 }
 
 /// Keeps the receipt of a call that was made.
-pub(crate) fn keep<R: Abort>(
-    rt: &R,
-    receipts: &mut Vec<Receipt>,
-    told: Result<Receipt, (NotDone, CoreEvent)>,
-) {
+pub(crate) fn keep<R: Abort>(rt: &R, receipts: &mut Vec<Receipt>, told: CallResult) {
     let receipt = told.ok().expect(rt, "a call that was made");
     receipts.push(receipt).ok().expect(rt, "memory");
 }

@@ -5,7 +5,7 @@ use crate::expected::{must_be, replied};
 use crate::held::HoldsAt;
 use crate::scenes::{Scene, Seats, new_scene};
 use crate::writers::{full_link, raised_by};
-use hlc_core::{Body, CoreFault, CoreReply, Item, Stamp};
+use hlc_core::{Body, CoreFault, CoreReply, Item, LinkFault, Stamp};
 use hlc_link::LinkReceiver;
 use hlc_server::Receipt;
 use hlc_shared_tests::makers::{at_second, said};
@@ -121,7 +121,7 @@ fn second_is_refused<R: Abort>(rt: &R, receipts: &[Receipt]) {
     replied(
         rt,
         &receipts[1],
-        CoreReply::Refused(CoreFault::NotNext { next: 1 }),
+        CoreReply::Refused(CoreFault::Link(LinkFault::NotNext { next: 1 })),
     );
 }
 

@@ -1,9 +1,11 @@
 -- What the receipts tell after one call more, or one round more: the new receipts stand behind those before, and each
 -- fact about a list of receipts is put together of those about its two parts.
-use Rattle.std.proofs.Common.{◌≡◌, ℕ, List, [], ◌∷◌, ◌++◌, map, Option, Some, None, IfNone, sym, ap, ◌∙◌, arith}
+use Rattle.std.proofs.Common.{◌≡◌, ℕ, List, [], ◌∷◌, ◌++◌, map, Bool, Option, Some}
+use Rattle.std.proofs.Common.{None, sym, ap, ◌∙◌, arith}
 use Rattle.std.proofs.Common.{length-append, append_assoc, refl, subst, All, length, take, get_or, ◌+◌, ◌<◌}
-use Rattle.std.proofs.Common.{zero-add}
-use Rattle.std.proofs.lemmas.List.{append-nil, map-append, take_more}
+use Rattle.std.proofs.Common.{zero-add, replicate}
+use Rattle.std.specs.Prelude.{Result, Ok, Err, MatchResult}
+use Rattle.std.proofs.lemmas.List.{append-nil, map-append, take_more, replicate-append-replicate}
 use Rattle.std.proofs.lemmas.List.Elements.{All-append, All-nil}
 use mathlib.Core.Logic.{dite}
 use native.Mathlib.Decide.{dec_lt}
@@ -12,14 +14,14 @@ use Rattle.hlc_server.specs.declared.entry.Receipt.{Receipt}
 use Rattle.hlc_server.specs.Seats.{Seat}
 use Rattle.std.specs.Option.{option_map}
 use Rattle.hlc_floor.specs.Views.{Post, post}
-use Rattle.hlc_workers.specs.Paid.{event_of, IsPaid, Passed, MadeNone, MadeSome}
+use Rattle.hlc_workers.specs.declared.session.Work.{Work}
+use Rattle.hlc_workers.specs.Paid.{event_of, IsPaid, Passed, HasCalled, HasStayed, IsStopped, MadeSome}
 use Rattle.hlc_workers.specs.Feeding.{accept_of, TookAll, raised_by, highest, fed_by, fed_all}
 use Rattle.hlc_core.specs.declared.event.CoreEvent.{CoreEvent}
-use Rattle.hlc_core.specs.declared.event.CoreEvent.TheVariants.{Read}
-use Rattle.hlc_workers.specs.declared.room.WorkEnd.{WorkEnd}
-use Rattle.hlc_workers.specs.declared.room.WorkEnd.TheVariants.{Done, Held, Closed}
-use Rattle.hlc_workers.specs.declared.opening.Opening.{Opening}
-use Rattle.hlc_workers.specs.Rounds.{opening_of, MadeOpening, IsRound, AreRounds}
+use Rattle.hlc_core.specs.declared.event.CoreEvent.TheVariants.{Read, Vacuum}
+use Rattle.hlc_workers.specs.declared.end.WorkEnd.{WorkEnd}
+use Rattle.hlc_workers.specs.declared.session.Opening.{Opening}
+use Rattle.hlc_workers.specs.Rounds.{opening_of, IsOpening, IsRound, AreRounds}
 
 -- before the first call
 pub paid-none : (seat : Seat) → IsPaid seat seat []
@@ -34,76 +36,81 @@ paid-append a b c xs ys p q = record {
       (subst (λ (n : ℕ). All (λ (r : Receipt). r.caller ≡ n) ys) p.number q.bear);
 }
 
--- the same, of a list that is the two
-pub paid_all : (a b c : Seat) (xs ys all : List Receipt) → all ≡ xs ++ ys → IsPaid a b xs
-    → IsPaid b c ys → IsPaid a c all
-paid_all a b c xs ys all is p q = subst (λ (l : List Receipt). IsPaid a c l) (sym is) (paid-append a b c xs ys p q)
-
 -- the turns of two parts of the work
-passed-append : (pass : ℕ → Type 0) (from : ℕ) (xs ys : List Receipt) → Passed pass from xs
-    → Passed pass (from + length xs) ys
-    → Passed pass from (xs ++ ys)
-passed-append pass from xs ys p q = λ turn low high.
+passed-append : (may : ℕ → Bool → Type 0) (from : ℕ) (xs ys : List Receipt) → Passed may from xs
+    → Passed may (from + length xs) ys
+    → Passed may from (xs ++ ys)
+passed-append may from xs ys p q = λ turn low high.
     let n = length-append xs ys in
     dite (dec_lt turn (from + length xs))
     (λ (below : turn < from + length xs). p turn low below)
     (λ (above : ¬ (turn < from + length xs)). q turn (omega arith) (omega arith))
 
--- the turn of one call
-passed_one : (pass : ℕ → Type 0) (from : ℕ) (r : Receipt) → pass from → Passed pass from (r ∷ [])
-passed_one pass from r here = λ turn low high. let is : from ≡ turn = omega arith in subst pass is here
+-- no call was made
+pub called-none : {L : Type 0} (may : ℕ → Bool → Type 0) (old new : Work L) → HasStayed old new
+    → HasCalled may old new []
+called-none may old new stayed = record {
+  receipts = stayed.receipts ∙ sym (append-nil old.receipts.items);
+  paid = subst (λ (seat : Seat). IsPaid old.caller seat []) (sym stayed.caller) (paid-none old.caller);
+  passed = λ turn low high. absurd (omega arith);
+}
 
 -- before the first call
-pub passed-none : (pass : ℕ → Type 0) (from : ℕ) → Passed pass from []
-passed-none pass from = λ turn low high. absurd (omega arith)
+pub called-first : {L : Type 0} (may : ℕ → Bool → Type 0) (work : Work L) → HasCalled may work work []
+called-first may work = called-none may work work (record { receipts = refl; caller = refl })
 
--- the turn of one call more, behind those of some
-pub passed_behind : (pass : ℕ → Type 0) (old more mid : List Receipt) (r : Receipt) → mid ≡ old ++ more
-    → Passed pass (length old) more → pass (length mid)
-    → Passed pass (length old) (more ++ r ∷ [])
-passed_behind pass old more mid r is had here =
-    passed-append pass (length old) more (r ∷ []) had
-    (passed_one pass (length old + length more) r (subst pass (ap length is ∙ length-append old more) here))
+-- calls, and then more of them
+pub called-append : {L : Type 0} (may : ℕ → Bool → Type 0) (old mid new : Work L) (xs ys : List Receipt)
+    → HasCalled may old mid xs → HasCalled may mid new ys → HasCalled may old new (xs ++ ys)
+called-append may old mid new xs ys p q = record {
+  receipts = q.receipts
+      ∙ ap (λ (l : List Receipt). l ++ ys) p.receipts
+      ∙ append_assoc old.receipts.items xs ys;
+  paid = paid-append old.caller mid.caller new.caller xs ys p.paid q.paid;
+  passed = passed-append may (length old.receipts.items) xs ys p.passed
+      (subst (λ (n : ℕ). Passed may n ys) (ap length p.receipts ∙ length-append old.receipts.items xs) q.passed);
+}
 
--- the turns of some calls, behind that of one
-passed_before : (pass : ℕ → Type 0) (old mid more : List Receipt) (r : Receipt) → mid ≡ old ++ r ∷ []
-    → pass (length old) → Passed pass (length mid) more
-    → Passed pass (length old) (r ∷ more)
-passed_before pass old mid more r is here had =
-    passed-append pass (length old) (r ∷ []) more (passed_one pass (length old) r here)
-    (subst (λ (n : ℕ). Passed pass n more) (ap length is ∙ length-append old (r ∷ [])) had)
+-- the same, where the second calls were made behind a gate that is the first one's
+pub called_on : {S L : Type 0} (may : S → ℕ → Bool → Type 0) (gate gate' : S) (old mid new : Work L)
+    (xs ys : List Receipt)
+    → gate' ≡ gate → HasCalled (may gate) old mid xs → HasCalled (may gate') mid new ys
+    → HasCalled (may gate) old new (xs ++ ys)
+called_on may gate gate' old mid new xs ys same p q =
+    called-append (may gate) old mid new xs ys p (subst (λ s. HasCalled (may s) mid new ys) same q)
 
--- all turns, those of some calls behind those before
-pub passed_all : (pass : ℕ → Type 0) (xs ys all : List Receipt) → all ≡ xs ++ ys → Passed pass 0 xs
-    → Passed pass (length xs) ys
-    → Passed pass 0 all
-passed_all pass xs ys all is p q =
-    subst (λ (l : List Receipt). Passed pass 0 l) (sym is)
-    (passed-append pass 0 xs ys p (subst (λ (n : ℕ). Passed pass n ys) (sym (zero-add (length xs))) q))
+-- the end of the work behind such a gate
+pub stopped_on : {S L : Type 0} (may : S → ℕ → Bool → Type 0) (gate gate' : S) (new : Work L) (end : WorkEnd)
+    → gate' ≡ gate → IsStopped (may gate') new end → IsStopped (may gate) new end
+stopped_on may gate gate' new end same is = subst (λ s. IsStopped (may s) new end) same is
 
--- all turns, that of one call behind those before
-pub passed_more : (pass : ℕ → Type 0) (xs all : List Receipt) (r : Receipt) → all ≡ xs ++ r ∷ [] → Passed pass 0 xs
-    → pass (length xs)
-    → Passed pass 0 all
-passed_more pass xs all r is p here = passed_all pass xs (r ∷ []) all is p (passed_one pass (length xs) r here)
+-- all calls so far, and then more of them
+pub paid_all : {L : Type 0} (may : ℕ → Bool → Type 0) (first : Seat) (mid new : Work L) (ys : List Receipt)
+    → HasCalled may mid new ys → IsPaid first mid.caller mid.receipts.items
+    → IsPaid first new.caller new.receipts.items
+paid_all may first mid new ys called had =
+    subst (λ (l : List Receipt). IsPaid first new.caller l) (sym called.receipts)
+    (paid-append first mid.caller new.caller mid.receipts.items ys had called.paid)
 
-unwrapped : (a b : WorkEnd) → Some a ≡ Some b → a ≡ b
-unwrapped a b e = cc
+-- the turns of all calls so far, and of more of them behind a gate that is the same
+pub passed_all : {S L : Type 0} (may : S → ℕ → Bool → Type 0) (gate gate' : S) (mid new : Work L) (ys : List Receipt)
+    → gate' ≡ gate → HasCalled (may gate') mid new ys → Passed (may gate) 0 mid.receipts.items
+    → Passed (may gate) 0 new.receipts.items
+passed_all may gate gate' mid new ys same called had =
+    subst (λ (l : List Receipt). Passed (may gate) 0 l) (sym called.receipts)
+    (passed-append (may gate) 0 mid.receipts.items ys had
+    (subst (λ (n : ℕ). Passed (may gate) n ys) (sym (zero-add (length mid.receipts.items)))
+    (subst (λ s. Passed (may s) (length mid.receipts.items) ys) same called.passed)))
 
--- where no call was made, none more were
-pub stopped : (old new : List Receipt) (before after : Seat) (end : WorkEnd)
-    (Wanted : List Receipt → Type 0) (held : Type 0) (pass : ℕ → Type 0)
-    → MadeNone old new before after end held → MadeSome old new before after (Some end) Wanted held pass
-stopped old new before after end Wanted held pass none = (
-  [],
-  none.0 ∙ sym (append-nil old),
-  subst (λ (seat : Seat). IsPaid before seat []) (sym none.1) (paid-none before),
-  tt,
-  λ e. none.2 (unwrapped end Done e),
-  λ e. none.3 (unwrapped end Closed e),
-  λ e. none.4 (unwrapped end Held e),
-  passed-none pass (length old),
-)
+-- one vacuum more
+pub vacuums_more : (n : ℕ) (more : List Receipt) (r : Receipt) → r.event ≡ Vacuum
+    → map event_of more ≡ replicate n Vacuum
+    → map event_of (more ++ r ∷ []) ≡ replicate (n + 1) Vacuum
+vacuums_more n more r event had =
+    map-append event_of more (r ∷ [])
+    ∙ ap (λ l. l ++ event_of r ∷ []) had
+    ∙ ap (λ e. replicate n Vacuum ++ e ∷ []) event
+    ∙ replicate-append-replicate n 1 Vacuum
 
 -- one item more was taken and handed in
 pub took_more : (before taken after : List Item) (receipts more : List Receipt) (r : Receipt) (item : Item)
@@ -148,7 +155,7 @@ raised_more first was now receipts more r before is step =
         ap (λ (n : ℕ). Some (post feeder.board feeder.node n)) (sym (highest_more feeder.node feeder.raised receipts r))
 
 -- one round more behind those before
-rounds-append : (keys : List (List ℕ)) (stamps : List ℕ) (stamp : ℕ) (before round : List Receipt)
+pub rounds-append : (keys : List (List ℕ)) (stamps : List ℕ) (stamp : ℕ) (before round : List Receipt)
     → AreRounds keys stamps before
     → IsRound keys stamp round → AreRounds keys (stamps ++ stamp ∷ []) (before ++ round)
 rounds-append keys [] stamp before round had here =
@@ -160,25 +167,6 @@ rounds-append keys (s ∷ stamps) stamp before round had here = (
   had.3,
   rounds-append keys stamps stamp had.1 round had.4 here,
 )
-
--- the same, of a list that is the two
-pub rounds_more : (keys : List (List ℕ)) (stamps : List ℕ) (stamp : ℕ) (before round all : List Receipt)
-    → all ≡ before ++ round
-    → AreRounds keys stamps before → IsRound keys stamp round → AreRounds keys (stamps ++ stamp ∷ []) all
-rounds_more keys stamps stamp before round all is had here =
-    subst (λ (l : List Receipt). AreRounds keys (stamps ++ stamp ∷ []) l) (sym is)
-    (rounds-append keys stamps stamp before round had here)
-
--- a receipt and then more behind the first ones
-pub pushed : (old mid new more : List Receipt) (r : Receipt) → mid ≡ old ++ r ∷ [] → new ≡ mid ++ more
-    → new ≡ old ++ (r ∷ more)
-pushed old mid new more r one rest = rest ∙ ap (λ (l : List Receipt). l ++ more) one ∙ append_assoc old (r ∷ []) more
-
--- more behind the first ones, and then one receipt
-pub behind : (old more mid new : List Receipt) (r : Receipt) → mid ≡ old ++ more → new ≡ mid ++ r ∷ []
-    → new ≡ old ++ (more ++ r ∷ [])
-behind old more mid new r first one =
-    one ∙ ap (λ (l : List Receipt). l ++ r ∷ []) first ∙ append_assoc old more (r ∷ [])
 
 -- one key more was read
 pub read_more : (keys : List (List ℕ)) (id i : ℕ) (item key : List ℕ) (more : List Receipt) (r : Receipt)
@@ -192,24 +180,22 @@ read_more keys id i item key more r lt is copy event had =
     ∙ sym (map-append (Read id) (take i keys) (get_or keys i item ∷ []))
     ∙ sym (ap (map (Read id)) (take_more keys i item lt))
 
-if_none : {A B : Type 0} (end : Option WorkEnd) → (A → B) → IfNone end A → IfNone end B
-if_none None f a = f a
-if_none (Some end) f a = tt
-
 -- an opening, and then what follows it
-pub opening_then : (Goes : Opening → List Receipt → Type 0) (Wanted : List Receipt → Type 0) (held : Type 0)
-    (pass : ℕ → Type 0) (event : CoreEvent) (opening : Opening) (old mid new : List Receipt) (before seat after : Seat)
-    (end : Option WorkEnd)
+pub opening_then : {S L A : Type 0} (may : S → ℕ → Bool → Type 0) (gate gate' : S)
+    (Goes : Opening → List Receipt → Type 0) (Wanted : List Receipt → Type 0) (event : CoreEvent) (opening : Opening)
+    (old mid new : Work L) (made : Result A WorkEnd)
+    → gate' ≡ gate
     → ((r : Receipt) (more : List Receipt) → (r.event ≡ event) × Goes (opening_of r.reply) more → Wanted (r ∷ more))
-    → MadeOpening old mid before seat event opening pass → MadeSome mid new seat after end (Goes opening) held pass
-    → MadeSome old new before after end Wanted held pass
-opening_then Goes Wanted held pass event opening old mid new before seat after end all t e = (
+    → (r : Receipt) × HasCalled (may gate) old mid (r ∷ []) × IsOpening event opening r
+    → MadeSome (may gate') mid new made (Goes opening)
+    → MadeSome (may gate) old new made Wanted
+opening_then {S} {L} {A} may gate gate' Goes Wanted event opening old mid new made same all t e = (
   t.0 ∷ e.0,
-  pushed old mid new e.0 t.0 t.1 e.1,
-  paid_all before seat after (t.0 ∷ []) e.0 (t.0 ∷ e.0) refl t.2 e.2,
-  if_none end (λ goes. all t.0 e.0 (t.3, subst (λ (o : Opening). Goes o e.0) t.4 goes)) e.3,
-  e.4,
-  e.5,
-  e.6,
-  passed_before pass old mid e.0 t.0 t.1 t.5 e.7,
+  called_on may gate gate' old mid new (t.0 ∷ []) e.0 same t.1 e.1,
+  went made e.2,
 )
+  where
+    went : (made : Result A WorkEnd) → MatchResult made (λ _. Goes opening e.0) (λ end. IsStopped (may gate') new end)
+        → MatchResult made (λ _. Wanted (t.0 ∷ e.0)) (λ end. IsStopped (may gate) new end)
+    went (Ok a) goes = all t.0 e.0 (t.2.0, subst (λ (o : Opening). Goes o e.0) t.2.1 goes)
+    went (Err end) is = stopped_on may gate gate' new end same is

@@ -1,6 +1,7 @@
 -- What a worker of a link has done.
-use Rattle.std.specs.Prelude.{◌≡◌, ◌==◌, ◌&&◌, ℕ, List, [], ◌∷◌, ◌++◌, length, map, nat_lt, true, Option, None}
-use Rattle.std.specs.Prelude.{if◌then◌else◌}
+use Rattle.std.specs.Prelude.{◌≡◌, ◌==◌, ◌&&◌, ℕ, List, [], ◌∷◌, ◌++◌, length}
+use Rattle.std.specs.Prelude.{map, nat_lt, Bool, true, false}
+use Rattle.std.specs.Prelude.{if◌then◌else◌, Option, None}
 use Rattle.std.specs.Option.{option_to_list, option_map}
 use Rattle.hlc_node.specs.declared.item.Item.{Item}
 use Rattle.hlc_link.specs.Ends.{Received}
@@ -10,10 +11,10 @@ use Rattle.hlc_core.specs.declared.event.CoreEvent.TheVariants.{Accept}
 use Rattle.hlc_core.specs.declared.reply.CoreReply.{CoreReply}
 use Rattle.hlc_core.specs.declared.reply.CoreReply.TheVariants.{Accepted}
 use Rattle.hlc_server.specs.declared.entry.Receipt.{Receipt}
-use Rattle.hlc_server.specs.Seats.{Seat}
-use Rattle.hlc_workers.specs.declared.room.WorkEnd.{WorkEnd}
-use Rattle.hlc_workers.specs.declared.room.WorkEnd.TheVariants.{Done, Held, Closed}
-use Rattle.hlc_workers.specs.Paid.{event_of, IsPaid}
+use Rattle.hlc_workers.specs.declared.session.Work.{Work}
+use Rattle.hlc_workers.specs.declared.end.WorkEnd.{WorkEnd}
+use Rattle.hlc_workers.specs.declared.end.WorkEnd.TheVariants.{Done, Held, Closed}
+use Rattle.hlc_workers.specs.Paid.{event_of, HasCalled, HasStayed}
 
 -- the call that hands an item in
 abbrev pub accept_of : Item → CoreEvent
@@ -45,22 +46,25 @@ fed_by feeder reply = post feeder.board feeder.node (raised_by feeder.node feede
 abbrev pub fed_all : Post → List Receipt → Post
 fed_all feeder receipts = post feeder.board feeder.node (highest feeder.node feeder.raised receipts)
 
--- One item was taken and handed in: the receipts were `old` and are `new`, the caller was `before` and is `after`, the
--- items taken were `had` and are `taken`, and the feeder, where there is one, was `one` and is `other`. The gate let
--- its turn pass, and `pass` is what it promises then.
-abbrev pub FedOne : List Receipt → List Receipt → Seat → Seat → List Item → List Item → Option Post → Option Post
-    → (ℕ → Type 0) → Type 0
-FedOne old new before after had taken one other pass =
-    (receipt : Receipt) × (item : Item) × (new ≡ old ++ receipt ∷ []) × (receipt.event ≡ accept_of item)
-    × (taken ≡ had ++ item ∷ []) × IsPaid before after (receipt ∷ [])
-    × (other ≡ option_map (λ feeder. fed_by feeder receipt.reply) one) × pass (length old)
+-- Below, a worker's caller and receipts were `old` and are `new`, and `may` is what its gate may answer at a turn; the
+-- items that its link gave were `had` and are `taken`, and its feeder, where there is one, was `one` and is `other`.
 
--- No item was handed in: this is left, and so the work ends.
--- `held` is what the gate promises where it holds the next call.
-abbrev pub FedNone : List Receipt → List Receipt → Seat → Seat → List Item → Received → Option Post → Option Post
-    → (Option Item × WorkEnd)
-    → Type 0 → Type 0
-FedNone old new before after had link one other told held =
-    (new ≡ old) × (after ≡ before) × (link.taken ≡ had ++ option_to_list told.0) × (other ≡ one)
-    × (told.1 ≡ Done → (link.ended ≡ true) × (told.0 ≡ None)) × (told.1 ≡ Closed → told.0 ≡ None)
-    × (told.1 ≡ Held → held)
+-- one item was taken and handed in
+pub record FedOne {L : Type 0} (may : ℕ → Bool → Type 0) (old new : Work L) (had taken : List Item)
+    (one other : Option Post) : Type 0 where
+  pub item : Item
+  pub receipt : Receipt
+  pub called : HasCalled may old new (receipt ∷ [])
+  pub asks : receipt.event ≡ accept_of item
+  pub took : taken ≡ had ++ item ∷ []
+  pub raised : other ≡ option_map (λ feeder. fed_by feeder receipt.reply) one
+
+-- no item was handed in: this one is left, and so the work ends
+pub record FedNone {L : Type 0} (may : ℕ → Bool → Type 0) (old new : Work L) (had : List Item) (link : Received)
+    (one other : Option Post) (left : Option Item) (end : WorkEnd) : Type 0 where
+  pub stayed : HasStayed old new
+  pub took : link.taken ≡ had ++ option_to_list left
+  pub raised : other ≡ one
+  pub done : end ≡ Done → (link.ended ≡ true) × (left ≡ None)
+  pub closed : end ≡ Closed → left ≡ None
+  pub held : end ≡ Held → may (length new.receipts.items) false

@@ -8,11 +8,10 @@ use Rattle.hlc_core.specs.declared.reply.CoreReply.TheVariants.{Opened, Refused}
 use Rattle.hlc_server.specs.declared.entry.Receipt.{Receipt}
 use Rattle.hlc_floor.specs.Board.{found_at}
 use Rattle.hlc_floor.specs.Views.{Sight, IsLeast}
-use Rattle.hlc_workers.specs.declared.opening.Opening.{Opening}
-use Rattle.hlc_workers.specs.declared.opening.Opening.TheVariants.{Opened as opened, Outside as outside}
-use Rattle.hlc_workers.specs.declared.opening.Opening.TheVariants.{NotOpened as refused}
-use Rattle.hlc_server.specs.Seats.{Seat}
-use Rattle.hlc_workers.specs.Paid.{event_of, IsPaid}
+use Rattle.hlc_workers.specs.declared.session.Opening.{Opening}
+use Rattle.hlc_workers.specs.declared.session.Opening.TheVariants.{Opened as opened, Outside as outside}
+use Rattle.hlc_workers.specs.declared.session.Opening.TheVariants.{NotOpened as refused}
+use Rattle.hlc_workers.specs.Paid.{event_of}
 
 -- what an opening came to, by its reply
 abbrev pub opening_of : CoreReply → Opening
@@ -21,12 +20,9 @@ opening_of (Refused (AboveFloor floor)) = outside
 opening_of (Refused (BelowHorizon horizon)) = outside
 opening_of _ = refused
 
--- One opening more was made, for this event, and it came to this: the receipts were `old` and are `new`, the caller was
--- `before` and is `after`. The gate let its turn pass, and `pass` is what it promises then.
-abbrev pub MadeOpening : List Receipt → List Receipt → Seat → Seat → CoreEvent → Opening → (ℕ → Type 0) → Type 0
-MadeOpening old new before after event opening pass =
-    (receipt : Receipt) × (new ≡ old ++ receipt ∷ []) × IsPaid before after (receipt ∷ []) × (receipt.event ≡ event)
-    × (opening ≡ opening_of receipt.reply) × pass (length old)
+-- the call of the receipt was for this event, and as an opening it came to this
+abbrev pub IsOpening : CoreEvent → Opening → Receipt → Type 0
+IsOpening event opening receipt = (receipt.event ≡ event) × (opening ≡ opening_of receipt.reply)
 
 -- the calls of a snapshot: each key is read in turn, and it is closed
 abbrev pub reads_of : ℕ → List (List ℕ) → List CoreEvent

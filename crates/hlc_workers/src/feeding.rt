@@ -1,11 +1,12 @@
 //! The worker of a link.
-ghost use Rattle.std.specs.Prelude.{◌≡◌, ◌<◌, ℕ, true, false, None, length, vec_len, IfSome, MatchOption};
+ghost use Rattle.std.specs.Prelude.{◌≡◌, ◌<◌, ℕ, true, false, None, length, vec_len, IfSome, MatchResult};
 ghost use Rattle.std.specs.Option.{option_map};
 ghost use Rattle.hlc_workers.specs.Paid.{IsPaid};
 ghost use Rattle.hlc_workers.specs.Feeding.{TookAll, FedOne, FedNone, fed_by, fed_all};
 
+use crate::end::WorkEnd;
 use crate::gate::Gate;
-use crate::room::{WorkEnd, make_room};
+use crate::session::{Session, Work};
 use hlc_core::{CoreEvent, CoreReply, Item};
 use hlc_floor::{Board, Feeder};
 use hlc_link::{LinkReceiver, Parcel};
@@ -60,22 +61,11 @@ pub fn feed<L: Ledger, G: Gate, R: Wait>(
         → G.may_answer gate.now turn true }
 {
     let mut link = link;
-    let mut caller = caller;
     let mut feeder = feeder;
-    let mut receipts = Vec::new(alloc);
+    let mut session = Session::new(rt, alloc, shared, caller, gate);
     for _ in rt.forever() {
-        let (back, told) = feed_one(
-            rt,
-            shared,
-            caller,
-            &mut link,
-            board,
-            &mut feeder,
-            &mut receipts,
-            gate,
-        );
-        caller = back;
-        if let Some((left, end)) = told {
+        if let Err((left, end)) = session.feed_one(&mut link, board, &mut feeder) {
+            let Work { caller, receipts } = session.work;
             return Fed {
                 caller,
                 link,
@@ -89,46 +79,44 @@ pub fn feed<L: Ledger, G: Gate, R: Wait>(
     unreachable!()
 }
 
-/// Takes one item and hands it in, or says what is left and how the work ends.
-fn feed_one<L: Ledger, G: Gate, R: Wait>(
-    rt: &R,
-    shared: &Shared<L>,
-    caller: Caller<L>,
-    link: &mut LinkReceiver,
-    board: &Board,
-    feeder: &mut Option<Feeder>,
-    receipts: &mut Vec<Receipt>,
-    gate: &G,
-) -> (Caller<L>, Option<(Option<Item>, WorkEnd)>)
-    requires { IfSome feeder.old (λ feeder. feeder.board ≡ board.now) }
-    ensures link { link.new.link ≡ link.old.link }
-    ensures went { MatchOption result.1
-        (FedOne receipts.old.items receipts.new.items caller result.0
-        link.old.taken link.new.taken feeder.old feeder.new
-        (λ turn. G.may_answer gate.now turn true))
-        (λ told. FedNone receipts.old.items receipts.new.items caller result.0
-        link.old.taken link.new feeder.old feeder.new told
-        (G.may_answer gate.now (vec_len receipts.new) false)) }
-{
-    let item = match link.take(rt) {
-        Ok(Parcel::Item(item)) => item,
-        Ok(Parcel::End) => return (caller, Some((None, WorkEnd::Done))),
-        Err(_) => return (caller, Some((None, WorkEnd::Closed))),
-    };
-    if let Err(end) = make_room(rt, gate, receipts) {
-        return (caller, Some((Some(item), end)));
-    }
-    match shared.accept(rt, caller, item) {
-        (caller, Ok(receipt)) => {
-            raise_where(board, feeder, &receipt.reply);
-            receipts.push_reserved(receipt);
-            (caller, None)
+impl<L: Ledger, G: Gate, R: Wait> Session<'_, L, G, R> {
+    /// Takes one item and hands it in, or says what is left and how the work ends.
+    fn feed_one(
+        &mut self,
+        link: &mut LinkReceiver,
+        board: &Board,
+        feeder: &mut Option<Feeder>,
+    ) -> Result<(), (Option<Item>, WorkEnd)>
+        requires { IfSome feeder.old (λ feeder. feeder.board ≡ board.now) }
+        ensures gate { self.new.gate.now ≡ self.old.gate.now }
+        ensures link { link.new.link ≡ link.old.link }
+        ensures fed { MatchResult result
+            (λ _. FedOne (G.may_answer self.old.gate.now) self.old.work self.new.work
+            link.old.taken link.new.taken feeder.old feeder.new)
+            (λ stop. FedNone (G.may_answer self.old.gate.now) self.old.work self.new.work
+            link.old.taken link.new feeder.old feeder.new stop.0 stop.1) }
+    {
+        let item = match link.take(self.rt) {
+            Ok(Parcel::Item(item)) => item,
+            Ok(Parcel::End) => return Err((None, WorkEnd::Done)),
+            Err(_) => return Err((None, WorkEnd::Closed)),
+        };
+        if let Err(end) = self.make_room() {
+            return Err((Some(item), end));
         }
-        (caller, Err((why, event))) => {
-            let CoreEvent::Accept(item) = event else {
-                unreachable!()
-            };
-            (caller, Some((Some(item), WorkEnd::Spent(why))))
+        let event = CoreEvent::Accept(item);
+        match self.shared.call(self.rt, &mut self.work.caller, event) {
+            Ok(receipt) => {
+                raise_where(board, feeder, &receipt.reply);
+                self.work.receipts.push_reserved(receipt);
+                Ok(())
+            }
+            Err((why, event)) => {
+                let CoreEvent::Accept(item) = event else {
+                    unreachable!()
+                };
+                Err((Some(item), WorkEnd::Spent(why)))
+            }
         }
     }
 }

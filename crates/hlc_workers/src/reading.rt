@@ -4,9 +4,9 @@ ghost use Rattle.hlc_core.specs.declared.event.CoreEvent.TheVariants.{Read as AR
 ghost use Rattle.hlc_workers.specs.Paid.{IsPaid, MadeSome, event_of};
 ghost use Rattle.hlc_workers.specs.Rounds.{reads_of, IsRound, AtFloor, HasServed};
 
+use crate::end::WorkEnd;
 use crate::gate::Gate;
-use crate::opening::{Opening, make_call};
-use crate::room::WorkEnd;
+use crate::session::{Opening, Session, Work};
 use hlc_core::{Bytes, CoreEvent, Stamp};
 use hlc_floor::{Board, FloorPass};
 use hlc_server::{Caller, NotDone, Receipt, Shared};
@@ -24,108 +24,78 @@ pub struct Reader<L: Ledger> {
     pub end: WorkEnd,
 }
 
-/// Reads each key in turn in an open snapshot.
-fn read_each<L: Ledger, G: Gate, R: Wait>(
-    rt: &R,
-    shared: &Shared<L>,
-    caller: Caller<L>,
-    id: u64,
-    keys: &[Bytes],
-    receipts: &mut Vec<Receipt>,
-    gate: &G,
-) -> (Caller<L>, Option<WorkEnd>)
-    ensures { MadeSome receipts.old.items receipts.new.items caller result.0 result.1
-        (λ more. map event_of more
-        ≡ map (ARead id) keys.now) (G.may_answer gate.now (vec_len receipts.new) false)
-        (λ turn. G.may_answer gate.now turn true) }
-{
-    let mut caller = caller;
-    for key in keys {
-        let Ok(key) = key.clone() else {
-            return (caller, Some(WorkEnd::Spent(NotDone::NoMemory)));
-        };
-        let event = CoreEvent::Read { id, key };
-        let (back, told) = make_call(rt, shared, caller, event, receipts, gate);
-        caller = back;
-        if let Err(end) = told {
-            return (caller, Some(end));
+impl<L: Ledger, G: Gate, R: Wait> Session<'_, L, G, R> {
+    /// Reads each key in turn in an open snapshot.
+    fn read_each(&mut self, id: u64, keys: &[Bytes]) -> Result<(), WorkEnd>
+        ensures gate { self.new.gate.now ≡ self.old.gate.now }
+        ensures made { MadeSome (G.may_answer self.old.gate.now) self.old.work self.new.work result
+            (λ more. map event_of more ≡ map (ARead id) keys.now) }
+    {
+        for key in keys {
+            let Ok(key) = key.clone() else {
+                return Err(WorkEnd::Spent(NotDone::NoMemory));
+            };
+            self.call(CoreEvent::Read { id, key })?;
+        }
+        Ok(())
+    }
+
+    /// Reads each key in an open snapshot, and closes it.
+    fn read_and_close(&mut self, id: u64, keys: &[Bytes]) -> Result<(), WorkEnd>
+        ensures gate { self.new.gate.now ≡ self.old.gate.now }
+        ensures made { MadeSome (G.may_answer self.old.gate.now) self.old.work self.new.work result
+            (λ more. map event_of more ≡ reads_of id keys.now) }
+    {
+        self.read_each(id, keys)?;
+        self.call(CoreEvent::Close(id))?;
+        Ok(())
+    }
+
+    /// The part of a round that opens at the floor of the store, where the board's was above it, or
+    /// below the horizon.
+    fn read_at_floor(&mut self, keys: &[Bytes]) -> Result<(), WorkEnd>
+        ensures gate { self.new.gate.now ≡ self.old.gate.now }
+        ensures made { MadeSome (G.may_answer self.old.gate.now) self.old.work self.new.work result
+            (AtFloor keys.now) }
+    {
+        match self.call(CoreEvent::OpenFloor)? {
+            Opening::Opened(id) => self.read_and_close(id, keys),
+            _ => Ok(()),
         }
     }
-    (caller, None)
-}
 
-/// Reads each key in an open snapshot, and closes it.
-fn read_and_close<L: Ledger, G: Gate, R: Wait>(
-    rt: &R,
-    shared: &Shared<L>,
-    caller: Caller<L>,
-    id: u64,
-    keys: &[Bytes],
-    receipts: &mut Vec<Receipt>,
-    gate: &G,
-) -> (Caller<L>, Option<WorkEnd>)
-    ensures { MadeSome receipts.old.items receipts.new.items caller result.0 result.1
-        (λ more. map event_of more
-        ≡ reads_of id keys.now) (G.may_answer gate.now (vec_len receipts.new) false)
-        (λ turn. G.may_answer gate.now turn true) }
-{
-    let (caller, end) = read_each(rt, shared, caller, id, keys, receipts, gate);
-    if let Some(end) = end {
-        return (caller, Some(end));
+    /// One round: opens at the stamp, or at the floor of the store where the stamp is above it or below
+    /// the horizon, reads each key and closes.
+    fn make_round(&mut self, stamp: Stamp, keys: &[Bytes]) -> Result<(), WorkEnd>
+        ensures gate { self.new.gate.now ≡ self.old.gate.now }
+        ensures made { MadeSome (G.may_answer self.old.gate.now) self.old.work self.new.work result
+            (IsRound keys.now stamp) }
+    {
+        match self.call(CoreEvent::OpenAt(stamp))? {
+            Opening::Opened(id) => self.read_and_close(id, keys),
+            Opening::Outside => self.read_at_floor(keys),
+            Opening::NotOpened => Ok(()),
+        }
     }
-    let (caller, told) = make_call(rt, shared, caller, CoreEvent::Close(id), receipts, gate);
-    (caller, told.err())
-}
 
-/// The part of a round that opens at the floor of the store, where the board's was above it, or below
-/// the horizon.
-fn read_at_floor<L: Ledger, G: Gate, R: Wait>(
-    rt: &R,
-    shared: &Shared<L>,
-    caller: Caller<L>,
-    keys: &[Bytes],
-    receipts: &mut Vec<Receipt>,
-    gate: &G,
-) -> (Caller<L>, Option<WorkEnd>)
-    ensures { MadeSome receipts.old.items receipts.new.items caller result.0 result.1
-        (AtFloor keys.now)
-        (G.may_answer gate.now (vec_len receipts.new) false)
-        (λ turn. G.may_answer gate.now turn true) }
-{
-    let (caller, told) = make_call(rt, shared, caller, CoreEvent::OpenFloor, receipts, gate);
-    match told {
-        Err(end) => (caller, Some(end)),
-        Ok(opening) => match opening {
-            Opening::Opened(id) => read_and_close(rt, shared, caller, id, keys, receipts, gate),
-            _ => (caller, None),
-        },
-    }
-}
-
-/// One round: opens at the stamp, or at the floor of the store where the stamp is above it or below the
-/// horizon, reads each key and closes.
-fn make_round<L: Ledger, G: Gate, R: Wait>(
-    rt: &R,
-    shared: &Shared<L>,
-    caller: Caller<L>,
-    stamp: Stamp,
-    keys: &[Bytes],
-    receipts: &mut Vec<Receipt>,
-    gate: &G,
-) -> (Caller<L>, Option<WorkEnd>)
-    ensures { MadeSome receipts.old.items receipts.new.items caller result.0 result.1
-        (IsRound keys.now stamp)
-        (G.may_answer gate.now (vec_len receipts.new) false)
-        (λ turn. G.may_answer gate.now turn true) }
-{
-    let (caller, told) = make_call(rt, shared, caller, CoreEvent::OpenAt(stamp), receipts, gate);
-    match told {
-        Err(end) => (caller, Some(end)),
-        Ok(opening) => match opening {
-            Opening::Opened(id) => read_and_close(rt, shared, caller, id, keys, receipts, gate),
-            Opening::Outside => read_at_floor(rt, shared, caller, keys, receipts, gate),
-            Opening::NotOpened => (caller, None),
-        },
+    /// Makes so many rounds, each at the floor of the board that the pass sees then.
+    fn make_rounds(
+        &mut self,
+        board: &Board,
+        pass: &mut FloorPass,
+        keys: &[Bytes],
+        rounds: u64,
+    ) -> Result<(), WorkEnd>
+        requires { pass.old.board ≡ board.now }
+        ensures board { pass.new.board ≡ pass.old.board }
+        ensures made { MadeSome (G.may_answer self.old.gate.now) self.old.work self.new.work result
+            (HasServed keys.now rounds pass.old pass.new) }
+    {
+        for _round in 0..rounds {
+            let stamp = board.floor(pass);
+            self.make_round(stamp, keys)?;
+        }
+        Ok(())
     }
 }
 
@@ -159,26 +129,14 @@ pub fn serve_reader<L: Ledger, G: Gate, R: Wait>(
     ensures passed { (turn : ℕ) → turn < length result.receipts.items
         → G.may_answer gate.now turn true }
 {
-    let mut caller = caller;
     let mut pass = pass;
-    let mut receipts = Vec::new(alloc);
-    for _round in 0..rounds {
-        let stamp = board.floor(&mut pass);
-        let (back, end) = make_round(rt, shared, caller, stamp, keys, &mut receipts, gate);
-        caller = back;
-        if let Some(end) = end {
-            return Reader {
-                caller,
-                pass,
-                receipts,
-                end,
-            };
-        }
-    }
+    let mut session = Session::new(rt, alloc, shared, caller, gate);
+    let end = WorkEnd::of(session.make_rounds(board, &mut pass, keys, rounds));
+    let Work { caller, receipts } = session.work;
     Reader {
         caller,
         pass,
         receipts,
-        end: WorkEnd::Done,
+        end,
     }
 }

@@ -1,10 +1,12 @@
 //! The worker of the vacuum.
-ghost use Rattle.std.specs.Prelude.{◌≡◌, ◌≢◌, ◌<◌, ℕ, map, replicate, false, true, length, vec_len, MatchOption};
+ghost use Rattle.std.specs.Prelude.{◌≡◌, ◌≢◌, ◌<◌, ℕ, map, replicate, false, true, length, vec_len};
 ghost use Rattle.hlc_core.specs.declared.event.CoreEvent.{CoreEvent as AnEvent};
-ghost use Rattle.hlc_workers.specs.Paid.{IsPaid, MadeOne, MadeNone, event_of};
+ghost use Rattle.hlc_workers.specs.Paid.{IsPaid, MadeOne, MadeSome, event_of};
 
+use crate::end::WorkEnd;
 use crate::gate::Gate;
-use crate::room::{WorkEnd, make_room};
+use crate::session::{Session, Work};
+use hlc_core::CoreEvent;
 use hlc_server::{Caller, Receipt, Shared};
 use std::alloc::Global;
 use std::sync::Wait;
@@ -20,29 +22,35 @@ pub struct Served<L: Ledger> {
     pub end: WorkEnd,
 }
 
-/// Makes one vacuum.
-fn vacuum_one<L: Ledger, G: Gate, R: Wait + Threads + Sync>(
-    rt: &R,
-    shared: &Shared<L>,
-    caller: Caller<L>,
-    receipts: &mut Vec<Receipt>,
-    gate: &G,
-) -> (Caller<L>, Option<WorkEnd>)
-    ensures told { MatchOption result.1
-        (MadeOne receipts.old.items receipts.new.items caller result.0 AnEvent.Vacuum
-        (λ turn. G.may_answer gate.now turn true))
-        (λ end. MadeNone receipts.old.items receipts.new.items caller result.0 end
-        (G.may_answer gate.now (vec_len receipts.new) false)) }
-{
-    if let Err(end) = make_room(rt, gate, receipts) {
-        return (caller, Some(end));
-    }
-    match shared.vacuum(rt, caller) {
-        (caller, Ok(receipt)) => {
-            receipts.push_reserved(receipt);
-            (caller, None)
+impl<L: Ledger, G: Gate, R: Wait + Threads + Sync> Session<'_, L, G, R> {
+    /// Makes one vacuum.
+    fn vacuum(&mut self) -> Result<(), WorkEnd>
+        ensures gate { self.new.gate.now ≡ self.old.gate.now }
+        ensures made { MadeOne (G.may_answer self.old.gate.now) self.old.work self.new.work result
+            (λ _ receipt. receipt.event ≡ AnEvent.Vacuum) }
+    {
+        self.make_room()?;
+        match self
+            .shared
+            .call_by_threads(self.rt, &mut self.work.caller, CoreEvent::Vacuum)
+        {
+            Ok(receipt) => {
+                self.work.receipts.push_reserved(receipt);
+                Ok(())
+            }
+            Err((why, _)) => Err(WorkEnd::Spent(why)),
         }
-        (caller, Err((why, _))) => (caller, Some(WorkEnd::Spent(why))),
+    }
+
+    /// Makes so many vacuums.
+    fn vacuum_often(&mut self, times: u64) -> Result<(), WorkEnd>
+        ensures { MadeSome (G.may_answer self.old.gate.now) self.old.work self.new.work result
+            (λ more. map event_of more ≡ replicate times AnEvent.Vacuum) }
+    {
+        for _time in 0..times {
+            self.vacuum()?;
+        }
+        Ok(())
     }
 }
 
@@ -67,22 +75,12 @@ pub fn serve_vacuum<L: Ledger, G: Gate, R: Wait + Threads + Sync>(
     ensures passed { (turn : ℕ) → turn < length result.receipts.items
         → G.may_answer gate.now turn true }
 {
-    let mut caller = caller;
-    let mut receipts = Vec::new(alloc);
-    for _time in 0..times {
-        let (back, end) = vacuum_one(rt, shared, caller, &mut receipts, gate);
-        caller = back;
-        if let Some(end) = end {
-            return Served {
-                caller,
-                receipts,
-                end,
-            };
-        }
-    }
+    let mut session = Session::new(rt, alloc, shared, caller, gate);
+    let end = WorkEnd::of(session.vacuum_often(times));
+    let Work { caller, receipts } = session.work;
     Served {
         caller,
         receipts,
-        end: WorkEnd::Done,
+        end,
     }
 }

@@ -7,6 +7,7 @@ use Rattle.std.proofs.lemmas.Bool.{cond-true, cond-false, lt-leb, eq-eqb, ne_eqb
 use Rattle.hlc_node.specs.declared.item.Item.{Item}
 use Rattle.hlc_node.specs.Items.{retires}
 use Rattle.hlc_core.specs.declared.fault.CoreFault.{CoreFault}
+use Rattle.hlc_intake.specs.declared.intake.LinkFault.TheVariants as link_fault
 use Rattle.hlc_core.specs.declared.fault.CoreFault.TheVariants as core_fault
 use Rattle.hlc_heads.specs.Heads.{Acceptance}
 use Rattle.hlc_core.specs.Past.{Took, numbered, retired, count, head, of_body as body_fault, item_refusal}
@@ -37,7 +38,7 @@ by-number n s p k item o at =
     let out : retired item.node (core_past s) ≡ retired p (core_past s) = ap (λ j. retired j (core_past s)) own in
     elim (cases_Bool (retired p (core_past s))) [
       | inl over ↦
-          let is_out : item_refusal n (core_past s) item ≡ Some core_fault.Retired =
+          let is_out : item_refusal n (core_past s) item ≡ Some (core_fault.Link link_fault.Retired) =
           cond-false _ _ _ (lt-leb (numbered n (core_past s)) item.node inside) ∙ cond-true _ _ _ (out ∙ over) in
           ap core_refusal is_out ∙ sym (cond-true _ _ _ over)
       | inr here ↦
@@ -54,11 +55,12 @@ by-number n s p k item o at =
                 ∙ ap body_fault i.body in
                 ap core_refusal none ∙ sym (cond-false _ _ _ here ∙ cond-true _ _ _ (eq-eqb _ _ next))
             | inr other ↦
-                let not_next : item_refusal n (core_past s) item ≡ Some (core_fault.NotNext (count p (core_past s))) =
+                let not_next : item_refusal n (core_past s) item
+                ≡ Some (core_fault.Link (link_fault.NotNext (count p (core_past s)))) =
                 cond-false _ _ _ (lt-leb (numbered n (core_past s)) item.node inside)
                 ∙ cond-false _ _ _ (out ∙ here)
                 ∙ cond-true _ _ _ (ap not (ne_eqb _ _ (λ e. other (sym i.number ∙ e ∙ c))))
-                ∙ ap (λ x. Some (core_fault.NotNext x)) c in
+                ∙ ap (λ x. Some (core_fault.Link (link_fault.NotNext x))) c in
                 ap core_refusal not_next ∙ sym (cond-false _ _ _ here ∙ cond-false _ _ _ (ne_eqb _ _ other))
           ]
     ]

@@ -8,7 +8,8 @@ use Rattle.hlc_core.specs.declared.event.CoreEvent.TheVariants as core_event
 use Rattle.hlc_core.specs.declared.reply.CoreReply.{CoreReply}
 use Rattle.hlc_core.specs.declared.reply.CoreReply.TheVariants as core_reply
 use Rattle.hlc_heads.specs.declared.heads.TheConstants.{MOST_NUMBERS}
-use Rattle.hlc_core.specs.declared.fault.CoreFault.TheVariants.{TooManyNodes, BelowFloor}
+use Rattle.hlc_heads.specs.declared.heads.JoinFault.TheVariants.{TooManyNodes, BelowFloor}
+use Rattle.hlc_core.specs.declared.fault.CoreFault.TheVariants.{Join as joining}
 use Rattle.hlc_core.specs.Past.{Step, numbered, floor, horizon, stamp_of, join_refusal, join_at_refusal, open_refusal}
 use Rattle.hlc_core.specs.Past.{IsLegal as IsLegalPast}
 use Rattle.hlc_core.proofs.PastLemmas.{open-room, vacuum-none, horizon-low}
@@ -63,12 +64,12 @@ starts nodes past start none =
           let f = lt-leb MOST_NUMBERS (numbered nodes past) few in (
             cond-false _ _ _ f,
             elim (cases_lt start (floor nodes past)) [
-              | inl below ↦ absurd (let e : Some (BelowFloor (floor nodes past)) ≡ None =
+              | inl below ↦ absurd (let e : Some (joining (BelowFloor (floor nodes past))) ≡ None =
                   sym (cond-true _ _ _ (lt-ltb start (floor nodes past) below)) ∙ sym (cond-false _ _ _ f) ∙ none in cc)
               | inr up ↦ up
             ],
           )
-      | inr full ↦ absurd (let e : Some TooManyNodes ≡ None =
+      | inr full ↦ absurd (let e : Some (joining TooManyNodes) ≡ None =
           sym (cond-true _ _ _ (le-leb MOST_NUMBERS (numbered nodes past) full)) ∙ none in cc)
     ]
 

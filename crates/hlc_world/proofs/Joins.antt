@@ -12,7 +12,9 @@ use Rattle.hlc_core.specs.Calls.{IsRefusal}
 use Rattle.hlc_world.specs.declared.event.Event.TheVariants.{Join}
 use Rattle.hlc_world.specs.declared.reply.Reply.{Reply}
 use Rattle.hlc_world.specs.declared.reply.Reply.TheVariants.{Joined, Refused}
-use Rattle.hlc_world.specs.declared.refusal.Refusal.TheVariants.{TooManyNodes, NoMemory}
+use Rattle.hlc_heads.specs.declared.heads.JoinFault.TheVariants.{TooManyNodes}
+use Rattle.hlc_core.specs.declared.fault.CoreFault.TheVariants.{Join as joining}
+use Rattle.hlc_world.specs.declared.refusal.Refusal.TheVariants.{Store, NoMemory}
 use Rattle.hlc_world.specs.Schedule.{Event, item_made, with_item, ends, stamp_or, issued, gone, last_stamp}
 use Rattle.hlc_world.specs.Store.{core_past}
 use Rattle.hlc_world.specs.Due.{of_core, core_refusal, IsLegal}
@@ -91,9 +93,9 @@ joins state s node start core h same none is at stands =
 
 -- none joined: 1,024 numbers were given
 pub joins_full : (state : State) (s : List (Event × Reply)) → StandsFor state s → MOST_NUMBERS ≤ length state.nodes
-    → StandsFor state ((Join, Refused TooManyNodes) ∷ s)
+    → StandsFor state ((Join, Refused (Store (joining TooManyNodes))) ∷ s)
 joins_full state s h full =
-    stays state s Join TooManyNodes refl
+    stays state s Join (Store (joining TooManyNodes)) refl
     (inl (ap core_refusal (cond-true _ _ _ (le-leb MOST_NUMBERS (numbered (world_nodes state) (core_past s))
     (let m = h.many in omega (arith, m)))))) h
 

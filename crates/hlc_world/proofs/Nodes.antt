@@ -21,11 +21,12 @@ use Rattle.hlc_world.specs.declared.event.Event.TheVariants.{Send, Receive, Obse
 use Rattle.hlc_world.specs.declared.reply.Reply.{Reply}
 use Rattle.hlc_world.specs.declared.reply.Reply.TheVariants.{Stamped, Sent, Received, Observed, Refused}
 use Rattle.hlc_world.specs.declared.refusal.Refusal.{Refusal}
-use Rattle.hlc_world.specs.declared.refusal.Refusal.TheVariants.{Retired, NoMemory}
+use Rattle.hlc_node.specs.declared.node.NodeFault.TheVariants.{Retired}
+use Rattle.hlc_world.specs.declared.refusal.Refusal.TheVariants.{Node as at_node, NoMemory}
 use Rattle.hlc_world.specs.Schedule.{item_made, message_made, mark_of, with_item, ends, stamp_or, with_message}
 use Rattle.hlc_world.specs.Schedule.{Event, issuing, issued, gone, last_stamp, sent, message_at, node_of}
 use Rattle.hlc_world.specs.Store.{asked, told, paired, with_entry, store_history, core_past}
-use Rattle.hlc_world.specs.Due.{of_node, issue_refusal, stamp_refusal, receive_refusal, observe_refusal, on_link}
+use Rattle.hlc_world.specs.Due.{issue_refusal, stamp_refusal, receive_refusal, observe_refusal, on_link}
 use Rattle.hlc_world.specs.Due.{on_node, refusal_due, IsReceived, IsObserved, MayLackMemory, IsGiven}
 use Rattle.hlc_world.specs.State.{KeptIssuer, State, world_nodes, StandsFor, fresh_issuers, stamps_of, Issues, Sees}
 use Rattle.std.proofs.lemmas.List.{map-append, length-map}
@@ -62,12 +63,13 @@ pub on_link-inside : (nodes : ℕ) (s : List (Event × Reply)) (p : ℕ) (rest :
 on_link-inside nodes s p rest h = cond-false _ _ _ (lt-leb (numbered nodes (core_past s)) p h)
 
 gone-issue : (over : Bool) (r : Result ℕ NodeFault)
-    → (if over then Some Retired else issue_refusal (unless_retired over r)) ≡ issue_refusal (unless_retired over r)
+    → (if over then Some (at_node Retired) else issue_refusal (unless_retired over r))
+    ≡ issue_refusal (unless_retired over r)
 gone-issue true r = refl
 gone-issue false r = refl
 
 gone-sight : (over : Bool) (r : Result ℕ ClockFault)
-    → (if over then Some Retired else stamp_refusal r) ≡ issue_refusal (unless_retired over (clocked r))
+    → (if over then Some (at_node Retired) else stamp_refusal r) ≡ issue_refusal (unless_retired over (clocked r))
 gone-sight true r = refl
 gone-sight false (Ok st) = refl
 gone-sight false (Err fault) = refl
@@ -329,9 +331,9 @@ sends-due state s p reading before h inside at =
 pub sends_not : (state : State) (s : List (Event × Reply)) (p reading : ℕ) (before : KeptIssuer) (fault : NodeFault)
     → StandsFor state s → p < length state.nodes → slice_get state.nodes p ≡ Some before
     → event_due before.node (before.node.last ∷ []) reading ≡ Err fault
-    → StandsFor state ((Send p reading, Refused (of_node fault)) ∷ s)
+    → StandsFor state ((Send p reading, Refused (at_node fault)) ∷ s)
 sends_not state s p reading before fault h inside at due =
-    stays state s (Send p reading) (of_node fault) refl
+    stays state s (Send p reading) (at_node fault) refl
     (inl (sends-due state s p reading before h inside at ∙ ap issue_refusal due)) h
 
 pub sends_lost : (state : State) (s : List (Event × Reply)) (p reading st : ℕ) (before : KeptIssuer) → StandsFor state s

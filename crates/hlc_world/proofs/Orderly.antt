@@ -32,8 +32,10 @@ use Rattle.hlc_world.specs.declared.event.Event.TheVariants.{Close, Vacuum}
 use Rattle.hlc_world.specs.declared.reply.Reply.{Reply}
 use Rattle.hlc_world.specs.declared.reply.Reply.TheVariants.{Stamped, Joined, Sent, Received, Observed, Accepted}
 use Rattle.hlc_world.specs.declared.reply.Reply.TheVariants.{Snapshot, Answer, Listing, Closed, Vacuumed}
+use Rattle.hlc_values.specs.declared.bounds.TheConstants.{NUMBER_BOUND}
 use Rattle.hlc_world.specs.declared.refusal.Refusal.{Refusal}
-use Rattle.hlc_world.specs.declared.refusal.Refusal.TheVariants.{NoNode, Retired as IsRetired}
+use Rattle.hlc_node.specs.declared.node.NodeFault.TheVariants.{Retired as retired_node}
+use Rattle.hlc_world.specs.declared.refusal.Refusal.TheVariants.{NoNode, Node as at_node}
 use Rattle.hlc_world.specs.Schedule.{Event, with_item, stamp_or, issued, gone, last_stamp, node_of}
 use Rattle.hlc_world.specs.Store.{accepting, accepted, paired, with_entry, store_history, core_past}
 use Rattle.hlc_world.specs.Due.{core_refusal, on_link, on_node, deliver_refusal, IsReceived, IsObserved, IsGiven}
@@ -46,7 +48,7 @@ pub record FitsItsNode (nodes last next top n k : ℕ) (item : Item) : Type 0 wh
   pub inside : n < nodes
   pub node : item.node ≡ n
   pub number : item.number ≡ k
-  pub left : k ≡ 18446744073709551615 → ⊥
+  pub left : k ≡ NUMBER_BOUND → ⊥
   pub body : body_refusal item.body ≡ None
   pub low : item.stamp ≤ last
   pub ahead : next ≤ k → top < item.stamp
@@ -118,7 +120,7 @@ orderly-mark many items lasts counts heads p st h inside up =
 -- so does an item that a node issues
 orderly-issue : (nodes : ℕ) (items : ℕ → List Item) (lasts counts heads : ℕ → ℕ) (p st num : ℕ) (body : Body)
     → Orderly nodes items lasts counts heads → p < nodes → num ≡ length (items p)
-    → (length (items p) ≡ 18446744073709551615 → ⊥) → body_refusal body ≡ None → lasts p < st → Orderly nodes
+    → (length (items p) ≡ NUMBER_BOUND → ⊥) → body_refusal body ≡ None → lasts p < st → Orderly nodes
     (λ n. with_item n (Some (an_item p num st body)) (items n)) (λ n. stamp_or n (Some (p, st)) (lasts n)) counts heads
 orderly-issue nodes items lasts counts heads p st num body h inside is left ok up =
     let item = an_item p num st body in
@@ -258,7 +260,7 @@ pub on_node-none : (nodes : ℕ) (s : List (Event × Reply)) (p : ℕ) (rest : O
 on_node-none nodes s p rest h =
     let there = on_link-none nodes s p _ h in
     elim (cases_Bool (gone p s)) [
-      | inl over ↦ absurd (let e : Some IsRetired ≡ None = sym (cond-true _ _ _ over) ∙ there.1 in cc)
+      | inl over ↦ absurd (let e : Some (at_node retired_node) ≡ None = sym (cond-true _ _ _ over) ∙ there.1 in cc)
       | inr here ↦ (there.0, here, sym (cond-false _ _ _ here) ∙ there.1)
     ]
 
@@ -306,12 +308,12 @@ observed-rises (Some seen) last reading st h = (sight-rises last seen reading st
 -- what it says of an item that a stamp is due to it
 issue-by : (over : Bool) (body : Option BodyFault) (last next reading st : ℕ)
     → unless_retired over (unless_bad body
-    (if next == 18446744073709551615 then Err NumbersSpent else clocked (stamp_due (last ∷ []) reading))) ≡ Ok st
-    → (body ≡ None) × (next ≡ 18446744073709551615 → ⊥) × (last < st)
+    (if next == NUMBER_BOUND then Err NumbersSpent else clocked (stamp_due (last ∷ []) reading))) ≡ Ok st
+    → (body ≡ None) × (next ≡ NUMBER_BOUND → ⊥) × (last < st)
 issue-by true body last next reading st h = absurd (cc)
 issue-by false (Some fault) last next reading st h = absurd (cc)
 issue-by false None last next reading st h =
-    elim (cases_eq next 18446744073709551615) [
+    elim (cases_eq next NUMBER_BOUND) [
       | inl spent ↦ absurd (let e : ◌≡◌ {A = Result ℕ NodeFault} (Err NumbersSpent) (Ok st) =
           sym (cond-true _ _ _ (eq-eqb _ _ spent)) ∙ h in cc)
       | inr left ↦
@@ -319,7 +321,7 @@ issue-by false None last next reading st h =
     ]
 
 pub issue-ok : (node : Node) (body : Body) (reading st : ℕ) → issue_due node body reading ≡ Ok st
-    → (body_refusal body ≡ None) × (node.next ≡ 18446744073709551615 → ⊥) × (node.last < st)
+    → (body_refusal body ≡ None) × (node.next ≡ NUMBER_BOUND → ⊥) × (node.last < st)
 issue-ok node body reading st h = issue-by node.retired (body_refusal body) node.last node.next reading st h
 
 -- where the world refuses nothing for the core, the core does not refuse

@@ -6,10 +6,8 @@ use Rattle.std.specs.Prelude.{nat_le, nat_lt, if◌then◌else◌}
 use Rattle.std.proofs.lemmas.Bool.{cond-true, cond-false, eq-eqb, ne_eqb, cases_eq, cases_Bool}
 use Rattle.hlc_clock.specs.NextStamp.{stamp_due}
 use Rattle.hlc_clock.specs.declared.clock.ClockFault.{ClockFault}
-use Rattle.hlc_clock.specs.declared.clock.ClockFault.TheVariants as clock_fault
 use Rattle.hlc_node.specs.declared.item.Item.{Item}
 use Rattle.hlc_node.specs.declared.item.Body.TheVariants.{Write as a_write, Report as a_report, Retire as a_retire}
-use Rattle.hlc_node.specs.declared.item.BodyFault.TheVariants as body_fault
 use Rattle.hlc_node.specs.declared.item.Message.{Message}
 use Rattle.hlc_node.specs.declared.node.NodeFault.{NodeFault}
 use Rattle.hlc_node.specs.declared.node.NodeFault.TheVariants as node_fault
@@ -27,13 +25,23 @@ use Rattle.hlc_world.specs.declared.event.Event.TheVariants.{Close, Floor, Vacuu
 use Rattle.hlc_world.specs.declared.reply.Reply.{Reply}
 use Rattle.hlc_world.specs.declared.reply.Reply.TheVariants.{Refused}
 use Rattle.hlc_world.specs.declared.refusal.Refusal.{Refusal}
-use Rattle.hlc_world.specs.declared.refusal.Refusal.TheVariants.{NoNode, Retired as IsRetired, TooManyNodes, NotNext}
-use Rattle.hlc_world.specs.declared.refusal.Refusal.TheVariants.{StampNotRising, AboveFloor, BelowHorizon, NoMemory}
+use Rattle.hlc_intake.specs.declared.intake.LinkFault.TheVariants as link_fault
+use Rattle.hlc_heads.specs.declared.heads.JoinFault.TheVariants.{TooManyNodes}
+use Rattle.hlc_core.specs.declared.fault.CoreFault.TheVariants.{Link, Join as joining, AboveFloor, BelowHorizon}
+use Rattle.hlc_world.specs.declared.refusal.Refusal.TheVariants.{NoNode, Node as at_node, Store, NoMemory}
 use Rattle.hlc_world.specs.Schedule.{Event, gone, item_at, last_stamp, message_at, node_of}
 use Rattle.hlc_world.specs.Store.{core_past}
 use Rattle.hlc_world.specs.Due.{issue_refusal, stamp_refusal, receive_refusal, observe_refusal, core_refusal, on_link}
 use Rattle.hlc_world.specs.Due.{on_node, refusal_due, number_refusal, GoesByNumber, IsGiven, IsLegal}
 use Rattle.hlc_world.proofs.Delivery.{goes-by-number}
+
+-- a stamp does not rise
+abbrev StampNotRising : ℕ → Refusal
+StampNotRising head = Store (Link (link_fault.StampNotRising head))
+
+-- a node retired
+abbrev IsRetired : Refusal
+IsRetired = at_node node_fault.Retired
 
 -- the refusal is not that a stamp does not rise
 abbrev IsRise : Option Refusal → Type 0
@@ -41,16 +49,11 @@ IsRise refusal = (head : ℕ) → refusal ≡ Some (StampNotRising head) → ⊥
 
 stamp-rise : (r : Result ℕ ClockFault) → IsRise (stamp_refusal r)
 stamp-rise (Ok st) head e = absurd (cc)
-stamp-rise (Err clock_fault.ReadingTooLarge) head e = absurd (cc)
-stamp-rise (Err (clock_fault.CounterFull at)) head e = absurd (cc)
+stamp-rise (Err fault) head e = absurd (cc)
 
 issue-rise : (r : Result ℕ NodeFault) → IsRise (issue_refusal r)
 issue-rise (Ok st) head e = absurd (cc)
-issue-rise (Err (node_fault.BadBody body_fault.BadKey)) head e = absurd (cc)
-issue-rise (Err (node_fault.BadBody body_fault.ValueTooLong)) head e = absurd (cc)
-issue-rise (Err node_fault.NumbersSpent) head e = absurd (cc)
-issue-rise (Err node_fault.Retired) head e = absurd (cc)
-issue-rise (Err (node_fault.NoStamp fault)) head e = stamp-rise (Err fault) head e
+issue-rise (Err fault) head e = absurd (cc)
 
 receive-rise : (o : Option Message) (last reading : ℕ) → IsRise (receive_refusal o last reading)
 receive-rise None last reading head e = absurd (cc)
@@ -67,7 +70,7 @@ number-rise (Some item) false number next head e =
     elim (cases_eq number next) [
       | inl same ↦
           absurd (let g : None ≡ Some (StampNotRising head) = sym (cond-true _ _ _ (eq-eqb _ _ same)) ∙ e in cc)
-      | inr other ↦ absurd (let g : Some (NotNext next) ≡ Some (StampNotRising head) =
+      | inr other ↦ absurd (let g : Some (Store (Link (link_fault.NotNext next))) ≡ Some (StampNotRising head) =
           sym (cond-false _ _ _ (ne_eqb _ _ other)) ∙ e in cc)
     ]
 
@@ -80,12 +83,12 @@ room-rise (Some snapshot_fault.NoMemory) head e = absurd (cc)
 open-rise : (nodes : ℕ) (past : List Step) (stamp : ℕ) → IsRise (core_refusal (open_refusal nodes past stamp))
 open-rise nodes past stamp head e =
     elim (cases_Bool (nat_lt (floor nodes past) stamp)) [
-      | inl above ↦ absurd (let g : Some (AboveFloor (floor nodes past)) ≡ Some (StampNotRising head) =
+      | inl above ↦ absurd (let g : Some (Store (AboveFloor (floor nodes past))) ≡ Some (StampNotRising head) =
           ap core_refusal (sym (cond-true _ _ _ above)) ∙ e in cc)
       | inr low ↦
           let e1 = ap core_refusal (sym (cond-false _ _ _ low)) ∙ e in
           elim (cases_Bool (nat_lt stamp (horizon past))) [
-            | inl below ↦ absurd (let g : Some (BelowHorizon (horizon past)) ≡ Some (StampNotRising head) =
+            | inl below ↦ absurd (let g : Some (Store (BelowHorizon (horizon past))) ≡ Some (StampNotRising head) =
                 ap core_refusal (sym (cond-true _ _ _ below)) ∙ e1 in cc)
             | inr high ↦ room-rise (room_in (length (open_snapshots past)) (opened past)) head
                 (ap core_refusal (sym (cond-false _ _ _ high)) ∙ e1)
@@ -99,7 +102,7 @@ snapshot-rise (Some stamp) head e = absurd (cc)
 join-rise : (nodes : ℕ) (past : List Step) → IsRise (core_refusal (join_refusal nodes past))
 join-rise nodes past head e =
     elim (cases_Bool (nat_le MOST_NUMBERS (numbered nodes past))) [
-      | inl full ↦ absurd (let g : Some TooManyNodes ≡ Some (StampNotRising head) =
+      | inl full ↦ absurd (let g : Some (Store (joining TooManyNodes)) ≡ Some (StampNotRising head) =
           ap core_refusal (sym (cond-true _ _ _ full)) ∙ e in cc)
       | inr room ↦ absurd
           (let g : None ≡ Some (StampNotRising head) = ap core_refusal (sym (cond-false _ _ _ room)) ∙ e in cc)

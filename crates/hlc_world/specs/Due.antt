@@ -3,15 +3,13 @@ use Rattle.std.specs.Prelude.{◌≡◌, ℕ, Bool, List, [], ◌∷◌, length,
 use Rattle.std.specs.Prelude.{nat_le, if◌then◌else◌, ⊤}
 use Rattle.hlc_clock.specs.NextStamp.{stamp_due}
 use Rattle.hlc_clock.specs.declared.clock.ClockFault.{ClockFault}
-use Rattle.hlc_clock.specs.declared.clock.ClockFault.TheVariants as clock_fault
 use Rattle.hlc_node.specs.declared.item.Item.{Item}
 use Rattle.hlc_node.specs.declared.item.Body.TheVariants.{Write as a_write, Report as a_report, Retire as a_retire}
-use Rattle.hlc_node.specs.declared.item.BodyFault.{BodyFault}
-use Rattle.hlc_node.specs.declared.item.BodyFault.TheVariants as body_fault
 use Rattle.hlc_node.specs.declared.item.Message.{Message}
 use Rattle.hlc_node.specs.declared.node.NodeFault.{NodeFault}
 use Rattle.hlc_node.specs.declared.node.NodeFault.TheVariants as node_fault
 use Rattle.hlc_node.specs.Node.{issue_due}
+use Rattle.hlc_intake.specs.declared.intake.LinkFault.TheVariants.{Retired, NotNext}
 use Rattle.hlc_core.specs.declared.fault.CoreFault.{CoreFault}
 use Rattle.hlc_core.specs.declared.fault.CoreFault.TheVariants as core_fault
 use Rattle.hlc_core.specs.declared.event.CoreEvent.{CoreEvent}
@@ -26,57 +24,25 @@ use Rattle.hlc_world.specs.declared.reply.Reply.{Reply}
 use Rattle.hlc_world.specs.declared.reply.Reply.TheVariants.{Stamped, Sent, Received, Observed, Floor as FloorIs}
 use Rattle.hlc_world.specs.declared.reply.Reply.TheVariants.{Rows as RowsAre, Refused}
 use Rattle.hlc_world.specs.declared.refusal.Refusal.{Refusal}
-use Rattle.hlc_world.specs.declared.refusal.Refusal.TheVariants.{NoNode, Retired, TooManyNodes, ReadingTooLarge}
-use Rattle.hlc_world.specs.declared.refusal.Refusal.TheVariants.{CounterFull, NoMessage, NoItem, NotNext}
-use Rattle.hlc_world.specs.declared.refusal.Refusal.TheVariants.{StampNotRising, AboveFloor, BelowHorizon, NoSnapshot}
-use Rattle.hlc_world.specs.declared.refusal.Refusal.TheVariants.{TooManySnapshots, BadKey, ValueTooLong, NumbersSpent}
-use Rattle.hlc_world.specs.declared.refusal.Refusal.TheVariants.{NoMemory}
+use Rattle.hlc_world.specs.declared.refusal.Refusal.TheVariants.{NoNode, Node, NoMessage, NoItem, Store, NoMemory}
 use Rattle.hlc_world.specs.Schedule.{Event, issued, gone, item_at, last_stamp, sent, message_at, node_of}
 use Rattle.hlc_world.specs.Store.{asked, share, core_past}
 
--- what no item may say, as a refusal
-abbrev pub of_body : BodyFault → Refusal
-of_body body_fault.BadKey = BadKey
-of_body body_fault.ValueTooLong = ValueTooLong
-
--- the clock's fault, as a refusal
-abbrev pub of_clock : ClockFault → Refusal
-of_clock clock_fault.ReadingTooLarge = ReadingTooLarge
-of_clock (clock_fault.CounterFull at) = CounterFull at
-
--- The core's fault, as a refusal. No start is below the floor, since nodes join at it: the core never refuses that in a
--- world, and a refusal says it by the same number.
+-- the core's fault, as a refusal: an unknown node and no memory are the world's own
 abbrev pub of_core : CoreFault → Refusal
 of_core core_fault.NoNode = NoNode
-of_core core_fault.Retired = Retired
-of_core core_fault.TooManyNodes = TooManyNodes
-of_core (core_fault.NotNext next) = NotNext next
-of_core core_fault.NumbersSpent = NumbersSpent
-of_core (core_fault.StampNotRising head) = StampNotRising head
-of_core (core_fault.BadBody fault) = of_body fault
-of_core (core_fault.AboveFloor floor) = AboveFloor floor
-of_core (core_fault.BelowHorizon horizon) = BelowHorizon horizon
-of_core (core_fault.BelowFloor floor) = BelowHorizon floor
-of_core core_fault.NoSnapshot = NoSnapshot
-of_core core_fault.TooManySnapshots = TooManySnapshots
 of_core core_fault.NoMemory = NoMemory
-
--- the node's fault, as a refusal
-abbrev pub of_node : NodeFault → Refusal
-of_node node_fault.Retired = Retired
-of_node (node_fault.BadBody fault) = of_body fault
-of_node node_fault.NumbersSpent = NumbersSpent
-of_node (node_fault.NoStamp fault) = of_clock fault
+of_core fault = Store fault
 
 -- why a node issues no item, or has no stamp for another event
 abbrev pub issue_refusal : Result ℕ NodeFault → Option Refusal
 issue_refusal (Ok stamp) = None
-issue_refusal (Err fault) = Some (of_node fault)
+issue_refusal (Err fault) = Some (Node fault)
 
 -- why a clock gives no stamp
 abbrev pub stamp_refusal : Result ℕ ClockFault → Option Refusal
 stamp_refusal (Ok stamp) = None
-stamp_refusal (Err fault) = Some (of_clock fault)
+stamp_refusal (Err fault) = Some (Node (node_fault.Clock fault))
 
 -- why a message is not received: there is none, or the clock gives no stamp above the node's last one and the message's
 abbrev pub receive_refusal : Option Message → ℕ → ℕ → Option Refusal
@@ -86,7 +52,7 @@ receive_refusal (Some message) last reading = stamp_refusal (stamp_due (last ∷
 -- why a snapshot is not observed: there is none, or the clock gives no stamp above the node's last one and the
 -- snapshot's
 abbrev pub observe_refusal : Option ℕ → ℕ → ℕ → Option Refusal
-observe_refusal None last reading = Some NoSnapshot
+observe_refusal None last reading = Some (Store core_fault.NoSnapshot)
 observe_refusal (Some seen) last reading = stamp_refusal (stamp_due (last ∷ seen ∷ []) reading)
 
 -- the core's fault, if there is one, as a refusal
@@ -100,7 +66,8 @@ on_link nodes schedule node rest = if nat_le (numbered nodes (core_past schedule
 
 -- an event of a node that is not there, and then of one that retired, is refused before all else
 abbrev pub on_node : ℕ → List (Event × Reply) → ℕ → Option Refusal → Option Refusal
-on_node nodes schedule node rest = on_link nodes schedule node (if gone node schedule then Some Retired else rest)
+on_node nodes schedule node rest =
+    on_link nodes schedule node (if gone node schedule then Some (Node node_fault.Retired) else rest)
 
 -- why the store refuses what it is asked, if it does
 abbrev pub store_refusal : ℕ → List Step → Option CoreEvent → Option Refusal
@@ -213,9 +180,9 @@ IsLegal nodes (entry ∷ schedule) = IsGiven nodes schedule entry.0 entry.1 × I
 abbrev pub number_refusal : Option Item → Bool → ℕ → ℕ → Option Refusal
 number_refusal None over number next = Some NoItem
 number_refusal (Some item) over number next =
-    if over then Some Retired
+    if over then Some (Store (core_fault.Link Retired))
     else if number == next then None
-    else Some (NotNext next)
+    else Some (Store (core_fault.Link (NotNext next)))
 
 -- an issued item is refused for its number alone, memory aside, or since its node's last one was accepted: its stamp is
 -- never too low, its key and value never bad

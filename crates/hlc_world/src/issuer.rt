@@ -9,7 +9,7 @@ use std::alloc::Global;
 use std::marker::Model;
 
 /// A node, and the items that it issued, in order.
-#[derive(Drop)]
+#[derive(Debug, Drop)]
 pub struct Issuer {
     node: NodeCore,
     issued: Vec<Item>,

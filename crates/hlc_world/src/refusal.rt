@@ -2,50 +2,30 @@
 ghost use Rattle.std.specs.Prelude.{◌≡◌};
 ghost use Rattle.std.proofs.Common.{rules};
 ghost use Rattle.std.proofs.lemmas.Grind.{common_steps};
+ghost use Rattle.hlc_world.specs.Faults.{refusal_code, refusal_word};
 
-use hlc_clock::{ClockFault, Stamp};
 use hlc_core::CoreFault;
-use hlc_node::{BodyFault, NodeFault};
+use hlc_node::NodeFault;
 use hlc_values::{Exact, NoMemory};
+use std::error::Error;
+use std::fmt;
 
-/// Why an event does not take place.
+/// Why an event does not take place. Out of memory is `NoMemory`, and an unknown node is `NoNode`, whether the world or
+/// its store met it.
 #[derive(Clone, Copy, PartialEq, Eq, Debug)]
 pub enum Refusal {
     /// No node has that number, or a new world is not of 1 to 64 nodes.
     NoNode,
-    /// The node retired; of a delivery: the node's last item was accepted.
-    Retired,
-    /// 1,024 node numbers were given, and none is given twice.
-    TooManyNodes,
-    /// The reading is 2^48 or more.
-    ReadingTooLarge,
-    /// The event needs a counter of 65,536; `at` is the greatest earlier stamp: the node's last, or
-    /// the one of the message.
-    CounterFull { at: Stamp },
+    /// The node has no such event.
+    Node(NodeFault),
     /// No message of that number was sent.
     NoMessage,
     /// The node has issued no item of that number.
     NoItem,
-    /// The item's number is not the next one that the store accepts of its node.
-    NotNext { next: u64 },
-    /// The item's stamp is not above that of the last one accepted of its node. It never comes of
-    /// a world, whose nodes' stamps rise.
-    StampNotRising { head: Stamp },
-    /// The stamp to open at is above the floor.
-    AboveFloor { floor: Stamp },
-    /// The stamp to open at is below the floor of the last vacuum.
-    BelowHorizon { horizon: Stamp },
-    /// No open snapshot has that id.
-    NoSnapshot,
-    /// 1,024 snapshots are open.
-    TooManySnapshots,
-    /// The key has no bytes, or more than 255.
-    BadKey,
-    /// The value has more than 65,535 bytes.
-    ValueTooLong,
-    /// No further link number, or snapshot id, is left.
-    NumbersSpent,
-    /// A growth was refused.
+    /// The store refuses what the event asks of it. It never says that a stamp does not rise, since the stamps of a
+    /// world's nodes rise.
+    Store(CoreFault),
+    /// Out of memory.
     NoMemory,
 }
 
@@ -55,44 +35,60 @@ impl Exact for Refusal {
     ghost copied = { Prim.search rules };
 }
 
-impl From<BodyFault> for Refusal {
-    ghost use Rattle.hlc_world.specs.Due.{of_body};
+impl Refusal {
+    /// Its number in outputs: 1 to 15, 26 or 27.
+    pub fn code(self) -> u32
+        ensures { result ≡ refusal_code self }
+    {
+        match self {
+            Refusal::NoNode => 1,
+            Refusal::Node(fault) => fault.code(),
+            Refusal::NoMessage => 4,
+            Refusal::NoItem => 5,
+            Refusal::Store(fault) => fault.code(),
+            Refusal::NoMemory => 15,
+        }
+    }
 
-    ghost from_gives = { λ fault refusal. refusal ≡ of_body fault };
-
-    fn from(fault: BodyFault) -> Refusal {
-        match fault {
-            BodyFault::BadKey => Refusal::BadKey,
-            BodyFault::ValueTooLong => Refusal::ValueTooLong,
+    /// The number or the word of the stamp that comes with it, or 0.
+    pub fn word(self) -> u64
+        ensures { result ≡ refusal_word self }
+    {
+        match self {
+            Refusal::Node(fault) => fault.word(),
+            Refusal::Store(fault) => fault.word(),
+            Refusal::NoNode | Refusal::NoMessage | Refusal::NoItem | Refusal::NoMemory => 0,
         }
     }
 }
 
-impl From<ClockFault> for Refusal {
-    ghost use Rattle.hlc_world.specs.Due.{of_clock};
+impl fmt::Display for Refusal {
+    ghost use Rattle.std.specs.Prelude.{Some};
+    ghost use Rattle.hlc_world.specs.Faults.{refusal_text};
 
-    ghost from_gives = { λ fault refusal. refusal ≡ of_clock fault };
+    ghost output = { λ refusal. Some (refusal_text refusal) };
 
-    fn from(fault: ClockFault) -> Refusal {
-        match fault {
-            ClockFault::ReadingTooLarge => Refusal::ReadingTooLarge,
-            ClockFault::CounterFull { at } => Refusal::CounterFull { at },
+    fn fmt<W: fmt::Write>(&self, f: &mut fmt::Formatter<W>) -> fmt::Result {
+        match self {
+            Refusal::NoNode => f.write_str("no such node, or not 1 to 64 nodes"),
+            Refusal::Node(fault) => write!(f, "{fault}"),
+            Refusal::NoMessage => f.write_str("no such message was sent"),
+            Refusal::NoItem => f.write_str("the node has issued no such item"),
+            Refusal::Store(fault) => write!(f, "{fault}"),
+            Refusal::NoMemory => f.write_str("out of memory"),
         }
     }
 }
+
+impl Error for Refusal {}
 
 impl From<NodeFault> for Refusal {
-    ghost use Rattle.hlc_world.specs.Due.{of_node};
+    ghost use Rattle.hlc_world.specs.declared.refusal.Refusal.TheVariants.{Node};
 
-    ghost from_gives = { λ fault refusal. refusal ≡ of_node fault };
+    ghost from_gives = { λ fault refusal. refusal ≡ Node fault };
 
     fn from(fault: NodeFault) -> Refusal {
-        match fault {
-            NodeFault::Retired => Refusal::Retired,
-            NodeFault::BadBody(fault) => Refusal::from(fault),
-            NodeFault::NumbersSpent => Refusal::NumbersSpent,
-            NodeFault::NoStamp(fault) => Refusal::from(fault),
-        }
+        Refusal::Node(fault)
     }
 }
 
@@ -104,19 +100,8 @@ impl From<CoreFault> for Refusal {
     fn from(fault: CoreFault) -> Refusal {
         match fault {
             CoreFault::NoNode => Refusal::NoNode,
-            CoreFault::Retired => Refusal::Retired,
-            CoreFault::TooManyNodes => Refusal::TooManyNodes,
-            CoreFault::NotNext { next } => Refusal::NotNext { next },
-            CoreFault::NumbersSpent => Refusal::NumbersSpent,
-            CoreFault::StampNotRising { head } => Refusal::StampNotRising { head },
-            CoreFault::BadBody(fault) => Refusal::from(fault),
-            CoreFault::AboveFloor { floor } => Refusal::AboveFloor { floor },
-            CoreFault::BelowHorizon { horizon } => Refusal::BelowHorizon { horizon },
-            // Never in a world, whose nodes join at the floor.
-            CoreFault::BelowFloor { floor } => Refusal::BelowHorizon { horizon: floor },
-            CoreFault::NoSnapshot => Refusal::NoSnapshot,
-            CoreFault::TooManySnapshots => Refusal::TooManySnapshots,
             CoreFault::NoMemory => Refusal::NoMemory,
+            fault => Refusal::Store(fault),
         }
     }
 }

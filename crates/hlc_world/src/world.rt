@@ -1,6 +1,7 @@
 //! The world and its events.
 ghost use Rattle.std.specs.Prelude.{◌≡◌, ◌≢◌, ◌<◌, ℕ, [], ◌∷◌, ◌++◌, List, MatchBool, MatchResult, IfOk, IfErr, OnErr};
 ghost use Rattle.std.specs.Prelude.{length, option_copied};
+ghost use Rattle.hlc_intake.specs.declared.intake.LinkFault.TheVariants.{StampNotRising};
 ghost use Rattle.hlc_core.specs.Past.{Step, Took, item_refusal};
 ghost use Rattle.hlc_core.specs.Kept.{nodes, StandsFor as CoreStandsFor};
 ghost use Rattle.hlc_core.specs.Calls.{IsRefusal, IsWrite};
@@ -17,9 +18,9 @@ use crate::issuer::Issuer;
 use crate::refusal::Refusal;
 use crate::reply::Reply;
 use hlc_clock::Stamp;
-use hlc_core::{Core, CoreFault, NoMemory};
+use hlc_core::{Core, CoreFault, JoinFault, NoMemory};
 use hlc_heads::MOST_NUMBERS;
-use hlc_node::{Body, Bytes, Item};
+use hlc_node::{Body, Bytes, Item, NodeFault};
 use std::alloc::Global;
 use std::marker::Model;
 
@@ -28,7 +29,7 @@ use std::marker::Model;
 /// Contracts see what it keeps, and relate that to a schedule: a world stands for the events that
 /// it was handed, with its replies, in order. A refused event did not take place: it leaves the
 /// world unchanged, and it is spent, so its caller copies it first where it wants it again.
-#[derive(Drop)]
+#[derive(Debug, Drop)]
 pub struct World {
     alloc: Global,
     core: Core,
@@ -94,7 +95,7 @@ impl World {
             → IsFaithful (world_nodes self.old) ((event, result) ∷ schedule) self.new.core.rows }
         ensures rising { (schedule : List (AnEvent × AReply)) (head : ℕ)
             → StandsFor self.old schedule
-            → result ≢ Reply.Refused (Refusal.StampNotRising head) }
+            → result ≢ Reply.Refused (Refusal.Store (CoreFault.Link (StampNotRising head))) }
         ensures numbered { (schedule : List (AnEvent × AReply)) → StandsFor self.old schedule
             → GoesByNumber (world_nodes self.old) schedule }
         ensures asked { IsQuestion event → self.new ≡ self.old }
@@ -118,7 +119,7 @@ impl World {
         let found = self.core.read(id, key);
         match found {
             Ok(value) => Ok(value),
-            Err(_) => Err(Refusal::NoSnapshot),
+            Err(_) => Err(Refusal::Store(CoreFault::NoSnapshot)),
         }
     }
 
@@ -195,7 +196,7 @@ impl World {
     {
         match self.core.close(id) {
             Ok(stamp) => Reply::Closed { stamp },
-            Err(_) => Reply::Refused(Refusal::NoSnapshot),
+            Err(_) => Reply::Refused(Refusal::Store(CoreFault::NoSnapshot)),
         }
     }
 
@@ -218,7 +219,7 @@ impl World {
             → StandsFor self.now ((Event.Read id key.now, result) ∷ schedule) }
     {
         match self.core.read(id, key) {
-            Err(_) => Reply::Refused(Refusal::NoSnapshot),
+            Err(_) => Reply::Refused(Refusal::Store(CoreFault::NoSnapshot)),
             Ok(None) => Reply::Answer { value: None },
             Ok(Some(bytes)) => match Bytes::from_slice(self.alloc, bytes) {
                 Ok(copy) => Reply::Answer { value: Some(copy) },
@@ -317,7 +318,7 @@ impl World {
         ensures nodes { world_nodes self.new ≡ world_nodes self.old }
     {
         if self.nodes.len() >= MOST_NUMBERS as usize {
-            return Reply::Refused(Refusal::TooManyNodes);
+            return Reply::Refused(Refusal::Store(CoreFault::Join(JoinFault::TooManyNodes)));
         }
         if self.nodes.try_reserve(1).is_err() {
             return Reply::Refused(Refusal::NoMemory);
@@ -373,7 +374,7 @@ impl World {
             return Reply::Refused(Refusal::NoNode);
         };
         if issuer.is_retired() {
-            return Reply::Refused(Refusal::Retired);
+            return Reply::Refused(Refusal::Node(NodeFault::Retired));
         }
         let Some(sent) = self.sent_stamps.as_slice().get(message as usize) else {
             return Reply::Refused(Refusal::NoMessage);
@@ -394,10 +395,10 @@ impl World {
             return Reply::Refused(Refusal::NoNode);
         };
         if issuer.is_retired() {
-            return Reply::Refused(Refusal::Retired);
+            return Reply::Refused(Refusal::Node(NodeFault::Retired));
         }
         let Some(seen) = self.core.stamp_of(id) else {
-            return Reply::Refused(Refusal::NoSnapshot);
+            return Reply::Refused(Refusal::Store(CoreFault::NoSnapshot));
         };
         match issuer.see(seen, reading) {
             Ok(stamp) => Reply::Observed { stamp },
@@ -432,7 +433,7 @@ fn fresh_nodes(alloc: Global, count: u16) -> Result<Vec<Issuer>, NoMemory>
 {
     let mut made = Vec::new(alloc);
     for id in 0..count {
-        made.push(Issuer::new(alloc, id, Stamp::from_bits(0)))?;
+        made.push(Issuer::new(alloc, id, Stamp::ZERO))?;
     }
     Ok(made)
 }
@@ -456,5 +457,8 @@ fn accept(core: &mut Core, item: &Item) -> Result<Stamp, CoreFault>
     ensures err { OnErr result (core.new ≡ core.old) }
     ensures nodes { nodes core.new ≡ nodes core.old }
 {
-    Ok(core.accept_copy(item)?.stamp())
+    match core.accept_copy(item) {
+        Ok(accepted) => Ok(accepted.stamp()),
+        Err(fault) => Err(fault),
+    }
 }

@@ -10,8 +10,7 @@ ghost use Rattle.hlcstore.specs.Program.{Asks, Does};
 use hlc_certificate::run_check;
 use hlc_script::run_script;
 use hlc_storm::{print_storm, storm};
-use hlc_text::print::{finish, put};
-use hlc_text::waiting::Waiting;
+use hlc_text::printer::Printer;
 use hlc_text::watched::Watched;
 use hlc_words::{Words, read_words};
 use std::alloc::Global;
@@ -58,8 +57,8 @@ fn refuse_words<W: Write>(writer: &mut Watched<W>) -> u8
     ensures written { Writes W.contents writer.old writer.new (printed (codes "refused 25")) }
     ensures status { result ≡ 1 }
 {
-    let mut waiting = Waiting::new();
-    put(writer, &mut waiting, b"refused 25\n");
-    finish(writer, &mut waiting);
+    let mut printer = Printer::new(writer);
+    printer.put(b"refused 25\n");
+    printer.finish();
     1
 }

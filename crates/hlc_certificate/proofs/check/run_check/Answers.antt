@@ -1,15 +1,13 @@
 -- What is printed is written when all is finished, and cut off where the writer failed.
-use Rattle.std.proofs.Common.{◌≡◌, refl, true, false, arith}
+use Rattle.std.proofs.Common.{refl, rules, arith}
 use Rattle.std.proofs.lemmas.Grind.{common_steps}
 use Rattle.hlc_text.proofs.PrintLemmas.{printed_finished}
-use Rattle.hlc_text.specs.Watched.{has_failed}
 use Rattle.hlc_certificate.proofs.Taken.{check_not_cut}
 use Rattle.hlc_certificate.proofs.check.run_check.Goals as goal
 
 pub returns-then-failed : goal.returns-then-failed
 returns-then-failed g c =
-    let answer = c.check_reader-end.ensures.answer in
-    let failed : has_failed c.finish.new.writer ≡ true = grind (arith, common_steps) in record {
+    let answer = c.check_reader-end.ensures.answer in record {
       input = answer.0;
       taken = answer.1;
       end = c.check_reader-end.result;
@@ -17,16 +15,15 @@ returns-then-failed g c =
       consumed = answer.3;
       may_take = answer.4;
       may_answer = answer.5;
-      wrote = printed_finished c.new-waiting.ensures c.put_end.ensures c.finish.ensures.written;
+      wrote = printed_finished c.new-printer.ensures.start c.put_end.ensures c.finish.ensures (search rules);
       read_fault = c.check_reader-end.ensures.read_fault;
-      end_is = λ e. absurd (grind (arith, e, failed));
-      write_fault = (λ _. failed, λ _. refl);
+      end_is = λ e. absurd (grind (arith, common_steps, e));
+      write_fault = (λ _. grind (arith, common_steps), λ _. refl);
     }
 
 pub returns-else-failed : goal.returns-else-failed
 returns-else-failed g c =
-    let answer = c.check_reader-end.ensures.answer in
-    let well : has_failed c.finish.new.writer ≡ false = grind (arith, common_steps) in record {
+    let answer = c.check_reader-end.ensures.answer in record {
       input = answer.0;
       taken = answer.1;
       end = c.check_reader-end.result;
@@ -34,11 +31,11 @@ returns-else-failed g c =
       consumed = answer.3;
       may_take = answer.4;
       may_answer = answer.5;
-      wrote = printed_finished c.new-waiting.ensures c.put_end.ensures c.finish.ensures.written;
+      wrote = printed_finished c.new-printer.ensures.start c.put_end.ensures c.finish.ensures (search rules);
       read_fault = c.check_reader-end.ensures.read_fault;
       end_is = λ _. refl;
       write_fault = (
         λ e. absurd (check_not_cut answer.0 c.check_reader-end.result answer.5 e),
-        λ e. absurd (grind (arith, e, well)),
+        λ e. absurd (grind (arith, common_steps, e)),
       );
     }

@@ -9,6 +9,6 @@ use Rattle.hlc_certificate.proofs.print.put_points.Given as goal
 abbrev pub invariant-loop-point : goal.invariant-loop-point
 invariant-loop-point g l =
     let so_far = take l.point-index l.points in record {
-      text : Prints g.W.Write.contents l.fn.writer l.writer l.fn.waiting l.waiting (all_lines point_line so_far);
+      text : Prints g.W.Write.contents l.fn.printer l.printer (all_lines point_line so_far);
       fits : AllHaveLines says_point so_far;
     }

@@ -9,6 +9,6 @@ use Rattle.hlc_certificate.proofs.print.put_rows.Given as goal
 abbrev pub invariant-loop-row : goal.invariant-loop-row
 invariant-loop-row g l =
     let so_far = take l.row-index l.rows in record {
-      text : Prints g.W.Write.contents l.fn.writer l.writer l.fn.waiting l.waiting (all_lines row_line so_far);
+      text : Prints g.W.Write.contents l.fn.printer l.printer (all_lines row_line so_far);
       fits : AllHaveLines says_row so_far;
     }

@@ -9,6 +9,6 @@ use Rattle.hlc_certificate.proofs.print.put_witnesses.Given as goal
 abbrev pub invariant-loop-witness : goal.invariant-loop-witness
 invariant-loop-witness g l =
     let so_far = take l.witness-index l.witnesses in record {
-      text : Prints g.W.Write.contents l.fn.writer l.writer l.fn.waiting l.waiting (all_lines witness_line so_far);
+      text : Prints g.W.Write.contents l.fn.printer l.printer (all_lines witness_line so_far);
       fits : AllHaveLines says_witness so_far;
     }

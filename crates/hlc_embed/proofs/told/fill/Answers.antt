@@ -6,10 +6,9 @@ returns c = λ stood.
     let first = c.in_ok-say.ensures stood in
     let second = c.in_ok-say-2.ensures first in
     let reported = c.in_ok-report.ensures.keeps second in
-    let early = c.in_ok-early.ensures.stands reported.0 reported.1 in
-    let third = c.in_ok-say-3.ensures (_, early.2) in
+    let early = c.in_ok-early.ensures reported in
+    let third = c.in_ok-say-3.ensures early in
     let fourth = c.in_ok-say-4.ensures third in
     let fifth = c.in_ok-say-5.ensures fourth in
     let again = c.in_ok-report-2.ensures.keeps fifth in
-    let late = c.in_ok-late.ensures.stands again.0 again.1 in
-    (_, late.2)
+    c.in_ok-late.ensures again

@@ -8,5 +8,5 @@ use Rattle.hlc_script.proofs.reply.put_pairs.Given as goal
 
 abbrev pub invariant-loop-pair : goal.invariant-loop-pair
 invariant-loop-pair g l =
-    Prints g.W.Write.contents l.fn.writer l.writer l.fn.waiting l.waiting
+    Prints g.W.Write.contents l.fn.printer l.printer
     (flat_map printed (map pair_line (take l.pair-index l.pairs)))

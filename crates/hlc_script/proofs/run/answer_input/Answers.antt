@@ -6,13 +6,12 @@ use Rattle.hlc_script.proofs.run.answer_input.Goals as goal
 
 pub returns-in-None-clause-written : goal.returns-in-None-clause-written
 returns-in-None-clause-written g c =
-    script_answered c.args.input.now c.in-Some.rest.now c.in-Some.nodes (world_nodes c.in-Ok.world) None _ _ _ _ _ _ _
-    _ _
+    script_answered c.args.input.now c.in-Some.rest.now c.in-Some.nodes (world_nodes c.in-Ok.world) None
     c.requires c.in-Some.ensures.1 c.in-Some.ensures.0 c.in-Ok.ensures.1 c.put_header.ensures c.in-None.ensures
 
 pub returns-in-Some-bad-clause-written : goal.returns-in-Some-bad-clause-written
 returns-in-Some-bad-clause-written g c =
     script_answered c.args.input.now c.in-Some.rest.now c.in-Some.nodes (world_nodes c.in-Ok.world)
-    (Some c.in-Some-bad.number) _ _ _ _ _ _ _ _ _
+    (Some c.in-Some-bad.number)
     c.requires c.in-Some.ensures.1 c.in-Some.ensures.0 c.in-Ok.ensures.1 c.put_header.ensures
     c.in-Some-bad.ensures

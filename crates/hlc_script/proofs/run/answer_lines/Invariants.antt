@@ -1,6 +1,5 @@
 -- The lines so far are answered, and the world stands for a schedule of them.
 use Rattle.std.proofs.Common.{◌≡◌, ◌+◌, ◌≤◌, length}
-use Rattle.hlc_text.specs.Watched.{inner_of, has_failed}
 use Rattle.hlc_world.specs.State.{world_nodes}
 use Rattle.hlc_script.proofs.Going.{Going}
 use Rattle.hlc_script.proofs.run.answer_lines.Given as goal
@@ -9,9 +8,7 @@ abbrev pub invariant-loop-rest : goal.invariant-loop-rest
 invariant-loop-rest g l = record {
   nodes : world_nodes l.world ≡ world_nodes l.fn.world;
   bound : l.number + length l.rest ≤ 2 + length l.text;
-  going : Going (world_nodes l.fn.world) l.world l.text l.rest l.number (has_failed l.fn.writer) (has_failed l.writer)
-      (g.W.Write.contents (inner_of l.fn.writer)) (g.W.Write.contents (inner_of l.writer)) l.fn.waiting.items
-      l.waiting.items;
+  going : Going g.W.Write.contents (world_nodes l.fn.world) l.world l.text l.rest l.number l.fn.printer l.printer;
 }
 
 abbrev pub decreases-loop-rest : goal.decreases-loop-rest

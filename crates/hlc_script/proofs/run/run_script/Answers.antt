@@ -1,15 +1,13 @@
 -- What is printed is written when all is finished, and cut off where the writer failed.
-use Rattle.std.proofs.Common.{◌≡◌, refl, true, false, arith}
+use Rattle.std.proofs.Common.{refl, rules, arith}
 use Rattle.std.proofs.lemmas.Grind.{common_steps}
 use Rattle.hlc_text.proofs.PrintLemmas.{printed_finished}
-use Rattle.hlc_text.specs.Watched.{has_failed}
 use Rattle.hlc_script.proofs.Taken.{run_not_cut}
 use Rattle.hlc_script.proofs.run.run_script.Goals as goal
 
 pub returns-then-failed : goal.returns-then-failed
 returns-then-failed g c =
-    let w = c.read_and_answer-end.ensures.written in
-    let failed : has_failed c.finish.new.writer ≡ true = grind (arith, common_steps) in record {
+    let w = c.read_and_answer-end.ensures.written in record {
       input = w.input;
       taken = w.taken;
       output = w.output;
@@ -18,16 +16,15 @@ returns-then-failed g c =
       consumed = w.consumed;
       may_take = w.may_take;
       may_write = w.may_write;
-      wrote = printed_finished c.new-waiting.ensures w.prints c.finish.ensures.written;
+      wrote = printed_finished c.new-printer.ensures.start w.prints c.finish.ensures (search rules);
       read_fault = c.read_and_answer-end.ensures.read_fault;
-      end_is = λ e. absurd (grind (arith, e, failed));
-      write_fault = (λ _. failed, λ _. refl);
+      end_is = λ e. absurd (grind (arith, common_steps, e));
+      write_fault = (λ _. grind (arith, common_steps), λ _. refl);
     }
 
 pub returns-else-failed : goal.returns-else-failed
 returns-else-failed g c =
-    let w = c.read_and_answer-end.ensures.written in
-    let well : has_failed c.finish.new.writer ≡ false = grind (arith, common_steps) in record {
+    let w = c.read_and_answer-end.ensures.written in record {
       input = w.input;
       taken = w.taken;
       output = w.output;
@@ -36,11 +33,11 @@ returns-else-failed g c =
       consumed = w.consumed;
       may_take = w.may_take;
       may_write = w.may_write;
-      wrote = printed_finished c.new-waiting.ensures w.prints c.finish.ensures.written;
+      wrote = printed_finished c.new-printer.ensures.start w.prints c.finish.ensures (search rules);
       read_fault = c.read_and_answer-end.ensures.read_fault;
       end_is = λ _. refl;
       write_fault = (
         λ e. absurd (run_not_cut w.input w.output c.read_and_answer-end.result w.may_write e),
-        λ e. absurd (grind (arith, e, well)),
+        λ e. absurd (grind (arith, common_steps, e)),
       );
     }

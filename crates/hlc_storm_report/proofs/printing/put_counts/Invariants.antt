@@ -8,5 +8,5 @@ use Rattle.hlc_storm_report.proofs.printing.put_counts.Given as goal
 
 abbrev pub invariant-loop-node : goal.invariant-loop-node
 invariant-loop-node g l =
-    Prints g.W.Write.contents l.fn.writer l.writer l.fn.waiting l.waiting
+    Prints g.W.Write.contents l.fn.printer l.printer
     (flat_map printed (accepted_lines 0 (take l.node l.counts)))

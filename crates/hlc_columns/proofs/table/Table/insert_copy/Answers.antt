@@ -7,31 +7,36 @@ use Rattle.hlc_node.specs.Rows.{IsRowSet}
 use Rattle.hlc_columns.specs.Table.{indexed_rows, Inserted}
 use Rattle.hlc_columns.proofs.Inserted.{inserted-IsPermutation, either-IsRowSet}
 use Rattle.hlc_columns.proofs.table.Table.insert_copy.Goals as goal
-use Rattle.hlc_columns.proofs.table.Table.insert_copy.Goals.{After-put_copy}
+use Rattle.hlc_columns.proofs.table.Table.insert_copy.Goals.{After-put_row}
 
 -- the row that is added
-abbrev row_in : After-put_copy → ARow
+abbrev row_in : After-put_row → ARow
 row_in c = record { key = c.args.key.now; stamp = c.args.stamp; node = c.args.node; value = option_copied c.args.value }
 
-added : (c : After-put_copy)
-    → OnOk c.put_copy.result (Inserted c.args.self.now (row_in c) (indexed_rows c.put_copy.new.columns))
+added : (c : After-put_row)
+    → OnOk c.put_row.result (Inserted c.args.self.now (row_in c) (indexed_rows c.put_row.new.columns))
 added c =
-    on_ok_weaker c.put_copy.result
-    (subst (λ old. Inserted old (row_in c) (indexed_rows c.put_copy.new.columns)) c.self.view_is) c.put_copy.ensures.ok
+    on_ok_weaker c.put_row.result
+    (λ more. subst (λ value. Inserted c.args.self.now
+    (record { key = c.args.key.now; stamp = c.args.stamp; node = c.args.node; value = value })
+    (indexed_rows c.put_row.new.columns)) c.in_ok-value.ensures
+    (subst (λ old. Inserted old
+    (record { key = c.args.key.now; stamp = c.args.stamp; node = c.args.node; value = c.in_ok-value.value })
+    (indexed_rows c.put_row.new.columns)) c.self.view_is more)) c.put_row.ensures.ok
 
-stayed : (c : After-put_copy) → OnErr c.put_copy.result (indexed_rows c.put_copy.new.columns ≡ c.args.self.now)
-stayed c = on_err_weaker c.put_copy.result (λ same. same ∙ c.self.view_is) c.put_copy.ensures.err
+stayed : (c : After-put_row) → OnErr c.put_row.result (indexed_rows c.put_row.new.columns ≡ c.args.self.now)
+stayed c = on_err_weaker c.put_row.result (λ same. same ∙ c.self.view_is) c.put_row.ensures.err
 
 pub invariant_of-self : goal.invariant_of-self
 invariant_of-self c =
-    let at = (goal.at.invariant_of-self c).After-put_copy in (
-      c.put_copy.ensures.filled,
-      either-IsRowSet c.put_copy.result c.args.self.now (row_in at) _ (added at) (stayed at) c.requires
+    let at = (goal.at.invariant_of-self c).After-put_row in (
+      c.put_row.ensures.filled,
+      either-IsRowSet c.put_row.result c.args.self.now (row_in at) _ (added at) (stayed at) c.requires
           (subst IsRowSet c.self.view_is c.self.invariant.1),
-      c.put_copy.ensures.count,
+      c.put_row.ensures.count,
     )
 
 pub returns-clause-ok : goal.returns-clause-ok
 returns-clause-ok c =
-    let at = (goal.at.returns-clause-ok c).After-put_copy in
-    on_ok_weaker c.put_copy.result (inserted-IsPermutation c.args.self.now (row_in at) _) (added at)
+    let at = (goal.at.returns-clause-ok c).After-put_row in
+    on_ok_weaker c.put_row.result (inserted-IsPermutation c.args.self.now (row_in at) _) (added at)

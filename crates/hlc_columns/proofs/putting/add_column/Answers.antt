@@ -1,0 +1,20 @@
+-- The row goes into a column of its own; all others stay.
+use Rattle.std.proofs.Common.{◌<◌, refl, sym, ap, subst, length, arith, All}
+use Rattle.hlc_index.specs.Entries.{entries_in}
+use Rattle.hlc_columns.specs.Parts.{new_row}
+use Rattle.hlc_columns.specs.Table.{indexed_rows}
+use Rattle.hlc_columns.proofs.Inserted.{all_inserted, added_as}
+use Rattle.hlc_columns.proofs.putting.add_column.Goals as goal
+
+pub returns-clause-ok : goal.returns-clause-ok
+returns-clause-ok c =
+    added_as (new_row c.args.row) (entries_in c.args.columns.now) (entries_in c.insert.new.self)
+    (indexed_rows c.args.columns.now) refl c.args.row.key.now c.in_ok-key.key c.in_ok-column.column refl
+    c.in_ok-key.ensures.bytes (sym c.requires.new) c.in_ok-insert.ensures.ok c.in_ok-column.ensures
+
+pub returns-clause-filled : goal.returns-clause-filled
+returns-clause-filled c =
+    let one = ap length c.in_ok-column.ensures in
+    subst (All (λ e. 0 < length e.1)) (sym c.in_ok-insert.ensures.ok)
+    (all_inserted _ (entries_in c.args.columns.now) c.in_ok-key.key c.in_ok-column.column c.requires.filled
+    (omega (arith, one)))

@@ -1,0 +1,202 @@
+//! The answers of many keys at one bound, one after another, without a list of them.
+ghost use Rattle.std.specs.Prelude.{◌≡◌, ◌≤◌, ◌++◌, ◌∷◌, [], MatchOption, option_copied, length, slice_index_or};
+ghost use Rattle.std.specs.List.Sorted.{IsStrictlySortedBy};
+ghost use Rattle.std.specs.Iterator.{YieldsFirstBy, item_count};
+ghost use Rattle.std.specs.Map.Iter.{deref_pair};
+ghost use Rattle.hlc_index.specs.Entries.{entries_in, entries_from, keys_in, key_cmp};
+ghost use Rattle.hlc_columns.specs.Table.{indexed_rows};
+ghost use Rattle.hlc_columns.specs.Answers.{answers_in, entries_left, is_below, AreAnswers, IsBetween};
+
+use crate::boxed::BoxedColumn;
+use hlc_clock::Stamp;
+use hlc_index::Index;
+use hlc_node::Bytes;
+use std::marker::Model;
+
+/// So many columns are fetched from memory together.
+const AHEAD: usize = 32;
+
+/// A walk over the columns of an index: the rest of a leaf, and the number of the leaf behind it.
+#[derive(Debug, Drop)]
+pub(crate) struct Walk<'a> {
+    columns: &'a Index<BoxedColumn>,
+    rest: &'a [(Bytes, BoxedColumn)],
+    next: usize,
+    // How many rows there are in the columns that were fetched and are left.
+    fetched: usize,
+}
+
+impl<'a> Walk<'a> {
+    /// A walk over all columns.
+    fn new(columns: &'a Index<BoxedColumn>) -> Walk<'a>
+        ensures { entries_left result ≡ entries_in columns.now }
+    {
+        Walk {
+            columns,
+            rest: &[],
+            next: 0,
+            fetched: 0,
+        }
+    }
+
+    /// A walk from a slot of a leaf on.
+    fn from_slot(columns: &'a Index<BoxedColumn>, at: usize, slot: usize) -> Walk<'a>
+        requires { slot ≤ length (slice_index_or columns.now at []) }
+        ensures { entries_left result ≡ entries_from columns.now at slot }
+    {
+        if at >= columns.leaves() {
+            return Walk {
+                columns,
+                rest: &[],
+                next: at,
+                fetched: 0,
+            };
+        }
+        let leaf = columns.leaf(at);
+        Walk {
+            columns,
+            rest: &leaf[slot..],
+            next: at + 1,
+            fetched: 0,
+        }
+    }
+
+    /// Goes on to the next leaf that has an entry, where the rest of the present one has none.
+    fn turn(&mut self)
+        ensures same { entries_left self.new ≡ entries_left self.old }
+        ensures done { self.new.rest.now ≡ [] → entries_left self.new ≡ [] }
+    {
+        while self.rest.is_empty() && self.next < self.columns.leaves() {
+            self.rest = self.columns.leaf(self.next);
+            self.next += 1;
+        }
+    }
+
+    /// The next column with its key.
+    fn next(&mut self) -> Option<&'a (Bytes, BoxedColumn)>
+        ensures { MatchOption result ((entries_left self.old ≡ []) × (entries_left self.new ≡ []))
+            (λ entry. entries_left self.old ≡ entry.now ∷ entries_left self.new) }
+    {
+        self.turn();
+        if self.fetched == 0 {
+            self.fetched = rows_ahead(self.rest);
+        }
+        let (first, rest) = self.rest.split_first()?;
+        self.rest = rest;
+        self.fetched = self.fetched.saturating_sub(first.1.get().len());
+        Some(first)
+    }
+
+    /// Ends it.
+    fn stop(&mut self)
+        ensures { entries_left self.new ≡ [] }
+    {
+        self.rest = &[];
+        self.next = self.columns.leaves();
+    }
+}
+
+/// How many rows the next columns of a leaf have. None of these looks waits for the one before it, so who then goes
+/// through those columns does not wait for memory at each.
+fn rows_ahead(leaf: &[(Bytes, BoxedColumn)]) -> usize {
+    let mut rows = 0usize;
+    for i in 0..leaf.len().min(AHEAD) {
+        rows = rows.saturating_add(leaf[i].1.get().fetched_len());
+    }
+    rows
+}
+
+/// Whether a key is below the end of a range, where it has one.
+fn is_below(to: Option<&[u8]>, key: &[u8]) -> bool
+    ensures { result ≡ is_below (option_copied to.entry) key.now }
+{
+    match to {
+        Some(to) => key.cmp(to).is_lt(),
+        None => true,
+    }
+}
+
+/// The next key of a walk that has a value at the bound, with that value. Each column is asked once, and none from the
+/// first key on that is not below the end.
+fn next_told<'a>(
+    walk: &mut Walk<'a>,
+    bound: Stamp,
+    to: Option<&[u8]>,
+) -> Option<(&'a [u8], &'a [u8])>
+    ensures { YieldsFirstBy deref_pair
+        (λ walk. answers_in (entries_left walk) bound (option_copied to.entry))
+        walk.old result walk.new }
+{
+    while let Some(entry) = walk.next() {
+        let key = entry.0.as_slice();
+        if !is_below(to, key) {
+            walk.stop();
+            return None;
+        }
+        if let Some(value) = entry.1.get().answer(bound) {
+            return Some((key, value));
+        }
+    }
+    None
+}
+
+/// The keys of a range that have a value at a bound, in byte order, with that value. It goes through the columns as it
+/// is asked, leaf by leaf. Contracts see the list of the pairs that are left.
+#[derive(Debug, Drop)]
+pub struct Answers<'a> {
+    walk: Walk<'a>,
+    bound: Stamp,
+    to: Option<&'a [u8]>,
+}
+
+impl<'a> Model for Answers<'a> {
+    ghost use Rattle.std.specs.Prelude.{List, ℕ, option_copied};
+    ghost use Rattle.hlc_columns.specs.Answers.{answers_in, entries_left};
+
+    ghost Value = { List (List ℕ × List ℕ) };
+
+    ghost view = { λ all. answers_in (entries_left all.walk) all.bound (option_copied all.to) };
+}
+
+impl<'a> Iterator for Answers<'a> {
+    type Item = (&'a [u8], &'a [u8]);
+
+    ghost next_gives = { YieldsFirstBy deref_pair (λ pairs. pairs) };
+
+    ghost remaining = { item_count (λ pairs. pairs) };
+
+    fn next(&mut self) -> Option<(&'a [u8], &'a [u8])> {
+        next_told(&mut self.walk, self.bound, self.to)
+    }
+}
+
+/// The answers of all keys.
+pub(crate) fn all_answers(columns: &Index<BoxedColumn>, bound: Stamp) -> Answers<'_>
+    ensures { AreAnswers (indexed_rows columns.now) bound (λ key. Unit {0}) result }
+{
+    // Reading the list says that the keys ascend.
+    let _leaves = columns.leaves();
+    Answers {
+        walk: Walk::new(columns),
+        bound,
+        to: None,
+    }
+}
+
+/// The answers of the keys that are not below one key, and below another, if there is one.
+pub(crate) fn answers_between<'a>(
+    columns: &'a Index<BoxedColumn>,
+    bound: Stamp,
+    from: &[u8],
+    to: Option<&'a [u8]>,
+) -> Answers<'a>
+    ensures { AreAnswers (indexed_rows columns.now) bound
+        (IsBetween from.now (option_copied to.entry)) result }
+{
+    let (at, slot) = columns.seek(from);
+    Answers {
+        walk: Walk::from_slot(columns, at, slot),
+        bound,
+        to,
+    }
+}

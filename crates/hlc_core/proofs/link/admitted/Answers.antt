@@ -1,0 +1,47 @@
+-- The intake is asked for the item's own number and stamp.
+use Rattle.std.proofs.Common.{◌≡◌, ◌∙◌, ap, subst, sym, rules, slice_get, Some, None}
+use Rattle.std.specs.Prelude.{Ok, Err}
+use Rattle.std.proofs.lemmas.Option.{slice_get-get_or}
+use Rattle.std.proofs.lemmas.Result.{err_from_is_err_and}
+use Rattle.hlc_node.specs.Items.{body_refusal}
+use Rattle.hlc_core.specs.declared.fault.CoreFault.TheVariants.{Link, Body}
+use Rattle.hlc_core.specs.Past.{of_body}
+use Rattle.hlc_core.proofs.Admits.{refused_first, next_admitted}
+use Rattle.hlc_core.proofs.Standing.{LooksUp}
+use Rattle.hlc_core.proofs.link.admitted.Goals as goal
+
+pub returns-in_err-admit : goal.returns-in_err-admit
+returns-in_err-admit c =
+    let found : slice_get c.args.intakes.now c.args.item.now.node ≡ Some c.in-Some.intake.now =
+    subst (λ n. slice_get c.args.intakes.now n ≡ Some c.in-Some.intake.now) c.node.ensures
+    (slice_get-get_or c.args.intakes.now c.node.result c.in-Some.intake.now c.in-Some.ensures.lookup.3.0
+    ∙ ap Some (sym c.in-Some.ensures.lookup.1)) in
+    let p = err_from_is_err_and c.from_residual.result c.from_residual.ensures.1 in
+    rw (p.1, p.2)
+    (subst (λ o. LooksUp o c.args.item.now (Err (Link c.in_err-admit.field-0.0))) (sym found)
+    (refused_first c.in-Some.intake.now c.args.item.now c.in_err-admit.field-0.0
+    (rw (c.number.ensures, c.stamp.ensures) at c.in_err-admit.ensures.0)))
+
+pub returns-in-Some-body_fault : goal.returns-in-Some-body_fault
+returns-in-Some-body_fault c =
+    let found : slice_get c.args.intakes.now c.args.item.now.node ≡ Some c.in-Some.intake.now =
+    subst (λ n. slice_get c.args.intakes.now n ≡ Some c.in-Some.intake.now) c.node.ensures
+    (slice_get-get_or c.args.intakes.now c.node.result c.in-Some.intake.now c.in-Some.ensures.lookup.3.0
+    ∙ ap Some (sym c.in-Some.ensures.lookup.1)) in
+    let bad : body_refusal c.args.item.now.body ≡ Some c.in-Some-body_fault.fault = search rules in
+    subst (λ o. LooksUp o c.args.item.now (Err (Body c.in-Some-body_fault.fault))) (sym found)
+    (next_admitted c.in-Some.intake.now c.args.item.now
+    (rw (c.number.ensures, c.stamp.ensures) at c.in_ok-admit.ensures.0) ∙ ap of_body bad)
+
+pub returns-in-None : goal.returns-in-None
+returns-in-None c =
+    let found : slice_get c.args.intakes.now c.args.item.now.node ≡ Some c.in-Some.intake.now =
+    subst (λ n. slice_get c.args.intakes.now n ≡ Some c.in-Some.intake.now) c.node.ensures
+    (slice_get-get_or c.args.intakes.now c.node.result c.in-Some.intake.now c.in-Some.ensures.lookup.3.0
+    ∙ ap Some (sym c.in-Some.ensures.lookup.1)) in
+    let good : body_refusal c.args.item.now.body ≡ None = search rules in
+    subst (λ o. LooksUp o c.args.item.now (Ok c.admit.new.self)) (sym found) (
+      next_admitted c.in-Some.intake.now c.args.item.now
+          (rw (c.number.ensures, c.stamp.ensures) at c.in_ok-admit.ensures.0) ∙ ap of_body good,
+      rw (c.number.ensures, c.stamp.ensures, c.retires.ensures) at c.in_ok-admit.ensures.1,
+    )

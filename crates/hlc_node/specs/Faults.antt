@@ -1,0 +1,38 @@
+-- What a refusal of a node, or of what an item says, is called: its number, the word that comes with it, and its text.
+use Rattle.std.specs.Prelude.{ℕ, List, codes}
+use Rattle.hlc_clock.specs.Faults.{clock_code, clock_word, clock_text}
+use Rattle.hlc_node.specs.declared.item.BodyFault.{BodyFault}
+use Rattle.hlc_node.specs.declared.item.BodyFault.TheVariants.{BadKey, ValueTooLong}
+use Rattle.hlc_node.specs.declared.node.NodeFault.{NodeFault}
+use Rattle.hlc_node.specs.declared.node.NodeFault.TheVariants.{Retired, Body, NumbersSpent, Clock}
+
+-- the number of a refusal of what an item says
+abbrev pub body_code : BodyFault → ℕ
+body_code BadKey = 12
+body_code ValueTooLong = 13
+
+-- its text
+abbrev pub body_text : BodyFault → List ℕ
+body_text BadKey = codes "the key is empty or longer than 255 bytes"
+body_text ValueTooLong = codes "the value is longer than 65,535 bytes"
+
+-- the number of a node's refusal
+abbrev pub node_code : NodeFault → ℕ
+node_code Retired = 27
+node_code (Body fault) = body_code fault
+node_code NumbersSpent = 14
+node_code (Clock fault) = clock_code fault
+
+-- the word that comes with it, 0 where there is none
+abbrev pub node_word : NodeFault → ℕ
+node_word Retired = 0
+node_word (Body fault) = 0
+node_word NumbersSpent = 0
+node_word (Clock fault) = clock_word fault
+
+-- its text
+abbrev pub node_text : NodeFault → List ℕ
+node_text Retired = codes "the node has retired"
+node_text (Body fault) = body_text fault
+node_text NumbersSpent = codes "no item number is left"
+node_text (Clock fault) = clock_text fault

@@ -1,7 +1,0 @@
--- A reply whose copy was refused is no plain one, so the call left the core as it was.
-use Rattle.std.proofs.Common.{ap, Some}
-use Rattle.hlc_server.proofs.guarded.write_call.Goals as goal
-
-pub returns-in_default-clone : goal.returns-in_default-clone
-returns-in_default-clone c =
-    (c.in_ok-reply.ensures.copied c.requires c.in_default-clone.ensures.cases, ap Some c.reserve.ensures.items)

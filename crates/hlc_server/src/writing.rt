@@ -1,0 +1,144 @@
+//! A call of the core, and its entry in the trail.
+ghost use Rattle.std.specs.Prelude.{◌≡◌, ◌≢◌, Some, IfOk, OnErr};
+ghost use Rattle.hlc_core.specs.History.{IsVacuum};
+ghost use Rattle.hlc_core.specs.declared.event.CoreEvent.{CoreEvent as AnEvent};
+ghost use Rattle.hlc_core.specs.declared.reply.CoreReply.{CoreReply as AReply};
+ghost use Rattle.hlc_core.specs.declared.fault.CoreFault.{CoreFault as AFault};
+ghost use Rattle.hlc_server.specs.Trails.{entries_of};
+ghost use Rattle.hlc_server.specs.Calls.{Enters, RepliesTwice};
+
+use crate::entry::Entry;
+use crate::trail::Trail;
+use hlc_core::{Core, CoreEvent, CoreFault, CoreReply, NoMemory, Stamp};
+
+/// Makes a call of the core, and writes it into the trail.
+#[inline(always)]
+pub(crate) fn make_call(
+    core: &mut Core,
+    trail: &mut Option<Trail>,
+    caller: u16,
+    event: &CoreEvent,
+) -> Result<CoreReply, NoMemory>
+    ensures { Enters core.old core.new (entries_of trail.old) (entries_of trail.new)
+        caller event.now result }
+{
+    match trail {
+        None => core.step_ref(event),
+        Some(trail) => match event {
+            CoreEvent::Vacuum => write_vacuum(core, trail, caller),
+            CoreEvent::VacuumTo(at) => write_vacuum_to(core, trail, caller, *at),
+            _ => write_call(core, trail, caller, event),
+        },
+    }
+}
+
+/// Makes a call of the core that is no vacuum, and its entry. A reply whose copy takes memory left
+/// the core as it was, so the copy may be made after the call.
+fn write_call(
+    core: &mut Core,
+    trail: &mut Trail,
+    caller: u16,
+    event: &CoreEvent,
+) -> Result<CoreReply, NoMemory>
+    requires { IsVacuum event.now → ⊥ }
+    ensures { Enters core.old core.new (Some trail.old.entries.items) (Some trail.new.entries.items)
+        caller event.now result }
+{
+    let Ok(written) = event.clone() else {
+        return Err(NoMemory);
+    };
+    let Ok(()) = trail.entries.reserve(1) else {
+        return Err(NoMemory);
+    };
+    let reply = core.step_ref(event)?;
+    let Ok(told) = reply.clone() else {
+        return Err(NoMemory);
+    };
+    trail.entries.push_reserved(Entry {
+        caller,
+        event: written,
+        reply: told,
+    });
+    Ok(reply)
+}
+
+/// Vacuums the core, and makes the entry of that. Both reports are made before anything changes.
+fn write_vacuum(core: &mut Core, trail: &mut Trail, caller: u16) -> Result<CoreReply, NoMemory>
+    ensures { Enters core.old core.new (Some trail.old.entries.items) (Some trail.new.entries.items)
+        caller AnEvent.Vacuum result }
+{
+    let Ok(()) = trail.entries.reserve(1) else {
+        return Err(NoMemory);
+    };
+    let block = core.report_block()?;
+    let other = core.report_block()?;
+    let (report, told) = core.vacuum_pair()?;
+    trail.entries.push_reserved(Entry {
+        caller,
+        event: CoreEvent::Vacuum,
+        reply: CoreReply::Vacuumed(other.with(told)),
+    });
+    Ok(CoreReply::Vacuumed(block.with(report)))
+}
+
+/// Vacuums the core to a stamp, and makes the entry of that. Both replies are made before anything
+/// changes.
+fn write_vacuum_to(
+    core: &mut Core,
+    trail: &mut Trail,
+    caller: u16,
+    at: Stamp,
+) -> Result<CoreReply, NoMemory>
+    ensures { Enters core.old core.new (Some trail.old.entries.items) (Some trail.new.entries.items)
+        caller (AnEvent.VacuumTo at) result }
+{
+    let Ok(()) = trail.entries.reserve(1) else {
+        return Err(NoMemory);
+    };
+    let (reply, copy) = vacuum_twice_to(core, at)?;
+    trail.entries.push_reserved(Entry {
+        caller,
+        event: CoreEvent::VacuumTo(at),
+        reply: copy,
+    });
+    Ok(reply)
+}
+
+/// Vacuums the core to a stamp, and makes the reply twice.
+fn vacuum_twice_to(core: &mut Core, at: Stamp) -> Result<(CoreReply, CoreReply), NoMemory>
+    ensures { RepliesTwice core.old core.new (AnEvent.VacuumTo at) result }
+{
+    let block = core.report_block()?;
+    let other = core.report_block()?;
+    match core.vacuum_pair_to(at) {
+        Ok((report, copy)) => Ok((
+            CoreReply::Vacuumed(block.with(report)),
+            CoreReply::Vacuumed(other.with(copy)),
+        )),
+        Err(fault) => refuse_twice(fault),
+    }
+}
+
+/// A refusal as the reply to a call. Out of memory is no reply: then no call was made.
+pub(crate) fn refuse(fault: CoreFault) -> Result<CoreReply, NoMemory>
+    ensures ok { IfOk result
+        (λ reply. (reply ≡ AReply.Refused fault) × (fault ≢ AFault.NoMemory)) }
+    ensures err { OnErr result (fault ≡ AFault.NoMemory) }
+{
+    match fault {
+        CoreFault::NoMemory => Err(NoMemory),
+        fault => Ok(CoreReply::Refused(fault)),
+    }
+}
+
+/// The same, and a copy of it.
+pub(crate) fn refuse_twice(fault: CoreFault) -> Result<(CoreReply, CoreReply), NoMemory>
+    ensures { IfOk result (λ replies. (replies.0 ≡ AReply.Refused fault)
+        × (replies.1 ≡ AReply.Refused fault) × (fault ≢ AFault.NoMemory)) }
+{
+    let reply = refuse(fault)?;
+    let Ok(copy) = reply.clone() else {
+        return Err(NoMemory);
+    };
+    Ok((reply, copy))
+}

@@ -1,6 +1,0 @@
--- A number below ten is one digit.
-use Rattle.std.proofs.lemmas.Fmt.{decimal_digit}
-use Rattle.hlc_text.proofs.print.put_number.Goals as goal
-
-pub returns-then-number-lt10 : goal.returns-then-number-lt10
-returns-then-number-lt10 g c = rw (decimal_digit c.args.number c.if-number-lt10.true) c.put.ensures

@@ -1,0 +1,222 @@
+//! A printer: a watched writer, and the text that waits for it. It takes no memory.
+//!
+//! Each call prints one text, whatever becomes of the writer: one that has failed takes nothing
+//! more. So a caller prints all that it has to, then calls `finish`, and then asks the writer once
+//! whether it failed. Before `finish` no fewer than 8,192 bytes are sent at once; only where the
+//! writer takes a part of them is it handed the rest alone.
+ghost use Rattle.std.specs.Prelude.{◌≡◌, ◌<◌, ◌≤◌, ◌+◌, decimal, ◌++◌, [], length};
+ghost use Rattle.std.specs.List.{flat_map};
+ghost use Rattle.arrayvec.specs.ArrayVec.{array_vec_len};
+ghost use Rattle.hlc_clock.specs.Stamp.{stamp_text};
+ghost use Rattle.hlc_text.specs.Text.{byte_token, bytes_token, printed};
+ghost use Rattle.hlc_text.specs.Printing.{StartsAt, Prints, Finishes, Writes};
+
+use crate::plainness::is_own_spelling;
+use crate::short_text::ShortText;
+use crate::watched::Watched;
+use arrayvec::ArrayVec;
+use hlc_clock::Stamp;
+use itoa::Buffer;
+use percent_encoding::{AsciiSet, CONTROLS, ascii_set, percent_encode};
+use std::io::Write;
+
+/// The bytes below 128 that do not stand as themselves.
+const ESCAPED: AsciiSet = ascii_set!(CONTROLS.add(b' ').add(b'%'));
+
+/// Prints to a writer, through text that waits for it: 8,192 bytes at most.
+#[derive(Drop)]
+pub struct Printer<'a, W> {
+    writer: &'a mut Watched<W>,
+    waiting: ArrayVec<u8, 8192>,
+}
+
+impl<'a, W: Write> Printer<'a, W> {
+    /// A printer for the writer. No text waits.
+    #[inline(always)]
+    pub fn new(writer: &'a mut Watched<W>) -> Printer<'a, W>
+        ensures same_writer { result.writer.ghost_name ≡ writer.entry.ghost_name }
+        ensures start { StartsAt writer.old result }
+    {
+        Printer {
+            writer,
+            waiting: ArrayVec::new(),
+        }
+    }
+
+    /// Writes what waits, so that nothing waits any more. It does not flush the writer.
+    pub fn finish(&mut self)
+        ensures { Finishes W.contents self.old self.new }
+    {
+        send(self.writer, self.waiting.as_slice());
+        self.waiting.clear();
+    }
+
+    /// Prints the text, which waits where there is room.
+    #[inline(always)]
+    pub fn put(&mut self, text: &[u8])
+        ensures { Prints W.contents self.old self.new text.now }
+    {
+        if self.waiting.try_extend_from_slice(text).is_err() {
+            self.put_beyond(text);
+        }
+    }
+
+    /// Prints a text that there is no room for.
+    fn put_beyond(&mut self, text: &[u8])
+        requires { 8192 < array_vec_len self.old.waiting + length text.now }
+        ensures { Prints W.contents self.old self.new text.now }
+    {
+        // What is written is a full buffer, so that no small block leaves it before the end.
+        let (front, back) = text.split_at(self.waiting.remaining_capacity());
+        let _ = self.waiting.try_extend_from_slice(front);
+        self.finish();
+        self.put_first(back);
+    }
+
+    /// Prints the text where nothing waits.
+    fn put_first(&mut self, text: &[u8])
+        requires { self.old.waiting.items ≡ [] }
+        ensures { Prints W.contents self.old self.new text.now }
+    {
+        if self.waiting.try_extend_from_slice(text).is_err() {
+            send(self.writer, text);
+        }
+    }
+
+    /// Prints the digits of the number.
+    pub fn put_number(&mut self, number: u64)
+        ensures { Prints W.contents self.old self.new (decimal number) }
+    {
+        if number < 10 {
+            self.put(&[b'0' + number as u8]);
+        } else {
+            let mut buffer = Buffer::new();
+            self.put(buffer.format(number).as_bytes());
+        }
+    }
+
+    /// Prints the parts of the stamp.
+    pub fn put_stamp(&mut self, stamp: Stamp)
+        ensures { Prints W.contents self.old self.new (stamp_text stamp) }
+    {
+        let mut text = ShortText::new();
+        text.put_stamp(stamp);
+        self.put(text.as_slice());
+    }
+
+    /// Prints a line: some words, and the stamp behind them.
+    #[inline(always)]
+    pub fn put_stamp_line(&mut self, name: &[u8], stamp: Stamp)
+        requires { length name.now ≤ 24 }
+        ensures { Prints W.contents self.old self.new (printed (name.now ++ stamp_text stamp)) }
+    {
+        let mut text = ShortText::new();
+        text.put(b"\n");
+        text.put_stamp(stamp);
+        text.put(name);
+        self.put(text.as_slice());
+    }
+
+    /// Prints a line: some words, the stamp behind them, more words, and the number behind those.
+    #[inline(always)]
+    pub fn put_numbered_stamp_line(&mut self, name: &[u8], stamp: Stamp, middle: &[u8], number: u64)
+        requires { length name.now + length middle.now ≤ 24 }
+        ensures { Prints W.contents self.old self.new
+            (printed ((name.now ++ stamp_text stamp) ++ middle.now ++ decimal number)) }
+    {
+        let mut text = ShortText::new();
+        text.put(b"\n");
+        text.put_number(number);
+        text.put(middle);
+        text.put_stamp(stamp);
+        text.put(name);
+        self.put(text.as_slice());
+    }
+
+    /// Prints the word that spells the bytes.
+    #[inline]
+    pub fn put_bytes(&mut self, bytes: &[u8])
+        ensures { Prints W.contents self.old self.new (bytes_token bytes.now) }
+    {
+        if is_own_spelling(bytes) {
+            self.put(bytes);
+        } else {
+            self.put_spelled(bytes);
+        }
+    }
+
+    /// Prints the word that spells some bytes of which one may be escaped.
+    fn put_spelled(&mut self, bytes: &[u8])
+        ensures { Prints W.contents self.old self.new (bytes_token bytes.now) }
+    {
+        if bytes.is_empty() {
+            self.put(b"%");
+        } else {
+            self.put_each_byte(bytes);
+        }
+    }
+
+    /// Prints the spellings of some bytes, one after another.
+    fn put_each_byte(&mut self, bytes: &[u8])
+        ensures { Prints W.contents self.old self.new (flat_map byte_token bytes.now) }
+    {
+        for piece in percent_encode(bytes, ESCAPED) {
+            self.put(piece.as_bytes());
+        }
+    }
+
+    /// Prints some words, and the number behind them.
+    #[inline(always)]
+    pub fn put_named_number(&mut self, name: &[u8], number: u64)
+        ensures { Prints W.contents self.old self.new (name.now ++ decimal number) }
+    {
+        self.put(name);
+        self.put_number(number);
+    }
+
+    /// Prints some words, and the count behind them.
+    pub fn put_named_count(&mut self, name: &[u8], count: u128)
+        ensures { Prints W.contents self.old self.new (name.now ++ decimal count) }
+    {
+        self.put(name);
+        self.put_count(count);
+    }
+
+    /// Prints the digits of the count.
+    fn put_count(&mut self, count: u128)
+        ensures { Prints W.contents self.old self.new (decimal count) }
+    {
+        let mut buffer = Buffer::new();
+        self.put(buffer.format(count).as_bytes());
+    }
+
+    /// Prints some words, and the stamp behind them.
+    #[inline(always)]
+    pub fn put_named_stamp(&mut self, name: &[u8], stamp: Stamp)
+        ensures { Prints W.contents self.old self.new (name.now ++ stamp_text stamp) }
+    {
+        self.put(name);
+        self.put_stamp(stamp);
+    }
+
+    /// Prints some words, and the word that spells the bytes behind them.
+    #[inline(always)]
+    pub fn put_named_bytes(&mut self, name: &[u8], bytes: &[u8])
+        ensures { Prints W.contents self.old self.new (name.now ++ bytes_token bytes.now) }
+    {
+        self.put(name);
+        self.put_bytes(bytes);
+    }
+}
+
+/// Writes the text at once, unless the writer has failed.
+fn send<W: Write>(writer: &mut Watched<W>, text: &[u8])
+    ensures { Writes W.contents writer.old writer.new text.now }
+{
+    let mut rest = text;
+    while !writer.failed() && !rest.is_empty() {
+        if let Ok(taken) = writer.write(rest) {
+            rest = &rest[taken..];
+        }
+    }
+}

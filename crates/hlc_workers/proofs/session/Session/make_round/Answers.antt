@@ -1,0 +1,28 @@
+-- A round is its opening, and then the reads or a second opening: the receipts of both stand one behind the other.
+use Rattle.std.proofs.Common.{[]}
+use Rattle.std.proofs.lemmas.Result.{err_from_is_err_and}
+use Rattle.hlc_core.specs.declared.event.CoreEvent.TheVariants.{OpenAt}
+use Rattle.hlc_workers.specs.declared.session.Opening.TheVariants.{Opened as opened, Outside as outside}
+use Rattle.hlc_workers.specs.Rounds.{GoesOnOrAgain, IsRound}
+use Rattle.hlc_workers.proofs.Works.{called-none, opening_then}
+use Rattle.hlc_workers.proofs.session.Session.make_round.Goals as goal
+
+pub returns-in_err-id-clause-made : goal.returns-in_err-id-clause-made
+returns-in_err-id-clause-made g c =
+    let p = err_from_is_err_and c.from_residual.result c.from_residual.ensures.1 in
+    let none = c.in_err-id.ensures.made in
+    rw (p.1, p.2) ([], called-none _ _ _ none.0, none.1)
+
+pub returns-in-Opened-clause-made : goal.returns-in-Opened-clause-made
+returns-in-Opened-clause-made g c =
+    opening_then g.G.Gate.may_answer _ _ (GoesOnOrAgain c.args.keys.now) (IsRound c.args.keys.now c.args.stamp)
+    (OpenAt c.args.stamp) (opened c.in-Opened.id) _ _ _
+    c.read_and_close.result c.call.ensures.gate (λ r more has. has) (rw c.in-Opened.is at c.in_ok-id.ensures.made)
+    c.read_and_close.ensures.made
+
+pub returns-in-Outside-clause-made : goal.returns-in-Outside-clause-made
+returns-in-Outside-clause-made g c =
+    opening_then g.G.Gate.may_answer _ _ (GoesOnOrAgain c.args.keys.now) (IsRound c.args.keys.now c.args.stamp)
+    (OpenAt c.args.stamp) outside _ _ _
+    c.read_at_floor.result c.call.ensures.gate (λ r more has. has) (rw c.in-Outside.is at c.in_ok-id.ensures.made)
+    c.read_at_floor.ensures.made

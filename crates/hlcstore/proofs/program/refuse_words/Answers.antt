@@ -1,0 +1,8 @@
+-- What was printed from nothing on is written when all is finished.
+use Rattle.std.proofs.Common.{rules}
+use Rattle.hlc_text.proofs.PrintLemmas.{printed_finished}
+use Rattle.hlcstore.proofs.program.refuse_words.Goals as goal
+
+pub returns-clause-written : goal.returns-clause-written
+returns-clause-written g c =
+    printed_finished c.new-printer.ensures.start c.put.ensures c.finish.ensures (search rules)
