@@ -1,4 +1,4 @@
-"""What a call of the C library costs from Python, in ns: the least of five runs. The word is the shared object."""
+"""What a call of the C library costs from Python, in ns: the least of five runs. The argument is the shared object."""
 import pathlib
 import sys
 import time

@@ -1,5 +1,6 @@
-// Calls of a store that threads share, in plain Rust over the maps of std, and looks at a floor, in an array of atomic
-// words and behind a mutex: what `crates/hlc_bench` is measured beside, with the same lines of output.
+// Calls of a store that threads share, in plain Rust with the maps of std, and looks at a floor (closed timestamp), in
+// an array of atomic words and under a mutex. `crates/bench_calls` is measured against it, with the same lines of
+// output.
 use std::collections::BTreeMap;
 use std::ops::Bound::{Excluded, Included};
 use std::sync::atomic::{AtomicBool, AtomicU64, Ordering};
@@ -172,8 +173,8 @@ const NODES: usize = 64;
 
 const LOOKS: u64 = 300_000;
 
-/// What looks by so many readers take in nanoseconds, while one writer raises each node's stamp in turn, and how often
-/// it raised.
+/// Returns how many nanoseconds looks by so many readers take, while one writer raises each node's stamp in turn, and
+/// how often it raised.
 fn looked(readers: u16, raise: impl Fn(usize, u64) + Sync, floor: impl Fn() -> u64 + Sync) -> (u128, u64) {
     let stop = AtomicBool::new(false);
     std::thread::scope(|scope| {
@@ -198,7 +199,7 @@ fn looked(readers: u16, raise: impl Fn(usize, u64) + Sync, floor: impl Fn() -> u
     })
 }
 
-/// Hands in a node's report of this number, and raises its word with it after the lock is free.
+/// Passes a node's report of this number to the store, and raises the node's word with it after the lock is free.
 fn raise(store: &Mutex<Guarded>, words: &[AtomicU64], node: usize, stamp: u64) {
     let event = Event::Report { node: node as u16, number: (stamp >> 16) - 1, stamp };
     let receipt = store.lock().unwrap().call(0, event);
@@ -211,14 +212,14 @@ fn words() -> Vec<AtomicU64> {
     (0..NODES).map(|_| AtomicU64::new(0)).collect()
 }
 
-/// The readers load the words.
+/// Lets the readers load the words.
 fn on_a_board(readers: u16) -> (u128, u64) {
     let (store, words) = (Mutex::new(Guarded::new(NODES, false)), words());
     let least = || words.iter().map(|word| word.load(Ordering::Acquire)).min().unwrap();
     looked(readers, |node, stamp| raise(&store, &words, node, stamp), least)
 }
 
-/// The readers make a call that is refused, since its stamp is above the floor.
+/// Lets the readers make a call that is refused, since its stamp is above the floor.
 fn in_a_shared_store(readers: u16) -> (u128, u64) {
     let (store, words) = (Mutex::new(Guarded::new(NODES, false)), words());
     let least = || match store.lock().unwrap().call(1, Event::OpenAt(u64::MAX)).reply {
@@ -228,7 +229,7 @@ fn in_a_shared_store(readers: u16) -> (u128, u64) {
     looked(readers, |node, stamp| raise(&store, &words, node, stamp), least)
 }
 
-/// The readers take the lock alone.
+/// Lets the readers only take the lock.
 fn behind_a_lock(readers: u16) -> (u128, u64) {
     let store = Mutex::new(Guarded::new(NODES, false));
     let admit = |node: usize, stamp: u64| {
@@ -237,7 +238,8 @@ fn behind_a_lock(readers: u16) -> (u128, u64) {
     looked(readers, admit, || store.lock().unwrap().floor())
 }
 
-/// What reports take of all nodes that have not retired, in turn, each with a question for the floor.
+/// Makes reports of all nodes that have not retired, in turn, each with a question for the floor, and returns how many
+/// there were, the nanoseconds that they took, and the greatest floor.
 fn delivered(nodes: u16, gone: u16) -> (u64, u128, u64) {
     let mut store = Guarded::new(nodes as usize, false);
     for node in &mut store.nodes[..gone as usize] {

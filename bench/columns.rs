@@ -1,4 +1,4 @@
-//! The versions of each key in plain Rust over the maps of std, how one is read, and a vacuum of them.
+//! The versions of each key in plain Rust with the maps of std, how one is read, and a vacuum of them.
 use std::collections::BTreeMap;
 
 /// A stamp as its word: the physical part times 65,536 and the counter.
@@ -11,7 +11,7 @@ pub type Column = BTreeMap<(Stamp, u16), Value>;
 
 pub type Columns = BTreeMap<Vec<u8>, Column>;
 
-/// A key whose answer at a point is another than at the point before it, if there is one.
+/// A key whose answer at a point differs from that at the point before it, if there is one.
 #[derive(Clone, PartialEq)]
 pub struct Witness {
     pub key: Vec<u8>,
@@ -23,7 +23,7 @@ pub fn answer(column: &Column, bound: Stamp) -> Option<&[u8]> {
     column.range(..=(bound, u16::MAX)).next_back().and_then(|(_, value)| value.as_deref())
 }
 
-/// The stamps of the open snapshots and the floor, in order, each once.
+/// Returns the stamps of the open snapshots and the floor (closed timestamp), in order, each once.
 pub fn points(snapshots: &BTreeMap<u64, Stamp>, floor: Stamp) -> Vec<Stamp> {
     let mut points: Vec<Stamp> = snapshots.values().copied().collect();
     points.push(floor);
@@ -32,7 +32,7 @@ pub fn points(snapshots: &BTreeMap<u64, Stamp>, floor: Stamp) -> Vec<Stamp> {
     points
 }
 
-/// What a vacuum did: the changes, the bytes of the versions that answer there, and how many versions went.
+/// What a vacuum did: the changes, the bytes of the versions that answer there, and how many versions were dropped.
 #[derive(Clone, Default, PartialEq)]
 pub struct Vacuumed {
     pub witnesses: Vec<Witness>,
@@ -45,18 +45,18 @@ pub fn vacuum(columns: &mut Columns, points: &[Stamp], floor: Stamp) -> Vacuumed
     let mut done = Vacuumed::default();
     columns.retain(|key, column| {
         let mut keep = Vec::new();
-        let mut told: Option<&[u8]> = None;
+        let mut last: Option<&[u8]> = None;
         let mut before = None;
         for &point in points {
             let newest = column.range(..=(point, u16::MAX)).next_back();
             let now = newest.and_then(|(_, value)| value.as_deref());
-            if now != told {
+            if now != last {
                 done.witnesses.push(Witness { key: key.clone(), before, at: point });
                 done.bytes += (key.len() + now.map_or(0, <[u8]>::len) + 10) as u128;
                 if let Some((place, _)) = newest {
                     keep.push(*place);
                 }
-                told = now;
+                last = now;
             }
             before = Some(point);
         }

@@ -1,6 +1,6 @@
-//! The same job as `hlcstore run`, in plain Rust over the maps of std: a script on standard input, its replies on
-//! standard output. No proofs; growths that are refused end the process. It is what the program is measured beside, and
-//! takes as much care of bytes: no list of words for each line, and plain bytes copied whole.
+//! Does the same as `hlcstore run`, in plain Rust with the maps of std: a script on standard input, its replies on
+//! standard output. It has no proofs, and running out of memory ends the process. The program is measured against it,
+//! so it is as careful with bytes: no list of words for each line, and plain bytes copied whole.
 mod columns;
 
 use columns::{answer, points, Column, Columns, Stamp, Vacuumed, Value, Witness};
@@ -9,7 +9,7 @@ use std::io::{self, BufWriter, Read, Write};
 
 const LIMIT: u64 = 1 << 48;
 
-/// The most bytes that an input may have.
+/// The maximum number of bytes of an input.
 const LONGEST: u64 = 16_777_216;
 
 enum Body {
@@ -53,7 +53,7 @@ struct World {
     store: Store,
 }
 
-/// The least stamp above the earlier ones and not below the reading.
+/// Returns the least stamp above the earlier ones and not below the reading.
 fn next_stamp(last: Stamp, seen: Stamp, reading: u64) -> Result<Stamp, Refusal> {
     if reading >= LIMIT {
         return Err(Refusal::Number(2));
@@ -248,16 +248,16 @@ fn bytes(word: &[u8]) -> Option<Vec<u8>> {
     (!word.is_empty()).then_some(bytes)
 }
 
-/// Answers a line, or tells that it is none.
+/// Answers a line, or returns false where it is no line of a script.
 fn line<W: Write>(world: &mut World, line: &[u8], out: &mut Out<W>) -> io::Result<bool> {
     // No event has more than five words.
-    let mut held: [&[u8]; 6] = [b""; 6];
+    let mut found: [&[u8]; 6] = [b""; 6];
     let mut count = 0;
     for (place, word) in line.split(|byte| *byte == b' ').take(6).enumerate() {
-        held[place] = word;
+        found[place] = word;
         count = place + 1;
     }
-    let done = match &held[..count] {
+    let done = match &found[..count] {
         [b"write", at, reading, key, value] => match (node(at), number(reading), bytes(key), bytes(value)) {
             (Some(at), Some(reading), Some(key), Some(value)) => {
                 stamped(world.write(at, reading, key, Some(value)), out)

@@ -1,7 +1,7 @@
-"""The six kinds of script that the program is measured on, each made from a seed and of about so many bytes.
+"""The six kinds of script with which the program is measured, each made from a seed and of about so many bytes.
 
-scripts.py KIND SIZE FILE writes one. It is a process of its own, so that the memory it takes is not counted with that
-of the programs, whose peak would begin at that of the process that starts them.
+scripts.py KIND SIZE FILE writes one. It is a process of its own, so that its memory is not counted with that of the
+programs, whose peak would start at that of the process that starts them.
 """
 import random
 import sys
@@ -52,7 +52,7 @@ class Script:
         self.deliver(self.write(key, value))
 
     def level(self):
-        """Each node reports and is delivered, so that the floor comes to the last writes."""
+        """Makes each node report and delivers it, so that the floor (closed timestamp) comes to the last writes."""
         self.reading += 1
         for node in range(self.nodes):
             self.add(f"report {node} {self.reading}")
@@ -119,7 +119,7 @@ def versions_read(versions, reads):
 def snapshots(limit):
     """Writes and deletions with some twelve snapshots open at once, reads of them, and vacuums on the way."""
     script = Script(3, 4, limit)
-    held = []
+    open_ids = []
     while not script.is_full():
         for _ in range(40):
             key = f"key{script.random.randrange(2_000):05}"
@@ -128,11 +128,11 @@ def snapshots(limit):
             else:
                 script.fed(key, value(script))
         script.level()
-        held.append(script.open())
+        open_ids.append(script.open())
         for _ in range(4):
-            script.add(f"read {script.random.choice(held)} key{script.random.randrange(2_000):05}")
-        if len(held) > 12:
-            script.add(f"close {held.pop(script.random.randrange(len(held)))}")
+            script.add(f"read {script.random.choice(open_ids)} key{script.random.randrange(2_000):05}")
+        if len(open_ids) > 12:
+            script.add(f"close {open_ids.pop(script.random.randrange(len(open_ids)))}")
         if script.opened % 16 == 0:
             script.add("vacuum")
             script.add("rows")

@@ -1,7 +1,7 @@
-//! The same job as `hlcstore storm`, in plain Rust over the maps of std: as many threads, links by `sync_channel(8)`,
-//! one mutex round the core and the trail, a board of atomic words, receipts compared with the trail at the end, and
-//! the same printed lines. No proofs; growths that are refused end the process. It is what the program's storm is
-//! measured beside.
+//! Does the same as `hlcstore storm`, in plain Rust with the maps of std: as many threads, links by `sync_channel(8)`,
+//! one mutex around the core and the trail, a board of atomic words, receipts compared with the trail at the end, and
+//! the same printed lines. It has no proofs, and running out of memory ends the process. The program's storm is
+//! measured against it.
 mod columns;
 
 use columns::{answer, points, Column, Columns, Stamp, Vacuumed, Value};
@@ -101,7 +101,7 @@ impl Core {
     }
 
     fn step(&mut self, event: &Event) -> Reply {
-        let told = match event {
+        let reply = match event {
             Event::Accept(item) => self.accept(item),
             Event::OpenAt(stamp) => self.open_at(*stamp),
             Event::OpenFloor => self.open(self.floor()),
@@ -109,7 +109,7 @@ impl Core {
             Event::Close(id) => self.snapshots.remove(id).map(Reply::Closed).ok_or(Fault::NoSnapshot),
             Event::Vacuum => Ok(Reply::Vacuumed(self.vacuum())),
         };
-        told.unwrap_or_else(Reply::Refused)
+        reply.unwrap_or_else(Reply::Refused)
     }
 
     fn accept(&mut self, item: &Item) -> Result<Reply, Fault> {
@@ -192,7 +192,7 @@ struct Receipt {
     reply: Reply,
 }
 
-/// What lies under the lock.
+/// What the lock protects.
 struct Guarded {
     core: Core,
     trail: Vec<Entry>,
@@ -211,17 +211,17 @@ impl Shared {
         Receipt { caller, number, event, reply }
     }
 
-    /// The core, where the receipts are those of the trail, each once; else the place of the first that is not.
+    /// Returns the core, if the receipts are those of the trail, each once; otherwise the place of the first bad one.
     fn settle(self, lists: &[(u16, Vec<Receipt>)]) -> Result<Core, u64> {
         let Guarded { core, trail } = self.0.into_inner().unwrap();
         let (mut last, mut count) = (None, 0);
         for (by, receipts) in lists {
             for receipt in receipts {
-                let stands = trail.get(receipt.number as usize).is_some_and(|entry| {
+                let is_in_trail = trail.get(receipt.number as usize).is_some_and(|entry| {
                     entry.caller == receipt.caller && entry.event == receipt.event && entry.reply == receipt.reply
                 });
                 let key = Some((receipt.caller, receipt.number));
-                if !stands || receipt.caller != *by || key <= last {
+                if !is_in_trail || receipt.caller != *by || key <= last {
                     return Err(count);
                 }
                 last = key;
@@ -241,7 +241,7 @@ impl Board {
     }
 }
 
-/// The stamp after this one at a reading, or none where there is none.
+/// Returns the stamp after this one at a reading, or none where there is none.
 fn next_stamp(last: Stamp, reading: u64) -> Option<Stamp> {
     if reading >= LIMIT {
         return None;
@@ -270,7 +270,7 @@ fn write_all(link: &SyncSender<Parcel>, node: u16, plan: Plan) -> Option<()> {
     link.send(Parcel::End).ok()
 }
 
-/// Hands in what comes by a link, and raises the board with what was accepted.
+/// Passes what comes over a link to the store, and raises the board with what was accepted.
 fn feed(store: &Shared, caller: u16, link: &Receiver<Parcel>, board: &Board, node: u16) -> Option<Vec<Receipt>> {
     let mut receipts = Vec::new();
     let mut raised = 0;
@@ -317,8 +317,8 @@ struct Plan {
     readers: u16,
 }
 
-/// Runs all threads, and gives the receipts by caller: feeders by node, readers, the vacuum. None where a worker did
-/// not do all its work.
+/// Runs all threads, and returns the receipts by caller: feeders by node, readers, the vacuum; or none where a worker
+/// did not do all its work.
 fn run_all(store: &Shared, plan: Plan) -> Option<Vec<(u16, Vec<Receipt>)>> {
     let board = Board((0..plan.nodes).map(|_| AtomicU64::new(0)).collect());
     let keys: Vec<Bytes> = (0..plan.keys).map(key_of).collect();
@@ -373,7 +373,8 @@ fn put_bytes(out: &mut impl Write, bytes: &[u8]) -> io::Result<()> {
     Ok(())
 }
 
-/// Prints what the settled core tells: the counts, the floor, the pairs at the floor, and what a last vacuum keeps.
+/// Prints the report of the settled core: the counts, the floor (closed timestamp), the pairs at the floor, and how
+/// many rows a last vacuum keeps.
 fn put_report(out: &mut impl Write, mut core: Core) -> io::Result<()> {
     for (node, intake) in core.nodes.iter().enumerate() {
         writeln!(out, "accepted {node} {}", intake.next)?;
@@ -391,7 +392,7 @@ fn put_report(out: &mut impl Write, mut core: Core) -> io::Result<()> {
     writeln!(out, "kept {}\nhistory legal", core.vacuum().kept)
 }
 
-/// A number in its one spelling, in a range.
+/// Returns a number in its only spelling, in a range.
 fn number(word: &str, least: u64, most: u64) -> Option<u64> {
     let digits = !word.is_empty() && word.bytes().all(|byte| byte.is_ascii_digit());
     let one_spelling = word == "0" || !word.starts_with('0');

@@ -1,7 +1,8 @@
-"""What the program owes, written from the formats alone and as slowly as they are defined: lists, greatest elements,
-and no rows but all writes that were ever accepted. It shares nothing with the product.
+"""What the program is expected to return, written only from the formats and as slowly as they are defined: lists,
+greatest elements, and no rows but all writes that were ever accepted. It shares nothing with the product.
 
-A stamp is a pair of a reading and a counter. A write is (key, stamp, node, value), its value None of a deletion.
+A stamp is a pair of a reading and a counter. A write is (key, stamp, node, value), where the value of a deletion is
+None.
 """
 import re
 
@@ -13,7 +14,7 @@ START = (0, 0)
 
 
 def spelled(data):
-    """The one word that spells these bytes."""
+    """Returns the only word that spells these bytes."""
     if not data:
         return b"%"
     return b"".join(b"%c" % byte if 0x21 <= byte <= 0x7E and byte != 0x25 else b"%%%02X" % byte for byte in data)
@@ -50,19 +51,19 @@ def put(at):
 
 
 def lines_of(text):
-    """The lines of an input; the last one may lack its line feed."""
+    """Returns the lines of an input; the last one may have no line feed."""
     lines = text.split(b"\n")
     return lines[:-1] if lines[-1] == b"" else lines
 
 
 def newest_write(writes, key, bound):
-    """The newest write of the key, by stamp and node, at or below the bound; None where there is none."""
+    """Returns the newest write of the key, by stamp and node, at or below the bound; None where there is none."""
     below = [write for write in writes if write[0] == key and write[1] <= bound]
     return max(below, key=lambda write: write[1:3]) if below else None
 
 
 def newest(writes, key, bound):
-    """The value of that write; None where there is none."""
+    """Returns the value of that write; None where there is none."""
     write = newest_write(writes, key, bound)
     return write[3] if write else None
 
@@ -76,12 +77,13 @@ def value_fits(value):
 
 
 def cost(writes):
-    """What rows of these writes cost: of each the bytes of its key and of its value, none of a deletion, and 10."""
+    """Returns what rows of these writes cost: for each the bytes of its key and of its value, none for a deletion, and
+    10."""
     return sum(len(key) + len(value or b"") + 10 for key, _, _, value in writes)
 
 
 def changes(writes, points):
-    """The changes of answers: each key, the point before, if any, and the point at which its answer is another."""
+    """Returns the changes of answers: each key, the point before, if any, and the point at which its answer differs."""
     found = []
     for key in sorted({write[0] for write in writes}):
         before, value = None, None
@@ -138,7 +140,7 @@ class World:
         self.kept = 0
 
     def event(self, line):
-        """The call that a line asks for; ValueError where it is no event's."""
+        """Returns the call that a line asks for; raises ValueError where it is not the line of an event."""
         verb, *words = line.split(b" ")
         forms = self.FORMS.get(verb)
         if forms is None or len(forms) != len(words):
@@ -158,7 +160,7 @@ class World:
             raise Refused(b"refused 1")
 
     def active(self, node):
-        """The node is there, and has not issued its last item."""
+        """Checks that the node exists, and has not issued its last item."""
         self.known(node)
         if self.closed[node]:
             raise Refused(b"refused 27")
@@ -173,7 +175,8 @@ class World:
         return [b"joined %d start %s" % (len(self.clocks) - 1, put(start))]
 
     def tick(self, node, reading, other=START):
-        """The least stamp above the node's and the other one, at this reading or later; it becomes the node's."""
+        """Returns the least stamp above the node's and the other one, at this reading or later, and makes it the
+        node's."""
         if reading > MOST_READING:
             raise Refused(b"refused 2")
         last = max(self.clocks[node], other)
@@ -205,9 +208,9 @@ class World:
         return self.issue(node, reading, None, None, False)
 
     def retire(self, node, reading):
-        told = self.issue(node, reading, None, None, False)
+        returned = self.issue(node, reading, None, None, False)
         self.closed[node] = True
-        return told
+        return returned
 
     def send(self, node, reading):
         self.active(node)
@@ -272,7 +275,8 @@ class World:
         return [b"closed " + put(at)]
 
     def least(self):
-        """The floor: the least head of the nodes whose last item was not accepted, else the greatest stamp accepted."""
+        """Returns the floor (closed timestamp): the least head of the nodes whose last item was not accepted; if there
+        is none, the greatest accepted stamp."""
         left = [head for head, retired in zip(self.heads, self.retired) if not retired]
         return min(left) if left else max(self.heads)
 
@@ -296,7 +300,7 @@ class World:
 
 
 def run(text):
-    """What `run` writes for an input, and its exit status."""
+    """Returns what `run` writes for an input, and its exit status."""
     lines = lines_of(text)
     try:
         verb, count = lines[0].split(b" ")
@@ -314,7 +318,7 @@ def run(text):
 
 
 def certificate_line(line):
-    """What a line of a certificate says; ValueError where it is none."""
+    """Returns what a line of a certificate says; raises ValueError where it is no such line."""
     verb, *words = line.split(b" ")
     if verb == b"point" and len(words) == 1:
         return stamp(words[0])
@@ -332,7 +336,7 @@ def ascends(keys):
 
 
 def reason(points, rows, witnesses):
-    """The first reason for which a certificate shows nothing, 0 where there is none."""
+    """Returns the first reason why a certificate shows nothing, 0 where there is none."""
     if not points or not ascends(points):
         return 1
     if not ascends([row[:3] for row in rows]):
@@ -355,7 +359,7 @@ def reason(points, rows, witnesses):
 
 
 def check(text):
-    """What `check` writes for an input, and its exit status."""
+    """Returns what `check` writes for an input, and its exit status."""
     kinds = [b"point", b"row", b"witness"]
     parts = {kind: [] for kind in kinds}
     last = 0
@@ -375,7 +379,8 @@ def check(text):
 
 
 def storm(nodes, writes, keys):
-    """What a storm of these sizes writes: all nodes write with the same stamps, so the greatest node's are read."""
+    """Returns what a storm of these sizes writes: all nodes write with the same stamps, so those of the greatest node
+    are read."""
     values = {b"k%d" % (number % keys): b"%d.%d" % (nodes - 1, number) for number in range(writes)}
     lines = [b"accepted %d %d" % (node, writes + 1) for node in range(nodes)] + [b"floor %d.0" % (writes + 1)]
     lines += [b"%s %s" % pair for pair in sorted(values.items())]

@@ -1,5 +1,5 @@
-/* Loaded before the C library (LD_PRELOAD): of a program's requests for memory it refuses the one whose number the
-   variable REFUSED has, counted from 1. */
+/* Loaded before the C library (LD_PRELOAD), it refuses one of a program's requests for memory: the one whose number,
+   counted from 1, is in the variable REFUSED. */
 #define _GNU_SOURCE
 #include <dlfcn.h>
 #include <stdbool.h>

@@ -1,6 +1,6 @@
 // Times the calls of one store, without text: `calls table KEYS WRITES` and `calls hot VERSIONS`. Keys and values have
-// 8 bytes. Writes come in the order of their stamps, to keys at random. It prints names and numbers: nanoseconds of the
-// processor a call (a listing's a key), milliseconds of a vacuum, and bytes of memory a row.
+// 8 bytes. Writes come in the order of their stamps, to random keys. It prints names and numbers: nanoseconds of
+// processor time per call (per key for a listing), milliseconds of a vacuum, and bytes of memory per row.
 #include PEER
 
 #include <ctime>
@@ -8,7 +8,7 @@
 
 namespace {
 constexpr uint64_t READS = 1'000'000, HOT_READS = 20'000, HOT_SNAPSHOTS = 1'000;
-// The snapshots of a table stand evenly over its writes; one is read in the middle of them.
+// The snapshots of a table are evenly spaced over its writes; one in the middle of them is read.
 constexpr uint64_t SNAPSHOTS = 8, PAST = SNAPSHOTS / 2 - 1;
 
 double now() {
@@ -61,7 +61,7 @@ void read_some_key(Store& store, uint64_t id, uint64_t stamp, uint64_t keys) {
 
 void tell(const char* name, double value) { std::printf("%s %.1f\n", name, value); }
 
-// Of what follows until it ends: its time by a number of calls.
+// Measures the time until it is dropped, divided by a number of calls.
 class Timed {
  public:
   Timed(const char* name, double calls) : name_(name), calls_(calls), began_(now()) {}

@@ -1,4 +1,4 @@
-// hlcstore by its C library, for calls.cc: one node, whose items are accepted one at a time.
+// hlcstore through its C library, for calls.cc: one node, whose items are accepted one at a time.
 #include "hlcstore.h"
 #include "peer.hh"
 
@@ -69,7 +69,7 @@ class Store {
   }
   static const uint8_t* bytes(string_view text) { return reinterpret_cast<const uint8_t*>(text.data()); }
 
-  // The place behind a text, whose length stands before it in eight bytes.
+  // Returns the place after a text, which is preceded by its length in eight bytes.
   size_t behind(size_t at) const {
     uint64_t len;
     std::memcpy(&len, &listing_[at], 8);

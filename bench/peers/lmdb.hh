@@ -1,5 +1,5 @@
 // LMDB 0.9 (Debian's liblmdb-dev) in /dev/shm, without syncs and locks, its pages written in place. A row's key is the
-// key, a zero, the inverted stamp and the inverted node, so that the versions of a key stand newest first and a read is
+// key, a zero, the inverted stamp and the inverted node, so that the versions of a key come newest first and a read is
 // one seek of a cursor. Its vacuum walks all rows and deletes what no point needs: it keeps the same rows as hlcstore.
 #include <lmdb.h>
 
@@ -128,20 +128,20 @@ class Store {
     return {key.size() + BEHIND_KEY, made_};
   }
 
-  // Of the rows of a key, newest first: those that answer at no point, or as the point before, are dead.
+  // Adds the dead rows of a key, newest first: those that answer at no point, or the same as at the point before.
   static void plan(const Points& points, std::vector<Row>& rows, std::vector<string>& dead) {
     std::vector<bool> keep(rows.size());
     bool had = false;
-    string_view told;
+    string_view last;
     size_t place = rows.size();
     for (const uint64_t point : points) {
       while (place > 0 && rows[place - 1].stamp <= point) place--;
       const bool has = place < rows.size() && rows[place].has_value;
       const string_view value = has ? string_view(rows[place].value) : string_view();
-      if (has == had && value == told) continue;
+      if (has == had && value == last) continue;
       if (place < rows.size()) keep[place] = true;
       had = has;
-      told = value;
+      last = value;
     }
     for (size_t i = 0; i < rows.size(); i++) {
       if (!keep[i]) dead.push_back(std::move(rows[i].key));

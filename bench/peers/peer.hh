@@ -1,5 +1,5 @@
 // What the programs of the peers share: numbers, keys and errors. A peer is a header with one class `Store`, named by
-// -DPEER='"lmdb.hh"'. script.cc answers a script over it, calls.cc times its calls alone. A store has:
+// -DPEER='"lmdb.hh"'. script.cc answers a script with it, calls.cc only times its calls. A store has:
 //   static constexpr const char* name;
 //   static constexpr bool wants_order;              // it takes the versions of a key in the order of their stamps
 //   void put(stamp, node, key, value or null);      // a version; no value is a deletion
@@ -27,20 +27,21 @@ using Points = std::vector<uint64_t>;
   std::_Exit(1);
 }
 
-// A version's timestamp where a peer has one number for it: two nodes may bear one stamp. 64 nodes leave 42 bits.
+// Returns a version's timestamp where a peer has one number for it: two nodes may have the same stamp. 64 nodes leave
+// 42 bits.
 inline uint64_t timestamp(uint64_t stamp, uint64_t node) { return stamp << 6 | node; }
 constexpr uint64_t LAST_NODE = 63;
 
-// So many writes are one transaction or batch, and as soon as something is read what there is.
+// The number of writes in one transaction or batch; a read ends it earlier, with the writes that there are.
 constexpr int BATCH = 1000;
 
-// What a listing touches, so that no compiler leaves it out.
+// What a listing touches, so that no compiler removes it.
 inline volatile char touched;
 inline void touch(string_view value) {
   if (!value.empty()) touched = value.back();
 }
 
-// An empty folder in memory.
+// Makes an empty folder in memory.
 inline string memory_folder(const char* name) {
   const string folder = string("/dev/shm/hlcstore-bench-") + name;
   if (std::system(("rm -rf " + folder + " && mkdir " + folder).c_str()) != 0) give_up("no folder in /dev/shm");

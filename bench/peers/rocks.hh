@@ -1,6 +1,6 @@
-// RocksDB 7 (Debian's librocksdb-dev) by its user-defined timestamps, files in memory, no log, writes in batches of up
-// to 1,000, a memtable that holds all. A vacuum is a full compaction with the least point as `full_history_ts_low`:
-// every version above that stays, also between snapshots.
+// RocksDB 7 (Debian's librocksdb-dev) with its user-defined timestamps, files in memory, no log, writes in batches of
+// up to 1,000, a memtable that contains all. A vacuum is a full compaction with the least point as
+// `full_history_ts_low`: every version above that stays, also between snapshots.
 #include <rocksdb/comparator.h>
 #include <rocksdb/db.h>
 #include <rocksdb/env.h>
@@ -12,7 +12,7 @@
 #include "peer.hh"
 
 namespace ROCKSDB_NAMESPACE {
-// Exported by the library; versions before 8 declare it in no header that they install.
+// The library exports it; versions before 8 declare it in no installed header.
 extern const Comparator* BytewiseComparatorWithU64Ts();
 }  // namespace ROCKSDB_NAMESPACE
 

@@ -1,6 +1,6 @@
-// The same job as `hlcstore run` over a peer's store: a script on standard input, its replies on standard output. It is
-// for the scripts of the bench, in which nothing is refused: at any other line it ends with status 1. The reply of a
-// vacuum has no counts and no witnesses; `rows` is answered only where the word `count` is given.
+// Does the same as `hlcstore run` with a peer's store: a script on standard input, its replies on standard output. It
+// is for the scripts of the bench, in which nothing is refused: at any other line it ends with status 1. The reply of a
+// vacuum has no counts and no witnesses; `rows` is answered only if there is the argument `count`.
 #include PEER
 
 #include <algorithm>
@@ -47,7 +47,8 @@ struct Node {
   std::vector<Item> issued;
 };
 
-// A delivered write that waits until the floor has passed it, for a store that wants the order of stamps.
+// A delivered write that waits until the floor (closed timestamp) has passed it, for a store that needs the order of
+// stamps.
 struct Waiting {
   uint64_t stamp, node;
   Item item;
@@ -182,7 +183,7 @@ class World {
     store_.put(item.stamp, node, item.key, item.has_value ? &value : nullptr);
   }
 
-  // What waits and stands at or below the floor goes to the store, in the order of stamps and nodes.
+  // Passes what waits at or below the floor to the store, in the order of stamps and nodes.
   void hand_over(uint64_t floor) {
     const auto below = [](const Waiting& a, const Waiting& b) {
       return a.stamp != b.stamp ? a.stamp < b.stamp : a.node < b.node;

@@ -1,9 +1,9 @@
 // WiredTiger 3.2 (Debian's libwiredtiger-dev), in memory and without a log: one table, each version committed at its
-// own timestamp inside transactions of up to 1,000 writes, as an oplog is applied. It wants the versions of a key in
+// own timestamp inside transactions of up to 1,000 writes, as an oplog is applied. It needs the versions of a key in
 // the order of their timestamps. A snapshot is a session with a read transaction at its stamp, open until it is closed.
 // A vacuum raises `oldest_timestamp` to the least point; WiredTiger frees what that allows when it comes to a page, and
-// drops nothing between snapshots. `memory_page_max` is 1 GB: at a smaller one it tries to evict the page of a hot key
-// at each write, which takes over 120 s where this takes 0.5.
+// drops nothing between snapshots. `memory_page_max` is 1 GB: with a smaller value it tries to evict the page of a hot
+// key at each write, which takes more than 120 s where this takes 0.5.
 #include <wiredtiger.h>
 
 #include <charconv>

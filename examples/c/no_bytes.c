@@ -1,4 +1,4 @@
-/* (NULL, 0) stands for no bytes: of a key, of a value, of a buffer, of entries and of their bytes. */
+/* (NULL, 0) represents no bytes: for a key, a value, a buffer, entries and their bytes. */
 #include "hlcstore.h"
 #include <inttypes.h>
 #include <stdio.h>
@@ -9,11 +9,11 @@
 
 static int wrong;
 
-/* A call answered, and told, what is expected. */
-static void expect(const char *call, uint32_t code, uint64_t told, uint32_t expected_code, uint64_t expected)
+/* Checks that a call returned, and wrote, what is expected. */
+static void expect(const char *call, uint32_t code, uint64_t returned, uint32_t expected_code, uint64_t expected)
 {
-    if (code == expected_code && told == expected) return;
-    printf("%s %" PRIu32 " %" PRIu64 "\n", call, code, told);
+    if (code == expected_code && returned == expected) return;
+    printf("%s %" PRIu32 " %" PRIu64 "\n", call, code, returned);
     wrong++;
 }
 
@@ -54,8 +54,9 @@ static void feed(hlc_store *store)
     expect("all, no bytes", code, many + word, HLC_OUTSIDE, 0);
 }
 
-/* Key a has a value of no bytes at 1.0, and key b one of three at 2.0. A pair of a listing is two lengths of eight
- * bytes each, the key and the value. The certificate is "point 1.0", "row a 1.0 0 value %" and "witness a none 1.0". */
+/* Key a has a value of no bytes at 1.0, and key b one of three bytes at 2.0. A pair of a listing is two lengths of
+ * eight bytes each, the key and the value. The certificate is "point 1.0", "row a 1.0 0 value %" and
+ * "witness a none 1.0". */
 static void read_back(hlc_store *store)
 {
     uint64_t id, word;

@@ -1,4 +1,4 @@
-/* Refuses one request for memory after another of a story, and looks that the store is as it was and goes on. */
+/* Refuses one request for memory after another of a story, and checks that the store is unchanged and works on. */
 #include "hlcstore.h"
 #include <stdio.h>
 #include <stdlib.h>
@@ -14,7 +14,7 @@ static int wrong;
 void *__real_malloc(size_t size);
 void *__real_realloc(void *at, size_t size);
 
-/* Whether this request is the one to refuse. */
+/* Returns whether this request is the one to refuse. */
 static bool refuse(void)
 {
     if (left < 0) return false;
@@ -63,12 +63,12 @@ static uint64_t rows(hlc_store *store)
     return rows;
 }
 
-/* The story, with this request refused; whether there was such a request. */
+/* Plays the story with this request refused. Returns whether there was such a request. */
 static bool story(long request)
 {
     hlc_store store = HLC_CLOSED_STORE;
     uint8_t out[8];
-    int told = 0;
+    int refusals = 0;
     bool met;
     size_t len;
     left = request;
@@ -76,14 +76,14 @@ static bool story(long request)
         uint64_t before = rows(&store);
         uint32_t code = call(step, &store);
         if (code != HLC_OK) {
-            told++;
+            refusals++;
             if (code != HLC_NO_MEMORY || rows(&store) != before || call(step, &store) != HLC_OK) wrong++;
         }
     }
     met = left < 0;
     left = -1;
     if (hlc_read(&store, 2, BYTES("apple"), out, sizeof out, &len) != HLC_OK) wrong++;
-    if (len != 5 || memcmp(out, "green", 5) != 0 || told > 1) wrong++;
+    if (len != 5 || memcmp(out, "green", 5) != 0 || refusals > 1) wrong++;
     hlc_close(&store);
     return met;
 }

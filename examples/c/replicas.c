@@ -1,5 +1,6 @@
-/* Two stores accept the same items in other orders. In each a node joins at one start and a vacuum drops rows up to one
- * stamp, while their floors differ: both number the node alike, keep the same rows, and give the same answers. */
+/* Two stores accept the same items in different orders. In each a node joins at the same start and a vacuum drops rows
+ * up to the same stamp, while their floors (closed timestamps) differ: both assign the same number to the node, keep
+ * the same rows, and return the same answers. */
 #include "hlcstore.h"
 #include <inttypes.h>
 #include <stdio.h>
@@ -20,14 +21,14 @@ static const struct item items[] = {
     { 1, 1, AT(21), "river", "Seine" }, { 0, 2, AT(30), "city", "Nice" },  { 2, 0, AT(26), "town", "Arles" },
 };
 
-/* The items that each store accepts before the join, and those behind it. */
+/* The items that each store accepts before the join, and those after it. */
 static const int before[2][5] = { { 0, 1, 2, 3, -1 }, { 1, 3, 0, 2, 4 } };
 static const int behind[2][2] = { { 4, 5 }, { 5, -1 } };
 static const uint64_t floors[2] = { AT(20), AT(21) };
 
 static int wrong;
 
-/* A call returned, and wrote, what is expected. */
+/* Checks that a call returned, and wrote, what is expected. */
 static void expect(const char *call, uint32_t code, uint64_t word, uint32_t expected_code, uint64_t expected)
 {
     if (code == expected_code && word == expected) return;
@@ -46,7 +47,7 @@ static void accept(hlc_store *store, const int *indices, int many)
     }
 }
 
-/* The join and the vacuum, each refused at another stamp first. */
+/* Makes the join and the vacuum, each of which is refused at another stamp first. */
 static void join_and_vacuum(hlc_store *store, uint64_t floor)
 {
     uint64_t word, kept, bytes, dropped;
@@ -71,7 +72,8 @@ static void join_and_vacuum(hlc_store *store, uint64_t floor)
     expect("check below the horizon", code, word, HLC_BELOW_HORIZON, THRESHOLD);
 }
 
-/* The certificate of a further vacuum to the threshold, and behind it a listing at the threshold and one at 21.0. */
+/* Writes the certificate of a further vacuum to the threshold, then a listing at the threshold and one at 21.0, and
+ * returns their length. */
 static size_t answers(hlc_store *store, uint8_t *out, size_t room)
 {
     uint64_t id, word;

@@ -1,5 +1,5 @@
 /* Two nodes write, snapshots are read, a vacuum drops rows, a node joins and one retires, another joins at a stamp and
- * a vacuum to a stamp drops rows: each answer on a line. */
+ * a vacuum to a stamp drops rows. Each answer is printed on a line. */
 #include "hlcstore.h"
 #include <inttypes.h>
 #include <stdio.h>
@@ -16,7 +16,7 @@ static void line(const char *what, uint32_t code)
     printf("%s %" PRIu32 "\n", what, code);
 }
 
-static void told(const char *what, uint32_t code, uint64_t value)
+static void print_answer(const char *what, uint32_t code, uint64_t value)
 {
     printf("%s %" PRIu32 " %" PRIu64 "\n", what, code, value);
 }
@@ -33,7 +33,7 @@ static void bytes(const char *what, uint32_t code, const uint8_t *out, size_t le
     printf("\n");
 }
 
-/* A node issues a write, and the store accepts it. */
+/* Lets a node issue a write, and the store accept it. */
 static void write_item(hlc_node *node, uint64_t reading, const uint8_t *key, size_t key_len,
                        const uint8_t *value, size_t value_len)
 {
@@ -41,7 +41,7 @@ static void write_item(hlc_node *node, uint64_t reading, const uint8_t *key, siz
     told_two("write", code, number, word);
     if (code != HLC_OK) return;
     code = hlc_accept_write(&store, node->id, number, word, key, key_len, value, value_len, &word);
-    told("accept", code, word);
+    print_answer("accept", code, word);
 }
 
 static void report(hlc_node *node, uint64_t reading)
@@ -49,7 +49,7 @@ static void report(hlc_node *node, uint64_t reading)
     uint32_t code = hlc_node_report(node, reading, &number, &word);
     told_two("report", code, number, word);
     code = hlc_accept_report(&store, node->id, number, word, &word);
-    told("accept", code, word);
+    print_answer("accept", code, word);
 }
 
 static void read_key(uint64_t id, const uint8_t *key, size_t key_len)
@@ -68,7 +68,8 @@ static void list(uint64_t id)
     bytes("list", code, out, len);
 }
 
-/* A node issues a write and a deletion, and one call hands them over, with an entry whose key is not there. */
+/* Lets a node issue a write and a deletion, and passes them to the store in one call, with an entry whose key is not
+ * there. */
 static void accept_three(hlc_node *node)
 {
     hlc_entry entries[3] = { { 0 } };
@@ -88,7 +89,8 @@ static void accept_three(hlc_node *node)
     told_two("all", code, many, word);
 }
 
-/* A node joins at a start that is given, and a vacuum to a stamp below the floor keeps what lies above that stamp. */
+/* Lets a node join at a start that the caller names, and vacuums to a stamp below the floor (closed timestamp), which
+ * keeps what lies above that stamp. */
 static void keep_above(hlc_node *node)
 {
     uint64_t kept, cost, dropped;
@@ -103,19 +105,19 @@ static void keep_above(hlc_node *node)
     code = hlc_join_at(&store, AT(50), &joined, &word);
     told_two("join at", code, joined, word);
     code = hlc_check_vacuum(&store, AT(42), &word);
-    told("check", code, word);
+    print_answer("check", code, word);
     code = hlc_check_vacuum(&store, AT(40), &word);
-    told("check", code, word);
+    print_answer("check", code, word);
     code = hlc_vacuum_to(&store, AT(40), &word, &kept, &cost, &dropped);
-    told("vacuum to", code, word);
+    print_answer("vacuum to", code, word);
     told_two("kept", code, kept, cost);
-    told("dropped", code, dropped);
+    print_answer("dropped", code, dropped);
     code = hlc_vacuum_to(&store, AT(39), &word, &kept, &cost, &dropped);
-    told("vacuum to", code, word);
+    print_answer("vacuum to", code, word);
     code = hlc_vacuum_to_certified(&store, AT(40), out, sizeof out, &len, &word);
     told_two("certificate", code, len, word);
     code = hlc_rows(&store, &word);
-    told("rows", code, word);
+    print_answer("rows", code, word);
 }
 
 int main(void)
@@ -129,25 +131,25 @@ int main(void)
     size_t len;
 
     code = hlc_rows(&store, &word);
-    told("rows", code, word);
+    print_answer("rows", code, word);
     line("open", hlc_open(&store, 0));
     line("open", hlc_open(&store, 2));
     line("open", hlc_open(&store, 2));
     write_item(&a, 10, BYTES("city"), BYTES("Lyon"));
     code = hlc_accept_write(&store, 0, 0, word, BYTES("city"), BYTES("Lyon"), &word);
-    told("again", code, word);
+    print_answer("again", code, word);
     code = hlc_check_write(&store, 0, 1, (uint64_t)11 << 16, BYTES(""), BYTES("Lyon"), &word);
-    told("check", code, word);
+    print_answer("check", code, word);
     write_item(&a, 10, BYTES("city"), BYTES("Paris"));
     code = hlc_node_send(&a, 12, &at);
-    told("send", code, at);
+    print_answer("send", code, at);
     code = hlc_node_receive(&b, at, 11, &word);
-    told("receive", code, word);
+    print_answer("receive", code, word);
     report(&b, 11);
     code = hlc_floor(&store, &at);
-    told("floor", code, at);
+    print_answer("floor", code, at);
     code = hlc_open_snapshot(&store, at + 1, &id);
-    told("snapshot", code, id);
+    print_answer("snapshot", code, id);
     code = hlc_open_snapshot_at_floor(&store, &id, &at);
     told_two("snapshot", code, id, at);
     read_key(1, BYTES("city"));
@@ -160,7 +162,7 @@ int main(void)
     code = hlc_node_delete(&a, 21, BYTES("city"), &number, &word);
     told_two("delete", code, number, word);
     code = hlc_accept_delete(&store, 0, number, word, BYTES("city"), &word);
-    told("accept", code, word);
+    print_answer("accept", code, word);
     report(&b, 22);
     code = hlc_open_snapshot_at_floor(&store, &id, &at);
     told_two("snapshot", code, id, at);
@@ -168,25 +170,25 @@ int main(void)
     list(2);
     list(3);
     code = hlc_rows(&store, &word);
-    told("rows", code, word);
+    print_answer("rows", code, word);
     code = hlc_vacuum(&store, &at, &kept, &cost, &dropped);
-    told("vacuum", code, at);
+    print_answer("vacuum", code, at);
     told_two("kept", code, kept, cost);
-    told("dropped", code, dropped);
+    print_answer("dropped", code, dropped);
     read_key(1, BYTES("city"));
     code = hlc_close_snapshot(&store, 1, &at);
-    told("close", code, at);
+    print_answer("close", code, at);
     code = hlc_close_snapshot(&store, 1, &at);
-    told("close", code, at);
+    print_answer("close", code, at);
     code = hlc_vacuum_certified(&store, out, 8, &len);
-    told("certificate", code, len);
+    print_answer("certificate", code, len);
     code = hlc_vacuum_certified(&store, out, sizeof out, &len);
-    told("certificate", code, len);
+    print_answer("certificate", code, len);
     fwrite(out, 1, len, stdout);
     code = hlc_rows(&store, &word);
-    told("rows", code, word);
+    print_answer("rows", code, word);
     code = hlc_open_snapshot(&store, 1, &id);
-    told("snapshot", code, id);
+    print_answer("snapshot", code, id);
     code = hlc_join(&store, &joined, &start);
     told_two("join", code, joined, start);
     c = hlc_node_open(joined, start);
@@ -195,16 +197,16 @@ int main(void)
     code = hlc_node_retire(&a, 30, &number, &word);
     told_two("retire", code, number, word);
     code = hlc_accept_retire(&store, 0, number, word, &word);
-    told("accept", code, word);
+    print_answer("accept", code, word);
     write_item(&a, 31, BYTES("city"), BYTES("Nice"));
     code = hlc_check_report(&store, 0, 4, (uint64_t)31 << 16, &word);
-    told("check", code, word);
+    print_answer("check", code, word);
     write_item(&b, (uint64_t)1 << 48, BYTES("city"), BYTES("Nice"));
     write_item(&b, 31, large, 256, BYTES("Nice"));
     write_item(&b, 31, BYTES("city"), large, sizeof large);
     keep_above(&c);
     hlc_close(&store);
     code = hlc_floor(&store, &at);
-    told("floor", code, at);
+    print_answer("floor", code, at);
     return 0;
 }

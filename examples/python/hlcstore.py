@@ -1,4 +1,4 @@
-"""The store and its nodes by ctypes, over the shared object that examples/callers makes."""
+"""The store and its nodes with ctypes, from the shared object that examples/callers makes."""
 import ctypes as c
 import struct
 import threading
@@ -15,7 +15,7 @@ class RawNode(c.Structure):
     _fields_ = [("id", U16), ("last", U64), ("next", U64), ("retired", c.c_bool)]
 
 
-# An entry of hlc_accept_all, packed as C lays it out.
+# An entry of hlc_accept_all, packed in the layout of C.
 ENTRY = struct.Struct("@H?QQNNNN")
 S, N = c.POINTER(RawStore), c.POINTER(RawNode)
 ITEM, KEY = [S, U16, U64, U64], [BYTES, SIZE]
@@ -53,7 +53,7 @@ CALLS = {
 
 
 def load(path):
-    """Loads the shared object. Call it once, before all else."""
+    """Loads the shared object. Call it once, before anything else."""
     global lib
     lib = c.CDLL(path)
     for name, args in CALLS.items():
@@ -64,7 +64,7 @@ def load(path):
 
 
 class Refused(Exception):
-    """A refusal: its number, and the word told with it."""
+    """A refusal: its number, and the word that comes with it."""
 
     def __init__(self, code, word=0):
         super().__init__(code, word)
@@ -168,7 +168,8 @@ class Store:
         return self._word(lib.hlc_accept_retire, node, *item)
 
     def accept_all(self, items):
-        """Accepts (node, (number, stamp), key, value) in turn, of a deletion with no value, in one call: how many."""
+        """Accepts (node, (number, stamp), key, value) in turn, with no value for a deletion, in one call, and returns
+        how many."""
         entries, parts, at = bytearray(), [], 0
         for node, (number, stamp), key, value in items:
             end = at + len(key)
@@ -196,7 +197,7 @@ class Store:
         return tuple(self._words(lib.hlc_join, U16(), U64()))
 
     def join_at(self, start):
-        """A node joins that starts at this stamp: its number and the start."""
+        """Lets a node join that starts at this stamp, and returns its number and the start."""
         node, word = U16(), U64()
         with self.lock:
             code = lib.hlc_join_at(self.raw, start, node, word)
@@ -231,7 +232,7 @@ class Store:
             raise
 
     def list(self, id):
-        """The bytes of the listing, as `hlc_list` gives them."""
+        """Returns the bytes of the listing, as `hlc_list` does."""
         return self._bytes(lib.hlc_list, id)
 
     def floor(self):
@@ -248,7 +249,7 @@ class Store:
         return self._bytes(lib.hlc_vacuum_certified)
 
     def vacuum_to(self, stamp):
-        """Vacuums up to a stamp: the stamp, and what `vacuum` returns of the rows at or below it."""
+        """Vacuums up to a stamp, and returns the stamp, and what `vacuum` returns for the rows at or below it."""
         return tuple(self._words(lib.hlc_vacuum_to, stamp, U64(), U64(), U64(), U64()))
 
     def vacuum_to_certified(self, stamp):
@@ -260,5 +261,5 @@ class Store:
             raise Refused(refused.code, word.value) from None
 
     def check_vacuum(self, stamp):
-        """Why `vacuum_to` would be refused, memory aside."""
+        """Returns why `vacuum_to` would be refused, apart from out of memory."""
         return self._word(lib.hlc_check_vacuum, stamp)

@@ -1,17 +1,17 @@
-"""The story of examples/c/story.c, by the wrapper. The word is the shared object."""
+"""The story of examples/c/story.c, with the wrapper. The argument is the shared object."""
 import sys
 
 import hlcstore
 from hlcstore import ENTRY, Node, Refused, Store
 
 
-def told(what, call, *args):
+def print_answer(what, call, *args):
     try:
         value = call(*args)
         print(what, 0, *(value if isinstance(value, tuple) else (value,)))
         return value
     except Refused as refused:
-        # An issued item, or a node, has its number before its word, which is 0 at a refusal.
+        # The number of an issued item, or of a node, is printed before its word; it is 0 at a refusal.
         number = (0,) if what in ("write", "join at") else ()
         print(what, refused.code, *number, refused.word)
 
@@ -34,14 +34,14 @@ def shown(what, call, *args):
 
 
 def write(store, node, reading, key, value):
-    """A node issues a write, and the store accepts it."""
-    item = told("write", node.write, reading, key, value)
+    """Lets a node issue a write, and the store accept it."""
+    item = print_answer("write", node.write, reading, key, value)
     if item:
-        told("accept", store.write, node.id, item, key, value)
+        print_answer("accept", store.write, node.id, item, key, value)
 
 
 def report(store, node, reading):
-    told("accept", store.report, node.id, told("report", node.report, reading))
+    print_answer("accept", store.report, node.id, print_answer("report", node.report, reading))
 
 
 def accept(call, *args):
@@ -52,9 +52,10 @@ def accept(call, *args):
 
 
 def accept_three(store, node):
-    """A node issues a write and a deletion, and one call hands them over, with an entry whose key is not there."""
-    first = told("write", node.write, 40, b"lake", b"Como")
-    second = told("delete", node.delete, 41, b"town")
+    """Lets a node issue a write and a deletion, and passes them to the store in one call, with an entry whose key is
+    not there."""
+    first = print_answer("write", node.write, 40, b"lake", b"Como")
+    second = print_answer("delete", node.delete, 41, b"town")
     deletion = ENTRY.pack(node.id, True, *second, 8, 4, 0, 0)
     entries = ENTRY.pack(node.id, False, *first, 0, 4, 4, 4) + deletion + ENTRY.pack(node.id, False, 0, 0, 12, 1, 0, 0)
     accept(store.accept_packed, entries, b"lakeComotown")
@@ -62,76 +63,77 @@ def accept_three(store, node):
 
 
 def keep_above(store, node):
-    """A node joins at a start that is given, and a vacuum to a stamp below the floor keeps what lies above it."""
+    """Lets a node join at a start that the caller names, and vacuums to a stamp below the floor (closed timestamp),
+    which keeps what lies above that stamp."""
     write(store, node, 39, b"city", b"Bern")
     report(store, node, 45)
     for start in 40 << 16, 50 << 16:
-        told("join at", store.join_at, start)
-    told("check", store.check_vacuum, 42 << 16)
-    told("check", store.check_vacuum, 40 << 16)
+        print_answer("join at", store.join_at, start)
+    print_answer("check", store.check_vacuum, 42 << 16)
+    print_answer("check", store.check_vacuum, 40 << 16)
     at, kept, cost, dropped = store.vacuum_to(40 << 16)
     print("vacuum to", 0, at)
     print("kept", 0, kept, cost)
     print("dropped", 0, dropped)
-    told("vacuum to", store.vacuum_to, 39 << 16)
+    print_answer("vacuum to", store.vacuum_to, 39 << 16)
     print("certificate", 0, len(store.vacuum_to_certified(40 << 16)), 0)
-    told("rows", store.rows)
+    print_answer("rows", store.rows)
 
 
 def story(store):
     a, b = Node(0, 0), Node(1, 0)
-    told("rows", store.rows)
+    print_answer("rows", store.rows)
     line("open", store.open, 0)
     line("open", store.open, 2)
     line("open", store.open, 2)
     write(store, a, 10, b"city", b"Lyon")
-    told("again", store.write, 0, (0, 10 << 16), b"city", b"Lyon")
-    told("check", store.check_write, 0, (1, 11 << 16), b"", b"Lyon")
+    print_answer("again", store.write, 0, (0, 10 << 16), b"city", b"Lyon")
+    print_answer("check", store.check_write, 0, (1, 11 << 16), b"", b"Lyon")
     write(store, a, 10, b"city", b"Paris")
-    sent = told("send", a.send, 12)
-    told("receive", b.receive, sent, 11)
+    sent = print_answer("send", a.send, 12)
+    print_answer("receive", b.receive, sent, 11)
     report(store, b, 11)
-    floor = told("floor", store.floor)
-    told("snapshot", store.snapshot, floor + 1)
-    told("snapshot", store.snapshot_at_floor)
+    floor = print_answer("floor", store.floor)
+    print_answer("snapshot", store.snapshot, floor + 1)
+    print_answer("snapshot", store.snapshot_at_floor)
     shown("read", store.read, 1, b"city")
-    # The wrapper calls again where a buffer is short: C tells of that itself.
+    # The wrapper calls again where a buffer is too short. The C program prints a line about that.
     print("short 0 5 1")
     shown("read", store.read, 1, b"town")
     shown("read", store.read, 2, b"city")
     write(store, b, 20, b"town", b"")
-    item = told("delete", a.delete, 21, b"city")
-    told("accept", store.delete, 0, item, b"city")
+    item = print_answer("delete", a.delete, 21, b"city")
+    print_answer("accept", store.delete, 0, item, b"city")
     report(store, b, 22)
-    told("snapshot", store.snapshot_at_floor)
+    print_answer("snapshot", store.snapshot_at_floor)
     for id in 1, 2, 3:
         shown("list", store.list, id)
-    told("rows", store.rows)
+    print_answer("rows", store.rows)
     floor, kept, cost, dropped = store.vacuum()
     print("vacuum", 0, floor)
     print("kept", 0, kept, cost)
     print("dropped", 0, dropped)
     shown("read", store.read, 1, b"city")
-    told("close", store.close_snapshot, 1)
-    told("close", store.close_snapshot, 1)
+    print_answer("close", store.close_snapshot, 1)
+    print_answer("close", store.close_snapshot, 1)
     for _ in range(2):
         print("certificate", 0, len(store.vacuum_certified()))
     print(store.vacuum_certified().decode(), end="")
-    told("rows", store.rows)
-    told("snapshot", store.snapshot, 1)
-    c = Node(*told("join", store.join))
+    print_answer("rows", store.rows)
+    print_answer("snapshot", store.snapshot, 1)
+    c = Node(*print_answer("join", store.join))
     write(store, c, 1, b"city", b"Rome")
     accept_three(store, b)
-    item = told("retire", a.retire, 30)
-    told("accept", store.retire, 0, item)
+    item = print_answer("retire", a.retire, 30)
+    print_answer("accept", store.retire, 0, item)
     write(store, a, 31, b"city", b"Nice")
-    told("check", store.check_report, 0, (4, 31 << 16))
+    print_answer("check", store.check_report, 0, (4, 31 << 16))
     write(store, b, 1 << 48, b"city", b"Nice")
     write(store, b, 31, bytes(256), b"Nice")
     write(store, b, 31, b"city", bytes(65536))
     keep_above(store, c)
     store.close()
-    told("floor", store.floor)
+    print_answer("floor", store.floor)
 
 
 hlcstore.load(sys.argv[1])

@@ -1,7 +1,7 @@
-"""Four threads write to one store and read from it, by the wrapper. The word is the shared object.
+"""Four threads write to one store and read from it, with the wrapper. The argument is the shared object.
 
 Each thread has a node and a key of its own. All writes have a counter of 0, so the value of a key in a snapshot at the
-floor is that of the reading of the floor."""
+floor (closed timestamp) is that of the reading of the floor."""
 import sys
 from concurrent.futures import ThreadPoolExecutor
 

@@ -1,4 +1,4 @@
-//! The store and its nodes, with the unsafe calls behind safe ones.
+//! The store and its nodes, with safe methods around the unsafe calls.
 use std::cell::Cell;
 use std::marker::PhantomData;
 
@@ -76,11 +76,11 @@ unsafe extern "C" {
     fn hlc_node_receive(n: *mut Node, seen: u64, reading: u64, word: *mut u64) -> u32;
 }
 
-/// A refusal: its number, and the word told with it.
+/// A refusal: its number, and the word that comes with it.
 #[derive(Debug, PartialEq)]
 pub struct Refused(pub u32, pub u64);
 
-fn told<T>(code: u32, value: T, word: u64) -> Result<T, Refused> {
+fn answered<T>(code: u32, value: T, word: u64) -> Result<T, Refused> {
     if code == 0 { Ok(value) } else { Err(Refused(code, word)) }
 }
 
@@ -99,7 +99,7 @@ impl Node {
     fn issued(&mut self, call: impl FnOnce(*mut Node, *mut u64, *mut u64) -> u32) -> Issued {
         let (mut number, mut word) = (0, 0);
         let code = call(self, &mut number, &mut word);
-        told(code, (number, word), word)
+        answered(code, (number, word), word)
     }
 
     pub fn write(&mut self, reading: u64, key: &[u8], value: &[u8]) -> Issued {
@@ -123,17 +123,17 @@ impl Node {
     pub fn send(&mut self, reading: u64) -> Result<u64, Refused> {
         let mut word = 0;
         let code = unsafe { hlc_node_send(self, reading, &mut word) };
-        told(code, word, word)
+        answered(code, word, word)
     }
 
     pub fn receive(&mut self, seen: u64, reading: u64) -> Result<u64, Refused> {
         let mut word = 0;
         let code = unsafe { hlc_node_receive(self, seen, reading, &mut word) };
-        told(code, word, word)
+        answered(code, word, word)
     }
 }
 
-/// Writes and deletions to hand over at once.
+/// Writes and deletions to pass to the store in one call.
 #[derive(Default)]
 pub struct Batch {
     entries: Vec<Entry>,
@@ -166,7 +166,7 @@ impl Batch {
     }
 }
 
-/// A store. `PhantomData<*mut u8>` keeps it to one thread.
+/// A store. `PhantomData<*mut u8>` confines it to one thread.
 pub struct Store {
     raw: Raw,
     _one_thread: PhantomData<*mut u8>,
@@ -181,14 +181,14 @@ pub struct Vacuumed {
 }
 
 impl Store {
-    /// A closed store, which answers 100.
+    /// Returns a closed store, which refuses calls with 100 until it is opened.
     pub fn closed() -> Store {
         let raw = Raw { at: std::ptr::null_mut(), live: false };
         Store { raw, _one_thread: PhantomData }
     }
 
     pub fn open(&mut self, nodes: u16) -> Result<(), Refused> {
-        told(unsafe { hlc_open(&mut self.raw, nodes) }, (), 0)
+        answered(unsafe { hlc_open(&mut self.raw, nodes) }, (), 0)
     }
 
     pub fn close(&mut self) {
@@ -198,7 +198,7 @@ impl Store {
     fn word(&mut self, call: impl FnOnce(*mut Raw, *mut u64) -> u32) -> Result<u64, Refused> {
         let mut word = 0;
         let code = call(&mut self.raw, &mut word);
-        told(code, word, word)
+        answered(code, word, word)
     }
 
     pub fn write(&mut self, node: u16, item: (u64, u64), key: &[u8], value: &[u8]) -> Result<u64, Refused> {
@@ -219,13 +219,13 @@ impl Store {
         self.word(|s, word| unsafe { hlc_accept_retire(s, node, item.0, item.1, word) })
     }
 
-    /// How many were accepted, and why the next one was not.
+    /// Returns how many were accepted, and why the next one was not.
     pub fn accept_all(&mut self, batch: &Batch) -> (usize, Result<(), Refused>) {
         let (e, en) = (batch.entries.as_ptr(), batch.entries.len());
         let (b, bn) = (batch.bytes.as_ptr(), batch.bytes.len());
         let (mut many, mut word) = (0, 0);
         let code = unsafe { hlc_accept_all(&mut self.raw, e, en, b, bn, &mut many, &mut word) };
-        (many, told(code, (), word))
+        (many, answered(code, (), word))
     }
 
     pub fn check_write(&mut self, node: u16, item: (u64, u64), key: &[u8], value: &[u8]) -> Result<u64, Refused> {
@@ -240,14 +240,14 @@ impl Store {
     pub fn join(&mut self) -> Result<(u16, u64), Refused> {
         let (mut node, mut start) = (0, 0);
         let code = unsafe { hlc_join(&mut self.raw, &mut node, &mut start) };
-        told(code, (node, start), 0)
+        answered(code, (node, start), 0)
     }
 
-    /// A node joins that starts at this stamp: its number and the start.
+    /// Lets a node join that starts at this stamp, and returns its number and the start.
     pub fn join_at(&mut self, start: u64) -> Result<(u16, u64), Refused> {
         let (mut node, mut word) = (0, 0);
         let code = unsafe { hlc_join_at(&mut self.raw, start, &mut node, &mut word) };
-        told(code, (node, word), word)
+        answered(code, (node, word), word)
     }
 
     pub fn snapshot(&mut self, stamp: u64) -> Result<u64, Refused> {
@@ -257,14 +257,14 @@ impl Store {
     pub fn snapshot_at_floor(&mut self) -> Result<(u64, u64), Refused> {
         let (mut id, mut stamp) = (0, 0);
         let code = unsafe { hlc_open_snapshot_at_floor(&mut self.raw, &mut id, &mut stamp) };
-        told(code, (id, stamp), id)
+        answered(code, (id, stamp), id)
     }
 
     pub fn close_snapshot(&mut self, id: u64) -> Result<u64, Refused> {
         self.word(|s, stamp| unsafe { hlc_close_snapshot(s, id, stamp) })
     }
 
-    // Calls again with the length that was told, until the buffer is long enough.
+    // Calls again with the length that was returned, until the buffer is long enough.
     fn bytes(&mut self, call: impl Fn(*mut Raw, *mut u8, usize, *mut usize) -> u32) -> Result<Vec<u8>, Refused> {
         let mut out = vec![0u8; 4];
         loop {
@@ -289,7 +289,7 @@ impl Store {
         }
     }
 
-    /// The bytes of the listing, as `hlc_list` tells them.
+    /// Returns the bytes of the listing, as `hlc_list` does.
     pub fn list(&mut self, id: u64) -> Result<Vec<u8>, Refused> {
         self.bytes(|s, out, n, len| unsafe { hlc_list(s, id, out, n, len) })
     }
@@ -305,10 +305,10 @@ impl Store {
     pub fn vacuum(&mut self) -> Result<Vacuumed, Refused> {
         let (mut floor, mut kept, mut bytes, mut dropped) = (0, 0, 0, 0);
         let code = unsafe { hlc_vacuum(&mut self.raw, &mut floor, &mut kept, &mut bytes, &mut dropped) };
-        told(code, Vacuumed { floor, kept, bytes, dropped }, 0)
+        answered(code, Vacuumed { floor, kept, bytes, dropped }, 0)
     }
 
-    /// Vacuums, and gives the text of the certificate.
+    /// Vacuums, and returns the text of the certificate.
     pub fn vacuum_certified(&mut self) -> Result<Vec<u8>, Refused> {
         self.bytes(|s, out, n, len| unsafe { hlc_vacuum_certified(s, out, n, len) })
     }
@@ -318,7 +318,7 @@ impl Store {
         let (mut floor, mut kept, mut bytes, mut dropped) = (0, 0, 0, 0);
         let code =
             unsafe { hlc_vacuum_to(&mut self.raw, stamp, &mut floor, &mut kept, &mut bytes, &mut dropped) };
-        told(code, Vacuumed { floor, kept, bytes, dropped }, floor)
+        answered(code, Vacuumed { floor, kept, bytes, dropped }, floor)
     }
 
     /// Vacuums up to a stamp, and returns the text of the certificate.
@@ -330,7 +330,7 @@ impl Store {
         made.map_err(|refused| Refused(refused.0, word.get()))
     }
 
-    /// Why `vacuum_to` would be refused, memory aside.
+    /// Returns why `vacuum_to` would be refused, apart from out of memory.
     pub fn check_vacuum(&mut self, stamp: u64) -> Result<u64, Refused> {
         self.word(|s, word| unsafe { hlc_check_vacuum(s, stamp, word) })
     }

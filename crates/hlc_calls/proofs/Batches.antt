@@ -1,4 +1,4 @@
--- Where an entry is told 0 its item was accepted, so the store stands for one item more of the list.
+-- Where an entry gets 0, its item was accepted, so the store represents one more item of the list.
 use Rattle.std.proofs.Common.{◌≡◌, ◌<◌, ◌+◌, ◌∙◌, ℕ, lit<, refl, sym, ap, subst, arith, inl, inr, Bool, true, false}
 use Rattle.std.proofs.Common.{List, [], ◌∷◌, ◌++◌, map, take, length, get_or}
 use Rattle.std.specs.Prelude.{Option, Some, None}
@@ -21,9 +21,9 @@ use Rattle.hlc_snapshot.specs.declared.fault.SnapshotFault.TheVariants as snapsh
 use Rattle.hlc_node.specs.Faults.{body_code}
 use Rattle.hlc_node.specs.declared.item.BodyFault.{BodyFault}
 use Rattle.hlc_core.specs.Past.{Step, Took}
-use Rattle.hlc_core.specs.Kept.{Kept, StandsFor}
+use Rattle.hlc_core.specs.StoreView.{StoreView, Represents}
 use Rattle.hlc_calls.specs.declared.batch.Entry.{Entry}
-use Rattle.hlc_calls.specs.Told.{IsAnswered}
+use Rattle.hlc_calls.specs.Outcome.{IsAnswered}
 use Rattle.hlc_calls.specs.Batch.{item_of, is_within, took, entered, IsEntered}
 
 link_above : (fault : LinkFault) → 0 < link_code fault
@@ -61,16 +61,17 @@ not_above : (n : ℕ) → 0 < n → 0 ≡ n → ⊥
 not_above n above is = omega arith
 
 -- at 0 the call was made
-made_of : (due : Option CoreFault) (MayGrow Made : Type 0) (told : ℕ) → IsAnswered due MayGrow Made 0 told → Made
-made_of (Some fault) MayGrow Made told (is, word) = absurd (not_above (core_code fault) (code_above fault) is)
-made_of None MayGrow Made told (inl (is, made)) = made
-made_of None MayGrow Made told (inr (is, nothing, may)) = absurd (not_above 15 (lit< tt) is)
+made_of : (expected : Option CoreFault) (MayGrow Made : Type 0) (returned : ℕ)
+    → IsAnswered expected MayGrow Made 0 returned → Made
+made_of (Some fault) MayGrow Made returned (is, word) = absurd (not_above (core_code fault) (code_above fault) is)
+made_of None MayGrow Made returned (inl (is, made)) = made
+made_of None MayGrow Made returned (inr (is, nothing, may)) = absurd (not_above 15 (lit< tt) is)
 
-accepted_at : (old new : Kept) (entry : Entry) (bytes : List ℕ) (past : List Step) (told : ℕ) (within : Bool)
-    → is_within bytes entry ≡ within → IsEntered old new entry bytes past 0 told
-    → StandsFor new (Took (item_of bytes entry) ∷ past)
-accepted_at old new entry bytes past told true is (inside, outside) = (made_of _ _ _ told (inside is)).1
-accepted_at old new entry bytes past told false is (inside, outside) =
+accepted_at : (old new : StoreView) (entry : Entry) (bytes : List ℕ) (past : List Step) (returned : ℕ) (within : Bool)
+    → is_within bytes entry ≡ within → IsEntered old new entry bytes past 0 returned
+    → Represents new (Took (item_of bytes entry) ∷ past)
+accepted_at old new entry bytes past returned true is (inside, outside) = (made_of _ _ _ returned (inside is)).1
+accepted_at old new entry bytes past returned false is (inside, outside) =
     absurd (not_above 103 (lit< tt) (outside is).0)
 
 took_last : (items : List Item) (item : Item) (past : List Step)
@@ -78,7 +79,7 @@ took_last : (items : List Item) (item : Item) (past : List Step)
 took_last [] item past = refl
 took_last (first ∷ items) item past = took_last items item (Took first ∷ past)
 
--- the past after one entry more
+-- the past after one more entry
 entered_more : (entries : List Entry) (bytes : List ℕ) (i : ℕ) (entry : Entry) (past : List Step) → i < length entries
     → entry ≡ get_or entries i entry
     → entered entries bytes (i + 1) past ≡ Took (item_of bytes entry) ∷ entered entries bytes i past
@@ -89,11 +90,12 @@ entered_more entries bytes i entry past within is =
     ∙ took_last (map (item_of bytes) (take i entries)) (item_of bytes (get_or entries i entry)) past
     ∙ sym (ap (λ (e : Entry). Took (item_of bytes e) ∷ entered entries bytes i past) is)
 
-pub entered_next : (old new : Kept) (entries : List Entry) (bytes : List ℕ) (i : ℕ) (entry : Entry) (past : List Step)
-    (code told : ℕ) → i < length entries → entry ≡ get_or entries i entry → code ≡ 0
-    → IsEntered old new entry bytes (entered entries bytes i past) code told
-    → StandsFor new (entered entries bytes (i + 1) past)
-entered_next old new entries bytes i entry past code told within is well answer =
-    subst (λ (steps : List Step). StandsFor new steps) (sym (entered_more entries bytes i entry past within is))
-    (accepted_at old new entry bytes (entered entries bytes i past) told (is_within bytes entry) refl
-    (subst (λ (n : ℕ). IsEntered old new entry bytes (entered entries bytes i past) n told) well answer))
+pub entered_next : (old new : StoreView) (entries : List Entry) (bytes : List ℕ) (i : ℕ) (entry : Entry)
+    (past : List Step)
+    (code returned : ℕ) → i < length entries → entry ≡ get_or entries i entry → code ≡ 0
+    → IsEntered old new entry bytes (entered entries bytes i past) code returned
+    → Represents new (entered entries bytes (i + 1) past)
+entered_next old new entries bytes i entry past code returned within is well answer =
+    subst (λ (steps : List Step). Represents new steps) (sym (entered_more entries bytes i entry past within is))
+    (accepted_at old new entry bytes (entered entries bytes i past) returned (is_within bytes entry) refl
+    (subst (λ (n : ℕ). IsEntered old new entry bytes (entered entries bytes i past) n returned) well answer))

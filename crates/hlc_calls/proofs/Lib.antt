@@ -1,3 +1,4 @@
 pub mod Batches
 pub mod Bytes
+pub mod Pairs
 pub mod Refusals

@@ -1,4 +1,4 @@
--- A refusal that is due is told as it is due, and what was made is told as made.
+-- An expected refusal is returned as such, and so is the result of a call that was made.
 use Rattle.std.proofs.Common.{◌≡◌, ◌∙◌, ℕ, List, refl, sym, ap, subst, inl, inr}
 use Rattle.std.specs.Prelude.{Option, Some, None, ◌==◌, not, nat_le, if◌then◌else◌}
 use Rattle.hlc_values.specs.declared.bounds.TheConstants.{NUMBER_BOUND}
@@ -12,33 +12,34 @@ use Rattle.hlc_node.specs.Items.{an_item, body_refusal}
 use Rattle.hlc_core.specs.Past.{Step, numbered, retired, count, head, item_refusal, of_body}
 use Rattle.hlc_core.specs.Calls.{IsRefusal}
 use Rattle.hlc_core.specs.Faults.{core_code, core_word}
-use Rattle.hlc_calls.specs.Told.{IsAnswered}
+use Rattle.hlc_calls.specs.Outcome.{IsAnswered}
 
-pub refused_tells : (due : Option CoreFault) (MayGrow Made : Type 0) (fault : CoreFault) → IsRefusal due MayGrow fault
-    → IsAnswered due MayGrow Made (core_code fault) (core_word fault)
-refused_tells due MayGrow Made fault (inl is) =
+pub refused_returns : (expected : Option CoreFault) (MayGrow Made : Type 0) (fault : CoreFault)
+    → IsRefusal expected MayGrow fault
+    → IsAnswered expected MayGrow Made (core_code fault) (core_word fault)
+refused_returns expected MayGrow Made fault (inl is) =
     subst (λ (d : Option CoreFault). IsAnswered d MayGrow Made (core_code fault) (core_word fault)) (sym is)
     (refl, refl)
-refused_tells due MayGrow Made fault (inr (none, is, may)) =
+refused_returns expected MayGrow Made fault (inr (none, is, may)) =
     subst (λ (d : Option CoreFault). IsAnswered d MayGrow Made (core_code fault) (core_word fault)) (sym none)
     (subst (λ (f : CoreFault). IsAnswered None MayGrow Made (core_code f) (core_word f)) (sym is)
     (inr (refl, refl, may)))
 
-pub made_tells : (due : Option CoreFault) (MayGrow Made : Type 0) (told : ℕ) → due ≡ None → Made
-    → IsAnswered due MayGrow Made 0 told
-made_tells due MayGrow Made told none made =
-    subst (λ (d : Option CoreFault). IsAnswered d MayGrow Made 0 told) (sym none) (inl (refl, made))
+pub made_returns : (expected : Option CoreFault) (MayGrow Made : Type 0) (returned : ℕ) → expected ≡ None → Made
+    → IsAnswered expected MayGrow Made 0 returned
+made_returns expected MayGrow Made returned none made =
+    subst (λ (d : Option CoreFault). IsAnswered d MayGrow Made 0 returned) (sym none) (inl (refl, made))
 
-pub lack_tells : (due : Option CoreFault) (MayGrow Made : Type 0) → due ≡ None → MayGrow
-    → IsAnswered due MayGrow Made 15 0
-lack_tells due MayGrow Made none may =
+pub lack_returns : (expected : Option CoreFault) (MayGrow Made : Type 0) → expected ≡ None → MayGrow
+    → IsAnswered expected MayGrow Made 15 0
+lack_returns expected MayGrow Made none may =
     subst (λ (d : Option CoreFault). IsAnswered d MayGrow Made 15 0) (sym none) (inr (refl, refl, may))
 
-pub due_tells : (due : Option CoreFault) (MayGrow Made : Type 0) (fault : CoreFault) → due ≡ Some fault
-    → IsAnswered due MayGrow Made (core_code fault) (core_word fault)
-due_tells due MayGrow Made fault is = refused_tells due MayGrow Made fault (inl is)
+pub expected_returns : (expected : Option CoreFault) (MayGrow Made : Type 0) (fault : CoreFault) → expected ≡ Some fault
+    → IsAnswered expected MayGrow Made (core_code fault) (core_word fault)
+expected_returns expected MayGrow Made fault is = refused_returns expected MayGrow Made fault (inl is)
 
--- items of the same node, number and stamp are refused alike if what they say is
+-- items of the same node, number and stamp are refused in the same way if their bodies are
 refused_alike : (nodes : ℕ) (past : List Step) (item : Item) (body : Body)
     → body_refusal body ≡ body_refusal item.body
     → item_refusal nodes past (an_item item.node item.number item.stamp body) ≡ item_refusal nodes past item
@@ -51,15 +52,17 @@ refused_alike nodes past item body same =
     else if nat_le item.stamp (head item.node past) then Some (Link (StampNotRising (head item.node past)))
     else of_body refusal) same
 
-pub alike_tells : (nodes : ℕ) (past : List Step) (item : Item) (body : Body) (MayGrow Made : Type 0) (fault : CoreFault)
+pub alike_returns : (nodes : ℕ) (past : List Step) (item : Item) (body : Body) (MayGrow Made : Type 0)
+    (fault : CoreFault)
     → body_refusal body ≡ body_refusal item.body → item_refusal nodes past item ≡ Some fault
     → IsAnswered (item_refusal nodes past (an_item item.node item.number item.stamp body)) MayGrow Made
     (core_code fault) (core_word fault)
-alike_tells nodes past item body MayGrow Made fault same is =
-    due_tells _ MayGrow Made fault (refused_alike nodes past item body same ∙ is)
+alike_returns nodes past item body MayGrow Made fault same is =
+    expected_returns _ MayGrow Made fault (refused_alike nodes past item body same ∙ is)
 
-pub alike_made_tells : (nodes : ℕ) (past : List Step) (item : Item) (body : Body) (MayGrow Made : Type 0) (told : ℕ)
+pub alike_made_returns : (nodes : ℕ) (past : List Step) (item : Item) (body : Body) (MayGrow Made : Type 0)
+    (returned : ℕ)
     → body_refusal body ≡ body_refusal item.body → item_refusal nodes past item ≡ None → Made
-    → IsAnswered (item_refusal nodes past (an_item item.node item.number item.stamp body)) MayGrow Made 0 told
-alike_made_tells nodes past item body MayGrow Made told same none made =
-    made_tells _ MayGrow Made told (refused_alike nodes past item body same ∙ none) made
+    → IsAnswered (item_refusal nodes past (an_item item.node item.number item.stamp body)) MayGrow Made 0 returned
+alike_made_returns nodes past item body MayGrow Made returned same none made =
+    made_returns _ MayGrow Made returned (refused_alike nodes past item body same ∙ none) made

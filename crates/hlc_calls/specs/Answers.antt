@@ -1,4 +1,4 @@
--- What C is told of a call, for one past that the store stood for.
+-- What each call returns to C, for one past that the store represented.
 use Rattle.std.specs.Prelude.{◌≡◌, ℕ, ◌+◌, ◌<◌, ◌≤◌, List, ◌∷◌, ◌++◌, length, drop, min, Option, Some, None, ⊤}
 use Rattle.hlc_node.specs.declared.item.Item.{Item}
 use Rattle.hlc_node.specs.declared.row.Row.{Row}
@@ -6,89 +6,93 @@ use Rattle.hlc_node.specs.Rows.{answer}
 use Rattle.hlc_vacuum.specs.declared.report.Report.{Report}
 use Rattle.hlc_core.specs.Past.{Step, Took, Opened, Closed, Joined, numbered, floor, opened, stamp_of}
 use Rattle.hlc_core.specs.Past.{item_refusal, join_refusal, join_at_refusal, open_refusal, room_refusal, vacuum_refusal}
-use Rattle.hlc_core.specs.Kept.{Kept, nodes, StandsFor}
+use Rattle.hlc_core.specs.StoreView.{StoreView, nodes, Represents}
 use Rattle.hlc_core.specs.Calls.{IsWrite, Vacuums}
-use Rattle.hlc_calls.specs.Told.{IsAnswered}
+use Rattle.hlc_calls.specs.Outcome.{IsAnswered}
 
--- the item was accepted, and its stamp is told; or it was refused
-abbrev pub TellsAccepted : Kept → Kept → Item → List Step → ℕ → ℕ → Type 0
-TellsAccepted old new item past code told =
+-- the item was accepted, and its stamp is returned; or it was refused
+abbrev pub ReturnsAccepted : StoreView → StoreView → Item → List Step → ℕ → ℕ → Type 0
+ReturnsAccepted old new item past code returned =
     IsAnswered (item_refusal (nodes old) past item) (IsWrite item.body)
-    ((told ≡ item.stamp) × StandsFor new (Took item ∷ past)) code told
+    ((returned ≡ item.stamp) × Represents new (Took item ∷ past)) code returned
 
--- why the item would be refused, if it would, memory aside
-abbrev pub TellsChecked : Kept → Item → List Step → ℕ → ℕ → Type 0
-TellsChecked kept item past code told = IsAnswered (item_refusal (nodes kept) past item) ⊥ (told ≡ 0) code told
+-- why the item would be refused, if it would, apart from out of memory
+abbrev pub ReturnsChecked : StoreView → Item → List Step → ℕ → ℕ → Type 0
+ReturnsChecked kept item past code returned = IsAnswered (item_refusal (nodes kept) past item) ⊥ (returned ≡ 0) code
+    returned
 
--- a node joined, and its number and its start are told; or it was refused
-abbrev pub TellsJoined : Kept → Kept → List Step → ℕ → ℕ → ℕ → Type 0
-TellsJoined old new past code node start =
+-- a node joined, and its number and its start are returned; or it was refused
+abbrev pub ReturnsJoined : StoreView → StoreView → List Step → ℕ → ℕ → ℕ → Type 0
+ReturnsJoined old new past code node start =
     IsAnswered (join_refusal (nodes old) past) ⊤
-    ((node ≡ numbered (nodes old) past) × (start ≡ floor (nodes old) past) × StandsFor new (Joined node start ∷ past))
+    ((node ≡ numbered (nodes old) past) × (start ≡ floor (nodes old) past) × Represents new (Joined node start ∷ past))
     code node
 
 -- a node joined at this start, and its number and its start are returned; or it was refused
-abbrev pub TellsJoinedAt : Kept → Kept → ℕ → List Step → ℕ → ℕ → ℕ → Type 0
-TellsJoinedAt old new start past code node told =
+abbrev pub ReturnsJoinedAt : StoreView → StoreView → ℕ → List Step → ℕ → ℕ → ℕ → Type 0
+ReturnsJoinedAt old new start past code node returned =
     IsAnswered (join_at_refusal (nodes old) past start) ⊤
-    ((node ≡ numbered (nodes old) past) × (told ≡ start) × StandsFor new (Joined node start ∷ past)) code told
+    ((node ≡ numbered (nodes old) past) × (returned ≡ start) × Represents new (Joined node start ∷ past)) code returned
 
--- a snapshot was opened at the stamp, and its id is told; or it was refused
-abbrev pub TellsOpened : Kept → Kept → ℕ → List Step → ℕ → ℕ → Type 0
-TellsOpened old new stamp past code id =
+-- a snapshot was opened at the stamp, and its id is returned; or it was refused
+abbrev pub ReturnsOpened : StoreView → StoreView → ℕ → List Step → ℕ → ℕ → Type 0
+ReturnsOpened old new stamp past code id =
     IsAnswered (open_refusal (nodes old) past stamp) ⊤
-    ((id ≡ opened past + 1) × StandsFor new (Opened stamp ∷ past)) code id
+    ((id ≡ opened past + 1) × Represents new (Opened stamp ∷ past)) code id
 
--- a snapshot was opened at the floor, and its id and its stamp are told; or it was refused
-abbrev pub TellsOpenedAtFloor : Kept → Kept → List Step → ℕ → ℕ → ℕ → Type 0
-TellsOpenedAtFloor old new past code id stamp =
+-- a snapshot was opened at the floor, and its id and its stamp are returned; or it was refused
+abbrev pub ReturnsOpenedAtFloor : StoreView → StoreView → List Step → ℕ → ℕ → ℕ → Type 0
+ReturnsOpenedAtFloor old new past code id stamp =
     IsAnswered (room_refusal past) ⊤
-    ((id ≡ opened past + 1) × (stamp ≡ floor (nodes old) past) × StandsFor new (Opened stamp ∷ past)) code id
+    ((id ≡ opened past + 1) × (stamp ≡ floor (nodes old) past) × Represents new (Opened stamp ∷ past)) code id
 
--- the snapshot of this stamp was closed, and its stamp is told; or there is none
-abbrev pub TellsClosedAt : Option ℕ → Type 0 → ℕ → ℕ → Type 0
-TellsClosedAt None Made code told = (code ≡ 10) × (told ≡ 0)
-TellsClosedAt (Some stamp) Made code told = (code ≡ 0) × (told ≡ stamp) × Made
+-- the snapshot of this stamp was closed, and its stamp is returned; or there is none
+abbrev pub ReturnsClosedAt : Option ℕ → Type 0 → ℕ → ℕ → Type 0
+ReturnsClosedAt None Made code returned = (code ≡ 10) × (returned ≡ 0)
+ReturnsClosedAt (Some stamp) Made code returned = (code ≡ 0) × (returned ≡ stamp) × Made
 
--- the snapshot of this id was closed, and its stamp is told; or there is none
-abbrev pub TellsClosed : Kept → ℕ → List Step → ℕ → ℕ → Type 0
-TellsClosed new id past code told = TellsClosedAt (stamp_of id past) (StandsFor new (Closed id ∷ past)) code told
+-- the snapshot of this id was closed, and its stamp is returned; or there is none
+abbrev pub ReturnsClosed : StoreView → ℕ → List Step → ℕ → ℕ → Type 0
+ReturnsClosed new id past code returned = ReturnsClosedAt (stamp_of id past) (Represents new (Closed id ∷ past)) code
+    returned
 
--- the value stands at the start of the buffer; or, where it does not fit, the buffer is as it was
+-- the value is at the start of the buffer; or, where it does not fit, the buffer is unchanged
 abbrev pub IsCopied : List ℕ → List ℕ → List ℕ → Type 0
 IsCopied value old new =
     (length value ≤ length old → new ≡ value ++ drop (length value) old) × (length old < length value → new ≡ old)
 
 -- 0, the length and the value; or 102, where there is none
-abbrev pub TellsAnswer : Option (List ℕ) → ℕ → ℕ → List ℕ → List ℕ → Type 0
-TellsAnswer None code len old new = (code ≡ 102) × (len ≡ 0) × (new ≡ old)
-TellsAnswer (Some value) code len old new = (code ≡ 0) × (len ≡ length value) × IsCopied value old new
+abbrev pub ReturnsAnswer : Option (List ℕ) → ℕ → ℕ → List ℕ → List ℕ → Type 0
+ReturnsAnswer None code len old new = (code ≡ 102) × (len ≡ 0) × (new ≡ old)
+ReturnsAnswer (Some value) code len old new = (code ≡ 0) × (len ≡ length value) × IsCopied value old new
 
 -- the answer at the stamp of the snapshot; or 10, where there is none
-abbrev pub TellsRead : Option ℕ → List Row → List ℕ → ℕ → ℕ → List ℕ → List ℕ → Type 0
-TellsRead None rows key code len old new = (code ≡ 10) × (len ≡ 0) × (new ≡ old)
-TellsRead (Some stamp) rows key code len old new = TellsAnswer (answer rows key stamp) code len old new
+abbrev pub ReturnsRead : Option ℕ → List Row → List ℕ → ℕ → ℕ → List ℕ → List ℕ → Type 0
+ReturnsRead None rows key code len old new = (code ≡ 10) × (len ≡ 0) × (new ≡ old)
+ReturnsRead (Some stamp) rows key code len old new = ReturnsAnswer (answer rows key stamp) code len old new
 
--- a number as 64 bits hold it: the greatest that they hold in place of one that is greater
+-- a number in 64 bits: the greatest number of 64 bits in place of a greater one
 abbrev pub narrowed : ℕ → ℕ
 narrowed number = min number 18446744073709551615
 
--- a vacuum to the stamp took place, and this of its report is returned; its floor is the stamp
-abbrev pub TellsVacuumed : Kept → Kept → ℕ → List Step → ℕ → ℕ → ℕ → ℕ → Type 0
-TellsVacuumed old new at past floor kept bytes dropped =
+-- a vacuum to the stamp took place, and these parts of its report are returned; its floor is the stamp
+abbrev pub ReturnsVacuumed : StoreView → StoreView → ℕ → List Step → ℕ → ℕ → ℕ → ℕ → Type 0
+ReturnsVacuumed old new at past floor kept bytes dropped =
     (report : Report) × Vacuums old new at past report × (floor ≡ report.floor) × (kept ≡ report.kept)
     × (bytes ≡ narrowed report.bytes) × (dropped ≡ narrowed report.dropped)
 
--- a vacuum to the floor took place, and this of its report is returned
-abbrev pub TellsVacuumedAtFloor : Kept → Kept → List Step → ℕ → ℕ → ℕ → ℕ → Type 0
-TellsVacuumedAtFloor old new past stamp kept bytes dropped =
-    TellsVacuumed old new (floor (nodes old) past) past stamp kept bytes dropped
+-- a vacuum to the floor took place, and these parts of its report are returned
+abbrev pub ReturnsVacuumedAtFloor : StoreView → StoreView → List Step → ℕ → ℕ → ℕ → ℕ → Type 0
+ReturnsVacuumedAtFloor old new past stamp kept bytes dropped =
+    ReturnsVacuumed old new (floor (nodes old) past) past stamp kept bytes dropped
 
--- the same of a vacuum to this stamp, or it was refused
-abbrev pub TellsVacuumedTo : Kept → Kept → ℕ → List Step → ℕ → ℕ → ℕ → ℕ → ℕ → Type 0
-TellsVacuumedTo old new at past code told kept bytes dropped =
-    IsAnswered (vacuum_refusal (nodes old) past at) ⊤ (TellsVacuumed old new at past told kept bytes dropped) code told
+-- the same for a vacuum to this stamp, or it was refused
+abbrev pub ReturnsVacuumedTo : StoreView → StoreView → ℕ → List Step → ℕ → ℕ → ℕ → ℕ → ℕ → Type 0
+ReturnsVacuumedTo old new at past code returned kept bytes dropped =
+    IsAnswered (vacuum_refusal (nodes old) past at) ⊤ (ReturnsVacuumed old new at past returned kept bytes dropped)
+    code returned
 
--- why a vacuum to the stamp would be refused, if it would, memory aside
-abbrev pub TellsVacuumChecked : Kept → ℕ → List Step → ℕ → ℕ → Type 0
-TellsVacuumChecked kept at past code told = IsAnswered (vacuum_refusal (nodes kept) past at) ⊥ (told ≡ 0) code told
+-- why a vacuum to the stamp would be refused, if it would, apart from out of memory
+abbrev pub ReturnsVacuumChecked : StoreView → ℕ → List Step → ℕ → ℕ → Type 0
+ReturnsVacuumChecked kept at past code returned = IsAnswered (vacuum_refusal (nodes kept) past at) ⊥ (returned ≡ 0)
+    code returned

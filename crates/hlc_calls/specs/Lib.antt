@@ -3,4 +3,4 @@ pub mod Batch
 pub mod Certified
 pub mod Listing
 pub mod Nodes
-pub mod Told
+pub mod Outcome

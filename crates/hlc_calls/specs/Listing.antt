@@ -1,31 +1,35 @@
--- How a listing is told: of each pair the key and then the value, each behind the number of its bytes.
-use Rattle.std.specs.Prelude.{◌≡◌, ℕ, List, ◌++◌, length, ⊤}
+-- How a listing is returned: for each pair the key and then the value, each preceded by the number of its bytes.
+use Rattle.std.specs.Prelude.{◌≡◌, ℕ, ◌+◌, List, ◌++◌, length, take, drop, Option, Some, None}
 use Rattle.std.specs.Int.{to_le_bytes, w64}
 use Rattle.std.specs.List.{flat_map}
-use Rattle.hlc_core.specs.declared.listing.Pair.{Pair}
-use Rattle.hlc_core.specs.Past.{Step, stamp_of, writes}
-use Rattle.hlc_core.specs.Calls.{IsListed, list_refusal}
-use Rattle.hlc_calls.specs.Told.{IsAnswered}
-use Rattle.hlc_calls.specs.Answers.{IsCopied}
+use Rattle.hlc_node.specs.declared.row.Row.{Row}
+use Rattle.hlc_columns.specs.Answers.{AreAnswers}
+use Rattle.hlc_calls.specs.Answers.{IsCopied, narrowed}
 
--- bytes behind their number, which has eight bytes, the low one first
+-- bytes preceded by their number, which has eight bytes, the low one first
 abbrev pub sized : List ℕ → List ℕ
 sized bytes = to_le_bytes w64 (length bytes) ++ bytes
 
-abbrev pub pair_bytes : Pair → List ℕ
-pair_bytes pair = sized pair.key ++ sized pair.value
+-- a key, and its value
+abbrev pub pair_bytes : List ℕ × List ℕ → List ℕ
+pair_bytes pair = sized pair.0 ++ sized pair.1
 
--- of all pairs in their order
-abbrev pub listing_bytes : List Pair → List ℕ
+-- the bytes of all pairs in their order
+abbrev pub listing_bytes : List (List ℕ × List ℕ) → List ℕ
 listing_bytes pairs = flat_map pair_bytes pairs
 
--- the keys with a value in the snapshot of this id are told: how many bytes that takes, and the bytes, if they fit
-abbrev pub IsListingTold : ℕ → List Step → ℕ → List ℕ → List ℕ → Type 0
-IsListingTold id past len old new =
-    (listing : List Pair) × IsListed (stamp_of id past) (writes past) listing
-    × (len ≡ length (listing_bytes listing)) × IsCopied (listing_bytes listing) old new
+-- a buffer with these bytes from a place on
+abbrev pub with_bytes : ℕ → List ℕ → List ℕ → List ℕ
+with_bytes at bytes old = take at old ++ (bytes ++ drop (at + length bytes) old)
 
--- they are told; or the first reason why not, or want of memory
-abbrev pub IsListedTo : ℕ → List Step → ℕ → ℕ → List ℕ → List ℕ → Type 0
-IsListedTo id past code len old new =
-    IsAnswered (list_refusal (stamp_of id past)) ⊤ (IsListingTold id past len old new) code 0
+-- the pairs are returned: how many bytes they take, and the bytes, if they fit
+abbrev pub ReturnsPairs : List (List ℕ × List ℕ) → ℕ → List ℕ → List ℕ → Type 0
+ReturnsPairs pairs len old new =
+    (len ≡ narrowed (length (listing_bytes pairs))) × IsCopied (listing_bytes pairs) old new
+
+-- the keys with a value at the stamp of the snapshot are returned with it; or 10, where there is no such snapshot
+abbrev pub ReturnsListing : Option ℕ → List Row → ℕ → ℕ → List ℕ → List ℕ → Type 0
+ReturnsListing None rows code len old new = (code ≡ 10) × (len ≡ 0) × (new ≡ old)
+ReturnsListing (Some stamp) rows code len old new =
+    (code ≡ 0) × ((pairs : List (List ℕ × List ℕ)) × AreAnswers rows stamp (λ key. Unit {0}) pairs
+    × ReturnsPairs pairs len old new)

@@ -1,7 +1,7 @@
-//! Several items at once, for callers whose calls are dear.
+//! Several items in one call, for callers for which a call is expensive.
 ghost use Rattle.std.specs.Prelude.{◌≡◌, ◌≢◌, List, true, false, MatchOption, option_copied};
 ghost use Rattle.hlc_core.specs.Past.{Step};
-ghost use Rattle.hlc_core.specs.Kept.{nodes, StandsFor};
+ghost use Rattle.hlc_core.specs.StoreView.{nodes, Represents};
 ghost use Rattle.hlc_calls.specs.Batch.{piece, lies, value_of, is_within, IsEntered, AreEntered};
 
 use crate::items;
@@ -21,7 +21,7 @@ pub struct Entry {
     pub value_len: usize,
 }
 
-/// So many bytes from this place on, if they are there.
+/// Returns so many bytes from this place on, if the bytes contain them.
 fn piece_of(bytes: &[u8], at: usize, many: usize) -> Option<&[u8]>
     ensures { MatchOption result (lies at many bytes.now ≡ false)
         (λ found. (lies at many bytes.now ≡ true) × (found.now ≡ piece at many bytes.now)) }
@@ -34,7 +34,7 @@ fn piece_of(bytes: &[u8], at: usize, many: usize) -> Option<&[u8]>
     Some(found)
 }
 
-/// The key of an entry and its value, none of a deletion, if they are there.
+/// Returns the key of an entry and its value, which is none for a deletion, if the bytes contain them.
 fn parts_of<'a>(entry: &Entry, bytes: &'a [u8]) -> Option<(&'a [u8], Option<&'a [u8]>)>
     ensures { MatchOption result (is_within bytes.now entry.now ≡ false)
         (λ parts. (is_within bytes.now entry.now ≡ true)
@@ -49,39 +49,39 @@ fn parts_of<'a>(entry: &Entry, bytes: &'a [u8]) -> Option<(&'a [u8], Option<&'a 
     Some((key, Some(value)))
 }
 
-/// Accepts the item of an entry: 0 and its stamp, or a refusal and its word, or 103.
-fn enter(core: &mut Core, entry: &Entry, bytes: &[u8], told: &mut u64) -> u32
-    ensures answer { (past : List Step) → StandsFor core.old past
-        → IsEntered core.old core.new entry.now bytes.now past result told.new }
+/// Accepts the item of an entry. Returns 0 and its stamp, or a refusal and its word, or 103.
+fn enter(core: &mut Core, entry: &Entry, bytes: &[u8], returned: &mut u64) -> u32
+    ensures answer { (past : List Step) → Represents core.old past
+        → IsEntered core.old core.new entry.now bytes.now past result returned.new }
     ensures same { result ≢ 0 → core.new ≡ core.old }
     ensures nodes { nodes core.new ≡ nodes core.old }
 {
     let Some((key, value)) = parts_of(entry, bytes) else {
-        *told = 0;
+        *returned = 0;
         return 103;
     };
     let stamp = Stamp::from_bits(entry.stamp);
     let item = ItemRef::write(entry.node, entry.number, stamp, key, value);
-    items::accept(core, &item, told)
+    items::accept(core, &item, returned)
 }
 
-/// Accepts the items of entries in turn, until one is refused: 0, or what is told of that one, and
-/// how many were accepted.
+/// Accepts the items of entries in turn, until one is refused. Returns 0, or the answer for the refused one, and how
+/// many were accepted.
 #[tactic(auto, using(crate::proofs::Batches::entered_next))]
 pub fn enter_all(
     core: &mut Core,
     entries: &[Entry],
     bytes: &[u8],
     many: &mut usize,
-    told: &mut u64,
+    returned: &mut u64,
 ) -> u32
-    ensures answer { (past : List Step) → StandsFor core.old past
-        → AreEntered core.new entries.now bytes.now past result many.new told.new }
+    ensures answer { (past : List Step) → Represents core.old past
+        → AreEntered core.new entries.now bytes.now past result many.new returned.new }
     ensures nodes { nodes core.new ≡ nodes core.old }
 {
     let mut index = 0;
     while index < entries.len() {
-        let code = enter(core, &entries[index], bytes, told);
+        let code = enter(core, &entries[index], bytes, returned);
         if code != 0 {
             *many = index;
             return code;
@@ -89,6 +89,6 @@ pub fn enter_all(
         index += 1;
     }
     *many = index;
-    *told = 0;
+    *returned = 0;
     0
 }

@@ -2,7 +2,7 @@
 ghost use Rattle.std.specs.Prelude.{◌≡◌, ◌≢◌, List, IfSome};
 ghost use Rattle.hlc_node.specs.declared.row.Row.{Row as ARow};
 ghost use Rattle.hlc_core.specs.Past.{Step, floor};
-ghost use Rattle.hlc_core.specs.Kept.{nodes, StandsFor};
+ghost use Rattle.hlc_core.specs.StoreView.{nodes, Represents};
 ghost use Rattle.hlc_core.specs.Calls.{AreRowsTo};
 ghost use Rattle.hlc_certificate.specs.CertificateText.{certificate_text};
 ghost use Rattle.hlc_calls.specs.Certified.{IsCertified, IsCertifiedTo, IsHalf};
@@ -14,7 +14,7 @@ use hlc_text::printer::Printer;
 use hlc_text::watched::Watched;
 use std::alloc::Global;
 
-/// The text of a certificate, or nothing where memory is refused.
+/// Returns the text of a certificate, or none where it runs out of memory.
 fn text_of(alloc: Global, points: &[Stamp], rows: &[Row], witnesses: &[Witness]) -> Option<Vec<u8>>
     ensures { IfSome result
         (λ text. text.items ≡ certificate_text points.now rows.now witnesses.now) }
@@ -29,7 +29,7 @@ fn text_of(alloc: Global, points: &[Stamp], rows: &[Row], witnesses: &[Witness])
     Some(writer.into_inner())
 }
 
-/// The text of the certificate of the rows up to a report's floor, or nothing where memory is refused.
+/// Returns the text of the certificate of the rows up to a report's floor, or none where it runs out of memory.
 fn certificate_of(alloc: Global, core: &Core, report: &Report) -> Option<Vec<u8>>
     ensures { IfSome result (λ text. (rows : List ARow)
         × AreRowsTo core.now.rows report.now.floor rows
@@ -40,14 +40,14 @@ fn certificate_of(alloc: Global, core: &Core, report: &Report) -> Option<Vec<u8>
     text_of(alloc, points, rows.as_slice(), report.witnesses.as_slice())
 }
 
-/// Vacuums: 0, how many bytes the certificate has and, where they fit, the bytes; or 15, where the
-/// vacuum may have taken place.
+/// Vacuums. Returns 0, the length of the certificate in bytes and, where they fit, the bytes; or 15, where the vacuum
+/// may have taken place.
 pub fn certify(alloc: Global, core: &mut Core, out: &mut [u8], len: &mut usize) -> u32
-    ensures certified { result ≡ 0 → (past : List Step) → StandsFor core.old past
+    ensures certified { result ≡ 0 → (past : List Step) → Represents core.old past
         → IsCertified core.old core.new (floor (nodes core.old) past) past
         len.new out.old out.new }
-    ensures lack { result ≢ 0 → (result ≡ 15) × (len.new ≡ 0) × (out.new ≡ out.old) }
-    ensures half { result ≢ 0 → (past : List Step) → StandsFor core.old past
+    ensures shortage { result ≢ 0 → (result ≡ 15) × (len.new ≡ 0) × (out.new ≡ out.old) }
+    ensures half { result ≢ 0 → (past : List Step) → Represents core.old past
         → IsHalf core.old core.new (floor (nodes core.old) past) past }
     ensures nodes { nodes core.new ≡ nodes core.old }
 {
@@ -64,19 +64,19 @@ pub fn certify(alloc: Global, core: &mut Core, out: &mut [u8], len: &mut usize) 
     }
 }
 
-/// Vacuums to a stamp: 0, how many bytes the certificate has and, where they fit, the bytes; or a
-/// refusal and its word; or 15, where the vacuum may have taken place.
-#[tactic(auto, using(crate::proofs::Refusals::made_tells, crate::proofs::Refusals::lack_tells))]
+/// Vacuums to a stamp. Returns 0, the length of the certificate in bytes and, where they fit, the bytes; or a refusal
+/// and its word; or 15, where the vacuum may have taken place.
+#[tactic(auto, using(crate::proofs::Refusals::made_returns, crate::proofs::Refusals::lack_returns))]
 pub fn certify_to(
     alloc: Global,
     core: &mut Core,
     at: Stamp,
     out: &mut [u8],
     len: &mut usize,
-    told: &mut u64,
+    returned: &mut u64,
 ) -> u32
-    ensures answer { (past : List Step) → StandsFor core.old past
-        → IsCertifiedTo core.old core.new at past result told.new len.new out.old out.new }
+    ensures answer { (past : List Step) → Represents core.old past
+        → IsCertifiedTo core.old core.new at past result returned.new len.new out.old out.new }
     ensures same { result ≢ 0 → result ≢ 15 → core.new ≡ core.old }
     ensures nothing { result ≢ 0 → (len.new ≡ 0) × (out.new ≡ out.old) }
     ensures nodes { nodes core.new ≡ nodes core.old }
@@ -84,9 +84,9 @@ pub fn certify_to(
     *len = 0;
     let report = match core.vacuum_to(at) {
         Ok(report) => report,
-        Err(fault) => return codes::refuse(&fault, told),
+        Err(fault) => return codes::refuse(&fault, returned),
     };
-    *told = 0;
+    *returned = 0;
     match certificate_of(alloc, core, &report) {
         Some(text) => {
             open_store::fill(text.as_slice(), out, len);

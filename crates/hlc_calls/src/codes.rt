@@ -1,4 +1,4 @@
-//! Answers as the numbers that C gets: 0 or the number of a refusal, and a word beside it.
+//! Answers as the numbers that C gets: 0 or the number of a refusal, and a word with it.
 ghost use Rattle.std.specs.Prelude.{◌≡◌, MatchResult};
 ghost use Rattle.hlc_core.specs.Faults.{core_code, core_word};
 
@@ -13,11 +13,11 @@ pub(crate) fn refuse(fault: &CoreFault, word: &mut u64) -> u32
 }
 
 /// Writes a word, and returns 0; or writes the word of a refusal, and returns its number.
-pub(crate) fn answer(given: Result<u64, CoreFault>, word: &mut u64) -> u32
-    ensures { MatchResult given (λ value. (result ≡ 0) × (word.new ≡ value))
+pub(crate) fn answer(outcome: Result<u64, CoreFault>, word: &mut u64) -> u32
+    ensures { MatchResult outcome (λ value. (result ≡ 0) × (word.new ≡ value))
         (λ fault. (result ≡ core_code fault) × (word.new ≡ core_word fault)) }
 {
-    match given {
+    match outcome {
         Ok(value) => {
             *word = value;
             0

@@ -1,24 +1,24 @@
-//! Items that C hands in as numbers and bytes.
+//! Items that C passes as numbers and bytes.
 ghost use Rattle.std.specs.Prelude.{◌≡◌, ◌≢◌, ◌∷◌, List, None, OnErr, IfOk, MatchResult};
 ghost use Rattle.hlc_node.specs.declared.item.Body.{Body as ABody};
 ghost use Rattle.hlc_node.specs.Items.{an_item, body_refusal};
 ghost use Rattle.hlc_node.specs.declared.item.Body.TheVariants.{Report as a_report, Retire as a_retire};
 ghost use Rattle.hlc_core.specs.Past.{Step, Took, item_refusal};
-ghost use Rattle.hlc_core.specs.Kept.{nodes, StandsFor};
+ghost use Rattle.hlc_core.specs.StoreView.{nodes, Represents};
 ghost use Rattle.hlc_core.specs.Calls.{IsWrite, IsRefusal};
-ghost use Rattle.hlc_calls.specs.Answers.{TellsAccepted, TellsChecked};
+ghost use Rattle.hlc_calls.specs.Answers.{ReturnsAccepted, ReturnsChecked};
 
 use crate::codes::{answer, refuse};
 use hlc_core::{Core, CoreFault, ItemRef, Stamp};
 
-/// Why an item would be refused, memory aside: 0, or the refusal and its word. Another item of the same node, number
-/// and stamp is refused alike if what it says is.
-#[tactic(auto, using(crate::proofs::Refusals::due_tells, crate::proofs::Refusals::made_tells, crate::proofs::Refusals::alike_tells, crate::proofs::Refusals::alike_made_tells))]
+/// Returns why an item would be refused, apart from out of memory: 0, or the refusal and its word. Another item of the
+/// same node, number and stamp is refused in the same way if its body is.
+#[tactic(auto, using(crate::proofs::Refusals::expected_returns, crate::proofs::Refusals::made_returns, crate::proofs::Refusals::alike_returns, crate::proofs::Refusals::alike_made_returns))]
 pub fn check(core: &Core, item: &ItemRef<'_>, word: &mut u64) -> u32
-    ensures own { (past : List Step) → StandsFor core.now past
-        → TellsChecked core.now item.now past result word.new }
+    ensures own { (past : List Step) → Represents core.now past
+        → ReturnsChecked core.now item.now past result word.new }
     ensures alike { (body : ABody) → body_refusal body ≡ body_refusal item.now.body
-        → (past : List Step) → StandsFor core.now past → TellsChecked core.now
+        → (past : List Step) → Represents core.now past → ReturnsChecked core.now
         (an_item item.now.node item.now.number item.now.stamp body) past result word.new }
 {
     match core.check_ref(item) {
@@ -30,22 +30,22 @@ pub fn check(core: &Core, item: &ItemRef<'_>, word: &mut u64) -> u32
     }
 }
 
-/// Why a report, or a retirement, would be refused: 0, or the refusal and its word.
+/// Returns why a report, or a retirement, would be refused: 0, or the refusal and its word.
 pub fn check_plain(core: &Core, node: u16, number: u64, stamp: Stamp, word: &mut u64) -> u32
-    ensures report { (past : List Step) → StandsFor core.now past
-        → TellsChecked core.now (an_item node number stamp a_report) past result word.new }
-    ensures retire { (past : List Step) → StandsFor core.now past
-        → TellsChecked core.now (an_item node number stamp a_retire) past result word.new }
+    ensures report { (past : List Step) → Represents core.now past
+        → ReturnsChecked core.now (an_item node number stamp a_report) past result word.new }
+    ensures retire { (past : List Step) → Represents core.now past
+        → ReturnsChecked core.now (an_item node number stamp a_retire) past result word.new }
 {
     check(core, &ItemRef::report(node, number, stamp), word)
 }
 
-/// Accepts an item: the stamp that it has, or why it is refused.
+/// Accepts an item. Returns its stamp, or why it is refused.
 fn accept_item(core: &mut Core, item: &ItemRef<'_>) -> Result<u64, CoreFault>
     ensures ok { IfOk result (λ stamp. stamp ≡ item.now.stamp) }
-    ensures stands { (past : List Step) → StandsFor core.old past → MatchResult result
+    ensures represents { (past : List Step) → Represents core.old past → MatchResult result
         (λ _. (item_refusal (nodes core.old) past item.now ≡ None)
-        × StandsFor core.new (Took item.now ∷ past))
+        × Represents core.new (Took item.now ∷ past))
         (λ fault.
         IsRefusal (item_refusal (nodes core.old) past item.now) (IsWrite item.now.body) fault) }
     ensures err { OnErr result (core.new ≡ core.old) }
@@ -57,11 +57,11 @@ fn accept_item(core: &mut Core, item: &ItemRef<'_>) -> Result<u64, CoreFault>
     }
 }
 
-/// Accepts an item: 0 and its stamp, or a refusal and its word.
-#[tactic(auto, using(crate::proofs::Refusals::refused_tells, crate::proofs::Refusals::made_tells))]
+/// Accepts an item. Returns 0 and its stamp, or a refusal and its word.
+#[tactic(auto, using(crate::proofs::Refusals::refused_returns, crate::proofs::Refusals::made_returns))]
 pub fn accept(core: &mut Core, item: &ItemRef<'_>, word: &mut u64) -> u32
-    ensures answer { (past : List Step) → StandsFor core.old past
-        → TellsAccepted core.old core.new item.now past result word.new }
+    ensures answer { (past : List Step) → Represents core.old past
+        → ReturnsAccepted core.old core.new item.now past result word.new }
     ensures same { result ≢ 0 → core.new ≡ core.old }
     ensures nodes { nodes core.new ≡ nodes core.old }
 {

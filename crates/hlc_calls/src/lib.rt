@@ -1,5 +1,5 @@
-//! What the calls of the C library do with an open store and with a node: each answer is 0, the number
-//! of a refusal, or a number above 100, and what it says besides stands in a word or in bytes.
+//! What the calls of the C library do with an open store and with a node. Each answer is 0, the number of a refusal, or
+//! a number above 100. What else it has to say is in a word or in bytes.
 #![tactic(auto)]
 
 pub mod batch;

@@ -1,54 +1,89 @@
 //! A listing, as bytes.
-ghost use Rattle.std.specs.Prelude.{◌≡◌, ◌≢◌, ◌++◌, List, IfOk, OnOk};
-ghost use Rattle.hlc_core.specs.Past.{Step};
-ghost use Rattle.hlc_core.specs.Kept.{StandsFor};
-ghost use Rattle.hlc_calls.specs.Listing.{sized, listing_bytes, IsListedTo};
+ghost use Rattle.std.specs.Prelude.{◌≡◌, ◌≢◌, ◌≤◌, ◌+◌, List, length, MatchOption};
+ghost use Rattle.hlc_core.specs.Past.{Step, stamp_of, writes};
+ghost use Rattle.hlc_core.specs.StoreView.{Represents};
+ghost use Rattle.hlc_calls.specs.Listing.{sized, pair_bytes, listing_bytes, with_bytes, ReturnsListing};
 
-use crate::open_store;
-use hlc_core::{Core, Pair};
-use hlc_values::NoMemory;
-use std::alloc::Global;
+use hlc_core::{Answers, Core};
 
-/// Adds bytes behind their number.
-fn put_sized(into: &mut Vec<u8>, bytes: &[u8]) -> Result<(), NoMemory>
-    ensures { OnOk result (into.new.items ≡ into.old.items ++ sized bytes.now) }
+/// Returns how many bytes the pairs take, or none where 64 bits do not hold the number.
+#[tactic(auto, using(crate::proofs::Bytes::listing_length, crate::proofs::Bytes::pair_length))]
+fn listing_len(answers: Answers<'_>) -> Option<usize>
+    ensures { MatchOption result (18446744073709551616 ≤ length (listing_bytes answers.entry))
+        (λ len. len ≡ length (listing_bytes answers.entry)) }
 {
-    into.extend_from_slice(&(bytes.len() as u64).to_le_bytes())?;
-    into.extend_from_slice(bytes)?;
-    Ok(())
-}
-
-/// The bytes of a listing.
-#[tactic(auto, using(crate::proofs::Bytes::listed_next))]
-fn bytes_of(alloc: Global, pairs: &[Pair]) -> Result<Vec<u8>, NoMemory>
-    ensures { IfOk result (λ bytes. bytes.items ≡ listing_bytes pairs.now) }
-{
-    let mut bytes = Vec::new(alloc);
-    for pair in pairs {
-        put_sized(&mut bytes, pair.key.as_slice())?;
-        put_sized(&mut bytes, pair.value.as_slice())?;
+    let mut len = 0usize;
+    for (key, value) in answers {
+        len = len
+            .checked_add(16)?
+            .checked_add(key.len())?
+            .checked_add(value.len())?;
     }
-    Ok(bytes)
+    Some(len)
 }
 
-/// Lists the keys with a value in a snapshot: 0, how many bytes that takes and, where they fit, the
-/// bytes; or 10 or 15.
-#[tactic(auto, using(crate::proofs::Refusals::refused_tells, crate::proofs::Refusals::made_tells))]
-pub fn list(alloc: Global, core: &Core, id: u64, out: &mut [u8], len: &mut usize) -> u32
-    ensures listed { (past : List Step) → StandsFor core.now past
-        → IsListedTo id past result len.new out.old out.new }
+/// Writes bytes to a place of a buffer, and returns the place after them.
+fn put(out: &mut [u8], at: usize, bytes: &[u8]) -> usize
+    requires { at + length bytes.now ≤ length out.now }
+    ensures end { result ≡ at + length bytes.now }
+    ensures put { out.new ≡ with_bytes at bytes.now out.old }
+{
+    let end = at + bytes.len();
+    out[at..end].copy_from_slice(bytes);
+    end
+}
+
+/// Writes bytes, preceded by their number, in the same way.
+fn put_sized(out: &mut [u8], at: usize, bytes: &[u8]) -> usize
+    requires { at + length (sized bytes.now) ≤ length out.now }
+    ensures end { result ≡ at + length (sized bytes.now) }
+    ensures put { out.new ≡ with_bytes at (sized bytes.now) out.old }
+{
+    let start = put(out, at, &(bytes.len() as u64).to_le_bytes());
+    put(out, start, bytes)
+}
+
+/// Writes a key and its value in the same way.
+fn put_pair(out: &mut [u8], at: usize, key: &[u8], value: &[u8]) -> usize
+    requires { at + length (pair_bytes (key.now, value.now)) ≤ length out.now }
+    ensures end { result ≡ at + length (pair_bytes (key.now, value.now)) }
+    ensures put { out.new ≡ with_bytes at (pair_bytes (key.now, value.now)) out.old }
+{
+    let between = put_sized(out, at, key);
+    put_sized(out, between, value)
+}
+
+/// Writes the pairs to the start of a buffer that has room for them.
+fn put_listing(out: &mut [u8], answers: Answers<'_>)
+    requires { length (listing_bytes answers) ≤ length out.now }
+    ensures { out.new ≡ with_bytes 0 (listing_bytes answers.entry) out.old }
+{
+    let mut at = 0usize;
+    for (key, value) in answers {
+        at = put_pair(out, at, key, value);
+    }
+}
+
+/// Lists the keys with a value in a snapshot. Returns 0, the length of the listing in bytes and, where they fit, the
+/// bytes; or 10. It iterates over the keys twice, and takes no memory.
+pub fn list(core: &Core, id: u64, out: &mut [u8], len: &mut usize) -> u32
+    ensures listed { (past : List Step) → Represents core.now past
+        → ReturnsListing (stamp_of id past) (writes past) result len.new out.old out.new }
     ensures nothing { result ≢ 0 → (len.new ≡ 0) × (out.new ≡ out.old) }
 {
     *len = 0;
-    let listing = match core.list(id) {
-        Ok(listing) => listing,
-        Err(fault) => return fault.code(),
+    let Some(view) = core.at(id) else {
+        return 10;
     };
-    match bytes_of(alloc, listing.as_slice()) {
-        Ok(bytes) => {
-            open_store::fill(bytes.as_slice(), out, len);
-            0
+    let room = out.len();
+    match listing_len(view.iter()) {
+        None => *len = usize::MAX,
+        Some(total) => {
+            *len = total;
+            if total <= room {
+                put_listing(out, view.iter());
+            }
         }
-        Err(_) => 15,
     }
+    0
 }

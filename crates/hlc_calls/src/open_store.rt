@@ -1,19 +1,20 @@
-//! The calls of an open store, with their answers as the numbers that C is told.
+//! The calls of an open store, with their answers as the numbers that C gets.
 ghost use Rattle.std.specs.Prelude.{◌≡◌, ◌≢◌, List, ◌∷◌, length, None, OnErr, IfOk, MatchResult};
 ghost use Rattle.hlc_core.specs.Past.{Step, stamp_of, writes};
-ghost use Rattle.hlc_core.specs.Kept.{nodes, StandsFor};
-ghost use Rattle.hlc_calls.specs.Answers.{TellsJoined, TellsJoinedAt, TellsOpened, TellsOpenedAtFloor};
-ghost use Rattle.hlc_calls.specs.Answers.{TellsClosed, IsCopied, TellsRead, TellsVacuumedAtFloor, TellsVacuumedTo};
-ghost use Rattle.hlc_calls.specs.Answers.{TellsVacuumChecked, narrowed};
+ghost use Rattle.hlc_core.specs.StoreView.{nodes, Represents};
+ghost use Rattle.hlc_calls.specs.Answers.{ReturnsJoined, ReturnsJoinedAt, ReturnsOpened, ReturnsOpenedAtFloor};
+ghost use Rattle.hlc_calls.specs.Answers.{ReturnsClosed, IsCopied, ReturnsRead, ReturnsVacuumedAtFloor};
+ghost use Rattle.hlc_calls.specs.Answers.{ReturnsVacuumedTo};
+ghost use Rattle.hlc_calls.specs.Answers.{ReturnsVacuumChecked, narrowed};
 
 use crate::codes::{answer, refuse};
 use hlc_core::{Core, Report, Stamp};
 
-/// A node joins: 0, its number and the stamp of its start, or a refusal.
-#[tactic(auto, using(crate::proofs::Refusals::refused_tells, crate::proofs::Refusals::made_tells))]
+/// Lets a node join. Returns 0, its number and the stamp of its start, or a refusal.
+#[tactic(auto, using(crate::proofs::Refusals::refused_returns, crate::proofs::Refusals::made_returns))]
 pub fn join(core: &mut Core, node: &mut u16, start: &mut u64) -> u32
-    ensures answer { (past : List Step) → StandsFor core.old past
-        → TellsJoined core.old core.new past result node.new start.new }
+    ensures answer { (past : List Step) → Represents core.old past
+        → ReturnsJoined core.old core.new past result node.new start.new }
     ensures same { result ≢ 0 → (core.new ≡ core.old) × (node.new ≡ 0) × (start.new ≡ 0) }
     ensures nodes { nodes core.new ≡ nodes core.old }
 {
@@ -32,80 +33,80 @@ pub fn join(core: &mut Core, node: &mut u16, start: &mut u64) -> u32
     }
 }
 
-/// A node joins at this start: 0, its number and its start, or a refusal and its word.
-#[tactic(auto, using(crate::proofs::Refusals::refused_tells, crate::proofs::Refusals::made_tells))]
-pub fn join_at(core: &mut Core, start: Stamp, node: &mut u16, told: &mut u64) -> u32
-    ensures answer { (past : List Step) → StandsFor core.old past
-        → TellsJoinedAt core.old core.new start past result node.new told.new }
+/// Lets a node join at this start. Returns 0, its number and its start, or a refusal and its word.
+#[tactic(auto, using(crate::proofs::Refusals::refused_returns, crate::proofs::Refusals::made_returns))]
+pub fn join_at(core: &mut Core, start: Stamp, node: &mut u16, returned: &mut u64) -> u32
+    ensures answer { (past : List Step) → Represents core.old past
+        → ReturnsJoinedAt core.old core.new start past result node.new returned.new }
     ensures same { result ≢ 0 → (core.new ≡ core.old) × (node.new ≡ 0) }
     ensures nodes { nodes core.new ≡ nodes core.old }
 {
     match core.join_at(start) {
         Ok(number) => {
             *node = number;
-            *told = start.bits();
+            *returned = start.bits();
             0
         }
         Err(fault) => {
             *node = 0;
-            refuse(&fault, told)
+            refuse(&fault, returned)
         }
     }
 }
 
-/// Opens a snapshot: 0 and its id, or a refusal and its word.
-#[tactic(auto, using(crate::proofs::Refusals::refused_tells, crate::proofs::Refusals::made_tells))]
-pub fn open(core: &mut Core, stamp: Stamp, told: &mut u64) -> u32
-    ensures answer { (past : List Step) → StandsFor core.old past
-        → TellsOpened core.old core.new stamp past result told.new }
+/// Opens a snapshot. Returns 0 and its id, or a refusal and its word.
+#[tactic(auto, using(crate::proofs::Refusals::refused_returns, crate::proofs::Refusals::made_returns))]
+pub fn open(core: &mut Core, stamp: Stamp, returned: &mut u64) -> u32
+    ensures answer { (past : List Step) → Represents core.old past
+        → ReturnsOpened core.old core.new stamp past result returned.new }
     ensures same { result ≢ 0 → core.new ≡ core.old }
     ensures nodes { nodes core.new ≡ nodes core.old }
 {
-    answer(core.open(stamp), told)
+    answer(core.open(stamp), returned)
 }
 
-/// Opens a snapshot at the floor: 0, its id and its stamp, or a refusal.
-#[tactic(auto, using(crate::proofs::Refusals::refused_tells, crate::proofs::Refusals::made_tells))]
-pub fn open_floor(core: &mut Core, told: &mut u64, stamp: &mut u64) -> u32
-    ensures answer { (past : List Step) → StandsFor core.old past
-        → TellsOpenedAtFloor core.old core.new past result told.new stamp.new }
+/// Opens a snapshot at the floor (closed timestamp). Returns 0, its id and its stamp, or a refusal.
+#[tactic(auto, using(crate::proofs::Refusals::refused_returns, crate::proofs::Refusals::made_returns))]
+pub fn open_floor(core: &mut Core, returned: &mut u64, stamp: &mut u64) -> u32
+    ensures answer { (past : List Step) → Represents core.old past
+        → ReturnsOpenedAtFloor core.old core.new past result returned.new stamp.new }
     ensures same { result ≢ 0 → (core.new ≡ core.old) × (stamp.new ≡ 0) }
     ensures nodes { nodes core.new ≡ nodes core.old }
 {
     match core.open_floor() {
         Ok(opening) => {
             let (id, at) = opening;
-            *told = id;
+            *returned = id;
             *stamp = at.bits();
             0
         }
         Err(fault) => {
             *stamp = 0;
-            refuse(&fault, told)
+            refuse(&fault, returned)
         }
     }
 }
 
-/// Closes a snapshot: 0 and its stamp, or 10.
-pub fn close(core: &mut Core, id: u64, told: &mut u64) -> u32
-    ensures answer { (past : List Step) → StandsFor core.old past
-        → TellsClosed core.new id past result told.new }
+/// Closes a snapshot. Returns 0 and its stamp, or 10.
+pub fn close(core: &mut Core, id: u64, returned: &mut u64) -> u32
+    ensures answer { (past : List Step) → Represents core.old past
+        → ReturnsClosed core.new id past result returned.new }
     ensures same { result ≢ 0 → core.new ≡ core.old }
     ensures nodes { nodes core.new ≡ nodes core.old }
 {
     match core.close(id) {
         Ok(stamp) => {
-            *told = stamp.bits();
+            *returned = stamp.bits();
             0
         }
         Err(_) => {
-            *told = 0;
+            *returned = 0;
             10
         }
     }
 }
 
-/// Writes bytes to the start of the buffer where they fit, and tells their length.
+/// Writes bytes to the start of the buffer where they fit, and returns their length.
 pub fn fill(value: &[u8], out: &mut [u8], len: &mut usize)
     ensures len { len.new ≡ length value.now }
     ensures copied { IsCopied value.now out.old out.new }
@@ -117,10 +118,10 @@ pub fn fill(value: &[u8], out: &mut [u8], len: &mut usize)
     }
 }
 
-/// Reads a key: 0 with the value, 102 where there is none, or 10.
+/// Reads a key. Returns 0 with the value, 102 where there is none, or 10.
 pub fn read(core: &Core, id: u64, key: &[u8], out: &mut [u8], len: &mut usize) -> u32
-    ensures { (past : List Step) → StandsFor core.now past
-        → TellsRead (stamp_of id past) (writes past) key.now result len.new out.old out.new }
+    ensures { (past : List Step) → Represents core.now past
+        → ReturnsRead (stamp_of id past) (writes past) key.now result len.new out.old out.new }
 {
     *len = 0;
     match core.read(id, key) {
@@ -133,7 +134,7 @@ pub fn read(core: &Core, id: u64, key: &[u8], out: &mut [u8], len: &mut usize) -
     }
 }
 
-/// The number, or the greatest of 64 bits where it is greater.
+/// Returns the number, or the greatest one of 64 bits where it is greater.
 fn narrow(number: u128) -> u64
     ensures { result ≡ narrowed number }
 {
@@ -143,15 +144,15 @@ fn narrow(number: u128) -> u64
     18_446_744_073_709_551_615
 }
 
-/// The number of stored rows.
+/// Returns the number of stored rows.
 pub fn rows(core: &Core) -> u64
     ensures { result ≡ narrowed (length core.now.rows) }
 {
     narrow(core.rows())
 }
 
-/// Writes what a report says: its floor, how many rows were kept, what they cost in bytes, and how many
-/// were dropped.
+/// Writes the content of a report: its floor, how many rows were kept, what they cost in bytes, and how many were
+/// dropped.
 fn put_report(report: &Report, floor: &mut u64, kept: &mut u64, bytes: &mut u64, dropped: &mut u64)
     ensures counts { (floor.new ≡ report.now.floor) × (kept.new ≡ report.now.kept) }
     ensures sizes { (bytes.new ≡ narrowed report.now.bytes)
@@ -163,8 +164,7 @@ fn put_report(report: &Report, floor: &mut u64, kept: &mut u64, bytes: &mut u64,
     *dropped = narrow(report.dropped);
 }
 
-/// Vacuums: 0, the floor, how many rows were kept, what they cost in bytes, and how many were
-/// dropped; or 15.
+/// Vacuums. Returns 0, the floor, how many rows were kept, what they cost in bytes, and how many were dropped; or 15.
 pub fn vacuum(
     core: &mut Core,
     floor: &mut u64,
@@ -172,10 +172,10 @@ pub fn vacuum(
     bytes: &mut u64,
     dropped: &mut u64,
 ) -> u32
-    ensures vacuumed { result ≡ 0 → (past : List Step) → StandsFor core.old past
-        → TellsVacuumedAtFloor core.old core.new past
+    ensures vacuumed { result ≡ 0 → (past : List Step) → Represents core.old past
+        → ReturnsVacuumedAtFloor core.old core.new past
         floor.new kept.new bytes.new dropped.new }
-    ensures due { result ≢ 0 → (result ≡ 15) × (core.new ≡ core.old) }
+    ensures expected { result ≢ 0 → (result ≡ 15) × (core.new ≡ core.old) }
     ensures nothing { result ≢ 0
         → (floor.new ≡ 0) × (kept.new ≡ 0) × (bytes.new ≡ 0) × (dropped.new ≡ 0) }
     ensures nodes { nodes core.new ≡ nodes core.old }
@@ -193,34 +193,34 @@ pub fn vacuum(
     }
 }
 
-/// Tells why a vacuum to a stamp would be refused, memory aside: 0, or the refusal and its word.
-#[tactic(auto, using(crate::proofs::Refusals::due_tells, crate::proofs::Refusals::made_tells))]
-pub fn check_vacuum(core: &Core, at: Stamp, told: &mut u64) -> u32
-    ensures { (past : List Step) → StandsFor core.now past
-        → TellsVacuumChecked core.now at past result told.new }
+/// Returns why a vacuum to a stamp would be refused, apart from out of memory: 0, or the refusal and its word.
+#[tactic(auto, using(crate::proofs::Refusals::expected_returns, crate::proofs::Refusals::made_returns))]
+pub fn check_vacuum(core: &Core, at: Stamp, returned: &mut u64) -> u32
+    ensures { (past : List Step) → Represents core.now past
+        → ReturnsVacuumChecked core.now at past result returned.new }
 {
     match core.check_vacuum(at) {
         Ok(()) => {
-            *told = 0;
+            *returned = 0;
             0
         }
-        Err(fault) => refuse(&fault, told),
+        Err(fault) => refuse(&fault, returned),
     }
 }
 
-/// Vacuums to a stamp: 0, the stamp, how many rows were kept, what they cost in bytes, and how many
-/// were dropped; or a refusal and its word.
-#[tactic(auto, using(crate::proofs::Refusals::refused_tells, crate::proofs::Refusals::made_tells))]
+/// Vacuums to a stamp. Returns 0, the stamp, how many rows were kept, what they cost in bytes, and how many were
+/// dropped; or a refusal and its word.
+#[tactic(auto, using(crate::proofs::Refusals::refused_returns, crate::proofs::Refusals::made_returns))]
 pub fn vacuum_to(
     core: &mut Core,
     at: Stamp,
-    told: &mut u64,
+    returned: &mut u64,
     kept: &mut u64,
     bytes: &mut u64,
     dropped: &mut u64,
 ) -> u32
-    ensures answer { (past : List Step) → StandsFor core.old past
-        → TellsVacuumedTo core.old core.new at past result told.new
+    ensures answer { (past : List Step) → Represents core.old past
+        → ReturnsVacuumedTo core.old core.new at past result returned.new
         kept.new bytes.new dropped.new }
     ensures same { result ≢ 0 → core.new ≡ core.old }
     ensures nothing { result ≢ 0 → (kept.new ≡ 0) × (bytes.new ≡ 0) × (dropped.new ≡ 0) }
@@ -231,9 +231,9 @@ pub fn vacuum_to(
     *dropped = 0;
     match core.vacuum_to(at) {
         Ok(report) => {
-            put_report(&report, told, kept, bytes, dropped);
+            put_report(&report, returned, kept, bytes, dropped);
             0
         }
-        Err(fault) => refuse(&fault, told),
+        Err(fault) => refuse(&fault, returned),
     }
 }

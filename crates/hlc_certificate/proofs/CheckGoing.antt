@@ -1,5 +1,5 @@
--- In the midst of a certificate: the lines so far say some points, rows and witnesses, and the lists hold these, if
--- there was memory.
+-- In the middle of a certificate: the lines so far say some points, rows and witnesses, and the lists contain these, if
+-- memory did not run out.
 use Rattle.std.proofs.Common.{◌≡◌, ℕ, ◌+◌, ◌<◌, ◌≤◌, ◌∙◌, sym, ap, refl, subst, List, [], ◌∷◌, ◌++◌, length, map}
 use Rattle.std.proofs.Common.{get_or, Option, Some, None, append_assoc, arith, length-append, IfSome, IsSomeAnd, eqb}
 use Rattle.std.proofs.Common.{cond}
@@ -16,7 +16,7 @@ use Rattle.hlc_certificate.specs.CheckLine.{check_line, HasCheckLine, section_of
 use Rattle.hlc_certificate.specs.CheckLine.{all_said, AreLinesOf, IsFirstBadLine}
 use Rattle.hlc_certificate.specs.CheckLists.{HasLists, AddsLine}
 
--- a line tells its section by its first byte
+-- the first byte of a line determines its section
 abbrev section_at : List ℕ → ℕ
 section_at line = cond (eqb (get_or line 0 0) 112) 0 (cond (eqb (get_or line 0 0) 114) 1 2)
 
@@ -25,15 +25,15 @@ section_of_line (Point stamp) = refl
 section_of_line (Row key stamp node value) = refl
 section_of_line (Witness key before at) = refl
 
--- no line stands in a later section than this
+-- no line belongs to a later section than this
 abbrev NoneLater : ℕ → List (List ℕ) → Type 0
 NoneLater section lines = AllByRecursion (λ line. section_at line ≤ section) lines
 
--- no line stands in an earlier section than this
+-- no line belongs to an earlier section than this
 abbrev NoneEarlier : ℕ → List (List ℕ) → Type 0
 NoneEarlier section lines = AllByRecursion (λ line. section ≤ section_at line) lines
 
--- each line is followed by no line of an earlier section
+-- no line is followed by a line of an earlier section
 abbrev InOrder : List (List ℕ) → Type 0
 InOrder [] = Unit {0}
 InOrder (line ∷ lines) = NoneEarlier (section_at line) lines × InOrder lines
@@ -72,14 +72,14 @@ all_more : {X : Type 0} (P : X → Type 0) (xs : List X) (x : X) → AllByRecurs
 all_more P [] x all more = (more, tt)
 all_more P (y ∷ xs) x all more = (all.0, all_more P xs x all.1 more)
 
--- the last of lines in order stands in the latest section
+-- the last of some lines in order belongs to the latest section
 none_later : (front : List (List ℕ)) (line : List ℕ) → InOrder (front ++ line ∷ [])
     → NoneLater (section_at line) front
 none_later [] line order = tt
 none_later (next ∷ front) line order =
     (last_of_all (λ (l : List ℕ). section_at next ≤ section_at l) front line order.0, none_later front line order.1)
 
--- the last of the lines says something that has a line
+-- the last of the lines says something that can be written as a line
 last_says : (xs : List CheckLine) (front : List (List ℕ)) (line : List ℕ) → AllByRecursion HasCheckLine xs
     → front ++ line ∷ [] ≡ map check_line xs → (x : CheckLine) × HasCheckLine x × (line ≡ check_line x)
 last_says [] [] line has is = absurd (omega (arith, ap length is))
@@ -100,7 +100,7 @@ pub record Going (text rest : List ℕ) (number section : ℕ) (kept : Option Ce
   pub no_witnesses : section < 2 → witnesses ≡ []
   pub reached : (latest : ℕ) → NoneLater latest front → section ≤ latest
   pub count : number ≡ length front + 1
-  pub held : IfSome kept (λ certificate. HasLists certificate points rows witnesses)
+  pub loaded : IfSome kept (λ certificate. HasLists certificate points rows witnesses)
   pub lost : kept ≡ None → 0 < length front
 
 some_not_none : (certificate : Certificate) → Some certificate ≡ None → ⊥
@@ -119,7 +119,7 @@ going_first text certificate empty = record {
   no_witnesses = λ low. refl;
   reached = λ latest none. omega arith;
   count = refl;
-  held = empty;
+  loaded = empty;
   lost = λ none. absurd (some_not_none certificate none);
 }
 
@@ -144,7 +144,7 @@ going_bad text rest after line number section kept going first none = record {
   count = going.count;
 }
 
--- what is said is one line more
+-- what is said is one more line
 said_point : (points : List ℕ) (p : ℕ)
     → all_said (points ++ p ∷ []) [] [] ≡ all_said points [] [] ++ says_point p ∷ []
 said_point [] p = refl
@@ -163,7 +163,7 @@ said_witness [] [] (x ∷ witnesses) w = ap (λ l. says_witness x ∷ l) (said_w
 said_witness [] (r ∷ rows) witnesses w = ap (λ l. says_row r ∷ l) (said_witness [] rows witnesses w)
 said_witness (q ∷ points) rows witnesses w = ap (λ l. says_point q ∷ l) (said_witness points rows witnesses w)
 
--- one line more is that of what is said then
+-- one more line is the line of what is then said
 lines_more : (xs ys : List CheckLine) (x : CheckLine) (front : List (List ℕ)) (line : List ℕ) → ys ≡ xs ++ x ∷ []
     → AllByRecursion HasCheckLine xs × (front ≡ map check_line xs) → HasCheckLine x → line ≡ check_line x
     → AllByRecursion HasCheckLine ys × (front ++ line ∷ [] ≡ map check_line ys)
@@ -185,50 +185,50 @@ row_more : (points : List ℕ) (rows : List ARow) (witnesses : List AWitness) (r
 row_more points rows [] r no_witnesses = said_row points rows r
 row_more points rows (w ∷ witnesses) r no_witnesses = absurd (omega (arith, ap length no_witnesses))
 
--- the lists hold what is said, if there are lists
-held_point : (kept new : Option Certificate) (points : List ℕ) (rows : List ARow) (witnesses : List AWitness) (p : ℕ)
+-- the lists contain what is said, if there are lists
+loaded_point : (kept new : Option Certificate) (points : List ℕ) (rows : List ARow) (witnesses : List AWitness) (p : ℕ)
     → IfSome kept (λ c. HasLists c points rows witnesses)
     → IfSome new (λ c. IsSomeAnd kept (λ old. AddsLine old c (says_point p)))
     → IfSome new (λ c. HasLists c (points ++ p ∷ []) rows witnesses)
-held_point kept None points rows witnesses p held adds = tt
-held_point None (Some c) points rows witnesses p held adds = absurd adds
-held_point (Some old) (Some c) points rows witnesses p held adds =
+loaded_point kept None points rows witnesses p loaded adds = tt
+loaded_point None (Some c) points rows witnesses p loaded adds = absurd adds
+loaded_point (Some old) (Some c) points rows witnesses p loaded adds =
     record {
-      points_are = adds.points_are ∙ ap (λ l. l ++ p ∷ []) held.points_are;
+      points_are = adds.points_are ∙ ap (λ l. l ++ p ∷ []) loaded.points_are;
       rows_are = adds.rows_are
-          ∙ held.rows_are;
-      witnesses_are = adds.witnesses_are ∙ held.witnesses_are;
+          ∙ loaded.rows_are;
+      witnesses_are = adds.witnesses_are ∙ loaded.witnesses_are;
     }
 
-held_row : (kept new : Option Certificate) (points : List ℕ) (rows : List ARow) (witnesses : List AWitness) (r : ARow)
+loaded_row : (kept new : Option Certificate) (points : List ℕ) (rows : List ARow) (witnesses : List AWitness) (r : ARow)
     → IfSome kept (λ c. HasLists c points rows witnesses)
     → IfSome new (λ c. IsSomeAnd kept (λ old. AddsLine old c (says_row r)))
     → IfSome new (λ c. HasLists c points (rows ++ r ∷ []) witnesses)
-held_row kept None points rows witnesses r held adds = tt
-held_row None (Some c) points rows witnesses r held adds = absurd adds
-held_row (Some old) (Some c) points rows witnesses r held adds =
+loaded_row kept None points rows witnesses r loaded adds = tt
+loaded_row None (Some c) points rows witnesses r loaded adds = absurd adds
+loaded_row (Some old) (Some c) points rows witnesses r loaded adds =
     record {
-      points_are = adds.points_are ∙ held.points_are;
+      points_are = adds.points_are ∙ loaded.points_are;
       rows_are = adds.rows_are
-          ∙ ap (λ l. l ++ r ∷ []) held.rows_are;
-      witnesses_are = adds.witnesses_are ∙ held.witnesses_are;
+          ∙ ap (λ l. l ++ r ∷ []) loaded.rows_are;
+      witnesses_are = adds.witnesses_are ∙ loaded.witnesses_are;
     }
 
-held_witness : (kept new : Option Certificate) (points : List ℕ) (rows : List ARow) (witnesses : List AWitness)
+loaded_witness : (kept new : Option Certificate) (points : List ℕ) (rows : List ARow) (witnesses : List AWitness)
     (w : AWitness) → IfSome kept (λ c. HasLists c points rows witnesses)
     → IfSome new (λ c. IsSomeAnd kept (λ old. AddsLine old c (says_witness w)))
     → IfSome new (λ c. HasLists c points rows (witnesses ++ w ∷ []))
-held_witness kept None points rows witnesses w held adds = tt
-held_witness None (Some c) points rows witnesses w held adds = absurd adds
-held_witness (Some old) (Some c) points rows witnesses w held adds =
+loaded_witness kept None points rows witnesses w loaded adds = tt
+loaded_witness None (Some c) points rows witnesses w loaded adds = absurd adds
+loaded_witness (Some old) (Some c) points rows witnesses w loaded adds =
     record {
-      points_are = adds.points_are ∙ held.points_are;
+      points_are = adds.points_are ∙ loaded.points_are;
       rows_are = adds.rows_are
-          ∙ held.rows_are;
-      witnesses_are = adds.witnesses_are ∙ ap (λ l. l ++ w ∷ []) held.witnesses_are;
+          ∙ loaded.rows_are;
+      witnesses_are = adds.witnesses_are ∙ ap (λ l. l ++ w ∷ []) loaded.witnesses_are;
     }
 
--- a line of a section has been reached with it
+-- the section of the last line is no later than the latest one
 reached_more : (front : List (List ℕ)) (line : List ℕ) (x : CheckLine) → line ≡ check_line x → (latest : ℕ)
     → NoneLater latest (front ++ line ∷ []) → section_of x ≤ latest
 reached_more front line x is latest none =
@@ -245,7 +245,7 @@ count_more : (front : List (List ℕ)) (line : List ℕ) (number : ℕ) → numb
     → number + 1 ≡ length (front ++ line ∷ []) + 1
 count_more front line number count = omega (arith, count, length-append front (line ∷ []))
 
--- one good line more
+-- one more good line
 pub going_more : (text rest after line : List ℕ) (number section : ℕ) (kept new : Option Certificate) (x : CheckLine)
     → Going text rest number section kept → lines_of rest ≡ line ∷ lines_of after → HasCheckLine x
     × (section ≤ section_of x) → line ≡ check_line x → IfSome new (λ c. IsSomeAnd kept (λ old. AddsLine old c x))
@@ -265,7 +265,7 @@ going_more text rest after line number section kept new (Point p) going first ha
       no_witnesses = λ low. no_witnesses;
       reached = reached_more going.front line (Point p) is;
       count = count_more going.front line number going.count;
-      held = held_point kept new going.points going.rows going.witnesses p going.held adds;
+      loaded = loaded_point kept new going.points going.rows going.witnesses p going.loaded adds;
       lost = λ none. omega (arith, length-append going.front (line ∷ []));
     }
 going_more text rest after line number section kept new (Row key stamp node value) going first has is adds =
@@ -283,7 +283,7 @@ going_more text rest after line number section kept new (Row key stamp node valu
       no_witnesses = λ low. no_witnesses;
       reached = reached_more going.front line (Row key stamp node value) is;
       count = count_more going.front line number going.count;
-      held = held_row kept new going.points going.rows going.witnesses row going.held adds;
+      loaded = loaded_row kept new going.points going.rows going.witnesses row going.loaded adds;
       lost = λ none. omega (arith, length-append going.front (line ∷ []));
     }
 going_more text rest after line number section kept new (Witness key before at) going first has is adds =
@@ -300,6 +300,6 @@ going_more text rest after line number section kept new (Witness key before at) 
       no_witnesses = λ low. absurd (omega (arith, low));
       reached = reached_more going.front line (Witness key before at) is;
       count = count_more going.front line number going.count;
-      held = held_witness kept new going.points going.rows going.witnesses witness going.held adds;
+      loaded = loaded_witness kept new going.points going.rows going.witnesses witness going.loaded adds;
       lost = λ none. omega (arith, length-append going.front (line ∷ []));
     }

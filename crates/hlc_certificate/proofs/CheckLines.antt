@@ -1,5 +1,4 @@
--- A line of a certificate is parted into the words that it was put together from, and its first word tells what it
--- says.
+-- A line of a certificate is split into the words from which it was built, and its first word determines what it says.
 use Rattle.std.proofs.Common.{◌≡◌, ℕ, ◌<◌, ◌^◌, ap, refl, List, [], ◌∷◌, get_or, Option, Some, None, arith, eqb}
 use Rattle.std.specs.Prelude.{decimal, codes, ◌≢◌}
 use Rattle.std.specs.List.{slice_split, AllByRecursion}
@@ -29,7 +28,7 @@ are_words (Row key stamp node value) has = (
 are_words (Witness key before at) has =
     (refl, (bytes_are_word key, (before_is_word before has.1, (stamp_is_word at has.2, tt))))
 
--- the words of a line are the words that it was put together from
+-- the words of a line are the words from which it was built
 pub words_of_check_line : (x : CheckLine) → HasCheckLine x
     → slice_split (λ b. eqb b 32) (check_line x) ≡ check_words x
 words_of_check_line (Point stamp) has =
@@ -46,7 +45,7 @@ abbrev pub initial : List (List ℕ) → ℕ
 initial [] = 0
 initial (word ∷ words) = get_or word 0 0
 
--- where the words behind the first do not fit, nothing has the words
+-- where the words after the first do not fit, nothing has these words
 pub no_row : (args : List (List ℕ))
     → ((x : List ℕ × ℕ × ℕ × Option (List ℕ)) → AreBytes x.0 × (x.1 < 2 ^ 64) × (x.2 < 2 ^ 16) × HasValueWords x.3
     → args ≢ bytes_token x.0 ∷ stamp_text x.1 ∷ decimal x.2 ∷ value_words x.3) → (x : CheckLine) → HasCheckLine x

@@ -1,4 +1,4 @@
--- An input has one answer: its lines say one certificate, which is one or has one first reason, and no good line is a
+-- An input has one answer: its lines say one certificate, which is valid or has one first reason, and no good line is a
 -- bad one.
 use Rattle.std.proofs.Common.{◌≡◌, ℕ, ◌+◌, ◌∙◌, sym, ap, ap₂, refl, subst, List, [], ◌∷◌, ◌++◌, length}
 use Rattle.std.proofs.Common.{map, All, append_assoc, arith, ◌⊎◌, inl, inr}
@@ -15,7 +15,7 @@ use Rattle.hlc_witness.specs.Certificate.{IsCertificate, RowsAscend, NoneAbove}
 use Rattle.hlc_witness.specs.Cost.{AreInLimits, rows_cost}
 use Rattle.hlc_witness.specs.Reasons.{IsFault, IsFirstFault, IsFirstReason, AreSorted}
 use Rattle.hlc_witness.proofs.FaultLemmas.{changes_no_fault}
-use Rattle.hlc_certificate.specs.declared.check.CheckEnd.TheVariants.{Fewest, NotShown, BadLine, NoMemory, NotHeld}
+use Rattle.hlc_certificate.specs.declared.check.CheckEnd.TheVariants.{Fewest, NotShown, BadLine, NoMemory, NotLoaded}
 use Rattle.hlc_certificate.specs.declared.check.CheckEnd.TheVariants.{WriteFault}
 use Rattle.hlc_text.specs.declared.input.InputFault.TheVariants.{NoMemory as no_memory, ReadFault, TooLong}
 use Rattle.hlc_text.specs.Lines.{lines_of}
@@ -25,7 +25,7 @@ use Rattle.hlc_certificate.specs.Check.{ShowsFewest, ShowsReason}
 use Rattle.hlc_certificate.specs.OneAnswer.{OneAnswer}
 use Rattle.hlc_certificate.proofs.OneCertificate.{one_certificate}
 
--- Of two places in a list, they are one, or the first is before the second, or behind it.
+-- Two places in a list are equal, or the first is before the second, or after it.
 abbrev Places : {X : Type 0} → List X → X → List X → X → Type 0
 Places {X} front x other y =
     ((front ≡ other) × (x ≡ y))
@@ -35,7 +35,7 @@ further : {X : Type 0} (z : X) (front other : List X) (x y : X) → Places front
     → Places (z ∷ front) x (z ∷ other) y
 further z front other x y (inl same) = inl (ap (λ l. z ∷ l) same.0, same.1)
 further z front other x y (inr (inl before)) = inr (inl (before.0, ap (λ l. z ∷ l) before.1))
-further z front other x y (inr (inr behind)) = inr (inr (behind.0, ap (λ l. z ∷ l) behind.1))
+further z front other x y (inr (inr after)) = inr (inr (after.0, ap (λ l. z ∷ l) after.1))
 
 places : {X : Type 0} (front other : List X) (x y : X) (back rest : List X) → front ++ x ∷ back ≡ other ++ y ∷ rest
     → Places front x other y
@@ -48,7 +48,7 @@ places {X} (z ∷ front) (u ∷ other) x y back rest same =
     subst (λ (w : X). Places (z ∷ front) x (w ∷ other) y) first
     (further z front other x y (places front other x y back rest more))
 
--- one witness has one first fault
+-- one witness has only one first fault
 same_fault : (rows : List ARow) (points : List ℕ) (front : List AWitness) (witness : AWitness)
     (reason other : AReason) → IsFault rows points front witness reason → IsFault rows points front witness other
     → reason ≡ other
@@ -72,7 +72,7 @@ same_fault rows points front witness SameAnswers WitnessNotAscending fault also 
 same_fault rows points front witness SameAnswers NotAtPoint fault also = absurd (also.1 fault.1)
 same_fault rows points front witness SameAnswers SameAnswers fault also = refl
 
--- the first fault is one
+-- there is only one first fault
 one_fault : (rows : List ARow) (points : List ℕ) (witnesses : List AWitness) (reason other : AReason)
     → IsFirstFault rows points witnesses reason → IsFirstFault rows points witnesses other → reason ≡ other
 one_fault rows points witnesses reason other first also =
@@ -86,12 +86,12 @@ one_fault rows points witnesses reason other first also =
       | inr (inl before) ↦ absurd
           (changes_no_fault rows points also.front first.front before.0 first.witness reason before.1 also.ascend
           also.each first.fault)
-      | inr (inr behind) ↦ absurd
-          (changes_no_fault rows points first.front also.front behind.0 also.witness other behind.1 first.ascend
+      | inr (inr after) ↦ absurd
+          (changes_no_fault rows points first.front also.front after.0 also.witness other after.1 first.ascend
           first.each also.fault)
     ]
 
--- each kind of first reason leaves no other
+-- each kind of first reason excludes any other
 by_points : (rows : List ARow) (points : List ℕ) (witnesses : List AWitness) (reason : AReason)
     → (PointsAscend points → ⊥) → IsFirstReason rows points witnesses reason → PointsNotAscending ≡ reason
 by_points rows points witnesses PointsNotAscending none first = refl
@@ -190,7 +190,7 @@ by_limits rows points witnesses SameAnswers sorted up each same out first =
 by_limits rows points witnesses CountsDiffer sorted up each same out first = absurd (first.3 same)
 by_limits rows points witnesses RowOutOfLimits sorted up each same out first = refl
 
--- the first reason is one
+-- there is only one first reason
 one_reason : (rows : List ARow) (points : List ℕ) (witnesses : List AWitness) (reason other : AReason)
     → IsFirstReason rows points witnesses reason → IsFirstReason rows points witnesses other → reason ≡ other
 one_reason rows points witnesses PointsNotAscending other first also =
@@ -210,7 +210,7 @@ one_reason rows points witnesses CountsDiffer other first also =
 one_reason rows points witnesses RowOutOfLimits other first also =
     by_limits rows points witnesses other first.0 first.1 first.2 first.3 first.4 also
 
--- what is said of one certificate is said of the other
+-- what is true of one certificate is true of the other
 along : (P : List ARow → List ℕ → List AWitness → Type 0) (lines : List (List ℕ)) (points points2 : List ℕ)
     (rows rows2 : List ARow) (witnesses witnesses2 : List AWitness) → AreLinesOf points rows witnesses lines
     → AreLinesOf points2 rows2 witnesses2 lines → P rows points witnesses → P rows2 points2 witnesses2
@@ -249,7 +249,7 @@ together : (line said : List ℕ) (front lines : List (List ℕ)) → line ≡ s
     → line ∷ front ≡ said ∷ lines
 together line said front lines one more = cc
 
--- one good line more in front
+-- one more good line in front
 one_witness_more : (w : AWitness) (line : List ℕ) (front : List (List ℕ)) → HasCheckLine (says_witness w)
     → line ≡ check_line (says_witness w) → (some : List AWitness) × AreLinesOf [] [] some front
     → (some : List AWitness) × AreLinesOf [] [] some (line ∷ front)
@@ -288,7 +288,7 @@ one_point_more p line front has one (points, rows, witnesses, are) = (
   ),
 )
 
--- the first of some good lines are good
+-- the first ones of some good lines are good
 good_witnesses : (front back : List (List ℕ)) (witnesses : List AWitness) → AreLinesOf [] [] witnesses (front ++ back)
     → (some : List AWitness) × AreLinesOf [] [] some front
 good_witnesses [] back witnesses are = ([], (tt, refl))
@@ -318,7 +318,7 @@ good_lines (line ∷ front) back (p ∷ points) rows witnesses are =
     let more : front ++ back ≡ map check_line (all_said points rows witnesses) = cc in
     one_point_more p line front are.0.0 one (good_lines front back points rows witnesses (are.0.1, more))
 
--- a line that is bad behind those before it is bad in all that begin so
+-- a line that is bad after those before it is bad in all lists of lines that begin so
 no_good : (front mid : List (List ℕ)) (line : List ℕ) (lines : List (List ℕ)) → lines ≡ front ++ line ∷ mid
     → (AreGoodLines (front ++ line ∷ []) → ⊥) → AreGoodLines lines → ⊥
 no_good front mid line lines is bad (points, rows, witnesses, are) =
@@ -335,7 +335,7 @@ bad_once lines number other first also =
     elim (places first.front also.front first.line also.line first.back also.back (sym first.order ∙ also.order)) [
       | inl same ↦ first.count ∙ ap (λ (l : List (List ℕ)). length l + 1) same.0 ∙ sym also.count
       | inr (inl before) ↦ absurd (no_good first.front before.0 first.line also.front before.1 first.bad also.good)
-      | inr (inr behind) ↦ absurd (no_good also.front behind.0 also.line first.front behind.1 also.bad first.good)
+      | inr (inr after) ↦ absurd (no_good also.front after.0 also.line first.front after.1 also.bad first.good)
     ]
 
 fewest_good : (lines : List (List ℕ)) (count bytes : ℕ) → ShowsFewest lines count bytes → AreGoodLines lines
@@ -345,33 +345,33 @@ reason_good : (lines : List (List ℕ)) (reason : AReason) → ShowsReason lines
 reason_good lines reason is = (is.points, is.rows, is.witnesses, is.lines_are)
 
 pub one_answer : OneAnswer
-one_answer input (NotHeld no_memory) finish is also e f = inr (inl refl)
+one_answer input (NotLoaded no_memory) finish is also e f = inr (inl refl)
 one_answer input NoMemory finish is also e f = inr (inl refl)
-one_answer input (NotHeld ReadFault) finish is also e f = absurd (e refl)
+one_answer input (NotLoaded ReadFault) finish is also e f = absurd (e refl)
 one_answer input WriteFault finish is also e f = absurd is
-one_answer input end (NotHeld no_memory) is also e f = inr (inr refl)
+one_answer input end (NotLoaded no_memory) is also e f = inr (inr refl)
 one_answer input end NoMemory is also e f = inr (inr refl)
-one_answer input end (NotHeld ReadFault) is also e f = absurd (f refl)
+one_answer input end (NotLoaded ReadFault) is also e f = absurd (f refl)
 one_answer input end WriteFault is also e f = absurd also
 one_answer input (Fewest m b) (Fewest n k) is also e f =
     inl (fewest_once (lines_of input) m n b k is.1 also.1)
 one_answer input (Fewest m b) (NotShown q) is also e f = absurd (not_both (lines_of input) m b q is.1 also.1)
 one_answer input (Fewest m b) (BadLine n) is also e f =
     absurd (bad_not_good (lines_of input) n also.1 (fewest_good (lines_of input) m b is.1))
-one_answer input (Fewest m b) (NotHeld TooLong) is also e f = absurd (omega (arith, is.0, also))
+one_answer input (Fewest m b) (NotLoaded TooLong) is also e f = absurd (omega (arith, is.0, also))
 one_answer input (NotShown r) (Fewest n k) is also e f = absurd (not_both (lines_of input) n k r also.1 is.1)
 one_answer input (NotShown r) (NotShown q) is also e f =
     inl (ap NotShown (reason_once (lines_of input) r q is.1 also.1))
 one_answer input (NotShown r) (BadLine n) is also e f =
     absurd (bad_not_good (lines_of input) n also.1 (reason_good (lines_of input) r is.1))
-one_answer input (NotShown r) (NotHeld TooLong) is also e f = absurd (omega (arith, is.0, also))
+one_answer input (NotShown r) (NotLoaded TooLong) is also e f = absurd (omega (arith, is.0, also))
 one_answer input (BadLine m) (Fewest n k) is also e f =
     absurd (bad_not_good (lines_of input) m is.1 (fewest_good (lines_of input) n k also.1))
 one_answer input (BadLine m) (NotShown q) is also e f =
     absurd (bad_not_good (lines_of input) m is.1 (reason_good (lines_of input) q also.1))
 one_answer input (BadLine m) (BadLine n) is also e f = inl (ap BadLine (bad_once (lines_of input) m n is.1 also.1))
-one_answer input (BadLine m) (NotHeld TooLong) is also e f = absurd (omega (arith, is.0, also))
-one_answer input (NotHeld TooLong) (Fewest n k) is also e f = absurd (omega (arith, is, also.0))
-one_answer input (NotHeld TooLong) (NotShown q) is also e f = absurd (omega (arith, is, also.0))
-one_answer input (NotHeld TooLong) (BadLine n) is also e f = absurd (omega (arith, is, also.0))
-one_answer input (NotHeld TooLong) (NotHeld TooLong) is also e f = inl refl
+one_answer input (BadLine m) (NotLoaded TooLong) is also e f = absurd (omega (arith, is.0, also))
+one_answer input (NotLoaded TooLong) (Fewest n k) is also e f = absurd (omega (arith, is, also.0))
+one_answer input (NotLoaded TooLong) (NotShown q) is also e f = absurd (omega (arith, is, also.0))
+one_answer input (NotLoaded TooLong) (BadLine n) is also e f = absurd (omega (arith, is, also.0))
+one_answer input (NotLoaded TooLong) (NotLoaded TooLong) is also e f = inl refl

@@ -1,5 +1,5 @@
 -- The text of a certificate is that of its points, of its rows and of its witnesses, one after another; and its lines
--- are those that were printed, since none of them holds a line feed.
+-- are those that were printed, since none of them contains a line feed.
 use Rattle.std.proofs.Common.{◌≡◌, ℕ, ◌+◌, ◌<◌, ◌∙◌, sym, ap, refl, subst, eqb}
 use Rattle.std.proofs.Common.{List, [], ◌∷◌, ◌++◌, map, take, length, get_or, Option, Some, None, append_assoc}
 use Rattle.std.specs.List.{flat_map, slice_split, AllByRecursion}
@@ -24,11 +24,11 @@ use Rattle.hlc_certificate.proofs.CheckLines.{are_words}
 abbrev pub all_lines : {X : Type 0} → (X → List ℕ) → List X → List ℕ
 all_lines line xs = flat_map printed (map line xs)
 
--- what each of some items says has a line
+-- what each of some items says can be written as a line
 abbrev pub AllHaveLines : {X : Type 0} → (X → CheckLine) → List X → Type 0
 AllHaveLines says xs = AllByRecursion HasCheckLine (map says xs)
 
--- one line more of a list that is printed line by line
+-- one more line of a list that is printed line by line
 pub printed_next : {X W : Type 0} {contents : W → Option (List ℕ)} {old mid new : Printer W} (line : X → List ℕ)
     (xs : List X) (i : ℕ) (d : X) → i < length xs → d ≡ get_or xs i d
     → Prints contents old mid (all_lines line (take i xs))
@@ -42,7 +42,7 @@ all_both : {X : Type 0} (P : X → Type 0) (xs ys : List X) → AllByRecursion P
 all_both P [] ys first second = second
 all_both P (x ∷ xs) ys first second = (first.0, all_both P xs ys first.1 second)
 
--- one item more that says what has a line
+-- one more item, whose content can be written as a line
 pub fits_next : {X : Type 0} (says : X → CheckLine) (xs : List X) (i : ℕ) (d : X) → i < length xs → d ≡ get_or xs i d
     → AllHaveLines says (take i xs) → HasCheckLine (says d) → AllHaveLines says (take (i + 1) xs)
 fits_next {X} says xs i d within is first second =
@@ -52,7 +52,7 @@ fits_next {X} says xs i d within is first second =
     ap (map says) item ∙ map-append says (take i xs) (d ∷ []) in
     subst (AllByRecursion HasCheckLine) (sym said) (all_both HasCheckLine _ _ first (second, tt))
 
--- all that is said has lines
+-- all that is said can be written as lines
 pub all_fit : (points : List ℕ) (rows : List ARow) (witnesses : List AWitness) → AllHaveLines says_point points
     → AllHaveLines says_row rows → AllHaveLines says_witness witnesses
     → AllByRecursion HasCheckLine (all_said points rows witnesses)
@@ -83,7 +83,7 @@ text_append xs ys =
     ap (flat_map printed) (map-append check_line xs ys)
     ∙ flat_map-append printed (map check_line xs) (map check_line ys)
 
--- the text of the three lists is that of all that is said
+-- the text of the three lists is the text of all that is said
 pub all_printed : (points : List ℕ) (rows : List ARow) (witnesses : List AWitness)
     → (all_lines point_line points ++ all_lines row_line rows) ++ all_lines witness_line witnesses
     ≡ certificate_text points rows witnesses

@@ -1,14 +1,14 @@
--- What is printed is read back, and where witnesses show that the rows are the fewest, this is its one answer.
+-- What is printed is read back, and where witnesses show that the rows are the fewest, this is the only answer.
 use Rattle.std.proofs.Common.{ℕ, ap, refl, List, length, get_or, arith, inl, inr}
 use Rattle.std.specs.Prelude.{◌≢◌}
 use Rattle.hlc_witness.specs.Cost.{rows_cost}
 use Rattle.hlc_witness.proofs.CertificateLemmas.{certificates_show_fewest, certificates_show_cheapest}
-use Rattle.hlc_certificate.specs.declared.check.CheckEnd.TheVariants.{Fewest, NotHeld}
+use Rattle.hlc_certificate.specs.declared.check.CheckEnd.TheVariants.{Fewest, NotLoaded}
 use Rattle.hlc_text.specs.declared.input.InputFault.TheVariants.{ReadFault}
 use Rattle.hlc_certificate.specs.CheckLine.{all_said}
 use Rattle.hlc_certificate.specs.CertificateText.{certificate_text}
 use Rattle.hlc_certificate.specs.Check.{MayAnswer}
-use Rattle.hlc_certificate.specs.OneAnswer.{TellsNoMemory}
+use Rattle.hlc_certificate.specs.OneAnswer.{ReportsNoMemory}
 use Rattle.hlc_certificate.specs.ReadBack.{PrintedIsRead, PrintedShowsFewest}
 use Rattle.hlc_certificate.proofs.PrintedLines.{lines_again}
 use Rattle.hlc_certificate.proofs.OneAnswer.{one_answer}
@@ -16,17 +16,17 @@ use Rattle.hlc_certificate.proofs.OneAnswer.{one_answer}
 pub printed_is_read : PrintedIsRead
 printed_is_read points rows witnesses has = (has, lines_again (all_said points rows witnesses) has)
 
--- that rows are the fewest tells of no fault of a read, and of no want of memory
-read_well : (count bytes : ℕ) → Fewest count bytes ≢ NotHeld ReadFault
+-- that rows are the fewest reports no failed read, and no out of memory
+read_well : (count bytes : ℕ) → Fewest count bytes ≢ NotLoaded ReadFault
 read_well count bytes same = cc
 
-tells_more : (count bytes : ℕ) → TellsNoMemory (Fewest count bytes) → ⊥
-tells_more count bytes tells = absurd (omega (arith, ap (λ (text : List ℕ). get_or text 0 0) tells))
+reports_more : (count bytes : ℕ) → ReportsNoMemory (Fewest count bytes) → ⊥
+reports_more count bytes is = absurd (omega (arith, ap (λ (text : List ℕ). get_or text 0 0) is))
 
 pub printed_shows_fewest : PrintedShowsFewest
 printed_shows_fewest points rows witnesses lines certificate fits end may well =
     let text = certificate_text points rows witnesses in
-    let due : MayAnswer text (Fewest (length rows) (rows_cost rows)) = (
+    let expected : MayAnswer text (Fewest (length rows) (rows_cost rows)) = (
       fits,
       record {
         points = points;
@@ -40,9 +40,9 @@ printed_shows_fewest points rows witnesses lines certificate fits end may well =
         bytes_is = refl;
       },
     ) in
-    elim (one_answer text end (Fewest (length rows) (rows_cost rows)) may due well
+    elim (one_answer text end (Fewest (length rows) (rows_cost rows)) may expected well
     (read_well (length rows) (rows_cost rows))) [
       | inl same ↦ inl same
       | inr (inl lost) ↦ inr lost
-      | inr (inr other) ↦ absurd (tells_more (length rows) (rows_cost rows) other)
+      | inr (inr other) ↦ absurd (reports_more (length rows) (rows_cost rows) other)
     ]

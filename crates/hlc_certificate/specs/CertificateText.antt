@@ -14,7 +14,7 @@ point_line point = check_line (says_point point)
 abbrev pub row_line : Row → List ℕ
 row_line row = check_line (says_row row)
 
--- the line of a change, as a certificate has it
+-- the line of a change, in the form of a certificate
 abbrev pub witness_line : Witness → List ℕ
 witness_line witness = check_line (says_witness witness)
 

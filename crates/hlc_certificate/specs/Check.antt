@@ -14,7 +14,7 @@ use Rattle.hlc_witness.specs.Cost.{Cheapest as AreCheapest, rows_cost}
 use Rattle.hlc_witness.specs.Certificate.{IsCertificate}
 use Rattle.hlc_witness.specs.Reasons.{IsFirstReason, reason_number}
 use Rattle.hlc_certificate.specs.declared.check.CheckEnd.{CheckEnd}
-use Rattle.hlc_certificate.specs.declared.check.CheckEnd.TheVariants.{Fewest, NotShown, BadLine, NoMemory, NotHeld}
+use Rattle.hlc_certificate.specs.declared.check.CheckEnd.TheVariants.{Fewest, NotShown, BadLine, NoMemory, NotLoaded}
 use Rattle.hlc_certificate.specs.declared.check.CheckEnd.TheVariants.{WriteFault}
 use Rattle.hlc_text.specs.declared.input.InputFault.TheVariants.{ReadFault}
 use Rattle.hlc_text.specs.Input.{IsInput, MayFault, FaultTakes, fault_line}
@@ -22,7 +22,7 @@ use Rattle.hlc_text.specs.Lines.{lines_of}
 use Rattle.hlc_certificate.specs.CheckLine.{AreLinesOf, AreGoodLines, IsFirstBadLine}
 use Rattle.hlc_text.specs.Lines.{bad_line}
 
--- the rows of a certificate are the fewest and the cheapest of all that answer as they do at its points
+-- the rows of a certificate are the fewest and the cheapest of all that give the same answers at its points
 pub record ShowsFewest (lines : List (List ℕ)) (count bytes : ℕ) : Type 0 where
   pub points : List ℕ
   pub rows : List ARow
@@ -34,7 +34,7 @@ pub record ShowsFewest (lines : List (List ℕ)) (count bytes : ℕ) : Type 0 wh
   pub cheapest : AreCheapest rows rows points
   pub bytes_is : bytes ≡ rows_cost rows
 
--- the lines are no certificate, and this is the first reason that holds
+-- the lines are no certificate, and this is the first reason that applies
 pub record ShowsReason (lines : List (List ℕ)) (reason : AReason) : Type 0 where
   pub points : List ℕ
   pub rows : List ARow
@@ -43,29 +43,28 @@ pub record ShowsReason (lines : List (List ℕ)) (reason : AReason) : Type 0 whe
   pub refused : IsCertificate rows points witnesses → ⊥
   pub first : IsFirstReason rows points witnesses reason
 
--- what may be the end for an input: a bad line comes before all that the lines say, and also where there is no memory
--- for that
+-- the possible ends for an input: a bad line comes before all that the lines say, even if memory runs out for that
 abbrev pub MayAnswer : List ℕ → CheckEnd → Type 0
 MayAnswer input (Fewest count bytes) = (length input ≤ INPUT_LIMIT) × ShowsFewest (lines_of input) count bytes
 MayAnswer input (NotShown reason) = (length input ≤ INPUT_LIMIT) × ShowsReason (lines_of input) reason
 MayAnswer input (BadLine number) = (length input ≤ INPUT_LIMIT) × IsFirstBadLine (lines_of input) number
 MayAnswer input NoMemory = (length input ≤ INPUT_LIMIT) × (0 < length (lines_of input)) × AreGoodLines (lines_of input)
-MayAnswer input (NotHeld fault) = MayFault input fault
--- a failed write is no answer: it cuts that off
+MayAnswer input (NotLoaded fault) = MayFault input fault
+-- a failed write is no answer, since it cuts the answer off
 MayAnswer input WriteFault = ⊥
 
--- the input was read whole and held, and then it came to this end
-abbrev pub IsOfHeld : CheckEnd → Type 0
-IsOfHeld (Fewest count bytes) = ⊤
-IsOfHeld (NotShown reason) = ⊤
-IsOfHeld (BadLine number) = ⊤
-IsOfHeld NoMemory = ⊤
-IsOfHeld (NotHeld fault) = ⊥
-IsOfHeld WriteFault = ⊥
+-- the input was read whole and loaded, and then the check ended like this
+abbrev pub IsOfLoaded : CheckEnd → Type 0
+IsOfLoaded (Fewest count bytes) = ⊤
+IsOfLoaded (NotShown reason) = ⊤
+IsOfLoaded (BadLine number) = ⊤
+IsOfLoaded NoMemory = ⊤
+IsOfLoaded (NotLoaded fault) = ⊥
+IsOfLoaded WriteFault = ⊥
 
--- What may have been taken from the reader when a check came to its end, as of a run.
+-- What may have been taken from the reader when a check ended, as for a run.
 abbrev pub MayTake : List ℕ → List ℕ → CheckEnd → Type 0
-MayTake input taken (NotHeld fault) = FaultTakes taken fault
+MayTake input taken (NotLoaded fault) = FaultTakes taken fault
 MayTake input taken (Fewest count bytes) = taken ≡ input
 MayTake input taken (NotShown reason) = taken ≡ input
 MayTake input taken (BadLine number) = taken ≡ input
@@ -76,17 +75,17 @@ MayTake input taken WriteFault = ⊥
 abbrev pub fewest_line : ℕ → ℕ → List ℕ
 fewest_line count bytes = (codes "fewest " ++ decimal count) ++ (codes " bytes " ++ decimal bytes)
 
--- the one line of an end; a failed write prints nothing more
+-- the only line for an end; a failed write prints nothing more
 abbrev pub answer_output : CheckEnd → List ℕ
 answer_output (Fewest count bytes) = printed (fewest_line count bytes)
 answer_output (NotShown reason) = printed (codes "refused 22 reason " ++ decimal (reason_number reason))
 answer_output (BadLine number) = printed (bad_line number)
 answer_output NoMemory = printed (codes "refused 15")
-answer_output (NotHeld fault) = printed (fault_line fault)
+answer_output (NotLoaded fault) = printed (fault_line fault)
 answer_output WriteFault = []
 
 -- A certificate was read and answered: there are an input, and an end that it may have, whose line was printed.
--- `remaining` and `contents` tell what the reader has left and what the writer holds, where that is known.
+-- `remaining` and `contents` are what the reader has left and what the writer contains, where that is known.
 pub record RunsCheck {R W : Type 0} (remaining : R → Option (List ℕ)) (contents : W → Option (List ℕ))
     (reader reader_after : Watched R) (writer writer_after : Watched W) (result : CheckEnd) : Type 0 where
   pub input : List ℕ
@@ -99,7 +98,7 @@ pub record RunsCheck {R W : Type 0} (remaining : R → Option (List ℕ)) (conte
   pub may_answer : MayAnswer input end
   -- the end's line was written, or a beginning of it where the writer failed
   pub wrote : Writes contents writer writer_after (answer_output end)
-  pub read_fault : (end ≡ NotHeld ReadFault) ↔ (has_failed reader_after ≡ true)
+  pub read_fault : (end ≡ NotLoaded ReadFault) ↔ (has_failed reader_after ≡ true)
   -- a failed write cuts the end off
   pub end_is : has_failed writer_after ≡ false → result ≡ end
   pub write_fault : (result ≡ WriteFault) ↔ (has_failed writer_after ≡ true)
@@ -110,5 +109,5 @@ check_status (Fewest count bytes) = 0
 check_status (NotShown reason) = 2
 check_status (BadLine number) = 2
 check_status NoMemory = 2
-check_status (NotHeld fault) = 2
+check_status (NotLoaded fault) = 2
 check_status WriteFault = 3

@@ -1,4 +1,4 @@
--- The lines of a certificate: what each of them says, its one spelling, and which line is the first bad one.
+-- The lines of a certificate: what each of them says, its only spelling, and which line is the first bad one.
 use Rattle.std.specs.Prelude.{◌≡◌, ℕ, ◌+◌, ◌<◌, ◌^◌, List, [], ◌∷◌, ◌++◌, length, map, codes, decimal, Option, Some}
 use Rattle.std.specs.Prelude.{None, ⊤}
 use Rattle.std.specs.List.{AllByRecursion}
@@ -15,7 +15,7 @@ abbrev pub value_words : Option (List ℕ) → List (List ℕ)
 value_words None = codes "delete" ∷ []
 value_words (Some value) = codes "value" ∷ bytes_token value ∷ []
 
--- the word of the point before a change, or of none
+-- the word for the point before a change, or for none
 abbrev pub before_token : Option ℕ → List ℕ
 before_token None = codes "none"
 before_token (Some stamp) = stamp_text stamp
@@ -27,11 +27,11 @@ check_words (Row key stamp node value) =
     codes "row" ∷ bytes_token key ∷ stamp_text stamp ∷ decimal node ∷ value_words value
 check_words (Witness key before at) = codes "witness" ∷ bytes_token key ∷ before_token before ∷ stamp_text at ∷ []
 
--- the one line that says this
+-- the only line that says this
 abbrev pub check_line : CheckLine → List ℕ
 check_line says = spaced (check_words says)
 
--- a value has words where it is of bytes
+-- a value can be written as words if it consists of bytes
 abbrev pub HasValueWords : Option (List ℕ) → Type 0
 HasValueWords None = ⊤
 HasValueWords (Some value) = AreBytes value
@@ -41,27 +41,27 @@ abbrev pub HasBeforeToken : Option ℕ → Type 0
 HasBeforeToken None = ⊤
 HasBeforeToken (Some stamp) = stamp < 2 ^ 64
 
--- what has a line: stamps below 2^64, a node below 2^16, and bytes
+-- what can be written as a line: stamps below 2^64, a node below 2^16, and bytes
 abbrev pub HasCheckLine : CheckLine → Type 0
 HasCheckLine (Point stamp) = stamp < 2 ^ 64
 HasCheckLine (Row key stamp node value) = AreBytes key × (stamp < 2 ^ 64) × (node < 2 ^ 16) × HasValueWords value
 HasCheckLine (Witness key before at) = AreBytes key × HasBeforeToken before × (at < 2 ^ 64)
 
--- the section that a line stands in: points come first, then rows, and then witnesses
+-- the section to which a line belongs: points come first, then rows, and then witnesses
 abbrev pub section_of : CheckLine → ℕ
 section_of (Point stamp) = 0
 section_of (Row key stamp node value) = 1
 section_of (Witness key before at) = 2
 
--- a line says a point
+-- what the line of a point says
 abbrev pub says_point : ℕ → CheckLine
 says_point stamp = Point stamp
 
--- a line says a row
+-- what the line of a row says
 abbrev pub says_row : ARow → CheckLine
 says_row row = Row row.key row.stamp row.node row.value
 
--- a line says a witness
+-- what the line of a witness says
 abbrev pub says_witness : AWitness → CheckLine
 says_witness witness = Witness witness.key witness.before witness.at
 

@@ -1,4 +1,4 @@
--- The three lists that an input hands in, and why there are none.
+-- The three lists that an input contains, and why there are none.
 use Rattle.std.specs.Prelude.{◌≡◌, ◌<◌, ℕ, List, [], ◌∷◌, ◌++◌, length}
 use Rattle.hlc_node.specs.declared.row.Row.{Row as ARow}
 use Rattle.hlc_witness.specs.declared.witness.Witness.{Witness as AWitness}
@@ -26,8 +26,8 @@ AddsLine old new (Witness key before at) =
     HasLists new old.points.items old.rows.items
     (old.witnesses.items ++ record { key = key; before = before; at = at } ∷ [])
 
--- why the lines give no lists: the line of this number is the first bad one; or there are lines, none of them bad,
--- and there was no memory for what they say
+-- why the lines yield no lists: the line of this number is the first bad one; or there are lines, none of them bad, and
+-- memory ran out for what they say
 abbrev pub IsNoCertificate : List (List ℕ) → NoCertificate → Type 0
 IsNoCertificate lines (BadLine number) = IsFirstBadLine lines number
 IsNoCertificate lines NoMemory = (0 < length lines) × AreGoodLines lines

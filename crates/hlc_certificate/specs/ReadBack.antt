@@ -1,4 +1,4 @@
--- What is printed as a certificate is read back as it was, and answered.
+-- What is printed as a certificate is read back unchanged, and answered.
 use Rattle.std.specs.Prelude.{◌≡◌, ◌≢◌, ◌≤◌, ◌⊎◌, ℕ, List, length}
 use Rattle.std.specs.List.{AllByRecursion}
 use Rattle.hlc_text.specs.declared.input.TheConstants.{INPUT_LIMIT}
@@ -8,25 +8,25 @@ use Rattle.hlc_witness.specs.declared.witness.Witness.{Witness as AWitness}
 use Rattle.hlc_witness.specs.Certificate.{IsCertificate}
 use Rattle.hlc_witness.specs.Cost.{rows_cost}
 use Rattle.hlc_certificate.specs.declared.check.CheckEnd.{CheckEnd}
-use Rattle.hlc_certificate.specs.declared.check.CheckEnd.TheVariants.{Fewest, NotHeld}
+use Rattle.hlc_certificate.specs.declared.check.CheckEnd.TheVariants.{Fewest, NotLoaded}
 use Rattle.hlc_text.specs.declared.input.InputFault.TheVariants.{ReadFault}
 use Rattle.hlc_certificate.specs.CheckLine.{HasCheckLine, all_said, AreLinesOf}
 use Rattle.hlc_certificate.specs.CertificateText.{certificate_text}
 use Rattle.hlc_certificate.specs.Check.{MayAnswer}
-use Rattle.hlc_certificate.specs.OneAnswer.{TellsNoMemory}
+use Rattle.hlc_certificate.specs.OneAnswer.{ReportsNoMemory}
 
--- what has lines is printed as just these lines, so it is read back as what it was
+-- what can be written as lines is printed as exactly these lines, so it is read back unchanged
 abbrev pub PrintedIsRead : Type 0
 PrintedIsRead = (points : List ℕ) (rows : List ARow) (witnesses : List AWitness)
     → AllByRecursion HasCheckLine (all_said points rows witnesses)
     → AreLinesOf points rows witnesses (lines_of (certificate_text points rows witnesses))
 
 -- A check of the text, where it is not too long and no read failed, answers that so many rows are the fewest and cost
--- so much; or it tells of want of memory.
+-- so much; or it reports out of memory.
 abbrev pub IsAnsweredFewest : List ℕ → ℕ → ℕ → Type 0
 IsAnsweredFewest text count bytes =
-    length text ≤ INPUT_LIMIT → (end : CheckEnd) → MayAnswer text end → end ≢ NotHeld ReadFault
-    → (end ≡ Fewest count bytes) ⊎ TellsNoMemory end
+    length text ≤ INPUT_LIMIT → (end : CheckEnd) → MayAnswer text end → end ≢ NotLoaded ReadFault
+    → (end ≡ Fewest count bytes) ⊎ ReportsNoMemory end
 
 -- where the witnesses show that the rows are the fewest, a check of what is printed answers how many they are, and what
 -- they cost

@@ -1,4 +1,4 @@
-//! The points, rows and witnesses that an input hands in.
+//! The points, rows and witnesses that an input contains.
 ghost use Rattle.std.specs.Prelude.{◌≡◌, ◌≤◌, [], length, IfOk, IfErr, IfSome, OnOk, IsSomeAnd};
 ghost use Rattle.hlc_text.specs.declared.input.TheConstants.{INPUT_LIMIT};
 ghost use Rattle.hlc_text.specs.Text.{Reads};
@@ -23,17 +23,17 @@ pub(crate) struct Certificate {
     pub(crate) witnesses: Vec<Witness>,
 }
 
-/// Why an input hands in no lists.
+/// Why an input yields no lists.
 #[derive(Clone, Copy, Debug, PartialEq, Eq)]
 pub(crate) enum NoCertificate {
     /// The line of this number is the first bad one.
     BadLine(u64),
-    /// No line is bad, and the lists could not be made.
+    /// No line is bad, but it ran out of memory for the lists.
     NoMemory,
 }
 
 impl Certificate {
-    /// No line says anything yet.
+    /// Returns three empty lists.
     fn new(alloc: Global) -> Certificate
         ensures { HasLists result [] [] [] }
     {
@@ -44,7 +44,7 @@ impl Certificate {
         }
     }
 
-    /// Adds what a line says, with its bytes in memory of their own.
+    /// Adds what a line says, with a copy of its bytes.
     fn add(&mut self, alloc: Global, line: &CheckLine<'_>) -> Result<(), NoMemory>
         ensures { OnOk result (AddsLine self.old self.new line.now) }
     {
@@ -71,7 +71,7 @@ impl Certificate {
     }
 }
 
-/// The bytes by themselves.
+/// Returns a copy of the bytes.
 fn to_bytes(alloc: Global, spelled: &Spelled<'_>) -> Result<Bytes, NoMemory>
     ensures { IfOk result (λ copy. copy ≡ spelled.now) }
 {
@@ -81,7 +81,7 @@ fn to_bytes(alloc: Global, spelled: &Spelled<'_>) -> Result<Bytes, NoMemory>
     }
 }
 
-/// The value by itself.
+/// Returns a copy of the value.
 fn to_value(alloc: Global, value: &Option<Spelled<'_>>) -> Result<Option<Bytes>, NoMemory>
     ensures { IfOk result (λ copy. copy ≡ value.now) }
 {
@@ -91,7 +91,7 @@ fn to_value(alloc: Global, value: &Option<Spelled<'_>>) -> Result<Option<Bytes>,
     }
 }
 
-/// What the lines say, or why not. A bad line is found also where memory was refused before it.
+/// Returns what the lines say, or why they yield no lists. A bad line is found even if memory ran out before it.
 pub(crate) fn read_certificate(alloc: Global, text: &[u8]) -> Result<Certificate, NoCertificate>
     requires { length text.now ≤ INPUT_LIMIT }
     ensures ok { IfOk result
@@ -119,7 +119,7 @@ pub(crate) fn read_certificate(alloc: Global, text: &[u8]) -> Result<Certificate
     }
 }
 
-/// What a line says, or none where it is no line of this section or a later one.
+/// Returns what a line says, or none where it is no line of this section or a later one.
 fn read_from(section: u8, line: &[u8]) -> Option<CheckLine<'_>>
     ensures { Reads check_line (λ says. HasCheckLine says × (section ≤ section_of says)) line.now
         result }
@@ -131,7 +131,7 @@ fn read_from(section: u8, line: &[u8]) -> Option<CheckLine<'_>>
     Some(says)
 }
 
-/// The lists with what one line more says, or none where memory was refused for it or before.
+/// Returns the lists with what one more line says, or none where memory ran out for it or before it.
 fn with_line(alloc: Global, kept: Option<Certificate>, line: &CheckLine<'_>) -> Option<Certificate>
     ensures { IfSome result (λ new. IsSomeAnd kept (λ old. AddsLine old new line.now)) }
 {

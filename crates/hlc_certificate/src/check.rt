@@ -1,21 +1,18 @@
-//! A whole check: the bytes of a certificate in, one line out.
+//! A whole check: reads the bytes of a certificate, and writes one line.
 ghost use Rattle.std.specs.Prelude.{◌≡◌, ◌≤◌, ◌↔◌, ◌++◌, ℕ, List, false, true, length, decimal};
 ghost use Rattle.std.specs.Io.KnownBytes.{Consumes};
-ghost use Rattle.std.proofs.Common.{rules};
-ghost use Rattle.std.proofs.lemmas.Grind.{common_steps};
 ghost use Rattle.hlc_text.specs.declared.input.TheConstants.{INPUT_LIMIT};
 ghost use Rattle.hlc_text.specs.Watched.{inner_of, has_failed};
 ghost use Rattle.hlc_text.specs.Printing.{Prints};
 ghost use Rattle.hlc_text.specs.Text.{printed};
 ghost use Rattle.hlc_text.specs.Input.{IsInput};
-ghost use Rattle.hlc_certificate.specs.Check.{MayAnswer, MayTake, IsOfHeld, RunsCheck};
+ghost use Rattle.hlc_certificate.specs.Check.{MayAnswer, MayTake, IsOfLoaded, RunsCheck};
 ghost use Rattle.hlc_certificate.specs.Check.{answer_output, fewest_line, check_status};
 
 use crate::certificate::{NoCertificate, read_certificate};
 use hlc_text::input::{InputFault, put_fault, read_input};
 use hlc_text::printer::Printer;
 use hlc_text::watched::Watched;
-use hlc_values::Exact;
 use hlc_witness::{NotShown, check};
 use std::alloc::Global;
 use std::io::{Read, Write};
@@ -23,30 +20,24 @@ use std::io::{Read, Write};
 /// How a check ended.
 #[derive(Clone, Copy, Debug, PartialEq, Eq)]
 pub enum CheckEnd {
-    /// The rows, so many, are the fewest that answer as they do at the points, and their bytes, so
-    /// many, the least.
+    /// The rows, so many, are the fewest that give the same answers at the points, and their bytes, so many, are the
+    /// least.
     Fewest { count: u64, bytes: u128 },
-    /// The witnesses do not show it.
+    /// The witnesses do not show that the rows are the fewest.
     NotShown(NotShown),
     /// The line of this number is the first bad one. The first line has number 1.
     BadLine(u64),
-    /// No line is bad, and the points, rows and witnesses could not be held.
+    /// No line is bad, but it ran out of memory for the points, rows and witnesses.
     NoMemory,
-    /// The input could not be held.
-    NotHeld(InputFault),
+    /// The input could not be loaded.
+    NotLoaded(InputFault),
     /// A write failed.
     WriteFault,
 }
 
-impl Exact for CheckEnd {
-    ghost equal = { Prim.search (rules, common_steps) };
-
-    ghost copied = { Prim.search rules };
-}
-
 impl CheckEnd {
-    /// The exit status of the program: 0 where the rows are the fewest, 3 where a write failed,
-    /// else 2.
+    /// Returns the exit status of the program: 0 where the rows are the fewest, 3 where a write failed, and 2
+    /// otherwise.
     pub fn status(self) -> u8
         ensures { result ≡ check_status self }
     {
@@ -58,8 +49,8 @@ impl CheckEnd {
     }
 }
 
-/// Reads a whole certificate, and then writes one line: whether its rows are shown to be the fewest.
-/// Bad lines are found before the certificate is looked at.
+/// Reads a whole certificate, writes one line that says whether its rows are shown to be the fewest, and returns how
+/// the check ended. Bad lines are found before the certificate is checked.
 pub fn run_check<R: Read, W: Write>(
     alloc: Global,
     reader: &mut Watched<R>,
@@ -87,20 +78,20 @@ fn check_reader<R: Read>(alloc: Global, reader: &mut Watched<R>) -> CheckEnd
         × IsInput (R.remaining (inner_of reader.old)) input
         × Consumes (R.remaining (inner_of reader.old)) (R.remaining (inner_of reader.new)) taken
         × MayTake input taken result × MayAnswer input result }
-    ensures read_fault { (result ≡ CheckEnd.NotHeld InputFault.ReadFault)
+    ensures read_fault { (result ≡ CheckEnd.NotLoaded InputFault.ReadFault)
         ↔ (has_failed reader.new ≡ true) }
 {
     match read_input(alloc, reader) {
         Ok(input) => check_input(alloc, input.as_slice()),
-        Err(fault) => CheckEnd::NotHeld(fault),
+        Err(fault) => CheckEnd::NotLoaded(fault),
     }
 }
 
-/// Checks an input that is held, as `run_check` does once it has read one. The first bad line is
-/// looked for to the end, so want of memory before it never hides it.
+/// Checks an input that is in memory, as `run_check` does once it has read one. It searches all lines for the first bad
+/// one, so running out of memory before a bad line never hides it.
 pub fn check_input(alloc: Global, input: &[u8]) -> CheckEnd
     requires { length input.now ≤ INPUT_LIMIT }
-    ensures held { IsOfHeld result }
+    ensures loaded { IsOfLoaded result }
     ensures answer { MayAnswer input.now result }
 {
     let certificate = match read_certificate(alloc, input) {
@@ -119,7 +110,7 @@ pub fn check_input(alloc: Global, input: &[u8]) -> CheckEnd
     }
 }
 
-/// Prints the line of an end.
+/// Prints the line for an end.
 fn put_end<W: Write>(printer: &mut Printer<'_, W>, end: CheckEnd)
     ensures { Prints W.contents printer.old printer.new (answer_output end) }
 {
@@ -130,7 +121,7 @@ fn put_end<W: Write>(printer: &mut Printer<'_, W>, end: CheckEnd)
         }
         CheckEnd::BadLine(number) => put_number_line(printer, b"refused 16 line ", number),
         CheckEnd::NoMemory => put_fault(printer, InputFault::NoMemory),
-        CheckEnd::NotHeld(fault) => put_fault(printer, fault),
+        CheckEnd::NotLoaded(fault) => put_fault(printer, fault),
         CheckEnd::WriteFault => {}
     }
 }

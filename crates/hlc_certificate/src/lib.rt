@@ -1,10 +1,11 @@
-//! Certificates as they are written: the lines of points, rows and witnesses, and a whole check from
-//! bytes to one line. No store is below it.
+//! Certificates as text: the lines of points, rows and witnesses, and a whole check from bytes to one line. It depends
+//! on no store.
 #![tactic(auto)]
 
 mod certificate;
 mod check;
 mod check_line;
+mod exact;
 mod laws;
 mod print;
 

@@ -1,4 +1,4 @@
-//! Certificates, printed.
+//! Prints certificates.
 ghost use Rattle.std.specs.Prelude.{map, ◌<◌, ◌^◌, ◌++◌, codes};
 ghost use Rattle.std.specs.List.{flat_map, AllByRecursion};
 ghost use Rattle.hlc_text.specs.Lines.{lines_of, spaced};
@@ -17,8 +17,8 @@ use hlc_text::printer::Printer;
 use hlc_witness::Witness;
 use std::io::Write;
 
-/// Prints a certificate: the lines of its points, then of its rows, and then of its witnesses. What
-/// they say is not looked at.
+/// Prints a certificate: the lines of its points, then of its rows, and then of its witnesses. It does not check what
+/// they say.
 pub fn put_certificate<W: Write>(
     printer: &mut Printer<'_, W>,
     points: &[Stamp],
@@ -49,7 +49,7 @@ fn put_point<W: Write>(printer: &mut Printer<'_, W>, point: Stamp)
     ensures text { Prints W.contents printer.old printer.new (printed (point_line point)) }
     ensures fits { HasCheckLine (says_point point) }
 {
-    put_stamp_behind(printer, b"point ", point);
+    put_stamp_after(printer, b"point ", point);
     printer.put(b"\n");
 }
 
@@ -67,14 +67,14 @@ fn put_row<W: Write>(printer: &mut Printer<'_, W>, row: &Row)
     ensures text { Prints W.contents printer.old printer.new (printed (row_line row.now)) }
     ensures fits { HasCheckLine (says_row row.now) }
 {
-    put_bytes_behind(printer, b"row ", row.key.as_slice());
-    put_stamp_behind(printer, b" ", row.stamp);
+    put_bytes_after(printer, b"row ", row.key.as_slice());
+    put_stamp_after(printer, b" ", row.stamp);
     printer.put_named_number(b" ", row.node as u64);
     put_value(printer, &row.value);
     printer.put(b"\n");
 }
 
-/// Prints the words of a value, or of a deletion mark, behind a space.
+/// Prints the words of a value, or of a deletion mark, after a space.
 fn put_value<W: Write>(printer: &mut Printer<'_, W>, value: &Option<Bytes>)
     ensures text { Prints W.contents printer.old printer.new
         (codes " " ++ spaced (value_words value.now)) }
@@ -82,11 +82,11 @@ fn put_value<W: Write>(printer: &mut Printer<'_, W>, value: &Option<Bytes>)
 {
     match value {
         None => printer.put(b" delete"),
-        Some(bytes) => put_bytes_behind(printer, b" value ", bytes.as_slice()),
+        Some(bytes) => put_bytes_after(printer, b" value ", bytes.as_slice()),
     }
 }
 
-/// Prints the lines of some changes, as a certificate has them.
+/// Prints the lines of some changes, in the form of a certificate.
 pub fn put_witnesses<W: Write>(printer: &mut Printer<'_, W>, witnesses: &[Witness])
     ensures text { Prints W.contents printer.old printer.new
         (flat_map printed (map witness_line witnesses.now)) }
@@ -97,14 +97,14 @@ pub fn put_witnesses<W: Write>(printer: &mut Printer<'_, W>, witnesses: &[Witnes
     }
 }
 
-/// Prints the line of a change, as a certificate has it.
+/// Prints the line of a change, in the form of a certificate.
 fn put_witness<W: Write>(printer: &mut Printer<'_, W>, witness: &Witness)
     ensures text { Prints W.contents printer.old printer.new (printed (witness_line witness.now)) }
     ensures fits { HasCheckLine (says_witness witness.now) }
 {
-    put_bytes_behind(printer, b"witness ", witness.key.as_slice());
+    put_bytes_after(printer, b"witness ", witness.key.as_slice());
     put_before(printer, witness.before);
-    put_stamp_behind(printer, b" ", witness.at);
+    put_stamp_after(printer, b" ", witness.at);
     printer.put(b"\n");
 }
 
@@ -114,14 +114,14 @@ fn put_before<W: Write>(printer: &mut Printer<'_, W>, before: Option<Stamp>)
 {
     match before {
         None => printer.put(b" none"),
-        Some(stamp) => put_stamp_behind(printer, b" ", stamp),
+        Some(stamp) => put_stamp_after(printer, b" ", stamp),
     }
 }
 
-// The words of stamps and bytes. What is printed of them fits, as their types say.
+// The words of stamps and bytes. Their types ensure that what is printed fits.
 
-/// Prints some words, and the stamp behind them.
-fn put_stamp_behind<W: Write>(printer: &mut Printer<'_, W>, name: &[u8], stamp: Stamp)
+/// Prints some words, followed by the stamp.
+fn put_stamp_after<W: Write>(printer: &mut Printer<'_, W>, name: &[u8], stamp: Stamp)
     ensures text { Prints W.contents printer.old printer.new (name.now ++ stamp_text stamp) }
     ensures fits { stamp < 2 ^ 64 }
 {
@@ -129,8 +129,8 @@ fn put_stamp_behind<W: Write>(printer: &mut Printer<'_, W>, name: &[u8], stamp: 
     printer.put_named_stamp(name, stamp);
 }
 
-/// Prints some words, and the word that spells the bytes behind them.
-fn put_bytes_behind<W: Write>(printer: &mut Printer<'_, W>, name: &[u8], bytes: &[u8])
+/// Prints some words, followed by the word that spells the bytes.
+fn put_bytes_after<W: Write>(printer: &mut Printer<'_, W>, name: &[u8], bytes: &[u8])
     ensures text { Prints W.contents printer.old printer.new (name.now ++ bytes_token bytes.now) }
     ensures fits { AreBytes bytes.now }
 {

@@ -1,5 +1,5 @@
--- What is made of a checkpoint holds together as a core does, and what a core keeps, with its rows in order, is a
--- checkpoint.
+-- The parts that are made from a checkpoint are consistent, as those of a core are, and the state of a core, with its
+-- rows in order, is a checkpoint.
 use Rattle.std.proofs.Common.{◌≡◌, ℕ, suc, ◌<◌, ◌≤◌, List, [], ◌∷◌, length, get_or}
 use Rattle.std.proofs.Common.{refl, ap, sym, ◌∙◌, subst, inl, inr, arith, IsPermutation, true}
 use Rattle.std.specs.Prelude.{MatchOption}
@@ -10,22 +10,23 @@ use Rattle.std.proofs.lemmas.List.Elements.{All-weaker}
 use Rattle.std.proofs.lemmas.List.Sorted.{All-permutation, IsPermutation-keeps}
 use Rattle.hlc_node.specs.declared.row.Row.{Row}
 use Rattle.hlc_node.specs.Rows.{IsRowSet, IsSameVersion}
-use Rattle.hlc_intake.specs.Progress.{Progress}
+use Rattle.hlc_intake.specs.IntakeView.{IntakeView}
 use Rattle.hlc_heads.specs.declared.heads.Head.{Head}
-use Rattle.hlc_heads.specs.Heads.{Marks, a_head, head_at}
-use Rattle.hlc_snapshot.specs.Register.{IsRegister}
+use Rattle.hlc_heads.specs.Heads.{HeadsView, a_head, head_at}
+use Rattle.hlc_snapshot.specs.RegistryView.{IsRegister}
 use Rattle.hlc_witness.specs.Cost.{IsInLimits}
 use Rattle.hlc_witness.proofs.CertificateLemmas.{ascending_rows_are_a_row_set}
-use Rattle.hlc_checkpoint.specs.Kept.{Kept, marks_of, with_rows_left, HaveHeads, HasNodes, IsHeld, IsSound}
+use Rattle.hlc_checkpoint.specs.StoreView.{StoreView, marks_of, with_rows_left, HaveHeads, HasNodes, IsConsistent}
+use Rattle.hlc_checkpoint.specs.StoreView.{IsSound}
 use Rattle.hlc_checkpoint.specs.Checkpoint.{IsCheckpoint, IsCheckpointOf, IsUnderHead}
 use Rattle.hlc_checkpoint.proofs.AscendLemmas.{AreApart, apart, apart-swap}
 
--- where there is no link
-abbrev no_link : Progress
+-- the default where there is no link
+abbrev no_link : IntakeView
 no_link = record { next = 0; head = 0; retired = true }
 
 -- a link's head
-abbrev head_of : Progress → Head
+abbrev head_of : IntakeView → Head
 head_of link = a_head link.head link.retired
 
 -- the row is of one of the nodes, and not above its head
@@ -44,26 +45,27 @@ pub row_set-moved : (rows moved : List Row) → IsRowSet rows → IsPermutation 
 row_set-moved rows moved h moves =
     from_apart moved (IsPermutation-keeps rows AreApart (apart rows h) apart-swap moved moves)
 
-pub heads-length : (links : List Progress) (marks : Marks) → HaveHeads links marks → length marks.heads ≡ length links
-heads-length links marks h = ap (λ (m : Marks). length m.heads) h.same ∙ length-map links head_of
+pub heads-length : (links : List IntakeView) (marks : HeadsView) → HaveHeads links marks → length marks.heads
+    ≡ length links
+heads-length links marks h = ap (λ (m : HeadsView). length m.heads) h.same ∙ length-map links head_of
 
 -- a head is its link's
-pub head-of : (links : List Progress) (marks : Marks) (n : ℕ) → HaveHeads links marks → n < length links
+pub head-of : (links : List IntakeView) (marks : HeadsView) (n : ℕ) → HaveHeads links marks → n < length links
     → head_at marks.heads n ≡ head_of (get_or links n no_link)
-head-of links marks n h within = ap (λ (m : Marks). head_at m.heads n) h.same
+head-of links marks n h within = ap (λ (m : HeadsView). head_at m.heads n) h.same
     ∙ get_or-map head_of links n no_link (a_head 0 true) within
 
--- where there are nodes, and links of them, the heads of those are had
-pub heads-had : (start : ℕ) (links : List Progress) (most : ℕ) → HasNodes start links
+-- if there are nodes, and links of them, the heads are theirs
+pub heads-had : (start : ℕ) (links : List IntakeView) (most : ℕ) → HasNodes start links
     → HaveHeads links (marks_of links most)
 heads-had start links most h =
-    record { some = omega (arith, h.some, h.linked); few = h.given; same = refl }
+    record { some = omega (arith, h.some, h.linked); few = h.bounded; same = refl }
 
-under-to : (links : List Progress) (top start : ℕ) (row : Row) → HasNodes start links → IsUnderHead links row
+under-to : (links : List IntakeView) (top start : ℕ) (row : Row) → HasNodes start links → IsUnderHead links row
     → IsUnder (marks_of links top).heads row
 under-to links top start row has under =
     let had = heads-had start links top has in
-    let d : Progress = record { next = 0; head = 0; retired = true } in
+    let d : IntakeView = record { next = 0; head = 0; retired = true } in
     let len : length (marks_of links top).heads ≡ length links = heads-length links (marks_of links top) had in
     elim (cases_lt row.node (length links)) [
       | inl below ↦
@@ -78,10 +80,10 @@ under-to links top start row has under =
           under)
     ]
 
--- a core of a checkpoint's parts, with its rows in another order, has its heads, is held, and has its nodes
-pub restored : (kept : Kept) (rows : List Row) → IsCheckpoint kept → IsPermutation kept.rows rows
+-- a core of a checkpoint's parts, with its rows in another order, has its heads, is consistent, and has its nodes
+pub restored : (kept : StoreView) (rows : List Row) → IsCheckpoint kept → IsPermutation kept.rows rows
     → HaveHeads kept.links (marks_of kept.links kept.top)
-    × IsHeld (marks_of kept.links kept.top) kept.snapshots rows
+    × IsConsistent (marks_of kept.links kept.top) kept.snapshots rows
     × IsSound kept.start kept.links kept.top kept.horizon rows
 restored kept rows is moved = (
   heads-had kept.start kept.links kept.top is.nodes,
@@ -102,11 +104,11 @@ restored kept rows is moved = (
   },
 )
 
-under-from : (links : List Progress) (top start : ℕ) (row : Row) → HasNodes start links
+under-from : (links : List IntakeView) (top start : ℕ) (row : Row) → HasNodes start links
     → IsUnder (marks_of links top).heads row → IsUnderHead links row
 under-from links top start row has under =
     let had = heads-had start links top has in
-    let d : Progress = record { next = 0; head = 0; retired = true } in
+    let d : IntakeView = record { next = 0; head = 0; retired = true } in
     let len : length (marks_of links top).heads ≡ length links = heads-length links (marks_of links top) had in
     let node : row.node < length (marks_of links top).heads = under.0 in
     let below : row.node < length links = omega arith in
@@ -116,28 +118,28 @@ under-from links top start row has under =
     subst (λ o. MatchOption o ⊥ (λ link. row.stamp ≤ link.head)) (sym (slice_get-get_or links row.node d below))
     (omega arith)
 
--- and what a core keeps, with its rows in order, is a checkpoint
-pub checkpoint-of : (kept copy : Kept) (marks : Marks) → HaveHeads kept.links marks → marks.top ≡ kept.top
-    → IsHeld marks kept.snapshots kept.rows → IsSound kept.start kept.links kept.top kept.horizon kept.rows
+-- and the state of a core, with its rows in order, is a checkpoint
+pub checkpoint-of : (kept copy : StoreView) (marks : HeadsView) → HaveHeads kept.links marks → marks.top ≡ kept.top
+    → IsConsistent marks kept.snapshots kept.rows → IsSound kept.start kept.links kept.top kept.horizon kept.rows
     → IsRegister (record { snapshots = kept.snapshots; opened = kept.opened }) → IsCheckpointOf kept copy
     → IsCheckpoint copy
-checkpoint-of kept copy marks have top held sound register is =
+checkpoint-of kept copy marks have top consistent sound register is =
     let same : marks ≡ marks_of kept.links kept.top = have.same ∙ ap (marks_of kept.links) top in
-    let held' : IsHeld (marks_of kept.links kept.top) kept.snapshots kept.rows =
-    subst (λ m. IsHeld m kept.snapshots kept.rows) same held in
-    let made : Kept = with_rows_left kept copy.rows kept.horizon in
+    let consistent' : IsConsistent (marks_of kept.links kept.top) kept.snapshots kept.rows =
+    subst (λ m. IsConsistent m kept.snapshots kept.rows) same consistent in
+    let made : StoreView = with_rows_left kept copy.rows kept.horizon in
     let sound' : IsCheckpoint made = record {
       nodes = sound.nodes;
       stamps = sound.stamps;
       last = sound.last;
       top = sound.top;
       register = register;
-      opened = held'.opened;
+      opened = consistent'.opened;
       horizon = sound.horizon;
       ascend = is.ascend;
       under = All-permutation (IsUnderHead kept.links) kept.rows copy.rows is.copy.rows
           (All-weaker (IsUnder (marks_of kept.links kept.top).heads) (IsUnderHead kept.links)
-          (λ row under. under-from kept.links kept.top kept.start row sound.nodes under) kept.rows held'.stored);
+          (λ row under. under-from kept.links kept.top kept.start row sound.nodes under) kept.rows consistent'.stored);
       limits = All-permutation IsInLimits kept.rows copy.rows is.copy.rows sound.limits;
     } in
     subst IsCheckpoint {x = made} (sym is.copy.same) sound'

@@ -17,7 +17,7 @@ use Rattle.hlc_checkpoint.proofs.AscendLemmas.{apart}
 any-default : (rows : List Row) (k : ℕ) (d e : Row) → k < length rows → get_or rows k d ≡ get_or rows k e
 any-default rows k d e lt = get_or_from_slice_get rows k (get_or rows k e) d (slice_get-get_or rows k e lt)
 
--- one row more of ascending rows is of a new version
+-- one more of ascending rows is of a new version
 pub fresh-row : (rows : List Row) (i : ℕ) (row : Row) (table : List Row) → RowsAscend rows → i < length rows
     → row ≡ get_or rows i row → IsPermutation (take i rows) table → HasNoVersion table row
 fresh-row rows i row table up lt is moved other m same =
@@ -34,7 +34,7 @@ fresh-row rows i row table up lt is moved other m same =
     All-contains (λ (r : Row). IsSameVersion row r → ⊥) table other
     (All-permutation (λ (r : Row). IsSameVersion row r → ⊥) (take i rows) table moved others) m same
 
--- the next of ascending rows, where those before it are stored, is of a new version
+-- the next of ascending rows, after those before it are stored, is of a new version
 pub fresh-next : (rows done rest : List Row) (row : Row) (table : List Row) → RowsAscend rows
     → done ++ row ∷ rest ≡ rows → IsPermutation done table → HasNoVersion table row
 fresh-next rows done rest row table up is moved =

@@ -1,12 +1,12 @@
--- What a checkpoint is: what a core keeps, with its rows by key, stamp and node; and the first reason why some values
--- are none.
+-- The definition of a checkpoint: the state of a core, with its rows by key, stamp and node; and the first reason why
+-- some values are not one.
 use Rattle.std.specs.Prelude.{◌≡◌, ℕ, ◌<◌, ◌≤◌, List, All, MatchOption, MatchResult, Result}
 use Rattle.std.specs.Prelude.{slice_get}
 use Rattle.std.specs.List.Sorted.{IsPermutation}
 use Rattle.hlc_node.specs.declared.row.Row.{Row}
-use Rattle.hlc_intake.specs.Progress.{Progress}
+use Rattle.hlc_intake.specs.IntakeView.{IntakeView}
 use Rattle.hlc_heads.specs.Heads.{floor_of}
-use Rattle.hlc_snapshot.specs.Register.{IsRegister}
+use Rattle.hlc_snapshot.specs.RegistryView.{IsRegister}
 use Rattle.hlc_witness.specs.Certificate.{RowsAscend}
 use Rattle.hlc_witness.specs.Cost.{AreInLimits}
 use Rattle.hlc_checkpoint.specs.declared.checkpoint.RestoreFault.{RestoreFault}
@@ -15,29 +15,29 @@ use Rattle.hlc_checkpoint.specs.declared.checkpoint.RestoreFault.TheVariants.{Re
 use Rattle.hlc_checkpoint.specs.declared.checkpoint.RestoreFault.TheVariants.{SnapshotAboveFloor, HorizonAboveFloor}
 use Rattle.hlc_checkpoint.specs.declared.checkpoint.RestoreFault.TheVariants.{RowsNotAscending, RowAboveHead}
 use Rattle.hlc_checkpoint.specs.declared.checkpoint.RestoreFault.TheVariants.{RowOutOfLimits, NoMemory}
-use Rattle.hlc_checkpoint.specs.Kept.{Kept, HasNodes, HasStamps, HasLastItem, greatest_head, marks_of, with_rows_left}
+use Rattle.hlc_checkpoint.specs.StoreView.{StoreView, HasNodes, HasStamps, HasLastItem, greatest_head, marks_of}
+use Rattle.hlc_checkpoint.specs.StoreView.{with_rows_left}
 
--- the floor of what is kept
-abbrev pub floor_in : Kept → ℕ
+-- the floor of a state
+abbrev pub floor_in : StoreView → ℕ
 floor_in kept = floor_of (marks_of kept.links kept.top)
 
 -- the open snapshots are those of a register
-abbrev pub HasRegister : Kept → Type 0
+abbrev pub HasRegister : StoreView → Type 0
 HasRegister kept = IsRegister (record { snapshots = kept.snapshots; opened = kept.opened })
 
 -- no open snapshot is above this floor
-abbrev pub AreAtMost : ℕ → Kept → Type 0
+abbrev pub AreAtMost : ℕ → StoreView → Type 0
 AreAtMost floor kept = All (λ snapshot. snapshot.stamp ≤ floor) kept.snapshots
 
 -- the row is of one of the nodes, and not above its head
-abbrev pub IsUnderHead : List Progress → Row → Type 0
+abbrev pub IsUnderHead : List IntakeView → Row → Type 0
 IsUnderHead links row = MatchOption (slice_get links row.node) ⊥ (λ link. row.stamp ≤ link.head)
 
--- What is kept is a checkpoint: there are nodes, and their links, over which items may have come so far; the top is
--- the greatest head; the snapshots are those of a register; neither they nor the horizon
--- are above the floor; the rows ascend by key, stamp and node, none is above the head of its node, and an item may
--- write each.
-pub record IsCheckpoint (kept : Kept) : Type 0 where
+-- A state is a checkpoint: there are nodes, and links of them with possible progress; the top is the greatest head; the
+-- snapshots are those of a register; neither they nor the horizon are above the floor; the rows ascend by key, stamp
+-- and node, none is above the head of its node, and an item may write each.
+pub record IsCheckpoint (kept : StoreView) : Type 0 where
   pub nodes : HasNodes kept.start kept.links
   pub stamps : All HasStamps kept.links
   pub last : All HasLastItem kept.links
@@ -49,17 +49,17 @@ pub record IsCheckpoint (kept : Kept) : Type 0 where
   pub under : All (IsUnderHead kept.links) kept.rows
   pub limits : AreInLimits kept.rows
 
--- there are nodes, and links of them that are possible
-abbrev pub HasLinks : Kept → Type 0
+-- there are nodes, and possible links of them
+abbrev pub HasLinks : StoreView → Type 0
 HasLinks kept = HasNodes kept.start kept.links × All HasStamps kept.links × All HasLastItem kept.links
 
 -- nothing but the rows is the reason
-abbrev pub IsSoundHead : Kept → Type 0
+abbrev pub IsSoundHead : StoreView → Type 0
 IsSoundHead kept =
     HasLinks kept × HasRegister kept × AreAtMost (floor_in kept) kept × (kept.horizon ≤ floor_in kept)
 
--- the first reason why this is no checkpoint; out of memory, where it is one
-abbrev pub IsFirstReason : Kept → RestoreFault → Type 0
+-- the first reason why this is no checkpoint; out of memory if it is one
+abbrev pub IsFirstReason : StoreView → RestoreFault → Type 0
 IsFirstReason kept NodesOutOfRange = HasNodes kept.start kept.links → ⊥
 IsFirstReason kept NumberAboveHead = HasNodes kept.start kept.links × (All HasStamps kept.links → ⊥)
 IsFirstReason kept RetiredWithoutItem =
@@ -75,17 +75,17 @@ IsFirstReason kept RowOutOfLimits =
     IsSoundHead kept × RowsAscend kept.rows × All (IsUnderHead kept.links) kept.rows × (AreInLimits kept.rows → ⊥)
 IsFirstReason kept NoMemory = IsCheckpoint kept
 
--- the one keeps what the other does, with its rows in another order
-pub record IsCopyOf (kept copy : Kept) : Type 0 where
+-- the copy is the same state, with its rows in another order
+pub record IsCopyOf (kept copy : StoreView) : Type 0 where
   pub same : copy ≡ with_rows_left kept copy.rows kept.horizon
   pub rows : IsPermutation kept.rows copy.rows
 
--- the checkpoint keeps what the core keeps, with its rows in order
-pub record IsCheckpointOf (kept checkpoint : Kept) : Type 0 where
+-- the checkpoint is the state of the core, with its rows in order
+pub record IsCheckpointOf (kept checkpoint : StoreView) : Type 0 where
   pub copy : IsCopyOf kept checkpoint
   pub ascend : RowsAscend checkpoint.rows
 
--- a core was made that keeps just what the checkpoint says, and it is one; or why not
-abbrev pub Restores : Kept → Result Kept RestoreFault → Type 0
+-- a core with the state of the checkpoint was made, and it is a checkpoint; or the reason why not
+abbrev pub Restores : StoreView → Result StoreView RestoreFault → Type 0
 Restores checkpoint result =
     MatchResult result (λ core. IsCheckpoint checkpoint × IsCopyOf checkpoint core) (IsFirstReason checkpoint)

@@ -1,3 +1,3 @@
-pub mod Kept
+pub mod StoreView
 pub mod Checkpoint
 pub mod RestoreFaults

@@ -7,7 +7,7 @@ use Rattle.hlc_checkpoint.specs.declared.checkpoint.RestoreFault.TheVariants.{Sn
 use Rattle.hlc_checkpoint.specs.declared.checkpoint.RestoreFault.TheVariants.{RowsNotAscending, RowAboveHead}
 use Rattle.hlc_checkpoint.specs.declared.checkpoint.RestoreFault.TheVariants.{RowOutOfLimits, NoMemory}
 
--- the number that stands for a fault
+-- the number of a fault in outputs
 abbrev pub fault_code : RestoreFault → ℕ
 fault_code NodesOutOfRange = 1
 fault_code NumberAboveHead = 2
@@ -20,7 +20,7 @@ fault_code RowAboveHead = 8
 fault_code RowOutOfLimits = 9
 fault_code NoMemory = 10
 
--- what a fault says
+-- the text of a fault
 abbrev pub fault_text : RestoreFault → List ℕ
 fault_text NodesOutOfRange = codes "the nodes at the start, or the links, are out of range"
 fault_text NumberAboveHead = codes "the next number of a link is above its head"

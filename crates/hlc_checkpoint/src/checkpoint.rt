@@ -1,10 +1,8 @@
-//! A checkpoint of a store, and the first reason why some values are none.
+//! A checkpoint of a store, and the first reason why some values are not one.
 ghost use Rattle.std.specs.Prelude.{◌≡◌, ◌≢◌, IfSome, ◌↔◌, ◌≤◌, IsTrue, All, MatchOption, max};
 ghost use Rattle.hlc_heads.specs.Low.{lower};
-ghost use Rattle.std.proofs.Common.{rules};
-ghost use Rattle.std.proofs.lemmas.Grind.{common_steps};
 ghost use Rattle.hlc_heads.specs.Heads.{floor_of};
-ghost use Rattle.hlc_checkpoint.specs.Kept.{HasNodes, HasStamps, HasLastItem, greatest_head, marks_of};
+ghost use Rattle.hlc_checkpoint.specs.StoreView.{HasNodes, HasStamps, HasLastItem, greatest_head, marks_of};
 ghost use Rattle.hlc_checkpoint.specs.RestoreFaults.{fault_code};
 ghost use Rattle.hlc_checkpoint.specs.declared.checkpoint.RestoreFault.TheVariants.{NoMemory as no_memory};
 ghost use Rattle.hlc_checkpoint.specs.Checkpoint.{IsCheckpoint, IsFirstReason, IsUnderHead};
@@ -14,7 +12,7 @@ use hlc_heads::{MOST_NODES, MOST_NUMBERS};
 use hlc_intake::Intake;
 use hlc_node::Row;
 use hlc_snapshot::{Snapshot, is_register};
-use hlc_values::{Exact, NoMemory};
+use hlc_values::NoMemory;
 use hlc_witness::{are_in_limits, do_rows_ascend};
 use std::alloc::AllocFailed;
 use std::error::Error;
@@ -24,15 +22,15 @@ use std::marker::Model;
 /// Why no store is restored, in the order in which the reasons are checked.
 #[derive(Clone, Copy, PartialEq, Eq, Debug)]
 pub enum RestoreFault {
-    /// The nodes of the start are not 1 to 64, or there is no link for one of them; or there are more
-    /// than 1,024 links.
+    /// The number of nodes at the start is not 1 to 64, or there is no link for one of them; or there are more than
+    /// 1,024 links.
     NodesOutOfRange,
     /// The next number of a link is above the word of its head: more items than stamps.
     NumberAboveHead,
-    /// A node retired, and no item of it was accepted.
+    /// A node has retired, but none of its items was accepted.
     RetiredWithoutItem,
-    /// More than 1,024 snapshots are open; or their ids do not rise from 1 on, up to at most the
-    /// number of those ever opened; or that number is above the greatest id, 2^64 - 2.
+    /// More than 1,024 snapshots are open; or their ids do not ascend from 1 on, up to at most the
+    /// number ever opened; or that number is above the greatest id, 2^64 - 2.
     SnapshotsNotRising,
     /// An open snapshot is above the floor.
     SnapshotAboveFloor,
@@ -42,14 +40,15 @@ pub enum RestoreFault {
     RowsNotAscending,
     /// A row is of no node, or its stamp is above the head of its node.
     RowAboveHead,
-    /// No item may write a row: its key has not 1 to 255 bytes, or its value more than 65,535.
+    /// No item may write a row: its key does not have 1 to 255 bytes, or its value has more than
+    /// 65,535.
     RowOutOfLimits,
-    /// Out of memory. It is a checkpoint all the same.
+    /// Out of memory. The values are a checkpoint nevertheless.
     NoMemory,
 }
 
 impl RestoreFault {
-    /// The number that stands for the fault in outputs: 1 to 10, in the order of the variants.
+    /// Returns the number of the fault in outputs: 1 to 10, in the order of the variants.
     pub fn code(self) -> u32
         ensures { result ≡ fault_code self }
     {
@@ -93,12 +92,6 @@ impl fmt::Display for RestoreFault {
 
 impl Error for RestoreFault {}
 
-impl Exact for RestoreFault {
-    ghost equal = { Prim.search (rules, common_steps) };
-
-    ghost copied = { Prim.search rules };
-}
-
 impl From<NoMemory> for RestoreFault {
     ghost use Rattle.hlc_checkpoint.specs.declared.checkpoint.RestoreFault.TheVariants.{NoMemory as no_memory};
 
@@ -119,13 +112,13 @@ impl<T: Drop> From<AllocFailed<T>> for RestoreFault {
     }
 }
 
-/// All that a store keeps, as plain values: how many nodes there were at the start; by node how far
-/// its link has come; the open snapshots, the oldest first, and how many were ever opened; the
+/// The whole state of a store, as plain values: the number of nodes at the start; by node the
+/// progress of its link; the open snapshots, the oldest first, and the number ever opened; the
 /// horizon; the rows, by key, stamp and node.
 ///
-/// Contracts see it as they see a core, whose top is the greatest head. So a
-/// checkpoint represents a past as a core does. Anyone may make one of any parts: `Core::restore`
-/// checks all of it.
+/// In contracts it is the same as a core, whose top is the greatest head. So a checkpoint
+/// represents a past as a core does. Anyone may make one from any parts: `Core::restore` checks all
+/// of it.
 #[derive(Debug, Drop)]
 pub struct Checkpoint {
     start: u16,
@@ -137,9 +130,9 @@ pub struct Checkpoint {
 }
 
 impl Model for Checkpoint {
-    ghost use Rattle.hlc_checkpoint.specs.Kept.{Kept, greatest_head};
+    ghost use Rattle.hlc_checkpoint.specs.StoreView.{StoreView, greatest_head};
 
-    ghost Value = { Kept };
+    ghost Value = { StoreView };
 
     ghost view = { λ checkpoint. record {
       start = checkpoint.start;
@@ -153,7 +146,8 @@ impl Model for Checkpoint {
 }
 
 impl Checkpoint {
-    /// A checkpoint of these parts, whether a store's or not. They are not checked.
+    /// Makes a checkpoint from these parts, whether they are a store's or not. They are not
+    /// checked.
     pub fn of(
         start: u16,
         links: Vec<Intake>,
@@ -182,22 +176,22 @@ impl Checkpoint {
         }
     }
 
-    /// How many nodes there were at the start.
+    /// Returns the number of nodes at the start.
     pub fn start(&self) -> u16
         ensures { result ≡ self.now.start }
     {
         self.start
     }
 
-    /// By node how far its link has come.
+    /// Returns the progress of each link, by node.
     pub fn links(&self) -> &[Intake]
         ensures { result.now ≡ self.now.links }
     {
         self.links.as_slice()
     }
 
-    /// The greatest head: the greatest stamp of an accepted item, or of the start of a node that joined. It
-    /// is computed.
+    /// Returns the greatest head: the greatest stamp of an accepted item, or of the start of a node that joined. It is
+    /// computed.
     pub fn top(&self) -> Stamp
         ensures value { result ≡ self.now.top }
         ensures greatest { result ≡ greatest_head self.now.links }
@@ -205,35 +199,35 @@ impl Checkpoint {
         greatest_head(self.links.as_slice())
     }
 
-    /// The open snapshots, the oldest first.
+    /// Returns the open snapshots, the oldest first.
     pub fn snapshots(&self) -> &[Snapshot]
         ensures { result.now ≡ self.now.snapshots }
     {
         self.snapshots.as_slice()
     }
 
-    /// How many snapshots were ever opened.
+    /// Returns the number of snapshots that were ever opened.
     pub fn opened(&self) -> u64
         ensures { result ≡ self.now.opened }
     {
         self.opened
     }
 
-    /// The stamp of the last vacuum, 0.0 before the first.
+    /// Returns the stamp of the last vacuum, 0.0 before the first.
     pub fn horizon(&self) -> Stamp
         ensures { result ≡ self.now.horizon }
     {
         self.horizon
     }
 
-    /// The rows, by key, stamp and node.
+    /// Returns the rows, by key, stamp and node.
     pub fn rows(&self) -> &[Row]
         ensures { result.now ≡ self.now.rows }
     {
         self.rows.as_slice()
     }
 
-    /// The links, the open snapshots and the rows, moved out: nothing is copied, and it takes no
+    /// Moves the links, the open snapshots and the rows out: nothing is copied, and it needs no
     /// memory. Read the other parts beforehand.
     pub fn into_lists(self) -> (Vec<Intake>, Vec<Snapshot>, Vec<Row>)
         ensures links { result.0.items ≡ self.links }
@@ -243,8 +237,8 @@ impl Checkpoint {
         (self.links, self.snapshots, self.rows)
     }
 
-    /// The first reason why this is no checkpoint, for which `Core::restore` refuses it; never out of
-    /// memory. It takes no memory, and looks once at each part.
+    /// Returns the first reason why this is no checkpoint, with which `Core::restore` refuses it; never out of memory.
+    /// It needs no memory, and looks at each part once.
     pub fn fault(&self) -> Option<RestoreFault>
         ensures first { MatchOption result (IsCheckpoint self.now) (IsFirstReason self.now) }
         ensures other { IfSome result (λ fault. fault ≢ no_memory) }
@@ -253,7 +247,7 @@ impl Checkpoint {
     }
 }
 
-/// The first reason why this is no checkpoint; never out of memory.
+/// Returns the first reason why this is no checkpoint, or none; never out of memory.
 fn reason_against(checkpoint: &Checkpoint) -> Option<RestoreFault>
     ensures first { MatchOption result (IsCheckpoint checkpoint.now) (IsFirstReason checkpoint.now) }
     ensures other { IfSome result (λ fault. fault ≢ no_memory) }
@@ -292,8 +286,8 @@ fn reason_against(checkpoint: &Checkpoint) -> Option<RestoreFault>
     None
 }
 
-/// Whether there were 1 to 64 nodes at the start, and there are links of them and no more than
-/// numbers are given.
+/// Returns whether there were 1 to 64 nodes at the start, and there are links of them and no more
+/// than node numbers.
 fn are_nodes(start: u16, links: &[Intake]) -> bool
     ensures { IsTrue result ↔ HasNodes start links.now }
 {
@@ -301,7 +295,7 @@ fn are_nodes(start: u16, links: &[Intake]) -> bool
     start > 0 && start <= MOST_NODES && start as usize <= many && many <= MOST_NUMBERS as usize
 }
 
-/// Whether no link's next number is above the word of its head.
+/// Returns whether no link's next number is above the word of its head.
 fn are_numbers_low(links: &[Intake]) -> bool
     ensures { IsTrue result ↔ All HasStamps links.now }
 {
@@ -313,7 +307,7 @@ fn are_numbers_low(links: &[Intake]) -> bool
     true
 }
 
-/// Whether an item of each node that retired was accepted.
+/// Returns whether each retired node has an accepted item.
 fn did_retired_issue(links: &[Intake]) -> bool
     ensures { IsTrue result ↔ All HasLastItem links.now }
 {
@@ -325,7 +319,7 @@ fn did_retired_issue(links: &[Intake]) -> bool
     true
 }
 
-/// The greatest head of some links, 0.0 where there is none.
+/// Returns the greatest head of some links, or 0.0 if there are none.
 fn greatest_head(links: &[Intake]) -> Stamp
     ensures { result ≡ greatest_head links.now }
 {
@@ -336,14 +330,14 @@ fn greatest_head(links: &[Intake]) -> Stamp
     greatest
 }
 
-/// The greater of the two.
+/// Returns the greater of the two stamps.
 fn greater(a: Stamp, b: Stamp) -> Stamp
     ensures { result ≡ max a b }
 {
     if a < b { b } else { a }
 }
 
-/// The least head of the links whose nodes have not retired; where all did, the top.
+/// Returns the least head of the links whose nodes have not retired, or the top if all have.
 fn floor_of(links: &[Intake], top: Stamp) -> Stamp
     ensures { result ≡ floor_of (marks_of links.now top) }
 {
@@ -356,7 +350,7 @@ fn floor_of(links: &[Intake], top: Stamp) -> Stamp
     least.unwrap_or(top)
 }
 
-/// The lower of the two, if there are two.
+/// Returns the lower of the two stamps, or `stamp` if it is the only one.
 fn lower(least: Option<Stamp>, stamp: Stamp) -> Stamp
     ensures { result ≡ lower least stamp }
 {
@@ -366,7 +360,7 @@ fn lower(least: Option<Stamp>, stamp: Stamp) -> Stamp
     }
 }
 
-/// Whether no open snapshot is above the floor.
+/// Returns whether no open snapshot is above the floor.
 fn are_at_most(floor: Stamp, snapshots: &[Snapshot]) -> bool
     ensures { IsTrue result ↔ All (λ snapshot. snapshot.stamp ≤ floor) snapshots.now }
 {
@@ -378,7 +372,7 @@ fn are_at_most(floor: Stamp, snapshots: &[Snapshot]) -> bool
     true
 }
 
-/// Whether each row is of one of the nodes, and not above its head.
+/// Returns whether each row is of one of the nodes, and not above its head.
 fn are_under_heads(links: &[Intake], rows: &[Row]) -> bool
     ensures { IsTrue result ↔ All (IsUnderHead links.now) rows.now }
 {
@@ -390,7 +384,7 @@ fn are_under_heads(links: &[Intake], rows: &[Row]) -> bool
     true
 }
 
-/// Whether a row is of one of the nodes, and not above its head.
+/// Returns whether a row is of one of the nodes, and not above its head.
 fn is_under_head(links: &[Intake], row: &Row) -> bool
     ensures { IsTrue result ↔ IsUnderHead links.now row.now }
 {

@@ -1,8 +1,9 @@
-//! A checkpoint: all that a store keeps, as plain values; the first reason why some values are none;
-//! and the heads and the table that a store is made of again.
+//! A checkpoint: the whole state of a store, as plain values; the first reason why some values are not a checkpoint;
+//! and the heads and the table from which a store is restored.
 #![tactic(auto)]
 
 mod checkpoint;
+mod exact;
 mod restoring;
 
 pub use checkpoint::{Checkpoint, RestoreFault};

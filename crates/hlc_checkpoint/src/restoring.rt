@@ -4,7 +4,7 @@ ghost use Rattle.hlc_columns.specs.Table.{HasNoVersion};
 ghost use Rattle.std.specs.List.Sorted.{IsPermutation};
 ghost use Rattle.hlc_heads.specs.declared.heads.TheConstants.{MOST_NUMBERS};
 ghost use Rattle.hlc_witness.specs.Certificate.{RowsAscend};
-ghost use Rattle.hlc_checkpoint.specs.Kept.{marks_of};
+ghost use Rattle.hlc_checkpoint.specs.StoreView.{marks_of};
 
 use hlc_clock::Stamp;
 use hlc_columns::Table;
@@ -14,7 +14,7 @@ use hlc_node::Row;
 use hlc_values::NoMemory;
 use std::alloc::Global;
 
-/// The heads of some links, 1 to 1,024 of them, and this greatest head. Refused where memory runs out.
+/// Makes the heads of some links, 1 to 1,024 of them, with this greatest head. It may run out of memory.
 pub fn heads_of(alloc: Global, links: &[Intake], top: Stamp) -> Result<Heads, NoMemory>
     requires some { 0 < length links.now }
     requires few { length links.now ≤ MOST_NUMBERS }
@@ -30,8 +30,8 @@ pub fn heads_of(alloc: Global, links: &[Intake], top: Stamp) -> Result<Heads, No
     Ok(Heads::resuming(heads, top))
 }
 
-/// A table of copies of some rows, which ascend by key, stamp and node. A key is looked up for its first row
-/// alone. Refused where memory runs out.
+/// Makes a table of copies of some rows, which ascend by key, stamp and node. A key is looked up for its first row
+/// only. It may run out of memory.
 pub fn table_of(alloc: Global, rows: &[Row]) -> Result<Table, NoMemory>
     requires { RowsAscend rows.now }
     ensures { IfOk result (λ table. IsPermutation rows.now table) }
@@ -44,8 +44,8 @@ pub fn table_of(alloc: Global, rows: &[Row]) -> Result<Table, NoMemory>
     Ok(table)
 }
 
-/// A table of some rows, which ascend by key, stamp and node. Their values are moved. Where memory runs out, the rows
-/// are lost.
+/// Makes a table of some rows, which ascend by key, stamp and node. Their values are moved. If memory runs out, the
+/// rows are lost.
 pub fn table_of_moved(alloc: Global, rows: Vec<Row>) -> Result<Table, NoMemory>
     requires { RowsAscend rows.items }
     ensures { IfOk result (λ table. IsPermutation rows.items table) }

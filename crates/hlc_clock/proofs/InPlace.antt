@@ -1,4 +1,4 @@
--- Writes into a text in place append: what several of them wrote together stands behind what stood there.
+-- Writes into a text in place append: what several of them wrote together comes after the text that was there before.
 use Rattle.std.proofs.Common.{◌≡◌, ℕ, List, [], ◌∷◌, ◌++◌, sym, ap, subst, ◌∙◌, append-nil, append_assoc}
 use Rattle.std.specs.List.{FoldsTo, concat}
 use Rattle.std.specs.Fmt.{WritesInCalls}
@@ -15,7 +15,7 @@ module _ {n : ℕ} where
       let rest = after_calls calls.0 parts t calls.2 first.0 in
       (rest.0, rest.1 ∙ ap (λ l. l ++ concat parts) first.1 ∙ append_assoc (inline_text s) x (concat parts))
 
-  -- a text that was empty holds just what was written
+  -- a text that was empty contains just what was written
   pub only_written : (s : InlineText n) (bs : List ℕ) (t : InlineText n) → WritesInCalls AppendsIfIntact s bs t
       → IsIntact s → inline_text s ≡ [] → inline_text t ≡ bs
   only_written s bs t wrote intact empty =

@@ -1,5 +1,5 @@
--- The points of a vacuum. Sorted and without repeats, the stamps and the floor rise, and the floor, which no stamp
--- exceeds, is the last. There is one list of them, since two rising lists of the same numbers are equal.
+-- The points of a vacuum. The stamps and the floor, sorted and without repeats, ascend, and the floor, which no stamp
+-- exceeds, is the last. There is one list of them, since two ascending lists of the same numbers are equal.
 use Rattle.std.proofs.Common.{◌≡◌, ℕ, ◌+◌, ◌<◌, ◌≤◌, List, [], ◌∷◌, ◌++◌, length, refl, ap, sym, ◌∙◌, subst, inl, inr}
 use Rattle.std.proofs.Common.{arith}
 use Rattle.std.specs.Prelude.{All, Contains, eqb}
@@ -15,7 +15,7 @@ use Rattle.std.proofs.lemmas.Map.Keys.{IsStrictlyIncreasing-dedup}
 use Rattle.hlc_values.proofs.SortedLemmas.{same_members, last-greatest}
 use Rattle.hlc_clock.specs.Points.{ArePoints, PointsAscend, last_point}
 
--- what a sort and a removal of repeats leave of the stamps and the floor are the points
+-- the stamps and the floor, sorted and without repeats, are the points
 pub points-from_sorted : (stamps sorted points : List ℕ) (floor : ℕ) → All (λ stamp. stamp ≤ floor) stamps
     → IsPermutation (stamps ++ floor ∷ []) sorted → IsSorted nat_cmp sorted → points ≡ dedup eqb sorted
     → ArePoints stamps floor points
@@ -55,7 +55,7 @@ ArePoints-unique stamps xs ys floor a b =
     (AllPairs-from_increasing xs a.ascending) (AllPairs-from_increasing ys b.ascending)
     (λ z. (λ m. (b.members z).1 ((a.members z).0 m), λ m. (a.members z).1 ((b.members z).0 m)))
 
--- the floor is there, and the points ascend
+-- the floor is among them, and the points ascend
 pub points-ascend : (stamps points : List ℕ) (floor : ℕ) → ArePoints stamps floor points → PointsAscend points
 points-ascend stamps points floor are =
     let long : length points ≡ length are.last.0 + 1 = ap length are.last.1 ∙ length-append are.last.0 (floor ∷ []) in

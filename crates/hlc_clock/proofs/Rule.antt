@@ -1,5 +1,5 @@
--- The function that gives a clock's answer meets the clock's rule: the next stamp is the least one above each earlier
--- stamp and not below the reading, since it is the greater of the two least bounds.
+-- The function that computes a clock's answer meets the clock's rule: the next stamp is the least one above each
+-- earlier stamp and not below the reading, since it is the greater of the two least bounds.
 use Rattle.std.proofs.Common.{◌≡◌, ℕ, suc, ◌+◌, ◌*◌, ◌<◌, ◌≤◌, List, [], ◌∷◌, length, max, true, refl, arith, inl, inr}
 use Rattle.std.specs.Prelude.{All, Contains, nat_lt, nat_le}
 use Rattle.std.proofs.lemmas.List.Elements.{All-nil, All-cons, All-head, All-tail, All-weaker}
@@ -9,7 +9,8 @@ use Rattle.std.proofs.lemmas.Bool.{both_ways}
 use Rattle.std.specs.Bool.{Decides}
 use Rattle.hlc_clock.specs.declared.stamp.TheConstants.{READING_BOUND, COUNTER_BOUND}
 use Rattle.hlc_clock.specs.Stamp.{physical}
-use Rattle.hlc_clock.specs.NextStamp.{IsNext, IsCarried, above, greatest, next_stamp, all_below, is_carried, stamp_due}
+use Rattle.hlc_clock.specs.NextStamp.{IsNext, IsCarried, above, greatest, next_stamp, all_below, is_carried}
+use Rattle.hlc_clock.specs.NextStamp.{expected_stamp}
 use Rattle.hlc_clock.specs.NextStamp.{IsClockAnswer}
 
 above-all : (es : List ℕ) → All (λ e. e < above es) es
@@ -64,7 +65,7 @@ next_stamp-is_next es p = record {
       let b : COUNTER_BOUND * p ≤ other = h.not_below in omega arith);
 }
 
--- there is one next stamp at most
+-- there is at most one next stamp
 pub IsNext-unique : (es : List ℕ) (p s t : ℕ) → IsNext es p s → IsNext es p t → s ≡ t
 IsNext-unique es p s t h k =
     let a : s ≤ t = h.least t k.after in let b : t ≤ s = k.least s h.after in omega arith
@@ -82,9 +83,9 @@ carried-from : (es : List ℕ) (p : ℕ) → IsCarried es p (next_stamp es p) �
 carried-from es p h =
     and_from _ _ (lt-ltb _ _ h.past_reading) ((all_below-Decides es (physical (next_stamp es p))).1 h.past_earlier)
 
--- the answer by the function is the answer by the rule
-pub due_is_answer : (e : ℕ) (es : List ℕ) (p : ℕ) → IsClockAnswer (e ∷ es) p (stamp_due (e ∷ es) p)
-due_is_answer e es p =
+-- the answer of the function meets the rule
+pub expected_is_answer : (e : ℕ) (es : List ℕ) (p : ℕ) → IsClockAnswer (e ∷ es) p (expected_stamp (e ∷ es) p)
+expected_is_answer e es p =
     elim (cases_Bool (nat_le READING_BOUND p)) [
       | inl large ↦ rw large (leb-true READING_BOUND p large)
       | inr small ↦

@@ -1,4 +1,4 @@
--- What a clock's refusal is called: its number, the word that comes with it, and its text.
+-- The refusals of a clock: the number, the word and the text of each.
 use Rattle.std.specs.Prelude.{ℕ, List, ◌++◌, codes}
 use Rattle.hlc_clock.specs.Stamp.{stamp_text}
 use Rattle.hlc_clock.specs.declared.clock.ClockFault.{ClockFault}
@@ -9,7 +9,7 @@ abbrev pub clock_code : ClockFault → ℕ
 clock_code ReadingTooLarge = 2
 clock_code (CounterFull at) = 3
 
--- the word that comes with it, 0 where there is none
+-- the word of the stamp in it, 0 if there is none
 abbrev pub clock_word : ClockFault → ℕ
 clock_word ReadingTooLarge = 0
 clock_word (CounterFull at) = at

@@ -1,4 +1,4 @@
--- The rule of the clock: the stamp of an event, by the stamps of earlier events and a reading.
+-- The rule of the clock: the stamp of an event, from the stamps of earlier events and a reading.
 use Rattle.std.specs.Prelude.{ℕ, ◌+◌, ◌*◌, ◌<◌, ◌≤◌, List, [], ◌∷◌, All, max, Contains, Bool, true, ◌&&◌, nat_lt}
 use Rattle.std.specs.Prelude.{nat_le, if◌then◌else◌, Result, Ok, Err}
 use Rattle.hlc_clock.specs.declared.stamp.TheConstants.{READING_BOUND, COUNTER_BOUND}
@@ -6,7 +6,7 @@ use Rattle.hlc_clock.specs.Stamp.{physical}
 use Rattle.hlc_clock.specs.declared.clock.ClockFault.{ClockFault}
 use Rattle.hlc_clock.specs.declared.clock.ClockFault.TheVariants.{ReadingTooLarge, CounterFull}
 
--- the stamp lies above every earlier one, and not below the reading
+-- the stamp is above every earlier one, and not below the reading
 pub record IsAfter (earlier : List ℕ) (reading stamp : ℕ) : Type 0 where
   pub above : All (λ other. other < stamp) earlier
   pub not_below : COUNTER_BOUND * reading ≤ stamp
@@ -16,7 +16,7 @@ pub record IsNext (earlier : List ℕ) (reading stamp : ℕ) : Type 0 where
   pub after : IsAfter earlier reading stamp
   pub least : (other : ℕ) → IsAfter earlier reading other → stamp ≤ other
 
--- the counter went over into the physical part, which exceeds the reading and that of each earlier stamp
+-- the counter overflowed into the physical part, which exceeds the reading and the physical part of each earlier stamp
 pub record IsCarried (earlier : List ℕ) (reading stamp : ℕ) : Type 0 where
   pub past_reading : reading < physical stamp
   pub past_earlier : All (λ other. physical other < physical stamp) earlier
@@ -26,8 +26,9 @@ pub record IsGreatest (stamps : List ℕ) (stamp : ℕ) : Type 0 where
   pub member : Contains stamps stamp
   pub greatest : All (λ other. other ≤ stamp) stamps
 
--- What a clock answers. The reading is refused where it is too large. Else the counter is full where the next stamp
--- would be carried, and the greatest earlier stamp is named. Else it is the next stamp.
+-- What a clock returns. It refuses the reading if that is too large. Else, if the counter of the next stamp would
+-- overflow into the physical part, it refuses the event and names the greatest earlier stamp. Else it returns the next
+-- stamp.
 abbrev pub IsClockAnswer : List ℕ → ℕ → Result ℕ ClockFault → Type 0
 IsClockAnswer earlier reading (Err ReadingTooLarge) = READING_BOUND ≤ reading
 IsClockAnswer earlier reading (Err (CounterFull at)) =
@@ -43,7 +44,7 @@ abbrev pub above : List ℕ → ℕ
 above [] = 0
 above (stamp ∷ stamps) = max (stamp + 1) (above stamps)
 
--- the greatest of some stamps, 0 where there is none
+-- the greatest of some stamps, 0 if there is none
 abbrev pub greatest : List ℕ → ℕ
 greatest [] = 0
 greatest (stamp ∷ stamps) = max stamp (greatest stamps)
@@ -62,9 +63,9 @@ abbrev pub is_carried : List ℕ → ℕ → Bool
 is_carried earlier reading =
     nat_lt reading (physical (next_stamp earlier reading)) && all_below earlier (physical (next_stamp earlier reading))
 
--- the one answer of a clock
-abbrev pub stamp_due : List ℕ → ℕ → Result ℕ ClockFault
-stamp_due earlier reading =
+-- the one result that a clock may return
+abbrev pub expected_stamp : List ℕ → ℕ → Result ℕ ClockFault
+expected_stamp earlier reading =
     if nat_le READING_BOUND reading then Err ReadingTooLarge
     else if is_carried earlier reading then Err (CounterFull (greatest earlier))
     else Ok (next_stamp earlier reading)

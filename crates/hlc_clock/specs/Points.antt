@@ -1,4 +1,4 @@
--- Points: the stamps at which rows are asked.
+-- Points: the stamps at which rows are read.
 use Rattle.std.specs.Prelude.{◌≡◌, ℕ, ◌<◌, ◌≤◌, ◌⊎◌, ◌↔◌, List, [], ◌∷◌, ◌++◌, length, Option, Some, None, All}
 use Rattle.std.specs.Prelude.{Contains}
 use Rattle.std.specs.List.Sorted.{IsStrictlyIncreasing}
@@ -13,7 +13,7 @@ IsPointBefore points None at = All (λ point. at ≤ point) points
 IsPointBefore points (Some before) at =
     Contains points before × (before < at) × All (λ point. point < at → point ≤ before) points
 
--- the last point, 0 where there is none
+-- the last point, 0 if there is none
 abbrev pub last_point : List ℕ → ℕ
 last_point [] = 0
 last_point (point ∷ []) = point

@@ -1,33 +1,24 @@
 //! The clock of a node.
 ghost use Rattle.std.specs.Prelude.{◌≡◌, ℕ, [], ◌∷◌, IfOk, OnErr};
-ghost use Rattle.std.proofs.Common.{rules};
-ghost use Rattle.std.proofs.lemmas.Grind.{common_steps};
-ghost use Rattle.hlc_clock.specs.NextStamp.{stamp_due, IsClockAnswer};
+ghost use Rattle.hlc_clock.specs.NextStamp.{expected_stamp, IsClockAnswer};
 ghost use Rattle.hlc_clock.specs.Faults.{clock_code, clock_word};
 
 use crate::stamp::{COUNTER_BOUND, READING_BOUND, Stamp};
-use hlc_values::Exact;
 use std::error::Error;
 use std::fmt;
 use std::marker::Model;
 
-/// Why a clock gives no stamp.
+/// Why a clock refuses to stamp an event.
 #[derive(Clone, Copy, PartialEq, Eq, Debug)]
 pub enum ClockFault {
     /// The reading is 2^48 or more.
     ReadingTooLarge,
-    /// The event needs a counter of 65,536; `at` is the greatest earlier stamp.
+    /// The counter would have to be 65,536; `at` is the greatest earlier stamp.
     CounterFull { at: Stamp },
 }
 
-impl Exact for ClockFault {
-    ghost equal = { Prim.search (rules, common_steps) };
-
-    ghost copied = { Prim.search rules };
-}
-
 impl ClockFault {
-    /// Its number: 2 or 3.
+    /// Returns the number of this refusal: 2 or 3.
     pub fn code(self) -> u32
         ensures { result ≡ clock_code self }
     {
@@ -37,7 +28,7 @@ impl ClockFault {
         }
     }
 
-    /// The word of the stamp that comes with it, or 0.
+    /// Returns the word of the stamp in this refusal, or 0.
     pub fn word(self) -> u64
         ensures { result ≡ clock_word self }
     {
@@ -64,11 +55,11 @@ impl fmt::Display for ClockFault {
 
 impl Error for ClockFault {}
 
-/// A node's clock, which remembers the stamp of the node's last event. Contracts see it as that
+/// A node's clock, which remembers the stamp of the node's last event. In contracts it is that
 /// stamp.
 ///
-/// The rule is that of Kulkarni et al. 2014 for hybrid logical clocks, with one difference: where
-/// the counter has no room the event is refused, and nothing is carried into the physical part.
+/// The rule is that of Kulkarni et al. 2014 for hybrid logical clocks, with one difference: if the
+/// counter is full, the event is refused, and nothing is carried into the physical part.
 #[repr(C)]
 #[derive(Clone, Copy, PartialEq, Eq, Debug)]
 pub struct Clock {
@@ -85,34 +76,28 @@ impl Model for Clock {
     ghost inverse = { λ stamp. record { last = stamp } };
 }
 
-impl Exact for Clock {
-    ghost equal = { Prim.search (rules, common_steps) };
-
-    ghost copied = { Prim.search rules };
-}
-
 impl Clock {
-    /// A clock whose last event had this stamp.
+    /// Returns a clock whose last event had this stamp.
     pub fn starting_at(stamp: Stamp) -> Clock
         ensures { result ≡ stamp }
     {
         Clock { last: stamp }
     }
 
-    /// The stamp of the last event.
+    /// Returns the stamp of the last event.
     pub fn now(&self) -> Stamp
         ensures { result ≡ self.now }
     {
         self.last
     }
 
-    /// Stamps a local event or a send at this reading of the physical clock: with the least stamp
-    /// above the last one and not below the reading.
+    /// Stamps a local event or a send at this reading of the physical clock. The new stamp is the
+    /// least one above the last stamp and not below the reading.
     ///
-    /// A reading of 2^48 or more is refused first. After a refusal the clock is unchanged.
+    /// A reading of 2^48 or more is refused first. A refusal leaves the clock unchanged.
     pub fn tick(&mut self, reading: u64) -> Result<Stamp, ClockFault>
         ensures rule { IsClockAnswer (self.old ∷ []) reading result }
-        ensures value { result ≡ stamp_due (self.old ∷ []) reading }
+        ensures value { result ≡ expected_stamp (self.old ∷ []) reading }
         ensures ok { IfOk result (λ stamp. self.new ≡ stamp) }
         ensures err { OnErr result (self.new ≡ self.old) }
     {
@@ -123,15 +108,15 @@ impl Clock {
         answer
     }
 
-    /// Stamps the receipt of a message, or the sight of a snapshot, that bears the stamp `seen`, at
-    /// this reading of the physical clock: with the least stamp above the last one and above the
-    /// one seen, and not below the reading.
+    /// Stamps the receipt of a message, or the observation of a snapshot, with the stamp `seen`, at
+    /// this reading of the physical clock. The new stamp is the least one above the last stamp and
+    /// above `seen`, and not below the reading.
     ///
-    /// A reading of 2^48 or more is refused first. Where the counter is full, `at` is the greater
-    /// of the two. After a refusal the clock is unchanged.
+    /// A reading of 2^48 or more is refused first. If the counter is full, `at` is the greater of
+    /// the last stamp and `seen`. A refusal leaves the clock unchanged.
     pub fn receive(&mut self, seen: Stamp, reading: u64) -> Result<Stamp, ClockFault>
         ensures rule { IsClockAnswer (self.old ∷ seen ∷ []) reading result }
-        ensures value { result ≡ stamp_due (self.old ∷ seen ∷ []) reading }
+        ensures value { result ≡ expected_stamp (self.old ∷ seen ∷ []) reading }
         ensures ok { IfOk result (λ stamp. self.new ≡ stamp) }
         ensures err { OnErr result (self.new ≡ self.old) }
     {
@@ -143,15 +128,15 @@ impl Clock {
     }
 }
 
-/// The stamp of a receipt after the node's last stamp and the one that was seen.
+/// Returns the stamp of a receipt, from the node's last stamp and the stamp that it has seen.
 fn stamp_after_both(last: Stamp, seen: Stamp, reading: u64) -> Result<Stamp, ClockFault>
-    ensures { result ≡ stamp_due (last ∷ seen ∷ []) reading }
+    ensures { result ≡ expected_stamp (last ∷ seen ∷ []) reading }
 {
     if reading >= READING_BOUND {
         return Err(ClockFault::ReadingTooLarge);
     }
     let l = last.l().max(seen.l()).max(reading);
-    // The counter goes on from the earlier stamps that have this physical part.
+    // The counter continues from the earlier stamps that have this physical part.
     let counter = if l == last.l() && l == seen.l() {
         last.c().max(seen.c())
     } else if l == last.l() {
@@ -159,7 +144,7 @@ fn stamp_after_both(last: Stamp, seen: Stamp, reading: u64) -> Result<Stamp, Clo
     } else if l == seen.l() {
         seen.c()
     } else {
-        // The physical clock has gone on past both: the counter starts anew.
+        // The physical clock is ahead of both stamps: the counter starts again at 0.
         return Ok(Stamp::from_bits(l * COUNTER_BOUND));
     };
     if counter == u16::MAX {
@@ -168,18 +153,18 @@ fn stamp_after_both(last: Stamp, seen: Stamp, reading: u64) -> Result<Stamp, Clo
     Ok(Stamp::from_bits(l * COUNTER_BOUND + counter as u64 + 1))
 }
 
-/// The stamp of an event after the one that had this stamp.
+/// Returns the stamp of an event, from the node's last stamp.
 fn stamp_after(last: Stamp, reading: u64) -> Result<Stamp, ClockFault>
-    ensures { result ≡ stamp_due (last ∷ []) reading }
+    ensures { result ≡ expected_stamp (last ∷ []) reading }
 {
     if reading >= READING_BOUND {
         return Err(ClockFault::ReadingTooLarge);
     }
-    // The physical clock has gone on: the counter starts anew.
+    // The physical clock is ahead of the last stamp: the counter starts again at 0.
     if reading > last.l() {
         return Ok(Stamp::from_bits(reading * COUNTER_BOUND));
     }
-    // It has not, so the counter tells the events apart.
+    // It is not, so the counter makes the stamps differ.
     if last.c() == u16::MAX {
         return Err(ClockFault::CounterFull { at: last });
     }

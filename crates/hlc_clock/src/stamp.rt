@@ -12,20 +12,20 @@ ghost use Rattle.std.proofs.lemmas.Cmp.{nat_cmp_total, nat_eq_equiv};
 ghost use Rattle.hlc_clock.specs.declared.stamp.TheConstants.{READING_BOUND, COUNTER_BOUND};
 ghost use Rattle.hlc_clock.specs.Stamp.{physical, counter, stamp_text};
 
-use hlc_values::{Exact, NoMemory};
+use hlc_values::NoMemory;
 use std::cmp::Ordering;
 use std::error::Error;
 use std::fmt::{self, InlineText, Write};
 use std::hash::{Hash, Hasher};
 use std::marker::Model;
 
-/// Each reading, and each physical part of a stamp, is below this.
+/// The exclusive upper bound of readings and of the physical parts of stamps.
 pub const READING_BOUND: u64 = 281_474_976_710_656;
 
-/// Each counter of a stamp is below this.
+/// The exclusive upper bound of the counters of stamps.
 pub const COUNTER_BOUND: u64 = 65536;
 
-/// The physical part has 48 bits, and the counter 16.
+/// The bounds are 2^48 for the physical part and 2^16 for the counter.
 pub fn stamps_have_48_and_16_bits()
     ensures reading { READING_BOUND ≡ 2 ^ 48 }
     ensures counter { COUNTER_BOUND ≡ 2 ^ 16 }
@@ -47,18 +47,12 @@ impl fmt::Display for ReadingTooLarge {
 
 impl Error for ReadingTooLarge {}
 
-impl Exact for ReadingTooLarge {
-    ghost equal = { Prim.search (comparing, rules) };
-
-    ghost copied = { Prim.search rules };
-}
-
 /// A stamp of a hybrid logical clock, in the compact form of Kulkarni et al. 2014.
 ///
-/// The physical part `l` has 48 bits, in the unit of the readings; the counter `c` has 16.
-/// Both stand in one word, `l * 65536 + c`, so stamps compare as their words do. Contracts see
-/// a stamp as that word. It is printed `l.c`, both in decimal; width, fill, alignment and precision
-/// are those of a `str` of that text.
+/// The physical part `l` has 48 bits, in the unit of the readings; the counter `c` has 16. Both are
+/// in one word, `l * 65536 + c`, so stamps are ordered by their words. In contracts a stamp is that
+/// word. It is printed `l.c`, both in decimal; width, fill, alignment and precision are those of a
+/// `str` of that text.
 #[repr(C)]
 #[derive(Copy, Debug)]
 pub struct Stamp {
@@ -74,10 +68,10 @@ impl Model for Stamp {
 }
 
 impl Stamp {
-    /// The stamp 0.0, which is below that of every event.
+    /// The stamp 0.0, which is below the stamp of every event.
     pub const ZERO: Stamp = Stamp { bits: 0 };
 
-    /// The stamp of these parts, refused where the physical part has more than 48 bits.
+    /// Returns the stamp with these parts. A physical part of more than 48 bits is refused.
     pub fn new(l: u64, c: u16) -> Result<Stamp, ReadingTooLarge>
         ensures { MatchResult result
             (λ stamp. (l < READING_BOUND) × (stamp ≡ COUNTER_BOUND * l + c))
@@ -91,14 +85,14 @@ impl Stamp {
         })
     }
 
-    /// The stamp of this word. Each word is a stamp's.
+    /// Returns the stamp with this word. Every word is the word of a stamp.
     pub fn from_bits(bits: u64) -> Stamp
         ensures { result ≡ bits }
     {
         Stamp { bits }
     }
 
-    /// The stamp's word.
+    /// Returns the stamp's word.
     pub fn bits(self) -> u64
         ensures value { result ≡ self }
         ensures range { self < 2 ^ 64 }
@@ -106,14 +100,14 @@ impl Stamp {
         self.bits
     }
 
-    /// The physical part, below 2^48.
+    /// Returns the physical part, which is below 2^48.
     pub fn l(self) -> u64
         ensures { result ≡ physical self }
     {
         self.bits / COUNTER_BOUND
     }
 
-    /// The counter.
+    /// Returns the counter.
     pub fn c(self) -> u16
         ensures { result ≡ counter self }
     {
@@ -177,12 +171,6 @@ impl Ord for Stamp {
     }
 }
 
-impl Exact for Stamp {
-    ghost equal = { Prim.search (comparing, rules) };
-
-    ghost copied = { λ stamp copy same. same };
-}
-
 impl Hash for Stamp {
     ghost hash_input = { fed.u64 };
 
@@ -204,7 +192,7 @@ impl fmt::Display for Stamp {
     }
 }
 
-/// The text of a stamp, in place. It has 21 bytes at most.
+/// Writes the text of a stamp in place. It has at most 21 bytes.
 fn text_of(stamp: Stamp) -> Result<InlineText<21>, fmt::Error>
     ensures { IfOk result (λ text. inline_text text ≡ stamp_text stamp) }
 {

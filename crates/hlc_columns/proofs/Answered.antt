@@ -1,5 +1,5 @@
--- The answers of columns in turn are those of the table, for no other column has the key; and as keys ascend, no key
--- after the first that is not below the end is below it.
+-- The answers of columns in turn are those of the table, since no other column has the key; and since keys ascend, no
+-- key after the first that is not below the end is below it.
 use Rattle.std.proofs.Common.{◌≡◌, ◌≢◌, ◌++◌, ◌∷◌, ◌∙◌, ℕ, List, [], Bool, true, false}
 use Rattle.std.proofs.Common.{cond, Option, Some, None, refl, sym}
 use Rattle.std.proofs.Common.{ap, subst, inl, inr, Contains, map, All, Less, Equal, Greater, Ordering}
@@ -20,7 +20,7 @@ use Rattle.hlc_node.proofs.NewestLemmas.{newest_is_greatest}
 use Rattle.hlc_index.specs.Entries.{key_cmp}
 use Rattle.hlc_columns.specs.Rows.{rows_of}
 use Rattle.hlc_columns.specs.Table.{table_rows}
-use Rattle.hlc_columns.specs.Answers.{answers_in, told, is_below, IsBetween, AreAnswers}
+use Rattle.hlc_columns.specs.Answers.{answers_in, value_here, is_below, IsBetween, AreAnswers}
 use Rattle.hlc_columns.proofs.Found.{newest_alone}
 use Rattle.hlc_columns.proofs.Keys.{names, name_of_row}
 use Rattle.hlc_columns.proofs.WalkLemmas.{Entry, one_of}
@@ -94,10 +94,10 @@ answered es key value bound is =
     entry_of es key (subst (Contains (names es)) at.of_key (name_of_row es top.0 at.member))
 
 -- ---- each pair is a key with its answer
-told_pair : (key : List ℕ) (o : Option (List ℕ)) (k v : List ℕ) → Contains (told key o) (k, v)
+pair_is : (key : List ℕ) (o : Option (List ℕ)) (k v : List ℕ) → Contains (value_here key o) (k, v)
     → (key ≡ k) × (o ≡ Some v)
-told_pair key None k v m = absurd (Contains-none {X = Pair} (k, v) m)
-told_pair key (Some value) k v m = elim (Contains-cons_cases {X = Pair} (key, value) (k, v) [] m) [
+pair_is key None k v m = absurd (Contains-none {X = Pair} (k, v) m)
+pair_is key (Some value) k v m = elim (Contains-cons_cases {X = Pair} (key, value) (k, v) [] m) [
   | inl same ↦ (ap (λ (p : Pair). p.0) same, ap (λ (p : Pair). Some p.1) same)
   | inr none ↦ absurd (Contains-none {X = Pair} (k, v) none)
 ]
@@ -107,13 +107,13 @@ value_of : (es : List Entry) (bound : ℕ) (to : Option (List ℕ)) (k v : List 
     → (e : Entry) × Contains es e × (e.0 ≡ k) × (is_below to k ≡ true) × (own e bound ≡ Some v)
 value_of [] bound to k v m = absurd (Contains-none {X = Pair} (k, v) m)
 value_of (e ∷ es) bound to k v m =
-    let some : List Pair = told e.0 (own e bound) ++ answers_in es bound to in
+    let some : List Pair = value_here e.0 (own e bound) ++ answers_in es bound to in
     let P : Bool → Type 0 = λ b. Contains (cond b some []) (k, v) in
     elim (cases_Bool (is_below to e.0)) [
-      | inl t ↦ elim (Contains-append_cases {X = Pair} (told e.0 (own e bound)) (answers_in es bound to) (k, v)
+      | inl t ↦ elim (Contains-append_cases {X = Pair} (value_here e.0 (own e bound)) (answers_in es bound to) (k, v)
           (subst P t m)) [
             | inl here ↦
-                let is = told_pair e.0 (own e bound) k v here in
+                let is = pair_is e.0 (own e bound) k v here in
                 (e, Contains-first e es, is.0, subst (λ x. is_below to x ≡ true) is.0 t, is.1)
             | inr there ↦
                 let r = value_of es bound to k v there in
@@ -129,17 +129,17 @@ listed : (es : List Entry) (bound : ℕ) (to : Option (List ℕ)) (k v : List �
     → Contains (answers_in es bound to) (k, v)
 listed [] bound to k v e up m is under value = absurd (Contains-none e m)
 listed (x ∷ es) bound to k v e up m is under value =
-    let first : List Pair = told x.0 (own x bound) in
+    let first : List Pair = value_here x.0 (own x bound) in
     let rest : List Pair = answers_in es bound to in
     let P : Bool → Type 0 = λ b. Contains (cond b (first ++ rest) []) (k, v) in
     elim (Contains-cons_cases x e es m) [
       | inl same ↦
           let key : x.0 ≡ k = ap (λ (z : Entry). z.0) same ∙ is in
-          let told_too : own x bound ≡ Some v = ap (λ (z : Entry). own z bound) same ∙ value in
+          let value_too : own x bound ≡ Some v = ap (λ (z : Entry). own z bound) same ∙ value in
           subst P (sym (ap (is_below to) key ∙ under))
           (Contains-append_left {X = Pair} first rest (k, v)
-          (subst (λ o. Contains (told x.0 o) (k, v)) (sym told_too)
-          (subst (λ y. Contains (told y (Some v)) (k, v)) (sym key) (Contains-first {X = Pair} (k, v) []))))
+          (subst (λ o. Contains (value_here x.0 o) (k, v)) (sym value_too)
+          (subst (λ y. Contains (value_here y (Some v)) (k, v)) (sym key) (Contains-first {X = Pair} (k, v) []))))
       | inr there ↦
           let lt : key_cmp x.0 k ≡ Less =
           subst (λ y. key_cmp x.0 y ≡ Less) is (later x.0 es e (sorted_head key_cmp x.0 (names es) up) there) in
@@ -149,41 +149,43 @@ listed (x ∷ es) bound to k v e up m is under value =
     ]
 
 -- ---- in the order of the keys
-all_told : (P : List ℕ → Type 0) (key : List ℕ) (o : Option (List ℕ)) (pairs : List Pair)
-    → P key → AllByRecursion P (firsts pairs) → AllByRecursion P (firsts (told key o ++ pairs))
-all_told P key None pairs at rest = rest
-all_told P key (Some value) pairs at rest = (at, rest)
+all_claimed : (P : List ℕ → Type 0) (key : List ℕ) (o : Option (List ℕ)) (pairs : List Pair)
+    → P key → AllByRecursion P (firsts pairs) → AllByRecursion P (firsts (value_here key o ++ pairs))
+all_claimed P key None pairs at rest = rest
+all_claimed P key (Some value) pairs at rest = (at, rest)
 
 all_answers : (P : List ℕ → Type 0) (es : List Entry) (bound : ℕ) (to : Option (List ℕ)) → AllByRecursion P (names es)
     → AllByRecursion P (firsts (answers_in es bound to))
 all_answers P [] bound to all = tt
 all_answers P (e ∷ es) bound to all =
-    elim (is_below to e.0) as (λ b. AllByRecursion P (firsts (cond b (told e.0 (own e bound) ++ answers_in es bound to)
+    elim (is_below to e.0) as
+    (λ b. AllByRecursion P (firsts (cond b (value_here e.0 (own e bound) ++ answers_in es bound to)
     []))) [
-      | true ↦ all_told P e.0 (own e bound) (answers_in es bound to) all.0 (all_answers P es bound to all.1)
+      | true ↦ all_claimed P e.0 (own e bound) (answers_in es bound to) all.0 (all_answers P es bound to all.1)
       | false ↦ tt
     ]
 
-sorted_told : (key : List ℕ) (o : Option (List ℕ)) (pairs : List Pair)
+sorted_pair : (key : List ℕ) (o : Option (List ℕ)) (pairs : List Pair)
     → AllByRecursion (λ k. key_cmp key k ≡ Less) (firsts pairs) → IsStrictlySortedBy key_cmp (firsts pairs)
-    → IsStrictlySortedBy key_cmp (firsts (told key o ++ pairs))
+    → IsStrictlySortedBy key_cmp (firsts (value_here key o ++ pairs))
 unfolding IsStrictlySortedBy
-sorted_told key None pairs below rest = rest
-sorted_told key (Some value) pairs below rest = (below, rest)
+sorted_pair key None pairs below rest = rest
+sorted_pair key (Some value) pairs below rest = (below, rest)
 
 sorted_answers : (es : List Entry) (bound : ℕ) (to : Option (List ℕ)) → IsStrictlySortedBy key_cmp (names es)
     → IsStrictlySortedBy key_cmp (firsts (answers_in es bound to))
 unfolding IsStrictlySortedBy
 sorted_answers [] bound to up = tt
 sorted_answers (e ∷ es) bound to up =
-    elim (is_below to e.0) as (λ b. IsStrictlySortedBy key_cmp (firsts (cond b (told e.0 (own e bound) ++ answers_in es
+    elim (is_below to e.0) as
+    (λ b. IsStrictlySortedBy key_cmp (firsts (cond b (value_here e.0 (own e bound) ++ answers_in es
     bound to) []))) [
-      | true ↦ sorted_told e.0 (own e bound) (answers_in es bound to)
+      | true ↦ sorted_pair e.0 (own e bound) (answers_in es bound to)
           (all_answers (λ k. key_cmp e.0 k ≡ Less) es bound to up.0) (sorted_answers es bound to up.1)
       | false ↦ tt
     ]
 
--- from a place on, where all in front are below a key and none behind is
+-- from a position on, if all keys before it are below a key and none from there on is
 pub answers_are : (front back : List Entry) (bound : ℕ) (from : List ℕ) (to : Option (List ℕ))
     → IsStrictlySortedBy key_cmp (names (front ++ back)) → All (λ e. key_cmp e.0 from ≡ Less) front
     → All (λ e. key_cmp e.0 from ≢ Less) back
@@ -202,17 +204,17 @@ answers_are front back bound from to up below others = record {
         ),
     λ (within, is).
         let e = answered (front ++ back) key value bound is in
-        let told_too : own e.0 bound ≡ Some value =
+        let value_too : own e.0 bound ≡ Some value =
         sym (alone (front ++ back) up e.0 e.1 bound) ∙ ap (λ k. answer (table_rows (front ++ back)) k bound) e.2 ∙ is in
         elim (Contains-append_cases front back e.0 e.1) [
           | inl here ↦ absurd (within.0 (subst (λ k. key_cmp k from ≡ Less) e.2
               (all_at (λ e. key_cmp e.0 from ≡ Less) front e.0 below here)))
-          | inr there ↦ listed back bound to key value e.0 (sorted_back front back up) there e.2 within.1 told_too
+          | inr there ↦ listed back bound to key value e.0 (sorted_back front back up) there e.2 within.1 value_too
         ],
   );
 }
 
--- the same of all keys
+-- the same for all keys
 pub all_are : (es : List Entry) (bound : ℕ) → IsStrictlySortedBy key_cmp (names es)
     → AreAnswers (table_rows es) bound (λ key. Unit {0}) (answers_in es bound None)
 all_are es bound up =

@@ -1,5 +1,6 @@
--- The members of a list whose flags are set: of two lists one behind the other, after a map, and of a row set, which
--- they are again since each stood in it; so are the rows that pass a test. Each is shown by going through the list.
+-- The members of a list whose flags are set: of two lists one after the other, after a map, and of a row set, where
+-- they are a row set again since each was in it; so are the rows that pass a test. Each is shown by going through the
+-- list.
 use Rattle.std.proofs.Common.{◌≡◌, Bool, true, false, List, [], ◌∷◌, ◌++◌, length, refl, ap, inl, inr}
 use Rattle.std.proofs.Common.{arith, cond, Contains, filter, map, take, drop}
 use Rattle.std.specs.List.{items_where_true}
@@ -11,7 +12,7 @@ pub flagged-none : {X : Type 0} (flags : List Bool) → items_where_true {X = X}
 flagged-none [] = refl
 flagged-none (b ∷ flags) = refl
 
--- flags of some rows, and those of the others
+-- the flags of some rows, and those of the others
 pub flagged-append : {X : Type 0} (xs ys : List X) (flags : List Bool)
     → length flags ≡ length (xs ++ ys) → items_where_true flags (xs ++ ys)
     ≡ items_where_true (take (length xs) flags) xs ++ items_where_true (drop (length xs) flags) ys

@@ -1,5 +1,5 @@
--- Looking a key up: the rows of a key are those of its column, for the keys ascend,
--- so that no other column has the key.
+-- The look-up of a key: the rows of a key are those of its column, since the keys ascend, so that no other column has
+-- the key.
 use Rattle.std.proofs.Common.{◌≡◌, ◌≢◌, ℕ, ◌<◌, Bool, true, false, cond, List, [], ◌∷◌, ◌++◌, Option, Some}
 use Rattle.std.proofs.Common.{None, length, refl, Bor, ◌↔◌, sym, ap, ap₂, ◌∙◌, subst, inl, inr, arith, Contains}
 use Rattle.std.proofs.Common.{true≢false, Less, nat_cmp}
@@ -36,11 +36,11 @@ abbrev pub cells_in : Option (List Cell) → List Cell
 cells_in None = []
 cells_in (Some cells) = cells
 
--- a key's test
+-- the test for a key
 abbrev pub test : List ℕ → List ℕ → Bool
 test key k = is_eq (slice_cmp nat_cmp key k)
 
--- of a column's rows, all have its key and none another
+-- all of a column's rows have its key, and none has another
 own_rows : (key : List ℕ) (cells : List Cell) → rows_with key (rows_of key cells) ≡ rows_of key cells
 own_rows key [] = refl
 own_rows key (c ∷ cs) =
@@ -184,17 +184,17 @@ pub answer_nothing : (key : List ℕ) (s : ℕ) → answer [] key s ≡ None
 unfolding newest
 answer_nothing key s = refl
 
--- what a look-up tells of the key's rows
-pub told_rows : (o : Option (Bor (List Cell))) (key : List ℕ) (rows : List Row)
+-- what a look-up implies for the key's rows
+pub found_rows : (o : Option (Bor (List Cell))) (key : List ℕ) (rows : List Row)
     → rows ≡ rows_of key (cells_in (option_copied o)) → IfSome o (λ column. rows_of key column.now ≡ rows)
-told_rows None key rows e = tt
-told_rows (Some column) key rows e = sym e
+found_rows None key rows e = tt
+found_rows (Some column) key rows e = sym e
 
-pub told_absent : (o : Option (Bor (List Cell))) (key : List ℕ) (rows : List Row)
+pub found_absent : (o : Option (Bor (List Cell))) (key : List ℕ) (rows : List Row)
     → rows ≡ rows_of key (cells_in (option_copied o)) → IfSome (option_copied o) (λ cells. 0 < length cells)
     → IsNone o ↔ (rows ≡ [])
-told_absent None key rows e some = (λ none. e, λ empty. refl)
-told_absent (Some column) key rows e some = (
+found_absent None key rows e some = (λ none. e, λ empty. refl)
+found_absent (Some column) key rows e some = (
   λ none. absurd (true≢false none),
   λ empty.
       absurd (let long = ap length (sym empty ∙ e) ∙ length-map column.now (row_of key) in omega (arith, some, long)),

@@ -1,4 +1,4 @@
--- One more row: at the end of its key's column, or as a column of its own. The rows before and behind it stay.
+-- One more row: at the end of its key's column, or as a column of its own. The rows before and after it do not change.
 use Rattle.std.proofs.Common.{◌≡◌, ℕ, ◌+◌, ◌<◌, Bool, true, false, cond, List, [], ◌∷◌}
 use Rattle.std.proofs.Common.{◌++◌, Some, None, length, refl, sym}
 use Rattle.std.proofs.Common.{ap, ◌∙◌, subst, inl, inr, arith, All, true≢false, Ordering, Less, Equal, Greater, nat_cmp}
@@ -79,7 +79,7 @@ added k cell (e ∷ es) h =
           (table_rows (insert_entry (λ a b. slice_cmp nat_cmp a b) es k (cell ∷ []))) (added k cell es p.1)
     ] refl
 
--- writing back what stood there
+-- writing back what was there
 pub same_set : (key : List ℕ) (cells : List Cell) (es : List (List ℕ × List Cell)) → lookup (test key) es ≡ Some cells
     → set_value (test key) es cells ≡ es
 same_set key cells [] h = absurd (none-some cells h)
@@ -125,7 +125,7 @@ all_inserted cmp es k cells h p = All-from_recursion (λ (e : List ℕ × List C
           | Greater ↦ (h.0, go es h.1)
         ]
 
--- the same, of what a call leaves
+-- the same, for the result of a call
 abbrev pub cell_of : Row → Cell
 cell_of row = record { stamp = row.stamp; node = row.node; value = row.value }
 
@@ -170,7 +170,7 @@ inserted-IsPermutation old row new (front, back, was, is) =
     (subst (λ xs. IsPermutation xs (front ++ row ∷ back)) (sym (append_assoc front back (row ∷ [])))
     (IsPermutation-append_right front (back ++ row ∷ []) (row ∷ back) (IsPermutation-append_comm back (row ∷ [])))))
 
--- and they are a row set still
+-- and they are still a row set
 pub inserted-IsRowSet : (old : List Row) (row : Row) (new : List Row) → Inserted old row new → HasNoVersion old row
     → IsRowSet old → IsRowSet new
 inserted-IsRowSet old row new (front, back, was, is) none apart =
@@ -194,13 +194,13 @@ inserted-IsRowSet old row new (front, back, was, is) none apart =
       go xs (λ other m same. none other (Contains-rest x other (xs ++ back) m) same) apart.1,
     )
 
--- whether it was put there or not, the rows are a row set
+-- whether it was added or not, the rows are a row set
 pub either-IsRowSet : {R E : Type 0} (result : Result R E) (old : List Row) (row : Row) (new : List Row)
     → OnOk result (Inserted old row new) → OnErr result (new ≡ old) → HasNoVersion old row → IsRowSet old → IsRowSet new
 either-IsRowSet (Ok r) old row new ok err none apart = inserted-IsRowSet old row new ok none apart
 either-IsRowSet (Err e) old row new ok err none apart = subst IsRowSet (sym err) apart
 
--- there is one row more
+-- there is one more row
 pub inserted-length : (old : List Row) (row : Row) (new : List Row) → Inserted old row new
     → length new ≡ length old + 1
 inserted-length old row new (front, back, was, is) =

@@ -1,5 +1,5 @@
--- Keeping flagged rows, column by column: each column takes as many flags off the front as it has rows, and columns
--- that are left without rows have none to show.
+-- Keeping flagged rows, column by column: each column removes as many flags from the front as it has rows, and columns
+-- that are left without rows contribute none.
 use Rattle.std.proofs.Common.{◌≡◌, ℕ, zero, suc, ◌+◌, ◌<◌, ◌≤◌, Bool, true, false, cond, List, [], ◌∷◌, ◌++◌, length}
 use Rattle.std.proofs.Common.{refl, sym, ap, ap₂, ◌∙◌, arith, take, drop, filter, ltb, get_or, set, All, map}
 use Rattle.std.specs.Prelude.{slice_get, count_by, Some}
@@ -23,7 +23,7 @@ use Rattle.hlc_columns.proofs.FlagLemmas.{flagged-none, flagged-append, flagged-
 abbrev pub Entry : Type 0
 Entry = List ℕ × List Cell
 
--- the rows of what is kept are the flagged rows
+-- the rows that are kept are the flagged rows
 pub kept_rows : (es : List Entry) (flags : List Bool) → length flags ≡ length (table_rows es)
     → table_rows (kept_in flags es) ≡ items_where_true flags (table_rows es)
 kept_rows [] flags long = sym (flagged-none {X = Row} flags)
@@ -42,7 +42,7 @@ kept_rows (e ∷ es) flags long =
 abbrev pub is_filled : Entry → Bool
 is_filled e = ltb 0 (length e.1)
 
--- columns without rows have none to show
+-- columns without rows contribute none
 pub filled_rows : (es : List Entry) → table_rows (filter is_filled es) ≡ table_rows es
 filled_rows [] = refl
 filled_rows (e ∷ es) = one e.1 (filled_rows es)
@@ -67,7 +67,7 @@ all_filled es = All-from_recursion (λ (e : Entry). 0 < length e.1) (filter is_f
           | false ↦ λ is. go es
         ] refl
 
--- a pass over a list that takes so many flags off the front for each item, and leaves another in its place
+-- a pass over a list that removes this many flags from the front for each item, and replaces the item
 module _ {X : Type 0} (step : List Bool → X → X) (size : X → ℕ) where
   pub run : List Bool → List X → List X
   run flags [] = []
@@ -118,7 +118,7 @@ module _ {X : Type 0} (step : List Bool → X → X) (size : X → ℕ) where
     le,
   )))
 
--- of the entries of a leaf
+-- for the entries of a leaf
 abbrev pub kept_one : List Bool → Entry → Entry
 kept_one flags e = (e.0, items_where_true (take (length e.1) flags) e.1)
 
@@ -139,7 +139,7 @@ many_rows (e ∷ es) =
     let rest = many_rows es in
     omega (arith, n, sum, rest)
 
--- and of the leaves
+-- and for the leaves
 abbrev pub leaf_rows : List Entry → ℕ
 leaf_rows leaf = length (table_rows leaf)
 
@@ -191,7 +191,7 @@ set_flags flags rows long = sym (length-filter (λ b. b) flags) ∙ go flags row
     go (true ∷ flags) (row ∷ rows) long = ap suc (go flags rows (omega (arith, long)))
     go (false ∷ flags) (row ∷ rows) long = go flags rows (omega (arith, long))
 
--- an item read with another in its place where there is none
+-- an item of the list is read the same with another default
 own_item : {X : Type 0} (xs : List X) (n : ℕ) (d : X) → n < length xs → get_or xs n d ≡ get_or xs n (get_or xs n d)
 own_item [] n d lt = absurd (omega (arith, lt))
 own_item (x ∷ xs) zero d lt = refl
@@ -200,7 +200,7 @@ own_item (x ∷ xs) (suc n) d lt = own_item xs n d (omega (arith, lt))
 one_more : (n : ℕ) → suc n ≡ n + 1
 one_more n = omega arith
 
--- the leaves, of which the first were passed
+-- the leaves, of which the first were processed
 module _ (old cols : List (List Entry)) (at : ℕ) (flags left : List Bool) (inside : at < length old)
     (inv : cols ≡ run kept_in leaf_rows flags (take at old) ++ drop at old)
     (rest : left ≡ drop (total kept_in leaf_rows (take at old)) flags) where
@@ -260,7 +260,7 @@ module _ {X : Type 0} (step : List Bool → X → X) (size : X → ℕ) where
   unfolding total
   total_none flags xs = refl
 
--- the columns of a leaf, of which the first were passed
+-- the columns of a leaf, of which the first were processed
 module _ (old cols : List (List Entry)) (at slot : ℕ) (flags left : List Bool) (inside : at < length old)
     (lt : slot < length (get_or old at []))
     (inv : cols ≡ set old at (run kept_one many flags (take slot (get_or old at [])) ++ drop slot (get_or old at [])))

@@ -1,4 +1,4 @@
--- The last key: a key above it has no column. And a key without rows has none either.
+-- The last key: a key above it has no column. A key without rows has none either.
 use Rattle.std.proofs.Common.{◌≡◌, ℕ, zero, suc, ◌+◌, ◌-◌, ◌<◌, false, List, [], ◌∷◌, None, Some, Option, IfSome}
 use Rattle.std.proofs.Common.{length, refl}
 use Rattle.std.proofs.Common.{sym, ap, ◌∙◌, subst, arith, get_or, Less, Greater}

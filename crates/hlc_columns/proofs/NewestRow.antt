@@ -1,4 +1,4 @@
--- The newest of all places is the newest row, for it is the first of those that come before no other.
+-- The newest of all positions is the newest row, since it is the first of those that come before no other.
 use Rattle.std.proofs.Common.{◌≡◌, ℕ, ◌<◌, ◌≤◌, List, Option, Some, None, length}
 use Rattle.std.proofs.Common.{get_or, refl, sym, subst, arith}
 use Rattle.std.specs.Prelude.{IfSome}

@@ -18,7 +18,7 @@ Entry = List ℕ × List Cell
 abbrev pub one_of : Entry → KeyCells
 one_of e = record { key = e.0; cells = e.1 }
 
--- one entry more of a leaf is listed
+-- one more entry of a leaf is listed
 pub list_entry : (leaf : List Entry) (first list more : List KeyCells) (i : ℕ) (e : Entry) (one : KeyCells)
     → i < length leaf → e ≡ get_or leaf i e → list ≡ first ++ keyed (take i leaf) → more ≡ list ++ one ∷ []
     → one ≡ one_of e → more ≡ first ++ keyed (take (i + 1) leaf)
@@ -28,7 +28,7 @@ list_entry leaf first list more i e one lt read inv is same =
     ∙ ap (λ l. first ++ l) (sym (ap keyed (taken leaf i e lt) ∙ map_push one_of (take i leaf) (get_or leaf i e)
     ∙ ap (λ x. keyed (take i leaf) ++ one_of x ∷ []) (sym read)))
 
--- one leaf more is listed
+-- one more leaf is listed
 pub list_leaf : (leaves : List (List Entry)) (list more : List KeyCells) (n : ℕ) (leaf : List Entry) → n < length leaves
     → leaf ≡ get_or leaves n [] → list ≡ keyed (entries_in (take n leaves)) → more ≡ list ++ keyed leaf
     → more ≡ keyed (entries_in (take (n + 1) leaves))
@@ -36,7 +36,7 @@ list_leaf leaves list more n leaf lt own inv is =
     is ∙ ap₂ (λ l m. l ++ keyed m) inv own
     ∙ sym (ap keyed (entries_more leaves n lt) ∙ map-append one_of (entries_in (take n leaves)) (get_or leaves n []))
 
--- one key more of a leaf is listed
+-- one more key of a leaf is listed
 pub name_entry : (leaf : List Entry) (first list more : List (Bor (List ℕ))) (i : ℕ) (e : Entry) (one : Bor (List ℕ))
     → i < length leaf → e ≡ get_or leaf i e
     → map (λ key. key.now) list ≡ map (λ key. key.now) first ++ keys_in (take i leaf) → more ≡ list ++ one ∷ []
@@ -62,7 +62,7 @@ name_leaf leaves list more n leaf lt own inv is =
 pub whole : {X : Type 0} (xs : List X) (n : ℕ) → length xs ≤ n → take n xs ≡ xs
 whole xs n le = take_all n xs le
 
--- the rows of some entries, and of others behind them
+-- the rows of some entries, and of others after them
 pub rows_both : (xs ys : List Entry) → table_rows (xs ++ ys) ≡ table_rows xs ++ table_rows ys
 rows_both xs ys = flat_map-append (λ (e : Entry). rows_of e.0 e.1) xs ys
 
@@ -98,7 +98,7 @@ module _ (bound : ℕ) where
       let sum = length-append (indexed_rows (take n ls)) (indexed_rows (drop n ls)) in
       omega (arith, le, all, both, rows, sum)
 
-  -- one entry more of a leaf is counted
+  -- one more entry of a leaf is counted
   pub count_entry : (leaf : List Entry) (i total n : ℕ) (e : Entry) → i < length leaf → e ≡ get_or leaf i e
       → total ≡ length (filter within (table_rows (take i leaf))) → n ≡ length (filter within (rows_of e.0 e.1))
       → total + n ≡ length (filter within (table_rows (take (i + 1) leaf)))
@@ -113,7 +113,7 @@ module _ (bound : ℕ) where
       let sum = length-append (filter within (table_rows (take i leaf))) (filter within (rows_of e.0 e.1)) in
       omega (arith, inv, is, long, both, sum)
 
-  -- one leaf more is counted
+  -- one more leaf is counted
   pub count_leaf : (ls : List (List Entry)) (i total n : ℕ) (leaf : List Entry) → i < length ls → leaf ≡ get_or ls i []
       → total ≡ length (filter within (indexed_rows (take i ls))) → n ≡ length (filter within (table_rows leaf))
       → total + n ≡ length (filter within (indexed_rows (take (i + 1) ls)))

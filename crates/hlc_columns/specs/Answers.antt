@@ -13,12 +13,12 @@ use Rattle.hlc_columns.specs.Cells.{Cell}
 use Rattle.hlc_columns.specs.Rows.{rows_of}
 use Rattle.hlc_columns.specs.declared.answers.Walk.{Walk}
 
--- a key is below the end of a range, where it has one
+-- a key is below the end of a range, if it has one
 abbrev pub is_below : Option (List ℕ) → List ℕ → Bool
 is_below None key = true
 is_below (Some to) key = is_lt (slice_cmp nat_cmp key to)
 
--- a key is in a range: not below its first key, and below its end, where it has one
+-- a key is in a range: not below its first key, and below its end, if it has one
 abbrev pub IsBetween : List ℕ → Option (List ℕ) → List ℕ → Type 0
 IsBetween from to key = (slice_cmp nat_cmp key from ≢ Less) × IsTrue (is_below to key)
 
@@ -30,15 +30,15 @@ pub record AreAnswers (rows : List Row) (bound : ℕ) (IsWanted : List ℕ → T
       → Contains pairs (key, value) ↔ (IsWanted key × (answer rows key bound ≡ Some value))
 
 -- a key with its value, if it has one
-abbrev pub told : List ℕ → Option (List ℕ) → List (List ℕ × List ℕ)
-told key None = []
-told key (Some value) = (key, value) ∷ []
+abbrev pub value_here : List ℕ → Option (List ℕ) → List (List ℕ × List ℕ)
+value_here key None = []
+value_here key (Some value) = (key, value) ∷ []
 
--- of some columns in turn, up to the first whose key is not below the end, the keys that have a value at a bound
+-- for some columns in turn, up to the first whose key is not below the end, the keys that have a value at a bound
 abbrev pub answers_in : List (List ℕ × List Cell) → ℕ → Option (List ℕ) → List (List ℕ × List ℕ)
 answers_in [] bound to = []
 answers_in (e ∷ es) bound to =
-    if is_below to e.0 then told e.0 (answer (rows_of e.0 e.1) e.0 bound) ++ answers_in es bound to else []
+    if is_below to e.0 then value_here e.0 (answer (rows_of e.0 e.1) e.0 bound) ++ answers_in es bound to else []
 
 -- the entries that a walk has left
 abbrev pub entries_left : Walk → List (List ℕ × List Cell)

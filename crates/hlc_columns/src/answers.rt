@@ -13,21 +13,21 @@ use hlc_index::Index;
 use hlc_node::Bytes;
 use std::marker::Model;
 
-/// So many columns are fetched from memory together.
+/// This many columns are fetched from memory together.
 const AHEAD: usize = 32;
 
-/// A walk over the columns of an index: the rest of a leaf, and the number of the leaf behind it.
+/// A walk over the columns of an index: the rest of a leaf, and the number of the leaf after it.
 #[derive(Debug, Drop)]
 pub(crate) struct Walk<'a> {
     columns: &'a Index<BoxedColumn>,
     rest: &'a [(Bytes, BoxedColumn)],
     next: usize,
-    // How many rows there are in the columns that were fetched and are left.
+    // The number of rows in the columns that were fetched and are still to come.
     fetched: usize,
 }
 
 impl<'a> Walk<'a> {
-    /// A walk over all columns.
+    /// Returns a walk over all columns.
     fn new(columns: &'a Index<BoxedColumn>) -> Walk<'a>
         ensures { entries_left result ≡ entries_in columns.now }
     {
@@ -39,7 +39,7 @@ impl<'a> Walk<'a> {
         }
     }
 
-    /// A walk from a slot of a leaf on.
+    /// Returns a walk from a slot of a leaf on.
     fn from_slot(columns: &'a Index<BoxedColumn>, at: usize, slot: usize) -> Walk<'a>
         requires { slot ≤ length (slice_index_or columns.now at []) }
         ensures { entries_left result ≡ entries_from columns.now at slot }
@@ -61,7 +61,7 @@ impl<'a> Walk<'a> {
         }
     }
 
-    /// Goes on to the next leaf that has an entry, where the rest of the present one has none.
+    /// Advances to the next leaf that has an entry, if the rest of the present one has none.
     fn turn(&mut self)
         ensures same { entries_left self.new ≡ entries_left self.old }
         ensures done { self.new.rest.now ≡ [] → entries_left self.new ≡ [] }
@@ -72,7 +72,7 @@ impl<'a> Walk<'a> {
         }
     }
 
-    /// The next column with its key.
+    /// Returns the next column with its key, or none at the end.
     fn next(&mut self) -> Option<&'a (Bytes, BoxedColumn)>
         ensures { MatchOption result ((entries_left self.old ≡ []) × (entries_left self.new ≡ []))
             (λ entry. entries_left self.old ≡ entry.now ∷ entries_left self.new) }
@@ -87,7 +87,7 @@ impl<'a> Walk<'a> {
         Some(first)
     }
 
-    /// Ends it.
+    /// Ends the walk.
     fn stop(&mut self)
         ensures { entries_left self.new ≡ [] }
     {
@@ -96,8 +96,8 @@ impl<'a> Walk<'a> {
     }
 }
 
-/// How many rows the next columns of a leaf have. None of these looks waits for the one before it, so who then goes
-/// through those columns does not wait for memory at each.
+/// Returns the number of rows of the next columns of a leaf. None of these reads waits for the one before it, so a
+/// caller that then goes through those columns does not wait for memory at each.
 fn rows_ahead(leaf: &[(Bytes, BoxedColumn)]) -> usize {
     let mut rows = 0usize;
     for i in 0..leaf.len().min(AHEAD) {
@@ -106,7 +106,7 @@ fn rows_ahead(leaf: &[(Bytes, BoxedColumn)]) -> usize {
     rows
 }
 
-/// Whether a key is below the end of a range, where it has one.
+/// Returns whether a key is below the end of a range, if it has one.
 fn is_below(to: Option<&[u8]>, key: &[u8]) -> bool
     ensures { result ≡ is_below (option_copied to.entry) key.now }
 {
@@ -116,9 +116,9 @@ fn is_below(to: Option<&[u8]>, key: &[u8]) -> bool
     }
 }
 
-/// The next key of a walk that has a value at the bound, with that value. Each column is asked once, and none from the
-/// first key on that is not below the end.
-fn next_told<'a>(
+/// Returns the next key of a walk that has a value at the bound, with that value. It reads each column once, and none
+/// from the first key on that is not below the end.
+fn next_answer<'a>(
     walk: &mut Walk<'a>,
     bound: Stamp,
     to: Option<&[u8]>,
@@ -140,8 +140,8 @@ fn next_told<'a>(
     None
 }
 
-/// The keys of a range that have a value at a bound, in byte order, with that value. It goes through the columns as it
-/// is asked, leaf by leaf. Contracts see the list of the pairs that are left.
+/// The keys of a range that have a value at a bound, in byte order, with that value. It goes through the columns on
+/// demand, leaf by leaf. In contracts it is the list of the remaining pairs.
 #[derive(Debug, Drop)]
 pub struct Answers<'a> {
     walk: Walk<'a>,
@@ -166,15 +166,15 @@ impl<'a> Iterator for Answers<'a> {
     ghost remaining = { item_count (λ pairs. pairs) };
 
     fn next(&mut self) -> Option<(&'a [u8], &'a [u8])> {
-        next_told(&mut self.walk, self.bound, self.to)
+        next_answer(&mut self.walk, self.bound, self.to)
     }
 }
 
-/// The answers of all keys.
+/// Returns the answers of all keys.
 pub(crate) fn all_answers(columns: &Index<BoxedColumn>, bound: Stamp) -> Answers<'_>
     ensures { AreAnswers (indexed_rows columns.now) bound (λ key. Unit {0}) result }
 {
-    // Reading the list says that the keys ascend.
+    // The contract of this call says that the keys ascend.
     let _leaves = columns.leaves();
     Answers {
         walk: Walk::new(columns),
@@ -183,7 +183,7 @@ pub(crate) fn all_answers(columns: &Index<BoxedColumn>, bound: Stamp) -> Answers
     }
 }
 
-/// The answers of the keys that are not below one key, and below another, if there is one.
+/// Returns the answers of the keys that are not below one key, and below another, if there is one.
 pub(crate) fn answers_between<'a>(
     columns: &'a Index<BoxedColumn>,
     bound: Stamp,

@@ -12,7 +12,7 @@ use hlc_values::NoMemory;
 use std::alloc::Global;
 use std::marker::Model;
 
-/// A column in a block of memory of its own, so that an entry of the index is small. Contracts see its cells.
+/// A column in a block of memory of its own, so that an entry of the index is small. In contracts it is its cells.
 #[derive(Debug, Drop)]
 pub struct BoxedColumn {
     block: Box<Column>,
@@ -28,7 +28,7 @@ impl Model for BoxedColumn {
 }
 
 impl BoxedColumn {
-    /// A column of one row.
+    /// Returns a column of one row.
     pub(crate) fn of_row(
         alloc: Global,
         stamp: Stamp,
@@ -42,14 +42,14 @@ impl BoxedColumn {
         Ok(BoxedColumn { block })
     }
 
-    /// The column.
+    /// Returns the column.
     pub(crate) fn get(&self) -> &Column
         ensures { result.now ≡ self.now }
     {
         &self.block
     }
 
-    /// The column, to be changed.
+    /// Lends the column for a change.
     pub(crate) fn get_mut(&mut self) -> &mut Column
         ensures* lends { sem 𝓛 (Lends boxed_row column_row self.entry result (λ cells. cells)) }
         ensures value { result.now ≡ self.old }

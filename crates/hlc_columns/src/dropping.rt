@@ -1,4 +1,4 @@
-//! Rows dropped from the columns of an index.
+//! Dropping rows from the columns of an index.
 ghost use Rattle.std.specs.Prelude.{◌≡◌, ◌≤◌, ◌<◌, [], count_by, length, take, drop, nat_lt, slice_set, slice_index_or};
 ghost use Rattle.std.specs.List.{items_where_true};
 ghost use Rattle.hlc_index.specs.Entries.{with_value_in};
@@ -15,7 +15,7 @@ impl Filled for BoxedColumn {
     }
 }
 
-/// Keeps just the flagged rows, in their order. A key without rows is removed. It takes no memory.
+/// Keeps only the flagged rows, in their order. A key without rows is removed. It needs no memory.
 pub(crate) fn keep_rows(columns: &mut Index<BoxedColumn>, flags: &[bool])
     requires { length flags.now ≡ length (indexed_rows columns.old) }
     ensures rows { indexed_rows columns.new
@@ -29,7 +29,7 @@ pub(crate) fn keep_rows(columns: &mut Index<BoxedColumn>, flags: &[bool])
     columns.keep_filled();
 }
 
-/// Keeps just the rows of a leaf that the first flags name, and returns the flags of the rows behind.
+/// Keeps only the rows of a leaf that the first flags select, and returns the flags of the later rows.
 fn keep_in_leaf<'a>(columns: &mut Index<BoxedColumn>, at: usize, flags: &'a [bool]) -> &'a [bool]
     requires leaf { at < length columns.old }
     requires many { length (table_rows (slice_index_or columns.old at [])) ≤ length flags.now }
@@ -44,7 +44,7 @@ fn keep_in_leaf<'a>(columns: &mut Index<BoxedColumn>, at: usize, flags: &'a [boo
     left
 }
 
-/// Keeps just the rows of a column that the first flags name, and returns the flags of the rows behind.
+/// Keeps only the rows of a column that the first flags select, and returns the flags of the later rows.
 fn keep_at<'a>(
     columns: &mut Index<BoxedColumn>,
     at: usize,
@@ -62,7 +62,7 @@ fn keep_at<'a>(
     keep_first(column, flags)
 }
 
-/// The same of a column.
+/// Does the same for a column.
 fn keep_first<'a>(column: &mut BoxedColumn, flags: &'a [bool]) -> &'a [bool]
     requires { length column.old ≤ length flags.now }
     ensures kept { column.new ≡ items_where_true (take (length column.old) flags.now) column.old }
@@ -73,7 +73,7 @@ fn keep_first<'a>(column: &mut BoxedColumn, flags: &'a [bool]) -> &'a [bool]
     left
 }
 
-/// How many flags are set.
+/// Returns how many flags are set.
 pub(crate) fn count_set(flags: &[bool]) -> usize
     ensures { result ≡ count_by (λ flag. flag) flags.now }
 {

@@ -1,4 +1,4 @@
-//! Rows put into the columns of an index.
+//! Adding rows to the columns of an index.
 ghost use Rattle.std.specs.Prelude.{◌≡◌, ◌<◌, ◌≤◌, ◌++◌, ◌∷◌, [], ℕ, List, None, length, slice_index_or};
 ghost use Rattle.std.specs.Prelude.{OnOk, OnErr};
 ghost use Rattle.std.specs.Map.{lookup};
@@ -14,7 +14,7 @@ use hlc_values::NoMemory;
 use std::alloc::Global;
 use std::cmp::Ordering;
 
-/// A row whose key stands elsewhere.
+/// A row that borrows its key.
 #[derive(Drop)]
 pub(crate) struct NewRow<'a> {
     pub(crate) key: &'a [u8],
@@ -23,7 +23,8 @@ pub(crate) struct NewRow<'a> {
     pub(crate) value: Option<Bytes>,
 }
 
-/// Where the column of a key is. It is compared with the last key first.
+/// Returns the position of the column of a key, or none. It compares the key with the last one
+/// first.
 pub(crate) fn find_last(columns: &Index<BoxedColumn>, key: &[u8]) -> Option<(usize, usize)>
     ensures { IsPlace columns.now key.now result }
 {
@@ -36,8 +37,8 @@ pub(crate) fn find_last(columns: &Index<BoxedColumn>, key: &[u8]) -> Option<(usi
     }
 }
 
-/// Puts a row into its key's column, whose place was found, or into a column of its own where the key has none; the key
-/// is copied for that alone. Out of memory, the rows stay. So it is if there are 2^128 - 1 rows.
+/// Appends a row to its key's column, whose position was found, or to a new column if the key has none; only then is
+/// the key copied. If memory runs out, or if there are 2^128 - 1 rows, it is refused, and the rows do not change.
 pub(crate) fn put_row(
     columns: &mut Index<BoxedColumn>,
     count: &mut u128,
@@ -65,7 +66,7 @@ pub(crate) fn put_row(
     Ok(())
 }
 
-/// Puts a row last in the column at a place.
+/// Appends a row to the column at a position.
 fn push_at(
     columns: &mut Index<BoxedColumn>,
     at: usize,
@@ -87,7 +88,7 @@ fn push_at(
     push_cell(column, stamp, node, value)
 }
 
-/// Puts a row last in a column.
+/// Appends a row to a column.
 fn push_cell(
     column: &mut BoxedColumn,
     stamp: Stamp,

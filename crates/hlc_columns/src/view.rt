@@ -8,7 +8,7 @@ use crate::table::Table;
 use hlc_clock::Stamp;
 use std::marker::Model;
 
-/// A table as readers at one stamp see it. No call takes memory. Contracts see the rows and the stamp.
+/// A table as readers at one stamp see it. No call needs memory. In contracts it is the rows and the stamp.
 #[derive(Debug, Drop)]
 pub struct View<'a> {
     table: &'a Table,
@@ -24,35 +24,35 @@ impl<'a> Model for View<'a> {
 }
 
 impl<'a> View<'a> {
-    /// A table at a stamp.
+    /// Returns a view of a table at a stamp.
     pub fn new(table: &'a Table, stamp: Stamp) -> View<'a>
         ensures { result ≡ record { rows = table.now; stamp = stamp } }
     {
         View { table, stamp }
     }
 
-    /// The stamp.
+    /// Returns the stamp.
     pub fn stamp(&self) -> Stamp
         ensures { result ≡ self.now.stamp }
     {
         self.stamp
     }
 
-    /// The value of a key, if it has one.
+    /// Returns the value of a key, if it has one.
     pub fn get(&self, key: &[u8]) -> Option<&'a [u8]>
         ensures { option_copied result ≡ answer self.now.rows key.now self.now.stamp }
     {
         self.table.answer(key, self.stamp)
     }
 
-    /// The keys that have a value, in byte order, with that value.
+    /// Returns an iterator of the keys that have a value, in byte order, with that value.
     pub fn iter(&self) -> Answers<'a>
         ensures { AreAnswers self.now.rows self.now.stamp (λ key. Unit {0}) result }
     {
         self.table.answers(self.stamp)
     }
 
-    /// The same for the keys that are not below `from`, and below `to`, if there is one.
+    /// Returns the same for the keys that are not below `from`, and below `to`, if there is one.
     pub fn range(&self, from: &[u8], to: Option<&'a [u8]>) -> Answers<'a>
         ensures { AreAnswers self.now.rows self.now.stamp
             (IsBetween from.now (option_copied to.entry)) result }

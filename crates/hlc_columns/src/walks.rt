@@ -12,7 +12,7 @@ use hlc_node::Bytes;
 use hlc_values::NoMemory;
 use std::alloc::Global;
 
-/// The columns, each with its key.
+/// Returns the columns, each with its key.
 pub(crate) fn list_columns(
     alloc: Global,
     columns: &Index<BoxedColumn>,
@@ -40,7 +40,7 @@ fn add_columns<'a>(
     Ok(())
 }
 
-/// The keys.
+/// Returns the keys.
 pub(crate) fn list_keys(alloc: Global, columns: &Index<BoxedColumn>) -> Result<Vec<&[u8]>, NoMemory>
     ensures list { IfOk result
         (λ keys. map (λ key. key.now) keys.items ≡ keys_in (entries_in columns.now)) }
@@ -64,7 +64,7 @@ fn add_keys<'a>(keys: &mut Vec<&'a [u8]>, leaf: &'a [(Bytes, BoxedColumn)]) -> R
     Ok(())
 }
 
-/// How many rows are at or below the bound.
+/// Returns how many rows are at or below the bound.
 pub(crate) fn count_rows_at(columns: &Index<BoxedColumn>, bound: Stamp) -> u128
     requires { length (indexed_rows columns.now) < 2 ^ 128 }
     ensures { result ≡ length (filter (λ row. nat_le row.stamp bound) (indexed_rows columns.now)) }
@@ -76,7 +76,7 @@ pub(crate) fn count_rows_at(columns: &Index<BoxedColumn>, bound: Stamp) -> u128
     total
 }
 
-/// How many rows of a leaf are at or below the bound.
+/// Returns how many rows of a leaf are at or below the bound.
 fn count_in_leaf(leaf: &[(Bytes, BoxedColumn)], bound: Stamp) -> u128
     requires { length (table_rows leaf.now) < 2 ^ 128 }
     ensures { result ≡ length (filter (λ row. nat_le row.stamp bound) (table_rows leaf.now)) }

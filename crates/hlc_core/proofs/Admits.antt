@@ -1,17 +1,17 @@
--- What an intake answers to an item is what the item's link is expected to answer.
+-- The result of an intake for an item is what the item's link is expected to return.
 use Rattle.std.proofs.Common.{◌≡◌, ◌∙◌, ◌<◌, sym, ap, arith}
 use Rattle.std.specs.Prelude.{Some, not}
 use Rattle.std.proofs.lemmas.Bool.{cond-true, cond-false, le-leb, lt-leb, eq-eqb, ne_eqb}
 use Rattle.hlc_values.specs.declared.bounds.TheConstants.{NUMBER_BOUND}
 use Rattle.hlc_node.specs.declared.item.Item.{Item}
 use Rattle.hlc_node.specs.Items.{body_refusal}
-use Rattle.hlc_intake.specs.Progress.{Progress, IsNextItem, IsFirstRefusal}
+use Rattle.hlc_intake.specs.IntakeView.{IntakeView, IsNextItem, IsFirstRefusal}
 use Rattle.hlc_intake.specs.declared.intake.LinkFault.{LinkFault}
 use Rattle.hlc_intake.specs.declared.intake.LinkFault.TheVariants.{Retired, NotNext, NumbersSpent, StampNotRising}
 use Rattle.hlc_core.specs.declared.fault.CoreFault.TheVariants.{Link}
 use Rattle.hlc_core.specs.Past.{link_refusal, of_body}
 
-pub refused_first : (link : Progress) (item : Item) (fault : LinkFault)
+pub refused_first : (link : IntakeView) (item : Item) (fault : LinkFault)
     → IsFirstRefusal link item.number item.stamp fault
     → link_refusal link.retired link.next link.head item ≡ Some (Link fault)
 refused_first link item Retired is = cond-true _ _ _ is
@@ -26,7 +26,7 @@ refused_first link item (StampNotRising head) (here, same, next, left, falls) =
     ∙ cond-true _ _ _ (le-leb _ _ falls)
     ∙ ap (λ h. Some (Link (StampNotRising h))) (sym same)
 
-pub next_admitted : (link : Progress) (item : Item) → IsNextItem link item.number item.stamp
+pub next_admitted : (link : IntakeView) (item : Item) → IsNextItem link item.number item.stamp
     → link_refusal link.retired link.next link.head item ≡ of_body (body_refusal item.body)
 next_admitted link item is =
     let left : item.number < NUMBER_BOUND = is.left in

@@ -1,4 +1,4 @@
--- What stands for a past, with its rows in order, is a checkpoint.
+-- A state that represents a past, with its rows in order, is a checkpoint.
 use Rattle.std.proofs.Common.{◌≡◌, ℕ, ◌+◌, ◌<◌, ◌≤◌, List, [], ◌∷◌, ◌++◌, length, max, get_or}
 use Rattle.std.proofs.Common.{true, false, Some, None, Option, refl, ap, sym, ◌∙◌, subst, inl, inr, arith}
 use Rattle.std.specs.Prelude.{All, Contains, MatchOption}
@@ -8,12 +8,12 @@ use Rattle.std.proofs.lemmas.Bool.Decides.{nat_tests}
 use Rattle.std.proofs.lemmas.List.{length-append}
 use Rattle.std.proofs.lemmas.List.Elements.{All-nil, All-weaker, All-push, All-contains, All-contains_itself}
 use Rattle.std.proofs.lemmas.List.Quantifiers.{all_pairs_push}
-use Rattle.hlc_intake.specs.Progress.{Progress}
+use Rattle.hlc_intake.specs.IntakeView.{IntakeView}
 use Rattle.hlc_heads.specs.declared.heads.TheConstants.{MOST_NODES, MOST_NUMBERS}
 use Rattle.hlc_snapshot.specs.declared.snapshot.Snapshot.{Snapshot}
 use Rattle.hlc_snapshot.specs.declared.registry.TheConstants.{MOST_OPEN}
 use Rattle.hlc_snapshot.specs.declared.fault.SnapshotFault.{SnapshotFault}
-use Rattle.hlc_snapshot.specs.Register.{Register, IsRegister, opened_at, room_refusal as room_in}
+use Rattle.hlc_snapshot.specs.RegistryView.{RegistryView, IsRegister, opened_at, room_refusal as room_in}
 use Rattle.hlc_snapshot.proofs.RegisterLemmas.{closed-is_register}
 use Rattle.hlc_witness.specs.Certificate.{RowsAscend}
 use Rattle.hlc_witness.specs.Cost.{IsInLimits}
@@ -22,17 +22,17 @@ use Rattle.hlc_core.specs.Past.{floor, horizon, opened, open_snapshots, of_regis
 use Rattle.hlc_core.specs.Past.{IsLegal, writes, greatest_accepted}
 use Rattle.hlc_core.specs.declared.fault.CoreFault.TheVariants.{Join}
 use Rattle.hlc_heads.specs.declared.heads.JoinFault.TheVariants.{TooManyNodes}
-use Rattle.hlc_core.specs.Kept.{Kept, nodes, greatest_head, HasNodes, HasStamps, HasLastItem}
-use Rattle.hlc_core.specs.Kept.{StandsFor}
+use Rattle.hlc_core.specs.StoreView.{StoreView, nodes, greatest_head, HasNodes, HasStamps, HasLastItem}
+use Rattle.hlc_core.specs.StoreView.{Represents}
 use Rattle.hlc_core.specs.Checkpoint.{IsCheckpoint, IsCopyOf, IsUnderHead, floor_in}
 use Rattle.hlc_core.proofs.PastLemmas.{inside, rises, head-same, head-other, head-joined, head-joined_other, floor-some}
 use Rattle.hlc_core.proofs.PastLemmas.{count-other, retired-other, fresh, accepted-low, retired-head}
 use Rattle.hlc_core.proofs.PastLemmas.{inside-row, below_head, writes-limits, open-low, open-below, open-above}
 use Rattle.hlc_core.proofs.PastLemmas.{open-room, horizon-low}
-use Rattle.hlc_core.proofs.Moved.{stands-moved}
+use Rattle.hlc_core.proofs.Moved.{represents-moved}
 use Rattle.hlc_core.proofs.Sound.{floor-in, greatest-ge, greatest-le}
 
--- no node of the start goes
+-- the nodes at the start keep their numbers
 numbered-from : (nodes : ℕ) (past : List Step) → nodes ≤ numbered nodes past
 numbered-from nodes [] = omega arith
 numbered-from nodes (Took item ∷ past) = numbered-from nodes past
@@ -41,7 +41,7 @@ numbered-from nodes (Closed id ∷ past) = numbered-from nodes past
 numbered-from nodes (Vacuumed at ∷ past) = numbered-from nodes past
 numbered-from nodes (Joined node start ∷ past) = (let h = numbered-from nodes past in omega (arith, h))
 
--- and no more numbers are given than there are
+-- and no more numbers are assigned than there are
 numbered-few : (nodes : ℕ) (past : List Step) → nodes ≤ MOST_NODES → IsLegal nodes past
     → numbered nodes past ≤ MOST_NUMBERS
 numbered-few nodes [] few legal = omega arith
@@ -127,17 +127,17 @@ top-at nodes (Took item ∷ past) some legal =
       )
     ]
 
--- where all nodes retired, the floor is the greatest stamp of an accepted item
+-- if all nodes have retired, the floor is the greatest stamp of an accepted item
 pub floor-retired : (nodes : ℕ) (past : List Step) → 0 < nodes → IsLegal nodes past
     → ((n : ℕ) → n < numbered nodes past → retired n past ≡ true) → floor nodes past ≡ greatest_accepted past
-floor-retired nodes past some legal gone =
+floor-retired nodes past some legal has_retired =
     elim (floor-some nodes past) [
-      | inl one ↦ absurd (let e : false ≡ true = sym one.2 ∙ gone one.0 one.1 in cc)
+      | inl one ↦ absurd (let e : false ≡ true = sym one.2 ∙ has_retired one.0 one.1 in cc)
       | inr all' ↦
           let one = top-at nodes past some legal in
           let e : head one.0 past ≡ top past = one.2 in
           let low : head one.0 past ≤ greatest_accepted past =
-          retired-head nodes past one.0 legal (gone one.0 one.1) in
+          retired-head nodes past one.0 legal (has_retired one.0 one.1) in
           let up : greatest_accepted past ≤ top past = accepted-low past in
           let at : floor nodes past ≡ top past = all'.1 in omega arith
     ]
@@ -147,7 +147,7 @@ of_room-none : (fault : Option SnapshotFault) → of_room fault ≡ None → fau
 of_room-none None h = refl
 of_room-none (Some fault) h = absurd (let g : Some (of_registry fault) ≡ None = h in cc)
 
-register-open : (register : Register) (stamp : ℕ) → IsRegister register
+register-open : (register : RegistryView) (stamp : ℕ) → IsRegister register
     → room_in (length register.snapshots) register.opened ≡ None → IsRegister (opened_at register stamp)
 register-open register stamp h none =
     let room : (length register.snapshots < MOST_OPEN) × (register.opened < 18446744073709551614) =
@@ -159,10 +159,11 @@ register-open register stamp h none =
     length-append register.snapshots (new ∷ []) in
     record {
       rising = all_pairs_push (λ older newer. older.id < newer.id) register.snapshots new h.rising
-          (λ k d lt. (let g : (get_or register.snapshots k d).id ≤ register.opened = (h.given k d lt).1 in
+          (λ k d lt. (let g : (get_or register.snapshots k d).id ≤ register.opened = (h.bounded k d lt).1 in
           omega arith));
-      given = All-push (λ snapshot. (0 < snapshot.id) × (snapshot.id ≤ register.opened + 1)) register.snapshots new
-          (λ k d lt. ((h.given k d lt).0, (let g = (h.given k d lt).1 in omega (arith, g)))) (omega arith, omega arith);
+      bounded = All-push (λ snapshot. (0 < snapshot.id) × (snapshot.id ≤ register.opened + 1)) register.snapshots new
+          (λ k d lt. ((h.bounded k d lt).0, (let g = (h.bounded k d lt).1 in omega (arith, g))))
+          (omega arith, omega arith);
       few = omega arith;
       in_range = omega arith;
     }
@@ -172,7 +173,7 @@ pub register-of : (nodes : ℕ) (past : List Step) → IsLegal nodes past
 register-of nodes [] legal =
     record {
       rising = λ i j d less within. absurd (omega arith);
-      given = All-nil _;
+      bounded = All-nil _;
       few = omega arith;
       in_range = omega arith;
     }
@@ -217,44 +218,46 @@ count-low nodes (Took item ∷ past) legal n =
           let f : count n (Took item ∷ past) ≡ count n past = count-other n item past other in omega arith
     ]
 
--- and a node that retired has one
+-- and a node that has retired has an item
 count-retired : (past : List Step) (n : ℕ) → retired n past ≡ true → 0 < count n past
-count-retired [] n gone = absurd cc
-count-retired (Opened stamp ∷ past) n gone = count-retired past n gone
-count-retired (Closed id ∷ past) n gone = count-retired past n gone
-count-retired (Vacuumed at ∷ past) n gone = count-retired past n gone
-count-retired (Joined node start ∷ past) n gone = count-retired past n gone
-count-retired (Took item ∷ past) n gone =
+count-retired [] n has_retired = absurd cc
+count-retired (Opened stamp ∷ past) n has_retired = count-retired past n has_retired
+count-retired (Closed id ∷ past) n has_retired = count-retired past n has_retired
+count-retired (Vacuumed at ∷ past) n has_retired = count-retired past n has_retired
+count-retired (Joined node start ∷ past) n has_retired = count-retired past n has_retired
+count-retired (Took item ∷ past) n has_retired =
     elim (cases_eq item.node n) [
       | inl same ↦
           (let f : count n (Took item ∷ past) ≡ count n past + 1 = cond-true _ _ _ (eq-eqb _ _ same) in omega arith)
       | inr other ↦
-          let old : 0 < count n past = count-retired past n (sym (retired-other n item past other) ∙ gone) in
+          let old : 0 < count n past = count-retired past n (sym (retired-other n item past other) ∙ has_retired) in
           let f : count n (Took item ∷ past) ≡ count n past = count-other n item past other in omega arith
     ]
 
-link-is : (kept : Kept) (past : List Step) → StandsFor kept past → (k : ℕ) (d : Progress) → k < length kept.links
+link-is : (kept : StoreView) (past : List Step) → Represents kept past → (k : ℕ) (d : IntakeView)
+    → k < length kept.links
     → get_or kept.links k d ≡ record { next = count k past; head = head k past; retired = retired k past }
 link-is kept past h k d lt =
     get_or_from_slice_get kept.links k (record { next = count k past; head = head k past; retired = retired k past }) d
     (h.links k lt)
 
-link-head : (kept : Kept) (past : List Step) → StandsFor kept past → (k : ℕ) (d : Progress) → k < length kept.links
+link-head : (kept : StoreView) (past : List Step) → Represents kept past → (k : ℕ) (d : IntakeView)
+    → k < length kept.links
     → (get_or kept.links k d).head ≡ head k past
-link-head kept past h k d lt = ap (λ (link : Progress). link.head) (link-is kept past h k d lt)
+link-head kept past h k d lt = ap (λ (link : IntakeView). link.head) (link-is kept past h k d lt)
 
-pub checkpoint-sound : (kept : Kept) (past : List Step) → StandsFor kept past → 0 < nodes kept
+pub checkpoint-sound : (kept : StoreView) (past : List Step) → Represents kept past → 0 < nodes kept
     → nodes kept ≤ MOST_NODES → RowsAscend kept.rows → IsCheckpoint kept
 checkpoint-sound kept past h some few ascend =
     let many : length kept.links ≡ numbered (nodes kept) past = h.many in
     let from = numbered-from (nodes kept) past in
-    let given = numbered-few (nodes kept) past few h.legal in
+    let bounded = numbered-few (nodes kept) past few h.legal in
     let has : HasNodes kept.start kept.links =
-    record { some = some; few = few; linked = omega (arith, from); given = omega (arith, given) } in
+    record { some = some; few = few; linked = omega (arith, from); bounded = omega (arith, bounded) } in
     let at : floor_in kept ≡ floor (nodes kept) past = floor-in kept past has h in
     let most = top-at (nodes kept) past some h.legal in
     let within : most.0 < length kept.links = (let w : most.0 < numbered (nodes kept) past = most.1 in omega arith) in
-    let d : Progress = record { next = 0; head = 0; retired = true } in
+    let d : IntakeView = record { next = 0; head = 0; retired = true } in
     record {
       nodes = has;
       stamps = λ k d lt. subst HasStamps (sym (link-is kept past h k d lt)) (count-low (nodes kept) past h.legal k);
@@ -293,7 +296,7 @@ checkpoint-sound kept past h some few ascend =
           kept.rows (All-contains_itself kept.rows);
     }
 
-pub copy-stands : (kept copy : Kept) (past : List Step) → StandsFor kept past → IsCopyOf kept copy
-    → StandsFor copy past
-copy-stands kept copy past h is =
-    subst (λ k. StandsFor k past) (sym is.same) (stands-moved kept past copy.rows h is.rows)
+pub copy-represents : (kept copy : StoreView) (past : List Step) → Represents kept past → IsCopyOf kept copy
+    → Represents copy past
+copy-represents kept copy past h is =
+    subst (λ k. Represents k past) (sym is.same) (represents-moved kept past copy.rows h is.rows)

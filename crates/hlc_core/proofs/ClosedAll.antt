@@ -1,17 +1,17 @@
--- A core without its snapshots stands for the past in which they were closed, one after the other.
+-- A core without its snapshots represents the past in which they were closed, one after the other.
 use Rattle.std.proofs.Common.{◌≡◌, ℕ, suc, ◌<◌, List, [], ◌∷◌, Some, refl, ap, sym, ◌∙◌, subst, arith}
 use Rattle.std.specs.Prelude.{All, not}
 use Rattle.std.specs.List.{AllPairs}
 use Rattle.std.proofs.lemmas.Bool.{cond-true, cond-false, eq-eqb, ne_eqb}
 use Rattle.std.proofs.lemmas.List.Elements.{All-nil, All-head, All-tail}
 use Rattle.hlc_node.specs.declared.row.Row.{Row}
-use Rattle.hlc_heads.specs.Heads.{Marks}
+use Rattle.hlc_heads.specs.Heads.{HeadsView}
 use Rattle.hlc_snapshot.specs.declared.snapshot.Snapshot.{Snapshot}
-use Rattle.hlc_snapshot.specs.Register.{without, stamp_in}
+use Rattle.hlc_snapshot.specs.RegistryView.{without, stamp_in}
 use Rattle.hlc_snapshot.proofs.RegisterLemmas.{stamp_in-hit}
 use Rattle.hlc_core.specs.Past.{Step, Closed, closed_all}
-use Rattle.hlc_core.specs.Kept.{Kept, IsHeld, nodes, StandsFor, without_snapshots}
-use Rattle.hlc_core.proofs.Standing.{closes, less_snapshot}
+use Rattle.hlc_core.specs.StoreView.{StoreView, IsConsistent, nodes, Represents, without_snapshots}
+use Rattle.hlc_core.proofs.Opening.{closes, less_snapshot}
 use Rattle.hlc_core.proofs.Checkpoints.{register-of}
 
 -- none of these has the id
@@ -22,15 +22,15 @@ without-none id (x ∷ xs) above =
     cond-true _ _ _ (ap not (ne_eqb x.id id (λ same. omega arith)))
     ∙ ap (λ ys. x ∷ ys) (without-none id xs (All-tail (λ snapshot. id < snapshot.id) x xs above))
 
--- the first of some rising ones is closed
+-- the first of some ascending snapshots is closed
 without-first : (x : Snapshot) (xs : List Snapshot) → All (λ snapshot. x.id < snapshot.id) xs
     → without x.id (x ∷ xs) ≡ xs
 without-first x xs above = cond-false _ _ _ (ap not (eq-eqb x.id x.id refl)) ∙ without-none x.id xs above
 
-pub all-closed : (snapshots : List Snapshot) (kept : Kept) (past : List Step) → kept.snapshots ≡ snapshots
-    → StandsFor kept past → StandsFor (without_snapshots kept) (closed_all snapshots past)
+pub all-closed : (snapshots : List Snapshot) (kept : StoreView) (past : List Step) → kept.snapshots ≡ snapshots
+    → Represents kept past → Represents (without_snapshots kept) (closed_all snapshots past)
 all-closed [] kept past are h =
-    subst (λ (xs : List Snapshot). StandsFor (record {
+    subst (λ (xs : List Snapshot). Represents (record {
       start = kept.start;
       links = kept.links;
       top = kept.top;
@@ -49,6 +49,7 @@ all-closed (x ∷ xs) kept past are h =
     all-closed xs (less_snapshot kept x.id) (Closed x.id ∷ past)
     (ap (without x.id) are ∙ without-first x xs above) (closes kept past x.id x.stamp h there).1
 
-pub held-none : (marks : Marks) (snapshots : List Snapshot) (rows : List Row) → IsHeld marks snapshots rows
-    → IsHeld marks [] rows
-held-none marks snapshots rows h = record { opened = All-nil _; row_set = h.row_set; stored = h.stored }
+pub consistent-none : (marks : HeadsView) (snapshots : List Snapshot) (rows : List Row)
+    → IsConsistent marks snapshots rows
+    → IsConsistent marks [] rows
+consistent-none marks snapshots rows h = record { opened = All-nil _; row_set = h.row_set; stored = h.stored }

@@ -13,7 +13,7 @@ use Rattle.hlc_node.specs.declared.row.Row.{Row}
 use Rattle.hlc_core.specs.declared.listing.Pair.{Pair}
 use Rattle.hlc_core.specs.Listing.{IsListing}
 
--- the key of the one pair is before that of the other
+-- the key of one pair is before that of the other
 abbrev IsBefore : Pair → Pair → Type 0
 IsBefore a b = slice_cmp nat_cmp a.key b.key ≡ Less
 

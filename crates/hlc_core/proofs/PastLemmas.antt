@@ -1,6 +1,6 @@
--- What holds of a legal past: an item that nothing refuses lies above its node's head, so no write is accepted twice,
--- and the floor never falls, so no open snapshot is above it; and it says what an item may say, so no accepted write is
--- beyond the limits.
+-- What is true of a legal past: an item that is not refused has a stamp above its node's head, so no write is accepted
+-- twice, and the floor never falls, so no open snapshot is above it; and its body is allowed, so no accepted write is
+-- out of the limits.
 use Rattle.std.proofs.Common.{◌≡◌, ℕ, ◌+◌, ◌<◌, ◌≤◌, ◌⊎◌, List, [], ◌∷◌, ◌++◌, max, Bool, true}
 use Rattle.std.proofs.Common.{false, Option, Some, None, refl, ap, sym, ◌∙◌, subst, inl, inr, arith, append-nil}
 use Rattle.std.specs.Prelude.{All, Contains, ◌==◌, ◌≢◌, not}
@@ -27,9 +27,9 @@ use Rattle.hlc_core.specs.Past.{writes, link_refusal, of_body, item_refusal, vac
 use Rattle.hlc_core.specs.Past.{greatest_accepted, join_refusal, join_at_refusal}
 use Rattle.hlc_heads.specs.declared.heads.TheConstants.{MOST_NUMBERS}
 
--- what it says of an item that nothing refuses it
-pub record IsAdmissible (gone : Bool) (next last : ℕ) (item : Item) : Type 0 where
-  pub here : gone ≡ false
+-- what is true of an item that is not refused
+pub record IsAdmissible (has_retired : Bool) (next last : ℕ) (item : Item) : Type 0 where
+  pub here : has_retired ≡ false
   pub number : item.number ≡ next
   pub left : item.number ≢ 18446744073709551615
   pub stamp : last < item.stamp
@@ -39,8 +39,8 @@ of_body-none : (fault : Option BodyFault) → of_body fault ≡ None → fault �
 of_body-none None h = refl
 of_body-none (Some fault) h = absurd (let g : Some (bad_body fault) ≡ None = h in cc)
 
-pub admissible : (gone : Bool) (next last : ℕ) (item : Item) → link_refusal gone next last item ≡ None
-    → IsAdmissible gone next last item
+pub admissible : (has_retired : Bool) (next last : ℕ) (item : Item) → link_refusal has_retired next last item ≡ None
+    → IsAdmissible has_retired next last item
 admissible true next last item h = absurd (cc)
 admissible false next last item h =
     elim (cases_eq item.number next) [
@@ -79,7 +79,7 @@ inside nodes past item h =
           sym (cond-true _ _ _ (le-leb (numbered nodes past) item.node outside)) ∙ h in cc)
     ]
 
--- at a node of the core's, the item is refused as on its link
+-- at a node of the core, the item is refused as on its link
 pub on_link : (nodes : ℕ) (past : List Step) (item : Item) → item.node < numbered nodes past
     → item_refusal nodes past item
     ≡ link_refusal (retired item.node past) (count item.node past) (head item.node past) item
@@ -112,7 +112,7 @@ pub head-joined_other : (n node start : ℕ) (past : List Step) → (node ≡ n 
     → head n (Joined node start ∷ past) ≡ head n past
 head-joined_other n node start past e = cond-false _ _ _ (ne_eqb _ _ e)
 
--- of a node that is not there nothing was accepted
+-- a node that does not exist has no accepted item
 pub fresh : (nodes : ℕ) (past : List Step) (n : ℕ) → IsLegal nodes past → numbered nodes past ≤ n
     → (count n past ≡ 0) × (retired n past ≡ false)
 fresh nodes [] n legal out = (refl, refl)
@@ -148,7 +148,7 @@ head-up n item past up =
       | inr other ↦ (let e : head n (Took item ∷ past) ≡ head n past = head-other n item past other in omega arith)
     ]
 
--- an item that nothing refuses lies above its node's head
+-- an item that is not refused has a stamp above its node's head
 pub rises : (nodes : ℕ) (past : List Step) (item : Item) → item_refusal nodes past item ≡ None
     → head item.node past < item.stamp
 rises nodes past item h = (admissible _ _ _ item (sym (on_link nodes past item (inside nodes past item h)) ∙ h)).stamp
@@ -165,14 +165,14 @@ pub floor-le : (nodes : ℕ) (past : List Step) (n : ℕ) → n < numbered nodes
 floor-le nodes past n within here =
     (low-is (λ n. head n past) (λ n. retired n past) (numbered nodes past) (top past)).least n within here
 
--- and the floor is one of those, or all retired and it is the greatest accepted stamp
+-- and the floor is one of those, or all have retired and it is the greatest accepted stamp
 pub floor-some : (nodes : ℕ) (past : List Step)
     → ((n : ℕ) × (n < numbered nodes past) × (retired n past ≡ false) × (head n past ≡ floor nodes past))
     ⊎ (((n : ℕ) → n < numbered nodes past → retired n past ≡ true) × (floor nodes past ≡ top past))
 floor-some nodes past =
     (low-is (λ n. head n past) (λ n. retired n past) (numbered nodes past) (top past)).is
 
--- and so above the floor
+-- and so it is above the floor
 pub above_floor : (nodes : ℕ) (past : List Step) (item : Item) → item_refusal nodes past item ≡ None
     → floor nodes past < item.stamp
 above_floor nodes past item h =
@@ -180,7 +180,7 @@ above_floor nodes past item h =
     floor-le nodes past item.node (inside nodes past item h) (still_here nodes past item h) in
     let up : head item.node past < item.stamp = rises nodes past item h in omega arith
 
--- each accepted write is of a node that is there
+-- each accepted write is of a node that exists
 pub inside-row : (nodes : ℕ) (past : List Step) → IsLegal nodes past → (row : Row) → Contains (writes past) row
     → row.node < numbered nodes past
 inside-row nodes [] legal row m = absurd (Contains-none row m)
@@ -200,7 +200,7 @@ inside-row nodes (Took item ∷ past) legal row m =
           let goal : row.node < numbered nodes past = omega (arith, are.0) in goal
     ]
 
--- each accepted write lies at or below its node's head
+-- each accepted write is at or below its node's head
 pub below_head : (nodes : ℕ) (past : List Step) → IsLegal nodes past → (row : Row) → Contains (writes past) row
     → row.stamp ≤ head row.node past
 below_head nodes [] legal row m = absurd (Contains-none row m)
@@ -255,7 +255,7 @@ row_set-push (first ∷ rows) row fresh set' = (
   row_set-push rows row (λ other m v. fresh other (Contains-rest first other rows m) v) set'.1,
 )
 
--- the row of an item, if it is a write, is set behind others that are not its version
+-- the row of an item, if it is a write, is added to others that are not its version
 pub row_set-body : (node stamp : ℕ) (body : Body) (rows : List Row)
     → ((row other : Row) → Contains (body_rows node stamp body) row → Contains rows other → IsSameVersion other row → ⊥)
     → IsRowSet rows → IsRowSet (rows ++ body_rows node stamp body)
@@ -275,7 +275,7 @@ writes-row_set nodes (Took item ∷ past) legal =
     row_set-body item.node item.stamp item.body (writes past) (new_version nodes past item legal.1 legal.0)
     (writes-row_set nodes past legal.1)
 
--- the row of an item, if it is a write, is set behind others that are in the limits
+-- the row of an item, if it is a write, is added to others that are in the limits
 pub limits-body : (node stamp : ℕ) (body : Body) (rows : List Row) → body_refusal body ≡ None → AreInLimits rows
     → AreInLimits (rows ++ body_rows node stamp body)
 limits-body node stamp Report rows none all' = rw append-nil all'
@@ -295,7 +295,7 @@ writes-limits nodes (Took item ∷ past) legal =
     (admissible _ _ _ item (sym (on_link nodes past item (inside nodes past item legal.0)) ∙ legal.0)).limits
     (writes-limits nodes past legal.1)
 
--- the floor never falls: not by an item
+-- the floor never falls: not with an item
 pub floor-grows : (nodes : ℕ) (past : List Step) (item : Item) → item_refusal nodes past item ≡ None
     → floor nodes past ≤ floor nodes (Took item ∷ past)
 floor-grows nodes past item none =
@@ -309,7 +309,7 @@ floor-grows nodes past item none =
     ))
     (let e : top (Took item ∷ past) ≡ max (top past) item.stamp = refl in omega arith)
 
--- nor by a node that joins, not below it
+-- nor with a node that joins at or above it
 pub floor-joins : (nodes : ℕ) (past : List Step) (node start : ℕ) → node ≡ numbered nodes past
     → floor nodes past ≤ start → floor nodes past ≤ floor nodes (Joined node start ∷ past)
 floor-joins nodes past node start is up =
@@ -320,7 +320,7 @@ floor-joins nodes past node start is up =
     (omega arith) (omega arith)
     (λ k within. (head-joined_other k node start past (λ e. omega (arith, is)), refl))
 
--- by which it stays, where a node is left
+-- and it does not move if some node has not retired
 pub floor-stays : (nodes : ℕ) (past : List Step) (node start n : ℕ) → node ≡ numbered nodes past
     → floor nodes past ≤ start → n < numbered nodes past → retired n past ≡ false
     → floor nodes (Joined node start ∷ past) ≡ floor nodes past
@@ -331,7 +331,7 @@ floor-stays nodes past node start n is up within here =
     (λ n. retired n (Joined node start ∷ past)) (numbered nodes past) (top past) (max (top past) start) n within here
     (omega arith) (λ k within. (head-joined_other k node start past (λ e. omega (arith, is)), refl))
 
--- what nothing refuses to open is not above the floor
+-- a stamp at which an opening is not refused is not above the floor
 pub open-below : (nodes : ℕ) (past : List Step) (stamp : ℕ) → open_refusal nodes past stamp ≡ None
     → stamp ≤ floor nodes past
 open-below nodes past stamp none =
@@ -377,7 +377,7 @@ open-above nodes past stamp none =
       | inr high ↦ high
     ]
 
--- what nothing refuses to vacuum is not above the floor
+-- a stamp to which a vacuum is not refused is not above the floor
 pub vacuum-below : (nodes : ℕ) (past : List Step) (at : ℕ) → vacuum_refusal nodes past at ≡ None → at ≤ floor nodes past
 vacuum-below nodes past at none =
     elim (cases_lt (floor nodes past) at) [
@@ -418,20 +418,20 @@ horizon-low nodes (Joined node start ∷ past) legal =
     let up : floor nodes past ≤ floor nodes (Joined node start ∷ past) =
     floor-joins nodes past node start legal.1 legal.2 in omega arith
 
--- what is accepted is above the horizon
+-- an item that is accepted is above the horizon
 pub above-horizon : (nodes : ℕ) (past : List Step) (item : Item) → IsLegal nodes past
     → item_refusal nodes past item ≡ None → horizon past < item.stamp
 above-horizon nodes past item legal none =
     let low : horizon past ≤ floor nodes past = horizon-low nodes past legal in
     let up : floor nodes past < item.stamp = above_floor nodes past item none in omega arith
 
--- a stamp that is neither above the floor nor below the horizon is refused for want of room alone
+-- a stamp that is neither above the floor nor below the horizon is refused only if no more snapshot can be opened
 pub open-room : (nodes : ℕ) (past : List Step) (stamp : ℕ) → stamp ≤ floor nodes past → horizon past ≤ stamp
     → open_refusal nodes past stamp ≡ room_refusal past
 open-room nodes past stamp low high = cond-false _ _ _ (le-ltb (floor nodes past) stamp low)
     ∙ cond-false _ _ _ (le-ltb stamp (horizon past) high)
 
--- the top is the greatest accepted stamp, but for starts: it is not below it
+-- the greatest accepted stamp is not above the top, which also counts starts
 pub accepted-low : (past : List Step) → greatest_accepted past ≤ top past
 accepted-low [] = omega arith
 accepted-low (Took item ∷ past) =
@@ -444,23 +444,23 @@ accepted-low (Joined node start ∷ past) =
     let old : greatest_accepted past ≤ top past = accepted-low past in
     let goal : greatest_accepted past ≤ max (top past) start = omega arith in goal
 
--- a node that retired issued its head
+-- a node that has retired issued its head
 pub retired-head : (nodes : ℕ) (past : List Step) (n : ℕ) → IsLegal nodes past → retired n past ≡ true
     → head n past ≤ greatest_accepted past
-retired-head nodes [] n legal gone = omega arith
-retired-head nodes (Opened stamp ∷ past) n legal gone = retired-head nodes past n legal.1 gone
-retired-head nodes (Closed id ∷ past) n legal gone = retired-head nodes past n legal.1 gone
-retired-head nodes (Vacuumed at ∷ past) n legal gone = retired-head nodes past n legal.1 gone
-retired-head nodes (Joined node start ∷ past) n legal gone =
+retired-head nodes [] n legal has_retired = omega arith
+retired-head nodes (Opened stamp ∷ past) n legal has_retired = retired-head nodes past n legal.1 has_retired
+retired-head nodes (Closed id ∷ past) n legal has_retired = retired-head nodes past n legal.1 has_retired
+retired-head nodes (Vacuumed at ∷ past) n legal has_retired = retired-head nodes past n legal.1 has_retired
+retired-head nodes (Joined node start ∷ past) n legal has_retired =
     elim (cases_eq node n) [
       | inl same ↦
           let none = fresh nodes past n legal.3 (let is : node ≡ numbered nodes past = legal.1 in omega arith) in
-          absurd (let e : false ≡ true = sym none.1 ∙ gone in cc)
+          absurd (let e : false ≡ true = sym none.1 ∙ has_retired in cc)
       | inr other ↦
           let e : head n (Joined node start ∷ past) ≡ head n past = head-joined_other n node start past other in
-          let old : head n past ≤ greatest_accepted past = retired-head nodes past n legal.3 gone in omega arith
+          let old : head n past ≤ greatest_accepted past = retired-head nodes past n legal.3 has_retired in omega arith
     ]
-retired-head nodes (Took item ∷ past) n legal gone =
+retired-head nodes (Took item ∷ past) n legal has_retired =
     elim (cases_eq item.node n) [
       | inl same ↦
           let e : head n (Took item ∷ past) ≡ item.stamp = head-same n item past same in
@@ -468,11 +468,11 @@ retired-head nodes (Took item ∷ past) n legal gone =
       | inr other ↦
           let e : head n (Took item ∷ past) ≡ head n past = head-other n item past other in
           let old : head n past ≤ greatest_accepted past =
-          retired-head nodes past n legal.1 (sym (retired-other n item past other) ∙ gone) in
+          retired-head nodes past n legal.1 (sym (retired-other n item past other) ∙ has_retired) in
           let goal : head n (Took item ∷ past) ≤ max (greatest_accepted past) item.stamp = omega arith in goal
     ]
 
--- a join at the floor leaves it
+-- a join at the floor does not move it
 pub floor-at_floor : (nodes : ℕ) (past : List Step) (node : ℕ) → IsLegal nodes past → node ≡ numbered nodes past
     → floor nodes (Joined node (floor nodes past) ∷ past) ≡ floor nodes past
 floor-at_floor nodes past node legal is =

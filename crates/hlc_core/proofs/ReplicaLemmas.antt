@@ -17,7 +17,7 @@ use Rattle.hlc_core.specs.declared.fault.CoreFault.TheVariants.{Join}
 use Rattle.hlc_heads.specs.declared.heads.JoinFault.TheVariants.{TooManyNodes, BelowFloor}
 use Rattle.hlc_core.specs.Past.{Step, Took, Opened, Closed, Vacuumed, Joined, numbered, count, head, retired, top}
 use Rattle.hlc_core.specs.Past.{floor, horizon, writes, item_rows, item_refusal, join_at_refusal, IsLegal}
-use Rattle.hlc_core.specs.Kept.{Kept, nodes, StandsFor}
+use Rattle.hlc_core.specs.StoreView.{StoreView, nodes, Represents}
 use Rattle.hlc_core.specs.Replicas.{items_of, joins_of, AreReplicas}
 use Rattle.hlc_core.proofs.PastLemmas.{inside, head-same, head-other, head-joined, head-joined_other}
 use Rattle.hlc_core.proofs.PastLemmas.{retired-same, retired-other, count-other, body_rows-are, writes-row_set}
@@ -31,7 +31,7 @@ items-other : (n : ℕ) (item : Item) (past : List Step) → (item.node ≡ n �
     → items_of n (Took item ∷ past) ≡ items_of n past
 items-other n item past e = cond-false _ _ _ (ne_eqb _ _ e)
 
--- no item is of a node that is not there
+-- no item is of a node that does not exist
 items-none : (nodes : ℕ) (past : List Step) (n : ℕ) → IsLegal nodes past → numbered nodes past ≤ n
     → items_of n past ≡ []
 items-none nodes [] n legal out = refl
@@ -45,12 +45,12 @@ items-none nodes (Took item ∷ past) n legal out =
     let out' : numbered nodes past ≤ n = out in
     items-other n item past (λ e. omega arith) ∙ items-none nodes past n legal.1 out
 
--- the start of a node, by the joins
+-- the start of a node, from the joins
 abbrev start_in : ℕ → List (ℕ × ℕ) → ℕ
 start_in n [] = 0
 start_in n (join ∷ joins) = if join.0 == n then join.1 else start_in n joins
 
--- the head and the retirement of a node, by its items and the joins
+-- the head and the retirement of a node, from its items and the joins
 abbrev last_head : ℕ → List Item → List (ℕ × ℕ) → ℕ
 last_head n [] joins = start_in n joins
 last_head n (item ∷ items) joins = item.stamp
@@ -144,7 +144,7 @@ retired-agrees past other n items = retired-by past n ∙ ap last_retires items 
 count-agrees : (past other : List Step) (n : ℕ) → items_of n past ≡ items_of n other → count n past ≡ count n other
 count-agrees past other n items = count-by past n ∙ ap length items ∙ sym (count-by other n)
 
--- an item is refused alike where its own node's items are the same
+-- an item is refused alike if the items of its node are the same
 pub refusals-agree : (nodes : ℕ) (past other : List Step) (item : Item) → IsLegal nodes past → IsLegal nodes other
     → joins_of past ≡ joins_of other → items_of item.node past ≡ items_of item.node other
     → item_refusal nodes past item ≡ item_refusal nodes other item
@@ -156,11 +156,12 @@ refusals-agree nodes past other item legal legal' joins items =
       head-agrees nodes past other item.node legal legal' joins items,
     ) refl
 
-least-agrees : (f g : ℕ → ℕ) (gone left : ℕ → Bool) (n : ℕ) → ((k : ℕ) → f k ≡ g k) → ((k : ℕ) → gone k ≡ left k)
-    → least_left f gone n ≡ least_left g left n
-least-agrees f g gone left zero same away = refl
-least-agrees f g gone left (suc n) same away =
-    rw (same n, away n, least-agrees f g gone left n same away) refl
+least-agrees : (f g : ℕ → ℕ) (has_retired left : ℕ → Bool) (n : ℕ) → ((k : ℕ) → f k ≡ g k)
+    → ((k : ℕ) → has_retired k ≡ left k)
+    → least_left f has_retired n ≡ least_left g left n
+least-agrees f g has_retired left zero same away = refl
+least-agrees f g has_retired left (suc n) same away =
+    rw (same n, away n, least-agrees f g has_retired left n same away) refl
 
 top-le : (nodes : ℕ) (past other : List Step) → 0 < nodes → IsLegal nodes past → IsLegal nodes other
     → ((n : ℕ) → head n past ≡ head n other) → top past ≤ top other
@@ -185,7 +186,7 @@ floors-agree nodes past other some legal legal' are =
     (numbered nodes other) heads (λ k. retired-agrees past other k (are.items k)))
     ∙ ap (λ t. low (λ k. head k other) (λ k. retired k other) (numbered nodes other) t) tops
 
--- why no node joins at a start where so many numbers were given, and at this floor
+-- why no node joins at a start, from the number of assigned node numbers and the floor
 abbrev refusal_of : ℕ → ℕ → ℕ → Option CoreFault
 refusal_of many low start =
     if nat_le MOST_NUMBERS many then Some (Join TooManyNodes)
@@ -265,7 +266,7 @@ answers-agree nodes past other legal are =
     (writes-part other past (λ n. sym (are.items n)))
 
 -- and so do the stores, at each stamp from both horizons on
-pub stores-agree : (kept copy : Kept) (past other : List Step) → StandsFor kept past → StandsFor copy other
+pub stores-agree : (kept copy : StoreView) (past other : List Step) → Represents kept past → Represents copy other
     → AreReplicas past other → (key : List ℕ) (stamp : ℕ) → horizon past ≤ stamp → horizon other ≤ stamp
     → answer kept.rows key stamp ≡ answer copy.rows key stamp
 stores-agree kept copy past other h h' are key stamp up up' =

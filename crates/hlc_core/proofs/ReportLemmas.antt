@@ -3,12 +3,12 @@ use Rattle.std.proofs.Common.{◌≡◌, ℕ, ◌+◌, ◌≤◌, List, [], ◌�
 use Rattle.std.specs.Prelude.{Contains}
 use Rattle.std.proofs.lemmas.List.Elements.{All-map, All-contains}
 use Rattle.hlc_snapshot.specs.declared.snapshot.Snapshot.{Snapshot}
-use Rattle.hlc_snapshot.specs.Register.{stamps, stamps_to}
+use Rattle.hlc_snapshot.specs.RegistryView.{stamps, stamps_to}
 use Rattle.hlc_witness.specs.declared.witness.Witness.{Witness}
 use Rattle.hlc_witness.specs.Changes.{AreChanges}
 use Rattle.hlc_witness.specs.Cost.{changes_cost}
 use Rattle.hlc_witness.specs.AllChanges.{all_changes}
-use Rattle.hlc_vacuum.specs.Standing.{count_above}
+use Rattle.hlc_vacuum.specs.Representing.{count_above}
 use Rattle.hlc_vacuum.specs.declared.report.Report.{Report}
 use Rattle.hlc_clock.proofs.PointLemmas.{ArePoints-unique, points-ascend}
 use Rattle.hlc_witness.proofs.ChangeLemmas.{changes_are_one}
@@ -25,7 +25,7 @@ open-stamps-low nodes past legal stamp m =
     (All-map (λ stamp. stamp ≤ floor nodes past) (λ (snapshot : Snapshot). snapshot.stamp) (open_snapshots past)
     (open-low nodes past legal)) m
 
--- changes of one vacuum are one list
+-- the changes of one vacuum are one list
 pub one-changes : (at : ℕ) (past : List Step) (points others : List ℕ) (changes before : List Witness)
     → AreVacuumPoints at past points → AreVacuumPoints at past others → AreChanges (writes past) points changes
     → AreChanges (writes past) others before → changes ≡ before
@@ -36,7 +36,7 @@ one-changes at past points others changes before found also are were =
     ∙ ap (all_changes (writes past)) same
     ∙ sym (changes_are_one (writes past) others before (points-ascend opened others at also) were)
 
--- and so are those of the last one
+-- and so are those of the last vacuum
 pub one-last : (past : List Step) (changes before : List Witness)
     → AreLastChanges past changes → AreLastChanges past before → changes ≡ before
 one-last [] changes before are were = are ∙ sym were
@@ -47,7 +47,7 @@ one-last (Joined node start ∷ past) changes before are were = one-last past ch
 one-last (Vacuumed at ∷ past) changes before are were =
     one-changes at past are.0 were.0 changes before are.1 were.1 are.2 were.2
 
--- one number of stored rows is due
+-- there is one expected number of stored rows
 pub there_is_one_count : (past : List Step) (count other : ℕ)
     → IsStoredCount past count → IsStoredCount past other → count ≡ other
 there_is_one_count past count other is also =
@@ -58,7 +58,7 @@ abbrev a_report : ℕ → List ℕ → ℕ → ℕ → ℕ → List Witness → 
 a_report at points kept bytes dropped witnesses =
     record { floor = at; points = points; kept = kept; bytes = bytes; dropped = dropped; witnesses = witnesses }
 
--- and one report
+-- and one expected report
 pub there_is_one_report : (at : ℕ) (past : List Step) (report other : Report)
     → IsReport at past report → IsReport at past other → report ≡ other
 there_is_one_report at past report other is also =

@@ -1,5 +1,6 @@
--- A vacuum to a stamp: what it leaves stands for the past with it, its report is the one expected, and what is left at
--- or below the stamp are the fewest. The open snapshots above the stamp go on answering, as all rows above it stay.
+-- A vacuum to a stamp: the remaining rows represent the past with it, its report is the expected one, and the remaining
+-- rows at or below the stamp are the fewest. The answers of the open snapshots above the stamp do not change, since all
+-- rows above it stay.
 use Rattle.std.proofs.Common.{◌≡◌, ℕ, ◌+◌, ◌≤◌, List, ◌∷◌, length, leb, None, Contains, refl, ap, sym, ◌∙◌, subst, inl}
 use Rattle.std.proofs.Common.{inr, arith}
 use Rattle.std.specs.List.Sorted.{IsPermutation}
@@ -8,20 +9,20 @@ use Rattle.std.proofs.lemmas.Bool.{cases_lt, le-leb}
 use Rattle.std.proofs.lemmas.List.Elements.{All-contains}
 use Rattle.hlc_values.proofs.MemberLemmas.{Contains-from_filter, Contains-filter}
 use Rattle.hlc_snapshot.specs.declared.snapshot.Snapshot.{Snapshot}
-use Rattle.hlc_snapshot.specs.Register.{stamps, stamps_to}
+use Rattle.hlc_snapshot.specs.RegistryView.{stamps, stamps_to}
 use Rattle.hlc_snapshot.proofs.RegisterLemmas.{stamps_to-low}
 use Rattle.hlc_clock.specs.Points.{PointsAscend}
 use Rattle.hlc_witness.specs.Fewest.{Fewest}
 use Rattle.hlc_witness.specs.Cost.{Cheapest, rows_cost}
 use Rattle.hlc_vacuum.specs.Vacuumed.{IsVacuumOf, rows_to}
-use Rattle.hlc_vacuum.specs.Standing.{RowsStandFor, StandsAfterVacuum, count_above, count_between}
+use Rattle.hlc_vacuum.specs.Representing.{RowsRepresent, RepresentsAfterVacuum, count_above, count_between}
 use Rattle.hlc_witness.proofs.CostLemmas.{fewest_rows_are_cheapest, fewest_rows_cost}
-use Rattle.hlc_vacuum.proofs.StandingLemmas.{vacuums_compose, standing_rows_are_fewest, vacuums_are_certified}
-use Rattle.hlc_vacuum.proofs.StandingLemmas.{rows_above_are_counted}
+use Rattle.hlc_vacuum.proofs.RepresentingLemmas.{vacuums_compose, representing_rows_are_fewest, vacuums_are_certified}
+use Rattle.hlc_vacuum.proofs.RepresentingLemmas.{rows_above_are_counted}
 use Rattle.hlc_vacuum.specs.declared.report.Report.{Report}
 use Rattle.hlc_core.specs.Past.{Step, Vacuumed, horizon, open_snapshots, writes, vacuum_refusal}
 use Rattle.hlc_core.specs.Stored.{AreVacuumPoints, IsReport, LeavesFewest}
-use Rattle.hlc_core.specs.Kept.{Kept, nodes, with_rows_left, StandsFor}
+use Rattle.hlc_core.specs.StoreView.{StoreView, nodes, with_rows_left, Represents}
 use Rattle.hlc_core.specs.Calls.{Vacuums}
 use Rattle.hlc_core.proofs.PastLemmas.{vacuum-above, writes-limits}
 use Rattle.hlc_columns.proofs.FlagLemmas.{filter-IsRowSet}
@@ -30,103 +31,105 @@ use Rattle.hlc_clock.proofs.PointLemmas.{points-ascend, points-last}
 
 -- with fewer snapshots open
 fewer-open : (stored all : List Row) (horizon at : ℕ) (snapshots : List Snapshot)
-    → RowsStandFor stored all horizon (stamps snapshots) → RowsStandFor stored all horizon (stamps_to at snapshots)
-fewer-open stored all horizon at snapshots stand = record {
-  row_set = stand.row_set;
-  all_row_set = stand.all_row_set;
-  within = stand.within;
-  above = stand.above;
+    → RowsRepresent stored all horizon (stamps snapshots) → RowsRepresent stored all horizon (stamps_to at snapshots)
+fewer-open stored all horizon at snapshots represent = record {
+  row_set = represent.row_set;
+  all_row_set = represent.all_row_set;
+  within = represent.within;
+  above = represent.above;
   at_open = λ key stamp m.
-      stand.at_open key stamp (Contains-from_filter (λ s. leb s at) (stamps snapshots) stamp m).0;
-  from_horizon = stand.from_horizon;
+      represent.at_open key stamp (Contains-from_filter (λ s. leb s at) (stamps snapshots) stamp m).0;
+  from_horizon = represent.from_horizon;
 }
 
 -- and with those that are open above the horizon
 more-open : (stored all : List Row) (at : ℕ) (snapshots : List Snapshot)
-    → RowsStandFor stored all at (stamps_to at snapshots) → RowsStandFor stored all at (stamps snapshots)
-more-open stored all at snapshots stand = record {
-  row_set = stand.row_set;
-  all_row_set = stand.all_row_set;
-  within = stand.within;
-  above = stand.above;
+    → RowsRepresent stored all at (stamps_to at snapshots) → RowsRepresent stored all at (stamps snapshots)
+more-open stored all at snapshots represent = record {
+  row_set = represent.row_set;
+  all_row_set = represent.all_row_set;
+  within = represent.within;
+  above = represent.above;
   at_open = λ key stamp m.
       elim (cases_lt at stamp) [
-        | inl above ↦ stand.from_horizon key stamp (omega arith)
-        | inr below ↦ stand.at_open key stamp
+        | inl above ↦ represent.from_horizon key stamp (omega arith)
+        | inr below ↦ represent.at_open key stamp
             (Contains-filter (λ s. leb s at) (stamps snapshots) stamp m (le-leb stamp at below))
       ];
-  from_horizon = stand.from_horizon;
+  from_horizon = represent.from_horizon;
 }
 
--- none of those that count is above the stamp
+-- none of the counted stamps is above the stamp
 low-open : (at : ℕ) (snapshots : List Snapshot) (stamp : ℕ) → Contains (stamps_to at snapshots) stamp → stamp ≤ at
 low-open at snapshots stamp m =
     All-contains (λ stamp. stamp ≤ at) (stamps_to at snapshots) stamp (stamps_to-low at snapshots) m
 
--- what was left is the fewest, where it stands for the past of the vacuum and the report is the one expected
-pub leaves-fewest : (kept : Kept) (at : ℕ) (past : List Step) (report : Report) → StandsFor kept (Vacuumed at ∷ past)
+-- the remaining rows are the fewest, if they represent the past with the vacuum and the report is the expected one
+pub leaves-fewest : (kept : StoreView) (at : ℕ) (past : List Step) (report : Report)
+    → Represents kept (Vacuumed at ∷ past)
     → IsReport at past report → LeavesFewest kept.rows (writes past) report
-leaves-fewest kept at past report h due =
+leaves-fewest kept at past report h expected =
     let opened : List ℕ = stamps_to at (open_snapshots past) in
-    let ascend : PointsAscend report.points = points-ascend opened report.points at due.points in
+    let ascend : PointsAscend report.points = points-ascend opened report.points at expected.points in
     let same : h.stored.0 ≡ report.witnesses = one-changes at past h.stored.1.0 report.points
-    h.stored.0 report.witnesses h.stored.1.1 due.points h.stored.1.2 due.witnesses in
+    h.stored.0 report.witnesses h.stored.1.1 expected.points h.stored.1.2 expected.witnesses in
     let count : length kept.rows ≡ length report.witnesses + count_above at (writes past) = h.stored.2
     ∙ ap (λ changes. length changes + count_above at (writes past)) same in
-    let after : StandsAfterVacuum kept.rows (writes past) at opened report.points report.witnesses =
-    standing_rows_are_fewest kept.rows (writes past) at opened report.points report.witnesses
-    (fewer-open kept.rows (writes past) at at (open_snapshots past) h.rows) due.points.members
-    (low-open at (open_snapshots past)) due.witnesses count in
+    let after : RepresentsAfterVacuum kept.rows (writes past) at opened report.points report.witnesses =
+    representing_rows_are_fewest kept.rows (writes past) at opened report.points report.witnesses
+    (fewer-open kept.rows (writes past) at at (open_snapshots past) h.rows) expected.points.members
+    (low-open at (open_snapshots past)) expected.witnesses count in
     record {
       row_set = filter-IsRowSet (λ row. leb row.stamp report.floor) kept.rows h.rows.row_set;
-      fewest = subst (λ f. Fewest (rows_to f kept.rows) (writes past) report.points) (sym due.at_stamp) after.fewest;
-      cheapest = subst (λ f. Cheapest (rows_to f kept.rows) (writes past) report.points) (sym due.at_stamp)
+      fewest = subst (λ f. Fewest (rows_to f kept.rows) (writes past) report.points) (sym expected.at_stamp)
+          after.fewest;
+      cheapest = subst (λ f. Cheapest (rows_to f kept.rows) (writes past) report.points) (sym expected.at_stamp)
           (fewest_rows_are_cheapest (writes past) (rows_to at kept.rows) report.points report.witnesses
           after.listed.ascend after.listed.each after.fewest.alike after.count);
-      count = ap (λ f. length (rows_to f kept.rows)) due.at_stamp ∙ after.count ∙ sym due.kept;
-      cost = ap (λ f. rows_cost (rows_to f kept.rows)) due.at_stamp
+      count = ap (λ f. length (rows_to f kept.rows)) expected.at_stamp ∙ after.count ∙ sym expected.kept;
+      cost = ap (λ f. rows_cost (rows_to f kept.rows)) expected.at_stamp
           ∙ fewest_rows_cost (writes past) (rows_to at kept.rows) report.points report.witnesses after.listed.ascend
           after.listed.each after.fewest.alike after.count
-          ∙ sym due.bytes;
+          ∙ sym expected.bytes;
       certified = λ listed moved up. vacuums_are_certified kept.rows (writes past) listed at opened report.points
-          report.witnesses after ascend (points-last opened report.points at due.points)
-          (subst (λ f. IsPermutation (rows_to f kept.rows) listed) due.at_stamp moved) up
+          report.witnesses after ascend (points-last opened report.points at expected.points)
+          (subst (λ f. IsPermutation (rows_to f kept.rows) listed) expected.at_stamp moved) up
           (writes-limits (nodes kept) past h.legal.1);
     }
 
--- what a vacuum of the stored rows leaves stands for the past with it
-pub stands-vacuumed : (kept : Kept) (at : ℕ) (past : List Step) (rows : List Row) (report : Report)
-    → StandsFor kept past → horizon past ≤ at → AreVacuumPoints at past report.points
-    → IsVacuumOf kept.rows report.points report.witnesses rows → StandsAfterVacuum rows (writes past) at
+-- the rows that a vacuum of the stored rows leaves represent the past with it
+pub represents-vacuumed : (kept : StoreView) (at : ℕ) (past : List Step) (rows : List Row) (report : Report)
+    → Represents kept past → horizon past ≤ at → AreVacuumPoints at past report.points
+    → IsVacuumOf kept.rows report.points report.witnesses rows → RepresentsAfterVacuum rows (writes past) at
     (stamps_to at (open_snapshots past)) report.points report.witnesses
-stands-vacuumed kept at past rows report h high are made =
+represents-vacuumed kept at past rows report h high are made =
     vacuums_compose kept.rows (writes past) rows (horizon past) at (stamps_to at (open_snapshots past)) report.points
     report.witnesses (fewer-open kept.rows (writes past) (horizon past) at (open_snapshots past) h.rows) high
     (points-ascend (stamps_to at (open_snapshots past)) report.points at are) are.members
     (low-open at (open_snapshots past)) made
 
-pub vacuums : (kept : Kept) (at : ℕ) (past : List Step) (rows : List Row) (report : Report)
-    → StandsFor kept past → vacuum_refusal (nodes kept) past at ≡ None → AreVacuumPoints at past report.points
+pub vacuums : (kept : StoreView) (at : ℕ) (past : List Step) (rows : List Row) (report : Report)
+    → Represents kept past → vacuum_refusal (nodes kept) past at ≡ None → AreVacuumPoints at past report.points
     → IsVacuumOf kept.rows report.points report.witnesses rows → report.floor ≡ at
     → report.kept ≡ length report.witnesses → report.dropped + length rows ≡ length kept.rows
     → report.bytes ≡ rows_cost (rows_to report.floor rows)
     → Vacuums kept (with_rows_left kept rows at) at past report
 vacuums kept at past rows report h none are made at_stamp number dropped bytes =
     let high : horizon past ≤ at = vacuum-above (nodes kept) past at none in
-    let after : StandsAfterVacuum rows (writes past) at (stamps_to at (open_snapshots past)) report.points
-    report.witnesses = stands-vacuumed kept at past rows report h high are made in
-    let stands : StandsFor (with_rows_left kept rows at) (Vacuumed at ∷ past) = record {
+    let after : RepresentsAfterVacuum rows (writes past) at (stamps_to at (open_snapshots past)) report.points
+    report.witnesses = represents-vacuumed kept at past rows report h high are made in
+    let represents : Represents (with_rows_left kept rows at) (Vacuumed at ∷ past) = record {
       legal = (none, h.legal);
       many = h.many;
       links = h.links;
       top = h.top;
       snapshots = h.snapshots;
       opened = h.opened;
-      rows = more-open rows (writes past) at (open_snapshots past) after.stands;
+      rows = more-open rows (writes past) at (open_snapshots past) after.represents;
       stored = (report.witnesses, (report.points, are, after.listed), after.stored_count);
       horizon = refl;
     } in
-    let due : IsReport at past report = record {
+    let expected : IsReport at past report = record {
       at_stamp = at_stamp;
       points = are;
       witnesses = after.listed;
@@ -146,7 +149,7 @@ vacuums kept at past rows report h none are made at_stamp number dropped bytes =
       );
     } in
     record {
-      stands = stands;
-      due = due;
-      fewest = leaves-fewest (with_rows_left kept rows at) at past report stands due;
+      represents = represents;
+      expected = expected;
+      fewest = leaves-fewest (with_rows_left kept rows at) at past report represents expected;
     }

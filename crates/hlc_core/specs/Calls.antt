@@ -1,4 +1,4 @@
--- What each call of a core does, for one past that the core stood for.
+-- The effect of each call of a core, for one past that the core represented.
 use Rattle.std.specs.Prelude.{◌≡◌, ℕ, ◌<◌, ◌≤◌, ◌+◌, ◌⊎◌, List, [], ◌∷◌, ◌==◌, ◌||◌, nat_lt, Option}
 use Rattle.std.specs.Prelude.{Some, None, if◌then◌else◌, Result, Ok, Err, MatchResult, ⊤}
 use Rattle.std.specs.List.Sorted.{IsPermutation}
@@ -11,7 +11,7 @@ use Rattle.hlc_core.specs.declared.fault.CoreFault.TheVariants.{NoMemory, NoNode
 use Rattle.hlc_core.specs.declared.fault.NoNode.{NoNode as NoSuchNode}
 use Rattle.hlc_snapshot.specs.declared.fault.NoSnapshot.{NoSnapshot as NoSuchSnapshot}
 use Rattle.hlc_core.specs.declared.listing.Pair.{Pair}
-use Rattle.hlc_heads.specs.Heads.{Acceptance}
+use Rattle.hlc_heads.specs.Heads.{AcceptedView}
 use Rattle.hlc_heads.specs.declared.heads.TheConstants.{MOST_NODES}
 use Rattle.hlc_vacuum.specs.Vacuumed.{rows_to}
 use Rattle.hlc_witness.specs.Certificate.{RowsAscend}
@@ -21,41 +21,42 @@ use Rattle.hlc_core.specs.Past.{Step, Took, Opened, Closed, Vacuumed, Joined, nu
 use Rattle.hlc_core.specs.Past.{writes, item_refusal, join_refusal, join_at_refusal, room_refusal, open_refusal}
 use Rattle.hlc_core.specs.Past.{vacuum_refusal}
 use Rattle.hlc_core.specs.Stored.{IsReport, LeavesFewest}
-use Rattle.hlc_core.specs.Kept.{Kept, nodes, StandsFor}
+use Rattle.hlc_core.specs.StoreView.{StoreView, nodes, Represents}
 
--- the call refused with the first reason that holds; or with want of memory,
--- where there is none and the call may want it
+-- the fault of a refused call: the first expected refusal; or, if none is expected, that memory runs out, if the call
+-- may need memory
 abbrev pub IsRefusal : Option CoreFault → Type 0 → CoreFault → Type 0
-IsRefusal due MayGrow fault = (due ≡ Some fault) ⊎ ((due ≡ None) × (fault ≡ NoMemory) × MayGrow)
+IsRefusal expected MayGrow fault = (expected ≡ Some fault) ⊎ ((expected ≡ None) × (fault ≡ NoMemory) × MayGrow)
 
--- why no core of so many nodes is made
+-- why no core of this many nodes is made
 abbrev pub new_refusal : ℕ → Option CoreFault
 new_refusal count = if count == 0 || nat_lt MOST_NODES count then Some NoNode else None
 
--- a new core has these nodes and stands for the past in which nothing took place
-abbrev pub Makes : ℕ → Result Kept CoreFault → Type 0
-Makes count (Ok core) = (new_refusal count ≡ None) × (nodes core ≡ count) × StandsFor core []
+-- a new core has these nodes and represents the past in which nothing took place
+abbrev pub Makes : ℕ → Result StoreView CoreFault → Type 0
+Makes count (Ok core) = (new_refusal count ≡ None) × (nodes core ≡ count) × Represents core []
 Makes count (Err fault) = IsRefusal (new_refusal count) ⊤ fault
 
--- a write or a deletion: it alone needs a row
+-- a write or a deletion: only these need a row
 abbrev pub IsWrite : Body → Type 0
 IsWrite (Write key value) = ⊤
 IsWrite Report = ⊥
 IsWrite Retire = ⊥
 
--- the item was accepted, or refused with the first reason that holds
-abbrev pub Accepts : Kept → Kept → Item → List Step → Result Acceptance (CoreFault × Item) → Type 0
-Accepts old new item past (Ok accepted) = (item_refusal (nodes old) past item ≡ None) × StandsFor new (Took item ∷ past)
+-- the item was accepted, or refused with the first expected refusal
+abbrev pub Accepts : StoreView → StoreView → Item → List Step → Result AcceptedView (CoreFault × Item) → Type 0
+Accepts old new item past (Ok accepted) = (item_refusal (nodes old) past item ≡ None)
+    × Represents new (Took item ∷ past)
 Accepts old new item past (Err refused) = IsRefusal (item_refusal (nodes old) past item) (IsWrite item.body) refused.0
 
--- the same of an item that its owner goes on holding
-abbrev pub AcceptsCopy : Kept → Kept → Item → List Step → Result Acceptance CoreFault → Type 0
+-- the same for a borrowed item
+abbrev pub AcceptsCopy : StoreView → StoreView → Item → List Step → Result AcceptedView CoreFault → Type 0
 AcceptsCopy old new item past (Ok accepted) =
-    (item_refusal (nodes old) past item ≡ None) × StandsFor new (Took item ∷ past)
+    (item_refusal (nodes old) past item ≡ None) × Represents new (Took item ∷ past)
 AcceptsCopy old new item past (Err fault) = IsRefusal (item_refusal (nodes old) past item) (IsWrite item.body) fault
 
--- the answer to a check of an item is the refusal that is due
-abbrev pub Checks : Kept → Item → List Step → Result Unit CoreFault → Type 0
+-- the result of a check of an item is the expected refusal
+abbrev pub Checks : StoreView → Item → List Step → Result Unit CoreFault → Type 0
 Checks kept item past result =
     MatchResult result (λ _. item_refusal (nodes kept) past item ≡ None)
     (λ fault. item_refusal (nodes kept) past item ≡ Some fault)
@@ -65,38 +66,38 @@ abbrev pub Counts : ℕ → ℕ → List Step → Result ℕ NoSuchNode → Type
 Counts nodes node past (Ok number) = (node < numbered nodes past) × (number ≡ count node past)
 Counts nodes node past (Err fault) = numbered nodes past ≤ node
 
--- a node joined: it was given the next number, and starts at the floor; or it was refused
-abbrev pub Joins : Kept → Kept → List Step → Result (ℕ × ℕ) CoreFault → Type 0
+-- a node joined: it was assigned the next number, and starts at the floor; or it was refused
+abbrev pub Joins : StoreView → StoreView → List Step → Result (ℕ × ℕ) CoreFault → Type 0
 Joins old new past (Ok made) =
     (join_refusal (nodes old) past ≡ None)
     × (made ≡ (numbered (nodes old) past, floor (nodes old) past))
-    × StandsFor new (Joined made.0 made.1 ∷ past)
+    × Represents new (Joined made.0 made.1 ∷ past)
 Joins old new past (Err fault) = IsRefusal (join_refusal (nodes old) past) ⊤ fault
 
--- a node joined at this start: it was given the next number; or it was refused
-abbrev pub JoinsAt : Kept → Kept → ℕ → List Step → Result ℕ CoreFault → Type 0
+-- a node joined at this start: it was assigned the next number; or it was refused
+abbrev pub JoinsAt : StoreView → StoreView → ℕ → List Step → Result ℕ CoreFault → Type 0
 JoinsAt old new start past (Ok node) =
     (join_at_refusal (nodes old) past start ≡ None)
     × (node ≡ numbered (nodes old) past)
-    × StandsFor new (Joined node start ∷ past)
+    × Represents new (Joined node start ∷ past)
 JoinsAt old new start past (Err fault) = IsRefusal (join_at_refusal (nodes old) past start) ⊤ fault
 
 -- a snapshot was opened at the stamp, with an id one above the number of those opened before, or refused
-abbrev pub Opens : Kept → Kept → ℕ → List Step → Result ℕ CoreFault → Type 0
+abbrev pub Opens : StoreView → StoreView → ℕ → List Step → Result ℕ CoreFault → Type 0
 Opens old new stamp past (Ok id) =
-    (open_refusal (nodes old) past stamp ≡ None) × (id ≡ opened past + 1) × StandsFor new (Opened stamp ∷ past)
+    (open_refusal (nodes old) past stamp ≡ None) × (id ≡ opened past + 1) × Represents new (Opened stamp ∷ past)
 Opens old new stamp past (Err fault) = IsRefusal (open_refusal (nodes old) past stamp) ⊤ fault
 
 -- a snapshot was opened at the floor, with an id one above the number of those opened before, or refused
-abbrev pub OpensAtFloor : Kept → Kept → List Step → Result (ℕ × ℕ) CoreFault → Type 0
+abbrev pub OpensAtFloor : StoreView → StoreView → List Step → Result (ℕ × ℕ) CoreFault → Type 0
 OpensAtFloor old new past (Ok opening) =
     (room_refusal past ≡ None) × (opening ≡ (opened past + 1, floor (nodes old) past))
-    × StandsFor new (Opened (floor (nodes old) past) ∷ past)
+    × Represents new (Opened (floor (nodes old) past) ∷ past)
 OpensAtFloor old new past (Err fault) = IsRefusal (room_refusal past) ⊤ fault
 
--- the snapshot was closed, and this was its stamp; or there was none of this id
-abbrev pub Closes : Kept → ℕ → List Step → Result ℕ NoSuchSnapshot → Type 0
-Closes new id past (Ok stamp) = (stamp_of id past ≡ Some stamp) × StandsFor new (Closed id ∷ past)
+-- the snapshot was closed, and this was its stamp; or there was none with this id
+abbrev pub Closes : StoreView → ℕ → List Step → Result ℕ NoSuchSnapshot → Type 0
+Closes new id past (Ok stamp) = (stamp_of id past ≡ Some stamp) × Represents new (Closed id ∷ past)
 Closes new id past (Err fault) = stamp_of id past ≡ None
 
 -- the listing of the snapshot at this stamp, if there is one
@@ -104,12 +105,12 @@ abbrev pub IsListed : Option ℕ → List Row → List Pair → Type 0
 IsListed None rows listing = ⊥
 IsListed (Some stamp) rows listing = IsListing rows stamp listing
 
--- the first reason to list nothing, memory aside
+-- the first reason to refuse a listing, apart from memory
 abbrev pub list_refusal : Option ℕ → Option CoreFault
 list_refusal None = Some NoSnapshot
 list_refusal (Some stamp) = None
 
--- what has a value in the snapshot, or a refusal
+-- the keys that have a value in the snapshot, or a refusal
 abbrev pub Lists : ℕ → List Step → Result (List Pair) CoreFault → Type 0
 Lists id past (Ok listing) = IsListed (stamp_of id past) (writes past) listing
 Lists id past (Err fault) = IsRefusal (list_refusal (stamp_of id past)) ⊤ fault
@@ -119,27 +120,27 @@ pub record AreRowsTo (rows : List Row) (bound : ℕ) (listed : List Row) : Type 
   pub same : IsPermutation (rows_to bound rows) listed
   pub ascend : RowsAscend listed
 
--- a vacuum to a stamp took place: the core stands for it, the report is the one expected, and what is left are the
--- fewest rows against all accepted writes
-pub record Vacuums (old new : Kept) (at : ℕ) (past : List Step) (report : AReport) : Type 0 where
-  pub stands : StandsFor new (Vacuumed at ∷ past)
-  pub due : IsReport at past report
+-- a vacuum to a stamp took place: the core represents it, the report is the expected one, and the remaining rows are
+-- the fewest against all accepted writes
+pub record Vacuums (old new : StoreView) (at : ℕ) (past : List Step) (report : AReport) : Type 0 where
+  pub represents : Represents new (Vacuumed at ∷ past)
+  pub expected : IsReport at past report
   pub fewest : LeavesFewest new.rows (writes past) report
 
--- the answer to a check of a stamp is the first reason to vacuum no rows up to it, if there is one
-abbrev pub ChecksVacuum : Kept → ℕ → List Step → Result Unit CoreFault → Type 0
+-- the result of a check of a stamp is the first reason to refuse a vacuum up to it, if there is one
+abbrev pub ChecksVacuum : StoreView → ℕ → List Step → Result Unit CoreFault → Type 0
 ChecksVacuum kept at past result =
     MatchResult result (λ _. vacuum_refusal (nodes kept) past at ≡ None)
     (λ fault. vacuum_refusal (nodes kept) past at ≡ Some fault)
 
 -- a vacuum to the stamp took place, or was refused
-abbrev pub VacuumsTo : Kept → Kept → ℕ → List Step → Result AReport CoreFault → Type 0
+abbrev pub VacuumsTo : StoreView → StoreView → ℕ → List Step → Result AReport CoreFault → Type 0
 VacuumsTo old new at past (Ok report) =
     (vacuum_refusal (nodes old) past at ≡ None) × Vacuums old new at past report
 VacuumsTo old new at past (Err fault) = IsRefusal (vacuum_refusal (nodes old) past at) ⊤ fault
 
 -- the same with the report made twice
-abbrev pub VacuumsPairTo : Kept → Kept → ℕ → List Step → Result (AReport × AReport) CoreFault → Type 0
+abbrev pub VacuumsPairTo : StoreView → StoreView → ℕ → List Step → Result (AReport × AReport) CoreFault → Type 0
 VacuumsPairTo old new at past (Ok reports) =
     (vacuum_refusal (nodes old) past at ≡ None) × (reports.0 ≡ reports.1) × Vacuums old new at past reports.0
 VacuumsPairTo old new at past (Err fault) = IsRefusal (vacuum_refusal (nodes old) past at) ⊤ fault

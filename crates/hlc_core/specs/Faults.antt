@@ -1,4 +1,4 @@
--- What a core's refusal is called: its number, the word that comes with it, and its text.
+-- The refusals of a core: the number, the word and the text of each.
 use Rattle.std.specs.Prelude.{ℕ, List, ◌++◌, codes}
 use Rattle.hlc_clock.specs.Stamp.{stamp_text}
 use Rattle.hlc_heads.specs.Faults.{join_code, join_word, join_text}
@@ -21,7 +21,7 @@ core_code (Snapshot fault) = snapshot_code fault
 core_code NoSnapshot = 10
 core_code NoMemory = 15
 
--- the word that comes with it, 0 where there is none
+-- the number or the word of the stamp in it, 0 if there is neither
 abbrev pub core_word : CoreFault → ℕ
 core_word NoNode = 0
 core_word (Link fault) = link_word fault

@@ -1,5 +1,5 @@
--- What is promised of a whole history, to be read aloud: each read and each vacuum, against all that was accepted
--- before it, whatever vacuums dropped.
+-- What is promised of a whole history: each read and each vacuum, against everything that was accepted before it,
+-- whatever vacuums dropped.
 use Rattle.std.specs.Prelude.{◌≡◌, ℕ, ◌≤◌, List, ◌∷◌, ◌++◌, length, Option, Some, None}
 use Rattle.hlc_node.specs.declared.row.Row.{Row}
 use Rattle.hlc_node.specs.Rows.{answer, IsRowSet}
@@ -14,27 +14,27 @@ use Rattle.hlc_core.specs.Past.{Step, floor, stamp_of, writes}
 use Rattle.hlc_core.specs.Stored.{IsReport, LeavesFewest}
 use Rattle.hlc_core.specs.History.{past_of}
 
--- at some moment of the history just these events had taken their turn
+-- at some moment of the history it was exactly this one
 pub record IsMoment (history before : List (CoreEvent × CoreReply)) : Type 0 where
   pub later : List (CoreEvent × CoreReply)
   pub order : history ≡ later ++ before
 
--- each read at an open snapshot gave the value of the newest accepted write, by stamp and node,
--- at or below the snapshot's stamp
+-- each read at an open snapshot returned the value of the newest accepted write, by stamp and node, at or below the
+-- snapshot's stamp
 abbrev pub ReadsAreNewest : List (CoreEvent × CoreReply) → Type 0
 ReadsAreNewest history =
     (before : List (CoreEvent × CoreReply)) (id : ℕ) (key : List ℕ) (value : Option (List ℕ))
     → IsMoment history ((Read id key, Answer value) ∷ before)
     → (stamp : ℕ) × (stamp_of id (past_of before) ≡ Some stamp) × (value ≡ answer (writes (past_of before)) key stamp)
 
--- the stamp up to which an event asks to vacuum, if it asks for that
+-- the stamp up to which an event asks to vacuum, if it does
 abbrev pub vacuum_stamp : ℕ → List Step → CoreEvent → Option ℕ
 vacuum_stamp nodes past Vacuum = Some (floor nodes past)
 vacuum_stamp nodes past (VacuumTo at) = Some at
 vacuum_stamp nodes past _ = None
 
--- each vacuum reported its points up to the stamp that was asked for, the changes of all accepted writes there and
--- their number, and no row set that answers alike at the points is smaller than the number of rows that it kept
+-- each vacuum reported its points up to the requested stamp, the changes of all accepted writes there and their number,
+-- and no row set that answers alike at the points is smaller than the number of rows that it kept
 abbrev pub VacuumsAreFewest : ℕ → List (CoreEvent × CoreReply) → Type 0
 VacuumsAreFewest nodes history =
     (before : List (CoreEvent × CoreReply)) (event : CoreEvent) (report : Report)
@@ -43,7 +43,7 @@ VacuumsAreFewest nodes history =
     × ((others : List Row) → IsRowSet others → Alike others (writes (past_of before)) report.points
     → report.kept ≤ length others)
 
--- and no row set that answers alike at the points costs less than what it kept
+-- and no row set that answers alike at the points costs less than the rows that it kept
 abbrev pub VacuumsAreCheapest : List (CoreEvent × CoreReply) → Type 0
 VacuumsAreCheapest history =
     (before : List (CoreEvent × CoreReply)) (event : CoreEvent) (report : Report)
@@ -59,7 +59,7 @@ FewestAreLeft history rows =
     → history ≡ (event, Vacuumed report) ∷ before
     → LeavesFewest rows (writes (past_of before)) report
 
--- all of this is true of a history over so many nodes, after which these rows are stored
+-- all of this is true of a history with this many nodes at the start, after which these rows are stored
 pub record IsFaithful (nodes : ℕ) (history : List (CoreEvent × CoreReply)) (rows : List Row) : Type 0 where
   pub reads : ReadsAreNewest history
   pub vacuums : VacuumsAreFewest nodes history

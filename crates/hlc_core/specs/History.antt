@@ -1,5 +1,5 @@
--- What a store owes: the reply that is due to an event after what took place,
--- and the histories in which each event was given its due.
+-- What a store is expected to return: the reply to an event after what took place, and the histories in which each
+-- event got the expected reply.
 use Rattle.std.specs.Prelude.{◌≡◌, ◌≢◌, ℕ, ◌+◌, List, [], ◌∷◌, Option, Some, None, Result, Ok, Err, ⊤}
 use Rattle.hlc_node.specs.Rows.{answer}
 use Rattle.hlc_node.specs.Items.{retires}
@@ -14,13 +14,13 @@ use Rattle.hlc_core.specs.Past.{Step, Took, Joined as JoinedAt, Opened as Opened
 use Rattle.hlc_core.specs.Past.{Vacuumed as VacuumedTo, numbered, floor, opened, stamp_of, writes}
 use Rattle.hlc_core.specs.Past.{item_refusal, join_refusal, join_at_refusal, room_refusal, open_refusal, vacuum_refusal}
 use Rattle.hlc_core.specs.Stored.{IsReport}
-use Rattle.hlc_core.specs.Kept.{Kept, nodes, StandsFor}
+use Rattle.hlc_core.specs.StoreView.{StoreView, nodes, Represents}
 use Rattle.hlc_core.specs.Calls.{IsWrite, IsListed, list_refusal}
 
--- Below, a history is the list of the events with their replies, the last one first. Want of memory is no reply: an
--- event that is handed back for it leaves no trace.
+-- Below, a history is the list of the events with their replies, the last one first. Out of memory is no reply: an
+-- event that is returned for it leaves no trace.
 
--- what an event did, if its reply says that it took place and was no question
+-- the step of an event, if its reply says that it took place and it was not just a read
 abbrev pub step_of : CoreEvent → CoreReply → Option Step
 step_of (Accept item) (Accepted accepted) = Some (Took item)
 step_of Join (Joined node start) = Some (JoinedAt node start)
@@ -42,79 +42,81 @@ abbrev pub past_of : List (CoreEvent × CoreReply) → List Step
 past_of [] = []
 past_of (entry ∷ history) = with_step (step_of entry.0 entry.1) (past_of history)
 
--- the first refusal that is due, memory aside
-abbrev pub refusal_due : ℕ → List Step → CoreEvent → Option CoreFault
-refusal_due nodes past (Accept item) = item_refusal nodes past item
-refusal_due nodes past Join = join_refusal nodes past
-refusal_due nodes past (OpenAt stamp) = open_refusal nodes past stamp
-refusal_due nodes past OpenFloor = room_refusal past
-refusal_due nodes past (Read id key) = list_refusal (stamp_of id past)
-refusal_due nodes past (ListAll id) = list_refusal (stamp_of id past)
-refusal_due nodes past (Close id) = list_refusal (stamp_of id past)
-refusal_due nodes past Vacuum = None
-refusal_due nodes past (JoinAt start) = join_at_refusal nodes past start
-refusal_due nodes past (VacuumTo at) = vacuum_refusal nodes past at
+-- the first expected refusal, apart from memory
+abbrev pub expected_refusal : ℕ → List Step → CoreEvent → Option CoreFault
+expected_refusal nodes past (Accept item) = item_refusal nodes past item
+expected_refusal nodes past Join = join_refusal nodes past
+expected_refusal nodes past (OpenAt stamp) = open_refusal nodes past stamp
+expected_refusal nodes past OpenFloor = room_refusal past
+expected_refusal nodes past (Read id key) = list_refusal (stamp_of id past)
+expected_refusal nodes past (ListAll id) = list_refusal (stamp_of id past)
+expected_refusal nodes past (Close id) = list_refusal (stamp_of id past)
+expected_refusal nodes past Vacuum = None
+expected_refusal nodes past (JoinAt start) = join_at_refusal nodes past start
+expected_refusal nodes past (VacuumTo at) = vacuum_refusal nodes past at
 
--- the value is what these answers give at the snapshot's stamp
+-- the value is that of these answers at the snapshot's stamp
 abbrev pub IsAnswer : Option ℕ → (ℕ → Option (List ℕ)) → Option (List ℕ) → Type 0
 IsAnswer None answers value = ⊥
 IsAnswer (Some stamp) answers value = value ≡ answers stamp
 
--- the reply that is due where no refusal is
-abbrev pub IsDueReply : ℕ → List Step → CoreEvent → CoreReply → Type 0
-IsDueReply nodes past (Accept item) (Accepted accepted) =
+-- the expected reply if no refusal is expected
+abbrev pub IsExpectedReply : ℕ → List Step → CoreEvent → CoreReply → Type 0
+IsExpectedReply nodes past (Accept item) (Accepted accepted) =
     accepted ≡ record { node = item.node; stamp = item.stamp; retires = retires item.body }
-IsDueReply nodes past Join (Joined node start) = (node ≡ numbered nodes past) × (start ≡ floor nodes past)
-IsDueReply nodes past (OpenAt at) (Opened id stamp) = (id ≡ opened past + 1) × (stamp ≡ at)
-IsDueReply nodes past OpenFloor (Opened id stamp) = (id ≡ opened past + 1) × (stamp ≡ floor nodes past)
-IsDueReply nodes past (Read id key) (Answer value) = IsAnswer (stamp_of id past) (answer (writes past) key) value
-IsDueReply nodes past (ListAll id) (Listing pairs) = IsListed (stamp_of id past) (writes past) pairs
-IsDueReply nodes past (Close id) (Closed stamp) = stamp_of id past ≡ Some stamp
-IsDueReply nodes past Vacuum (Vacuumed report) = IsReport (floor nodes past) past report
-IsDueReply nodes past (JoinAt at) (Joined node start) = (node ≡ numbered nodes past) × (start ≡ at)
-IsDueReply nodes past (VacuumTo at) (Vacuumed report) = IsReport at past report
-IsDueReply nodes past _ _ = ⊥
+IsExpectedReply nodes past Join (Joined node start) = (node ≡ numbered nodes past) × (start ≡ floor nodes past)
+IsExpectedReply nodes past (OpenAt at) (Opened id stamp) = (id ≡ opened past + 1) × (stamp ≡ at)
+IsExpectedReply nodes past OpenFloor (Opened id stamp) = (id ≡ opened past + 1) × (stamp ≡ floor nodes past)
+IsExpectedReply nodes past (Read id key) (Answer value) = IsAnswer (stamp_of id past) (answer (writes past) key) value
+IsExpectedReply nodes past (ListAll id) (Listing pairs) = IsListed (stamp_of id past) (writes past) pairs
+IsExpectedReply nodes past (Close id) (Closed stamp) = stamp_of id past ≡ Some stamp
+IsExpectedReply nodes past Vacuum (Vacuumed report) = IsReport (floor nodes past) past report
+IsExpectedReply nodes past (JoinAt at) (Joined node start) = (node ≡ numbered nodes past) × (start ≡ at)
+IsExpectedReply nodes past (VacuumTo at) (Vacuumed report) = IsReport at past report
+IsExpectedReply nodes past _ _ = ⊥
 
--- the reply is the refusal that is due; or, where none is, a due reply
-abbrev pub IsDue : ℕ → List Step → CoreEvent → CoreReply → Type 0
-IsDue nodes past event (Refused fault) = refusal_due nodes past event ≡ Some fault
-IsDue nodes past event reply = (refusal_due nodes past event ≡ None) × IsDueReply nodes past event reply
+-- the reply is the expected refusal; or, if none is expected, an expected reply
+abbrev pub IsExpected : ℕ → List Step → CoreEvent → CoreReply → Type 0
+IsExpected nodes past event (Refused fault) = expected_refusal nodes past event ≡ Some fault
+IsExpected nodes past event reply = (expected_refusal nodes past event ≡ None) × IsExpectedReply nodes past event reply
 
--- each reply was due
+-- each reply was expected
 abbrev pub IsLegalHistory : ℕ → List (CoreEvent × CoreReply) → Type 0
 IsLegalHistory nodes [] = ⊤
-IsLegalHistory nodes (entry ∷ history) = IsDue nodes (past_of history) entry.0 entry.1 × IsLegalHistory nodes history
+IsLegalHistory nodes (entry ∷ history) = IsExpected nodes (past_of history) entry.0 entry.1
+    × IsLegalHistory nodes history
 
--- the core stands for the history: each reply was due, and the core stands for what took place
-pub record StandsForHistory (kept : Kept) (history : List (CoreEvent × CoreReply)) : Type 0 where
+-- the core represents the history: each reply was expected, and the core represents what took place
+pub record RepresentsHistory (kept : StoreView) (history : List (CoreEvent × CoreReply)) : Type 0 where
   pub legal : IsLegalHistory (nodes kept) history
-  pub core : StandsFor kept (past_of history)
+  pub core : Represents kept (past_of history)
 
 -- the answer is a value, which is copied out of the store
 abbrev pub TakesValue : Option ℕ → (ℕ → Option (List ℕ)) → Type 0
 TakesValue None answers = ⊥
 TakesValue (Some stamp) answers = answers stamp ≢ None
 
--- the event may want memory: it stores a row, lets a node join, opens a snapshot, gives a value or a listing, or is a
--- vacuum
-abbrev pub MayLackMemory : List Step → CoreEvent → Type 0
-MayLackMemory past (Accept item) = IsWrite item.body
-MayLackMemory past (Read id key) = TakesValue (stamp_of id past) (answer (writes past) key)
-MayLackMemory past (Close id) = ⊥
-MayLackMemory past _ = ⊤
+-- the event may run out of memory: it stores a row, lets a node join, opens a snapshot, returns a value or a listing,
+-- or is a vacuum
+abbrev pub MayRunOutOfMemory : List Step → CoreEvent → Type 0
+MayRunOutOfMemory past (Accept item) = IsWrite item.body
+MayRunOutOfMemory past (Read id key) = TakesValue (stamp_of id past) (answer (writes past) key)
+MayRunOutOfMemory past (Close id) = ⊥
+MayRunOutOfMemory past _ = ⊤
 
--- after a history that the core stood for, the reply is due, and the core stands for the history with it
-abbrev pub IsStep : Kept → Kept → CoreEvent → List (CoreEvent × CoreReply) → CoreReply → Type 0
+-- after a history that the core represented, the reply is expected, and the core represents the history with it
+abbrev pub IsStep : StoreView → StoreView → CoreEvent → List (CoreEvent × CoreReply) → CoreReply → Type 0
 IsStep old new event history reply =
-    IsDue (nodes old) (past_of history) event reply × StandsForHistory new ((event, reply) ∷ history)
+    IsExpected (nodes old) (past_of history) event reply × RepresentsHistory new ((event, reply) ∷ history)
 
--- the event had its step; or no refusal is due, and it lacks memory, which it may want
-abbrev pub Steps : {E : Type 0} → Kept → Kept → CoreEvent → List (CoreEvent × CoreReply) → Result CoreReply E → Type 0
+-- the event had its step; or no refusal is expected, and it ran out of memory, which it may
+abbrev pub Steps : {E : Type 0} → StoreView → StoreView → CoreEvent → List (CoreEvent × CoreReply)
+    → Result CoreReply E → Type 0
 Steps old new event history (Ok reply) = IsStep old new event history reply
-Steps old new event history (Err lack) =
-    (refusal_due (nodes old) (past_of history) event ≡ None) × MayLackMemory (past_of history) event
+Steps old new event history (Err shortage) =
+    (expected_refusal (nodes old) (past_of history) event ≡ None) × MayRunOutOfMemory (past_of history) event
 
--- the event asks, and does nothing
+-- the event only reads
 abbrev pub IsQuestion : CoreEvent → Type 0
 IsQuestion (Read id key) = ⊤
 IsQuestion (ListAll id) = ⊤
@@ -131,7 +133,7 @@ abbrev pub IsRefused : CoreReply → Type 0
 IsRefused (Refused fault) = ⊤
 IsRefused _ = ⊥
 
--- a copy of the reply takes no memory: it has no value, listing or report
+-- a copy of the reply needs no memory: it has no value, listing or report
 abbrev pub IsPlain : CoreReply → Type 0
 IsPlain (Answer (Some value)) = ⊥
 IsPlain (Listing pairs) = ⊥

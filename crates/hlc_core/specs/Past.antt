@@ -18,12 +18,12 @@ use Rattle.hlc_core.specs.declared.fault.CoreFault.{CoreFault}
 use Rattle.hlc_snapshot.specs.declared.snapshot.Snapshot.{Snapshot}
 use Rattle.hlc_snapshot.specs.declared.fault.SnapshotFault.{SnapshotFault}
 use Rattle.hlc_snapshot.specs.declared.fault.SnapshotFault.TheVariants as snapshot_fault
-use Rattle.hlc_snapshot.specs.Register.{stamp_in, without, room_refusal as room_in}
+use Rattle.hlc_snapshot.specs.RegistryView.{stamp_in, without, room_refusal as room_in}
 use Rattle.hlc_core.specs.declared.fault.CoreFault.TheVariants.{NoNode, Link, Body as bad_body, Join, AboveFloor}
 use Rattle.hlc_core.specs.declared.fault.CoreFault.TheVariants.{BelowHorizon, Snapshot as snapshot_refused, NoMemory}
 
--- an event that took place: an item was accepted; a snapshot was opened at a stamp; the snapshot of an id was closed;
--- rows were vacuumed up to this stamp; a node of this number joined, and starts at this stamp
+-- an event that took place: an item was accepted; a snapshot was opened at a stamp; the snapshot with an id was closed;
+-- rows were vacuumed up to this stamp; a node with this number joined, and starts at this stamp
 pub data Step : Type 0 where
   Took : Item → Step
   Opened : ℕ → Step
@@ -31,35 +31,35 @@ pub data Step : Type 0 where
   Vacuumed : ℕ → Step
   Joined : ℕ → ℕ → Step
 
--- Below, a past is the list of the steps that took place, the last one first. Refused calls and reads are no steps. So
--- many nodes are there at the start, numbered from 0; those that join have the numbers after them.
+-- Below, a past is the list of the steps that took place, the last one first. Refused calls and reads are no steps.
+-- `nodes` is the number of nodes at the start, which are numbered from 0; those that join have the numbers after them.
 
--- how many node numbers were given: those of the start, and those of the nodes that joined
+-- the number of assigned node numbers: those of the nodes at the start, and those of the nodes that joined
 abbrev pub numbered : ℕ → List Step → ℕ
 numbered nodes [] = nodes
 numbered nodes (Joined node start ∷ past) = numbered nodes past + 1
 numbered nodes (_ ∷ past) = numbered nodes past
 
--- how many items of a node were accepted
+-- the number of accepted items of a node
 abbrev pub count : ℕ → List Step → ℕ
 count n [] = 0
 count n (Took item ∷ past) = if item.node == n then count n past + 1 else count n past
 count n (_ ∷ past) = count n past
 
--- the stamp of the last accepted item of a node, or else of its start; 0 at a node of the start
+-- the stamp of the last accepted item of a node, or else of its start; 0 for a node at the start
 abbrev pub head : ℕ → List Step → ℕ
 head n [] = 0
 head n (Took item ∷ past) = if item.node == n then item.stamp else head n past
 head n (Joined node start ∷ past) = if node == n then start else head n past
 head n (_ ∷ past) = head n past
 
--- a node retired: its last accepted item is a Retire
+-- a node has retired: its last accepted item is a Retire
 abbrev pub retired : ℕ → List Step → Bool
 retired n [] = false
 retired n (Took item ∷ past) = if item.node == n then retires item.body else retired n past
 retired n (_ ∷ past) = retired n past
 
--- the greatest stamp of an accepted item, 0 where there is none
+-- the greatest stamp of an accepted item, 0 if there is none
 abbrev pub greatest_accepted : List Step → ℕ
 greatest_accepted [] = 0
 greatest_accepted (Took item ∷ past) = max (greatest_accepted past) item.stamp
@@ -72,8 +72,8 @@ top (Took item ∷ past) = max (top past) item.stamp
 top (Joined node start ∷ past) = max (top past) start
 top (_ ∷ past) = top past
 
--- The least head of the nodes that have not retired; where all retired, the greatest head. Each of them retired by an
--- item above its start, so that is the greatest stamp of an accepted item.
+-- The least head of the nodes that have not retired; if all have, the greatest head. Each of them retired by an item
+-- above its start, so that is the greatest stamp of an accepted item.
 abbrev pub floor : ℕ → List Step → ℕ
 floor nodes past = low (λ n. head n past) (λ n. retired n past) (numbered nodes past) (top past)
 
@@ -83,7 +83,7 @@ horizon [] = 0
 horizon (Vacuumed at ∷ past) = at
 horizon (_ ∷ past) = horizon past
 
--- the row of what an item of this node and stamp says
+-- the row of the body of an item with this node and stamp
 abbrev pub body_rows : ℕ → ℕ → Body → List Row
 body_rows node stamp (Write key value) = record { key = key; stamp = stamp; node = node; value = value } ∷ []
 body_rows node stamp Report = []
@@ -93,13 +93,13 @@ body_rows node stamp Retire = []
 abbrev pub item_rows : Item → List Row
 item_rows item = body_rows item.node item.stamp item.body
 
--- all accepted writes and deletions, in the order in which they were accepted; they are kept for good
+-- all accepted writes and deletions, in the order in which they were accepted; they are kept forever
 abbrev pub writes : List Step → List Row
 writes [] = []
 writes (Took item ∷ past) = writes past ++ item_rows item
 writes (_ ∷ past) = writes past
 
--- how many snapshots were opened
+-- the number of snapshots that were opened
 abbrev pub opened : List Step → ℕ
 opened [] = 0
 opened (Opened stamp ∷ past) = opened past + 1
@@ -112,40 +112,41 @@ open_snapshots (Opened stamp ∷ past) = open_snapshots past ++ record { id = op
 open_snapshots (Closed id ∷ past) = without id (open_snapshots past)
 open_snapshots (_ ∷ past) = open_snapshots past
 
--- and then these snapshots were closed, the first of them first
+-- the past after these snapshots were closed too, the first of them first
 abbrev pub closed_all : List Snapshot → List Step → List Step
 closed_all [] past = past
 closed_all (snapshot ∷ snapshots) past = closed_all snapshots (Closed snapshot.id ∷ past)
 
--- the stamp of the open snapshot that has this id
+-- the stamp of the open snapshot with this id
 abbrev pub stamp_of : ℕ → List Step → Option ℕ
 stamp_of id past = stamp_in id (open_snapshots past)
 
--- what no item may say, as a fault of the core
+-- the refusal of a body, as a fault of the core
 abbrev pub of_body : Option BodyFault → Option CoreFault
 of_body None = None
 of_body (Some fault) = Some (bad_body fault)
 
--- the first reason to refuse an item on its link, by whether its node retired, the link's next number and its head
+-- the first reason to refuse an item on its link, from whether its node has retired, the link's next number and its
+-- head
 abbrev pub link_refusal : Bool → ℕ → ℕ → Item → Option CoreFault
-link_refusal gone next last item =
-    if gone then Some (Link Retired)
+link_refusal has_retired next last item =
+    if has_retired then Some (Link Retired)
     else if not (item.number == next) then Some (Link (NotNext next))
     else if item.number == NUMBER_BOUND then Some (Link NumbersSpent)
     else if nat_le item.stamp last then Some (Link (StampNotRising last))
     else of_body (body_refusal item.body)
 
--- the first reason to refuse an item, memory aside
+-- the first reason to refuse an item, apart from memory
 abbrev pub item_refusal : ℕ → List Step → Item → Option CoreFault
 item_refusal nodes past item =
     if nat_le (numbered nodes past) item.node then Some NoNode
     else link_refusal (retired item.node past) (count item.node past) (head item.node past) item
 
--- why no node joins, memory aside: all numbers were given
+-- why no node joins, apart from memory: all numbers are assigned
 abbrev pub join_refusal : ℕ → List Step → Option CoreFault
 join_refusal nodes past = if nat_le MOST_NUMBERS (numbered nodes past) then Some (Join TooManyNodes) else None
 
--- the first reason that no node joins at a start, memory aside
+-- the first reason that no node joins at a start, apart from memory
 abbrev pub join_at_refusal : ℕ → List Step → ℕ → Option CoreFault
 join_at_refusal nodes past start =
     if nat_le MOST_NUMBERS (numbered nodes past) then Some (Join TooManyNodes)
@@ -167,7 +168,7 @@ abbrev pub of_room : Option SnapshotFault → Option CoreFault
 of_room None = None
 of_room (Some fault) = Some (of_registry fault)
 
--- the first reason that there is no room for one more snapshot, memory aside
+-- the first reason that no more snapshot can be opened, apart from memory
 abbrev pub room_refusal : List Step → Option CoreFault
 room_refusal past = of_room (room_in (length (open_snapshots past)) (opened past))
 
@@ -178,15 +179,15 @@ open_after top bottom room stamp =
     else if nat_lt stamp bottom then Some (BelowHorizon bottom)
     else room
 
--- the first reason to open no snapshot at a stamp, memory aside
+-- the first reason to open no snapshot at a stamp, apart from memory
 abbrev pub open_refusal : ℕ → List Step → ℕ → Option CoreFault
 open_refusal nodes past stamp = open_after (floor nodes past) (horizon past) (room_refusal past) stamp
 
--- the first reason to vacuum no rows up to a stamp, memory aside
+-- the first reason to vacuum no rows up to a stamp, apart from memory
 abbrev pub vacuum_refusal : ℕ → List Step → ℕ → Option CoreFault
 vacuum_refusal nodes past at = open_after (floor nodes past) (horizon past) None at
 
--- no step was due a refusal
+-- no step should have been refused
 abbrev pub IsLegal : ℕ → List Step → Type 0
 IsLegal nodes [] = ⊤
 IsLegal nodes (Took item ∷ past) = (item_refusal nodes past item ≡ None) × IsLegal nodes past

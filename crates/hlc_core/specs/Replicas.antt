@@ -1,5 +1,5 @@
--- What replicas of one log have in common: of each node the same items, and the same nodes that joined at the same
--- starts, whatever the order between the links, and whichever snapshots and vacuums came between.
+-- What replicas of one log have in common: the same items of each node, and the same nodes that joined at the same
+-- starts, in any order between the links, with any snapshots and vacuums between.
 use Rattle.std.specs.Prelude.{◌≡◌, ℕ, List, [], ◌∷◌, ◌==◌, if◌then◌else◌}
 use Rattle.hlc_node.specs.declared.item.Item.{Item}
 use Rattle.hlc_core.specs.Past.{Step, Took, Joined}
@@ -16,7 +16,7 @@ joins_of [] = []
 joins_of (Joined node start ∷ past) = (node, start) ∷ joins_of past
 joins_of (_ ∷ past) = joins_of past
 
--- the same nodes joined at the same starts, and of each node the same items were accepted
+-- the same nodes joined at the same starts, and the same items of each node were accepted
 pub record AreReplicas (past other : List Step) : Type 0 where
   pub joins : joins_of past ≡ joins_of other
   pub items : (n : ℕ) → items_of n past ≡ items_of n other

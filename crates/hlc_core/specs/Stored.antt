@@ -1,16 +1,16 @@
--- What vacuums leave of the accepted writes, and what they report.
+-- The accepted writes that vacuums keep, and their reports.
 use Rattle.std.specs.Prelude.{◌≡◌, ℕ, ◌+◌, List, [], ◌∷◌, length}
 use Rattle.std.specs.List.Sorted.{IsPermutation}
 use Rattle.hlc_node.specs.declared.row.Row.{Row}
 use Rattle.hlc_node.specs.Rows.{IsRowSet}
-use Rattle.hlc_snapshot.specs.Register.{stamps_to}
+use Rattle.hlc_snapshot.specs.RegistryView.{stamps_to}
 use Rattle.hlc_clock.specs.Points.{ArePoints}
 use Rattle.hlc_witness.specs.declared.witness.Witness.{Witness}
 use Rattle.hlc_witness.specs.Changes.{AreChanges}
 use Rattle.hlc_witness.specs.Fewest.{Fewest}
 use Rattle.hlc_witness.specs.Cost.{Cheapest, changes_cost, rows_cost}
 use Rattle.hlc_vacuum.specs.Vacuumed.{rows_to}
-use Rattle.hlc_vacuum.specs.Standing.{count_above, count_between}
+use Rattle.hlc_vacuum.specs.Representing.{count_above, count_between}
 use Rattle.hlc_witness.specs.Certificate.{RowsAscend, IsCertificate}
 use Rattle.hlc_vacuum.specs.declared.report.Report.{Report}
 use Rattle.hlc_core.specs.Past.{Step, Vacuumed, horizon, open_snapshots, writes}
@@ -25,21 +25,21 @@ abbrev pub AreVacuumChanges : ℕ → List Step → List Witness → Type 0
 AreVacuumChanges at past changes =
     (points : List ℕ) × AreVacuumPoints at past points × AreChanges (writes past) points changes
 
--- those of the last vacuum; none before the first
+-- the changes of the last vacuum; none before the first
 abbrev pub AreLastChanges : List Step → List Witness → Type 0
 AreLastChanges [] changes = changes ≡ []
 AreLastChanges (Vacuumed at ∷ past) changes = AreVacuumChanges at past changes
 AreLastChanges (_ ∷ past) changes = AreLastChanges past changes
 
--- how many rows are stored: as many as the changes at the last vacuum and the accepted writes above the horizon
+-- the number of stored rows: as many as the changes at the last vacuum and the accepted writes above the horizon
 abbrev pub IsStoredCount : List Step → ℕ → Type 0
 IsStoredCount past number =
     (changes : List Witness) × AreLastChanges past changes
     × (number ≡ length changes + count_above (horizon past) (writes past))
 
--- What a vacuum to a stamp reports after this past. What it keeps costs just what its changes force. It drops the rows
--- of the changes at the vacuum before and those of the accepted writes between the horizons, but for as many as its own
--- changes.
+-- The report of a vacuum to a stamp after this past. The rows that it keeps cost exactly what its changes force. It
+-- drops the rows of the changes of the vacuum before and those of the accepted writes between the horizons, except as
+-- many as its own changes.
 pub record IsReport (at : ℕ) (past : List Step) (report : Report) : Type 0 where
   pub at_stamp : report.floor ≡ at
   pub points : AreVacuumPoints at past report.points
@@ -49,9 +49,9 @@ pub record IsReport (at : ℕ) (past : List Step) (report : Report) : Type 0 whe
   pub dropped : (before : List Witness) × AreLastChanges past before
       × (report.dropped + report.kept ≡ length before + count_between (horizon past) at (writes past))
 
--- What the vacuum of this report left: at or below its floor a row set, the fewest rows that answer as all do at its
--- points, and the cheapest, as many and as dear as it reports. In the order of key, stamp and node its witnesses
--- certify them.
+-- The rows that the vacuum of this report left: at or below its floor a row set, the fewest rows that answer as all do
+-- at its points, and the cheapest, with the number and the cost that it reports. In the order of key, stamp and node
+-- its witnesses certify them.
 pub record LeavesFewest (rows all : List Row) (report : Report) : Type 0 where
   pub row_set : IsRowSet (rows_to report.floor rows)
   pub fewest : Fewest (rows_to report.floor rows) all report.points

@@ -1,4 +1,4 @@
--- What is seen of a store at an open snapshot.
+-- The store as an open snapshot sees it.
 use Rattle.std.specs.Prelude.{◌≡◌, ℕ, List, Option, Some, None}
 use Rattle.hlc_node.specs.Rows.{answer}
 use Rattle.hlc_columns.specs.View.{Seen}

@@ -1,7 +1,5 @@
 //! Why a core refuses a call.
 ghost use Rattle.std.specs.Prelude.{◌≡◌};
-ghost use Rattle.std.proofs.Common.{rules};
-ghost use Rattle.std.proofs.lemmas.Grind.{common_steps};
 ghost use Rattle.hlc_core.specs.Faults.{core_code, core_word};
 
 use hlc_clock::Stamp;
@@ -9,18 +7,18 @@ use hlc_heads::JoinFault;
 use hlc_intake::LinkFault;
 use hlc_node::BodyFault;
 use hlc_snapshot::SnapshotFault;
-use hlc_values::{Exact, NoMemory};
+use hlc_values::NoMemory;
 use std::error::Error;
 use std::fmt;
 
-/// Why a core refuses a call. Out of memory is `NoMemory`, whatever part of the core met it.
+/// Why a core refuses a call. Out of memory is `NoMemory`, in whatever part of the core it happens.
 #[derive(Clone, Copy, PartialEq, Eq, Debug)]
 pub enum CoreFault {
-    /// No node has this number; or the count of nodes of a new core is not 1 to 64.
+    /// No node has this number; or the number of nodes of a new core is not 1 to 64.
     NoNode,
     /// The item is not the next one of its link.
     Link(LinkFault),
-    /// No item may say this.
+    /// No item may have this body.
     Body(BodyFault),
     /// No node joins.
     Join(JoinFault),
@@ -36,14 +34,8 @@ pub enum CoreFault {
     NoMemory,
 }
 
-impl Exact for CoreFault {
-    ghost equal = { Prim.search (rules, common_steps) };
-
-    ghost copied = { Prim.search rules };
-}
-
 impl CoreFault {
-    /// Its number in outputs: 1, 6 to 15, 26 or 27.
+    /// Returns the number of this refusal in outputs: 1, 6 to 15, 26 or 27.
     pub fn code(self) -> u32
         ensures { result ≡ core_code self }
     {
@@ -60,7 +52,7 @@ impl CoreFault {
         }
     }
 
-    /// The number or the word of the stamp that comes with it, or 0.
+    /// Returns the number or the word of the stamp in this refusal, or 0.
     pub fn word(self) -> u64
         ensures { result ≡ core_word self }
     {
@@ -152,12 +144,6 @@ impl From<NoMemory> for CoreFault {
 /// No node has this number.
 #[derive(Clone, Copy, PartialEq, Eq, Debug)]
 pub struct NoNode;
-
-impl Exact for NoNode {
-    ghost equal = { Prim.search (rules, common_steps) };
-
-    ghost copied = { Prim.search rules };
-}
 
 impl fmt::Display for NoNode {
     ghost use Rattle.std.specs.Prelude.{Some, codes};

@@ -1,4 +1,4 @@
-//! What holds of every legal past, and of cores that stand for one.
+//! What is true of every legal past, and of cores that represent one.
 ghost use Rattle.std.specs.Prelude.{◌≡◌, ◌≢◌, ◌+◌, ◌<◌, ◌≤◌, ◌⊎◌, ◌↔◌, true, false, ℕ, List, ◌∷◌, None, All, length};
 ghost use Rattle.hlc_node.specs.Rows.{IsRowSet, answer};
 ghost use Rattle.hlc_core.specs.Past.{Step, Took, Joined, Vacuumed, IsLegal, numbered, retired, top, writes, head};
@@ -6,12 +6,12 @@ ghost use Rattle.hlc_core.specs.Past.{floor, open_snapshots, item_refusal, join_
 ghost use Rattle.hlc_core.specs.Past.{greatest_accepted, horizon, vacuum_refusal};
 ghost use Rattle.hlc_core.specs.Replicas.{AreReplicas, items_of, joins_of};
 ghost use Rattle.hlc_clock.specs.Points.{ArePoints};
-ghost use Rattle.hlc_snapshot.specs.Register.{stamps};
+ghost use Rattle.hlc_snapshot.specs.RegistryView.{stamps};
 ghost use Rattle.hlc_vacuum.specs.Vacuumed.{IsVacuumOf, rows_to};
 ghost use Rattle.hlc_witness.specs.Cost.{rows_cost};
 ghost use Rattle.hlc_vacuum.specs.declared.report.Report.{Report as AReport};
 ghost use Rattle.hlc_core.specs.Stored.{AreVacuumPoints, IsReport, IsStoredCount, LeavesFewest};
-ghost use Rattle.hlc_core.specs.Kept.{Kept, nodes, with_rows_left, StandsFor};
+ghost use Rattle.hlc_core.specs.StoreView.{StoreView, nodes, with_rows_left, Represents};
 ghost use Rattle.hlc_core.specs.Calls.{Vacuums};
 ghost use Rattle.hlc_core.specs.Checkpoint.{IsCheckpoint, IsCopyOf, IsFirstReason};
 ghost use Rattle.hlc_witness.specs.Certificate.{RowsAscend};
@@ -19,7 +19,7 @@ ghost use Rattle.hlc_heads.specs.declared.heads.TheConstants.{MOST_NODES};
 ghost use Rattle.hlc_checkpoint.specs.declared.checkpoint.RestoreFault.{RestoreFault as AFault};
 ghost use Rattle.hlc_checkpoint.specs.declared.checkpoint.RestoreFault.TheVariants.{NoMemory as no_memory};
 ghost use Rattle.hlc_core.specs.Listing.{IsListing};
-ghost use Rattle.hlc_core.specs.History.{StandsForHistory};
+ghost use Rattle.hlc_core.specs.History.{RepresentsHistory};
 ghost use Rattle.hlc_core.specs.Headline.{IsFaithful};
 ghost use Rattle.hlc_core.specs.declared.event.CoreEvent.{CoreEvent as AnEvent};
 ghost use Rattle.hlc_core.specs.declared.reply.CoreReply.{CoreReply as AReply};
@@ -32,7 +32,8 @@ pub fn accepted_writes_are_a_row_set()
     ensures { (nodes : ℕ) (past : List Step) → IsLegal nodes past → IsRowSet (writes past) }
 {}
 
-/// What is accepted after a past lies above its floor, so no later write changes what is read at the floor or below.
+/// An item that is accepted after a past has a stamp above its floor, so no later write changes a read at or below the
+/// floor.
 pub fn later_items_are_above_the_floor()
     ensures { (nodes : ℕ) (past : List Step) (item : AnItem) → item_refusal nodes past item ≡ None
         → floor nodes past < item.stamp }
@@ -44,8 +45,8 @@ pub fn open_snapshots_are_at_most_the_floor()
         → All (λ snapshot. snapshot.stamp ≤ floor nodes past) (open_snapshots past) }
 {}
 
-/// The floor is the head of some node that has not retired, or, where all did, the greatest head; and no
-/// head of a node that has not retired is below it.
+/// The floor is the head of some node that has not retired, or, if all have, the greatest head; and no head of a node
+/// that has not retired is below it.
 pub fn floor_is_the_least_head()
     ensures some { (nodes : ℕ) (past : List Step)
         → ((n : ℕ) × (n < numbered nodes past) × (retired n past ≡ false)
@@ -56,8 +57,8 @@ pub fn floor_is_the_least_head()
         → retired n past ≡ false → floor nodes past ≤ head n past }
 {}
 
-/// The floor never falls: not by an item that is accepted, be it a node's last or not, nor by a node
-/// that joins. No other step moves it.
+/// The floor never falls: neither when an item is accepted, a node's last one or not, nor when a node joins. No other
+/// step moves it.
 pub fn the_floor_never_falls()
     ensures took { (nodes : ℕ) (past : List Step) (item : AnItem)
         → item_refusal nodes past item ≡ None
@@ -67,7 +68,7 @@ pub fn the_floor_never_falls()
         → floor nodes past ≤ floor nodes (Joined node start ∷ past) }
 {}
 
-/// A node that joins leaves the floor where it is, while a node is left that has not retired.
+/// A node that joins does not move the floor, if some node has not retired.
 pub fn joins_keep_the_floor()
     ensures { (nodes : ℕ) (past : List Step) (node start n : ℕ)
         → IsLegal nodes (Joined node start ∷ past)
@@ -75,14 +76,15 @@ pub fn joins_keep_the_floor()
         → floor nodes (Joined node start ∷ past) ≡ floor nodes past }
 {}
 
-/// Where all nodes retired, the floor is the greatest stamp of an accepted item.
+/// If all nodes have retired, the floor is the greatest stamp of an accepted item.
 pub fn retired_nodes_leave_the_greatest_stamp()
     ensures { (nodes : ℕ) (past : List Step) → 0 < nodes → IsLegal nodes past
         → ((n : ℕ) → n < numbered nodes past → retired n past ≡ true)
         → floor nodes past ≡ greatest_accepted past }
 {}
 
-/// A join without a start is one at the floor: it is refused as that is, and the floor stays.
+/// A join without a start is a join at the floor: it is refused in the same cases, and the floor
+/// does not move.
 pub fn a_join_is_one_at_the_floor()
     ensures refusal { (nodes : ℕ) (past : List Step)
         → join_at_refusal nodes past (floor nodes past) ≡ join_refusal nodes past }
@@ -91,7 +93,7 @@ pub fn a_join_is_one_at_the_floor()
         → floor nodes (Joined node (floor nodes past) ∷ past) ≡ floor nodes past }
 {}
 
-/// A vacuum without a stamp is one to the floor: that is not refused, and its points are all stamps of open
+/// A vacuum without a stamp is a vacuum to the floor: that is not refused, and its points are the stamps of all open
 /// snapshots and the floor.
 pub fn a_vacuum_is_one_to_the_floor()
     ensures refusal { (nodes : ℕ) (past : List Step) → IsLegal nodes past
@@ -101,10 +103,10 @@ pub fn a_vacuum_is_one_to_the_floor()
         ↔ ArePoints (stamps (open_snapshots past)) (floor nodes past) points }
 {}
 
-/// Replicas never diverge in what they accept. Where the same nodes joined at the same starts, an item is
-/// accepted by the one just where it is accepted by the other, if both accepted the same items of its node,
-/// whatever they accepted of others. Where both accepted the same items of all nodes, in whatever order
-/// between links, their floors are equal, and a join at a start is accepted by both or by none.
+/// Replicas never diverge in what they accept. If the same nodes joined at the same starts, one accepts an item exactly
+/// if the other does, provided that both accepted the same items of its node, whatever they accepted of others. If both
+/// accepted the same items of all nodes, in any order between links, their floors are equal, and a join at a start is
+/// accepted by both or by none.
 pub fn replicas_accept_alike()
     ensures items { (nodes : ℕ) (past other : List Step) (item : AnItem)
         → IsLegal nodes past → IsLegal nodes other → joins_of past ≡ joins_of other
@@ -118,14 +120,14 @@ pub fn replicas_accept_alike()
         → join_at_refusal nodes past start ≡ join_at_refusal nodes other start }
 {}
 
-/// Replicas that accepted the same items, in whatever order between links, answer alike at each stamp from
-/// the horizons of both on, whenever either vacuumed and whichever snapshots are open.
+/// Replicas that accepted the same items, in any order between links, answer alike at each stamp from the horizons of
+/// both on, whenever either was vacuumed and whatever snapshots are open.
 pub fn replicas_answer_alike()
     ensures accepted { (nodes : ℕ) (past other : List Step) → IsLegal nodes past
         → AreReplicas past other → (key : List ℕ) (stamp : ℕ)
         → answer (writes past) key stamp ≡ answer (writes other) key stamp }
-    ensures stored { (kept copy : Kept) (past other : List Step) → StandsFor kept past
-        → StandsFor copy other → AreReplicas past other → (key : List ℕ) (stamp : ℕ)
+    ensures stored { (kept copy : StoreView) (past other : List Step) → Represents kept past
+        → Represents copy other → AreReplicas past other → (key : List ℕ) (stamp : ℕ)
         → horizon past ≤ stamp → horizon other ≤ stamp
         → answer kept.rows key stamp ≡ answer copy.rows key stamp }
 {}
@@ -137,11 +139,11 @@ pub fn there_is_one_listing()
         → IsListing rows stamp other → listing ≡ other }
 {}
 
-/// A vacuum of the stored rows up to a stamp, at the points of the past, keeps the core standing, reports
-/// what is expected, and leaves the fewest, which are the cheapest.
-pub fn vacuums_keep_standing()
-    ensures { (kept : Kept) (at : ℕ) (past : List Step) (rows : List ARow) (report : AReport)
-        → StandsFor kept past → vacuum_refusal (nodes kept) past at ≡ None
+/// After a vacuum of the stored rows up to a stamp, at the points of the past, the core represents the past with the
+/// vacuum, the report is the expected one, and the remaining rows are the fewest, which are the cheapest.
+pub fn vacuums_keep_representing()
+    ensures { (kept : StoreView) (at : ℕ) (past : List Step) (rows : List ARow) (report : AReport)
+        → Represents kept past → vacuum_refusal (nodes kept) past at ≡ None
         → AreVacuumPoints at past report.points
         → IsVacuumOf kept.rows report.points report.witnesses rows
         → report.floor ≡ at
@@ -152,12 +154,12 @@ pub fn vacuums_keep_standing()
 
 /// Just after a vacuum the rows at or below its stamp are the fewest, and the cheapest, against all accepted writes.
 pub fn vacuums_leave_the_fewest()
-    ensures { (kept : Kept) (at : ℕ) (past : List Step) (report : AReport)
-        → StandsFor kept (Vacuumed at ∷ past)
+    ensures { (kept : StoreView) (at : ℕ) (past : List Step) (report : AReport)
+        → Represents kept (Vacuumed at ∷ past)
         → IsReport at past report → LeavesFewest kept.rows (writes past) report }
 {}
 
-/// After a past there is one report of a vacuum to a stamp at most, and one number of stored rows.
+/// After a past there is at most one report of a vacuum to a stamp, and one number of stored rows.
 pub fn there_is_one_report()
     ensures report { (at : ℕ) (past : List Step) (report other : AReport)
         → IsReport at past report
@@ -167,20 +169,21 @@ pub fn there_is_one_report()
         → IsStoredCount past other → count ≡ other }
 {}
 
-/// A core is faithful to each history that it stands for: its reads gave the newest accepted values,
-/// its vacuums were the least and the cheapest, and left the fewest rows.
+/// A core is faithful to each history that it represents: its reads returned the newest accepted values, no vacuum
+/// could have kept fewer or cheaper rows, and just after a vacuum the stored rows up to its stamp are the fewest and
+/// the cheapest.
 pub fn histories_are_faithful()
-    ensures { (kept : Kept) (history : List (AnEvent × AReply)) → StandsForHistory kept history
+    ensures { (kept : StoreView) (history : List (AnEvent × AReply)) → RepresentsHistory kept history
         → IsFaithful (nodes kept) history kept.rows }
 {}
 
-/// What stands for a past, with its rows by key, stamp and node, is a checkpoint: `Core::restore`
-/// refuses it for want of memory alone.
+/// A state that represents a past, with its rows by key, stamp and node, is a checkpoint:
+/// `Core::restore` refuses it only if memory runs out.
 pub fn checkpoints_restore()
-    ensures sound { (kept : Kept) (past : List Step) → StandsFor kept past
+    ensures sound { (kept : StoreView) (past : List Step) → Represents kept past
         → 0 < nodes kept → nodes kept ≤ MOST_NODES → RowsAscend kept.rows → IsCheckpoint kept }
-    ensures copies { (kept copy : Kept) (past : List Step) → StandsFor kept past
-        → IsCopyOf kept copy → StandsFor copy past }
-    ensures refused { (kept : Kept) (fault : AFault) → IsFirstReason kept fault → fault ≢ no_memory
+    ensures copies { (kept copy : StoreView) (past : List Step) → Represents kept past
+        → IsCopyOf kept copy → Represents copy past }
+    ensures refused { (kept : StoreView) (fault : AFault) → IsFirstReason kept fault → fault ≢ no_memory
         → IsCheckpoint kept → ⊥ }
 {}

@@ -1,8 +1,10 @@
-//! The sequential store: items are accepted in the order of each link, snapshots open from the horizon to the floor, a
-//! read gives the newest accepted value, and a vacuum keeps the fewest rows that answer so.
+//! The sequential store: items are accepted in the order of each link, snapshots open from the horizon (GC threshold)
+//! to the floor (closed timestamp), a read returns the newest accepted value, and a vacuum keeps the fewest rows with
+//! the same answers.
 #![tactic(auto)]
 
 mod event;
+mod exact;
 mod fault;
 mod laws;
 mod link;
@@ -30,7 +32,7 @@ pub use laws::{
     checkpoints_restore, floor_is_the_least_head, histories_are_faithful, joins_keep_the_floor,
     later_items_are_above_the_floor, open_snapshots_are_at_most_the_floor, replicas_accept_alike,
     replicas_answer_alike, retired_nodes_leave_the_greatest_stamp, the_floor_never_falls,
-    there_is_one_listing, there_is_one_report, vacuums_keep_standing, vacuums_leave_the_fewest,
+    there_is_one_listing, there_is_one_report, vacuums_keep_representing, vacuums_leave_the_fewest,
 };
 pub use listing::{Listing, Pair};
 pub use reply::CoreReply;

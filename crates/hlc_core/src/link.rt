@@ -10,8 +10,8 @@ use hlc_heads::{Accepted, Heads};
 use hlc_intake::Intake;
 use hlc_node::ItemRef;
 
-/// The intake of the item's link once it has admitted the item; or the first reason to refuse the
-/// item, memory aside.
+/// Returns the intake of the item's link after it admits the item; or the first reason to refuse
+/// the item, apart from memory.
 pub fn admitted(intakes: &[Intake], item: &ItemRef<'_>) -> Result<Intake, CoreFault>
     ensures { MatchOption (slice_get intakes.now item.now.node) (result ≡ Err CoreFault.NoNode)
         (λ link. MatchResult result
@@ -31,7 +31,7 @@ pub fn admitted(intakes: &[Intake], item: &ItemRef<'_>) -> Result<Intake, CoreFa
     }
 }
 
-/// The node's head rises to this stamp, which may be that of its last item.
+/// Raises the node's head to this stamp, which may be that of its last item.
 pub fn rise(heads: &mut Heads, node: u16, stamp: Stamp, last: bool) -> Accepted
     requires node { node < length heads.old.heads }
     requires open { (head_at heads.old.heads node).retired ≡ false }

@@ -1,13 +1,11 @@
 //! The listing of a table at a stamp: all keys in byte order that have a value there, with that value.
 ghost use Rattle.std.specs.Prelude.{IfOk};
-ghost use Rattle.std.proofs.Common.{rules};
-ghost use Rattle.std.proofs.lemmas.Grind.{common_steps};
 ghost use Rattle.hlc_core.specs.Listing.{IsListing};
 
 use hlc_clock::Stamp;
 use hlc_columns::Table;
 use hlc_node::Bytes;
-use hlc_values::{Exact, Listed, NoMemory};
+use hlc_values::{Listed, NoMemory};
 use std::alloc::Global;
 
 /// A key that has a value, and that value.
@@ -17,16 +15,10 @@ pub struct Pair {
     pub value: Bytes,
 }
 
-/// Keys with their values. Contracts see the list of the pairs.
+/// Keys with their values. In contracts it is the list of the pairs.
 pub type Listing = Listed<Pair>;
 
-impl Exact for Pair {
-    ghost equal = { Prim.search (rules, common_steps) };
-
-    ghost copied = { Prim.search rules };
-}
-
-/// The keys that have a value at a stamp, in byte order, with that value.
+/// Returns the keys that have a value at a stamp, in byte order, with that value.
 pub fn listing_at(alloc: Global, table: &Table, stamp: Stamp) -> Result<Listing, NoMemory>
     ensures { IfOk result (λ listing. IsListing table.now stamp listing) }
 {

@@ -1,12 +1,12 @@
-//! What a store answers to an event.
+//! The replies of a store to events.
 ghost use Rattle.std.specs.Prelude.{◌≡◌, ◌↔◌, IsTrue, List};
 ghost use Rattle.std.specs.Cmp.Lexicographic.{pointwise_decides};
 ghost use Rattle.std.proofs.Common.{rules};
 ghost use Rattle.std.proofs.lemmas.Grind.{common_steps};
 ghost use Rattle.hlc_vacuum.specs.declared.report.Report.{Report as AReport};
-ghost use Rattle.hlc_vacuum.specs.contracts.report.ReportExact.TheImpl.Laws.{equal-law as report_equal};
+ghost use Rattle.hlc_vacuum.specs.contracts.exact.ReportExact.TheImpl.Laws.{equal-law as report_equal};
 ghost use Rattle.hlc_core.specs.declared.listing.Pair.{Pair as APair};
-ghost use Rattle.hlc_core.specs.contracts.listing.PairExact.TheImpl.Laws.{equal-law as pair_equal};
+ghost use Rattle.hlc_core.specs.contracts.exact.PairExact.TheImpl.Laws.{equal-law as pair_equal};
 ghost use Rattle.hlc_core.specs.History.{IsPlain};
 
 use crate::fault::CoreFault;
@@ -17,14 +17,14 @@ use hlc_node::Bytes;
 use hlc_vacuum::BoxedReport;
 use hlc_values::{Exact, NoMemory};
 
-/// What a store answers to an event.
+/// The reply of a store to an event.
 #[derive(PartialEq, Eq, Debug, Drop)]
 pub enum CoreReply {
     /// The item was accepted.
     Accepted(Accepted),
-    /// The node of this number joined, and its clock starts at this stamp.
+    /// The node with this number joined, and its clock starts at this stamp.
     Joined { node: u16, start: Stamp },
-    /// The snapshot of this id was opened, at this stamp.
+    /// The snapshot with this id was opened, at this stamp.
     Opened { id: u64, stamp: Stamp },
     /// The value of the key, or none.
     Answer(Option<Bytes>),
@@ -32,7 +32,7 @@ pub enum CoreReply {
     Listing(Listing),
     /// The snapshot was closed; this was its stamp.
     Closed(Stamp),
-    /// The vacuum took place, and did this. The report has a block of its own: all replies are small.
+    /// The vacuum took place; this is its report, in a block of its own, so that all replies are small.
     Vacuumed(BoxedReport),
     /// The event did not take place.
     Refused(CoreFault),
@@ -43,7 +43,7 @@ impl Clone for CoreReply {
 
     ghost is_infallible = { λ reply. IsPlain reply };
 
-    /// Only a value, a listing and a report take memory.
+    /// Copies the reply. Only a value, a listing and a report need memory.
     fn clone(&self) -> Result<CoreReply, NoMemory> {
         match self {
             CoreReply::Accepted(accepted) => Ok(CoreReply::Accepted(*accepted)),

@@ -1,7 +1,7 @@
 //! The calls of a core by cases, as events with replies.
 ghost use Rattle.std.specs.Prelude.{◌≡◌, ◌≢◌, List, IfOk, IfErr, OnErr};
-ghost use Rattle.hlc_core.specs.Kept.{nodes};
-ghost use Rattle.hlc_core.specs.History.{StandsForHistory, Steps, IsQuestion, IsVacuum, IsRefused, IsPlain, IsReplyTo};
+ghost use Rattle.hlc_core.specs.StoreView.{nodes};
+ghost use Rattle.hlc_core.specs.History.{RepresentsHistory, Steps, IsQuestion, IsVacuum, IsRefused, IsPlain, IsReplyTo};
 ghost use Rattle.hlc_core.specs.declared.event.CoreEvent.{CoreEvent as AnEvent};
 ghost use Rattle.hlc_core.specs.declared.reply.CoreReply.{CoreReply as AReply};
 ghost use Rattle.hlc_vacuum.specs.Report.{blank_report};
@@ -16,12 +16,12 @@ use hlc_vacuum::BoxedReport;
 use hlc_values::NoMemory;
 
 impl Core {
-    /// The call that an event asks for, and its reply.
+    /// Makes the call that an event asks for, and returns its reply.
     ///
-    /// A refusal is a reply, but for want of memory: then the event comes back, and nothing changed. A read or a
+    /// A refusal is a reply, except out of memory: then the error returns the event, and nothing changed. A read or a
     /// listing changes nothing, whatever its reply.
     pub fn step(&mut self, event: CoreEvent) -> Result<CoreReply, (NoMemory, CoreEvent)>
-        ensures stands { (history : List (AnEvent × AReply)) → StandsForHistory self.old history
+        ensures represents { (history : List (AnEvent × AReply)) → RepresentsHistory self.old history
             → Steps self.old self.new event history result }
         ensures err { IfErr result (λ back. (back.1 ≡ event) × (self.new ≡ self.old)) }
         ensures asked { IsQuestion event → self.new ≡ self.old }
@@ -33,13 +33,13 @@ impl Core {
     {
         match self.step_ref(&event) {
             Ok(reply) => Ok(reply),
-            Err(lack) => Err((lack, event)),
+            Err(shortage) => Err((shortage, event)),
         }
     }
 
-    /// The same for an event that its owner goes on holding.
+    /// Does the same with a borrowed event.
     pub fn step_ref(&mut self, event: &CoreEvent) -> Result<CoreReply, NoMemory>
-        ensures stands { (history : List (AnEvent × AReply)) → StandsForHistory self.old history
+        ensures represents { (history : List (AnEvent × AReply)) → RepresentsHistory self.old history
             → Steps self.old self.new event.now history result }
         ensures err { OnErr result (self.new ≡ self.old) }
         ensures asked { IsQuestion event.now → self.new ≡ self.old }
@@ -52,24 +52,24 @@ impl Core {
         match event {
             CoreEvent::Accept(item) => match self.accept_copy(item) {
                 Ok(accepted) => Ok(CoreReply::Accepted(accepted)),
-                Err(fault) => told(fault),
+                Err(fault) => returned(fault),
             },
             CoreEvent::Join => match self.join() {
                 Ok((node, start)) => Ok(CoreReply::Joined { node, start }),
-                Err(fault) => told(fault),
+                Err(fault) => returned(fault),
             },
             CoreEvent::OpenAt(stamp) => match self.open(*stamp) {
                 Ok(id) => Ok(CoreReply::Opened { id, stamp: *stamp }),
-                Err(fault) => told(fault),
+                Err(fault) => returned(fault),
             },
             CoreEvent::OpenFloor => match self.open_floor() {
                 Ok((id, stamp)) => Ok(CoreReply::Opened { id, stamp }),
-                Err(fault) => told(fault),
+                Err(fault) => returned(fault),
             },
             CoreEvent::Read { id, key } => self.read_copy(*id, key.as_slice()),
             CoreEvent::List(id) => match self.list(*id) {
                 Ok(pairs) => Ok(CoreReply::Listing(pairs)),
-                Err(fault) => told(fault),
+                Err(fault) => returned(fault),
             },
             CoreEvent::Close(id) => match self.close(*id) {
                 Ok(stamp) => Ok(CoreReply::Closed(stamp)),
@@ -85,22 +85,23 @@ impl Core {
                     node,
                     start: *start,
                 }),
-                Err(fault) => told(fault),
+                Err(fault) => returned(fault),
             },
             CoreEvent::VacuumTo(at) => self.vacuum_to_boxed(*at),
         }
     }
 
-    /// A block for the report of a vacuum that is still to come.
+    /// Returns a block for the report of a later vacuum.
     pub fn report_block(&self) -> Result<BoxedReport, NoMemory>
         ensures { IfOk result (λ boxed. boxed ≡ blank_report) }
     {
         BoxedReport::blank(self.alloc)
     }
 
-    /// The reply to a vacuum to a stamp. The block of its report is taken before anything changes.
+    /// Returns the reply to a vacuum to a stamp. The block of its report is allocated before
+    /// anything changes.
     fn vacuum_to_boxed(&mut self, at: Stamp) -> Result<CoreReply, NoMemory>
-        ensures stands { (history : List (AnEvent × AReply)) → StandsForHistory self.old history
+        ensures represents { (history : List (AnEvent × AReply)) → RepresentsHistory self.old history
             → Steps self.old self.new (CoreEvent.VacuumTo at) history result }
         ensures err { OnErr result (self.new ≡ self.old) }
         ensures refused { IfOk result (λ reply. IsRefused reply → self.new ≡ self.old) }
@@ -113,13 +114,13 @@ impl Core {
         let block = self.report_block()?;
         match self.vacuum_to(at) {
             Ok(report) => Ok(CoreReply::Vacuumed(block.with(report))),
-            Err(fault) => told(fault),
+            Err(fault) => returned(fault),
         }
     }
 
-    /// The reply to a read, with a copy of the value.
+    /// Returns the reply to a read, with a copy of the value.
     fn read_copy(&self, id: u64, key: &[u8]) -> Result<CoreReply, NoMemory>
-        ensures stands { (history : List (AnEvent × AReply)) → StandsForHistory self.now history
+        ensures represents { (history : List (AnEvent × AReply)) → RepresentsHistory self.now history
             → Steps self.now self.now (CoreEvent.Read id key.now) history result }
         ensures form { IfOk result (λ reply. IsReplyTo (CoreEvent.Read id key.now) reply) }
     {
@@ -134,8 +135,8 @@ impl Core {
     }
 }
 
-/// A refusal as a reply, but for want of memory.
-fn told(fault: CoreFault) -> Result<CoreReply, NoMemory>
+/// Returns a refusal as a reply, except out of memory.
+fn returned(fault: CoreFault) -> Result<CoreReply, NoMemory>
     ensures ok { IfOk result
         (λ reply. (reply ≡ CoreReply.Refused fault) × (fault ≢ CoreFault.NoMemory)) }
     ensures err { OnErr result (fault ≡ CoreFault.NoMemory) }

@@ -1,21 +1,20 @@
-//! The calls by which a store is fed.
+//! The calls that feed a store.
 ghost use Rattle.std.specs.Prelude.{◌≡◌, ◌≢◌, List, Some, None};
 ghost use Rattle.hlc_node.specs.declared.item.Body.TheVariants.{Write as a_write, Report as a_report};
 ghost use Rattle.hlc_node.specs.declared.item.Body.TheVariants.{Retire as a_retire};
 ghost use Rattle.hlc_node.specs.Items.{an_item};
 ghost use Rattle.hlc_core.specs.Past.{Step};
-ghost use Rattle.hlc_core.specs.Kept.{StandsFor};
-ghost use Rattle.hlc_calls.specs.Answers.{TellsAccepted, TellsChecked, TellsJoined, TellsJoinedAt};
-ghost use Rattle.hlc_ffi.specs.Held.{OnStore, nodes_held};
+ghost use Rattle.hlc_core.specs.StoreView.{Represents};
+ghost use Rattle.hlc_calls.specs.Answers.{ReturnsAccepted, ReturnsChecked, ReturnsJoined, ReturnsJoinedAt};
+ghost use Rattle.hlc_ffi.specs.Handle.{OnStore, nodes_in_handle};
 
-use crate::held::on_core;
+use crate::handle::on_core;
 use hlc_calls::{items, open_store};
 use hlc_core::{Core, ItemRef, Stamp};
 use hlc_handle::Store;
 use std::alloc::Global;
 
-/// Accepts the write that a node issued under this number: 0 and its stamp, or a refusal and its
-/// word.
+/// Accepts the write that a node issued under this number. Returns 0 and its stamp, or a refusal and its word.
 #[unsafe(no_mangle)]
 pub extern "C" fn hlc_accept_write(
     alloc: Global,
@@ -28,19 +27,18 @@ pub extern "C" fn hlc_accept_write(
     word: &mut u64,
 ) -> u32
     ensures answer { OnStore store.old.room.value store.new.room.value
-        ((result ≡ 100) × (word.new ≡ 0)) (λ old new. (past : List Step) → StandsFor old past
-        → TellsAccepted old new (an_item node number stamp (a_write key.now (Some value.now)))
+        ((result ≡ 100) × (word.new ≡ 0)) (λ old new. (past : List Step) → Represents old past
+        → ReturnsAccepted old new (an_item node number stamp (a_write key.now (Some value.now)))
         past result word.new) }
     ensures same { result ≢ 0 → store.new.room.value ≡ store.old.room.value }
-    ensures nodes { nodes_held store.new.room.value ≡ nodes_held store.old.room.value }
+    ensures nodes { nodes_in_handle store.new.room.value ≡ nodes_in_handle store.old.room.value }
 {
     *word = 0;
     let item = ItemRef::write(node, number, Stamp::from_bits(stamp), key, Some(value));
     on_core!(alloc, store, |core| items::accept(core, &item, word))
 }
 
-/// Accepts the deletion that a node issued under this number: 0 and its stamp, or a refusal and its
-/// word.
+/// Accepts the deletion that a node issued under this number. Returns 0 and its stamp, or a refusal and its word.
 #[unsafe(no_mangle)]
 pub extern "C" fn hlc_accept_delete(
     alloc: Global,
@@ -52,19 +50,19 @@ pub extern "C" fn hlc_accept_delete(
     word: &mut u64,
 ) -> u32
     ensures answer { OnStore store.old.room.value store.new.room.value
-        ((result ≡ 100) × (word.new ≡ 0)) (λ old new. (past : List Step) → StandsFor old past
-        → TellsAccepted old new (an_item node number stamp (a_write key.now None))
+        ((result ≡ 100) × (word.new ≡ 0)) (λ old new. (past : List Step) → Represents old past
+        → ReturnsAccepted old new (an_item node number stamp (a_write key.now None))
         past result word.new) }
     ensures same { result ≢ 0 → store.new.room.value ≡ store.old.room.value }
-    ensures nodes { nodes_held store.new.room.value ≡ nodes_held store.old.room.value }
+    ensures nodes { nodes_in_handle store.new.room.value ≡ nodes_in_handle store.old.room.value }
 {
     *word = 0;
     let item = ItemRef::write(node, number, Stamp::from_bits(stamp), key, None);
     on_core!(alloc, store, |core| items::accept(core, &item, word))
 }
 
-/// Accepts the report that a node issued under this number: 0 and its stamp, or a refusal and its
-/// word. It takes no memory.
+/// Accepts the report that a node issued under this number. Returns 0 and its stamp, or a refusal and its word. It
+/// takes no memory.
 #[unsafe(no_mangle)]
 pub extern "C" fn hlc_accept_report(
     alloc: Global,
@@ -75,19 +73,19 @@ pub extern "C" fn hlc_accept_report(
     word: &mut u64,
 ) -> u32
     ensures answer { OnStore store.old.room.value store.new.room.value
-        ((result ≡ 100) × (word.new ≡ 0)) (λ old new. (past : List Step) → StandsFor old past
-        → TellsAccepted old new (an_item node number stamp a_report)
+        ((result ≡ 100) × (word.new ≡ 0)) (λ old new. (past : List Step) → Represents old past
+        → ReturnsAccepted old new (an_item node number stamp a_report)
         past result word.new) }
     ensures same { result ≢ 0 → store.new.room.value ≡ store.old.room.value }
-    ensures nodes { nodes_held store.new.room.value ≡ nodes_held store.old.room.value }
+    ensures nodes { nodes_in_handle store.new.room.value ≡ nodes_in_handle store.old.room.value }
 {
     *word = 0;
     let item = ItemRef::report(node, number, Stamp::from_bits(stamp));
     on_core!(alloc, store, |core| items::accept(core, &item, word))
 }
 
-/// Accepts a node's last item, which it issued under this number: 0 and its stamp, or a refusal and
-/// its word. It takes no memory.
+/// Accepts a node's last item, which it issued under this number. Returns 0 and its stamp, or a refusal and its word.
+/// It takes no memory.
 #[unsafe(no_mangle)]
 pub extern "C" fn hlc_accept_retire(
     alloc: Global,
@@ -98,18 +96,18 @@ pub extern "C" fn hlc_accept_retire(
     word: &mut u64,
 ) -> u32
     ensures answer { OnStore store.old.room.value store.new.room.value
-        ((result ≡ 100) × (word.new ≡ 0)) (λ old new. (past : List Step) → StandsFor old past
-        → TellsAccepted old new (an_item node number stamp a_retire)
+        ((result ≡ 100) × (word.new ≡ 0)) (λ old new. (past : List Step) → Represents old past
+        → ReturnsAccepted old new (an_item node number stamp a_retire)
         past result word.new) }
     ensures same { result ≢ 0 → store.new.room.value ≡ store.old.room.value }
-    ensures nodes { nodes_held store.new.room.value ≡ nodes_held store.old.room.value }
+    ensures nodes { nodes_in_handle store.new.room.value ≡ nodes_in_handle store.old.room.value }
 {
     *word = 0;
     let item = ItemRef::retire(node, number, Stamp::from_bits(stamp));
     on_core!(alloc, store, |core| items::accept(core, &item, word))
 }
 
-/// Why `hlc_accept_write` would refuse a write, memory aside: 0, or the refusal and its word.
+/// Returns why `hlc_accept_write` would refuse a write, apart from out of memory: 0, or the refusal and its word.
 #[unsafe(no_mangle)]
 pub extern "C" fn hlc_check_write(
     alloc: Global,
@@ -122,8 +120,8 @@ pub extern "C" fn hlc_check_write(
     word: &mut u64,
 ) -> u32
     ensures answer { OnStore store.old.room.value store.new.room.value
-        ((result ≡ 100) × (word.new ≡ 0)) (λ old new. (past : List Step) → StandsFor old past
-        → TellsChecked old (an_item node number stamp (a_write key.now (Some value.now)))
+        ((result ≡ 100) × (word.new ≡ 0)) (λ old new. (past : List Step) → Represents old past
+        → ReturnsChecked old (an_item node number stamp (a_write key.now (Some value.now)))
         past result word.new) }
     ensures same { store.new.room.value ≡ store.old.room.value }
 {
@@ -132,7 +130,7 @@ pub extern "C" fn hlc_check_write(
     on_core!(alloc, store, |core| items::check(core, &item, word))
 }
 
-/// Why `hlc_accept_delete` would refuse a deletion, memory aside: 0, or the refusal and its word.
+/// Returns why `hlc_accept_delete` would refuse a deletion, apart from out of memory: 0, or the refusal and its word.
 #[unsafe(no_mangle)]
 pub extern "C" fn hlc_check_delete(
     alloc: Global,
@@ -144,8 +142,8 @@ pub extern "C" fn hlc_check_delete(
     word: &mut u64,
 ) -> u32
     ensures answer { OnStore store.old.room.value store.new.room.value
-        ((result ≡ 100) × (word.new ≡ 0)) (λ old new. (past : List Step) → StandsFor old past
-        → TellsChecked old (an_item node number stamp (a_write key.now None))
+        ((result ≡ 100) × (word.new ≡ 0)) (λ old new. (past : List Step) → Represents old past
+        → ReturnsChecked old (an_item node number stamp (a_write key.now None))
         past result word.new) }
     ensures same { store.new.room.value ≡ store.old.room.value }
 {
@@ -154,8 +152,7 @@ pub extern "C" fn hlc_check_delete(
     on_core!(alloc, store, |core| items::check(core, &item, word))
 }
 
-/// Why `hlc_accept_report`, or `hlc_accept_retire`, would refuse an item: 0, or the refusal and its
-/// word.
+/// Returns why `hlc_accept_report`, or `hlc_accept_retire`, would refuse an item: 0, or the refusal and its word.
 #[unsafe(no_mangle)]
 pub extern "C" fn hlc_check_report(
     alloc: Global,
@@ -166,11 +163,11 @@ pub extern "C" fn hlc_check_report(
     word: &mut u64,
 ) -> u32
     ensures answer { OnStore store.old.room.value store.new.room.value
-        ((result ≡ 100) × (word.new ≡ 0)) (λ old new. (past : List Step) → StandsFor old past
-        → TellsChecked old (an_item node number stamp a_report) past result word.new) }
+        ((result ≡ 100) × (word.new ≡ 0)) (λ old new. (past : List Step) → Represents old past
+        → ReturnsChecked old (an_item node number stamp a_report) past result word.new) }
     ensures retire { OnStore store.old.room.value store.new.room.value
-        ((result ≡ 100) × (word.new ≡ 0)) (λ old new. (past : List Step) → StandsFor old past
-        → TellsChecked old (an_item node number stamp a_retire) past result word.new) }
+        ((result ≡ 100) × (word.new ≡ 0)) (λ old new. (past : List Step) → Represents old past
+        → ReturnsChecked old (an_item node number stamp a_retire) past result word.new) }
     ensures same { store.new.room.value ≡ store.old.room.value }
 {
     *word = 0;
@@ -182,24 +179,24 @@ pub extern "C" fn hlc_check_report(
     )
 }
 
-/// Lets a node join: 0, its number and the stamp that its clock starts at; or 26 or 15.
+/// Lets a node join. Returns 0, its number and the stamp at which its clock starts; or 26 or 15.
 #[unsafe(no_mangle)]
 pub extern "C" fn hlc_join(alloc: Global, store: &mut Store, node: &mut u16, start: &mut u64) -> u32
     ensures answer { OnStore store.old.room.value store.new.room.value
         ((result ≡ 100) × (node.new ≡ 0) × (start.new ≡ 0))
-        (λ old new. (past : List Step) → StandsFor old past
-        → TellsJoined old new past result node.new start.new) }
+        (λ old new. (past : List Step) → Represents old past
+        → ReturnsJoined old new past result node.new start.new) }
     ensures nothing { result ≢ 0 → (node.new ≡ 0) × (start.new ≡ 0) }
     ensures same { result ≢ 0 → store.new.room.value ≡ store.old.room.value }
-    ensures nodes { nodes_held store.new.room.value ≡ nodes_held store.old.room.value }
+    ensures nodes { nodes_in_handle store.new.room.value ≡ nodes_in_handle store.old.room.value }
 {
     *node = 0;
     *start = 0;
     on_core!(alloc, store, |core| open_store::join(core, node, start))
 }
 
-/// Lets a node join at a start: 0, its number and the start; or 26, 9 with the floor where the start
-/// is below it, or 15.
+/// Lets a node join at a start. Returns 0, its number and the start; or 26, or 9 with the floor where the start is
+/// below it, or 15.
 #[unsafe(no_mangle)]
 pub extern "C" fn hlc_join_at(
     alloc: Global,
@@ -210,11 +207,11 @@ pub extern "C" fn hlc_join_at(
 ) -> u32
     ensures answer { OnStore store.old.room.value store.new.room.value
         ((result ≡ 100) × (node.new ≡ 0) × (word.new ≡ 0))
-        (λ old new. (past : List Step) → StandsFor old past
-        → TellsJoinedAt old new start past result node.new word.new) }
+        (λ old new. (past : List Step) → Represents old past
+        → ReturnsJoinedAt old new start past result node.new word.new) }
     ensures nothing { result ≢ 0 → node.new ≡ 0 }
     ensures same { result ≢ 0 → store.new.room.value ≡ store.old.room.value }
-    ensures nodes { nodes_held store.new.room.value ≡ nodes_held store.old.room.value }
+    ensures nodes { nodes_in_handle store.new.room.value ≡ nodes_in_handle store.old.room.value }
 {
     *node = 0;
     *word = 0;

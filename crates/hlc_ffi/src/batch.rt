@@ -1,17 +1,17 @@
-//! Several items at once, for callers whose calls are dear.
+//! Several items in one call, for callers for which a call is expensive.
 ghost use Rattle.std.specs.Prelude.{◌≡◌, List};
 ghost use Rattle.hlc_core.specs.Past.{Step};
-ghost use Rattle.hlc_core.specs.Kept.{StandsFor};
+ghost use Rattle.hlc_core.specs.StoreView.{Represents};
 ghost use Rattle.hlc_calls.specs.Batch.{AreEntered};
-ghost use Rattle.hlc_ffi.specs.Held.{OnStore, nodes_held};
+ghost use Rattle.hlc_ffi.specs.Handle.{OnStore, nodes_in_handle};
 
-use crate::held::on_core;
+use crate::handle::on_core;
 use hlc_calls::batch::{Entry, enter_all};
 use hlc_handle::Store;
 use std::alloc::Global;
 
-/// Accepts writes and deletions in turn, until one is refused: 0, or what is told of that one, its
-/// word, and how many were accepted before it. 103 of an entry whose bytes are not there.
+/// Accepts writes and deletions in turn, until one is refused. Returns 0, or the answer for the refused one, its word,
+/// and how many were accepted before it. The answer is 103 for an entry whose bytes are not there.
 #[unsafe(no_mangle)]
 pub extern "C" fn hlc_accept_all(
     alloc: Global,
@@ -23,9 +23,9 @@ pub extern "C" fn hlc_accept_all(
 ) -> u32
     ensures answer { OnStore store.old.room.value store.new.room.value
         ((result ≡ 100) × (many.new ≡ 0) × (word.new ≡ 0)) (λ old new. (past : List Step)
-        → StandsFor old past
+        → Represents old past
         → AreEntered new entries.now bytes.now past result many.new word.new) }
-    ensures nodes { nodes_held store.new.room.value ≡ nodes_held store.old.room.value }
+    ensures nodes { nodes_in_handle store.new.room.value ≡ nodes_in_handle store.old.room.value }
 {
     *many = 0;
     *word = 0;

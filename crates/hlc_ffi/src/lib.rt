@@ -1,14 +1,13 @@
-//! The store, for C: each call takes a handle, and answers 0, the number of a refusal, or 100 of a
-//! closed store. What a call tells besides is written at every answer: 0 where there is nothing to
-//! tell.
+//! The store, for C: each call takes a handle, and returns 0, the number of a refusal, or 100 for a closed store. What
+//! else a call returns is written with every answer: 0 where there is nothing to return.
 #![tactic(auto)]
 
 ghost use Rattle.std.specs.Prelude.{◌≡◌, None};
-ghost use Rattle.hlc_ffi.specs.Held.{IsOpening};
+ghost use Rattle.hlc_ffi.specs.Handle.{IsOpening};
 
 pub mod accept;
 pub mod batch;
-mod held;
+mod handle;
 pub mod node;
 pub mod read;
 pub mod vacuum;
@@ -17,14 +16,14 @@ use hlc_core::Core;
 pub use hlc_handle::Store;
 use std::alloc::Global;
 
-/// Opens a closed store of so many nodes, 1 to 64, in which nothing took place: 0, 1, 15, or 101 of
-/// an open one, which stays as it was.
+/// Opens a closed store of so many nodes, 1 to 64, in which nothing took place. Returns 0, 1, 15, or 101 for an open
+/// store, which stays unchanged.
 #[unsafe(no_mangle)]
 pub extern "C" fn hlc_open(alloc: Global, store: &mut Store, count: u16) -> u32
     ensures { IsOpening store.old.room.value store.new.room.value count result }
 {
-    if let Some(held) = store.take(alloc) {
-        store.put(held);
+    if let Some(handle) = store.take(alloc) {
+        store.put(handle);
         return 101;
     }
     let core = match Core::new(alloc, count) {
@@ -32,15 +31,15 @@ pub extern "C" fn hlc_open(alloc: Global, store: &mut Store, count: u16) -> u32
         Err(fault) => return fault.code(),
     };
     match Box::new(alloc, core) {
-        Ok(held) => {
-            store.put(held);
+        Ok(handle) => {
+            store.put(handle);
             0
         }
         Err(_) => 15,
     }
 }
 
-/// Closes a store, and frees what it holds. A closed one stays closed.
+/// Closes a store, and frees what it contains. A closed one stays closed.
 #[unsafe(no_mangle)]
 pub extern "C" fn hlc_close(alloc: Global, store: &mut Store)
     ensures { store.new.room.value ≡ None }

@@ -1,15 +1,15 @@
-//! A node, for C, which holds it by value: a call takes no memory and no store.
+//! A node, for C, which stores it by value: a call needs no memory and no store.
 ghost use Rattle.std.specs.Prelude.{◌≡◌, [], ◌∷◌, Some, None, false};
-ghost use Rattle.hlc_node.specs.Node.{event_due};
+ghost use Rattle.hlc_node.specs.Node.{expected_event};
 ghost use Rattle.hlc_node.specs.declared.item.Body.TheVariants.{Write as a_write, Report as a_report};
 ghost use Rattle.hlc_node.specs.declared.item.Body.TheVariants.{Retire as a_retire};
-ghost use Rattle.hlc_calls.specs.Nodes.{TellsStamped, TellsIssued};
+ghost use Rattle.hlc_calls.specs.Nodes.{ReturnsStamped, ReturnsIssued};
 
 use hlc_calls::node;
 use hlc_clock::Stamp;
 use hlc_node::NodeCore;
 
-/// A node of this number, whose clock starts at a stamp and which has issued nothing.
+/// Returns a node of this number, whose clock starts at a stamp and which has issued nothing.
 #[unsafe(no_mangle)]
 pub extern "C" fn hlc_node_open(id: u16, start: u64) -> NodeCore
     ensures { result ≡ record { id = id; last = start; next = 0; retired = false } }
@@ -17,7 +17,7 @@ pub extern "C" fn hlc_node_open(id: u16, start: u64) -> NodeCore
     NodeCore::new(id, Stamp::from_bits(start))
 }
 
-/// Issues the item of a write: 0, its number and its stamp, or a refusal and its word.
+/// Issues the item of a write. Returns 0, its number and its stamp, or a refusal and its word.
 #[unsafe(no_mangle)]
 pub extern "C" fn hlc_node_write(
     node: &mut NodeCore,
@@ -27,13 +27,13 @@ pub extern "C" fn hlc_node_write(
     number: &mut u64,
     word: &mut u64,
 ) -> u32
-    ensures { TellsIssued node.old node.new (a_write key.now (Some value.now)) reading
+    ensures { ReturnsIssued node.old node.new (a_write key.now (Some value.now)) reading
         result number.new word.new }
 {
     node::write(node, reading, key, Some(value), number, word)
 }
 
-/// Issues the item of a deletion: 0, its number and its stamp, or a refusal and its word.
+/// Issues the item of a deletion. Returns 0, its number and its stamp, or a refusal and its word.
 #[unsafe(no_mangle)]
 pub extern "C" fn hlc_node_delete(
     node: &mut NodeCore,
@@ -42,14 +42,14 @@ pub extern "C" fn hlc_node_delete(
     number: &mut u64,
     word: &mut u64,
 ) -> u32
-    ensures { TellsIssued node.old node.new (a_write key.now None) reading
+    ensures { ReturnsIssued node.old node.new (a_write key.now None) reading
         result number.new word.new }
 {
     node::write(node, reading, key, None, number, word)
 }
 
-/// Issues a report of how far the node's stamps have come: 0, its number and its stamp, or a refusal
-/// and its word.
+/// Issues a report of how far the node's stamps have come. Returns 0, its number and its stamp, or a refusal and its
+/// word.
 #[unsafe(no_mangle)]
 pub extern "C" fn hlc_node_report(
     node: &mut NodeCore,
@@ -57,12 +57,12 @@ pub extern "C" fn hlc_node_report(
     number: &mut u64,
     word: &mut u64,
 ) -> u32
-    ensures { TellsIssued node.old node.new a_report reading result number.new word.new }
+    ensures { ReturnsIssued node.old node.new a_report reading result number.new word.new }
 {
     node::report(node, reading, number, word)
 }
 
-/// Issues the node's last item: 0, its number and its stamp, or a refusal and its word.
+/// Issues the node's last item. Returns 0, its number and its stamp, or a refusal and its word.
 #[unsafe(no_mangle)]
 pub extern "C" fn hlc_node_retire(
     node: &mut NodeCore,
@@ -70,22 +70,22 @@ pub extern "C" fn hlc_node_retire(
     number: &mut u64,
     word: &mut u64,
 ) -> u32
-    ensures { TellsIssued node.old node.new a_retire reading result number.new word.new }
+    ensures { ReturnsIssued node.old node.new a_retire reading result number.new word.new }
 {
     node::retire(node, reading, number, word)
 }
 
-/// Sends a message: 0 and its stamp, or a refusal and its word.
+/// Sends a message. Returns 0 and its stamp, or a refusal and its word.
 #[unsafe(no_mangle)]
 pub extern "C" fn hlc_node_send(node: &mut NodeCore, reading: u64, word: &mut u64) -> u32
-    ensures { TellsStamped node.old node.new (event_due node.old (node.old.last ∷ []) reading)
+    ensures { ReturnsStamped node.old node.new (expected_event node.old (node.old.last ∷ []) reading)
         result word.new }
 {
     node::send(node, reading, word)
 }
 
-/// Receives a message of this stamp, or observes a snapshot at it: 0 and the event's stamp, or a
-/// refusal and its word.
+/// Receives a message with this stamp, or observes a snapshot at it. Returns 0 and the event's stamp, or a refusal and
+/// its word.
 #[unsafe(no_mangle)]
 pub extern "C" fn hlc_node_receive(
     node: &mut NodeCore,
@@ -93,8 +93,8 @@ pub extern "C" fn hlc_node_receive(
     reading: u64,
     word: &mut u64,
 ) -> u32
-    ensures { TellsStamped node.old node.new
-        (event_due node.old (node.old.last ∷ seen ∷ []) reading) result word.new }
+    ensures { ReturnsStamped node.old node.new
+        (expected_event node.old (node.old.last ∷ seen ∷ []) reading) result word.new }
 {
     node::receive(node, seen, reading, word)
 }

@@ -1,19 +1,19 @@
-//! The calls by which a store is read.
+//! The calls that read a store.
 ghost use Rattle.std.specs.Prelude.{◌≡◌, ◌≢◌, List, length};
 ghost use Rattle.hlc_core.specs.Past.{Step, floor, stamp_of, writes};
-ghost use Rattle.hlc_core.specs.Kept.{StandsFor, nodes};
-ghost use Rattle.hlc_calls.specs.Answers.{TellsOpened, TellsOpenedAtFloor, TellsClosed, TellsRead, narrowed};
-ghost use Rattle.hlc_calls.specs.Listing.{IsListedTo};
-ghost use Rattle.hlc_ffi.specs.Held.{OnStore, nodes_held};
+ghost use Rattle.hlc_core.specs.StoreView.{Represents, nodes};
+ghost use Rattle.hlc_calls.specs.Answers.{ReturnsOpened, ReturnsOpenedAtFloor, ReturnsClosed, ReturnsRead, narrowed};
+ghost use Rattle.hlc_calls.specs.Listing.{ReturnsListing};
+ghost use Rattle.hlc_ffi.specs.Handle.{OnStore, nodes_in_handle};
 
-use crate::held::on_core;
+use crate::handle::on_core;
 use hlc_calls::list::list;
 use hlc_calls::open_store;
 use hlc_core::{Core, Stamp};
 use hlc_handle::Store;
 use std::alloc::Global;
 
-/// Opens a snapshot at a stamp: 0 and its id, or a refusal and its word.
+/// Opens a snapshot at a stamp. Returns 0 and its id, or a refusal and its word.
 #[unsafe(no_mangle)]
 pub extern "C" fn hlc_open_snapshot(
     alloc: Global,
@@ -22,10 +22,10 @@ pub extern "C" fn hlc_open_snapshot(
     id: &mut u64,
 ) -> u32
     ensures answer { OnStore store.old.room.value store.new.room.value
-        ((result ≡ 100) × (id.new ≡ 0)) (λ old new. (past : List Step) → StandsFor old past
-        → TellsOpened old new stamp past result id.new) }
+        ((result ≡ 100) × (id.new ≡ 0)) (λ old new. (past : List Step) → Represents old past
+        → ReturnsOpened old new stamp past result id.new) }
     ensures same { result ≢ 0 → store.new.room.value ≡ store.old.room.value }
-    ensures nodes { nodes_held store.new.room.value ≡ nodes_held store.old.room.value }
+    ensures nodes { nodes_in_handle store.new.room.value ≡ nodes_in_handle store.old.room.value }
 {
     *id = 0;
     on_core!(
@@ -35,7 +35,7 @@ pub extern "C" fn hlc_open_snapshot(
     )
 }
 
-/// Opens a snapshot at the floor: 0, its id and its stamp, or a refusal.
+/// Opens a snapshot at the floor (closed timestamp). Returns 0, its id and its stamp, or a refusal.
 #[unsafe(no_mangle)]
 pub extern "C" fn hlc_open_snapshot_at_floor(
     alloc: Global,
@@ -45,19 +45,19 @@ pub extern "C" fn hlc_open_snapshot_at_floor(
 ) -> u32
     ensures answer { OnStore store.old.room.value store.new.room.value
         ((result ≡ 100) × (id.new ≡ 0) × (stamp.new ≡ 0))
-        (λ old new. (past : List Step) → StandsFor old past
-        → TellsOpenedAtFloor old new past result id.new stamp.new) }
+        (λ old new. (past : List Step) → Represents old past
+        → ReturnsOpenedAtFloor old new past result id.new stamp.new) }
     ensures nothing { result ≢ 0 → stamp.new ≡ 0 }
     ensures same { result ≢ 0 → store.new.room.value ≡ store.old.room.value }
-    ensures nodes { nodes_held store.new.room.value ≡ nodes_held store.old.room.value }
+    ensures nodes { nodes_in_handle store.new.room.value ≡ nodes_in_handle store.old.room.value }
 {
     *id = 0;
     *stamp = 0;
     on_core!(alloc, store, |core| open_store::open_floor(core, id, stamp))
 }
 
-/// Reads a key in a snapshot: 0, the value's length and, where it fits, the value; 102 where there is
-/// none; or 10. It takes no memory.
+/// Reads a key in a snapshot. Returns 0, the value's length and, where it fits, the value; 102 where there is none; or
+/// 10. It takes no memory.
 #[unsafe(no_mangle)]
 pub extern "C" fn hlc_read(
     alloc: Global,
@@ -69,7 +69,7 @@ pub extern "C" fn hlc_read(
 ) -> u32
     ensures answer { OnStore store.old.room.value store.new.room.value
         ((result ≡ 100) × (len.new ≡ 0) × (out.new ≡ out.old))
-        (λ old new. (past : List Step) → StandsFor old past → TellsRead
+        (λ old new. (past : List Step) → Represents old past → ReturnsRead
         (stamp_of id past) (writes past) key.now result len.new out.old out.new) }
     ensures same { store.new.room.value ≡ store.old.room.value }
 {
@@ -81,7 +81,7 @@ pub extern "C" fn hlc_read(
     )
 }
 
-/// Closes a snapshot: 0 and its stamp, or 10. It takes no memory.
+/// Closes a snapshot. Returns 0 and its stamp, or 10. It takes no memory.
 #[unsafe(no_mangle)]
 pub extern "C" fn hlc_close_snapshot(
     alloc: Global,
@@ -90,20 +90,20 @@ pub extern "C" fn hlc_close_snapshot(
     stamp: &mut u64,
 ) -> u32
     ensures answer { OnStore store.old.room.value store.new.room.value
-        ((result ≡ 100) × (stamp.new ≡ 0)) (λ old new. (past : List Step) → StandsFor old past
-        → TellsClosed new id past result stamp.new) }
+        ((result ≡ 100) × (stamp.new ≡ 0)) (λ old new. (past : List Step) → Represents old past
+        → ReturnsClosed new id past result stamp.new) }
     ensures same { result ≢ 0 → store.new.room.value ≡ store.old.room.value }
-    ensures nodes { nodes_held store.new.room.value ≡ nodes_held store.old.room.value }
+    ensures nodes { nodes_in_handle store.new.room.value ≡ nodes_in_handle store.old.room.value }
 {
     *stamp = 0;
     on_core!(alloc, store, |core| open_store::close(core, id, stamp))
 }
 
-/// The floor: 0 and its stamp. It takes no memory.
+/// Returns 0 and the floor. It takes no memory.
 #[unsafe(no_mangle)]
 pub extern "C" fn hlc_floor(alloc: Global, store: &mut Store, stamp: &mut u64) -> u32
     ensures answer { OnStore store.old.room.value store.new.room.value
-        ((result ≡ 100) × (stamp.new ≡ 0)) (λ old new. (past : List Step) → StandsFor old past
+        ((result ≡ 100) × (stamp.new ≡ 0)) (λ old new. (past : List Step) → Represents old past
         → (result ≡ 0) × (stamp.new ≡ floor (nodes old) past)) }
     ensures same { store.new.room.value ≡ store.old.room.value }
 {
@@ -114,7 +114,7 @@ pub extern "C" fn hlc_floor(alloc: Global, store: &mut Store, stamp: &mut u64) -
     })
 }
 
-/// How many rows are stored: 0 and the number, or 2^64 - 1 where it is greater. It takes no memory.
+/// Returns 0 and the number of stored rows, or 2^64 - 1 where that is greater. It takes no memory.
 #[unsafe(no_mangle)]
 pub extern "C" fn hlc_rows(alloc: Global, store: &mut Store, rows: &mut u64) -> u32
     ensures answer { OnStore store.old.room.value store.new.room.value
@@ -129,9 +129,9 @@ pub extern "C" fn hlc_rows(alloc: Global, store: &mut Store, rows: &mut u64) -> 
     })
 }
 
-/// Lists the keys with a value in a snapshot, in byte order: 0, how many bytes that takes and, where
-/// they fit, the bytes: of each key its length, the key, its value's length and the value; or 10 or
-/// 15. A length has eight bytes, the low one first.
+/// Lists the keys with a value in a snapshot, in byte order. Returns 0, the length of the listing in bytes and, where
+/// they fit, the bytes: for each key its length, the key, its value's length and the value; or 10. A length has eight
+/// bytes, the low one first. The length of the listing is 2^64 - 1 where it would be greater. It takes no memory.
 #[unsafe(no_mangle)]
 pub extern "C" fn hlc_list(
     alloc: Global,
@@ -142,10 +142,11 @@ pub extern "C" fn hlc_list(
 ) -> u32
     ensures answer { OnStore store.old.room.value store.new.room.value
         ((result ≡ 100) × (len.new ≡ 0) × (out.new ≡ out.old)) (λ old new. (past : List Step)
-        → StandsFor old past → IsListedTo id past result len.new out.old out.new) }
+        → Represents old past
+        → ReturnsListing (stamp_of id past) (writes past) result len.new out.old out.new) }
     ensures nothing { result ≢ 0 → (len.new ≡ 0) × (out.new ≡ out.old) }
     ensures same { store.new.room.value ≡ store.old.room.value }
 {
     *len = 0;
-    on_core!(alloc, store, |core| list(alloc, core, id, out, len))
+    on_core!(alloc, store, |core| list(core, id, out, len))
 }

@@ -1,20 +1,20 @@
-//! The calls by which a store drops what no reader needs.
+//! The calls that drop what no reader needs.
 ghost use Rattle.std.specs.Prelude.{◌≡◌, ◌≢◌, List};
 ghost use Rattle.hlc_core.specs.Past.{Step, floor};
-ghost use Rattle.hlc_core.specs.Kept.{nodes, StandsFor};
-ghost use Rattle.hlc_calls.specs.Answers.{TellsVacuumedAtFloor, TellsVacuumedTo, TellsVacuumChecked};
+ghost use Rattle.hlc_core.specs.StoreView.{nodes, Represents};
+ghost use Rattle.hlc_calls.specs.Answers.{ReturnsVacuumedAtFloor, ReturnsVacuumedTo, ReturnsVacuumChecked};
 ghost use Rattle.hlc_calls.specs.Certified.{IsCertified, IsCertifiedTo, IsHalf};
-ghost use Rattle.hlc_ffi.specs.Held.{OnStore, nodes_held};
+ghost use Rattle.hlc_ffi.specs.Handle.{OnStore, nodes_in_handle};
 
-use crate::held::on_core;
+use crate::handle::on_core;
 use hlc_calls::certify::{certify, certify_to};
 use hlc_calls::open_store;
 use hlc_core::Stamp;
 use hlc_handle::Store;
 use std::alloc::Global;
 
-/// Drops the rows that no reader needs: 0, the floor, how many rows at or below it were kept, what
-/// they cost in bytes, and how many were dropped; or 15.
+/// Drops the rows that no reader needs. Returns 0, the floor, how many rows at or below it were kept, what they cost in
+/// bytes, and how many were dropped; or 15.
 #[unsafe(no_mangle)]
 pub extern "C" fn hlc_vacuum(
     alloc: Global,
@@ -25,14 +25,14 @@ pub extern "C" fn hlc_vacuum(
     dropped: &mut u64,
 ) -> u32
     ensures answer { OnStore store.old.room.value store.new.room.value
-        (result ≡ 100) (λ old new. result ≡ 0 → (past : List Step) → StandsFor old past
-        → TellsVacuumedAtFloor old new past floor.new kept.new bytes.new dropped.new) }
-    ensures lack { OnStore store.old.room.value store.new.room.value (result ≡ 100)
+        (result ≡ 100) (λ old new. result ≡ 0 → (past : List Step) → Represents old past
+        → ReturnsVacuumedAtFloor old new past floor.new kept.new bytes.new dropped.new) }
+    ensures shortage { OnStore store.old.room.value store.new.room.value (result ≡ 100)
         (λ old new. result ≢ 0 → result ≡ 15) }
     ensures nothing { result ≢ 0
         → (floor.new ≡ 0) × (kept.new ≡ 0) × (bytes.new ≡ 0) × (dropped.new ≡ 0) }
     ensures same { result ≢ 0 → store.new.room.value ≡ store.old.room.value }
-    ensures nodes { nodes_held store.new.room.value ≡ nodes_held store.old.room.value }
+    ensures nodes { nodes_in_handle store.new.room.value ≡ nodes_in_handle store.old.room.value }
 {
     *floor = 0;
     *kept = 0;
@@ -45,9 +45,9 @@ pub extern "C" fn hlc_vacuum(
     )
 }
 
-/// The same, with the certificate of the rows that are left up to the floor: 0, how many bytes it has
-/// and, where they fit, the bytes; or 15, where the vacuum may have taken place all the same. Where
-/// they do not fit, a further call certifies a further vacuum, which finds nothing to drop.
+/// Does the same, with the certificate of the rows that are left up to the floor. Returns 0, its length in bytes and,
+/// where they fit, the bytes; or 15, where the vacuum may have taken place all the same. Where they do not fit, a
+/// further call certifies a further vacuum, which finds nothing to drop.
 #[unsafe(no_mangle)]
 pub extern "C" fn hlc_vacuum_certified(
     alloc: Global,
@@ -56,25 +56,25 @@ pub extern "C" fn hlc_vacuum_certified(
     len: &mut usize,
 ) -> u32
     ensures answer { OnStore store.old.room.value store.new.room.value (result ≡ 100)
-        (λ old new. result ≡ 0 → (past : List Step) → StandsFor old past
+        (λ old new. result ≡ 0 → (past : List Step) → Represents old past
         → IsCertified old new (floor (nodes old) past) past len.new out.old out.new) }
     ensures half { OnStore store.old.room.value store.new.room.value (result ≡ 100)
-        (λ old new. result ≢ 0 → (result ≡ 15) × ((past : List Step) → StandsFor old past
+        (λ old new. result ≢ 0 → (result ≡ 15) × ((past : List Step) → Represents old past
         → IsHalf old new (floor (nodes old) past) past)) }
     ensures nothing { result ≢ 0 → (len.new ≡ 0) × (out.new ≡ out.old) }
-    ensures nodes { nodes_held store.new.room.value ≡ nodes_held store.old.room.value }
+    ensures nodes { nodes_in_handle store.new.room.value ≡ nodes_in_handle store.old.room.value }
 {
     *len = 0;
     on_core!(alloc, store, |core| certify(alloc, core, out, len))
 }
 
-/// Why `hlc_vacuum_to` would refuse a stamp, memory aside: 0, or 8 and the floor, or 9 and the
-/// horizon. It takes no memory.
+/// Returns why `hlc_vacuum_to` would refuse a stamp, apart from out of memory: 0, or 8 and the floor, or 9 and the
+/// horizon (GC threshold). It takes no memory.
 #[unsafe(no_mangle)]
 pub extern "C" fn hlc_check_vacuum(alloc: Global, store: &mut Store, at: u64, word: &mut u64) -> u32
     ensures answer { OnStore store.old.room.value store.new.room.value
-        ((result ≡ 100) × (word.new ≡ 0)) (λ old new. (past : List Step) → StandsFor old past
-        → TellsVacuumChecked old at past result word.new) }
+        ((result ≡ 100) × (word.new ≡ 0)) (λ old new. (past : List Step) → Represents old past
+        → ReturnsVacuumChecked old at past result word.new) }
     ensures same { store.new.room.value ≡ store.old.room.value }
 {
     *word = 0;
@@ -86,9 +86,9 @@ pub extern "C" fn hlc_check_vacuum(alloc: Global, store: &mut Store, at: u64, wo
     )
 }
 
-/// Drops the rows at or below a stamp that no reader needs: 0, the stamp, how many rows at or below
-/// it were kept, what they cost in bytes, and how many were dropped; or 8 and the floor, 9 and the
-/// horizon, or 15. Rows above the stamp stay.
+/// Drops the rows at or below a stamp that no reader needs. Returns 0, the stamp, how many rows at or below it were
+/// kept, what they cost in bytes, and how many were dropped; or 8 and the floor, 9 and the horizon, or 15. Rows above
+/// the stamp stay.
 #[unsafe(no_mangle)]
 pub extern "C" fn hlc_vacuum_to(
     alloc: Global,
@@ -100,11 +100,11 @@ pub extern "C" fn hlc_vacuum_to(
     dropped: &mut u64,
 ) -> u32
     ensures answer { OnStore store.old.room.value store.new.room.value
-        ((result ≡ 100) × (word.new ≡ 0)) (λ old new. (past : List Step) → StandsFor old past
-        → TellsVacuumedTo old new at past result word.new kept.new bytes.new dropped.new) }
+        ((result ≡ 100) × (word.new ≡ 0)) (λ old new. (past : List Step) → Represents old past
+        → ReturnsVacuumedTo old new at past result word.new kept.new bytes.new dropped.new) }
     ensures nothing { result ≢ 0 → (kept.new ≡ 0) × (bytes.new ≡ 0) × (dropped.new ≡ 0) }
     ensures same { result ≢ 0 → store.new.room.value ≡ store.old.room.value }
-    ensures nodes { nodes_held store.new.room.value ≡ nodes_held store.old.room.value }
+    ensures nodes { nodes_in_handle store.new.room.value ≡ nodes_in_handle store.old.room.value }
 {
     *word = 0;
     *kept = 0;
@@ -118,10 +118,9 @@ pub extern "C" fn hlc_vacuum_to(
     )
 }
 
-/// The same, with the certificate of the rows that are left up to the stamp: 0, how many bytes it has
-/// and, where they fit, the bytes; or a refusal and its word; or 15, where the vacuum may have taken
-/// place all the same. Where they do not fit, a further call to the same stamp certifies a further
-/// vacuum, which finds nothing to drop.
+/// Does the same, with the certificate of the rows that are left up to the stamp. Returns 0, its length in bytes and,
+/// where they fit, the bytes; or a refusal and its word; or 15, where the vacuum may have taken place all the same.
+/// Where they do not fit, a further call to the same stamp certifies a further vacuum, which finds nothing to drop.
 #[unsafe(no_mangle)]
 pub extern "C" fn hlc_vacuum_to_certified(
     alloc: Global,
@@ -132,12 +131,12 @@ pub extern "C" fn hlc_vacuum_to_certified(
     word: &mut u64,
 ) -> u32
     ensures answer { OnStore store.old.room.value store.new.room.value
-        ((result ≡ 100) × (word.new ≡ 0)) (λ old new. (past : List Step) → StandsFor old past
+        ((result ≡ 100) × (word.new ≡ 0)) (λ old new. (past : List Step) → Represents old past
         → IsCertifiedTo old new at past result word.new len.new out.old out.new) }
     ensures nothing { result ≢ 0 → (len.new ≡ 0) × (out.new ≡ out.old) }
     ensures same { result ≢ 0 → result ≢ 15
         → store.new.room.value ≡ store.old.room.value }
-    ensures nodes { nodes_held store.new.room.value ≡ nodes_held store.old.room.value }
+    ensures nodes { nodes_in_handle store.new.room.value ≡ nodes_in_handle store.old.room.value }
 {
     *len = 0;
     *word = 0;

@@ -1,6 +1,6 @@
--- Each step keeps the rule of the board: a step gives one seat a new view, and no word falls. So what other seats saw
--- stays at or below its word; the seat that raised holds the one word that changed; and what a look saw is the word
--- itself. A cut makes two seats of one, which hold no number together.
+-- Each step preserves the rule of the board: a step changes the view of one seat, and no word falls. So what other
+-- seats saw stays at or below its word; the seat that raised owns the one word that changed; and what a load saw is the
+-- word itself. A split makes two seats of one, which own no number together.
 use Rattle.std.proofs.Common.{◌≡◌, ◌≢◌, ◌⊎◌, ℕ, zero, suc, ◌<◌, ◌≤◌, List, [], ◌∷◌, ◌++◌, length, set, get_or, take}
 use Rattle.std.proofs.Common.{replicate}
 use Rattle.std.proofs.Common.{inl, inr, sym, refl, ap, ◌∙◌, subst, ⊎_elim, arith}
@@ -14,11 +14,11 @@ use lib.ListN.{get_elem?}
 use Rattle.atomic_table.specs.Table.{State, Step, step, keeps, Me, Allows, Splits, opening}
 use Rattle.atomic_table.proofs.Lists.{at_set}
 use Rattle.hlc_floor.specs.declared.rule.Place.{Place}
-use Rattle.hlc_floor.specs.Board.{Stands, IsSeat, IsFresh, uncut, feeder_place, pass_place, without_first, looked}
+use Rattle.hlc_floor.specs.Board.{Owns, IsSeat, IsFresh, uncut, feeder_place, pass_place, without_first, looked}
 use Rattle.hlc_floor.specs.Board.{Raises, Looks}
 use mathlib.Core.Option.{none}
 
--- where a view of a list stands to which one was added
+-- the position of a view in a list to which one was added
 at_snoc_where : (l : List Place) (a b : Place) (j : ℕ) → get_elem? (l ++ a ∷ []) j ≡ some b
     → (get_elem? l j ≡ some b) ⊎ ((j ≡ length l) × (a ≡ b))
 at_snoc_where [] a b zero e = inr (refl, some-injective a b e)
@@ -30,14 +30,14 @@ at_snoc_where (x ∷ xs) a b (suc j) e =
     (λ (t : (j ≡ length xs) × (a ≡ b)). inr (ap suc t.0, t.1))
     (at_snoc_where xs a b j e)
 
--- x has no more than v: it holds no other number, raised the same, and saw no more
+-- x has no more than v: it owns no other number, raised the same, and saw no more
 record Within (v x : Place) : Type 0 where
-  stands : (i : ℕ) → Stands x i → Stands v i
-  raised : (i : ℕ) → Stands x i → x.raised ≡ v.raised
+  represents : (i : ℕ) → Owns x i → Owns v i
+  raised : (i : ℕ) → Owns x i → x.raised ≡ v.raised
   seen : (k : ℕ) → slice_index x.seen k ≤ slice_index v.seen k
 
 within-all : (v : Place) → Within v v
-within-all v = record { stands = λ i m. m; raised = λ i m. refl; seen = λ k. omega arith }
+within-all v = record { represents = λ i m. m; raised = λ i m. refl; seen = λ k. omega arith }
 
 -- what is seen of one word is the word
 set_le : (xs ws : List ℕ) (i n : ℕ) → n ≡ get_or ws i 0 → ((k : ℕ) → get_or xs k 0 ≤ get_or ws k 0) → (k : ℕ)
@@ -65,20 +65,20 @@ module _ {S : Type 0} where
   -- one seat has a new view, and the words rose
   moves : (nodes : ℕ) (s : State S Place) (id : ℕ) (v w : Place) (ws : List ℕ)
       (homes : List (mathlib.Core.Option.Option S))
-      → IsFresh nodes s → IsSeat s id v → length ws ≡ nodes → ((i : ℕ) → Stands w i → Stands v i)
-      → ((i : ℕ) → Stands w i → slice_index ws i ≡ w.raised)
-      → ((i : ℕ) → ¬ Stands v i → slice_index ws i ≡ slice_index s.words i)
+      → IsFresh nodes s → IsSeat s id v → length ws ≡ nodes → ((i : ℕ) → Owns w i → Owns v i)
+      → ((i : ℕ) → Owns w i → slice_index ws i ≡ w.raised)
+      → ((i : ℕ) → ¬ Owns v i → slice_index ws i ≡ slice_index s.words i)
       → ((k : ℕ) → slice_index s.words k ≤ slice_index ws k)
       → ((k : ℕ) → slice_index w.seen k ≤ slice_index ws k)
       → IsFresh nodes record { words = ws; homes = homes; views = set s.views id w }
   moves nodes s id v w ws homes h at len fewer own others up sees =
       let was : (a : ℕ) (x : Place) → get_elem? (set s.views id w) a ≡ some x
-      → (y : Place) × IsSeat s a y × ((i : ℕ) → Stands x i → Stands y i) =
+      → (y : Place) × IsSeat s a y × ((i : ℕ) → Owns x i → Owns y i) =
       λ a x e. ⊎_elim
       (λ (t : (a ≡ id) × (w ≡ x)). (
         v,
         subst (λ (j : ℕ). get_elem? s.views j ≡ some v) (sym t.0) at,
-        λ i m. fewer i (subst (λ (y : Place). Stands y i) (sym t.1) m),
+        λ i m. fewer i (subst (λ (y : Place). Owns y i) (sym t.1) m),
       ))
       (λ (t : (a ≢ id) × (get_elem? s.views a ≡ some x)). (x, t.1, λ i m. m))
       (at_set s.views id a w x e) in
@@ -89,10 +89,10 @@ module _ {S : Type 0} where
             let q' = was b y q in
             h.one_seat a b i p'.0 q'.0 p'.1 q'.1 (p'.2 i m) (q'.2 i n);
         raised = λ a i x e m. ⊎_elim
-            (λ (t : (a ≡ id) × (w ≡ x)). own i (subst (λ (y : Place). Stands y i) (sym t.1) m)
+            (λ (t : (a ≡ id) × (w ≡ x)). own i (subst (λ (y : Place). Owns y i) (sym t.1) m)
             ∙ ap (λ (y : Place). y.raised) t.1)
             (λ (t : (a ≢ id) × (get_elem? s.views a ≡ some x)).
-            others i (λ (n : Stands v i). t.0 (h.one_seat a id i x v t.1 at m n)) ∙ h.raised a i x t.1 m)
+            others i (λ (n : Owns v i). t.0 (h.one_seat a id i x v t.1 at m n)) ∙ h.raised a i x t.1 m)
             (at_set s.views id a w x e);
         seen = λ a k x e. ⊎_elim
             (λ (t : (a ≡ id) × (w ≡ x)). subst (λ (y : Place). slice_index y.seen k ≤ slice_index ws k) t.1 (sees k))
@@ -146,8 +146,8 @@ module _ {S : Type 0} where
         (refl, h.seen id k v at),
       )
 
-  -- a seat's view is cut in two, which hold no number together
-  cut : (nodes id : ℕ) (v l r : Place) → Within v l → Within v r → ((i : ℕ) → Stands l i → ¬ Stands r i)
+  -- a seat's view is split into two, which own no number together
+  cut : (nodes id : ℕ) (v l r : Place) → Within v l → Within v r → ((i : ℕ) → Owns l i → ¬ Owns r i)
       → Splits (IsFresh {S = S} nodes) id v l r
   cut nodes id v l r left right apart s h at =
       let vs : List Place = set s.views id l in
@@ -160,12 +160,12 @@ module _ {S : Type 0} where
       ))
       (λ (t : (a ≢ id) × (get_elem? s.views a ≡ some x)). (x, t.1, within-all x))
       (at_set s.views id a l x e) in
-      let not_right : (a i : ℕ) (x : Place) → get_elem? vs a ≡ some x → Stands x i → ¬ Stands r i =
+      let not_right : (a i : ℕ) (x : Place) → get_elem? vs a ≡ some x → Owns x i → ¬ Owns r i =
       λ a i x e m n. ⊎_elim
-      (λ (t : (a ≡ id) × (l ≡ x)). apart i (subst (λ (y : Place). Stands y i) (sym t.1) m) n)
-      (λ (t : (a ≢ id) × (get_elem? s.views a ≡ some x)). t.0 (h.one_seat a id i x v t.1 at m (right.stands i n)))
+      (λ (t : (a ≡ id) × (l ≡ x)). apart i (subst (λ (y : Place). Owns y i) (sym t.1) m) n)
+      (λ (t : (a ≢ id) × (get_elem? s.views a ≡ some x)). t.0 (h.one_seat a id i x v t.1 at m (right.represents i n)))
       (at_set s.views id a l x e) in
-      -- the seat of which a view is a part
+      -- the seat that a view is a part of
       let from : (a : ℕ) (x : Place) → get_elem? (vs ++ r ∷ []) a ≡ some x
       → (b : ℕ) × (y : Place) × IsSeat s b y × Within y x =
       λ a x e. ⊎_elim
@@ -179,51 +179,51 @@ module _ {S : Type 0} where
             (λ (u : get_elem? vs b ≡ some y).
             let t' = before a x t in
             let u' = before b y u in
-            h.one_seat a b i t'.0 u'.0 t'.1 u'.1 (t'.2.stands i m) (u'.2.stands i n))
+            h.one_seat a b i t'.0 u'.0 t'.1 u'.1 (t'.2.represents i m) (u'.2.represents i n))
             (λ (u : (b ≡ length vs) × (r ≡ y)).
-            absurd (not_right a i x t m (subst (λ (z : Place). Stands z i) (sym u.1) n)))
+            absurd (not_right a i x t m (subst (λ (z : Place). Owns z i) (sym u.1) n)))
             (at_snoc_where vs r y b q))
             (λ (t : (a ≡ length vs) × (r ≡ x)). ⊎_elim
             (λ (u : get_elem? vs b ≡ some y).
-            absurd (not_right b i y u n (subst (λ (z : Place). Stands z i) (sym t.1) m)))
+            absurd (not_right b i y u n (subst (λ (z : Place). Owns z i) (sym t.1) m)))
             (λ (u : (b ≡ length vs) × (r ≡ y)). t.0 ∙ sym u.0)
             (at_snoc_where vs r y b q))
             (at_snoc_where vs r x a p);
-        raised = λ a i x e m. let o = from a x e in h.raised o.0 i o.1 o.2 (o.3.stands i m) ∙ sym (o.3.raised i m);
+        raised = λ a i x e m. let o = from a x e in h.raised o.0 i o.1 o.2 (o.3.represents i m) ∙ sym (o.3.raised i m);
         seen = λ a k x e. let o = from a x e in let below = h.seen o.0 k o.1 o.2 in
             let less = o.3.seen k in omega arith;
       }
 
-  -- the least number is cut off for a feeder
+  -- the least number is split off for a feeder
   pub cuts_feeder : (nodes id : ℕ) (v : Place) → v.from < v.to
       → Splits (IsFresh {S = S} nodes) id v (without_first v) (feeder_place v.from v.raised)
   cuts_feeder nodes id v some_left =
       cut nodes id v (without_first v) (feeder_place v.from v.raised)
       record {
-        stands = λ i m. let a = m.0 in let b = m.1 in (omega arith, omega arith);
+        represents = λ i m. let a = m.0 in let b = m.1 in (omega arith, omega arith);
         raised = λ i m. refl;
         seen = λ k. omega arith;
       }
       record {
-        stands = λ i m. let a = m.0 in let b = m.1 in (omega arith, omega arith);
+        represents = λ i m. let a = m.0 in let b = m.1 in (omega arith, omega arith);
         raised = λ i m. refl;
         seen = λ k. omega arith;
       }
       (λ i m n. let a = m.0 in let b = n.1 in omega arith)
 
-  -- a pass is cut off
+  -- a pass is split off
   pub cuts_pass : (nodes id : ℕ) (v : Place) → Splits (IsFresh {S = S} nodes) id v v (pass_place v.seen v.found)
   cuts_pass nodes id v =
       cut nodes id v v (pass_place v.seen v.found)
       (within-all v)
       record {
-        stands = λ i m. absurd (let b = m.1 in omega arith);
+        represents = λ i m. absurd (let b = m.1 in omega arith);
         raised = λ i m. absurd (let b = m.1 in omega arith);
         seen = λ k. omega arith;
       }
       (λ i m n. let b = n.1 in omega arith)
 
-  -- the board begins with one seat, which holds all numbers, and words of 0
+  -- the board begins with one seat, which owns all numbers, and words of 0
   pub begins : (nodes : ℕ) (words : List ℕ) → length words ≡ nodes → ((k : ℕ) → get_or words k 0 ≡ 0)
       → IsFresh nodes (opening {S = S} words [] (uncut nodes 0))
   begins nodes words len zeros =
@@ -241,7 +241,7 @@ module _ {S : Type 0} where
       only v zero x e = (refl, some-injective v x e)
       only v (suc a) x e = absurd (some-ne-none x (sym e))
 
-  -- the steps, at a seat that is known
+  -- the steps, at a known seat
   pub raises_as : (nodes key slots id i old n : ℕ) (me : Me S Place) (st : Step S)
       → me ≡ (feeder_place i old, []) → key ≡ nodes
       → old < n → i < nodes → Allows (IsFresh key) slots id me i (λ _. n) (λ _. Raises st me n)

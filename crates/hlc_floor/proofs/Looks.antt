@@ -1,14 +1,14 @@
--- A look at one node after another: the least so far is that of the nodes looked at, since each look finds one value
--- more, and the values seen before stay.
+-- One node after another is loaded: the least so far is that of the nodes loaded, since each load finds one more value,
+-- and the values seen before do not change.
 use Rattle.std.proofs.Common.{◌≡◌, ◌≢◌, ℕ, ◌+◌, ◌<◌, ◌≤◌, [], ◌∷◌, ◌++◌, min, sym, ap, ◌∙◌, subst, arith}
 use Rattle.std.specs.Prelude.{slice_index}
 use mathlib.Core.Logic.{dite}
 use native.Mathlib.Decide.{ℕ_discrete, dec_le}
 use Rattle.hlc_floor.specs.Board.{found_at}
-use Rattle.hlc_floor.specs.Views.{Sight, LooksAt}
+use Rattle.hlc_floor.specs.Views.{FloorPassView, LooksAt}
 
--- the first `node` nodes were looked at once, and least is the least of what was seen
-pub record HasLooked (first now : Sight) (node least : ℕ) : Type 0 where
+-- the first `node` nodes were loaded once, and least is the least of what was seen
+pub record HasLooked (first now : FloorPassView) (node least : ℕ) : Type 0 where
   pub board : now.board ≡ first.board
   pub among : (k : ℕ) × (k < node) × (slice_index now.seen k ≡ least)
   pub below : (k : ℕ) → k < node → least ≤ slice_index now.seen k
@@ -16,7 +16,7 @@ pub record HasLooked (first now : Sight) (node least : ℕ) : Type 0 where
   pub waiting : (k : ℕ) → node ≤ k → found_at now.found k ≡ found_at first.found k
   pub rises : (k : ℕ) → slice_index first.seen k ≤ slice_index now.seen k
 
-pub looks_next : (first before after : Sight) (node least n : ℕ) → HasLooked first before node least
+pub looks_next : (first before after : FloorPassView) (node least n : ℕ) → HasLooked first before node least
     → LooksAt node n before after
     → HasLooked first after (node + 1) (min least n)
 looks_next first before after node least n h l =

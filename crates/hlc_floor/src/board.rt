@@ -1,7 +1,5 @@
-//! A board, with one word for each node. No call on a board that is made waits or takes memory.
+//! A board, with one word for each node. After it is made, no call on it waits or needs memory.
 ghost use Rattle.std.specs.Prelude.{◌≡◌, ℕ, ◌<◌, ◌≤◌, ◌↔◌, [], ◌∷◌, ◌++◌, slice_index, replicate, IfOk, IfErr};
-ghost use Rattle.std.proofs.Common.{rules};
-ghost use Rattle.std.proofs.lemmas.Grind.{common_steps};
 ghost use Rattle.hlc_heads.specs.declared.heads.TheConstants.{MOST_NODES};
 ghost use Rattle.hlc_floor.specs.Views.{post, posts, word_of, blind, LooksAt, IsLeast};
 ghost use Rattle.hlc_floor.specs.Board.{uncut, found_at};
@@ -10,19 +8,18 @@ use crate::rule::{CutFeeder, CutPass, Fresh, Look, Place, Raise};
 use atomic_table::{Seat, Table};
 use hlc_clock::Stamp;
 use hlc_heads::{Accepted, MOST_NODES};
-use hlc_values::{Exact, NoMemory};
+use hlc_values::NoMemory;
 use std::alloc::Global;
 use std::error::Error;
 use std::fmt;
 use std::marker::Model;
 
-/// As many words as there may be nodes.
+/// The maximum number of words.
 const WORDS: usize = MOST_NODES as usize;
 
-/// A board: for each node of the start one word, the stamp of an item of that node that was accepted,
-/// 0.0 at first. A node that retired holds the floor no longer: its word is the greatest one. A node
-/// that joined has no word. Threads share a board. Contracts see which board it is; `words` is the
-/// number of its nodes.
+/// A board: for each node at the start one word, the stamp of an accepted item of that node, 0.0 at first. A node that
+/// has retired no longer holds the floor back: its word is the greatest one. A node that joined has no word. Threads
+/// share a board. In contracts it is the identity of the board; `words` is the number of its nodes.
 ///
 /// Its words may lag behind the store: a feeder raises a word after the store accepted the item.
 #[derive(Drop)]
@@ -47,8 +44,8 @@ impl Model for Board {
         × (board.nodes ≤ MOST_NODES) };
 }
 
-/// Raises the word of one node; there is one for each node of a board. Contracts see its board, its
-/// node, and the word that it raised last.
+/// Raises the word of one node; there is one feeder for each node of a board. In contracts it is
+/// its board, its node, and the word that it raised last.
 #[derive(Drop)]
 pub struct Feeder {
     seat: Seat<(), Place>,
@@ -58,10 +55,10 @@ pub struct Feeder {
 
 impl Model for Feeder {
     ghost use Rattle.std.specs.Prelude.{◌≡◌, ◌<◌, []};
-    ghost use Rattle.hlc_floor.specs.Views.{Post, post};
+    ghost use Rattle.hlc_floor.specs.Views.{FeederView, post};
     ghost use Rattle.hlc_floor.specs.Board.{feeder_place};
 
-    ghost Value = { Post };
+    ghost Value = { FeederView };
 
     ghost view = { λ feeder. post feeder.seat.table_id feeder.node feeder.raised };
 
@@ -69,8 +66,8 @@ impl Model for Feeder {
         × (feeder.node < feeder.seat.table_id.words) };
 }
 
-/// Looks at the words of a board. Contracts see its board, and for each node the stamp that it saw
-/// last and what its looks found, the first of them first.
+/// Loads the words of a board. In contracts it is its board, and for each node the stamp that it
+/// saw last and the stamps that its loads found, the first of them first.
 #[derive(Drop)]
 pub struct FloorPass {
     seat: Seat<(), Place>,
@@ -78,10 +75,10 @@ pub struct FloorPass {
 
 impl Model for FloorPass {
     ghost use Rattle.std.specs.Prelude.{◌≡◌, [], length};
-    ghost use Rattle.hlc_floor.specs.Views.{Sight, sight};
+    ghost use Rattle.hlc_floor.specs.Views.{FloorPassView, sight};
     ghost use Rattle.hlc_floor.specs.Board.{pass_place};
 
-    ghost Value = { Sight };
+    ghost Value = { FloorPassView };
 
     ghost view = { λ pass. sight pass.seat.table_id pass.seat.me.0.seen pass.seat.me.0.found };
 
@@ -94,16 +91,10 @@ impl Model for FloorPass {
 /// Why no board is made.
 #[derive(Clone, Copy, PartialEq, Eq, Debug)]
 pub enum BoardFault {
-    /// The count of nodes is not 1 to 64.
+    /// The number of nodes is not 1 to 64.
     NoNode,
-    /// A growth was refused.
+    /// Out of memory.
     NoMemory,
-}
-
-impl Exact for BoardFault {
-    ghost equal = { Prim.search (rules, common_steps) };
-
-    ghost copied = { Prim.search rules };
 }
 
 impl fmt::Display for BoardFault {
@@ -126,7 +117,7 @@ impl From<NoMemory> for BoardFault {
     ghost use Rattle.std.specs.Prelude.{◌≡◌};
     ghost use Rattle.hlc_floor.specs.declared.board.BoardFault.{BoardFault};
 
-    ghost from_gives = { λ lack fault. fault ≡ BoardFault.NoMemory };
+    ghost from_gives = { λ shortage fault. fault ≡ BoardFault.NoMemory };
 
     fn from(_: NoMemory) -> BoardFault {
         BoardFault::NoMemory
@@ -134,14 +125,14 @@ impl From<NoMemory> for BoardFault {
 }
 
 impl Feeder {
-    /// The node whose word it raises.
+    /// Returns the node whose word it raises.
     pub fn node(&self) -> u16
         ensures { result ≡ self.now.node }
     {
         self.node
     }
 
-    /// The word that it raised last, 0.0 where it raised none.
+    /// Returns the word that it raised last, or 0.0 if it raised none.
     pub fn raised(&self) -> Stamp
         ensures { result ≡ self.now.raised }
     {
@@ -149,7 +140,7 @@ impl Feeder {
     }
 }
 
-/// The word that an accepted item leaves on the board.
+/// Returns the word that the board shows for an accepted item.
 fn word_of(accepted: &Accepted) -> Stamp
     ensures word { result ≡ word_of accepted.now }
     ensures above { accepted.now.stamp ≤ result }
@@ -161,10 +152,10 @@ fn word_of(accepted: &Accepted) -> Stamp
     stamp
 }
 
-/// The table on which a board stands.
+/// The table of a board.
 type BoardTable = Table<(), Place, u64, Fresh, Global>;
 
-/// Cuts a feeder for each node off the first seat, in order of the nodes.
+/// Splits a feeder for each node off the first seat, in order of the nodes.
 fn cut_feeders(
     alloc: Global,
     table: &BoardTable,
@@ -192,7 +183,7 @@ fn cut_feeders(
     Ok(feeders)
 }
 
-/// Cuts so many passes off the first seat, none of which has looked yet.
+/// Splits this many passes off the first seat; none of them has seen a word yet.
 fn cut_passes(
     alloc: Global,
     table: &BoardTable,
@@ -216,10 +207,10 @@ fn cut_passes(
 }
 
 impl Board {
-    /// A board of so many nodes, whose words are 0.0; a feeder for each node, in order; and so many
-    /// passes, at most 64, which have looked at nothing.
+    /// Makes a board of this many nodes, whose words are 0.0; a feeder for each node, in order; and
+    /// this many passes, at most 64, which have seen no word.
     ///
-    /// Refused, in this order: not 1 to 64 nodes; want of memory.
+    /// Refused, in this order: not 1 to 64 nodes; out of memory.
     pub fn new(
         alloc: Global,
         nodes: u16,
@@ -243,9 +234,9 @@ impl Board {
         Ok((Board { table, nodes }, feeders, all))
     }
 
-    /// Stores the stamp of an item that was accepted in the word of the feeder's node, or the greatest
-    /// word where the item was the node's last one. The feeder is of this board, the item is of the
-    /// feeder's node, and its stamp is above the word raised last. It costs one store.
+    /// Stores the stamp of an accepted item in the word of the feeder's node, or the greatest word if the item was the
+    /// node's last one. The feeder is of this board, the item is of the feeder's node, and its stamp is above the word
+    /// raised last. It costs one store.
     pub fn raise(&self, feeder: &mut Feeder, accepted: &Accepted)
         requires board { feeder.old.board ≡ self.now }
         requires node { accepted.now.node ≡ feeder.old.node }
@@ -259,8 +250,8 @@ impl Board {
         feeder.raised = word;
     }
 
-    /// Looks at the word of one node, which is below the count of nodes. The pass is of this board. It
-    /// costs one load. The answer is at or above what the pass saw there before.
+    /// Returns the word of one node, which is below the number of nodes. The pass is of this board. It costs one load.
+    /// The result is at or above what the pass saw there before.
     pub fn heard(&self, pass: &mut FloorPass, node: u16) -> Stamp
         requires board { pass.old.board ≡ self.now }
         requires node { node < self.now.words }
@@ -273,12 +264,12 @@ impl Board {
         )
     }
 
-    /// Looks once at the word of each node, and answers the least of the stamps seen. The pass is of
-    /// this board. It costs one load for each node. What was seen of a node never falls.
+    /// Loads the word of each node once and returns the least of the stamps seen. The pass is of this board. It costs
+    /// one load for each node. The stamp that a pass sees for a node never falls.
     ///
-    /// The words are loaded one after another, not at one moment. Each is the stamp of an item that
-    /// was accepted, or 0.0, or the greatest word where the node retired. So no item of a node of the
-    /// start that is accepted later lies at or below the answer; one of a node that joined may.
+    /// The words are loaded one after another, not at one moment. Each is the stamp of an accepted item, or 0.0, or the
+    /// greatest word if the node has retired. So no item of a node at the start that is accepted later has a stamp at
+    /// or below the result; an item of a node that joined may.
     pub fn floor(&self, pass: &mut FloorPass) -> Stamp
         requires { pass.old.board ≡ self.now }
         ensures board { pass.new.board ≡ pass.old.board }

@@ -1,7 +1,8 @@
-//! A board on which threads see, with no lock, how far each node's link has come.
+//! A board on which threads see the head of each node's link without a lock.
 #![tactic(auto)]
 
 mod board;
+mod exact;
 mod laws;
 mod rule;
 

@@ -2,9 +2,9 @@
 use atomic_table::{Play, Split, TableRule};
 use std::collections::LinkedList;
 
-/// What a seat of the board holds. It stands in the rule alone: no value of it is made.
+/// The state of a seat of the board. It appears in the rule alone: no value of it is made.
 pub struct Place {
-    /// It holds the numbers from this one ..
+    /// It owns the numbers from this one ..
     pub from: u64,
     /// .. and below this one.
     pub to: u64,
@@ -12,11 +12,11 @@ pub struct Place {
     pub raised: u64,
     /// For each node the stamp that it saw last.
     pub seen: LinkedList<u64>,
-    /// For each node what its looks found there, the first of them first.
+    /// For each node the stamps that its loads found there, the first of them first.
     pub found: LinkedList<LinkedList<u64>>,
 }
 
-/// The rule of a board: it holds between any two steps.
+/// The rule of a board: it is true between any two steps.
 pub struct Fresh;
 
 impl TableRule<(), Place, u64> for Fresh {
@@ -45,7 +45,7 @@ impl Play<(), Place> for Look {
     ghost then = { Looks };
 }
 
-/// The least number that a seat holds is cut off, for a feeder.
+/// The least number that a seat owns is split off, for a feeder.
 pub struct CutFeeder;
 
 impl Split<Place> for CutFeeder {
@@ -56,7 +56,7 @@ impl Split<Place> for CutFeeder {
     ghost right = { λ place. feeder_place place.from place.raised };
 }
 
-/// A pass is cut off, which holds no number.
+/// A pass is split off, which owns no number.
 pub struct CutPass;
 
 impl Split<Place> for CutPass {

@@ -1,4 +1,4 @@
--- A block is what is left of the front, and then what follows the front.
+-- A block is the rest of the front, and then the bytes after the front.
 use Rattle.std.proofs.Common.{◌≡◌, ℕ, ◌-◌, ◌≤◌, List, [], ◌++◌, length, take, drop, Option, Some, None, true, false}
 use Rattle.std.proofs.Common.{Result, Ok, Err, refl, sym, ap, subst, ◌∙◌, arith, inl, inr}
 use Rattle.std.specs.Option.{is_some}
@@ -14,7 +14,7 @@ use Rattle.hlc_frame.specs.Reading.{HasRead, HasReadRest, GoesOn, body_after, bo
 use Rattle.hlc_frame.proofs.ListLemmas.{take_again, drop_again}
 use Rattle.hlc_frame.proofs.FrontLemmas.{front_ok, front_cut, with_rest}
 
--- before a tail of the block the reader is as far as the front; `after` is what will have come after the front
+-- before a tail of the block the reader is as far as the front; `after` is all that will have come after the front
 abbrev pub Ready : Result (Front × List ℕ) WireFault → Option RestReader → List ℕ → List ℕ → List ℕ → List ℕ → Type 0
 Ready (Ok found) (Some rest) front so_far tail after =
     (bytes : List ℕ) × HasReadRest rest front found.0.len bytes × (bytes ++ tail ≡ after)
@@ -36,7 +36,7 @@ pub length_cut : (fed : List ℕ) → promised (front_at (take 20 fed)) ≡ leng
 unfolding length_so_far
 length_cut fed = promised_rest (front_at (take 20 fed)) (drop 20 fed) ∙ sym (ap promised (front_cut fed))
 
--- ---- where there was no front
+-- ---- if there was no front
 
 begun : (read : Result (Front × List ℕ) WireFault) (rest : Option RestReader) (front so_far tail after : List ℕ)
     → GoesOn read rest front [] → so_far ≡ [] → ((found : Front × List ℕ) → read ≡ Ok found → tail ≡ after)
@@ -58,16 +58,16 @@ is_ok_or_err : (read : Result (Front × List ℕ) WireFault) (found : Front × L
     → read ≡ Ok found → read ≡ Err fault → ⊥
 is_ok_or_err read found fault a b = cc
 
-pub first_block : (old : FrameReader) (fed block tail held : List ℕ) (rest : Option RestReader) → HasRead old fed
-    → is_some old.rest ≡ false → held ≡ take 20 (old.front.items ++ block)
+pub first_block : (old : FrameReader) (fed block tail buffer : List ℕ) (rest : Option RestReader) → HasRead old fed
+    → is_some old.rest ≡ false → buffer ≡ take 20 (old.front.items ++ block)
     → tail ≡ drop (20 - length old.front.items) block
-    → GoesOn (front_at held) rest held []
+    → GoesOn (front_at buffer) rest buffer []
     → Ready (front_at (take 20 (fed ++ block))) rest (take 20 (fed ++ block)) (body_so_far fed) tail (drop 20
     (fed ++ block))
-first_block old fed block tail held rest has none held_is tail_is goes =
+first_block old fed block tail buffer rest has none buffer_is tail_is goes =
     let was = no_front (front_at (take 20 fed)) old.rest (take 20 fed) (drop 20 fed) has.rest none in
-    let whole : held ≡ take 20 (fed ++ block) =
-    held_is ∙ ap (λ (l : List ℕ). take 20 (l ++ block)) has.front ∙ take_again 20 fed block in
+    let whole : buffer ≡ take 20 (fed ++ block) =
+    buffer_is ∙ ap (λ (l : List ℕ). take 20 (l ++ block)) has.front ∙ take_again 20 fed block in
     let nothing : body_so_far fed ≡ [] = body_cut fed
     ∙ ap (λ (r : Result (Front × List ℕ) WireFault). body_after (r >>= with_rest (drop 20 fed))) was.1 in
     let short : (found : Front × List ℕ) → front_at (take 20 (fed ++ block)) ≡ Ok found → length fed ≤ 20 = λ found e.
@@ -88,7 +88,7 @@ first_block old fed block tail held rest has none held_is tail_is goes =
     (fed ++ block))
     (subst (λ (l : List ℕ). GoesOn (front_at l) rest l []) whole goes) nothing rest_is
 
--- ---- where there was a front
+-- ---- if there was a front
 
 going : (read : Result (Front × List ℕ) WireFault) (rest : Option RestReader) (front bytes so_far tail after : List ℕ)
     → GoesOn read rest front bytes → ((found : Front × List ℕ) → read ≡ Ok found → bytes ++ tail ≡ after)
@@ -150,7 +150,7 @@ some_body (Ok found) rest front so_far tail after got ready feeds =
     ∙ ap (λ (l : List ℕ). take found.0.len l) ready.2
 some_body (Err fault) rest front so_far tail after got ready feeds = absurd ready
 
--- what the rest has read, where there is one
+-- what the rest has read, if there is one
 pub goes_some : (read : Result (Front × List ℕ) WireFault) (rest : Option RestReader) (front bytes : List ℕ)
     (found : Front × List ℕ) (reader : RestReader) → GoesOn read rest front bytes → read ≡ Ok found → rest ≡ Some reader
     → HasReadRest reader front found.0.len bytes

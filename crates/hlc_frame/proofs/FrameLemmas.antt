@@ -1,4 +1,5 @@
--- A frame that is read is the frame that was written, and what was written is read again, in one block or in many.
+-- A frame that is read is the frame that was written, and a frame that was written is read again, in one block or in
+-- many.
 use Rattle.std.proofs.Common.{◌≡◌, ℕ, ◌<◌, Bool, true, false, cond, eqb, List, ◌++◌, length, take, drop}
 use Rattle.std.proofs.Common.{Result, Ok, Err, refl, sym, ap, subst, ◌∙◌, append_assoc}
 use Rattle.std.specs.Prelude.{IfOk}
@@ -92,7 +93,7 @@ frame_again frame rest fits =
 pub frame_reader : IsReader frame_at text_of Fit
 frame_reader = record { takes = frame_takes; again = frame_again }
 
--- what is opened is a frame
+-- an opened frame is a frame
 pub opened_is_frame : (bytes : List ℕ) (word : ℕ) (body : List ℕ) → IsBytes bytes → opened bytes ≡ Ok (word, body)
     → FrameFits word body × (bytes ≡ frame_bytes word body)
 opened_is_frame bytes word body fits e = whole_takes frame_at text_of Fit frame_reader bytes (word, body) fits e
@@ -102,7 +103,7 @@ pub frame_is_opened : (word : ℕ) (body : List ℕ) → FrameFits word body
     → opened (frame_bytes word body) ≡ Ok (word, body)
 frame_is_opened word body fits = whole_again frame_at text_of Fit frame_reader (word, body) fits
 
--- what was returned is a frame
+-- a returned result is a frame
 pub is_found : {X : Type 0} (view : X → ℕ × List ℕ) (r : Result X WireFault) (bytes : List ℕ) → IsBytes bytes
     → Reads view r (opened bytes) → IfOk r (λ x. Fit (view x) × (bytes ≡ text_of (view x)))
 is_found view (Ok x) bytes fits e = whole_takes frame_at text_of Fit frame_reader bytes (view x) fits e
@@ -122,7 +123,7 @@ a_word word = Ok word
 word_is : (m n : ℕ) → a_word m ≡ a_word n → m ≡ n
 word_is m n e = cc
 
--- the body of what is opened is the body of what was fed
+-- the body of an opened frame is the body of what was fed
 pub opened_body : (fed : List ℕ) (word : ℕ) (body : List ℕ) → opened fed ≡ Ok (word, body) → body_so_far fed ≡ body
 unfolding body_so_far
 opened_body fed word body e =
@@ -145,7 +146,7 @@ word_read fed word fits e =
     let body : o.0 ≡ body_so_far fed = sym (opened_body fed word o.0 o.1) in
     subst (λ (l : List ℕ). FrameFits word l × (fed ≡ frame_bytes word l)) body (opened_is_frame fed word o.0 fits o.1)
 
--- a frame that is fed gives its word and its body
+-- a frame that is fed returns its word and its body
 pub frame_read : (word : ℕ) (body : List ℕ) → FrameFits word body
     → (word_of (frame_bytes word body) ≡ Ok word) × (body_so_far (frame_bytes word body) ≡ body)
 frame_read word body fits =
@@ -183,7 +184,7 @@ word_framed : (read : Result (List ℕ × List ℕ) WireFault) (front : Front)
 word_framed (Ok body) front = same_word (eqb (length body.1) 0) front.word body.0
 word_framed (Err fault) front = refl
 
--- the word, from what the front says and what follows it
+-- the word, from the front and the bytes after it
 pub word_found : (fed : List ℕ) (front : Front × List ℕ) → front_at (take 20 fed) ≡ Ok front
     → word_after front.0.word (take 20 fed) front.0.len (drop 20 fed) ≡ word_of fed
 word_found fed front e =

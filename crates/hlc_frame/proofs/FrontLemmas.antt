@@ -1,4 +1,4 @@
--- A front is read from its twenty bytes alone: what follows does not count, and fewer are no front.
+-- A front is read from its twenty bytes alone: the bytes after it do not count, and fewer are no front.
 use Rattle.std.proofs.Common.{◌≡◌, ℕ, ◌<◌, ◌≤◌, Bool, true, false, cond, eqb, ltb, List, [], ◌++◌, length}
 use Rattle.std.proofs.Common.{take, drop, Result, Ok, Err, refl, sym, ap, subst, ◌∙◌, arith, inl, inr}
 use Rattle.std.specs.Int.{Width, w32, w64, byte_len, from_be_bytes, to_be_bytes}
@@ -16,14 +16,14 @@ use Rattle.hlc_frame.specs.declared.front.Front.{Front}
 use Rattle.hlc_frame.specs.Frame.{front_bytes}
 use Rattle.hlc_frame.specs.Opening.{front_at}
 
--- a number, where there are bytes enough
+-- a number, if there are enough bytes
 number_long : (w : Width) (a b : List ℕ) → byte_len w ≤ length a
     → number_at w (a ++ b) ≡ Ok (from_be_bytes w (take (byte_len w) a), drop (byte_len w) a ++ b)
 number_long w a b le =
     let long : ltb (length (a ++ b)) (byte_len w) ≡ false = le-ltb _ _ (omega (arith, length-append a b)) in
     rw (long, take-append-le (byte_len w) a b le, drop-append-le (byte_len w) a b le) refl
 
--- what twenty bytes say, before a rest
+-- the content of twenty bytes, before a rest
 abbrev a_front : ℕ → ℕ → Front
 a_front len word = record { len = len; word = word }
 
@@ -58,7 +58,7 @@ front_long a b le =
     ]
     )
 
--- what a number that was read says of the bytes
+-- what a number that was read implies for the bytes
 number_ok : (w : Width) (bytes : List ℕ) (x : ℕ × List ℕ) → number_at w bytes ≡ Ok x
     → (byte_len w ≤ length bytes) × (drop (byte_len w) bytes ≡ x.1)
 number_ok w bytes x e =
@@ -98,7 +98,7 @@ front_parts bytes found e =
       found_is = ok_is (a_front c.0.0 d.0.0, d.0.1) found d.2;
     }
 
--- where there is a front, there are twenty bytes
+-- if there is a front, there are twenty bytes
 pub front_ok : (bytes : List ℕ) (found : Front × List ℕ) → front_at bytes ≡ Ok found → 20 ≤ length bytes
 front_ok bytes found e =
     let p = front_parts bytes found e in
@@ -123,7 +123,7 @@ none_rest : (read : Result (Front × List ℕ) WireFault) (rest : List ℕ)
 none_rest (Ok found) rest none = absurd (none found refl)
 none_rest (Err fault) rest none = refl
 
--- what is read of some bytes is what is read of the first twenty
+-- reading some bytes is reading their first twenty
 pub front_cut : (fed : List ℕ) → front_at fed ≡ (front_at (take 20 fed) >>= with_rest (drop 20 fed))
 front_cut fed =
     elim (cases_lt (length fed) 20) [
@@ -144,7 +144,7 @@ front_cut fed =
           (sym (ap front_at (sym (append-nil a)) ∙ front_long a [] more))
     ]
 
--- ---- what is read is spelled so
+-- ---- what is read has that encoding
 
 pub record FrontFits (front : Front) : Type 0 where
   pub len_fits : front.len < 18446744073709551616

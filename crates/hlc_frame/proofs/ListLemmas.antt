@@ -1,4 +1,4 @@
--- What is taken and dropped of two lists, one after the other.
+-- Taking and dropping from two lists, one after the other.
 use Rattle.std.proofs.Common.{◌≡◌, ℕ, ◌+◌, ◌-◌, List, [], ◌++◌, length, take, drop, sym, ap, ◌∙◌}
 use Rattle.std.proofs.Common.{arith, inl, inr}
 use Rattle.std.proofs.lemmas.Bool.{cases_lt}
@@ -31,7 +31,7 @@ drop_over n xs ys =
           drop-append-le n xs ys le ∙ ap (λ (m : ℕ). drop n xs ++ drop m ys) none
     ]
 
--- what is taken of what was taken, and of what follows
+-- taking from what was taken, and from what follows
 pub take_again : (n : ℕ) (xs ys : List ℕ) → take n (take n xs ++ ys) ≡ take n (xs ++ ys)
 take_again n xs ys =
     elim (cases_lt n (length xs)) [
@@ -42,7 +42,7 @@ take_again n xs ys =
       | inr le ↦ ap (λ (l : List ℕ). take n (l ++ ys)) (take_all n xs le)
     ]
 
--- what is dropped after what was taken
+-- dropping after what was taken
 pub drop_again : (n : ℕ) (xs ys : List ℕ) → drop n xs ++ drop (n - length (take n xs)) ys ≡ drop n (xs ++ ys)
 drop_again n xs ys =
     let same : n - length (take n xs) ≡ n - length xs = omega (arith, length-take n xs) in

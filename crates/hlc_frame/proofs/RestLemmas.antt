@@ -1,5 +1,5 @@
--- After a block the reader has read the bytes before it and the block. At the end it says what reading all of them
--- says.
+-- After a block the reader has read the bytes before it and the block. At the end its result is that of reading all of
+-- them.
 use Rattle.std.proofs.Common.{◌≡◌, ℕ, ◌-◌, ◌<◌, ◌≤◌, Bool, true, false, cond, eqb, ltb, not, List, ◌++◌, length}
 use Rattle.std.proofs.Common.{take, drop, Result, Ok, Err, refl, sym, ap, subst, ◌∙◌, arith, append_assoc, inl, inr}
 use Rattle.std.specs.Prelude.{bytes_eq}
@@ -44,7 +44,7 @@ more_over false xs ys e =
     let same : length ys ≡ length (xs ++ ys) = omega (arith, none, length-append xs ys) in
     ap (λ (n : ℕ). ltb 0 n) same
 
--- the body that a block brings
+-- the part of the body in a block
 pub fed_body : (old : RestReader) (front : List ℕ) (len : ℕ) (bytes block : List ℕ) → HasReadRest old front len bytes
     → take len bytes ++ take old.left block ≡ take len (bytes ++ block)
 fed_body old front len bytes block has =
@@ -55,7 +55,7 @@ after_body : (old : RestReader) (front : List ℕ) (len : ℕ) (bytes block : Li
 after_body old front len bytes block has =
     ap (λ (n : ℕ). drop len bytes ++ drop n block) has.left ∙ sym (drop_over len bytes block)
 
--- what the reader is after a block
+-- the state of the reader after a block
 pub record Took (old new : RestReader) (block : List ℕ) : Type 0 where
   pub hashed : (text : List ℕ) → Holds256 old.hasher text → Holds256 new.hasher (text ++ take old.left block)
   pub left : new.left ≡ old.left - length (take old.left block)
@@ -91,7 +91,7 @@ fed_rest old new front len bytes block took has =
 
 -- ---- the end
 
--- what is said where all of the digest is there
+-- the result if all of the digest is there
 abbrev pub says : Bool → Bool → ℕ → Result ℕ WireFault
 says same more word = cond same (cond more (Err Trailing) (Ok word)) (Err Damaged)
 

@@ -17,7 +17,7 @@ use Rattle.hlc_frame.specs.Opening.{sealed_at}
 IsBytes-drop : (n : ℕ) (bytes : List ℕ) → IsBytes bytes → IsBytes (drop n bytes)
 IsBytes-drop n bytes h i = rw get_or-drop (h (n + i))
 
--- what bytes that were read say
+-- what bytes that were read imply
 record BytesOk (n : ℕ) (bytes : List ℕ) (x : List ℕ × List ℕ) : Type 0 where
   long : n ≤ length bytes
   front : take n bytes ≡ x.0

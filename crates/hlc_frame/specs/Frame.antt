@@ -1,4 +1,4 @@
--- A frame: a front, a body, and the digest of both. Numbers have the high byte first.
+-- A frame: a front, a body, and the digest of both. Numbers are big-endian.
 use Rattle.std.specs.Prelude.{ℕ, ◌<◌, List, ◌++◌, length}
 use Rattle.std.specs.Int.{w32, w64, to_be_bytes}
 use Rattle.sha2.specs.Sha256.{sha256}
@@ -15,7 +15,7 @@ sealed text = text ++ sha256 text
 abbrev pub frame_bytes : ℕ → List ℕ → List ℕ
 frame_bytes word body = sealed (front_bytes (length body) word ++ body)
 
--- what has a frame: a word and a length that eight bytes hold
+-- what has a frame: a word and a length that fit in eight bytes
 pub record FrameFits (word : ℕ) (body : List ℕ) : Type 0 where
   pub word_fits : word < 18446744073709551616
   pub length_fits : length body < 18446744073709551616

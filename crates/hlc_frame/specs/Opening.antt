@@ -1,4 +1,4 @@
--- Reading a frame from left to right, with the first fault that is met.
+-- Reading a frame from left to right, up to the first fault.
 use Rattle.std.specs.Prelude.{◌≡◌, ℕ, List, ◌++◌, take, Result, Ok, Err, bytes_eq, ◌==◌, if◌then◌else◌}
 use Rattle.std.specs.Int.{w32, w64}
 use Rattle.sha2.specs.Sha256.{sha256}
@@ -7,7 +7,7 @@ use Rattle.hlc_wire.specs.declared.fault.WireFault.TheVariants.{Version, Damaged
 use Rattle.hlc_wire.specs.Reading.{◌>>=◌, number_at, bytes_at, whole}
 use Rattle.hlc_frame.specs.declared.front.Front.{Front}
 
--- what a call returned, seen by view, is what reading gives
+-- the result of a call, seen by view, is the result of the reading
 abbrev pub Reads : {X Y : Type 0} → (X → Y) → Result X WireFault → Result Y WireFault → Type 0
 Reads view (Ok x) read = read ≡ Ok (view x)
 Reads view (Err fault) read = read ≡ Err fault
@@ -21,7 +21,7 @@ front_at bytes = do
   word ← number_at w64 len.1
   Ok (record { len = len.0; word = word.0 }, word.1)
 
--- a body of so many bytes and its digest, which follow this front; and the bytes after the digest
+-- a body of this length and its digest, which follow this front; and the bytes after the digest
 unfoldable pub sealed_at : List ℕ → ℕ → List ℕ → Result (List ℕ × List ℕ) WireFault
 sealed_at front len bytes = do
   body ← bytes_at len bytes

@@ -9,12 +9,12 @@ use Rattle.hlc_frame.specs.declared.rest.RestReader.{RestReader}
 use Rattle.hlc_frame.specs.declared.reader.FrameReader.{FrameReader}
 use Rattle.hlc_frame.specs.Opening.{front_at, sealed_at, opened}
 
--- as much of the body as follows a front: nothing where there is no front
+-- the part of the body that follows a front: nothing if there is no front
 abbrev pub body_after : Result (Front × List ℕ) WireFault → List ℕ
 body_after (Ok front) = take front.0.len front.1
 body_after (Err fault) = []
 
--- as much of the body as these bytes hold: nothing while the front is incomplete, or of another version
+-- the part of the body in these bytes: nothing while the front is incomplete, or of another version
 unfoldable pub body_so_far : List ℕ → List ℕ
 body_so_far fed = body_after (front_at fed)
 
@@ -23,7 +23,7 @@ abbrev pub promised : Result (Front × List ℕ) WireFault → Option ℕ
 promised (Ok front) = Some front.0.len
 promised (Err fault) = None
 
--- the length of the body, once these bytes hold a front
+-- the length of the body, once these bytes contain a front
 unfoldable pub length_so_far : List ℕ → Option ℕ
 length_so_far fed = promised (front_at fed)
 
@@ -31,18 +31,18 @@ length_so_far fed = promised (front_at fed)
 abbrev pub word_of : List ℕ → Result ℕ WireFault
 word_of fed = opened fed >>= λ frame. Ok frame.0
 
--- the word of the frame, where these bytes after its front are so many of body, their digest, and nothing more
+-- the word of the frame, if these bytes after its front are a body of this length, its digest, and nothing more
 abbrev pub word_after : ℕ → List ℕ → ℕ → List ℕ → Result ℕ WireFault
 word_after word front len bytes = whole (sealed_at front len bytes) >>= λ body. Ok word
 
--- after this front, which promises so many bytes of body, the reader has read these bytes
+-- after this front, which promises a body of `len` bytes, the reader has read these bytes
 pub record HasReadRest (rest : RestReader) (front : List ℕ) (len : ℕ) (bytes : List ℕ) : Type 0 where
   pub hashed : Holds256 rest.hasher (front ++ take len bytes)
   pub left : rest.left ≡ len - length bytes
   pub digest : rest.digest.items ≡ take 32 (drop len bytes)
   pub more : rest.more ≡ nat_lt 0 (length (drop 32 (drop len bytes)))
 
--- where there is a front, the reader goes on after it
+-- if there is a front, the reader continues after it
 abbrev pub GoesOn : Result (Front × List ℕ) WireFault → Option RestReader → List ℕ → List ℕ → Type 0
 GoesOn (Ok found) (Some rest) front bytes = HasReadRest rest front found.0.len bytes
 GoesOn (Err fault) None front bytes = Unit {0}

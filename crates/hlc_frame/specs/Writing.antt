@@ -5,7 +5,7 @@ use Rattle.sha2.specs.Hashers.{Holds256}
 use Rattle.hlc_frame.specs.declared.writer.FrameWriter.{FrameWriter}
 use Rattle.hlc_frame.specs.Frame.{front_bytes}
 
--- the writer has noted this front, and pieces that make this body
+-- the writer has hashed this front, and pieces that make this body
 abbrev pub HasPut : FrameWriter → List ℕ → List ℕ → Type 0
 HasPut writer front body = Holds256 writer.hasher (front ++ body)
 
@@ -13,7 +13,7 @@ HasPut writer front body = Holds256 writer.hasher (front ++ body)
 abbrev pub joined : List (List ℕ) → List ℕ
 joined pieces = flat_map (λ (piece : List ℕ). piece) pieces
 
--- what the caller and the writer leave after `before`: the front, the pieces, and the digest
+-- the bytes that the caller and the writer leave after `before`: the front, the pieces, and the digest
 abbrev pub written : List ℕ → ℕ → ℕ → List (List ℕ) → List ℕ
 written before len word pieces =
     ((before ++ front_bytes len word) ++ joined pieces) ++ sha256 (front_bytes len word ++ joined pieces)

@@ -5,7 +5,7 @@ ghost use Rattle.sha2.specs.Hashers.{Holds256};
 
 use sha2::{Digest, Sha256};
 
-/// Whether this is the digest of what the hasher was fed.
+/// Returns whether this is the digest of the bytes that the hasher was fed.
 pub fn is_digest(hasher: Sha256, digest: &[u8]) -> bool
     ensures { (text : List ℕ) → Holds256 hasher text
         → result ≡ bytes_eq digest.now (sha256 text) }
@@ -14,7 +14,7 @@ pub fn is_digest(hasher: Sha256, digest: &[u8]) -> bool
     digest == expected.as_slice()
 }
 
-/// Whether this is the digest of a front and a body.
+/// Returns whether this is the digest of a front and a body.
 pub fn has_digest(front: &[u8], body: &[u8], digest: &[u8]) -> bool
     ensures { result ≡ bytes_eq digest.now (sha256 (front.now ++ body.now)) }
 {

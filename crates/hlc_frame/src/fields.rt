@@ -6,7 +6,7 @@ ghost use Rattle.hlc_frame.specs.Opening.{Reads};
 
 use hlc_wire::WireFault;
 
-/// The number in the first four bytes.
+/// Reads the number in the first four bytes.
 pub fn u32_at(bytes: &[u8]) -> Result<(u32, &[u8]), WireFault>
     ensures { Reads (λ x. (x.0, x.1.now)) result (number_at w32 bytes.now) }
 {
@@ -18,7 +18,7 @@ pub fn u32_at(bytes: &[u8]) -> Result<(u32, &[u8]), WireFault>
     Ok((number, rest))
 }
 
-/// The number in the first eight bytes.
+/// Reads the number in the first eight bytes.
 pub fn u64_at(bytes: &[u8]) -> Result<(u64, &[u8]), WireFault>
     ensures { Reads (λ x. (x.0, x.1.now)) result (number_at w64 bytes.now) }
 {
@@ -32,7 +32,7 @@ pub fn u64_at(bytes: &[u8]) -> Result<(u64, &[u8]), WireFault>
     Ok((number, rest))
 }
 
-/// The first so many bytes.
+/// Reads the first `count` bytes.
 pub fn bytes_at(count: u64, bytes: &[u8]) -> Result<(&[u8], &[u8]), WireFault>
     ensures { Reads (λ x. (x.0.now, x.1.now)) result (bytes_at count bytes.now) }
 {
@@ -42,7 +42,7 @@ pub fn bytes_at(count: u64, bytes: &[u8]) -> Result<(&[u8], &[u8]), WireFault>
     Ok(bytes.split_at(count as usize))
 }
 
-/// The first so many bytes, or all where there are fewer; and the bytes after them.
+/// Splits the bytes after the first `count`, or after all if there are fewer.
 pub fn cut(count: u64, bytes: &[u8]) -> (&[u8], &[u8])
     ensures front { result.0.now ≡ take count bytes.now }
     ensures back { result.1.now ≡ drop count bytes.now }

@@ -9,13 +9,13 @@ use hlc_wire::WireFault;
 /// The version of the library's formats.
 pub const FORMAT_VERSION: u32 = 1;
 
-/// How many bytes stand before the body.
+/// The number of bytes before the body.
 pub const FRONT_BYTES: usize = 20;
 
-/// How many bytes stand after the body.
+/// The number of bytes after the body.
 pub const DIGEST_BYTES: usize = 32;
 
-/// What a front says.
+/// The content of a front.
 #[derive(Clone, Copy)]
 pub struct Front {
     /// The length of the body in bytes.
@@ -24,7 +24,7 @@ pub struct Front {
     pub word: u64,
 }
 
-/// The front at the start of some bytes, and the bytes after it.
+/// Reads the front at the start of some bytes, and returns it with the bytes after it.
 #[tactic(auto, unfolding(crate::specs::Opening::front_at))]
 pub fn front_at(bytes: &[u8]) -> Result<(Front, &[u8]), WireFault>
     ensures { Reads (λ x. (x.0, x.1.now)) result (front_at bytes.now) }
@@ -38,7 +38,7 @@ pub fn front_at(bytes: &[u8]) -> Result<(Front, &[u8]), WireFault>
     Ok((Front { len, word }, rest))
 }
 
-/// The bytes of a front.
+/// Returns the bytes of a front.
 #[tactic(auto, unfolding(crate::specs::Frame::front_bytes))]
 pub fn front_of(len: u64, word: u64) -> [u8; FRONT_BYTES]
     ensures { result ≡ front_bytes len word }

@@ -8,7 +8,7 @@ use crate::fields::{bytes_at, cut};
 use crate::front::{DIGEST_BYTES, FRONT_BYTES, front_at};
 use hlc_wire::WireFault;
 
-/// What a frame holds.
+/// The content of a frame.
 #[derive(Clone, Copy)]
 pub struct Opened<'a> {
     /// The caller's word.
@@ -17,27 +17,27 @@ pub struct Opened<'a> {
     pub body: &'a [u8],
 }
 
-/// Opens the frame that the bytes spell, all of the bytes.
+/// Opens the frame that is all of the bytes.
 ///
-/// The first fault from the left is returned: `Short` where a field passes the end, `Version`,
-/// `Damaged`, or `Trailing` where bytes follow the digest. It takes no memory, and hashes the
-/// bytes once.
+/// The first fault from the left is returned: `Short` if a field passes the end, `Version`,
+/// `Damaged`, or `Trailing` if bytes follow the digest. It needs no memory, and hashes the bytes
+/// once.
 pub fn open_frame(bytes: &[u8]) -> Result<Opened<'_>, WireFault>
-    // What is read is spelled so.
+    // The bytes are the encoding of the frame that is read.
     ensures found { IfOk result (λ frame. FrameFits frame.word frame.body.now
         × (bytes.now ≡ frame_bytes frame.word frame.body.now)) }
-    // What is spelled so is read.
+    // The encoding of a frame is read.
     ensures only { (word : ℕ) (body : List ℕ) → FrameFits word body
         → bytes.now ≡ frame_bytes word body
         → Reads {Y = ℕ × List ℕ} (λ frame. (frame.word, frame.body.now)) result
         (Ok (word, body)) }
-    // Which fault it is.
+    // The fault is exactly this one.
     ensures exact { Reads (λ frame. (frame.word, frame.body.now)) result (opened bytes.now) }
 {
     all(bytes)
 }
 
-/// All of the bytes.
+/// Opens a frame that is all of the bytes.
 fn all(bytes: &[u8]) -> Result<Opened<'_>, WireFault>
     ensures { Reads (λ frame. (frame.word, frame.body.now)) result (opened bytes.now) }
 {
@@ -48,7 +48,7 @@ fn all(bytes: &[u8]) -> Result<Opened<'_>, WireFault>
     Ok(frame)
 }
 
-/// The frame at the start of some bytes, and the bytes after it.
+/// Opens the frame at the start of some bytes, and returns it with the bytes after it.
 #[tactic(auto, unfolding(crate::specs::Opening::frame_at))]
 fn frame_at(bytes: &[u8]) -> Result<(Opened<'_>, &[u8]), WireFault>
     ensures { Reads (λ x. ((x.0.word, x.0.body.now), x.1.now)) result (frame_at bytes.now) }
@@ -65,7 +65,7 @@ fn frame_at(bytes: &[u8]) -> Result<(Opened<'_>, &[u8]), WireFault>
     ))
 }
 
-/// The body of so many bytes after this front, and the bytes after its digest.
+/// Returns the body of this length after this front, and the bytes after its digest.
 #[tactic(auto, unfolding(crate::specs::Opening::sealed_at))]
 fn sealed_at<'a>(front: &[u8], len: u64, bytes: &'a [u8]) -> Result<(&'a [u8], &'a [u8]), WireFault>
     ensures { Reads (λ x. (x.0.now, x.1.now)) result (sealed_at front.now len bytes.now) }

@@ -27,10 +27,10 @@ impl FrameReader {
         }
     }
 
-    /// Takes the next block, of any size, and returns the part of it that belongs to the body.
+    /// Reads the next block, of any size, and returns the part of it that belongs to the body.
     ///
-    /// Of a block before or after the body, and of each block after a wrong version, that is no
-    /// bytes. It takes no memory. No digest vouches for the body until `finish` gives the word.
+    /// For a block before or after the body, and for each block after a wrong version, that is no
+    /// bytes. It needs no memory. The body is not verified until `finish` returns the word.
     pub fn feed<'b>(&mut self, block: &'b [u8]) -> &'b [u8]
         ensures read { (fed : List ℕ) → HasRead self.old fed
             → HasRead self.new (fed ++ block.now) }
@@ -47,10 +47,10 @@ impl FrameReader {
         }
     }
 
-    /// Returns the length of the body, as the front says it, once the front has come.
+    /// Returns the length of the body, as it is in the front, once the front has come.
     ///
-    /// None before that, and where the version is not 1. No digest vouches for it yet: a damaged
-    /// front may say any length.
+    /// None before that, and if the version is not 1. It is not verified yet: a damaged front may
+    /// have any length.
     pub fn length(&self) -> Option<u64>
         ensures { (fed : List ℕ) → HasRead self.now fed → result ≡ length_so_far fed }
     {
@@ -62,7 +62,7 @@ impl FrameReader {
 
     /// Ends the reading, and returns the word of the frame or its first fault.
     ///
-    /// Both are what `open_frame` would say of all the bytes that were fed.
+    /// Both are what `open_frame` would return for all the bytes that were fed.
     pub fn finish(self) -> Result<u64, WireFault>
         ensures { (fed : List ℕ) → HasRead self fed → result ≡ word_of fed }
     {
@@ -75,7 +75,7 @@ impl FrameReader {
     }
 }
 
-/// A reader of what follows a front, where there is a front.
+/// Returns a reader of the bytes after a front, if there is a front.
 fn rest_after(front: &[u8]) -> Option<RestReader>
     ensures { GoesOn (front_at front.now) result front.now [] }
 {

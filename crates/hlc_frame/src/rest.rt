@@ -1,4 +1,4 @@
-//! What follows the front of a frame, read in blocks.
+//! The bytes after the front of a frame, read in blocks.
 ghost use Rattle.std.specs.Prelude.{◌≡◌, ◌-◌, ◌++◌, ℕ, List, [], length, take, drop};
 ghost use Rattle.arrayvec.specs.ArrayVec.{array_vec_len};
 ghost use Rattle.hlc_frame.specs.Reading.{HasReadRest, word_after};
@@ -10,7 +10,7 @@ use arrayvec::ArrayVec;
 use hlc_wire::WireFault;
 use sha2::{Digest, Sha256};
 
-/// What is known of the bytes after a front.
+/// A reader of the bytes after a front.
 #[derive(Drop)]
 pub struct RestReader {
     hasher: Sha256,
@@ -20,7 +20,7 @@ pub struct RestReader {
 }
 
 impl RestReader {
-    /// Nothing has been read after this front, which promises so many bytes of body.
+    /// Makes a reader that has read nothing after this front, which promises a body of `len` bytes.
     pub fn new(front: &[u8], len: u64) -> RestReader
         ensures { HasReadRest result front.now len [] }
     {
@@ -34,7 +34,7 @@ impl RestReader {
         }
     }
 
-    /// Takes the next block, and returns the part of it that belongs to the body.
+    /// Reads the next block, and returns the part of it that belongs to the body.
     pub fn feed<'b>(&mut self, block: &'b [u8]) -> &'b [u8]
         ensures read { (front : List ℕ) (len : ℕ) (bytes : List ℕ)
             → HasReadRest self.old front len bytes
@@ -51,7 +51,7 @@ impl RestReader {
         body
     }
 
-    /// The word, where the bytes are the body, its digest, and nothing more.
+    /// Returns the word if the bytes are the body, its digest, and nothing more.
     #[tactic(auto, unfolding(crate::specs::Opening::sealed_at))]
     pub fn finish(self, word: u64) -> Result<u64, WireFault>
         ensures { (front : List ℕ) (len : ℕ) (bytes : List ℕ) → HasReadRest self front len bytes
@@ -77,13 +77,13 @@ impl RestReader {
     }
 }
 
-/// Takes as much of a block as there is room for, and returns the bytes after it.
-pub fn fill<'b, const N: usize>(held: &mut ArrayVec<u8, N>, block: &'b [u8]) -> &'b [u8]
-    ensures held { held.new.items ≡ take N (held.old.items ++ block.now) }
-    ensures rest { result.now ≡ drop (N - length held.old.items) block.now }
+/// Fills a buffer from a block as far as there is room, and returns the remaining bytes.
+pub fn fill<'b, const N: usize>(buffer: &mut ArrayVec<u8, N>, block: &'b [u8]) -> &'b [u8]
+    ensures buffer { buffer.new.items ≡ take N (buffer.old.items ++ block.now) }
+    ensures rest { result.now ≡ drop (N - length buffer.old.items) block.now }
 {
-    let room = held.remaining_capacity();
+    let room = buffer.remaining_capacity();
     let (front, rest) = cut(room as u64, block);
-    let _ = held.try_extend_from_slice(front);
+    let _ = buffer.try_extend_from_slice(front);
     rest
 }

@@ -17,9 +17,9 @@ pub struct FrameWriter {
 impl FrameWriter {
     /// Appends the front of a frame, whose body will have `length` bytes.
     ///
-    /// The caller appends the body, piece by piece, and hands each piece to `put`. Where the pieces
-    /// do not have `length` bytes in all, what is written is no frame, and is not read as one.
-    /// `out` is unchanged where memory runs out.
+    /// The caller appends the body, piece by piece, and passes each piece to `put`. If the pieces
+    /// do not have `length` bytes in all, the result is no frame, and is not read as one. `out` is
+    /// unchanged if memory runs out.
     pub fn begin(out: &mut Vec<u8>, length: u64, word: u64) -> Result<FrameWriter, AllocError>
         ensures put { IfOk result (λ writer. HasPut writer (front_bytes length word) []) }
         ensures front { OnOk result (out.new.items ≡ out.old.items ++ front_bytes length word) }
@@ -32,7 +32,7 @@ impl FrameWriter {
         Ok(FrameWriter { hasher })
     }
 
-    /// Notes a piece of the body, which the caller has written. It takes no memory.
+    /// Adds a piece of the body, which the caller has written, to the digest. It needs no memory.
     pub fn put(&mut self, piece: &[u8])
         ensures { (front body : List ℕ) → HasPut self.old front body
             → HasPut self.new front (body ++ piece.now) }
@@ -40,7 +40,7 @@ impl FrameWriter {
         self.hasher.update(piece);
     }
 
-    /// Appends the digest, which ends the frame. `out` is unchanged where memory runs out.
+    /// Appends the digest, which ends the frame. `out` is unchanged if memory runs out.
     pub fn end(self, out: &mut Vec<u8>) -> Result<(), AllocError>
         ensures ok { (front body : List ℕ) → HasPut self front body
             → OnOk result (out.new.items ≡ out.old.items ++ sha256 (front ++ body)) }

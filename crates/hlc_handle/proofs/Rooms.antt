@@ -1,4 +1,4 @@
--- The machine values of a room, and a box that lies in one. Assumes `Logic`.
+-- The machine values of a room, and of a box in it. Assumes `Logic`.
 use Rattle.std.proofs.Common.{◌≡◌, List, [], ◌∷◌, ◌++◌, refl, subst}
 use mathlib.Core.Bool.{false≢true}
 use Rattle.std.specs.Prelude.{Option, Some, None, IsSome}

@@ -1,4 +1,4 @@
--- What a room owns: the box that was put there, with the right to give its block back to the heap; or nothing.
+-- What a room owns: the box that was put there, with the right to return its block to the heap; or nothing.
 use Rattle.std.specs.Prelude.{Option, Some, None}
 use base.Fml.{Fml, ftrue}
 use denote.RattleType.{RattleType}

@@ -1,4 +1,4 @@
-//! A store that C holds through a handle: a pointer and a flag. Zero bytes are a closed handle.
+//! A store that C owns through a handle: a pointer and a flag. Zero bytes are a closed handle.
 #![tactic(auto)]
 
 mod loose;
@@ -6,7 +6,7 @@ mod store;
 
 pub use store::{Room, Store};
 
-/// What C sees behind the pointer.
+/// The type that C sees at the pointer.
 #[repr(C)]
 pub struct Opaque {
     word: u64,

@@ -1,6 +1,6 @@
-//! What C holds of a store: a pointer that says nothing to it, and a flag.
+//! What C has of a store: an opaque pointer, and a flag.
 ghost use Rattle.std.specs.Prelude.{◌≡◌, Option, Some, None, IsSome, MatchOption, is_some};
-ghost use Rattle.hlc_core.specs.Kept.{Kept};
+ghost use Rattle.hlc_core.specs.StoreView.{StoreView};
 
 use crate::Opaque;
 use crate::loose::Loose;
@@ -8,12 +8,12 @@ use hlc_core::Core;
 use std::alloc::Global;
 use std::marker::Model;
 
-/// What a store holds: a boxed core, or nothing. Neither it nor a `Store` is `Drop`, so that no open
-/// one is let go.
+/// What a store contains: a boxed core, or nothing. Neither it nor a `Store` is `Drop`, so that no open store is
+/// forgotten.
 #[repr(C)]
 pub struct Room {
     at: *mut Opaque,
-    pub ghost value: { Option Kept },
+    pub ghost value: { Option StoreView },
 }
 
 impl Model for Room {
@@ -24,7 +24,7 @@ impl Model for Room {
 }
 
 impl Room {
-    /// Nothing, at a null pointer.
+    /// Returns an empty room, with a null pointer.
     pub(crate) fn empty() -> Room
         ensures { result.value ≡ None }
     {
@@ -33,7 +33,7 @@ impl Room {
         }
     }
 
-    /// What the box holds. The room owns it from now on; the allocator has no bytes.
+    /// Returns a room with the content of the box, which the room owns from now on. The allocator has no bytes.
     pub(crate) fn of(loose: Loose<Core, Global>) -> Room
         ensures { result.value ≡ Some loose.value }
     {
@@ -43,7 +43,7 @@ impl Room {
         }
     }
 
-    /// The box that was put there.
+    /// Returns the box that was put there.
     pub(crate) fn loose(self, alloc: Global) -> Loose<Core, Global>
         requires { IsSome self.value }
         ensures { self.value ≡ Some result.value }
@@ -56,8 +56,8 @@ impl Room {
     }
 }
 
-/// What C holds. Zero bytes are a closed store. That the bytes are still those that a call left, and
-/// that no copy of them is used beside them, is C's promise.
+/// What C has. Zero bytes are a closed store. C promises that the bytes are still those that a call left, and that it
+/// uses no copy of them besides.
 #[repr(C)]
 pub struct Store {
     pub room: Room,
@@ -66,7 +66,7 @@ pub struct Store {
 }
 
 impl Store {
-    /// A closed store.
+    /// Returns a closed store.
     pub fn closed() -> Store
         ensures { result.room.value ≡ None }
     {
@@ -76,10 +76,10 @@ impl Store {
         }
     }
 
-    /// Takes the core out, which closes the store.
+    /// Takes the core out, which closes the store, and returns it, or none where the store was closed.
     pub fn take(&mut self, alloc: Global) -> Option<Box<Core>>
-        ensures held { MatchOption result (self.old.room.value ≡ None)
-            (λ held. self.old.room.value ≡ Some held.value) }
+        ensures boxed { MatchOption result (self.old.room.value ≡ None)
+            (λ boxed. self.old.room.value ≡ Some boxed.value) }
         ensures closed { self.new.room.value ≡ None }
     {
         let old = std::mem::replace(self, Store::closed());
@@ -92,12 +92,12 @@ impl Store {
     }
 
     /// Puts a core into a closed store.
-    pub fn put(&mut self, held: Box<Core>)
+    pub fn put(&mut self, boxed: Box<Core>)
         requires { self.old.room.value ≡ None }
-        ensures { self.new.room.value ≡ Some held.value }
+        ensures { self.new.room.value ≡ Some boxed.value }
     {
         let full = Store {
-            room: Room::of(Loose::of(held)),
+            room: Room::of(Loose::of(boxed)),
             live: true,
         };
         let Store { room, live: _ } = std::mem::replace(self, full);

@@ -1,4 +1,4 @@
--- The groups go on having their least heads where a node rises, retires or joins, and the least of them is the floor.
+-- When a node advances, retires or joins, the groups again have their least heads, and the least of them is the floor.
 use Rattle.std.proofs.Common.{◌≡◌, ◌≢◌, ℕ, ◌+◌, ◌*◌, ◌/◌, ◌<◌, ◌≤◌, Bool, true, false, List, [], ◌∷◌, ◌++◌, length}
 use Rattle.std.proofs.Common.{refl}
 use Rattle.std.proofs.Common.{Option, Some, None, sym, ap, ◌∙◌, subst, inl, inr, arith}
@@ -11,14 +11,14 @@ use Rattle.hlc_heads.specs.declared.heads.Head.{Head}
 use Rattle.hlc_heads.specs.declared.heads.TheConstants.{MOST_NUMBERS}
 use Rattle.hlc_heads.specs.declared.groups.TheConstants.{GROUP}
 use Rattle.std.specs.Option.{unwrap_or}
-use Rattle.hlc_heads.specs.Heads.{Marks, a_head, head_at, marked, joined, IsSized, IsFloor}
+use Rattle.hlc_heads.specs.Heads.{HeadsView, a_head, head_at, marked, joined, IsSized, IsFloor}
 use Rattle.hlc_heads.specs.Groups.{IsLeastIn, IsLeastOf, AreGroups, AreOthers, group_at}
 
--- the least is the start; or the lower of the two, if there was one
+-- the least is the start, or the lower of the start and the one found
 abbrev pub IsLower : Option ℕ → ℕ → ℕ → Type 0
 IsLower found start least = MatchOption found (least ≡ start) (λ low. least ≡ min low start)
 
--- the heads where one is another
+-- the heads with one of them replaced
 abbrev set-head : List Head → ℕ → ℕ → Bool → List Head
 set-head heads node stamp last = slice_set heads node (a_head stamp last)
 
@@ -32,7 +32,7 @@ here heads node stamp last k within at =
     ap (head_at (set-head heads node stamp last)) at
     ∙ get_or-set_same heads node (a_head stamp last) (a_head 0 true) within
 
--- of a range the least head stays, unless the node's was it
+-- the least head of a range does not change, unless it was the node's head
 moves-in : (heads : List Head) (node stamp from to : ℕ) (last : Bool) (found : Option ℕ) → node < length heads
     → (head_at heads node).retired ≡ false → (head_at heads node).stamp < stamp
     → (from ≤ node → node < to → found ≢ Some (head_at heads node).stamp) → IsLeastIn heads from to found
@@ -76,7 +76,7 @@ moves-in heads node stamp from to last (Some low) within left rising apart h = (
       ]),
 )
 
--- a node rises, or retires
+-- a node advances or retires
 pub moves : (heads : List Head) (groups : List (Option ℕ)) (node stamp : ℕ) (last : Bool) → node < length heads
     → (head_at heads node).retired ≡ false → (head_at heads node).stamp < stamp → AreGroups heads groups
     → AreOthers (set-head heads node stamp last) groups node (head_at heads node).stamp
@@ -98,7 +98,7 @@ above heads groups low group k (Some other) same least ge lt left h =
     omega arith
 
 -- the least of the groups is the floor
-pub found_floor : (marks : Marks) (groups : List (Option ℕ)) (found : Option ℕ) → length marks.heads ≤ MOST_NUMBERS
+pub found_floor : (marks : HeadsView) (groups : List (Option ℕ)) (found : Option ℕ) → length marks.heads ≤ MOST_NUMBERS
     → AreGroups marks.heads groups → IsLeastOf GROUP groups found → IsFloor marks (unwrap_or found marks.top)
 found_floor marks groups None few h none = inr (
   (λ k lt.
@@ -123,8 +123,8 @@ found_floor marks groups (Some low) few h one =
 some-same : {a b : ℕ} → Some a ≡ Some b → a ≡ b
 some-same e = cc e
 
--- a node rises, or retires, that stood above the floor
-pub floor-stays : (marks : Marks) (node stamp floor : ℕ) (last : Bool) → node < length marks.heads
+-- a node whose head is above the floor advances or retires: the floor does not change
+pub floor-stays : (marks : HeadsView) (node stamp floor : ℕ) (last : Bool) → node < length marks.heads
     → (head_at marks.heads node).retired ≡ false → (head_at marks.heads node).stamp < stamp
     → (head_at marks.heads node).stamp ≢ floor → IsFloor marks floor → IsFloor (marked marks node stamp last) floor
 floor-stays marks node stamp floor last within left rising apart h =
@@ -143,7 +143,7 @@ floor-stays marks node stamp floor last within left rising apart h =
       | inr none ↦ absurd (let e : false ≡ true = sym left ∙ none.0 node within in cc)
     ]
 
--- where a node joins, no other head is another
+-- when a node joins, the other heads do not change
 joined-other : (heads : List Head) (start k : ℕ) → k ≢ length heads
     → head_at (heads ++ a_head start false ∷ []) k ≡ head_at heads k
 joined-other heads start k apart =
@@ -162,7 +162,7 @@ joined-here heads start k at =
     ap (head_at (heads ++ a_head start false ∷ [])) at
     ∙ get_or-append_seam heads (a_head start false) [] (a_head 0 true)
 
--- of a range the least head stays where a node joins that is not in it
+-- when a node joins that is not in a range, the range's least head does not change
 joins-in : (heads : List Head) (start from to : ℕ) (found : Option ℕ)
     → (from ≤ length heads → length heads < to → ⊥) → IsLeastIn heads from to found
     → IsLeastIn (heads ++ a_head start false ∷ []) from to found
@@ -190,7 +190,7 @@ joins-in heads start from to (Some low) out h = (
       omega arith),
 )
 
--- of a range in which a node joins, the least head is the lower of that before and its start
+-- when a node joins in a range, the range's least head is the lower of the earlier one and the start
 joins-here : (heads : List Head) (start from to least : ℕ) (found : Option ℕ) → from ≤ length heads → length heads < to
     → IsLower found start least → IsLeastIn heads from to found
     → IsLeastIn (heads ++ a_head start false ∷ []) from to (Some least)
@@ -258,8 +258,8 @@ joins-here heads start from to least (Some low) after before is h =
           ]),
     )
 
--- its group has the lower of its least head and the start
-pub groups_join : (marks : Marks) (groups : List (Option ℕ)) (start least : ℕ) → length groups ≡ GROUP
+-- its group's least head is the lower of the earlier one and the start
+pub groups_join : (marks : HeadsView) (groups : List (Option ℕ)) (start least : ℕ) → length groups ≡ GROUP
     → length marks.heads < MOST_NUMBERS
     → IsLower (group_at groups (length marks.heads / GROUP)) start least
     → AreGroups marks.heads groups
@@ -285,7 +285,7 @@ groups_join marks groups start least sized few is old = λ group lt.
     ]
 
 -- and there is room for it
-pub joined-sized : (marks : Marks) (start : ℕ) → IsSized marks → length marks.heads < MOST_NUMBERS
+pub joined-sized : (marks : HeadsView) (start : ℕ) → IsSized marks → length marks.heads < MOST_NUMBERS
     → IsSized (joined marks start)
 joined-sized marks start h few =
     let l : length (marks.heads ++ a_head start false ∷ []) ≡ length marks.heads + 1 =

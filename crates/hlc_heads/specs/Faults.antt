@@ -1,4 +1,4 @@
--- What a refusal is called: its number, the word that comes with it, and its text.
+-- The refusals: the number, the word and the text of each.
 use Rattle.std.specs.Prelude.{ℕ, List, ◌++◌, codes}
 use Rattle.hlc_clock.specs.Stamp.{stamp_text}
 use Rattle.hlc_heads.specs.declared.heads.HeadsFault.{HeadsFault}
@@ -17,7 +17,7 @@ join_code TooManyNodes = 26
 join_code (BelowFloor floor) = 9
 join_code NoRoom = 15
 
--- the word that comes with it, 0 where there is none
+-- the word of the floor in it, 0 if there is none
 abbrev pub join_word : JoinFault → ℕ
 join_word TooManyNodes = 0
 join_word (BelowFloor floor) = floor
@@ -25,6 +25,6 @@ join_word NoRoom = 0
 
 -- its text
 abbrev pub join_text : JoinFault → List ℕ
-join_text TooManyNodes = codes "all 1,024 node numbers were given"
+join_text TooManyNodes = codes "all 1,024 node numbers are in use"
 join_text (BelowFloor floor) = codes "the start is below the floor, " ++ stamp_text floor
 join_text NoRoom = codes "out of memory"

@@ -6,8 +6,7 @@ use Rattle.hlc_heads.specs.declared.heads.Head.{Head}
 use Rattle.hlc_heads.specs.declared.groups.TheConstants.{GROUP}
 use Rattle.hlc_heads.specs.Heads.{head_at}
 
--- of the nodes from the one number on, below the other one, the least head of those that have not retired, if there is
--- one
+-- the least head of the nodes from the first number on and below the second one that have not retired, if there is one
 abbrev pub IsLeastIn : List Head → ℕ → ℕ → Option ℕ → Type 0
 IsLeastIn heads from to found =
     MatchOption found ((k : ℕ) → from ≤ k → k < to → (head_at heads k).retired ≡ true)
@@ -17,17 +16,17 @@ IsLeastIn heads from to found =
     × ((k : ℕ) → from ≤ k → k < to → (head_at heads k).retired ≡ false
     → low ≤ (head_at heads k).stamp))
 
--- the one of this group
+-- the least head of this group
 abbrev pub group_at : List (Option ℕ) → ℕ → Option ℕ
 group_at groups group = slice_index_or groups group None
 
--- they are those of the groups
+-- they are the least heads of the groups
 abbrev pub AreGroups : List Head → List (Option ℕ) → Type 0
 AreGroups heads groups =
     (group : ℕ) → group < GROUP
     → IsLeastIn heads (group * GROUP) (group * GROUP + GROUP) (group_at groups group)
 
--- of the first groups, the least one, if there is one
+-- the least one of the first groups, if there is one
 abbrev pub IsLeastOf : ℕ → List (Option ℕ) → Option ℕ → Type 0
 IsLeastOf count groups found =
     MatchOption found ((group : ℕ) → group < count → group_at groups group ≡ None)
@@ -35,7 +34,7 @@ IsLeastOf count groups found =
     ((group : ℕ) × (group < count) × (group_at groups group ≡ Some low))
     × ((group other : ℕ) → group < count → group_at groups group ≡ Some other → low ≤ other))
 
--- they are those of the groups, but that of this node may still be its former head
+-- they are the least heads of the groups, but that of this node's group may still be the node's former head
 abbrev pub AreOthers : List Head → List (Option ℕ) → ℕ → ℕ → Type 0
 AreOthers heads groups node was =
     (group : ℕ) → group < GROUP

@@ -1,14 +1,11 @@
-//! The word that an item was accepted.
+//! The receipt of an accepted item.
 ghost use Rattle.std.specs.Prelude.{◌≡◌};
-ghost use Rattle.std.proofs.Common.{rules};
-ghost use Rattle.std.proofs.lemmas.Grind.{common_steps};
 
 use hlc_clock::Stamp;
-use hlc_values::Exact;
 use std::marker::Model;
 
-/// An item of this node, with this stamp, was accepted: it is the node's head, or was. Only
-/// `Heads::raise` and `Heads::retire` make one.
+/// An accepted item: its node and its stamp, which is or was the node's head. Only `Heads::raise`
+/// and `Heads::retire` make one.
 #[derive(Clone, Copy, PartialEq, Eq, Debug)]
 pub struct Accepted {
     node: u16,
@@ -17,9 +14,9 @@ pub struct Accepted {
 }
 
 impl Model for Accepted {
-    ghost use Rattle.hlc_heads.specs.Heads.{Acceptance};
+    ghost use Rattle.hlc_heads.specs.Heads.{AcceptedView};
 
-    ghost Value = { Acceptance };
+    ghost Value = { AcceptedView };
 
     ghost view = { λ accepted. record
         { node = accepted.node; stamp = accepted.stamp; retires = accepted.retires } };
@@ -28,14 +25,8 @@ impl Model for Accepted {
         { node = acceptance.node; stamp = acceptance.stamp; retires = acceptance.retires } };
 }
 
-impl Exact for Accepted {
-    ghost equal = { Prim.search (rules, common_steps) };
-
-    ghost copied = { Prim.search rules };
-}
-
 impl Accepted {
-    /// The word that an item of this node and stamp was accepted.
+    /// Returns the receipt of an accepted item with this node and stamp.
     pub(crate) fn new(node: u16, stamp: Stamp, retires: bool) -> Accepted
         ensures { result ≡ record { node = node; stamp = stamp; retires = retires } }
     {
@@ -46,21 +37,21 @@ impl Accepted {
         }
     }
 
-    /// The node that issued the item.
+    /// Returns the node that issued the item.
     pub fn node(&self) -> u16
         ensures { result ≡ self.now.node }
     {
         self.node
     }
 
-    /// The item's stamp.
+    /// Returns the item's stamp.
     pub fn stamp(&self) -> Stamp
         ensures { result ≡ self.now.stamp }
     {
         self.stamp
     }
 
-    /// Whether it was the node's last item.
+    /// Returns whether it was the node's last item.
     pub fn retires(&self) -> bool
         ensures { result ≡ self.now.retires }
     {

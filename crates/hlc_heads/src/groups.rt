@@ -6,11 +6,11 @@ ghost use Rattle.hlc_heads.specs.Groups.{IsLeastIn, IsLeastOf, AreGroups, AreOth
 use crate::heads::Head;
 use hlc_clock::Stamp;
 
-/// How many nodes a group has, and how many groups there are.
+/// The number of nodes in a group, and the number of groups.
 pub const GROUP: usize = 32;
 
-/// The least head of the nodes of a group that have not retired, if there is one. The group is named
-/// by its first node.
+/// Returns the least head of the nodes of a group that have not retired, or none if all have. `first` is the first node
+/// of the group.
 pub(crate) fn least_in(heads: &[Head], first: usize) -> Option<Stamp>
     requires { first ≤ 992 }
     ensures { IsLeastIn heads.now first (first + GROUP) result }
@@ -24,7 +24,7 @@ pub(crate) fn least_in(heads: &[Head], first: usize) -> Option<Stamp>
     least
 }
 
-/// The least head of each group.
+/// Returns the least head of each group.
 pub(crate) fn groups_of(heads: &[Head]) -> [Option<Stamp>; GROUP]
     ensures { AreGroups heads.now result }
 {
@@ -35,8 +35,8 @@ pub(crate) fn groups_of(heads: &[Head]) -> [Option<Stamp>; GROUP]
     groups
 }
 
-/// The head of this node was the one stamp and is a greater one, or the node retired: its group has
-/// another least head, if that was the least.
+/// Updates the least head of a node's group after the node's head rose from `was` or the node
+/// retired. The group is scanned only if `was` was its least head.
 pub(crate) fn regroup(groups: &mut [Option<Stamp>; GROUP], heads: &[Head], node: usize, was: Stamp)
     requires node { node < GROUP * GROUP }
     requires others { AreOthers heads.now groups.old node was }
@@ -48,7 +48,7 @@ pub(crate) fn regroup(groups: &mut [Option<Stamp>; GROUP], heads: &[Head], node:
     }
 }
 
-/// The least of all groups, if there is one.
+/// Returns the least head of all groups, or none if no group has one.
 pub(crate) fn least_of(groups: &[Option<Stamp>]) -> Option<Stamp>
     requires { length groups.now ≡ GROUP }
     ensures { IsLeastOf GROUP groups.now result }
@@ -62,7 +62,7 @@ pub(crate) fn least_of(groups: &[Option<Stamp>]) -> Option<Stamp>
     least
 }
 
-/// The lower of the two, if there are two.
+/// Returns the lower of the two stamps, or `stamp` if it is the only one.
 pub(crate) fn lower(least: Option<Stamp>, stamp: Stamp) -> Stamp
     ensures { MatchOption least (result ≡ stamp) (λ low. result ≡ min low stamp) }
 {

@@ -1,7 +1,5 @@
 //! The head of each link, and the floor.
 ghost use Rattle.std.specs.Prelude.{◌≡◌, ◌<◌, false, true, length, max};
-ghost use Rattle.std.proofs.Common.{rules};
-ghost use Rattle.std.proofs.lemmas.Grind.{common_steps};
 ghost use Rattle.hlc_heads.specs.declared.heads.TheConstants.{MOST_NODES, MOST_NUMBERS};
 ghost use Rattle.hlc_heads.specs.Faults.{join_code, join_word};
 ghost use Rattle.hlc_heads.specs.Heads.{
@@ -17,13 +15,12 @@ ghost use Rattle.hlc_heads.specs.Heads.{
 use crate::accepted::Accepted;
 use crate::groups::{GROUP, groups_of, least_of, lower, regroup};
 use hlc_clock::Stamp;
-use hlc_values::Exact;
 use std::alloc::Global;
 use std::error::Error;
 use std::fmt;
 use std::marker::Model;
 
-/// The most nodes that there may be at the start.
+/// The maximum number of nodes at the start.
 pub const MOST_NODES: u16 = 64;
 
 /// There are at most 64 nodes at the start.
@@ -31,11 +28,11 @@ pub fn most_nodes_are_64()
     ensures { MOST_NODES ≡ 64 }
 {}
 
-/// The most numbers that are given to nodes, those of the start and of all that join. None is given
+/// The maximum number of node numbers, including those of nodes that join. No number is assigned
 /// twice.
 pub const MOST_NUMBERS: u16 = 1024;
 
-/// At most 1,024 numbers are given to nodes.
+/// At most 1,024 node numbers are assigned.
 pub fn most_numbers_are_1024()
     ensures { MOST_NUMBERS ≡ 1024 }
 {}
@@ -43,33 +40,21 @@ pub fn most_numbers_are_1024()
 /// Why no heads are made.
 #[derive(Clone, Copy, PartialEq, Eq, Debug)]
 pub enum HeadsFault {
-    /// The count of nodes is not 1 to 64.
+    /// The number of nodes is not 1 to 64.
     NoNode,
-    /// A growth was refused.
+    /// Out of memory.
     NoMemory,
-}
-
-impl Exact for HeadsFault {
-    ghost equal = { Prim.search (rules, common_steps) };
-
-    ghost copied = { Prim.search rules };
 }
 
 /// Why no node joins.
 #[derive(Clone, Copy, PartialEq, Eq, Debug)]
 pub enum JoinFault {
-    /// 1,024 numbers were given already.
+    /// All 1,024 node numbers have been assigned.
     TooManyNodes,
     /// The start is below the floor.
     BelowFloor { floor: Stamp },
     /// Out of memory.
     NoMemory,
-}
-
-impl Exact for JoinFault {
-    ghost equal = { Prim.search (rules, common_steps) };
-
-    ghost copied = { Prim.search rules };
 }
 
 impl fmt::Display for HeadsFault {
@@ -89,7 +74,7 @@ impl fmt::Display for HeadsFault {
 impl Error for HeadsFault {}
 
 impl JoinFault {
-    /// Its number: 9, 15 or 26.
+    /// Returns the number of this refusal: 9, 15 or 26.
     pub fn code(self) -> u32
         ensures { result ≡ join_code self }
     {
@@ -100,7 +85,7 @@ impl JoinFault {
         }
     }
 
-    /// The word of the floor that comes with it, or 0.
+    /// Returns the word of the floor in this refusal, or 0.
     pub fn word(self) -> u64
         ensures { result ≡ join_word self }
     {
@@ -119,7 +104,7 @@ impl fmt::Display for JoinFault {
 
     fn fmt<W: fmt::Write>(&self, f: &mut fmt::Formatter<W>) -> fmt::Result {
         match self {
-            JoinFault::TooManyNodes => f.write_str("all 1,024 node numbers were given"),
+            JoinFault::TooManyNodes => f.write_str("all 1,024 node numbers are in use"),
             JoinFault::BelowFloor { floor } => write!(f, "the start is below the floor, {floor}"),
             JoinFault::NoMemory => f.write_str("out of memory"),
         }
@@ -136,28 +121,22 @@ pub struct Head {
     pub retired: bool,
 }
 
-impl Exact for Head {
-    ghost equal = { Prim.search (rules, common_steps) };
-
-    ghost copied = { Prim.search rules };
-}
-
-/// The head of each node, and the greatest stamp of an accepted item or of a start. Contracts see the
-/// list of the heads, by node, and that stamp.
+/// The head of each node, and the greatest stamp of an accepted item or of a start. In contracts it is the list of the
+/// heads, by node, and that stamp.
 #[derive(Debug, Drop)]
 pub struct Heads {
     heads: Vec<Head>,
-    /// Of each group of nodes the least head of those that have not retired, if there is one.
+    /// The least head of each group of nodes, among those that have not retired.
     groups: [Option<Stamp>; GROUP],
     top: Stamp,
     floor: Stamp,
 }
 
 impl Model for Heads {
-    ghost use Rattle.hlc_heads.specs.Heads.{Marks, IsSized, IsFloor};
+    ghost use Rattle.hlc_heads.specs.Heads.{HeadsView, IsSized, IsFloor};
     ghost use Rattle.hlc_heads.specs.Groups.{AreGroups};
 
-    ghost Value = { Marks };
+    ghost Value = { HeadsView };
 
     ghost view = { λ heads. record { heads = heads.heads.items; top = heads.top } };
 
@@ -167,8 +146,8 @@ impl Model for Heads {
 }
 
 impl Heads {
-    /// The heads of so many nodes, 1 to 64, of which nothing was accepted. Nodes are numbered from
-    /// 0 and start at 0.0.
+    /// Makes the heads of this many nodes, 1 to 64, without any accepted item. Nodes are numbered
+    /// from 0 and start at 0.0.
     pub fn new(alloc: Global, nodes: u16) -> Result<Heads, HeadsFault>
         ensures { Makes nodes result }
     {
@@ -190,8 +169,8 @@ impl Heads {
         }
     }
 
-    /// These heads by node, 1 to 1,024 of them, and the greatest stamp of an accepted item or of a start.
-    /// It takes no memory.
+    /// Makes heads from these, by node, 1 to 1,024 of them, and the greatest stamp of an accepted item or of a start.
+    /// It needs no memory.
     pub fn resuming(heads: Vec<Head>, top: Stamp) -> Heads
         requires { IsSized (record { heads = heads.items; top = top }) }
         ensures { result ≡ record { heads = heads.items; top = top } }
@@ -206,7 +185,7 @@ impl Heads {
         }
     }
 
-    /// The head of a node, which is below the count of nodes.
+    /// Returns the head of a node, which is below the number of nodes.
     pub fn head(&self, node: u16) -> Stamp
         requires { node < length self.now.heads }
         ensures { result ≡ (head_at self.now.heads node).stamp }
@@ -214,7 +193,7 @@ impl Heads {
         self.heads[node as usize].stamp
     }
 
-    /// Whether a node, which is below the count of nodes, retired.
+    /// Returns whether a node, which is below the number of nodes, has retired.
     pub fn is_retired(&self, node: u16) -> bool
         requires { node < length self.now.heads }
         ensures { result ≡ (head_at self.now.heads node).retired }
@@ -222,9 +201,8 @@ impl Heads {
         self.heads[node as usize].retired
     }
 
-    /// An item of this node, with this stamp, was accepted: the stamp is the node's head from now
-    /// on. The node is below the count of nodes and has not retired, and the stamp is above its
-    /// head.
+    /// Makes the stamp of an accepted item the head of its node. The node is below the number of
+    /// nodes and has not retired, and the stamp is above its head.
     pub fn raise(&mut self, node: u16, stamp: Stamp) -> Accepted
         requires node { node < length self.old.heads }
         requires open { (head_at self.old.heads node).retired ≡ false }
@@ -235,9 +213,9 @@ impl Heads {
         self.mark(node, stamp, false)
     }
 
-    /// The last item of this node, with this stamp, was accepted: the node counts no more in the
-    /// floor. The node is below the count of nodes and has not retired, and the stamp is above its
-    /// head.
+    /// Makes the stamp of a node's last accepted item its head, and no longer counts the node in
+    /// the floor. The node is below the number of nodes and has not retired, and the stamp is above
+    /// its head.
     pub fn retire(&mut self, node: u16, stamp: Stamp) -> Accepted
         requires node { node < length self.old.heads }
         requires open { (head_at self.old.heads node).retired ≡ false }
@@ -248,8 +226,8 @@ impl Heads {
         self.mark(node, stamp, true)
     }
 
-    /// The stamp is the node's head, and the top where it is above it. The floor stays, unless the
-    /// node stood there: then it is looked for.
+    /// Makes the stamp the node's head, and also the top if it is above the top. The floor is
+    /// computed again only if it was the node's head; otherwise it does not change.
     fn mark(&mut self, node: u16, stamp: Stamp, last: bool) -> Accepted
         requires node { node < length self.old.heads }
         requires open { (head_at self.old.heads node).retired ≡ false }
@@ -273,11 +251,11 @@ impl Heads {
         Accepted::new(node, stamp, last)
     }
 
-    /// A node joins: it is given the next number, and starts at the floor, which is its first head.
-    /// So the floor stays.
+    /// Adds a node, which is assigned the next number and starts at the floor, its first head. So
+    /// the floor does not change.
     ///
-    /// Refused, in this order: 1,024 numbers were given; out of memory. A refusal leaves the heads
-    /// unchanged.
+    /// Refused, in this order: all 1,024 numbers are assigned; out of memory. A refusal leaves the
+    /// heads unchanged.
     pub fn join(&mut self) -> Result<(u16, Stamp), JoinFault>
         ensures { Joins self.old self.new result }
     {
@@ -286,11 +264,11 @@ impl Heads {
         Ok((node, start))
     }
 
-    /// A node joins: it is given the next number, and starts at this stamp, which is its first head. The
-    /// floor stays; where all nodes had retired, it is the start from now on.
+    /// Adds a node, which is assigned the next number and starts at this stamp, its first head. The floor does not
+    /// change; but if all nodes had retired, it becomes the start.
     ///
-    /// Refused, in this order: 1,024 numbers were given; the start is below the floor; out of memory. A
-    /// refusal leaves the heads unchanged.
+    /// Refused, in this order: all 1,024 numbers are assigned; the start is below the floor; out of memory. A refusal
+    /// leaves the heads unchanged.
     pub fn join_at(&mut self, start: Stamp) -> Result<u16, JoinFault>
         ensures { JoinsAt self.old self.new start result }
     {
@@ -315,10 +293,10 @@ impl Heads {
         Ok(place as u16)
     }
 
-    /// The floor: the least head of the nodes that have not retired; where all did, the greatest
-    /// stamp of an accepted item. It never falls, and every item that is accepted later lies above
-    /// it. It is at hand, however many nodes came and went: `raise` and `retire` keep it, looking at
-    /// 32 heads where the node stood lowest of its group, and at 32 groups where it stood at the floor.
+    /// Returns the floor: the least head of the nodes that have not retired, or the greatest stamp of an accepted item
+    /// if all have. It never falls, and every item that is accepted later has a stamp above it. It is stored, so this
+    /// call costs the same however many nodes have joined and retired: `raise` and `retire` update it. They scan 32
+    /// heads if the node had the least head of its group, and 32 groups if that head was the floor.
     pub fn floor(&self) -> Stamp
         ensures { IsFloor self.now result }
     {
@@ -326,7 +304,7 @@ impl Heads {
     }
 }
 
-/// The greater of the two.
+/// Returns the greater of the two stamps.
 fn greater(a: Stamp, b: Stamp) -> Stamp
     ensures { result ≡ max a b }
 {

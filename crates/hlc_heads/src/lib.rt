@@ -1,7 +1,8 @@
-//! The heads of all links, the floor that they make, and the word that an item was accepted.
+//! The heads of all links, their floor, and the receipts of accepted items.
 #![tactic(auto)]
 
 mod accepted;
+mod exact;
 mod groups;
 mod heads;
 

@@ -19,7 +19,7 @@ taken {X} xs n none lt = ap (λ m. take m xs) (let e : n + 1 ≡ suc n = omega a
     go (x ∷ xs) (suc n) lt = ap (λ l. x ∷ l) (go xs n (omega (arith, lt)))
 
 module _ {V : Type 0} (leaves : List (List (List ℕ × V))) where
-  -- the entries of one leaf more
+  -- the entries of one more leaf
   pub entries_more : (n : ℕ) → n < length leaves
       → entries_in (take (n + 1) leaves) ≡ entries_in (take n leaves) ++ get_or leaves n []
   entries_more n lt =
@@ -29,7 +29,7 @@ module _ {V : Type 0} (leaves : List (List (List ℕ × V))) where
 
   module _ (key : List ℕ) (at slot : ℕ) (there : IsEntryAt leaves key at slot)
       (ascend : IsStrictlySortedBy key_cmp (keys_in (entries_in leaves))) where
-    -- looking the key up finds its value
+    -- a look-up of the key finds its value
     pub entry_found : (v : V) → slice_get (get_or leaves at []) slot
         ≡ Some (get_or (keys_in (get_or leaves at [])) slot [], v) → lookup (is_key key) (entries_in leaves) ≡ Some v
     entry_found v read =

@@ -1,4 +1,4 @@
--- Heads rise with the keys: where the heads differ, the first byte that differs is among those that they are made of.
+-- Heads are ordered as the keys: if the heads differ, the first byte that differs is among the bytes of the heads.
 use Rattle.std.proofs.Common.{◌≡◌, ◌≤◌, ◌<◌, ◌+◌, ◌-◌, ◌*◌, ◌^◌, ◌∙◌, ℕ, zero, suc, List, [], ◌∷◌, get_or, length}
 use Rattle.std.proofs.Common.{arith, refl, ap, sym}
 use Rattle.std.proofs.lemmas.Bool.{cases_lt}
@@ -55,7 +55,7 @@ pub head_whole : (key : List ℕ) → head_upto 8 key ≡ ((((((((get_or key 0 0
 unfolding head_upto
 head_whole key = omega arith
 
--- the first bytes in front of those behind them
+-- the first bytes, and the bytes after them
 step : (a h p b x y : ℕ) → a ≡ h * p + b → x ≡ y → a * 256 + x ≡ h * (p * 256) + (b * 256 + y)
 step a h p b x y e f = grind arith
 
@@ -132,7 +132,7 @@ head_upto_below (suc n) a b p q lt =
           less_from n a b (digits n a b p q front) (omega (arith, lt, front))
     ]
 
--- where one head is below another, the key is
+-- if one head is below another, the key is too
 pub head_below : (a b : List ℕ) → AreBytes a → AreBytes b → head_of a < head_of b → key_cmp a b ≡ Less
 head_below a b p q lt = head_upto_below 16 a b p q lt
 
@@ -142,7 +142,7 @@ head_above a b p q lt = nat_list_cmp_total.antisymm a b ∙ ap ordering_reverse 
 pub same_key : (a b : List ℕ) → key_cmp a b ≡ Equal → a ≡ b
 same_key a b e = (bytes_eq-Decides a b).0 (texts_ties a b ∙ ap is_eq e)
 
--- heads side by side with keys: what is told of the one at a place is told of the other
+-- heads next to keys: what is known of a head at a position is known of the key there
 module _ (keys : List (List ℕ)) (heads : List ℕ) (is : heads ≡ map head_of keys) (bytes : All AreBytes keys) (key : List
     ℕ)
     (own : AreBytes key) where
@@ -164,7 +164,7 @@ module _ (keys : List (List ℕ)) (heads : List ℕ) (is : heads ≡ map head_of
 pub length_keys : {V : Type 0} (es : List (List ℕ × V)) → length (keys_in es) ≡ length es
 length_keys {V} es = length-map es (λ (e : List ℕ × V). e.0)
 
--- what the heads of a leaf tell of its keys
+-- what the heads of a leaf imply for its keys
 module _ {V : Type 0} (es now : List (List ℕ × V)) (view : es ≡ now) (heads slice : List ℕ) (same : slice ≡ heads)
     (inv : (heads ≡ map head_of (keys_in es)) × All AreBytes (keys_in es)) (key : List ℕ) (own : AreBytes key) (head :
     ℕ)
@@ -178,17 +178,17 @@ module _ {V : Type 0} (es now : List (List ℕ × V)) (view : es ≡ now) (heads
   pub as_many : length slice ≡ length (keys_in now)
   as_many = ap length heads_are ∙ length-map (keys_in now) head_of
 
-  pub told_below : n ≤ length slice → (0 < n → get_or slice (n - 1) 0 < head) → IsBelowAt (keys_in now) n key
-  told_below inside lt =
+  pub headed_below : n ≤ length slice → (0 < n → get_or slice (n - 1) 0 < head) → IsBelowAt (keys_in now) n key
+  headed_below inside lt =
       below_by_head (keys_in now) slice heads_are bytes_are key own n (omega (arith, inside, as_many))
       (λ some. subst (λ m. get_or slice (n - 1) 0 < m) is (lt some))
 
-  pub told_above : (n < length slice → head < get_or slice n 0) → IsAboveAt (keys_in now) n key
-  told_above lt =
+  pub headed_above : (n < length slice → head < get_or slice n 0) → IsAboveAt (keys_in now) n key
+  headed_above lt =
       above_by_head (keys_in now) slice heads_are bytes_are key own n
       (λ inside. subst (λ m. m < get_or slice n 0) is (lt (omega (arith, inside, as_many))))
 
--- keys with the same bytes, one of which may go on with zeros, compare as their lengths
+-- keys with the same bytes, where one may continue with zeros, compare as their lengths
 same_upto : (a b : List ℕ) → ((i : ℕ) → get_or a i 0 ≡ get_or b i 0) → key_cmp a b ≡ nat_cmp (length a) (length b)
 same_upto [] [] f = refl
 same_upto [] (y ∷ ys) f = grind (arith, nat_tests)
@@ -198,7 +198,7 @@ same_upto (x ∷ xs) (y ∷ ys) f =
     ∙ same_upto xs ys (λ i. f (suc i))
     ∙ grind (arith, nat_tests)
 
--- of keys that are no longer than a head, one head and the lengths tell all
+-- keys that are no longer than a head compare by their heads and then by their lengths
 pub alike_short : (a b : List ℕ) → AreBytes a → AreBytes b → head_of a ≡ head_of b → length a ≤ 16 → length b ≤ 16
     → key_cmp a b ≡ nat_cmp (length a) (length b)
 alike_short a b p q e la lb = same_upto a b each

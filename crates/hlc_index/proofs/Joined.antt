@@ -1,4 +1,4 @@
--- The entries of leaves, one leaf after another: one entry more in a leaf, and a leaf cut in two.
+-- The entries of leaves, one leaf after another: one more entry in a leaf, and a leaf split into two.
 use Rattle.std.proofs.Common.{◌≡◌, ◌≤◌, ◌<◌, ◌+◌, ◌-◌, ◌++◌, ◌∷◌, ◌∙◌, ℕ, zero, suc, List, [], get_or, set, length}
 use Rattle.std.proofs.Common.{arith, ap, ap₂, sym, take, drop}
 use Rattle.std.proofs.Common.{append_assoc}
@@ -9,7 +9,7 @@ use Rattle.std.proofs.lemmas.List.{take-append-drop, drop_more, take-append-le, 
 use Rattle.std.proofs.lemmas.List.{length-drop}
 use Rattle.hlc_index.specs.Entries.{entries_in, entries_with}
 
--- an entry put into the front of two lists, or into the back
+-- an entry inserted into the first of two lists, or into the second
 pub insert_front : {X : Type 0} (xs ys : List X) (i : ℕ) (e : X) → i ≤ length xs → insert xs i e ++ ys ≡ insert (xs ++
     ys) i e
 insert_front xs ys i e le =
@@ -48,7 +48,7 @@ module _ {V : Type 0} where
       ap entries_in (sym (take-append-drop at ls) ∙ ap (λ zs. take at ls ++ zs) (drop_more ls at [] inside))
       ∙ joined (take at ls) (get_or ls at []) (drop (at + 1) ls)
 
-  -- a leaf cut in two
+  -- a leaf split into two
   module _ (ls now : List (List (List ℕ × V))) (at cut : ℕ) (inside : at < length ls)
       (is : now ≡ insert (set ls at (take cut (get_or ls at []))) (at + 1) (drop cut (get_or ls at []))) where
     two : now ≡ take at ls ++ take cut (get_or ls at []) ∷ drop cut (get_or ls at []) ∷ drop (at + 1) ls
@@ -75,19 +75,19 @@ module _ {V : Type 0} where
         ∙ get_or_at (take at ls) (take cut (get_or ls at [])) (drop cut (get_or ls at []) ∷ drop (at + 1) ls) [] at
         before
 
-    two_behind : now ≡ (take at ls ++ take cut (get_or ls at []) ∷ []) ++ drop cut (get_or ls at []) ∷ drop (at + 1) ls
-    two_behind = two ∙ sym (append_assoc (take at ls) (take cut (get_or ls at []) ∷ []) (drop cut (get_or ls at []) ∷
+    two_after : now ≡ (take at ls ++ take cut (get_or ls at []) ∷ []) ++ drop cut (get_or ls at []) ∷ drop (at + 1) ls
+    two_after = two ∙ sym (append_assoc (take at ls) (take cut (get_or ls at []) ∷ []) (drop cut (get_or ls at []) ∷
         drop (at + 1) ls))
 
-    before_behind : length (take at ls ++ take cut (get_or ls at []) ∷ []) ≡ at + 1
-    before_behind = let e = before in let f = length-append (take at ls) (take cut (get_or ls at []) ∷ []) in omega
+    before_after : length (take at ls ++ take cut (get_or ls at []) ∷ []) ≡ at + 1
+    before_after = let e = before in let f = length-append (take at ls) (take cut (get_or ls at []) ∷ []) in omega
         (arith, e, f)
 
     pub back_is : get_or now (at + 1) [] ≡ drop cut (get_or ls at [])
-    back_is = ap (λ zs. get_or zs (at + 1) []) two_behind
+    back_is = ap (λ zs. get_or zs (at + 1) []) two_after
         ∙ get_or_at (take at ls ++ take cut (get_or ls at []) ∷ []) (drop cut (get_or ls at [])) (drop (at + 1) ls) []
         (at + 1)
-        before_behind
+        before_after
 
     whole : take cut (get_or ls at []) ++ drop cut (get_or ls at []) ≡ get_or ls at []
     whole = take-append-drop cut (get_or ls at [])
@@ -119,8 +119,8 @@ module _ {V : Type 0} where
         let a : List (List ℕ × V) = take cut (get_or ls at []) in
         let b : List (List ℕ × V) = drop cut (get_or ls at []) in
         let z : List (List ℕ × V) = insert (get_or now (at + 1) []) (slot - cut) e in
-        ap (λ zs. entries_in (set zs (at + 1) z)) two_behind
-        ∙ ap entries_in (set_at (take at ls ++ a ∷ []) b (drop (at + 1) ls) z (at + 1) before_behind
+        ap (λ zs. entries_in (set zs (at + 1) z)) two_after
+        ∙ ap entries_in (set_at (take at ls ++ a ∷ []) b (drop (at + 1) ls) z (at + 1) before_after
         ∙ append_assoc (take at ls) (a ∷ []) (z ∷ drop (at + 1) ls))
         ∙ joined_two (take at ls) a z (drop (at + 1) ls)
         ∙ ap (λ m. entries_in (take at ls) ++ m ++ entries_in (drop (at + 1) ls))

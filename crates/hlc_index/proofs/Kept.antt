@@ -55,7 +55,7 @@ module _ {V : Type 0} where
         | false ↦ ascend_kept p es up.1
       ]
 
-  -- keys of some of the entries are some of the keys
+  -- the keys of some of the entries are some of the keys
   bytes_kept : (p : List ℕ × V → Bool) (es : List (List ℕ × V)) → All AreBytes (keys_in es)
       → All AreBytes (keys_in (filter p es))
   bytes_kept p es all =
@@ -72,7 +72,7 @@ module _ {V : Type 0} where
     subst (λ (l : List (List ℕ × V)). All AreBytes (keys_in l)) (sym (f ∙ front)) (bytes_kept p es bytes),
   )
 
--- two places of a list swapped: the later one moves to the end of the front
+-- two members of a list swapped: the later one moves to the end of the front
 swapped_front : {X : Type 0} (ys zs : List X) (k i : ℕ) (x : X) → k ≤ i → i < length ys → x ≡ get_or ys i x
     → SwappedAt ys zs k i → take (k + 1) zs ≡ take k ys ++ x ∷ []
 swapped_front ys zs k i x le lt read s =
@@ -94,14 +94,14 @@ swapped_rest ys zs k i x le s =
     ap (drop (i + 1)) (s.3 x) ∙ drop-set-lt (i + 1) (set ys k (get_or ys i x)) i (get_or ys k x) (omega arith)
     ∙ drop-set-lt (i + 1) ys k (get_or ys i x) (omega (arith, le))
 
--- ys began as xs: what is kept of the first i leaves stands in the first k places, with the heads of their first keys
--- in tops, and from i on ys is as it was
+-- ys began as xs: what is kept of the first i leaves is in the first k positions, with the heads of their first keys in
+-- tops, and from i on ys is as it was
 pub record KeepsInPlace {V : Type 0} (p : List ℕ × V → Bool) (xs ys : List (List (List ℕ × V))) (tops : List ℕ)
     (k i : ℕ) : Type 0 where
   pub leaves : AreLeaves (take k tops) (take k ys)
   pub front : entries_in (take k ys) ≡ filter p (entries_in (take i xs))
   pub rest : drop i ys ≡ drop i xs
-  pub behind : k ≤ i
+  pub beyond : k ≤ i
   pub within : i ≤ length xs
   pub long : length ys ≡ length xs
   pub wide : length tops ≡ length xs
@@ -112,13 +112,13 @@ module _ {V : Type 0} (p : List ℕ × V → Bool) (xs ys : List (List (List ℕ
     leaves = (refl, λ k d lt. absurd (omega (arith, lt)), λ k d lt. absurd (omega (arith, lt)));
     front = refl;
     rest = refl;
-    behind = omega arith;
+    beyond = omega arith;
     within = omega arith;
     long = refl;
     wide = wide;
   }
 
-  -- one leaf more of the old ones
+  -- one more of the old leaves
   front_more : (i : ℕ) (leaf : List (List ℕ × V)) → i < length xs → leaf ≡ get_or xs i leaf
       → filter p (entries_in (take (i + 1) xs)) ≡ filter p (entries_in (take i xs)) ++ filter p leaf
   front_more i leaf lt read =
@@ -149,13 +149,13 @@ module _ {V : Type 0} (p : List ℕ × V → Bool) (xs ys : List (List (List ℕ
     pub keeps_no : length now ≡ 0 → KeepsInPlace p xs (set ys i now) tops k (i + 1)
     keeps_no none =
         let m = keeps.long in
-        let same : take k (set ys i now) ≡ take k ys = take-set-le k ys i now keeps.behind in
+        let same : take k (set ys i now) ≡ take k ys = take-set-le k ys i now keeps.beyond in
         record {
           leaves = subst (AreLeaves (take k tops)) (sym same) keeps.leaves;
           front = ap entries_in same ∙ sym (gained ∙ ap (λ l. entries_in (take k ys) ++ l) (nil now none)
               ∙ append-nil (entries_in (take k ys)));
           rest = rest_more;
-          behind = let b = keeps.behind in omega (arith, b);
+          beyond = let b = keeps.beyond in omega (arith, b);
           within = omega (arith, lt, m);
           long = length-set ys i now ∙ m;
           wide = keeps.wide;
@@ -172,7 +172,7 @@ module _ {V : Type 0} (p : List ℕ × V → Bool) (xs ys : List (List (List ℕ
     keeps_yes h more zs some bytes head e s =
         let m = keeps.long in
         let n = keeps.wide in
-        let b = keeps.behind in
+        let b = keeps.beyond in
         let size = length-set ys i now in
         let many = length-map now (λ (e : List ℕ × V). e.0) in
         let same : take k (set ys i now) ≡ take k ys = take-set-le k ys i now b in
@@ -186,7 +186,7 @@ module _ {V : Type 0} (p : List ℕ × V → Bool) (xs ys : List (List (List ℕ
           front = ap entries_in front ∙ flat_map-append (λ (l : List (List ℕ × V)). l) (take k ys) (now ∷ [])
               ∙ ap (λ l. entries_in (take k ys) ++ l) (append-nil now) ∙ sym gained;
           rest = swapped_rest (set ys i now) zs k i now b s ∙ rest_more;
-          behind = omega (arith, b);
+          beyond = omega (arith, b);
           within = omega (arith, lt, m);
           long = ap length (s.3 now) ∙ length-set (set (set ys i now) k (get_or (set ys i now) i now)) i
               (get_or (set ys i now) k now) ∙ length-set (set ys i now) k (get_or (set ys i now) i now) ∙ size ∙ m;

@@ -1,4 +1,4 @@
--- What a leaf's heads and keys stay when entries come and go.
+-- What is true of a leaf's heads and keys after entries are added or removed.
 use Rattle.std.proofs.Common.{◌≡◌, ◌<◌, ◌++◌, ◌∷◌, ◌∙◌, ℕ, zero, suc, List, [], ap, ap₂, refl, sym, subst, arith, All}
 use Rattle.std.proofs.Common.{map, take, drop}
 use Rattle.std.proofs.Common.{length, get_or, set, Some}
@@ -9,7 +9,7 @@ use Rattle.std.proofs.lemmas.List.Elements.{All-append, All-take, All-drop, All-
 use Rattle.hlc_index.specs.Head.{head_of, AreBytes}
 use Rattle.hlc_index.specs.Entries.{keys_in, with_value}
 
--- what a leaf keeps
+-- what is true of a leaf: its heads are those of its keys, which are bytes
 abbrev pub IsLeaf : {V : Type 0} → List ℕ → List (List ℕ × V) → Type 0
 IsLeaf heads es = (heads ≡ map head_of (keys_in es)) × All AreBytes (keys_in es)
 
@@ -64,7 +64,7 @@ module _ {V : Type 0} where
         subst (All AreBytes) (drop-map (λ (e : List ℕ × V). e.0) n es) (All-drop AreBytes n (keys_in es) inv.1),
       ))
 
-  -- another value at a slot leaves the keys
+  -- another value at a slot does not change the keys
   pub keys_kept : (es : List (List ℕ × V)) (n : ℕ) (e : List ℕ × V) (w : V) → e ≡ get_or es n e
       → keys_in (set es n (e.0, w)) ≡ keys_in es
   keys_kept [] n e w is = refl

@@ -1,4 +1,4 @@
--- From a leaf and a slot to the place in the whole list, and what that place says.
+-- From a leaf and a slot to the position in the whole list, and what is known of that position.
 use Rattle.std.proofs.Common.{◌≡◌, ◌≤◌, ◌<◌, ◌+◌, ◌-◌, ◌++◌, ◌∷◌, ◌∙◌, ℕ, zero, suc, List, [], get_or, length, arith}
 use Rattle.std.proofs.Common.{refl, ap, sym, subst, take, drop}
 use Rattle.std.proofs.Common.{Bool, true, false, None, Some, Greater, All}
@@ -35,7 +35,7 @@ module _ {V : Type 0} where
       (ascend_with es key v n (let le = slot.0 in let m = length_keys es in omega (arith, le, m)) (parts es key n up
       slot) up)
 
-  -- the entries with one more in a leaf are the whole list with one more at its place
+  -- the entries with one more in a leaf are the whole list with one more at its position
   pub with_is : (ls : List (List (List ℕ × V))) (at slot : ℕ) (e : List ℕ × V) → at < length ls → slot ≤ length (get_or
       ls at [])
       → entries_with ls at slot e ≡ insert (entries_in ls) (length (entries_in (take at ls)) + slot) e
@@ -51,11 +51,11 @@ module _ {V : Type 0} where
   first_of [] y some = absurd (omega (arith, some))
   first_of (e ∷ x) y some = refl
 
-  -- behind the leaves that begin at or below a key all keys are above it
-  pub first_behind : (ls : List (List (List ℕ × V))) (n : ℕ) (key : List ℕ) → All (λ leaf. 0 < length leaf) ls
+  -- after the leaves that begin at or below a key all keys are above it
+  pub first_after : (ls : List (List (List ℕ × V))) (n : ℕ) (key : List ℕ) → All (λ leaf. 0 < length leaf) ls
       → IsAboveAt (first_keys ls) n key → 0 < length (entries_in (drop n ls)) → key_cmp (first_key (entries_in (drop n
       ls))) key ≡ Greater
-  first_behind ls n key filled above some = elim (cases_lt n (length ls)) [
+  first_after ls n key filled above some = elim (cases_lt n (length ls)) [
     | inl less ↦
         let e : drop n ls ≡ get_or ls n [] ∷ drop (n + 1) ls = drop_more ls n [] less in
         let f : get_or (first_keys ls) n [] ≡ first_key (get_or ls n []) = get_or-map first_key ls n [] [] less in
@@ -70,7 +70,7 @@ module _ {V : Type 0} where
       none_left [] e some = omega (arith, some)
       none_left (x ∷ xs) e some = omega (arith, e)
 
-  -- the leaf in front of those that begin above a key
+  -- the leaf before those that begin above a key
   module _ (ls : List (List (List ℕ × V))) (count slot : ℕ) (key : List ℕ) (filled : All (λ leaf. 0 < length leaf) ls)
       (some : 0 < count) (inside : count ≤ length ls) (upto : IsUptoAt (first_keys ls) count key)
       (above : IsAboveAt (first_keys ls) count key) where
@@ -104,7 +104,7 @@ module _ {V : Type 0} where
         subst (λ l. IsSlot (keys_in l) key place false) (sym whole)
         (slot_joined (entries_in (take (count - 1) ls)) (get_or ls (count - 1) []) (entries_in (drop (count - 1 + 1)
         ls)) key slot
-        (not_first is) is (first_behind ls (count - 1 + 1) key filled (subst (λ n. IsAboveAt (first_keys ls) n key) (sym
+        (not_first is) is (first_after ls (count - 1 + 1) key filled (subst (λ n. IsAboveAt (first_keys ls) n key) (sym
         next) above)))
 
     pub entry_whole : (v : V) → slot < length (get_or ls (count - 1) []) → slice_get (get_or ls (count - 1) []) slot ≡
@@ -122,17 +122,17 @@ module _ {V : Type 0} where
         ls)) slot lt
         ∙ is)
 
-  -- in front of all leaves
+  -- before all leaves
   pub slot_first : (ls : List (List (List ℕ × V))) (key : List ℕ) → All (λ leaf. 0 < length leaf) ls → IsAboveAt
       (first_keys ls) 0 key
       → IsSlot (keys_in (entries_in ls)) key 0 false
   slot_first ls key filled above = (
     omega arith,
     (λ some. absurd (omega (arith, some))),
-    λ some. first_behind ls 0 key filled above (let m = length_keys (entries_in ls) in omega (arith, m, some)),
+    λ some. first_after ls 0 key filled above (let m = length_keys (entries_in ls) in omega (arith, m, some)),
   )
 
-  -- ---- looking a key up
+  -- ---- the look-up of a key
   pub none_first : (ls : List (List (List ℕ × V))) (now : List (List ℕ × V)) (key : List ℕ) (count : ℕ) → All (λ leaf. 0
       < length leaf) ls
       → IsAboveAt (first_keys ls) count key → count ≡ 0 → IsStrictlySortedBy key_cmp (keys_in (entries_in ls)) →
@@ -212,7 +212,7 @@ module _ {V : Type 0} where
   grown_ascend ls new key v n (Ok u) up slot ok err = still_ascend (entries_in ls) (entries_in new) key v n up slot ok
   grown_ascend ls new key v n (Err u) up slot ok err = subst (λ l. IsStrictlySortedBy key_cmp (keys_in l)) (sym err) up
 
-  -- one leaf more, at the end
+  -- one more leaf, at the end
   pub pushed : (ls new : List (List (List ℕ × V))) (e : List ℕ × V) → new ≡ ls ++ (e ∷ []) ∷ []
       → entries_in new ≡ insert (entries_in ls) (length (entries_in ls)) e
   pushed ls new e is =

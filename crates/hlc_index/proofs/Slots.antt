@@ -1,4 +1,4 @@
--- Where a key stands among ascending keys says what looking it up finds and where a new entry goes.
+-- The position of a key among ascending keys determines the result of its look-up and the position of a new entry.
 use Rattle.std.proofs.Common.{◌≡◌, ◌≤◌, ◌<◌, ◌+◌, ◌-◌, ◌++◌, ◌∷◌, ◌∙◌, ℕ, zero, suc, List, [], get_or, length, arith}
 use Rattle.std.proofs.Common.{refl, ap, sym, subst}
 use Rattle.std.specs.Prelude.{slice_get}
@@ -36,7 +36,7 @@ pub none_some : {X : Type 0} {x : X} → None ≡ Some x → ⊥
 none_some e = cc
 
 module _ {V : Type 0} where
-  -- every key in front is below the key, and every one from there on above it
+  -- every key before the position is below the key, and every key from there on is above it
   abbrev Parts : List (List ℕ × V) → List ℕ → ℕ → Type 0
   Parts es key n =
       ((i : ℕ) → i < n → key_cmp (get_or (keys_in es) i []) key ≡ Less)
@@ -74,7 +74,7 @@ module _ {V : Type 0} where
       (other e.0 key (p.0 0 (omega arith)))
       ∙ ap (λ l. e ∷ l) (inserted_at es key v n (omega (arith, le)) (tail_front e es key n p))
 
-  -- among ascending keys the neighbours of a slot tell of all keys
+  -- among ascending keys, the neighbours of a slot decide about all keys
   pub parts : (es : List (List ℕ × V)) (key : List ℕ) (n : ℕ) → IsStrictlySortedBy key_cmp (keys_in es)
       → IsSlot (keys_in es) key n false → Parts es key n
   parts es key n up slot = (
@@ -96,7 +96,7 @@ module _ {V : Type 0} where
         ],
   )
 
-  -- a key that stands at a slot among ascending keys is found there
+  -- a key at a slot among ascending keys is found there
   pub at_key : (es : List (List ℕ × V)) (n : ℕ) (key : List ℕ) (v : V) → slice_get es n ≡ Some (key, v)
       → get_or (keys_in es) n [] ≡ key
   at_key [] n key v is = absurd (none_some is)

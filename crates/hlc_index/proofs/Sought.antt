@@ -1,4 +1,5 @@
--- The place of a key parts the entries: keys ascend, so all in front of it are below the key, and none from it on is.
+-- The position of a key divides the entries: keys ascend, so all entries before it are below the key, and no later one
+-- is.
 use Rattle.std.proofs.Common.{◌≡◌, ◌≢◌, ◌≤◌, ◌<◌, ◌+◌, ◌-◌, ◌++◌, ◌∷◌, ◌∙◌, ℕ, List}
 use Rattle.std.proofs.Common.{[], get_or, length, arith, refl, ap}
 use Rattle.std.proofs.Common.{sym, subst, take, drop, Bool, true, false, All, Less, Equal, Greater, Ordering, inl, inr}
@@ -25,7 +26,7 @@ equal_less : Equal ≡ Less → ⊥
 equal_less e = cc
 
 module _ {V : Type 0} where
-  -- a place in the whole list
+  -- a position in the whole list
   module _ (es : List (List ℕ × V)) (key : List ℕ) (n : ℕ) (up : IsStrictlySortedBy key_cmp (keys_in es)) where
     below : (b : Bool) → IsSlot (keys_in es) key n b → (i : ℕ) → i < n → key_cmp (get_or (keys_in es) i []) key ≡ Less
     below false slot i lt = (parts es key n up slot).0 i lt
@@ -45,7 +46,7 @@ module _ {V : Type 0} where
           (subst (λ k. key_cmp k key ≡ Equal) (sym slot.1) (itself key)))
     ]
 
-    -- two lists that are the whole one, parted at the place
+    -- two lists that are the whole one, divided at the position
     module _ (b : Bool) (slot : IsSlot (keys_in es) key n b) (front back : List (List ℕ × V)) (is : es ≡ front ++ back)
         (at : length front ≡ n) where
       key_of : (i : ℕ) (d : List ℕ × V) → i < length es → (get_or es i d).0 ≡ get_or (keys_in es) i []
@@ -71,7 +72,7 @@ module _ {V : Type 0} where
           subst (λ k. key_cmp k key ≢ Less) (sym e)
           (not_below b slot (length front + i) (omega (arith, at)) (omega (arith, lt, m)))
 
-  -- a slot of a leaf parts the whole list
+  -- a slot of a leaf divides the whole list
   pub parted : (ls : List (List (List ℕ × V))) (at slot : ℕ) → at < length ls
       → entries_in ls ≡ entries_before ls at slot ++ entries_from ls at slot
   parted ls at slot inside =
@@ -88,7 +89,7 @@ module _ {V : Type 0} where
   parted_first [] = refl
   parted_first (l ∷ ls) = refl
 
-  -- the slot that a leaf's search found
+  -- the slot that the search of a leaf found
   module _ (ls : List (List (List ℕ × V))) (count slot : ℕ) (key : List ℕ) (leaf : List (List ℕ × V)) (b : Bool)
       (filled : All (λ leaf. 0 < length leaf) ls) (some : count ≡ 0 → ⊥) (inside : count ≤ length ls)
       (upto : IsUptoAt (first_keys ls) count key) (above : IsAboveAt (first_keys ls) count key)
@@ -144,7 +145,7 @@ module _ {V : Type 0} where
     leaf_back = back_not_below (entries_in ls) key (length (entries_in (take (count - 1) ls)) + slot) up b there
         (entries_before ls (count - 1) slot) (entries_from ls (count - 1) slot) leaf_parted front_long
 
-  -- in front of all leaves
+  -- before all leaves
   pub first_back : (ls : List (List (List ℕ × V))) (key : List ℕ) (count : ℕ) → All (λ leaf. 0 < length leaf) ls
       → IsAboveAt (first_keys ls) count key → count ≡ 0 → IsStrictlySortedBy key_cmp (keys_in (entries_in ls))
       → All (λ e. key_cmp e.0 key ≢ Less) (entries_from ls 0 0)

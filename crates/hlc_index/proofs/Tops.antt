@@ -1,4 +1,4 @@
--- What the heads of the leaves' first keys stay when leaves change.
+-- What is true of the heads of the leaves' first keys after leaves change.
 use Rattle.std.proofs.Common.{◌≡◌, ◌≤◌, ◌<◌, ◌+◌, ◌-◌, length-append, Less, Greater, ◌++◌, ◌∷◌, ◌∙◌, ℕ, zero, suc, List}
 use Rattle.std.proofs.Common.{[], get_or, set, length, arith, refl, ap, ap₂, sym, subst, All, map, take, drop}
 use Rattle.std.specs.List.{insert}
@@ -10,7 +10,7 @@ use Rattle.hlc_index.specs.Entries.{keys_in, first_key, first_keys, IsUptoAt, Is
 use Rattle.hlc_index.proofs.Heads.{below_by_head, above_by_head}
 use Rattle.hlc_index.proofs.LeafLemmas.{heads_insert, all_insert, keys_with}
 
--- what leaves side by side keep
+-- what is true of leaves side by side: the heads are those of their first keys, which are bytes, and no leaf is empty
 abbrev pub AreLeaves : {V : Type 0} → List ℕ → List (List (List ℕ × V)) → Type 0
 AreLeaves tops leaves =
     (tops ≡ map head_of (first_keys leaves)) × All AreBytes (first_keys leaves) × All (λ leaf. 0 < length leaf) leaves
@@ -22,11 +22,11 @@ module _ {V : Type 0} where
   pub first_insert_front : (leaf : List (List ℕ × V)) (e : List ℕ × V) → first_key (insert leaf 0 e) ≡ e.0
   first_insert_front leaf e = refl
 
-  pub first_insert_behind : (leaf : List (List ℕ × V)) (slot : ℕ) (e : List ℕ × V) → 0 < slot → 0 < length leaf
+  pub first_insert_after : (leaf : List (List ℕ × V)) (slot : ℕ) (e : List ℕ × V) → 0 < slot → 0 < length leaf
       → first_key (insert leaf slot e) ≡ first_key leaf
-  first_insert_behind leaf zero e some filled = absurd (omega (arith, some))
-  first_insert_behind [] (suc slot) e some filled = absurd (omega (arith, filled))
-  first_insert_behind (x ∷ xs) (suc slot) e some filled = refl
+  first_insert_after leaf zero e some filled = absurd (omega (arith, some))
+  first_insert_after [] (suc slot) e some filled = absurd (omega (arith, filled))
+  first_insert_after (x ∷ xs) (suc slot) e some filled = refl
 
   pub first_take : (leaf : List (List ℕ × V)) (slot : ℕ) → 0 < slot → 0 < length leaf → first_key (take slot leaf) ≡
       first_key leaf
@@ -43,7 +43,7 @@ module _ {V : Type 0} where
   pub filled_insert : (leaf : List (List ℕ × V)) (slot : ℕ) (e : List ℕ × V) → 0 < length (insert leaf slot e)
   filled_insert leaf slot e = omega (arith, length-append (take slot leaf) (e ∷ drop slot leaf))
 
-  -- a leaf with another in its place
+  -- a leaf replaced by another
   pub leaves_set : (tops : List ℕ) (leaves : List (List (List ℕ × V))) (more : List ℕ) (now : List (List (List ℕ × V)))
       (at : ℕ)
       (x : List (List ℕ × V)) (h : ℕ) → AreLeaves tops leaves → 0 < length x → AreBytes (first_key x) → h ≡ head_of
@@ -59,7 +59,7 @@ module _ {V : Type 0} where
         All-set (λ leaf. 0 < length leaf) leaves at x filled inv.2,
       ))
 
-  -- the same, where the first key stays
+  -- the same, if the first key does not change
   pub leaves_kept : (tops : List ℕ) (leaves : List (List (List ℕ × V))) (now : List (List (List ℕ × V))) (at : ℕ)
       (x : List (List ℕ × V)) → AreLeaves tops leaves → at < length leaves → 0 < length x
       → first_key x ≡ first_key (get_or leaves at []) → now ≡ set leaves at x → AreLeaves tops now
@@ -114,7 +114,7 @@ module _ {V : Type 0} where
             (All-drop (λ (leaf : List (List ℕ × V)). 0 < length leaf) n leaves inv.2)),
       ))
 
-  -- an entry put into a leaf
+  -- an entry inserted into a leaf
   pub put_filled : (leaf now : List (List ℕ × V)) (slot : ℕ) (e : List ℕ × V) → now ≡ insert leaf slot e → 0 < length
       now
   put_filled leaf now slot e is = subst (λ (l : List (List ℕ × V)). 0 < length l) (sym is) (filled_insert leaf slot e)
@@ -124,14 +124,14 @@ module _ {V : Type 0} where
   put_front leaf now slot e is none =
       sym (first_insert_front leaf e) ∙ ap (λ n. first_key (insert leaf n e)) (sym none) ∙ ap first_key (sym is)
 
-  pub put_behind : (leaves : List (List (List ℕ × V))) (at : ℕ) (leaf now : List (List ℕ × V)) (slot : ℕ) (e : List ℕ ×
+  pub put_after : (leaves : List (List (List ℕ × V))) (at : ℕ) (leaf now : List (List ℕ × V)) (slot : ℕ) (e : List ℕ ×
       V)
       → All (λ leaf. 0 < length leaf) leaves → at < length leaves → leaf ≡ get_or leaves at leaf → now ≡ insert leaf
       slot e
       → (slot ≡ 0 → ⊥) → first_key now ≡ first_key (get_or leaves at [])
-  put_behind leaves at leaf now slot e filled inside read is some =
+  put_after leaves at leaf now slot e filled inside read is some =
       let own : leaf ≡ get_or leaves at [] = get_or_read leaves at leaf inside read [] in
-      ap first_key is ∙ first_insert_behind leaf slot e (omega (arith, some))
+      ap first_key is ∙ first_insert_after leaf slot e (omega (arith, some))
       (subst (λ (l : List (List ℕ × V)). 0 < length l) (sym own) (filled at [] inside)) ∙ ap first_key own
 
   pub split_leaves : (tops : List ℕ) (leaves : List (List (List ℕ × V))) (more : List ℕ) (now : List (List (List ℕ ×
@@ -163,7 +163,7 @@ module _ {V : Type 0} where
       ))))
       (is ∙ ap head_of (sym first)) e f
 
-  -- what the heads of the leaves tell of their first keys
+  -- what the heads of the leaves imply for their first keys
   module _ (tops : List ℕ) (leaves now : List (List (List ℕ × V))) (slice key : List ℕ) (head n : ℕ) (inv : AreLeaves
       tops leaves)
       (view : leaves ≡ now) (same : slice ≡ tops) (own : AreBytes key) (is : head ≡ head_of key) where
@@ -176,24 +176,24 @@ module _ {V : Type 0} where
     as_many : length slice ≡ length (first_keys now)
     as_many = ap length heads_are ∙ length-map (first_keys now) head_of
 
-    pub told_upto : n ≤ length slice → (0 < n → get_or slice (n - 1) 0 < head) → IsUptoAt (first_keys now) n key
-    told_upto inside lt some above =
+    pub headed_upto : n ≤ length slice → (0 < n → get_or slice (n - 1) 0 < head) → IsUptoAt (first_keys now) n key
+    headed_upto inside lt some above =
         let below = below_by_head (first_keys now) slice heads_are bytes_are key own n (omega (arith, inside, as_many))
         (λ some. subst (λ m. get_or slice (n - 1) 0 < m) is (lt some)) some in
         less_greater (sym below ∙ above)
 
-    pub told_above : (n < length slice → head < get_or slice n 0) → IsAboveAt (first_keys now) n key
-    told_above lt =
+    pub headed_above : (n < length slice → head < get_or slice n 0) → IsAboveAt (first_keys now) n key
+    headed_above lt =
         above_by_head (first_keys now) slice heads_are bytes_are key own n
         (λ inside. subst (λ m. m < get_or slice n 0) is (lt (omega (arith, inside, as_many))))
 
-    pub told_alike : n < length slice → get_or slice n 0 ≡ head → head_of (get_or (first_keys now) n []) ≡ head
-    told_alike inside alike =
+    pub headed_alike : n < length slice → get_or slice n 0 ≡ head → head_of (get_or (first_keys now) n []) ≡ head
+    headed_alike inside alike =
         sym (get_or-map head_of (first_keys now) n [] 0 (omega (arith, inside, as_many)))
         ∙ ap (λ (hs : List ℕ). get_or hs n 0) (sym heads_are) ∙ alike
 
-    pub told_inside : n < length slice → n < length now
-    told_inside inside = let m = length-map now first_key in omega (arith, inside, as_many, m)
+    pub headed_inside : n < length slice → n < length now
+    headed_inside inside = let m = length-map now first_key in omega (arith, inside, as_many, m)
 
   pub first_bytes : (tops : List ℕ) (leaves now : List (List (List ℕ × V))) (n : ℕ) → AreLeaves tops leaves
       → leaves ≡ now → n < length now → AreBytes (get_or (first_keys now) n [])

@@ -1,4 +1,4 @@
--- Another value for a key that is there: the one at its place in its leaf.
+-- Another value for a key that is there: the one at its position in its leaf.
 use Rattle.std.proofs.Common.{◌≡◌, ◌≤◌, ◌<◌, ◌+◌, ◌-◌, ◌++◌, ◌∷◌, ◌∙◌, ℕ, zero, suc, List, [], get_or, length, arith}
 use Rattle.std.proofs.Common.{refl, ap, sym, subst, take, drop}
 use Rattle.std.proofs.Common.{Bool, true, false, cond, None, Some, Option, IsSome, true≢false, Less, Equal, All}
@@ -51,7 +51,7 @@ module _ {V : Type 0} where
       arith in e)
       ∙ ap (λ l. x ∷ l) (value_joined xs leaf back i w lt)
 
-  -- the place of a slot among all entries
+  -- the position of a slot among all entries
   module _ (ls : List (List (List ℕ × V))) (at slot : ℕ) (inside : at < length ls) (lt : slot < length (get_or ls at
       [])) where
     abbrev place : ℕ
@@ -99,7 +99,7 @@ module _ {V : Type 0} where
         ∙ entry_joined (entries_in (take at ls)) (get_or ls at []) (entries_in (drop (at + 1) ls)) slot lt
         ∙ read ∙ ap (λ k. Some (k, v)) is)
 
-  -- a key that is there stands behind the first key of some leaf
+  -- a key that is there is not below the first key of some leaf
   pub some_count : (ls : List (List (List ℕ × V))) (now : List (List ℕ × V)) (key : List ℕ) (count : ℕ) → All (λ leaf. 0
       < length leaf) ls
       → IsAboveAt (first_keys ls) count key → IsStrictlySortedBy key_cmp (keys_in (entries_in ls)) → entries_in ls ≡ now

@@ -1,4 +1,4 @@
--- Keys with their values, and where a key stands among them.
+-- Keys with their values, and the position of a key among them.
 use Rattle.std.specs.Prelude.{◌≡◌, ◌≢◌, ◌-◌, ◌+◌, ◌<◌, ◌≤◌, ℕ, Bool, true, false, List, map, length, slice_index_or, []}
 use Rattle.std.specs.Prelude.{slice_set, flat_map, take, drop, ◌++◌}
 use Rattle.std.specs.Prelude.{Option, None, Some}
@@ -9,7 +9,7 @@ use Rattle.std.specs.declared.cmp.Ordering.{Ordering}
 use Rattle.std.specs.declared.cmp.Ordering.TheVariants.{Less, Greater}
 use Rattle.std.specs.Cmp.Lexicographic.{slice_cmp}
 
--- how two keys compare, byte by byte
+-- the order of two keys, byte by byte
 abbrev pub key_cmp : List ℕ → List ℕ → Ordering
 key_cmp a b = slice_cmp nat_cmp a b
 
@@ -17,15 +17,15 @@ key_cmp a b = slice_cmp nat_cmp a b
 abbrev pub keys_in : {V : Type 0} → List (List ℕ × V) → List (List ℕ)
 keys_in entries = map (λ e. e.0) entries
 
--- the key in front of a place is below a key
+-- the key before a position is below a key
 abbrev pub IsBelowAt : List (List ℕ) → ℕ → List ℕ → Type 0
 IsBelowAt keys n key = 0 < n → key_cmp (slice_index_or keys (n - 1) []) key ≡ Less
 
--- the key at a place is above a key
+-- the key at a position is above a key
 abbrev pub IsAboveAt : List (List ℕ) → ℕ → List ℕ → Type 0
 IsAboveAt keys n key = n < length keys → key_cmp (slice_index_or keys n []) key ≡ Greater
 
--- a key stands at a place, or would stand there
+-- a key is at a position, or belongs there
 abbrev pub IsSlot : List (List ℕ) → List ℕ → ℕ → Bool → Type 0
 IsSlot keys key n true = (n < length keys) × (slice_index_or keys n [] ≡ key)
 IsSlot keys key n false = (n ≤ length keys) × IsBelowAt keys n key × IsAboveAt keys n key
@@ -38,7 +38,7 @@ first_key entries = slice_index_or (keys_in entries) 0 []
 abbrev pub first_keys : {V : Type 0} → List (List (List ℕ × V)) → List (List ℕ)
 first_keys leaves = map first_key leaves
 
--- the key in front of a place is not above a key
+-- the key before a position is not above a key
 abbrev pub IsUptoAt : List (List ℕ) → ℕ → List ℕ → Type 0
 IsUptoAt keys n key = 0 < n → key_cmp (slice_index_or keys (n - 1) []) key ≢ Greater
 
@@ -46,11 +46,11 @@ IsUptoAt keys n key = 0 < n → key_cmp (slice_index_or keys (n - 1) []) key ≢
 abbrev pub entries_in : {V : Type 0} → List (List (List ℕ × V)) → List (List ℕ × V)
 entries_in leaves = flat_map (λ leaf. leaf) leaves
 
--- the entry of a key, if there is one
+-- the key is equal to the other
 abbrev pub is_key : List ℕ → List ℕ → Bool
 is_key key other = is_eq (key_cmp key other)
 
--- the entries in front of a slot of a leaf
+-- the entries before a slot of a leaf
 abbrev pub entries_before : {V : Type 0} → List (List (List ℕ × V)) → ℕ → ℕ → List (List ℕ × V)
 entries_before leaves at slot = entries_in (take at leaves) ++ take slot (slice_index_or leaves at [])
 
@@ -58,7 +58,7 @@ entries_before leaves at slot = entries_in (take at leaves) ++ take slot (slice_
 abbrev pub entries_from : {V : Type 0} → List (List (List ℕ × V)) → ℕ → ℕ → List (List ℕ × V)
 entries_from leaves at slot = drop slot (slice_index_or leaves at []) ++ entries_in (drop (at + 1) leaves)
 
--- the same with one entry more in a leaf
+-- the entries with one more in a leaf
 abbrev pub entries_with : {V : Type 0} → List (List (List ℕ × V)) → ℕ → ℕ → List ℕ × V → List (List ℕ × V)
 entries_with leaves at slot entry =
     entries_in (take at leaves) ++ insert (slice_index_or leaves at []) slot entry ++ entries_in (drop (at + 1) leaves)
@@ -77,7 +77,7 @@ IsEntryAt leaves key at slot =
     (at < length leaves) × (slot < length (slice_index_or leaves at []))
     × (slice_index_or (keys_in (slice_index_or leaves at [])) slot [] ≡ key)
 
--- the leaf and the slot of a key, or none where no entry has it
+-- the leaf and the slot of a key, or none if no entry has it
 abbrev pub IsPlace : {V : Type 0} → List (List (List ℕ × V)) → List ℕ → Option (ℕ × ℕ) → Type 0
 IsPlace leaves key None = lookup (is_key key) (entries_in leaves) ≡ None
 IsPlace leaves key (Some p) = IsEntryAt leaves key p.0 p.1

@@ -5,7 +5,7 @@ use Rattle.std.specs.Prelude.{ℕ, zero, suc, List, ◌+◌, ◌*◌, ◌<◌, s
 abbrev pub AreBytes : List ℕ → Type 0
 AreBytes key = (k : ℕ) → slice_index key k < 256
 
--- the first n bytes of a key, the first one highest, with zeros behind its end
+-- the first n bytes of a key, the first one highest, with zeros after its end
 unfoldable pub head_upto : ℕ → List ℕ → ℕ
 head_upto zero key = 0
 head_upto (suc n) key = head_upto n key * 256 + slice_index key n

@@ -1,11 +1,11 @@
-//! Values that may have nothing in them.
+//! Values that may be empty.
 ghost use Rattle.std.specs.Prelude.{◌≡◌, Bool};
 
-/// A value that may have nothing in it any more. The ghost member says which values are filled.
+/// A value that may be empty. The ghost member says which values are filled.
 pub trait Filled {
     ghost is_filled: { Self → Bool };
 
-    /// Whether there is something in it.
+    /// Returns whether the value is filled.
     fn is_filled(&self) -> bool
         ensures { result ≡ is_filled self.now };
 }

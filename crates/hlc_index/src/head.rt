@@ -5,19 +5,20 @@ ghost use Rattle.hlc_index.specs.Head.{head_of, head_upto, AreBytes};
 
 use std::cmp::Ordering;
 
-/// A head has so many bytes.
+/// The number of bytes of a head.
 const HEAD: usize = 16;
 
-/// Among more heads than these a place is sought by halves first.
+/// Among more heads than these the range is halved first.
 const MANY: usize = 256;
 
-/// Of so many heads side by side the last is compared first.
+/// In a run of this many heads the last one is compared first.
 const RUN: usize = 16;
 
-/// What a number of eight bytes is multiplied by to stand in front of eight others.
+/// The factor that moves a number of eight bytes above eight other bytes.
 const ABOVE: u128 = 0x1_0000_0000_0000_0000;
 
-/// The first sixteen bytes of a key, the first one highest, with zeros behind a shorter key.
+/// Returns the first sixteen bytes of a key as a number, the first byte highest, with zeros after a
+/// shorter key.
 pub(crate) fn head_of(key: &[u8]) -> u128
     ensures value { result ≡ head_of key.now }
     ensures bytes { AreBytes key.now }
@@ -30,7 +31,7 @@ pub(crate) fn head_of(key: &[u8]) -> u128
     front as u128 * ABOVE + back as u128
 }
 
-/// The first eight bytes, the first one highest, with zeros behind fewer.
+/// Returns the first eight bytes as a number, the first byte highest, with zeros after fewer.
 fn first_eight(key: &[u8]) -> u64
     ensures value { result ≡ head_upto 8 key.now }
     ensures bytes { AreBytes key.now }
@@ -43,7 +44,7 @@ fn first_eight(key: &[u8]) -> u64
     ])
 }
 
-/// The same of fewer than eight bytes.
+/// Returns the same for fewer than eight bytes.
 fn short_head(key: &[u8]) -> u64
     ensures { result ≡ head_upto 8 key.now }
 {
@@ -54,14 +55,14 @@ fn short_head(key: &[u8]) -> u64
     head
 }
 
-/// A byte of a key, or 0 behind its end.
+/// Returns a byte of a key, or 0 after its end.
 fn byte_at(key: &[u8], i: usize) -> u8
     ensures { result ≡ slice_index key.now i }
 {
     if i < key.len() { key[i] } else { 0 }
 }
 
-/// How two keys of one head compare. Where neither is longer than a head, their lengths tell.
+/// Compares two keys with equal heads. If neither is longer than a head, their lengths decide.
 pub(crate) fn compare_alike(key: &[u8], other: &[u8]) -> Ordering
     requires alike { head_of key.now ≡ head_of other.now }
     requires bytes { AreBytes key.now }
@@ -74,7 +75,8 @@ pub(crate) fn compare_alike(key: &[u8], other: &[u8]) -> Ordering
     key.cmp(other)
 }
 
-/// The bounds of at most `MANY` heads among which a head has its place, where they rise.
+/// Returns bounds between at most `MANY` heads. If the heads ascend, the position of `head` is
+/// between them.
 fn narrowed(heads: &[u128], head: u128) -> (usize, usize)
     ensures order { result.0 ≤ result.1 }
     ensures inside { result.1 ≤ length heads.now }
@@ -92,7 +94,7 @@ fn narrowed(heads: &[u128], head: u128) -> (usize, usize)
     (low, high)
 }
 
-/// How many runs of heads end below a head.
+/// Returns the number of runs whose last head is below a head.
 fn runs_below(heads: &[u128], head: u128) -> usize
     ensures { RUN * result ≤ length heads.now }
 {
@@ -105,7 +107,7 @@ fn runs_below(heads: &[u128], head: u128) -> usize
     count
 }
 
-/// How many of some heads are below a head.
+/// Returns the number of heads that are below a head.
 fn heads_below(heads: &[u128], head: u128) -> usize
     ensures { result ≤ length heads.now }
 {
@@ -116,8 +118,9 @@ fn heads_below(heads: &[u128], head: u128) -> usize
     count
 }
 
-/// Where a head stands among heads that rise. Of others it is some place. What is compared next does not depend on what
-/// was found, as it does by halves, so a processor waits for no answer and guesses none.
+/// Returns the position of a head among ascending heads. Among others it is some position. After the halving, the next
+/// comparison does not depend on the result of the last one, so a processor neither waits for a result nor predicts a
+/// branch.
 fn likely_place(heads: &[u128], head: u128) -> usize
     ensures { result ≤ length heads.now }
 {
@@ -127,8 +130,8 @@ fn likely_place(heads: &[u128], head: u128) -> usize
     run + heads_below(&heads[run..end], head)
 }
 
-/// How many of the first heads are below a head, where no later one is below it: sought from the likely place on, which
-/// it is where heads rise.
+/// Returns a position such that the head before it is below `head` and the head at it is not. It searches from the
+/// likely position, which is the result if the heads ascend.
 fn count_below(heads: &[u128], head: u128) -> usize
     ensures inside { result ≤ length heads.now }
     ensures below { 0 < result → slice_index heads.now (result - 1) < head }
@@ -144,7 +147,8 @@ fn count_below(heads: &[u128], head: u128) -> usize
     place
 }
 
-/// How many of the first heads are below a head, where no later one is below it, and whether the next is that head.
+/// Returns a position such that the head before it is below `head` and the head at it is not, and whether the head at
+/// it is `head`.
 pub(crate) fn place_of_head(heads: &[u128], head: u128) -> (usize, bool)
     ensures inside { result.0 ≤ length heads.now }
     ensures below { 0 < result.0 → slice_index heads.now (result.0 - 1) < head }

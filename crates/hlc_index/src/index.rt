@@ -18,8 +18,8 @@ use hlc_node::Bytes;
 use std::alloc::{AllocFailed, Global};
 use std::marker::Model;
 
-/// A map from keys to values. Contracts see its leaves, the list of the entries of each. One after another these are
-/// the entries of the map, whose keys ascend byte by byte.
+/// A map from keys to values. In contracts it is its leaves, the list of the entries of each. One after another these
+/// are the entries of the map, whose keys ascend byte by byte.
 #[derive(Debug, Drop)]
 pub struct Index<V> {
     leaves: Leaves<V>,
@@ -41,7 +41,7 @@ impl<V> Model for Index<V> {
 }
 
 impl<V: Drop> Index<V> {
-    /// A map without entries.
+    /// Returns a map without entries.
     pub fn new(alloc: Global) -> Index<V>
         ensures { result ≡ [] }
     {
@@ -50,7 +50,7 @@ impl<V: Drop> Index<V> {
         }
     }
 
-    /// How many leaves there are. No leaf is empty.
+    /// Returns the number of leaves. No leaf is empty.
     pub fn leaves(&self) -> usize
         ensures count { result ≡ length self.now }
         ensures ascend { IsStrictlySortedBy key_cmp (keys_in (entries_in self.now)) }
@@ -58,7 +58,7 @@ impl<V: Drop> Index<V> {
         self.leaves.len()
     }
 
-    /// The entries of a leaf.
+    /// Returns the entries of a leaf.
     pub fn leaf(&self, at: usize) -> &[(Bytes, V)]
         requires { at < length self.now }
         ensures { result.now ≡ slice_index_or self.now at [] }
@@ -66,7 +66,7 @@ impl<V: Drop> Index<V> {
         self.leaves.leaf(at).entries()
     }
 
-    /// The value of a key. It takes no memory.
+    /// Returns the value of a key, or none. It needs no memory.
     pub fn get(&self, key: &[u8]) -> Option<&V>
         ensures value { option_copied result ≡ lookup (is_key key.now) (entries_in self.now) }
         ensures ascend { IsStrictlySortedBy key_cmp (keys_in (entries_in self.now)) }
@@ -85,7 +85,7 @@ impl<V: Drop> Index<V> {
         }
     }
 
-    /// The leaf and the slot of a key. It takes no memory.
+    /// Returns the leaf and the slot of a key, or none. It needs no memory.
     pub fn find(&self, key: &[u8]) -> Option<(usize, usize)>
         ensures place { IsPlace self.now key.now result }
         ensures ascend { IsStrictlySortedBy key_cmp (keys_in (entries_in self.now)) }
@@ -103,8 +103,8 @@ impl<V: Drop> Index<V> {
         }
     }
 
-    /// The leaf and the slot of the first entry whose key is not below a key, or the end of its leaf, where all entries
-    /// of that leaf are below it. It takes no memory.
+    /// Returns the leaf and the slot of the first entry whose key is not below a key, or the end of its leaf if all
+    /// entries of that leaf are below it. It needs no memory.
     pub fn seek(&self, key: &[u8]) -> (usize, usize)
         ensures inside { result.1 ≤ length (slice_index_or self.now result.0 []) }
         ensures whole { entries_in self.now
@@ -124,7 +124,8 @@ impl<V: Drop> Index<V> {
         (count - 1, slot)
     }
 
-    /// Adds an entry whose key is new. Where memory lacks, it comes back, and nothing is changed.
+    /// Adds an entry whose key is new. If memory runs out, the error returns the entry, and nothing
+    /// is changed.
     pub fn insert(&mut self, key: Bytes, value: V) -> Result<(), AllocFailed<(Bytes, V)>>
         requires { lookup (is_key key) (entries_in self.old) ≡ None }
         ensures ok { OnOk result
@@ -149,7 +150,7 @@ impl<V: Drop> Index<V> {
         self.leaves.put(at, slot, entry, head)
     }
 
-    /// The value at a slot of a leaf, to be changed.
+    /// Lends the value at a slot of a leaf for a change.
     pub fn value_mut(&mut self, at: usize, slot: usize) -> &mut V
         requires leaf { at < length self.old }
         requires inside { slot < length (slice_index_or self.old at []) }
@@ -162,7 +163,8 @@ impl<V: Drop> Index<V> {
         self.leaves.value_mut(at, slot)
     }
 
-    /// The leaf and the slot of the greatest key. It takes no memory.
+    /// Returns the leaf and the slot of the greatest key, or none if there are no entries. It needs
+    /// no memory.
     pub fn last(&self) -> Option<(usize, usize)>
         ensures absent { IsNone result ↔ (entries_in self.now ≡ []) }
         ensures leaf { IfSome result (λ p. p.0 < length self.now) }
@@ -182,7 +184,8 @@ impl<V: Drop> Index<V> {
 }
 
 impl<V: Drop + Filled> Index<V> {
-    /// Removes the entries whose value is not filled. It takes no memory. A leaf that is left without entries goes too.
+    /// Removes the entries whose value is not filled. It needs no memory. A leaf that is left without entries is
+    /// removed too.
     pub fn keep_filled(&mut self)
         ensures { entries_in self.new ≡ filter (λ e. V.is_filled e.1) (entries_in self.old) }
     {

@@ -17,10 +17,10 @@ use std::alloc::{AllocFailed, Global};
 use std::cmp::Ordering;
 use std::marker::Model;
 
-/// A leaf has at most so many entries.
+/// The maximum number of entries of a leaf.
 pub(crate) const MOST_ENTRIES: usize = 128;
 
-/// Some entries in the order of their keys. Contracts see their list.
+/// Some entries in the order of their keys. In contracts it is the list of them.
 #[derive(Debug, Drop)]
 pub(crate) struct Leaf<V> {
     heads: Vec<u128>,
@@ -44,7 +44,7 @@ impl<V> Model for Leaf<V> {
 }
 
 impl<V> Leaf<V> {
-    /// A leaf without entries.
+    /// Returns a leaf without entries.
     pub(crate) fn new(alloc: Global) -> Leaf<V>
         ensures { result ≡ [] }
     {
@@ -54,21 +54,21 @@ impl<V> Leaf<V> {
         }
     }
 
-    /// How many entries there are.
+    /// Returns the number of entries.
     pub(crate) fn len(&self) -> usize
         ensures { result ≡ length self.now }
     {
         self.entries.len()
     }
 
-    /// The entries.
+    /// Returns the entries.
     pub(crate) fn entries(&self) -> &[(Bytes, V)]
         ensures { result.now ≡ self.now }
     {
         self.entries.as_slice()
     }
 
-    /// The key at a slot.
+    /// Returns the key at a slot.
     pub(crate) fn key(&self, slot: usize) -> &[u8]
         requires { slot < length self.now }
         ensures { result.now ≡ slice_index_or (keys_in self.now) slot [] }
@@ -77,7 +77,8 @@ impl<V> Leaf<V> {
         entry.0.as_slice()
     }
 
-    /// Where a key stands, or would stand. Heads decide, and where they are alike, whole keys.
+    /// Returns the slot of a key, or the slot where it belongs, and whether it is there. Heads
+    /// decide; if they are equal, whole keys do.
     pub(crate) fn find(&self, key: &[u8], head: u128) -> (usize, bool)
         requires head { head ≡ head_of key.now }
         requires bytes { AreBytes key.now }
@@ -94,7 +95,7 @@ impl<V> Leaf<V> {
         }
     }
 
-    /// The same from a slot on, by whole keys.
+    /// Returns the same, searching from a slot on by whole keys.
     fn find_from(&self, from: usize, key: &[u8]) -> (usize, bool)
         requires inside { from ≤ length self.now }
         requires below { IsBelowAt (keys_in self.now) from key.now }
@@ -113,7 +114,7 @@ impl<V> Leaf<V> {
         (low, false)
     }
 
-    /// A leaf without entries, with room for as many as a leaf may have.
+    /// Returns a leaf without entries that has the capacity for a full one.
     pub(crate) fn with_room(alloc: Global) -> Result<Leaf<V>, NoMemory>
         ensures { IfOk result (λ leaf. leaf ≡ []) }
     {
@@ -122,7 +123,8 @@ impl<V> Leaf<V> {
         Ok(Leaf { heads, entries })
     }
 
-    /// Puts an entry at a slot. Where memory lacks, it comes back, and nothing is changed.
+    /// Inserts an entry at a slot. If memory runs out, the error returns the entry, and nothing is
+    /// changed.
     pub(crate) fn insert(
         &mut self,
         slot: usize,
@@ -148,7 +150,8 @@ impl<V> Leaf<V> {
         }
     }
 
-    /// Takes the entries from a slot on away into a leaf of their own. Where memory lacks, nothing is changed.
+    /// Moves the entries from a slot on into a leaf of their own, which it returns. If memory runs out, nothing is
+    /// changed.
     pub(crate) fn split_off(&mut self, alloc: Global, slot: usize) -> Result<Leaf<V>, NoMemory>
         requires { slot ≤ length self.old }
         ensures ok { OnOk result (self.new ≡ take slot self.old) }
@@ -162,7 +165,7 @@ impl<V> Leaf<V> {
         Ok(Leaf { heads, entries })
     }
 
-    /// The value at a slot.
+    /// Returns the value at a slot.
     pub(crate) fn value(&self, slot: usize) -> &V
         requires { slot < length self.now }
         ensures { slice_get self.now slot ≡ Some (slice_index_or (keys_in self.now) slot [], result.now) }
@@ -171,7 +174,7 @@ impl<V> Leaf<V> {
         &entry.1
     }
 
-    /// The head of the key at a slot.
+    /// Returns the head of the key at a slot.
     pub(crate) fn head(&self, slot: usize) -> u128
         requires { slot < length self.now }
         ensures value { result ≡ head_of (slice_index_or (keys_in self.now) slot []) }
@@ -180,7 +183,7 @@ impl<V> Leaf<V> {
         self.heads[slot]
     }
 
-    /// The value at a slot, to be changed.
+    /// Lends the value at a slot for a change.
     pub(crate) fn value_mut(&mut self, slot: usize) -> &mut V
         requires { slot < length self.old }
         ensures* lends { sem 𝓛 (Lends (the_row V.row) V.row self.entry result
@@ -194,7 +197,7 @@ impl<V> Leaf<V> {
 }
 
 impl<V: Drop + Filled> Leaf<V> {
-    /// Removes the entries whose value is not filled. It takes no memory.
+    /// Removes the entries whose value is not filled. It needs no memory.
     pub(crate) fn keep_filled(&mut self)
         ensures { self.new ≡ filter (λ e. V.is_filled e.1) self.old }
     {
@@ -204,8 +207,8 @@ impl<V: Drop + Filled> Leaf<V> {
     }
 }
 
-/// Moves the entries whose value is filled to the front, in their order, and their heads with them. The result says
-/// how many there are.
+/// Moves the entries whose value is filled to the front, in their order, and their heads with them. Returns their
+/// number.
 fn move_filled<V: Filled>(heads: &mut [u128], entries: &mut [(Bytes, V)]) -> usize
     requires { heads.old ≡ map head_of (keys_in entries.old) }
     ensures few { result ≤ length entries.new }

@@ -19,10 +19,10 @@ use std::alloc::{AllocFailed, Global};
 use std::cmp::Ordering;
 use std::marker::Model;
 
-/// A full leaf is cut in two there.
+/// A full leaf is split into two at this slot.
 const HALF: usize = MOST_ENTRIES / 2;
 
-/// Leaves side by side, none of them empty. Contracts see the list of what contracts see of each.
+/// Leaves side by side, none of them empty. In contracts it is the list of them.
 #[derive(Debug, Drop)]
 pub(crate) struct Leaves<V> {
     alloc: Global,
@@ -47,7 +47,7 @@ impl<V> Model for Leaves<V> {
 }
 
 impl<V: Drop> Leaves<V> {
-    /// No leaves.
+    /// Returns a list of no leaves.
     pub(crate) fn new(alloc: Global) -> Leaves<V>
         ensures { result ≡ [] }
     {
@@ -58,14 +58,14 @@ impl<V: Drop> Leaves<V> {
         }
     }
 
-    /// How many leaves there are.
+    /// Returns the number of leaves.
     pub(crate) fn len(&self) -> usize
         ensures { result ≡ length self.now }
     {
         self.leaves.len()
     }
 
-    /// A leaf. It has an entry.
+    /// Returns a leaf. It has an entry.
     pub(crate) fn leaf(&self, at: usize) -> &Leaf<V>
         requires { at < length self.now }
         ensures value { result.now ≡ slice_index_or self.now at [] }
@@ -75,7 +75,7 @@ impl<V: Drop> Leaves<V> {
         &self.leaves[at]
     }
 
-    /// How many of the first leaves begin at or below a key.
+    /// Returns the number of leaves at the front that begin at or below a key.
     pub(crate) fn count_upto(&self, key: &[u8], head: u128) -> usize
         requires head { head ≡ head_of key.now }
         requires bytes { AreBytes key.now }
@@ -91,7 +91,8 @@ impl<V: Drop> Leaves<V> {
         self.count_alike(place, key, head)
     }
 
-    /// The same where a leaf begins at the head of the key, and all in front of it below.
+    /// Returns the same if a leaf begins with the head of the key, and all leaves before it with a
+    /// lower one.
     fn count_alike(&self, place: usize, key: &[u8], head: u128) -> usize
         requires inside { place < length self.now }
         requires alike { head_of (slice_index_or (first_keys self.now) place []) ≡ head }
@@ -112,7 +113,7 @@ impl<V: Drop> Leaves<V> {
         }
     }
 
-    /// Whether the head of a key tells that a leaf begins above it.
+    /// Returns whether the head of a key shows that a leaf begins above the key.
     fn is_above(&self, at: usize, key: &[u8], head: u128) -> bool
         requires inside { at < length self.now }
         requires head { head ≡ head_of key.now }
@@ -122,7 +123,7 @@ impl<V: Drop> Leaves<V> {
         self.tops[at] > head
     }
 
-    /// The first key of a leaf.
+    /// Returns the first key of a leaf.
     fn first_key(&self, at: usize) -> &[u8]
         requires { at < length self.now }
         ensures key { result.now ≡ slice_index_or (first_keys self.now) at [] }
@@ -132,7 +133,7 @@ impl<V: Drop> Leaves<V> {
         self.leaves[at].key(0)
     }
 
-    /// The same by whole keys, from a leaf on.
+    /// Returns the same, searching from a leaf on by whole keys.
     fn count_from(&self, from: usize, key: &[u8]) -> usize
         requires inside { from ≤ length self.now }
         requires upto { IsUptoAt (first_keys self.now) from key.now }
@@ -153,7 +154,7 @@ impl<V: Drop> Leaves<V> {
         low
     }
 
-    /// Whether a slot is the end of all entries and its leaf is full.
+    /// Returns whether a slot is the end of all entries and its leaf is full.
     pub(crate) fn is_full_end(&self, at: usize, slot: usize) -> bool
         requires { at < length self.now }
         ensures last { IsTrue result → length self.now ≡ at + 1 }
@@ -163,7 +164,8 @@ impl<V: Drop> Leaves<V> {
         at == last && slot >= MOST_ENTRIES && slot == self.leaf(at).len()
     }
 
-    /// Puts an entry into a leaf. Where memory lacks, it comes back, and nothing is changed.
+    /// Inserts an entry into a leaf. If memory runs out, the error returns the entry, and nothing
+    /// is changed.
     pub(crate) fn insert(
         &mut self,
         at: usize,
@@ -187,7 +189,7 @@ impl<V: Drop> Leaves<V> {
         Ok(())
     }
 
-    /// Adds a leaf of one entry at the end. Where memory lacks, the entry comes back, and nothing is changed.
+    /// Adds a leaf with one entry at the end. If memory runs out, the error returns the entry, and nothing is changed.
     pub(crate) fn push(
         &mut self,
         entry: (Bytes, V),
@@ -214,7 +216,7 @@ impl<V: Drop> Leaves<V> {
         Ok(())
     }
 
-    /// Cuts a leaf in two at a slot. Where memory lacks, nothing is changed.
+    /// Splits a leaf into two at a slot. If memory runs out, nothing is changed.
     pub(crate) fn split(&mut self, at: usize, slot: usize) -> Result<(), NoMemory>
         requires leaf { at < length self.old }
         requires front { 0 < slot }
@@ -237,8 +239,8 @@ impl<V: Drop> Leaves<V> {
         Ok(())
     }
 
-    /// Puts an entry into a leaf, which is cut in two where it is full. Where memory lacks, the entry comes back,
-    /// and the entries stay.
+    /// Inserts an entry into a leaf, which is split into two if it is full. If memory runs out, the error returns the
+    /// entry, and the entries do not change.
     pub(crate) fn put(
         &mut self,
         at: usize,
@@ -254,7 +256,7 @@ impl<V: Drop> Leaves<V> {
         ensures err { OnErr result (entries_in self.new ≡ entries_in self.old) }
         ensures value_returned { IfErr result (λ failed. failed.value ≡ entry) }
     {
-        // Reading the list says how many leaves there can be.
+        // Reading the list bounds the number of leaves.
         let _known = self.len();
         if self.leaf(at).len() < MOST_ENTRIES {
             return self.insert(at, slot, entry, head);
@@ -269,7 +271,7 @@ impl<V: Drop> Leaves<V> {
         }
     }
 
-    /// The value at a slot of a leaf, to be changed.
+    /// Lends the value at a slot of a leaf for a change.
     pub(crate) fn value_mut(&mut self, at: usize, slot: usize) -> &mut V
         requires leaf { at < length self.old }
         requires inside { slot < length (slice_index_or self.old at []) }
@@ -284,7 +286,7 @@ impl<V: Drop> Leaves<V> {
 }
 
 impl<V: Drop + Filled> Leaves<V> {
-    /// Removes the entries whose value is not filled, and the leaves that are left without entries. It takes no memory.
+    /// Removes the entries whose value is not filled, and the leaves that are left without entries. It needs no memory.
     pub(crate) fn keep_filled(&mut self)
         ensures { entries_in self.new ≡ filter (λ e. V.is_filled e.1) (entries_in self.old) }
     {
@@ -295,7 +297,7 @@ impl<V: Drop + Filled> Leaves<V> {
 }
 
 /// Removes the entries whose value is not filled, and moves the leaves that still have an entry to the front, in their
-/// order, with the heads of their first keys. The result says how many there are.
+/// order, with the heads of their first keys. Returns their number.
 fn move_filled<V: Drop + Filled>(tops: &mut [u128], leaves: &mut [Leaf<V>]) -> usize
     requires { length tops.old ≡ length leaves.old }
     ensures few { result ≤ length leaves.new }

@@ -1,4 +1,4 @@
-//! The index beside std's map.
+//! The index compared with std's map.
 ghost use Rattle.std.specs.Prelude.{not};
 ghost use Rattle.std.proofs.Common.{nat_eq};
 
@@ -6,7 +6,7 @@ use crate::{Bytes, Filled, Index};
 use std::alloc::{AllocError, AllocFailed, Global};
 use std::collections::BTreeMap;
 
-/// A count, which has nothing in it where it is 0.
+/// A count, which is not filled if it is 0.
 #[derive(Drop, Clone, Copy, PartialEq)]
 struct Count(u16);
 
@@ -18,7 +18,7 @@ impl Filled for Count {
     }
 }
 
-/// A key of this number: some begin alike, and some are short.
+/// Returns a key for this number: some begin alike, and some are short.
 fn key(alloc: Global, number: u16) -> Result<Vec<u8>, AllocError> {
     let prefix: &[u8] = match number % 4 {
         0 => b"",
@@ -34,7 +34,8 @@ fn key(alloc: Global, number: u16) -> Result<Vec<u8>, AllocError> {
     Ok(key)
 }
 
-/// The count of a number: many are 0, and so are all those of the keys that begin alike in one way.
+/// Returns the count for a number: many are 0, and so are all those of the keys with one of the
+/// prefixes.
 fn value_of(number: u16) -> Count {
     Count(if number % 4 == 1 || number % 7 == 0 {
         0
@@ -43,7 +44,7 @@ fn value_of(number: u16) -> Count {
     })
 }
 
-/// Gives a key the value, whether it is new or not.
+/// Sets the value of a key, whether it is new or not.
 fn put(
     index: &mut Index<Count>,
     alloc: Global,
@@ -65,7 +66,7 @@ fn put(
     }
 }
 
-/// Puts so many entries into both maps, in a scattered order.
+/// Adds this many entries to both maps, in a scattered order.
 fn fill(
     index: &mut Index<Count>,
     tree: &mut BTreeMap<Vec<u8>, Count>,
@@ -84,13 +85,13 @@ fn fill(
     Ok(())
 }
 
-/// The value of the greatest key.
+/// Returns the value of the greatest key.
 fn last(index: &Index<Count>) -> Option<Count> {
     let (at, slot) = index.last()?;
     Some(index.leaf(at)[slot].1)
 }
 
-/// Whether both maps have the same entries, in the same order.
+/// Returns whether both maps have the same entries, in the same order.
 fn are_alike(index: &Index<Count>, tree: &BTreeMap<Vec<u8>, Count>) -> bool {
     let mut rest = tree.iter();
     for at in 0..index.leaves() {
@@ -107,7 +108,8 @@ fn are_alike(index: &Index<Count>, tree: &BTreeMap<Vec<u8>, Count>) -> bool {
     rest.next().is_none() && last(index) == tree.last_key_value().map(|last| *last.1)
 }
 
-/// Whether both maps stay alike when they are filled, what is empty is removed, and they are filled again.
+/// Returns whether both maps stay alike after they are filled, their empty values are removed, and they are filled
+/// again.
 fn stay_alike(alloc: Global, entries: u16) -> Result<bool, AllocError> {
     let mut index = Index::new(alloc);
     let mut tree: BTreeMap<Vec<u8>, Count> = BTreeMap::new(alloc);
@@ -127,7 +129,7 @@ fn the_index_has_the_entries_of_a_tree(rt: HostRuntime) {
     }
 }
 
-/// Whether a box of nothing is filled, and whether a box of something is.
+/// Returns whether a box of an empty value is filled, and whether a box of a filled one is.
 fn are_filled(alloc: Global) -> Result<(bool, bool), AllocFailed<Count>> {
     let nothing = Box::new(alloc, Count(0))?;
     let something = Box::new(alloc, Count(1))?;

@@ -1,4 +1,4 @@
--- What a link's refusal is called: its number, the word that comes with it, and its text.
+-- The refusals of a link: the number, the word and the text of each.
 use Rattle.std.specs.Prelude.{ℕ, List, ◌++◌, codes, decimal}
 use Rattle.hlc_clock.specs.Stamp.{stamp_text}
 use Rattle.hlc_intake.specs.declared.intake.LinkFault.{LinkFault}
@@ -11,7 +11,7 @@ link_code (NotNext next) = 6
 link_code NumbersSpent = 14
 link_code (StampNotRising head) = 7
 
--- the word that comes with it, 0 where there is none
+-- the next number or the word of the head in it, 0 if there is neither
 abbrev pub link_word : LinkFault → ℕ
 link_word Retired = 0
 link_word (NotNext next) = next

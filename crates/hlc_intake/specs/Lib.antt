@@ -1,2 +1,2 @@
-pub mod Progress
+pub mod IntakeView
 pub mod Faults

@@ -1,37 +1,29 @@
-//! The receiving end of a link, as far as order goes.
+//! The receiving end of a link: the order of its items.
 ghost use Rattle.std.specs.Prelude.{◌≡◌, false};
-ghost use Rattle.std.proofs.Common.{rules};
-ghost use Rattle.std.proofs.lemmas.Grind.{common_steps};
 ghost use Rattle.hlc_intake.specs.Faults.{link_code, link_word};
-ghost use Rattle.hlc_intake.specs.Progress.{Admits};
+ghost use Rattle.hlc_intake.specs.IntakeView.{Admits};
 
 use hlc_clock::Stamp;
-use hlc_values::{Exact, NUMBER_BOUND};
+use hlc_values::NUMBER_BOUND;
 use std::error::Error;
 use std::fmt;
 use std::marker::Model;
 
-/// Why an item is not admitted.
+/// Why an item is refused.
 #[derive(Clone, Copy, PartialEq, Eq, Debug)]
 pub enum LinkFault {
     /// The link's last admitted item was its node's last.
     Retired,
     /// The link number is not the next one.
     NotNext { next: u64 },
-    /// The number is 2^64 - 1, which no item bears: none would be left after it.
+    /// The number is 2^64 - 1, which no item has: no number would be left after it.
     NumbersSpent,
-    /// The stamp is not above that of the link's last admitted item.
+    /// The stamp is not above the stamp of the link's last admitted item.
     StampNotRising { head: Stamp },
 }
 
-impl Exact for LinkFault {
-    ghost equal = { Prim.search (rules, common_steps) };
-
-    ghost copied = { Prim.search rules };
-}
-
 impl LinkFault {
-    /// Its number: 6, 7, 14 or 27.
+    /// Returns the number of this refusal: 6, 7, 14 or 27.
     pub fn code(self) -> u32
         ensures { result ≡ link_code self }
     {
@@ -43,7 +35,7 @@ impl LinkFault {
         }
     }
 
-    /// The next number or the word of the head that comes with it, or 0.
+    /// Returns the next number or the word of the head in this refusal, or 0.
     pub fn word(self) -> u64
         ensures { result ≡ link_word self }
     {
@@ -75,9 +67,8 @@ impl fmt::Display for LinkFault {
 
 impl Error for LinkFault {}
 
-/// How far a node's link has come: the number of its next item, the stamp of the last admitted one
-/// or else of the node's start, which is the head, and whether it was its node's last item. It knows
-/// the order alone, not what the items say.
+/// The progress of a node's link: the number of its next item; the head, which is the stamp of the last admitted item
+/// or else of the node's start; and whether that item was its node's last. It does not look at the bodies of items.
 #[derive(Clone, Copy, PartialEq, Eq, Debug)]
 pub struct Intake {
     next: u64,
@@ -86,9 +77,9 @@ pub struct Intake {
 }
 
 impl Model for Intake {
-    ghost use Rattle.hlc_intake.specs.Progress.{Progress};
+    ghost use Rattle.hlc_intake.specs.IntakeView.{IntakeView};
 
-    ghost Value = { Progress };
+    ghost Value = { IntakeView };
 
     ghost view = { λ intake. record
         { next = intake.next; head = intake.head; retired = intake.retired } };
@@ -97,23 +88,17 @@ impl Model for Intake {
         { next = progress.next; head = progress.head; retired = progress.retired } };
 }
 
-impl Exact for Intake {
-    ghost equal = { Prim.search (rules, common_steps) };
-
-    ghost copied = { Prim.search rules };
-}
-
 impl Intake {
-    /// The intake of a link on which nothing came: its first item has number 0, and its head is
-    /// 0.0, the stamp of no item.
+    /// Returns the intake of a link on which no item has arrived: its first item has number 0, and
+    /// its head is 0.0, the stamp of no item.
     pub fn new() -> Intake
         ensures { result ≡ record { next = 0; head = 0; retired = false } }
     {
         Intake::starting_at(Stamp::ZERO)
     }
 
-    /// The intake of the link of a node that starts at this stamp: its first item has number 0, and
-    /// lies above the start.
+    /// Returns the intake of the link of a node that starts at this stamp: its first item has
+    /// number 0 and a stamp above the start.
     pub fn starting_at(start: Stamp) -> Intake
         ensures { result ≡ record { next = 0; head = start; retired = false } }
     {
@@ -124,8 +109,8 @@ impl Intake {
         }
     }
 
-    /// The intake of a link that has come so far: its next number, its head, and whether its node
-    /// retired.
+    /// Returns the intake of a link with this progress: its next number, its head, and whether its
+    /// node has retired.
     pub fn resuming(next: u64, head: Stamp, retired: bool) -> Intake
         ensures { result ≡ record { next = next; head = head; retired = retired } }
     {
@@ -136,33 +121,33 @@ impl Intake {
         }
     }
 
-    /// The number of the next item, which is also how many were admitted.
+    /// Returns the number of the next item, which is also the number of admitted items.
     pub fn next(&self) -> u64
         ensures { result ≡ self.now.next }
     {
         self.next
     }
 
-    /// The stamp of the last admitted item, that of the start where there is none.
+    /// Returns the stamp of the last admitted item, or of the start if there is none.
     pub fn head(&self) -> Stamp
         ensures { result ≡ self.now.head }
     {
         self.head
     }
 
-    /// Whether the last admitted item was its node's last.
+    /// Returns whether the last admitted item was its node's last.
     pub fn retired(&self) -> bool
         ensures { result ≡ self.now.retired }
     {
         self.retired
     }
 
-    /// Admits the item of this number and stamp, if it is the link's next one. It may be the node's
-    /// last one.
+    /// Admits the item with this number and stamp if it is the link's next one. `last` marks the
+    /// node's last item.
     ///
-    /// Refused, in this order: the node retired; not the next number; no number left after it; a
-    /// stamp not above the head. A refusal leaves the intake unchanged, and takes no memory, as no
-    /// call here does.
+    /// Refused, in this order: the node has retired; not the next number; no number left after it;
+    /// a stamp not above the head. A refusal leaves the intake unchanged. No call here needs
+    /// memory.
     pub fn admit(&mut self, number: u64, stamp: Stamp, last: bool) -> Result<(), LinkFault>
         ensures { Admits self.old self.new number stamp last result }
     {

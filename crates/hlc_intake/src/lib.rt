@@ -1,6 +1,8 @@
-//! The order of a link: of each node only the next item is admitted, and only with a rising stamp.
+//! The order of a link: only the next item of each node is admitted, and only with an increasing
+//! stamp.
 #![tactic(auto)]
 
+mod exact;
 mod intake;
 
 pub use hlc_clock::Stamp;

@@ -1,4 +1,5 @@
--- The greatest node of one place more: the greater of the two where the place holds the stamp, and else the one before.
+-- The greatest node of one more position: the greater of the two if the position has the stamp, and the earlier one
+-- otherwise.
 use Rattle.std.proofs.Common.{◌≡◌, ℕ, ◌+◌, ◌<◌, ◌≤◌, ◌∙◌, sym, max, get_or, subst, List, Option, Some, None, arith, inl}
 use Rattle.std.proofs.Common.{inr}
 use Rattle.std.specs.Prelude.{unwrap_or}

@@ -1,7 +1,7 @@
 -- The greatest of some numbers, for the kernels' own steps.
 use Rattle.std.specs.Prelude.{ℕ, List, [], ◌∷◌, max, nat_le, if◌then◌else◌}
 
--- the stamp, where it is at or below the bound, and else 0
+-- the stamp if it is at or below the bound, and 0 otherwise
 abbrev pub within : ℕ → ℕ → ℕ
 within bound stamp = if nat_le stamp bound then stamp else 0
 

@@ -1,10 +1,10 @@
-//! How many stamps are at or below a bound.
+//! The number of stamps at or below a bound.
 ghost use Rattle.std.specs.Prelude.{◌≡◌, ◌+◌, ◌≤◌, count_by, nat_le, length};
 ghost use Rattle.std.specs.Simd.Lanes.{chunk};
 
 use std::simd::prelude::*;
 
-/// How many stamps are at or below the bound. It takes no memory, and one pass.
+/// Returns the number of stamps at or below the bound. It needs no memory, and makes one pass.
 pub fn count_at(stamps: &[u64], bound: u64) -> usize
     ensures { result ≡ count_by (λ stamp. nat_le stamp bound) stamps.now }
 {
@@ -17,7 +17,7 @@ pub fn count_at(stamps: &[u64], bound: u64) -> usize
     count + count_rest(&stamps[at..], bound)
 }
 
-/// How many of the eight stamps from a place on are at or below the bound.
+/// Returns how many of the eight stamps from a position on are at or below the bound.
 fn count_in(stamps: &[u64], at: usize, bound: u64) -> u32
     requires { at + 8 ≤ length stamps.now }
     ensures { result ≡ count_by (λ stamp. nat_le stamp bound) (chunk at 8 stamps.now) }
@@ -26,7 +26,7 @@ fn count_in(stamps: &[u64], at: usize, bound: u64) -> u32
     lanes.simd_le(u64x8::splat(bound)).to_bitmask().count_ones()
 }
 
-/// How many stamps of a rest are at or below the bound.
+/// Returns how many stamps of a rest are at or below the bound.
 fn count_rest(rest: &[u64], bound: u64) -> usize
     ensures { result ≡ count_by (λ stamp. nat_le stamp bound) rest.now }
 {

@@ -1,7 +1,7 @@
 //! The greatest stamp at or below a bound.
 //!
-//! A stamp above the bound counts as 0, so the greatest of all is the one that is asked for, unless
-//! it is 0: then 0 itself has to be looked for.
+//! A stamp above the bound counts as 0. So the greatest of all is the requested one, unless it is
+//! 0: then a search decides whether 0 itself is among the stamps.
 ghost use Rattle.std.specs.Prelude.{◌≡◌, ◌+◌, ◌≤◌, length, max, map};
 ghost use Rattle.std.specs.Simd.Lanes.{chunk};
 ghost use Rattle.hlc_lanes.specs.Newest.{IsNewest};
@@ -9,8 +9,8 @@ ghost use Rattle.hlc_lanes.specs.Greatest.{within, greatest};
 
 use std::simd::prelude::*;
 
-/// The greatest stamp at or below the bound, if there is one. It takes no memory, and one pass; a
-/// second where no stamp but 0 is at or below the bound.
+/// Returns the greatest stamp at or below the bound, or none. It needs no memory, and makes one
+/// pass; a second pass if no stamp except 0 is at or below the bound.
 pub fn newest_at(stamps: &[u64], bound: u64) -> Option<u64>
     ensures { IsNewest stamps.now bound result }
 {
@@ -24,7 +24,7 @@ pub fn newest_at(stamps: &[u64], bound: u64) -> Option<u64>
     None
 }
 
-/// The greatest stamp at or below the bound, or 0 where there is none.
+/// Returns the greatest stamp at or below the bound, or 0 if there is none.
 fn greatest_within(stamps: &[u64], bound: u64) -> u64
     ensures { result ≡ greatest (map (within bound) stamps.now) }
 {
@@ -37,7 +37,7 @@ fn greatest_within(stamps: &[u64], bound: u64) -> u64
     top_lane(best).max(greatest_rest(&stamps[at..], bound))
 }
 
-/// The eight stamps from a place on, with 0 for those above the bound.
+/// Returns the eight stamps from a position on, with 0 in place of those above the bound.
 fn within_in(stamps: &[u64], at: usize, bound: u64) -> u64x8
     requires { at + 8 ≤ length stamps.now }
     ensures { result ≡ map (within bound) (chunk at 8 stamps.now) }
@@ -48,7 +48,7 @@ fn within_in(stamps: &[u64], at: usize, bound: u64) -> u64x8
         .select(lanes, u64x8::splat(0))
 }
 
-/// The greater of each two lanes.
+/// Returns the greater value of each two lanes.
 fn greater(best: u64x8, lanes: u64x8) -> u64x8
     requires best { length best ≡ 8 }
     requires lanes { length lanes ≡ 8 }
@@ -58,7 +58,8 @@ fn greater(best: u64x8, lanes: u64x8) -> u64x8
     best.simd_max(lanes)
 }
 
-/// The greatest lane. No contract says what `reduce_max` answers, so they are compared one by one.
+/// Returns the greatest lane. No contract specifies the result of `reduce_max`, so the lanes are
+/// compared one by one.
 fn top_lane(best: u64x8) -> u64
     requires { length best ≡ 8 }
     ensures { result ≡ greatest best }
@@ -66,7 +67,7 @@ fn top_lane(best: u64x8) -> u64
     greatest_of(&best.to_array())
 }
 
-/// The greatest of some values, 0 for none.
+/// Returns the greatest of some values, or 0 if there are none.
 fn greatest_of(values: &[u64]) -> u64
     ensures { result ≡ greatest values.now }
 {
@@ -77,7 +78,7 @@ fn greatest_of(values: &[u64]) -> u64
     best
 }
 
-/// The greatest stamp of a rest at or below the bound, or 0 where there is none.
+/// Returns the greatest stamp of a rest at or below the bound, or 0 if there is none.
 fn greatest_rest(rest: &[u64], bound: u64) -> u64
     ensures { result ≡ greatest (map (within bound) rest.now) }
 {
@@ -88,7 +89,7 @@ fn greatest_rest(rest: &[u64], bound: u64) -> u64
     best
 }
 
-/// The stamp, or 0 if it is above the bound.
+/// Returns the stamp, or 0 if it is above the bound.
 fn within(stamp: u64, bound: u64) -> u64
     ensures { result ≡ within bound stamp }
 {

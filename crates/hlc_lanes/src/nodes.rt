@@ -1,11 +1,11 @@
-//! The greatest node beside a stamp.
+//! The greatest node with a stamp.
 ghost use Rattle.std.specs.Prelude.{◌≡◌, ◌≤◌, length, max, Some, unwrap_or};
 ghost use Rattle.hlc_lanes.specs.Places.{IsGreatestNode, IsGreatestNodeBelow};
 
-use crate::places::holds_stamp;
+use crate::places::has_stamp;
 
-/// The greatest node at the places that hold the stamp, if there is such a place. The slices have
-/// one length. It takes no memory, and one pass.
+/// Returns the greatest node at the positions with this stamp, or none. The slices have the same
+/// length. It needs no memory, and makes one pass.
 pub fn greatest_node(stamps: &[u64], nodes: &[u16], stamp: u64) -> Option<u16>
     requires { length nodes.now ≡ length stamps.now }
     ensures { IsGreatestNode stamps.now nodes.now stamp result }
@@ -13,7 +13,7 @@ pub fn greatest_node(stamps: &[u64], nodes: &[u16], stamp: u64) -> Option<u16>
     let mut best = None;
     let mut at = 0usize;
     while stamps.len() - at >= 8 {
-        if holds_stamp(stamps, at, stamp) {
+        if has_stamp(stamps, at, stamp) {
             best = greatest_node_in(stamps, nodes, at, at + 8, stamp, best);
         }
         at += 8;
@@ -21,7 +21,8 @@ pub fn greatest_node(stamps: &[u64], nodes: &[u16], stamp: u64) -> Option<u16>
     greatest_node_in(stamps, nodes, at, stamps.len(), stamp, best)
 }
 
-/// The greatest node so far, and at the places of a range, one after another.
+/// Returns the greater of `so_far` and the greatest node with the stamp in a range, one position
+/// after another.
 fn greatest_node_in(
     stamps: &[u64],
     nodes: &[u16],
@@ -45,7 +46,7 @@ fn greatest_node_in(
     best
 }
 
-/// The greater of a node and another, if there is one.
+/// Returns the greater of the two nodes, or `node` if it is the only one.
 fn greater_node(best: Option<u16>, node: u16) -> Option<u16>
     ensures { result ≡ Some (max (unwrap_or best 0) node) }
 {

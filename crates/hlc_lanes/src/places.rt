@@ -1,18 +1,18 @@
-//! The place of a stamp and a node.
+//! The position of a stamp and a node.
 ghost use Rattle.std.specs.Prelude.{◌≡◌, ◌+◌, ◌≤◌, ◌<◌, ℕ, length, slice_index, false};
 ghost use Rattle.hlc_lanes.specs.Places.{IsPlace, IsPlaceIn};
 
 use std::simd::prelude::*;
 
-/// The least place that holds the stamp and the node, if there is one. The slices have one length.
-/// It takes no memory, and one pass.
+/// Returns the least position with the stamp and the node, or none. The slices have the same
+/// length. It needs no memory, and makes one pass.
 pub fn place_of(stamps: &[u64], nodes: &[u16], stamp: u64, node: u16) -> Option<usize>
     requires { length nodes.now ≡ length stamps.now }
     ensures { IsPlace stamps.now nodes.now stamp node result }
 {
     let mut at = 0usize;
     while stamps.len() - at >= 8 {
-        if holds_stamp(stamps, at, stamp) {
+        if has_stamp(stamps, at, stamp) {
             let found = place_in(stamps, nodes, at, at + 8, stamp, node);
             if found.is_some() {
                 return found;
@@ -23,8 +23,9 @@ pub fn place_of(stamps: &[u64], nodes: &[u16], stamp: u64, node: u16) -> Option<
     place_in(stamps, nodes, at, stamps.len(), stamp, node)
 }
 
-/// Whether one of the eight places from a place on holds the stamp.
-pub(crate) fn holds_stamp(stamps: &[u64], at: usize, stamp: u64) -> bool
+/// Returns whether one of the eight positions from `at` on may have the stamp; false if none has
+/// it.
+pub(crate) fn has_stamp(stamps: &[u64], at: usize, stamp: u64) -> bool
     requires { at + 8 ≤ length stamps.now }
     ensures { result ≡ false → (k : ℕ) → at ≤ k → k < at + 8 → slice_index stamps.now k ≡ stamp
         → ⊥ }
@@ -33,7 +34,8 @@ pub(crate) fn holds_stamp(stamps: &[u64], at: usize, stamp: u64) -> bool
     lanes.simd_eq(u64x8::splat(stamp)).to_bitmask() != 0
 }
 
-/// The least place of a range that holds the stamp and the node, one place after another.
+/// Returns the least position of a range with the stamp and the node, or none, one position after
+/// another.
 fn place_in(
     stamps: &[u64],
     nodes: &[u16],

@@ -1,6 +1,6 @@
--- Each step keeps the rule of a link: a step changes what one pass knows and adds the same parcel to, or takes it from,
--- what the channel holds. So the one equation that the rule says, all parcels put are those taken and then those held,
--- stays; and no step makes a second sender or receiver.
+-- Each step preserves the rule of a link: a step changes what one pass knows, and adds the same parcel to the channel
+-- or removes it. So the one equation of the rule, that all parcels put are those taken and then those in the channel,
+-- stays true; and no step makes a second sender or receiver.
 use Rattle.std.proofs.Common.{◌≡◌, ◌≢◌, ℕ, zero, suc, Bool, true, false, true≢false, List, [], ◌∷◌, ◌++◌, map, length}
 use Rattle.std.proofs.Common.{set, sym}
 use Rattle.std.proofs.Common.{refl, ap, ◌∙◌, subst, ⊎_elim, append_assoc, append-nil}
@@ -21,7 +21,7 @@ use Rattle.hlc_link.specs.Link.{after_put, after_take}
 off : false ≡ true → ⊥
 off e = true≢false (sym e)
 
--- a stream without its end, and one parcel more
+-- a stream without its end, and one more parcel
 item_more : (xs : List Item) (x : Item) (ended : Bool) → ended ≡ false
     → stream (xs ++ x ∷ []) ended ≡ stream xs ended ++ parcel.Item x ∷ []
 item_more xs x true e = absurd (true≢false e)
@@ -73,7 +73,8 @@ take_same : (v : Hand) (x : Parcel)
 take_same v (parcel.Item i) = (refl, refl, refl)
 take_same v parcel.End = (refl, refl, refl)
 
--- after one view changed, a seat that may do this might before; where the change left what is known, it knew the same
+-- after one view changed, a seat that may do this could do it before; if the change did not touch what that view knows,
+-- the seat knew the same
 kept : (can : Hand → Bool) (known : Hand → List Parcel) (views : List Hand) (seat : ℕ) (v w : Hand) (s : ℕ) (a : Hand)
     → get_elem? views seat ≡ some v → can w ≡ can v → known w ≡ known v
     → May can (set views seat w) s a
@@ -88,7 +89,7 @@ kept can known views seat v w s a at may knows is =
     (λ (t : (s ≢ seat) × (get_elem? views s ≡ some a)). (a, (t.1, is.1), refl))
     (at_set views seat s w a is.0)
 
--- so where there was one at most, there is
+-- so if there was at most one, there still is
 one : (can : Hand → Bool) (views : List Hand) (seat : ℕ) (v w : Hand) → get_elem? views seat ≡ some v → can w ≡ can v
     → ((s t : ℕ) (a b : Hand) → May can views s a → May can views t b → s ≡ t)
     → (s t : ℕ) (a b : Hand) → May can (set views seat w) s a → May can (set views seat w) t b → s ≡ t
@@ -162,7 +163,7 @@ takes seat v may going x items views h at =
       refl,
     )
 
--- what a list has only with one element more stands at its end
+-- an element that only the longer list has is at its end
 at_end : (l : List Hand) (a b : Hand) (j : ℕ) → get_elem? l j ≢ some b
     → get_elem? (l ++ a ∷ []) j ≡ some b → j ≡ length l
 at_end [] a b zero n e = refl
@@ -170,7 +171,7 @@ at_end [] a b (suc j) n e = absurd (some-ne-none b (sym e))
 at_end (x ∷ xs) a b zero n e = absurd (n e)
 at_end (x ∷ xs) a b (suc j) n e = ap suc (at_end xs a b j n e)
 
--- the first pass is cut: the one part is the sender, the other the receiver
+-- the first pass is split: one part is the sender, the other the receiver
 pub cuts : (seat : ℕ) (v : Hand) → v.puts ≡ true → v.takes ≡ true → Forks IsInOrder seat v (sender_of v) (receiver_of v)
 cuts seat v may can items views h at =
     let l : Hand = sender_of v in
@@ -201,7 +202,7 @@ cuts seat v may can items views h at =
           ∙ ap (λ (u : Hand). taken_by u ++ items) (receiver_is j b q))),
     )
 
--- a pass that may do nothing is cut off
+-- a pass that may do nothing is split off
 pub spares : (seat : ℕ) (v : Hand) → Forks IsInOrder seat v v nobody
 spares seat v items views h at =
     let vs : List Hand = set views seat v in
@@ -217,7 +218,7 @@ spares seat v items views h at =
       (λ s r a b p q. h.2 s r a b (old may_put refl s a p) (old may_take refl r b q)),
     )
 
--- the sender's pass takes in the receiver's: the one pass is then both, and the other may do nothing
+-- the sender's pass absorbs the receiver's: the one pass is then both, and the other may do nothing
 pub merges : (seat : ℕ) (v : Hand) (other : ℕ) (w : Hand) → v.puts ≡ true → w.takes ≡ true
     → Merges IsInOrder seat v other w (joined v w) nobody
 merges seat v other w may can items views h at apart at' =
@@ -255,7 +256,7 @@ pub learns : (seat : ℕ) (v : Hand) → v.puts ≡ true → v.takes ≡ true
     → Learns IsInOrder seat v (λ items. Carries items v v)
 learns seat v may can items views h at = h.2 seat seat v v (at, may) (at, can)
 
--- the steps, at a view that is known
+-- the steps, at a known view
 pub puts_as : (n seat : ℕ) (v : Hand) (x : Parcel) (items : List Item) → v ≡ sender items false
     → Pushes IsInOrder n seat v x (λ w. w ≡ after_put v x)
 puts_as n seat v x items is = puts n seat v x (ap may_put is) (ap (λ (u : Hand). u.end_put) is)

@@ -1,5 +1,5 @@
--- The rule of a link: it carries items from one sender to one receiver. What was put is what was taken, followed by
--- what the channel holds, and an end stands last.
+-- The rule of a link: it carries items from one sender to one receiver. What was put is what was taken followed by the
+-- content of the channel, and an end comes last.
 use Rattle.std.specs.Prelude.{◌≡◌, ℕ, Bool, true, false, List, [], ◌∷◌, ◌++◌, map}
 use mathlib.Core.Option.{some}
 use lib.ListN.{get_elem?}
@@ -8,12 +8,12 @@ use Rattle.hlc_link.specs.declared.rule.Parcel.{Parcel}
 use Rattle.hlc_link.specs.declared.rule.Parcel.TheVariants as parcel
 use Rattle.hlc_link.specs.declared.rule.Hand.{Hand}
 
--- the end, where it has come
+-- the end, if it has come
 abbrev pub end_if : Bool → List Parcel
 end_if true = parcel.End ∷ []
 end_if false = []
 
--- these items, and the end behind them where it has come
+-- these items, and the end after them if it has come
 abbrev pub stream : List Item → Bool → List Parcel
 stream items ended = map parcel.Item items ++ end_if ended
 
@@ -31,24 +31,25 @@ items_in [] = []
 items_in (parcel.Item x ∷ rest) = x ∷ items_in rest
 items_in (parcel.End ∷ rest) = items_in rest
 
--- whether the end is on its way
+-- whether the end is in transit
 abbrev pub end_between : Bool → Bool → Bool
 end_between put true = false
 end_between put false = put
 
--- The sender is v and the receiver w. The items put are those taken followed by those in the channel; an end stands
--- last; the end was taken only where it was put and the channel is empty.
-pub record Carries (held : List Parcel) (v w : Hand) : Type 0 where
-  pub items : v.put ≡ w.taken ++ items_in held
-  pub end_last : held ≡ stream (items_in held) (end_between v.end_put w.end_taken)
-  pub all_taken : w.end_taken ≡ true → (v.end_put ≡ true) × (held ≡ [])
+-- The sender is v and the receiver w. The items put are those taken followed by those in the channel; an end comes
+-- last; the end was taken only if it was put and the channel is empty.
+pub record Carries (in_transit : List Parcel) (v w : Hand) : Type 0 where
+  pub items : v.put ≡ w.taken ++ items_in in_transit
+  pub end_last : in_transit ≡ stream (items_in in_transit) (end_between v.end_put w.end_taken)
+  pub all_taken : w.end_taken ≡ true → (v.end_put ≡ true) × (in_transit ≡ [])
 
--- At most one pass may put and at most one may take. What they know of the items, and what the channel holds, fit.
+-- At most one pass may put and at most one may take. What they know of the items agrees with the content of the
+-- channel.
 abbrev pub IsInOrder : List Parcel → List Hand → Type 0
-IsInOrder held views =
+IsInOrder in_transit views =
     ((s t : ℕ) (v w : Hand) → IsSender views s v → IsSender views t w → s ≡ t)
     × ((r t : ℕ) (v w : Hand) → IsReceiver views r v → IsReceiver views t w → r ≡ t)
-    × ((s r : ℕ) (v w : Hand) → IsSender views s v → IsReceiver views r w → Carries held v w)
+    × ((s r : ℕ) (v w : Hand) → IsSender views s v → IsReceiver views r w → Carries in_transit v w)
 
 -- the first pass is the sender's and the receiver's
 abbrev pub both : Hand
@@ -66,12 +67,11 @@ receiver items ended =
 
 -- the part of a pass that puts
 abbrev pub sender_of : Hand → Hand
-sender_of v = record { puts = v.puts; put = v.put; end_put = v.end_put; takes = false; taken = []; end_taken = false }
+sender_of v = record v { takes = false; taken = []; end_taken = false }
 
 -- the part of a pass that takes
 abbrev pub receiver_of : Hand → Hand
-receiver_of v =
-    record { puts = false; put = []; end_put = false; takes = v.takes; taken = v.taken; end_taken = v.end_taken }
+receiver_of v = record v { puts = false; put = []; end_put = false }
 
 -- a pass that may neither put nor take
 abbrev pub nobody : Hand
@@ -79,49 +79,14 @@ nobody = record { puts = false; put = []; end_put = false; takes = false; taken 
 
 -- the part of one pass that puts, with the part of another that takes
 abbrev pub joined : Hand → Hand → Hand
-joined v w = record {
-  puts = v.puts;
-  put = v.put;
-  end_put = v.end_put;
-  takes = w.takes;
-  taken = w.taken;
-  end_taken = w.end_taken;
-}
+joined v w = record v { takes = w.takes; taken = w.taken; end_taken = w.end_taken }
 
--- a pass that has put one parcel more
+-- a pass that has put one more parcel
 abbrev pub after_put : Hand → Parcel → Hand
-after_put v (parcel.Item x) = record {
-  puts = v.puts;
-  put = v.put ++ x ∷ [];
-  end_put = v.end_put;
-  takes = v.takes;
-  taken = v.taken;
-  end_taken = v.end_taken;
-}
-after_put v parcel.End = record {
-  puts = v.puts;
-  put = v.put;
-  end_put = true;
-  takes = v.takes;
-  taken = v.taken;
-  end_taken = v.end_taken;
-}
+after_put v (parcel.Item x) = record v { put = v.put ++ x ∷ [] }
+after_put v parcel.End = record v { end_put = true }
 
--- a pass that has taken one parcel more
+-- a pass that has taken one more parcel
 abbrev pub after_take : Hand → Parcel → Hand
-after_take v (parcel.Item x) = record {
-  puts = v.puts;
-  put = v.put;
-  end_put = v.end_put;
-  takes = v.takes;
-  taken = v.taken ++ x ∷ [];
-  end_taken = v.end_taken;
-}
-after_take v parcel.End = record {
-  puts = v.puts;
-  put = v.put;
-  end_put = v.end_put;
-  takes = v.takes;
-  taken = v.taken;
-  end_taken = true;
-}
+after_take v (parcel.Item x) = record v { taken = v.taken ++ x ∷ [] }
+after_take v parcel.End = record v { end_taken = true }

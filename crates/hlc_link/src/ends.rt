@@ -1,7 +1,5 @@
 //! The two ends of a link.
 ghost use Rattle.std.specs.Prelude.{◌≡◌, ◌<◌, ◌≤◌, ◌^◌, ◌↔◌, List, [], length, true, false, Ok, IfOk, IfErr, IsOk};
-ghost use Rattle.std.proofs.Common.{rules};
-ghost use Rattle.std.proofs.lemmas.Grind.{common_steps};
 ghost use Rattle.hlc_node.specs.declared.item.Item.{Item as AnItem};
 ghost use Rattle.hlc_link.specs.Ends.{sending, with_item, with_end, received, with_parcel, HasCarried};
 ghost use Rattle.hlc_link.specs.declared.rule.Parcel.TheVariants.{End};
@@ -9,29 +7,23 @@ ghost use Rattle.hlc_link.specs.declared.rule.Parcel.TheVariants.{End};
 use crate::rule::{Carried, Ends, Hand, InOrder, Parcel, Puts, Spare, Takes};
 use crossbeam_channel::{Pass, RuledReceiver, RuledSender, bounded_with};
 use hlc_node::Item;
-use hlc_values::{Exact, NoMemory};
+use hlc_values::NoMemory;
 use std::alloc::Global;
 use std::error::Error;
 use std::marker::Model;
 use std::sync::Wait;
 use std::{fmt, mem};
 
-/// As many items as a link carries.
+/// The maximum number of items on a link.
 const MOST_ITEMS: u64 = 1 << 60;
 
 /// Why an item was not put.
 #[derive(Clone, Copy, PartialEq, Eq, Debug)]
 pub enum PutFault {
-    /// 2^60 items were put already.
+    /// 2^60 items have been put.
     NumbersSpent,
-    /// The end was put, or the channel handed the item back. It does not say that the other end is gone.
+    /// The end was put, or the channel refused the item. It does not mean that the other end is dropped.
     Closed,
-}
-
-impl Exact for PutFault {
-    ghost equal = { Prim.search (rules, common_steps) };
-
-    ghost copied = { Prim.search rules };
 }
 
 impl fmt::Display for PutFault {
@@ -50,16 +42,9 @@ impl fmt::Display for PutFault {
 
 impl Error for PutFault {}
 
-/// The channel handed the call back, and nothing was put or taken. It does not say that the other end
-/// is gone.
+/// The channel refused the call, and nothing was put or taken. It does not mean that the other end is dropped.
 #[derive(Clone, Copy, PartialEq, Eq, Debug)]
 pub struct LinkClosed;
-
-impl Exact for LinkClosed {
-    ghost equal = { Prim.search (rules, common_steps) };
-
-    ghost copied = { Prim.search rules };
-}
 
 impl fmt::Display for LinkClosed {
     ghost use Rattle.std.specs.Prelude.{Some, codes};
@@ -73,8 +58,8 @@ impl fmt::Display for LinkClosed {
 
 impl Error for LinkClosed {}
 
-/// The sending end of a link. Contracts see its link, the items that it put, the first of them first,
-/// and whether it put the end. It can't be copied, so one thread alone puts.
+/// The sending end of a link. In contracts it is its link, the items that it put, the first of them first, and whether
+/// it put the end. It cannot be copied, so only one thread puts.
 #[derive(Drop)]
 pub struct LinkSender {
     channel: RuledSender<Parcel, Hand, InOrder>,
@@ -88,9 +73,9 @@ impl Model for LinkSender {
     ghost use Rattle.crossbeam_channel.specs.Claims as claims;
     ghost use Rattle.crossbeam_channel.specs.Ends.{sends_on};
     ghost use Rattle.hlc_link.specs.Link.{sender};
-    ghost use Rattle.hlc_link.specs.Ends.{Sending, sending, link_of};
+    ghost use Rattle.hlc_link.specs.Ends.{SenderView, sending, link_of};
 
-    ghost Value = { Sending };
+    ghost Value = { SenderView };
 
     ghost view = { λ end. sending (link_of end.pass) (claims.view end.pass).put end.end_put };
 
@@ -99,8 +84,8 @@ impl Model for LinkSender {
         × (end.count ≡ length (claims.view end.pass).put) × (end.count ≤ 2 ^ 60) };
 }
 
-/// The receiving end of a link. Contracts see its link, the items that it took, the first of them
-/// first, and whether it took the end. It can't be copied, so one thread alone takes.
+/// The receiving end of a link. In contracts it is its link, the items that it took, the first of
+/// them first, and whether it took the end. It cannot be copied, so only one thread takes.
 #[derive(Drop)]
 pub struct LinkReceiver {
     channel: RuledReceiver<Parcel, Hand, InOrder>,
@@ -113,9 +98,9 @@ impl Model for LinkReceiver {
     ghost use Rattle.crossbeam_channel.specs.Claims as claims;
     ghost use Rattle.crossbeam_channel.specs.Ends.{receives_on};
     ghost use Rattle.hlc_link.specs.Link.{receiver};
-    ghost use Rattle.hlc_link.specs.Ends.{Received, received, link_of};
+    ghost use Rattle.hlc_link.specs.Ends.{ReceiverView, received, link_of};
 
-    ghost Value = { Received };
+    ghost Value = { ReceiverView };
 
     ghost view = { λ end. received (link_of end.pass) (claims.view end.pass).taken end.ended };
 
@@ -123,9 +108,9 @@ impl Model for LinkReceiver {
         × (claims.view end.pass ≡ receiver (claims.view end.pass).taken end.ended) };
 }
 
-/// A new link, which holds up to `capacity` parcels, 1 to 4,096, and its two ends.
+/// Makes a new link with room for `capacity` parcels, 1 to 4,096, and returns its two ends.
 ///
-/// Refused where there is no memory for it. No later call on the link takes any.
+/// Refused if memory runs out. No later call on the link needs memory.
 pub fn link<R: Wait>(
     _rt: &R,
     alloc: Global,
@@ -154,10 +139,10 @@ pub fn link<R: Wait>(
 }
 
 impl LinkSender {
-    /// Puts an item behind those that were put. It waits while the link is full.
+    /// Puts an item after those that were put. It waits while the link is full.
     ///
-    /// Refused, in this order: 2^60 items were put already; the end was put; the channel is closed. The
-    /// item comes back, and nothing was put.
+    /// Refused, in this order: 2^60 items have been put; the end was put; the channel is closed. The error returns the
+    /// item, and nothing was put.
     pub fn put<R: Wait>(&mut self, rt: &R, item: Item) -> Result<(), (PutFault, Item)>
         ensures ok { IfOk result (λ _. self.new ≡ with_item self.old item) }
         ensures err { IfErr result (λ refused. (self.new ≡ self.old) × (refused.1 ≡ item)) }
@@ -187,10 +172,10 @@ impl LinkSender {
         }
     }
 
-    /// Puts the end behind the items that were put. It waits while the link is full. After the end it
-    /// answers at once.
+    /// Puts the end after the items that were put. It waits while the link is full. If the end was already put, it
+    /// returns at once.
     ///
-    /// Refused where the channel is closed: the end was not put.
+    /// Refused if the channel is closed: the end was not put.
     pub fn put_end<R: Wait>(&mut self, rt: &R) -> Result<(), LinkClosed>
         ensures ok { IfOk result (λ _. self.new ≡ with_end self.old) }
         ensures err { IfErr result (λ _. self.new ≡ self.old) }
@@ -211,10 +196,10 @@ impl LinkSender {
         }
     }
 
-    /// Puts the end, as `put_end` does, and answers how many items were put. The sender is given up, so
-    /// no clause says that the end was put: where that counts, `put_end` goes before.
+    /// Puts the end, as `put_end` does, and returns the number of items put. It consumes the sender, so no clause says
+    /// that the end was put; a caller that needs this calls `put_end` first.
     ///
-    /// Refused where the channel is closed: the end was not put.
+    /// Refused if the channel is closed: the end was not put.
     pub fn finish<R: Wait>(self, rt: &R) -> Result<u64, LinkClosed>
         ensures count { IfOk result (λ count. count ≡ length self.put) }
         ensures again { self.ended ≡ true → IsOk result }
@@ -224,15 +209,14 @@ impl LinkSender {
         Ok(sender.count)
     }
 
-    /// Tells what the link holds between its two ends, by its contract alone: the items put are those
-    /// taken followed by those held. Both ends are of one link.
+    /// Ensures, in its contract, which items are in transit: the items put are the items taken followed by the items in
+    /// transit. Both ends are of one link.
     ///
-    /// It reads the channel's words, and changes nothing that a caller sees. It neither waits nor takes
-    /// memory.
-    pub fn learn_held(&mut self, receiver: &mut LinkReceiver)
+    /// It reads the channel's words, and changes nothing that a caller sees. It neither waits nor needs memory.
+    pub fn learn_in_transit(&mut self, receiver: &mut LinkReceiver)
         requires { receiver.old.link ≡ self.old.link }
         ensures same { (self.new ≡ self.old) × (receiver.new ≡ receiver.old) }
-        ensures held { (held : List AnItem) × HasCarried self.new receiver.new held }
+        ensures in_transit { (in_transit : List AnItem) × HasCarried self.new receiver.new in_transit }
     {
         let spare = self.channel.another::<Spare>(&mut self.pass);
         let theirs = mem::replace(&mut receiver.pass, spare);
@@ -243,10 +227,9 @@ impl LinkSender {
 }
 
 impl LinkReceiver {
-    /// Takes the next parcel. It waits while the link is empty. After the end it answers the end again,
-    /// at once.
+    /// Takes the next parcel. It waits while the link is empty. After the end it returns the end again, at once.
     ///
-    /// Refused where the channel is closed: nothing was taken.
+    /// Refused if the channel is closed: nothing was taken.
     pub fn take<R: Wait>(&mut self, rt: &R) -> Result<Parcel, LinkClosed>
         ensures ok { IfOk result (λ parcel. self.new ≡ with_parcel self.old parcel) }
         ensures err { IfErr result (λ _. self.new ≡ self.old) }

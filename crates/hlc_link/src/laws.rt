@@ -1,13 +1,14 @@
-//! What holds of a link between any two steps.
+//! What is true of a link between any two steps.
 ghost use Rattle.std.specs.Prelude.{ℕ, List};
 ghost use Rattle.hlc_link.specs.declared.rule.Hand.{Hand};
 ghost use Rattle.hlc_link.specs.declared.rule.Parcel.{Parcel as AParcel};
 ghost use Rattle.hlc_link.specs.Link.{IsSender, IsReceiver, IsInOrder, Carries};
 
-/// Between any two steps, whoever makes them: the items put are those taken followed by those held,
-/// an end stands last, and the receiver has ended only where the sender has and nothing is held.
+/// Between any two steps of any thread: the items put are the items taken followed by the items in
+/// transit, an end comes last, and the receiver has ended only if the sender has and nothing is in
+/// transit.
 pub fn link_carries()
-    ensures { (held : List AParcel) (hands : List Hand) (s r : ℕ) (sender receiver : Hand)
-        → IsInOrder held hands
-        → IsSender hands s sender → IsReceiver hands r receiver → Carries held sender receiver }
+    ensures { (in_transit : List AParcel) (hands : List Hand) (s r : ℕ) (sender receiver : Hand)
+        → IsInOrder in_transit hands
+        → IsSender hands s sender → IsReceiver hands r receiver → Carries in_transit sender receiver }
 {}

@@ -1,7 +1,8 @@
-//! A link between two threads: what is taken from it is what was put, in order, and the end stands last.
+//! A link between two threads: what is taken from it is what was put, in order, and the end comes last.
 #![tactic(auto)]
 
 mod ends;
+mod exact;
 mod laws;
 mod rule;
 

@@ -1,11 +1,8 @@
-//! What a link carries, and the rule of its channel.
+//! The content of a link, and the rule of its channel.
 ghost use Rattle.std.specs.Prelude.{⊤};
-ghost use Rattle.std.proofs.Common.{rules};
-ghost use Rattle.std.proofs.lemmas.Grind.{common_steps};
 
 use crossbeam_channel::protocol::{Join, Lesson, Outcome, Protocol, Split};
 use hlc_node::Item;
-use hlc_values::Exact;
 use std::collections::LinkedList;
 
 /// What a link carries: items, and then the end.
@@ -13,17 +10,11 @@ use std::collections::LinkedList;
 pub enum Parcel {
     /// An item of the node.
     Item(Item),
-    /// No item comes any more.
+    /// The end: no further item follows.
     End,
 }
 
-impl Exact for Parcel {
-    ghost equal = { Prim.search (rules, common_steps) };
-
-    ghost copied = { Prim.search rules };
-}
-
-/// What the holder of a pass may do, and what it has put and taken. It stands in the rule alone: no
+/// What the owner of a pass may do, and what it has put and taken. It appears in the rule alone: no
 /// value of it is made.
 pub struct Hand {
     /// Whether it may put.
@@ -40,7 +31,7 @@ pub struct Hand {
     pub end_taken: bool,
 }
 
-/// The rule of a link: it holds between any two steps.
+/// The rule of a link: it is true between any two steps.
 pub struct InOrder;
 
 impl Protocol<Parcel, Hand> for InOrder {
@@ -51,7 +42,7 @@ impl Protocol<Parcel, Hand> for InOrder {
     ghost first = { both };
 }
 
-/// The first pass is cut in two: the sender's and the receiver's.
+/// The first pass is split into two: the sender's and the receiver's.
 pub struct Ends;
 
 impl Split<Hand> for Ends {
@@ -62,7 +53,7 @@ impl Split<Hand> for Ends {
     ghost right = { receiver_of };
 }
 
-/// The two parts are one pass again.
+/// The two parts are joined into one pass again.
 impl Join<Hand> for Ends {
     ghost use Rattle.hlc_link.specs.Link.{joined, nobody};
 
@@ -71,7 +62,7 @@ impl Join<Hand> for Ends {
     ghost spent = { nobody };
 }
 
-/// A pass that may do nothing is cut off.
+/// A pass that may do nothing is split off.
 pub struct Spare;
 
 impl Split<Hand> for Spare {
@@ -82,7 +73,7 @@ impl Split<Hand> for Spare {
     ghost right = { λ hand. nobody };
 }
 
-/// What a pass knows that is the sender's and the receiver's: what the link carries.
+/// What the pass of both the sender and the receiver knows: the content of the link.
 pub struct Carried;
 
 impl Lesson<Parcel, Hand> for Carried {

@@ -1,4 +1,4 @@
--- The test of a candidate for a key at a stamp says what it should: the row is of the key, and at or below the stamp.
+-- A row passes the test of a candidate exactly if it is of the key, and at or below the stamp.
 use Rattle.std.proofs.Common.{◌≡◌, ℕ, ◌≤◌, List, true}
 use Rattle.std.specs.Prelude.{nat_le}
 use Rattle.std.specs.Str.{bytes_eq}

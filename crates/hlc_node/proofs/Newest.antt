@@ -1,6 +1,6 @@
 -- The newest row is the greatest one. It is found by going down the list: a row that is no candidate changes nothing,
--- and one that is a candidate is the later of itself and the newest of the rest. Two greatest rows are one version,
--- so in a row set one row.
+-- and for a candidate the result is the later of it and the newest of the rest. Two greatest rows are one version, so
+-- in a row set they are one row.
 use Rattle.std.proofs.Common.{◌≡◌, ◌≢◌, ℕ, ◌<◌, ◌≤◌, List, [], ◌∷◌, true, false, Some}
 use Rattle.std.proofs.Common.{None, Option, refl, ap, sym, ◌∙◌, subst, inl, inr, arith}
 use Rattle.std.specs.Prelude.{Contains, ◌==◌, nat_lt}
@@ -12,7 +12,7 @@ use Rattle.hlc_node.specs.declared.row.Row.{Row}
 use Rattle.hlc_node.specs.Rows.{is_candidate, is_before, later, newest, IsNoLater, IsNewest, IsSameVersion, IsRowSet}
 use Rattle.hlc_node.proofs.CandidateLemmas.{candidate_true, candidate_from}
 
--- the test of the order says what it should
+-- a row that the test puts before another is no later than it
 before-true : (a b : Row) → is_before a b ≡ true → IsNoLater a b
 before-true a b h =
     elim (or_cases _ _ h) [
@@ -45,7 +45,7 @@ no_later-trans a b c (inr l) (inr m) = inr (l.0 ∙ m.0, omega (arith, l.1, m.1)
 no_later-self : (a : Row) → IsNoLater a a
 no_later-self a = inr (refl, omega arith)
 
--- what an answer of `newest` says
+-- the meaning of a result of `newest`
 abbrev pub NewestSays : List Row → List ℕ → ℕ → Option Row → Type 0
 NewestSays rows key bound None = (row : Row) → Contains rows row → row.key ≡ key → row.stamp ≤ bound → ⊥
 NewestSays rows key bound (Some row) = IsNewest rows key bound row
@@ -160,7 +160,7 @@ both_no_later a b k (inl l) (inr m) = absurd (omega (arith, m.0))
 both_no_later a b k (inr l) (inl m) = absurd (omega (arith, l.0))
 both_no_later a b k (inr l) (inr m) = record { key = k; stamp = l.0; node = omega (arith, l.1, m.1) }
 
--- a row set has one newest row at most
+-- a row set has at most one newest row
 IsNewest-unique : (rows : List Row) (key : List ℕ) (bound : ℕ) (a b : Row) → IsRowSet rows
     → IsNewest rows key bound a → IsNewest rows key bound b → a ≡ b
 IsNewest-unique rows key bound a b set' ha hb =
@@ -173,7 +173,7 @@ pub newest-from_says : (rows : List Row) (key : List ℕ) (bound : ℕ) (row : R
 newest-from_says rows key bound row None set' h says = absurd (says row h.member h.of_key h.in_bound)
 newest-from_says rows key bound row (Some q) set' h says = ap Some (IsNewest-unique rows key bound q row set' says h)
 
--- a row above the one stamp and at or below the other is a candidate at neither, so the test is the same
+-- a row of the key that is not between the two stamps is a candidate at both or at neither
 pub candidate-same : (key : List ℕ) (low high : ℕ) (row : Row) → low ≤ high
     → (row.key ≡ key → row.stamp ≤ high → row.stamp ≤ low) → is_candidate key high row ≡ is_candidate key low row
 candidate-same key low high row le none =

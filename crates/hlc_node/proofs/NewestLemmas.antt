@@ -1,6 +1,6 @@
--- The newest row of a key at or below a stamp, whichever rows there are: it is the greatest, and in a row set the only
--- one; it stays where no row of the key lies between, and rows of other keys do not count. What is said of the newest
--- row is said of the answer, which is its value.
+-- The newest row of a key at or below a stamp, for any list of rows: it is the greatest, and in a row set the only one;
+-- it stays the same if no row of the key is between two stamps, and rows of other keys do not count. The same is true
+-- of the answer, which is its value.
 use Rattle.std.proofs.Common.{◌≡◌, ◌≢◌, ℕ, ◌≤◌, List, [], ◌∷◌, ◌++◌, Some, None, refl, ap, sym, ◌∙◌, inl, inr, arith}
 use Rattle.std.specs.Prelude.{Contains, option_and_then, if◌then◌else◌}
 use Rattle.std.proofs.lemmas.Bool.{cond-false}
@@ -26,7 +26,7 @@ pub newest_is_unique : (rows : List Row) (key : List ℕ) (bound : ℕ) (row : R
 newest_is_unique rows key bound row set' h =
     newest-from_says rows key bound row (newest rows key bound) set' h (newest-says rows key bound)
 
--- where no row of the key lies between, the newest row is the same
+-- if no row of the key is between the two stamps, the newest row is the same
 pub newest_stays : (rows : List Row) (key : List ℕ) (low high : ℕ) → low ≤ high
     → ((row : Row) → Contains rows row → row.key ≡ key → row.stamp ≤ high → row.stamp ≤ low)
     → newest rows key high ≡ newest rows key low
@@ -38,7 +38,7 @@ newest_stays (first ∷ rows) key low high le none =
       newest_stays rows key low high le (λ row m. none row (Contains-rest first row rows m)),
     ) refl
 
--- rows of other keys in front change nothing
+-- rows of other keys before them change nothing
 pub newest_after_others : (others rows : List Row) (key : List ℕ) (bound : ℕ)
     → ((row : Row) → Contains others row → row.key ≢ key) → newest (others ++ rows) key bound ≡ newest rows key bound
 unfolding newest
@@ -47,7 +47,7 @@ newest_after_others (first ∷ others) rows key bound apart =
     cond-false _ _ _ (other-misses key bound first (apart first (Contains-first first others)))
     ∙ newest_after_others others rows key bound (λ row m. apart row (Contains-rest first row others m))
 
--- nor do rows of other keys behind
+-- nor do rows of other keys after them
 pub newest_before_others : (rows others : List Row) (key : List ℕ) (bound : ℕ)
     → ((row : Row) → Contains others row → row.key ≢ key) → newest (rows ++ others) key bound ≡ newest rows key bound
 unfolding newest
@@ -57,7 +57,7 @@ newest_before_others (first ∷ rows) others key bound apart =
     ap (λ o. if is_candidate key bound first then Some (later first o) else o)
     (newest_before_others rows others key bound apart)
 
--- a row that is no later is at or below
+-- a row that is no later has a stamp that is at or below the other's
 pub no_later_stamp : (a b : Row) → IsNoLater a b → a.stamp ≤ b.stamp
 no_later_stamp a b (inl less) = omega arith
 no_later_stamp a b (inr same) = omega (arith, same.0)
@@ -70,7 +70,7 @@ pub answer_some : (rows : List Row) (key : List ℕ) (bound : ℕ) (row : Row) �
     → answer rows key bound ≡ row.value
 answer_some rows key bound row e = ap (option_and_then (λ (row : Row). row.value)) e
 
--- where no row of the key lies between, the answer stays
+-- if no row of the key is between the two stamps, the answer is the same
 pub answer_stays : (rows : List Row) (key : List ℕ) (low high : ℕ) → low ≤ high
     → ((row : Row) → Contains rows row → row.key ≡ key → row.stamp ≤ high → row.stamp ≤ low)
     → answer rows key high ≡ answer rows key low

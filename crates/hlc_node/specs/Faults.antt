@@ -1,4 +1,4 @@
--- What a refusal of a node, or of what an item says, is called: its number, the word that comes with it, and its text.
+-- The refusals of a node and of an item's body: the number, the word and the text of each.
 use Rattle.std.specs.Prelude.{ℕ, List, codes}
 use Rattle.hlc_clock.specs.Faults.{clock_code, clock_word, clock_text}
 use Rattle.hlc_node.specs.declared.item.BodyFault.{BodyFault}
@@ -6,7 +6,7 @@ use Rattle.hlc_node.specs.declared.item.BodyFault.TheVariants.{BadKey, ValueTooL
 use Rattle.hlc_node.specs.declared.node.NodeFault.{NodeFault}
 use Rattle.hlc_node.specs.declared.node.NodeFault.TheVariants.{Retired, Body, NumbersSpent, Clock}
 
--- the number of a refusal of what an item says
+-- the number of a refusal of a body
 abbrev pub body_code : BodyFault → ℕ
 body_code BadKey = 12
 body_code ValueTooLong = 13
@@ -23,7 +23,7 @@ node_code (Body fault) = body_code fault
 node_code NumbersSpent = 14
 node_code (Clock fault) = clock_code fault
 
--- the word that comes with it, 0 where there is none
+-- the word of the stamp in it, 0 if there is none
 abbrev pub node_word : NodeFault → ℕ
 node_word Retired = 0
 node_word (Body fault) = 0

@@ -1,4 +1,4 @@
--- An item, and what it may say.
+-- An item, and what its body may be.
 use Rattle.std.specs.Prelude.{ℕ, ◌≤◌, ⊤, Bool, true, false, List, length, ◌==◌, ◌||◌, nat_lt, Option, Some, None}
 use Rattle.std.specs.Prelude.{if◌then◌else◌}
 use Rattle.hlc_node.specs.declared.item.Item.{Item}
@@ -13,7 +13,7 @@ abbrev pub value_refusal : Option (List ℕ) → Option BodyFault
 value_refusal None = None
 value_refusal (Some value) = if nat_lt MOST_VALUE_BYTES (length value) then Some ValueTooLong else None
 
--- the first reason why no item may say this: a key without bytes or with more than 255; a value that is too long
+-- the first reason to refuse a body: a key without bytes or with more than 255; a value that is too long
 abbrev pub body_refusal : Body → Option BodyFault
 body_refusal (Write key value) =
     if length key == 0 || nat_lt MOST_KEY_BYTES (length key) then Some BadKey else value_refusal value
@@ -29,13 +29,13 @@ abbrev pub IsShortValue : Option (List ℕ) → Type 0
 IsShortValue None = ⊤
 IsShortValue (Some value) = length value ≤ 22
 
--- what it writes, if it writes, is a key and a value of at most 22 bytes each
+-- if it is a write, its key and its value have at most 22 bytes each
 abbrev pub IsShort : Body → Type 0
 IsShort (Write key value) = (length key ≤ 22) × IsShortValue value
 IsShort Report = ⊤
 IsShort Retire = ⊤
 
--- an item that says this is its node's last one
+-- an item with this body is its node's last one
 abbrev pub retires : Body → Bool
 retires (Write key value) = false
 retires Report = false

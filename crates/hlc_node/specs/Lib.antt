@@ -1,4 +1,4 @@
-pub mod Held
+pub mod Storage
 pub mod Items
 pub mod Rows
 pub mod Node

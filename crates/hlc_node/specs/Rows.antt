@@ -1,4 +1,4 @@
--- Rows, and the newest one of a key at or below a stamp.
+-- Rows, and the newest row of a key at or below a stamp.
 use Rattle.std.specs.Prelude.{◌≡◌, ℕ, ◌<◌, ◌≤◌, ◌⊎◌, List, [], ◌∷◌, Contains, Bool, ◌&&◌, ◌||◌, ◌==◌, nat_lt, nat_le}
 use Rattle.std.specs.Prelude.{Option, Some, None, option_and_then, if◌then◌else◌, ⊤}
 use Rattle.std.specs.Str.{bytes_eq}
@@ -32,7 +32,7 @@ IsRowSet (row ∷ rows) = ((other : Row) → Contains rows other → IsSameVersi
 abbrev pub is_candidate : List ℕ → ℕ → Row → Bool
 is_candidate key bound row = bytes_eq row.key key && nat_le row.stamp bound
 
--- the one comes before the other by stamp, and then by node
+-- one row comes before the other by stamp, and then by node
 abbrev pub is_before : Row → Row → Bool
 is_before a b = nat_lt a.stamp b.stamp || (a.stamp == b.stamp && nat_lt a.node b.node)
 
@@ -47,6 +47,6 @@ newest [] key bound = None
 newest (row ∷ rows) key bound =
     if is_candidate key bound row then Some (later row (newest rows key bound)) else newest rows key bound
 
--- its value, or none at a deletion mark or no such row
+-- its value, or none for a deletion mark or if there is no such row
 abbrev pub answer : List Row → List ℕ → ℕ → Option (List ℕ)
 answer rows key bound = option_and_then (λ row. row.value) (newest rows key bound)

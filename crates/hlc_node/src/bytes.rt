@@ -2,31 +2,31 @@
 ghost use Rattle.std.specs.Prelude.{◌≡◌, ◌==◌, ◌<◌, ◌≤◌, ◌^◌, ℕ, length, option_copied, IsOk, IfOk, MatchResult};
 ghost use Rattle.std.proofs.Common.{rules};
 ghost use Rattle.std.specs.Cmp.Rules.{comparing};
-ghost use Rattle.std.specs.Cmp.Lexicographic.{pointwise_decides, lists_per, lists_equiv};
+ghost use Rattle.std.specs.Cmp.Lexicographic.{lists_per, lists_equiv};
 ghost use Rattle.std.specs.Iterator.Runs.{EveryRun, ItemsMapTo};
 ghost use Rattle.std.specs.Slice.Iter.{iter_rest, iter_steps};
 ghost use Rattle.std.specs.Str.{bytes_eq};
-ghost use Rattle.hlc_node.specs.Held.{bytes_of};
+ghost use Rattle.hlc_node.specs.Storage.{bytes_of};
 
 use crate::short::{MOST_SHORT_BYTES, Short};
-use hlc_values::{Exact, NoMemory};
+use hlc_values::NoMemory;
 use std::alloc::{AllocFailed, Global};
 use std::fmt::{Debug, Formatter, Write};
 use std::marker::Model;
 use std::{fmt, slice};
 
-/// A key or a value. Contracts see it as the list of its bytes.
+/// A key or a value. In contracts it is the list of its bytes.
 ///
-/// Up to 22 bytes stand in place and take no memory of their own. What was made of a vector keeps
-/// that vector, however short, and gives it back.
+/// Up to 22 bytes are stored in place, without a heap allocation. Bytes that are made from a vector
+/// keep that vector, however short it is, and return it.
 #[derive(Drop)]
 pub struct Bytes {
-    held: Held,
+    storage: Storage,
 }
 
-/// Where the bytes stand.
+/// Where the bytes are stored.
 #[derive(Drop)]
-pub(crate) enum Held {
+pub(crate) enum Storage {
     Here(Short),
     There(Vec<u8>),
 }
@@ -34,17 +34,17 @@ pub(crate) enum Held {
 impl Model for Bytes {
     ghost use Rattle.std.specs.Prelude.{List, ℕ};
     ghost use Rattle.std.specs.Coded.{coded_list, coded_ℕ};
-    ghost use Rattle.hlc_node.specs.Held.{bytes_of};
+    ghost use Rattle.hlc_node.specs.Storage.{bytes_of};
 
     ghost Value = { List ℕ };
 
     ghost coded = { coded_list coded_ℕ };
 
-    ghost view = { λ bytes. bytes_of bytes.held };
+    ghost view = { λ bytes. bytes_of bytes.storage };
 }
 
 impl Bytes {
-    /// A copy of these bytes. Up to 22 bytes take no memory, so they are never refused.
+    /// Copies these bytes. Up to 22 bytes need no memory, so copying them is never refused.
     #[inline]
     pub fn from_slice(alloc: Global, bytes: &[u8]) -> Result<Bytes, NoMemory>
         ensures bytes { IfOk result (λ copy. copy ≡ bytes.now) }
@@ -52,70 +52,70 @@ impl Bytes {
     {
         if bytes.len() <= MOST_SHORT_BYTES {
             return Ok(Bytes {
-                held: Held::Here(Short::of(bytes)),
+                storage: Storage::Here(Short::of(bytes)),
             });
         }
-        let held = Held::There(Vec::from_slice(alloc, bytes)?);
-        Ok(Bytes { held })
+        let storage = Storage::There(Vec::from_slice(alloc, bytes)?);
+        Ok(Bytes { storage })
     }
 
-    /// The bytes, wherever they stand.
+    /// Returns the bytes that are stored there.
     #[inline]
-    pub(crate) fn of_held(held: Held) -> Bytes
-        ensures { result ≡ bytes_of held }
+    pub(crate) fn of_storage(storage: Storage) -> Bytes
+        ensures { result ≡ bytes_of storage }
     {
-        Bytes { held }
+        Bytes { storage }
     }
 
-    /// Where the bytes stand.
+    /// Returns where the bytes are stored.
     #[inline]
-    pub(crate) fn into_held(self) -> Held
+    pub(crate) fn into_storage(self) -> Storage
         ensures { bytes_of result ≡ self }
     {
-        let Bytes { held } = self;
-        held
+        let Bytes { storage } = self;
+        storage
     }
 
-    /// The bytes of a vector.
-    pub fn from_vec(held: Vec<u8>) -> Bytes
-        ensures { result ≡ held.items }
+    /// Returns the bytes of a vector, which keep that vector.
+    pub fn from_vec(storage: Vec<u8>) -> Bytes
+        ensures { result ≡ storage.items }
     {
-        let held = Held::There(held);
-        Bytes { held }
+        let storage = Storage::There(storage);
+        Bytes { storage }
     }
 
-    /// A vector of the bytes: the one that they were made of, or else, of bytes that stand in place, a
-    /// new one. Only a new one takes memory; where it is refused the bytes come back.
+    /// Returns a vector of the bytes: the vector that they were made from, or a new one if the bytes are stored in
+    /// place. Only a new one needs memory; if there is none, the error returns the bytes.
     pub fn into_vec(self, alloc: Global) -> Result<Vec<u8>, AllocFailed<Bytes>>
         ensures bytes { MatchResult result (λ vec. vec.items ≡ self) (λ refused. refused.value ≡ self) }
         ensures long { 22 < length self → IsOk result }
     {
-        let Bytes { held } = self;
-        match held {
-            Held::There(vec) => Ok(vec),
-            Held::Here(short) => match Vec::from_slice(alloc, short.as_slice()) {
+        let Bytes { storage } = self;
+        match storage {
+            Storage::There(vec) => Ok(vec),
+            Storage::Here(short) => match Vec::from_slice(alloc, short.as_slice()) {
                 Ok(vec) => Ok(vec),
                 Err(_) => Err(AllocFailed {
                     value: Bytes {
-                        held: Held::Here(short),
+                        storage: Storage::Here(short),
                     },
                 }),
             },
         }
     }
 
-    /// The bytes as a slice.
+    /// Returns the bytes as a slice.
     #[inline]
     pub fn as_slice(&self) -> &[u8]
         ensures { result.now ≡ self.now }
     {
-        match &self.held {
-            Held::Here(short) => short.as_slice(),
-            Held::There(vec) => vec.as_slice(),
+        match &self.storage {
+            Storage::Here(short) => short.as_slice(),
+            Storage::There(vec) => vec.as_slice(),
         }
     }
 
-    /// How many bytes there are.
+    /// Returns the number of bytes.
     #[inline]
     pub fn len(&self) -> usize
         ensures { result ≡ length self.now }
@@ -123,7 +123,7 @@ impl Bytes {
         self.as_slice().len()
     }
 
-    /// Whether there are none.
+    /// Returns whether there are no bytes.
     #[inline]
     pub fn is_empty(&self) -> bool
         ensures { result ≡ (length self.now == 0) }
@@ -131,7 +131,7 @@ impl Bytes {
         self.as_slice().is_empty()
     }
 
-    /// The bytes in turn.
+    /// Returns an iterator of the bytes in order.
     pub fn iter(&self) -> slice::Iter<'_, u8>
         ensures { iter_rest result ≡ self.now }
     {
@@ -139,7 +139,7 @@ impl Bytes {
     }
 }
 
-/// The bytes of a value, or none of a deletion mark.
+/// Returns the bytes of a value, or none for a deletion mark.
 #[inline]
 pub fn value_slice(value: &Option<Bytes>) -> Option<&[u8]>
     ensures { option_copied result ≡ value.now }
@@ -169,11 +169,11 @@ impl Clone for Bytes {
     ghost is_infallible = { λ bytes. length bytes ≤ 22 };
 
     fn clone(&self) -> Result<Bytes, NoMemory> {
-        match &self.held {
-            Held::Here(short) => Ok(Bytes {
-                held: Held::Here(short.copy()),
+        match &self.storage {
+            Storage::Here(short) => Ok(Bytes {
+                storage: Storage::Here(short.copy()),
             }),
-            Held::There(vec) => Bytes::from_slice(*vec.allocator(), vec.as_slice()),
+            Storage::There(vec) => Bytes::from_slice(*vec.allocator(), vec.as_slice()),
         }
     }
 }
@@ -190,12 +190,6 @@ impl PartialEq for Bytes {
 
 impl Eq for Bytes {
     ghost laws = { lists_equiv (Prim.search (comparing, rules)) };
-}
-
-impl Exact for Bytes {
-    ghost equal = { pointwise_decides (Prim.search (comparing, rules)) };
-
-    ghost copied = { λ bytes copy same. same };
 }
 
 impl Debug for Bytes {

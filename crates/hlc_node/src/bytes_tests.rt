@@ -1,4 +1,4 @@
-//! What contracts cannot see of bytes: their room, and which of them keep their vector.
+//! What contracts do not see of bytes: their size in memory, and which of them keep their vector.
 use crate::bytes::Bytes;
 use crate::mark::ValueOrMark;
 use std::mem::size_of;
@@ -29,7 +29,7 @@ fn a_short_vector_comes_back(rt: HostRuntime) -> Result<(), Fail> {
 }
 
 #[test]
-fn equal_wherever_they_stand(rt: HostRuntime) -> Result<(), Fail> {
+fn equal_however_stored(rt: HostRuntime) -> Result<(), Fail> {
     for len in 0..=LETTERS.len() {
         let letters = &LETTERS[..len];
         let copy = Bytes::from_slice(rt.alloc(), letters)?;

@@ -1,7 +1,5 @@
-//! Items, which a node hands on over its link, and messages to other nodes.
+//! Items, which a node sends over its link, and messages to other nodes.
 ghost use Rattle.std.specs.Prelude.{◌≡◌, ◌⊎◌, option_copied};
-ghost use Rattle.std.proofs.Common.{rules};
-ghost use Rattle.std.proofs.lemmas.Grind.{common_steps};
 ghost use Rattle.hlc_node.specs.Items.{body_refusal, retires, IsShort};
 ghost use Rattle.hlc_node.specs.Faults.{body_code};
 ghost use Rattle.hlc_node.specs.declared.item.Body.TheVariants.{Write as a_write, Report, Retire};
@@ -10,14 +8,14 @@ ghost use Rattle.hlc_node.specs.declared.item.TheConstants.{MOST_KEY_BYTES, MOST
 use crate::bytes::{Bytes, value_slice};
 use crate::item_ref::ItemRef;
 use hlc_clock::Stamp;
-use hlc_values::{Exact, NoMemory};
+use hlc_values::NoMemory;
 use std::error::Error;
 use std::fmt;
 
-/// The most bytes that a key may have.
+/// The maximum number of bytes of a key.
 pub const MOST_KEY_BYTES: usize = 255;
 
-/// The most bytes that a value may have.
+/// The maximum number of bytes of a value.
 pub const MOST_VALUE_BYTES: usize = 65_535;
 
 /// A key has at most 255 bytes.
@@ -30,14 +28,14 @@ pub fn most_value_bytes_are_65535()
     ensures { MOST_VALUE_BYTES ≡ 65535 }
 {}
 
-/// What an item says.
+/// The content of an item.
 #[derive(PartialEq, Eq, Debug, Drop)]
 pub enum Body {
     /// A new version of a key. No value is a deletion mark.
     Write { key: Bytes, value: Option<Bytes> },
-    /// No write: the node's stamps have come so far.
+    /// No write: a report of the node's latest stamp.
     Report,
-    /// No write, and the node's last item: it issues nothing after it.
+    /// No write: the node's last item.
     Retire,
 }
 
@@ -48,9 +46,9 @@ pub struct Item {
     pub node: u16,
     /// Its number on that node's link, from 0.
     pub number: u64,
-    /// The stamp that the node's clock gave it.
+    /// The stamp that the node's clock assigned to it.
     pub stamp: Stamp,
-    /// What it says.
+    /// Its content.
     pub body: Body,
 }
 
@@ -59,11 +57,11 @@ pub struct Item {
 pub struct Message {
     /// The node that sent it.
     pub from: u16,
-    /// The stamp of the sending.
+    /// The stamp of the send.
     pub stamp: Stamp,
 }
 
-/// Why no item may say this.
+/// Why no item may have this body.
 #[derive(Clone, Copy, PartialEq, Eq, Debug)]
 pub enum BodyFault {
     /// The key has no bytes, or more than 255.
@@ -89,32 +87,8 @@ impl Clone for Body {
     }
 }
 
-impl Exact for Body {
-    ghost equal = { Prim.search (rules, common_steps) };
-
-    ghost copied = { Prim.search rules };
-}
-
-impl Exact for Item {
-    ghost equal = { Prim.search (rules, common_steps) };
-
-    ghost copied = { Prim.search rules };
-}
-
-impl Exact for Message {
-    ghost equal = { Prim.search (rules, common_steps) };
-
-    ghost copied = { Prim.search rules };
-}
-
-impl Exact for BodyFault {
-    ghost equal = { Prim.search (rules, common_steps) };
-
-    ghost copied = { Prim.search rules };
-}
-
 impl BodyFault {
-    /// Its number: 12 or 13.
+    /// Returns the number of this refusal: 12 or 13.
     pub fn code(self) -> u32
         ensures { result ≡ body_code self }
     {
@@ -142,7 +116,7 @@ impl fmt::Display for BodyFault {
 impl Error for BodyFault {}
 
 impl Item {
-    /// The item over the bytes of its own key and value.
+    /// Returns the item as a reference to the bytes of its own key and value.
     #[inline]
     pub fn as_ref(&self) -> ItemRef<'_>
         ensures { result ≡ self.now }
@@ -167,7 +141,7 @@ impl Item {
     }
 }
 
-/// The first reason why no item may write this value, or deletion mark, to this key.
+/// Returns the first reason to refuse a write of this value, or deletion mark, to this key.
 #[inline]
 pub fn write_fault(key: &[u8], value: Option<&[u8]>) -> Option<BodyFault>
     ensures { result ≡ body_refusal (a_write key.now (option_copied value.entry)) }
@@ -181,14 +155,14 @@ pub fn write_fault(key: &[u8], value: Option<&[u8]>) -> Option<BodyFault>
     }
 }
 
-/// Whether an item that says this is its node's last one.
+/// Returns whether an item with this body is its node's last one.
 pub fn retires(body: &Body) -> bool
     ensures { result ≡ retires body.now }
 {
     matches!(body, Body::Retire)
 }
 
-/// The first reason why no item may say this.
+/// Returns the first reason to refuse this body.
 pub fn body_fault(body: &Body) -> Option<BodyFault>
     ensures { result ≡ body_refusal body.now }
 {

@@ -1,4 +1,4 @@
-//! An item whose key and value stand elsewhere.
+//! An item that borrows its key and value.
 ghost use Rattle.std.specs.Prelude.{◌≡◌, ◌⊎◌, MatchOption, option_copied};
 ghost use Rattle.hlc_node.specs.Items.{an_item, body_refusal, retires};
 ghost use Rattle.hlc_node.specs.declared.item.Body.TheVariants as body;
@@ -7,14 +7,14 @@ use crate::item::{BodyFault, write_fault};
 use hlc_clock::Stamp;
 use std::marker::Model;
 
-/// What an item writes: a value of a key, or a deletion mark.
+/// The content of a write: a key with a value, or with a deletion mark.
 #[derive(Clone, Copy, Debug)]
 pub struct Written<'a> {
     pub key: &'a [u8],
     pub value: Option<&'a [u8]>,
 }
 
-/// What an item says, over slices.
+/// The content of an item, over slices.
 #[derive(Debug, Drop)]
 pub(crate) enum BodyRef<'a> {
     Write {
@@ -25,7 +25,7 @@ pub(crate) enum BodyRef<'a> {
     Retire,
 }
 
-/// An item whose key and value stand elsewhere, so that making one takes no memory. Contracts see the item.
+/// An item that borrows its key and value, so making one needs no memory. In contracts it is the item.
 #[derive(Debug, Drop)]
 pub struct ItemRef<'a> {
     node: u16,
@@ -45,7 +45,7 @@ impl<'a> Model for ItemRef<'a> {
 }
 
 impl<'a> ItemRef<'a> {
-    /// A write of this value to this key, or a deletion where there is no value.
+    /// Returns a write of this value to this key, or a deletion if there is no value.
     #[inline]
     pub fn write(
         node: u16,
@@ -64,7 +64,7 @@ impl<'a> ItemRef<'a> {
         }
     }
 
-    /// A report.
+    /// Returns a report.
     #[inline]
     pub fn report(node: u16, number: u64, stamp: Stamp) -> ItemRef<'a>
         ensures { result ≡ an_item node number stamp body.Report }
@@ -77,7 +77,7 @@ impl<'a> ItemRef<'a> {
         }
     }
 
-    /// A retirement.
+    /// Returns a retirement.
     #[inline]
     pub fn retire(node: u16, number: u64, stamp: Stamp) -> ItemRef<'a>
         ensures { result ≡ an_item node number stamp body.Retire }
@@ -90,7 +90,7 @@ impl<'a> ItemRef<'a> {
         }
     }
 
-    /// The node that issued it.
+    /// Returns the node that issued the item.
     #[inline]
     pub fn node(&self) -> u16
         ensures { result ≡ self.now.node }
@@ -98,7 +98,7 @@ impl<'a> ItemRef<'a> {
         self.node
     }
 
-    /// Its number on that node's link, from 0.
+    /// Returns the item's number on that node's link, from 0.
     #[inline]
     pub fn number(&self) -> u64
         ensures { result ≡ self.now.number }
@@ -106,7 +106,7 @@ impl<'a> ItemRef<'a> {
         self.number
     }
 
-    /// The stamp that the node's clock gave it.
+    /// Returns the stamp that the node's clock assigned to the item.
     #[inline]
     pub fn stamp(&self) -> Stamp
         ensures { result ≡ self.now.stamp }
@@ -114,7 +114,7 @@ impl<'a> ItemRef<'a> {
         self.stamp
     }
 
-    /// Whether it is its node's last one.
+    /// Returns whether the item is its node's last one.
     #[inline]
     pub fn retires(&self) -> bool
         ensures { result ≡ retires self.now.body }
@@ -122,7 +122,7 @@ impl<'a> ItemRef<'a> {
         matches!(self.body, BodyRef::Retire)
     }
 
-    /// What it writes, or none for a report or a retirement.
+    /// Returns the key and the value that the item writes, or none for a report or a retirement.
     #[inline]
     pub fn written(&self) -> Option<Written<'a>>
         ensures { MatchOption result
@@ -135,7 +135,7 @@ impl<'a> ItemRef<'a> {
         }
     }
 
-    /// The first reason why no item may say this.
+    /// Returns the first reason to refuse the item's body.
     #[inline]
     pub fn body_fault(&self) -> Option<BodyFault>
         ensures { result ≡ body_refusal self.now.body }

@@ -1,10 +1,11 @@
-//! Items of a node's link, messages, and the core of a node that makes them; stored rows, and
-//! which row answers a read.
+//! Items of a node's link, messages, and the core of a node that makes them; stored rows, and the
+//! row that answers a read.
 #![tactic(auto)]
 
 mod bytes;
 #[cfg(test)]
 mod bytes_tests;
+mod exact;
 mod item;
 mod item_ref;
 mod laws;

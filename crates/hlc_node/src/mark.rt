@@ -1,21 +1,21 @@
 //! What a row stores of its write.
 ghost use Rattle.std.specs.Prelude.{◌≡◌, None, option_copied};
 
-use crate::bytes::{Bytes, Held};
+use crate::bytes::{Bytes, Storage};
 use crate::short::Short;
 use std::fmt::{self, Debug, Formatter, Write};
 use std::marker::Model;
 
-/// A value, or the mark that there is none, in the room of a value. Contracts see an option of its
-/// bytes. Making one of a value or of none, and giving that back, takes no memory.
+/// A value, or the mark that there is none. It is as large as a value. In contracts it is an option
+/// of the bytes. `new` and `into_value` need no memory.
 #[derive(Drop)]
 pub struct ValueOrMark {
-    held: HeldOrMark,
+    storage: StorageOrMark,
 }
 
-/// Where the bytes stand, if there are any.
+/// Where the bytes are stored, if there are any.
 #[derive(Drop)]
-enum HeldOrMark {
+enum StorageOrMark {
     Mark,
     Here(Short),
     There(Vec<u8>),
@@ -24,13 +24,13 @@ enum HeldOrMark {
 impl Model for ValueOrMark {
     ghost use Rattle.std.specs.Prelude.{Option, List, ℕ};
     ghost use Rattle.std.specs.Coded.{coded_option, coded_list, coded_ℕ};
-    ghost use Rattle.hlc_node.specs.Held.{value_of};
+    ghost use Rattle.hlc_node.specs.Storage.{value_of};
 
     ghost Value = { Option (List ℕ) };
 
     ghost coded = { coded_option (coded_list coded_ℕ) };
 
-    ghost view = { λ kept. value_of kept.held };
+    ghost view = { λ kept. value_of kept.storage };
 }
 
 impl Default for ValueOrMark {
@@ -38,49 +38,49 @@ impl Default for ValueOrMark {
 
     fn default() -> ValueOrMark {
         ValueOrMark {
-            held: HeldOrMark::Mark,
+            storage: StorageOrMark::Mark,
         }
     }
 }
 
 impl ValueOrMark {
-    /// This value, or the mark for none.
+    /// Returns this value, or the mark if there is none.
     #[inline]
     pub fn new(value: Option<Bytes>) -> ValueOrMark
         ensures { result ≡ value }
     {
-        let held = match value {
-            None => HeldOrMark::Mark,
-            Some(bytes) => match bytes.into_held() {
-                Held::Here(short) => HeldOrMark::Here(short),
-                Held::There(vec) => HeldOrMark::There(vec),
+        let storage = match value {
+            None => StorageOrMark::Mark,
+            Some(bytes) => match bytes.into_storage() {
+                Storage::Here(short) => StorageOrMark::Here(short),
+                Storage::There(vec) => StorageOrMark::There(vec),
             },
         };
-        ValueOrMark { held }
+        ValueOrMark { storage }
     }
 
-    /// The value, or none for the mark.
+    /// Returns the value, or none for the mark.
     #[inline]
     pub fn into_value(self) -> Option<Bytes>
         ensures { result ≡ self }
     {
-        let ValueOrMark { held } = self;
-        match held {
-            HeldOrMark::Mark => None,
-            HeldOrMark::Here(short) => Some(Bytes::of_held(Held::Here(short))),
-            HeldOrMark::There(vec) => Some(Bytes::of_held(Held::There(vec))),
+        let ValueOrMark { storage } = self;
+        match storage {
+            StorageOrMark::Mark => None,
+            StorageOrMark::Here(short) => Some(Bytes::of_storage(Storage::Here(short))),
+            StorageOrMark::There(vec) => Some(Bytes::of_storage(Storage::There(vec))),
         }
     }
 
-    /// The bytes of the value, or none for the mark.
+    /// Returns the bytes of the value, or none for the mark.
     #[inline]
     pub fn as_slice(&self) -> Option<&[u8]>
         ensures { option_copied result ≡ self.now }
     {
-        match &self.held {
-            HeldOrMark::Mark => None,
-            HeldOrMark::Here(short) => Some(short.as_slice()),
-            HeldOrMark::There(vec) => Some(vec.as_slice()),
+        match &self.storage {
+            StorageOrMark::Mark => None,
+            StorageOrMark::Here(short) => Some(short.as_slice()),
+            StorageOrMark::There(vec) => Some(vec.as_slice()),
         }
     }
 }

@@ -1,12 +1,10 @@
 //! What a table stores of a write.
 ghost use Rattle.std.specs.Prelude.{◌≡◌, ◌≤◌, length, option_copied};
 ghost use Rattle.hlc_node.specs.Items.{IsShortValue};
-ghost use Rattle.std.proofs.Common.{rules};
-ghost use Rattle.std.proofs.lemmas.Grind.{common_steps};
 
 use crate::bytes::{Bytes, value_slice};
 use hlc_clock::Stamp;
-use hlc_values::{Exact, NoMemory};
+use hlc_values::NoMemory;
 
 /// A version of a key.
 #[derive(PartialEq, Eq, Debug, Drop)]
@@ -20,7 +18,7 @@ pub struct Row {
 }
 
 impl Row {
-    /// The bytes of the value, or none for a deletion mark.
+    /// Returns the bytes of the value, or none for a deletion mark.
     pub fn value(&self) -> Option<&[u8]>
         ensures { option_copied result ≡ self.now.value }
     {
@@ -41,10 +39,4 @@ impl Clone for Row {
             value: self.value.clone()?,
         })
     }
-}
-
-impl Exact for Row {
-    ghost equal = { Prim.search (rules, common_steps) };
-
-    ghost copied = { Prim.search rules };
 }

@@ -1,17 +1,17 @@
-//! Bytes that stand in place.
+//! Bytes that are stored in place.
 ghost use Rattle.std.specs.Prelude.{◌≡◌, ◌≤◌, length, IsOk};
 
 use std::marker::Model;
 
-/// The most bytes that stand in place, without memory of their own.
+/// The maximum number of bytes that are stored in place, without a heap allocation.
 pub const MOST_SHORT_BYTES: usize = 22;
 
-/// At most 22 bytes stand in place.
+/// At most 22 bytes are stored in place.
 pub fn most_short_bytes_are_22()
     ensures { MOST_SHORT_BYTES ≡ 22 }
 {}
 
-/// At most 22 bytes, in place. Contracts see their list.
+/// At most 22 bytes, in place. In contracts it is the list of them.
 #[derive(Drop)]
 pub(crate) struct Short {
     len: u8,
@@ -32,7 +32,7 @@ impl Model for Short {
 }
 
 impl Short {
-    /// A copy of these bytes.
+    /// Copies these bytes.
     #[inline]
     pub(crate) fn of(items: &[u8]) -> Short
         requires { length items.now ≤ 22 }
@@ -47,7 +47,7 @@ impl Short {
         }
     }
 
-    /// The bytes as a slice.
+    /// Returns the bytes as a slice.
     #[inline]
     pub(crate) fn as_slice(&self) -> &[u8]
         ensures bytes { result.now ≡ self.now }
@@ -56,7 +56,7 @@ impl Short {
         &self.bytes[..self.len as usize]
     }
 
-    /// The same bytes again.
+    /// Copies the bytes.
     #[inline]
     pub(crate) fn copy(&self) -> Short
         ensures { result ≡ self.now }

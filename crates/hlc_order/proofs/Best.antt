@@ -1,4 +1,4 @@
--- The newest of some first places, together with the newest of the rest, is the newest of all.
+-- The newest of some first positions, together with the newest of the rest, is the newest of all.
 use Rattle.std.proofs.Common.{◌≡◌, ℕ, ◌+◌, ◌-◌, ◌<◌, ◌≤◌, List, Option, Some}
 use Rattle.std.proofs.Common.{None, length, get_or, drop, take}
 use Rattle.std.proofs.Common.{sym, ap, ◌∙◌, subst, ◌⊎◌, inl, inr, arith}
@@ -30,7 +30,7 @@ not_above_trans ss ns p q r (a, b, c) (d, e, f) = (
       let k = c x u in let l = f y v in omega (arith, k, l),
 )
 
--- the first stays the best where no further row is above it
+-- the first remains the best if no later row is above it
 pub best_stays : (ss ns : List ℕ) (bound m n : ℕ) (first : Option ℕ) → IsNewestBelow ss ns bound m first → m ≤ n
     → ((q : ℕ) → m ≤ q → q < n
     → MatchOption first (bound < get_or ss q 0) (λ p. get_or ss q 0 ≤ bound → NotAbove ss ns q p))
@@ -49,7 +49,7 @@ best_stays ss ns bound m n (Some p) (inside, within, top) le further = (
   ],
 )
 
--- the better of the first and of the best further row
+-- the better of the first and of the best later row
 pub best_joins : (ss ns : List ℕ) (bound m n t r : ℕ) (first : Option ℕ) → IsNewestBelow ss ns bound m first → m ≤ t
     → t < n → get_or ss t 0 ≤ bound
     → ((q : ℕ) → m ≤ q → q < n → get_or ss q 0 ≤ bound → NotAbove ss ns q t)
@@ -144,7 +144,7 @@ top_of_rest ss ns bound m stamp i r first le beside best (member, within, top) (
     ))
     one later other
 
--- what the kernels find of one stamp
+-- the result of the kernels for one stamp
 pub top_found : (ss ns : List ℕ) (stamp node : ℕ) (place : Option ℕ) → IsGreatestNode ss ns stamp (Some node)
     → IsPlace ss ns stamp node place → IsGreatestAt ss ns stamp place
 top_found ss ns stamp node None (holds, great) nowhere = absurd (nowhere holds.0 (omega arith) holds.1 holds.2 holds.3)

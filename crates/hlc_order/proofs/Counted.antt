@@ -1,4 +1,4 @@
--- An index has each of the first places once, so what it counts is what a pass over the first rows counts.
+-- An index has each of the first positions once, so its count is the count of a pass over the first rows.
 use Rattle.std.proofs.Common.{◌≡◌, ℕ, zero, suc, ◌+◌, ◌-◌, ◌<◌, ◌≤◌, true, false, Bool, List, [], ◌∷◌, ◌++◌, length}
 use Rattle.std.proofs.Common.{get_or}
 use Rattle.std.proofs.Common.{take, drop, refl, sym, ap, ◌∙◌, subst, inl, inr, arith, Contains, leb, cond}
@@ -11,7 +11,7 @@ use Rattle.std.proofs.lemmas.List.Elements.{Contains-append_cases, Contains-appe
 use Rattle.hlc_values.proofs.MemberLemmas.{Contains-cons_cases}
 use Rattle.hlc_order.specs.Order.{IsIndex}
 
--- a sum over the places below n, in any order, is the sum over the first n
+-- a sum over the positions below n, in any order, is the sum over the first n
 summed : (ss : List ℕ) (g : ℕ → ℕ) (n : ℕ) (xs : List ℕ) → n ≤ length ss → length xs ≡ n
     → ((p : ℕ) → p < n → Contains xs p)
     → sum_by (λ p. g (get_or ss p 0)) xs ≡ sum_by g (take n ss)
@@ -49,7 +49,7 @@ summed ss g (suc n) xs le long every =
     let to : n + 1 ≡ suc n = omega arith in
     subst (λ m. sum_by f xs ≡ sum_by g (take m ss)) to (omega (arith, rest, whole, one, parts, next, same))
 
--- what passes stands in front, so its count is where that ends
+-- the members that pass come first, so their count is where they end
 module _ (p : ℕ → Bool) (xs : List ℕ) (count : ℕ) (inside : count ≤ length xs)
     (point : IsPartitionPoint (λ x. p x ≡ true) (λ x. p x ≡ false) xs count) where
   front_counted : (i : ℕ) → i ≤ count → count_by p (take i xs) ≡ i
@@ -75,7 +75,7 @@ module _ (p : ℕ → Bool) (xs : List ℕ) (count : ℕ) (inside : count ≤ le
       sym (ap (count_by p) (take_all (count + (length xs - count)) xs all')) ∙ back_counted (length xs - count)
       (omega (arith, inside))
 
--- what an index counts
+-- the count of an index
 pub index_counted : (ss ns order : List ℕ) (bound count : ℕ) → IsIndex ss ns order → count ≤ length order
     → IsPartitionPoint (λ p. leb (get_or ss p 0) bound ≡ true) (λ p. leb (get_or ss p 0) bound ≡ false) order count
     → count ≡ count_by (λ s. leb s bound) (take (length order) ss)
@@ -83,7 +83,7 @@ index_counted ss ns order bound count (long, below, every, rises) inside point =
     sym (partition_counted (λ p. leb (get_or ss p 0) bound) order count inside point)
     ∙ summed ss (λ s. cond (leb s bound) 1 0) (length order) order long refl every
 
--- the first rows and those behind them are all
+-- the first rows and those after them are all rows
 pub counted_all : (p : ℕ → Bool) (xs : List ℕ) (i first rest : ℕ) → first ≡ count_by p (take i xs)
     → rest ≡ count_by p (drop i xs) → first + rest ≡ count_by p xs
 counted_all p xs i first rest front back =

@@ -1,5 +1,5 @@
--- An index: what stands in it, what the binary search finds there, and how it stays one when rows are added. Its order
--- is a total one, so what is sorted rises.
+-- An index: its members, the result of a binary search in it, and how it stays an index when rows are added. Its order
+-- is total, so a sorted list ascends.
 use Rattle.std.proofs.Common.{◌≡◌, ℕ, ◌+◌, ◌-◌, ◌<◌, ◌≤◌, true, false, List, [], ◌∷◌, ◌++◌, Some, None, length, get_or}
 use Rattle.std.proofs.Common.{take, drop, refl, sym, ap, ◌∙◌, subst, inl, inr, arith, Contains, All, true≢false, leb}
 use Rattle.std.proofs.Common.{ltb, Bool}
@@ -19,7 +19,7 @@ use Rattle.hlc_order.specs.Newest.{NotAbove, IsNewestBelow}
 use Rattle.hlc_order.specs.Order.{Rises, IsIndex, IsNumbered, AreFirstWithin, place_cmp}
 use Rattle.hlc_order.proofs.Best.{not_above_itself, not_above_trans}
 
--- the stamps rise along an index, so those that pass a test, which each lesser one passes too, stand in front
+-- the stamps ascend along an index, so those that pass a test come first if each lesser stamp passes it too
 partitioned_by : (passes : ℕ → Bool) → ((x y : ℕ) → x ≤ y → passes y ≡ true → passes x ≡ true)
     → (ss ns order : List ℕ) → IsIndex ss ns order → IsPartitionedBy (λ p. passes (get_or ss p 0)) order
 partitioned_by passes lesser ss ns order (long, below, every, rises) i j d le lt pass =
@@ -39,7 +39,7 @@ pub stamps_partitioned_below : (ss ns order : List ℕ) (stamp : ℕ) → IsInde
 stamps_partitioned_below ss ns order stamp =
     partitioned_by (λ s. ltb s stamp) (λ x y le pass. grind (arith, nat_tests)) ss ns order
 
--- where the last is at or below the bound all are
+-- if the last is at or below the bound, all are
 pub all_indexed : (ss ns order : List ℕ) (bound : ℕ) → IsIndex ss ns order
     → get_or ss (get_or order (length order - 1) 0) 0 ≤ bound
     → IsPartitionPoint (λ p. leb (get_or ss p 0) bound ≡ true) (λ p. leb (get_or ss p 0) bound ≡ false) order
@@ -52,7 +52,7 @@ all_indexed ss ns order bound (long, below, every, rises) last = (
   λ i d past inside. absurd (omega (arith, past, inside)),
 )
 
--- those before one at or below the bound are so too
+-- those before one at or below the bound are at or below it too
 pub first_within : (ss ns order : List ℕ) (bound count : ℕ) → IsIndex ss ns order → 0 < count → count ≤ length order
     → get_or ss (get_or order (count - 1) 0) 0 ≤ bound → AreFirstWithin ss order bound count
 first_within ss ns order bound count (long, below, every, rises) some inside last i lt =
@@ -84,7 +84,7 @@ point_after ss ns order bound count (long, below, every, rises) some first next 
       grind (arith, nat_tests)),
 )
 
--- none is at or below the bound
+-- no row is at or below the bound
 pub none_indexed : (ss ns order : List ℕ) (bound : ℕ) → IsIndex ss ns order
     → IsPartitionPoint (λ p. leb (get_or ss p 0) bound ≡ true) (λ p. leb (get_or ss p 0) bound ≡ false) order 0
     → IsNewestBelow ss ns bound (length order) None
@@ -150,7 +150,7 @@ sorted_rises ss ns order sorted i j le lt =
     (sorted_far (λ p q. is_lt (place_cmp ss ns p q))
     (ranks_by (place_order ss ns) (λ (p : ℕ). p)) order sorted i j 0 le lt)
 
--- all places below the length, rising
+-- all positions below the length, in ascending order of the rows
 pub risen_index : (ss ns xs ys : List ℕ) → IsPermutation xs ys → length xs ≤ length ss → All (λ p. p < length xs) xs
     → ((p : ℕ) → p < length xs → Contains xs p)
     → Rises ss ns ys → IsIndex ss ns ys
@@ -162,7 +162,7 @@ risen_index ss ns xs ys moved long below every rises =
       rises,
     )
 
--- a rising front below a stamp, and a rising tail that is not
+-- an ascending front below a stamp, and an ascending tail that is not below it
 pub joined_rises : (ss ns front tail : List ℕ) (stamp : ℕ) → Rises ss ns front → Rises ss ns tail
     → ((i : ℕ) → i < length front → get_or ss (get_or front i 0) 0 < stamp)
     → All (λ p. stamp ≤ get_or ss p 0) tail → Rises ss ns (front ++ tail)
@@ -186,21 +186,21 @@ joined_rises ss ns front tail stamp rises risen under over i j le lt =
                   λ same. absurd (omega (arith, a, b, same)),
                   λ same alike. absurd (omega (arith, a, b, same)),
                 ))
-            | inr behind ↦ subst (λ (p : ℕ). NotAbove ss ns p (get_or tail (j - length front) 0))
-                (sym (get_or-append_right front tail (length front) i 0 refl behind))
-                (risen (i - length front) (j - length front) (omega (arith, le, behind, after))
+            | inr beyond ↦ subst (λ (p : ℕ). NotAbove ss ns p (get_or tail (j - length front) 0))
+                (sym (get_or-append_right front tail (length front) i 0 refl beyond))
+                (risen (i - length front) (j - length front) (omega (arith, le, beyond, after))
                 (omega (arith, wide, lt, after)))
           ])
     ]
 
--- all places below the length, sorted
+-- all positions below the length, sorted
 pub sorted_index : (ss ns xs ys : List ℕ) → IsPermutation xs ys → length xs ≤ length ss → All (λ p. p < length xs) xs
     → ((p : ℕ) → p < length xs → Contains xs p)
     → IsSortedBy (λ p q. is_lt (place_cmp ss ns p q)) ys → IsIndex ss ns ys
 sorted_index ss ns xs ys moved long below every sorted =
     risen_index ss ns xs ys moved long below every (sorted_rises ss ns ys sorted)
 
--- what stands in a numbered list
+-- the members of a numbered list
 pub numbered_below : (old new : List ℕ) (count : ℕ) → IsNumbered old new count → length old ≤ count
     → All (λ p. p < length old) old → All (λ p. p < length new) new
 numbered_below old new count (front, long, numbers) le below k d lt =
@@ -252,8 +252,8 @@ numbered_more old new count (front, long, numbers) = (
   ],
 )
 
--- where all places were numbered and those from one on sorted,
--- which are the places of all rows that are not below a stamp
+-- if all positions were numbered and those from one on sorted, which are the positions of all rows that are not below a
+-- stamp
 pub tail_index : (ss ns order all tail : List ℕ) (from least : ℕ) → IsIndex ss ns order
     → IsNumbered order all (length ss) → from ≤ length order
     → ((i : ℕ) → i < from → get_or ss (get_or order i 0) 0 < least)
@@ -294,7 +294,7 @@ tail_index ss ns order all tail from least (room, below, every, rises) numbered 
           (new (from + k) after (omega (arith, inside, long)))
     ])))))
 
--- the next place goes last where it is above the last
+-- the next position is appended if its row is above the last
 pub pushed_index : (ss ns order : List ℕ) → IsIndex ss ns order → length order < length ss → 0 < length order
     → NotAbove ss ns (get_or order (length order - 1) 0) (length order) → IsIndex ss ns (order ++ length order ∷ [])
 pushed_index ss ns order (long, below, every, rises) room some last =
@@ -334,7 +334,7 @@ pushed_index ss ns order (long, below, every, rises) room some last =
       ],
     )
 
--- an index of some rows is one of more
+-- an index of some rows is an index of more rows
 pub index_of_more : (ss ns order : List ℕ) (s n : ℕ) → length ns ≡ length ss → IsIndex ss ns order
     → IsIndex (ss ++ s ∷ []) (ns ++ n ∷ []) order
 index_of_more ss ns order s n beside (long, below, every, rises) =

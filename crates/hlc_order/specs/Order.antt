@@ -1,27 +1,27 @@
--- An index: the places of the first rows, in the order of their stamps and nodes.
+-- An index: the positions of the first rows, in the order of their stamps and nodes.
 use Rattle.std.specs.Prelude.{◌≡◌, ◌++◌, ◌≤◌, ◌<◌, ℕ, List, All, Contains, length, slice_index}
 use Rattle.std.specs.Ordering.{nat_cmp, ordering_then}
 use Rattle.std.specs.declared.cmp.Ordering.{Ordering}
 use Rattle.hlc_order.specs.Newest.{NotAbove}
 
--- no row of the list of places is above a later one
+-- no row in the list of positions is above a later one
 abbrev pub Rises : List ℕ → List ℕ → List ℕ → Type 0
 Rises stamps nodes order =
     (i j : ℕ) → i ≤ j → j < length order
     → NotAbove stamps nodes (slice_index order i) (slice_index order j)
 
--- the places below the length of the list, each once, rising
+-- the positions below the length of the list, each once, in ascending order of the rows
 abbrev pub IsIndex : List ℕ → List ℕ → List ℕ → Type 0
 IsIndex stamps nodes order =
     (length order ≤ length stamps) × All (λ p. p < length order) order
     × ((p : ℕ) → p < length order → Contains order p) × Rises stamps nodes order
 
--- the first rows of an index, so many, are at or below a bound
+-- the first `count` rows of an index are at or below a bound
 abbrev pub AreFirstWithin : List ℕ → List ℕ → ℕ → ℕ → Type 0
 AreFirstWithin stamps order bound count =
     (i : ℕ) → i < count → slice_index stamps (slice_index order i) ≤ bound
 
--- by stamp, then by node, and then the later place first
+-- by stamp, then by node, and then the later position first
 abbrev pub place_cmp : List ℕ → List ℕ → ℕ → ℕ → Ordering
 place_cmp stamps nodes p q =
     ordering_then
@@ -30,7 +30,7 @@ place_cmp stamps nodes p q =
     (nat_cmp (slice_index nodes p) (slice_index nodes q)))
     (nat_cmp q p)
 
--- new is old, and then the places from its length on up to a count
+-- new is old, followed by the positions from its length on up to a count
 abbrev pub IsNumbered : List ℕ → List ℕ → ℕ → Type 0
 IsNumbered old new count =
     ((rest : List ℕ) × (new ≡ old ++ rest)) × (length new ≡ count)

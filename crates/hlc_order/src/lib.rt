@@ -1,5 +1,5 @@
-//! The order of the rows of one key: their stamps and nodes stand side by side in arrival order, and an index of the
-//! first of them by stamp and node makes reads fast.
+//! The order of the rows of one key: their stamps and nodes are stored side by side in arrival order, and an index of
+//! the first of them by stamp and node makes reads fast.
 #![tactic(auto)]
 
 mod newest;

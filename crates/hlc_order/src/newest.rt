@@ -1,4 +1,4 @@
-//! The place of the newest of some stamps and nodes, which stand side by side.
+//! The position of the newest of some stamps and nodes, which are side by side.
 ghost use Rattle.std.specs.Prelude.{◌≡◌, ◌↔◌, ◌≤◌, ◌<◌, ◌-◌, ◌⊎◌, ℕ, IsTrue, Some, IfSome, MatchOption, length};
 ghost use Rattle.std.specs.Prelude.{slice_index};
 ghost use Rattle.std.specs.Prelude.{take, count_by, nat_le, false};
@@ -8,10 +8,10 @@ ghost use Rattle.hlc_order.specs.Order.{IsIndex, AreFirstWithin};
 
 use hlc_lanes::{greatest_node, newest_at, place_of};
 
-/// Below so many rows one plain pass is faster than three by the kernels.
+/// Below this many rows one plain pass is faster than three by the kernels.
 const FEW: usize = 16;
 
-/// The stamp at a place, 0 where there is none.
+/// Returns the stamp at a position, or 0 if there is none.
 pub(crate) fn stamp_at(stamps: &[u64], place: usize) -> u64
     ensures { result ≡ slice_index stamps.now place }
 {
@@ -22,14 +22,14 @@ pub(crate) fn stamp_at(stamps: &[u64], place: usize) -> u64
     }
 }
 
-/// The node at a place, 0 where there is none.
+/// Returns the node at a position, or 0 if there is none.
 pub(crate) fn node_at(nodes: &[u16], place: usize) -> u16
     ensures { result ≡ slice_index nodes.now place }
 {
     if place < nodes.len() { nodes[place] } else { 0 }
 }
 
-/// Whether a row is below one that came later.
+/// Returns whether a row is below one that came later.
 pub(crate) fn is_below(stamps: &[u64], nodes: &[u16], place: usize, later: usize) -> bool
     requires { place < later }
     ensures below { IsTrue result → NotAbove stamps.now nodes.now place later }
@@ -40,7 +40,7 @@ pub(crate) fn is_below(stamps: &[u64], nodes: &[u16], place: usize, later: usize
     stamp < other || stamp == other && node_at(nodes, place) < node_at(nodes, later)
 }
 
-/// The newer of the best so far and a later row, and the best of two that are alike.
+/// Returns the newer of `best` and a later row, or `best` if they are alike.
 fn newer(stamps: &[u64], nodes: &[u16], best: Option<usize>, later: usize) -> usize
     requires { IfSome best (λ place. place < later) }
     ensures one { (result ≡ later) ⊎ (best ≡ Some result) }
@@ -53,7 +53,7 @@ fn newer(stamps: &[u64], nodes: &[u16], best: Option<usize>, later: usize) -> us
     }
 }
 
-/// The newest of the first and of the rows from a place on, one after another.
+/// Returns the newest of `first` and of the rows from a position on, one after another.
 fn newest_of_few(
     stamps: &[u64],
     nodes: &[u16],
@@ -74,7 +74,7 @@ fn newest_of_few(
     best
 }
 
-/// The first place of the greatest node beside a stamp.
+/// Returns the first position of the greatest node with a stamp.
 fn greatest_place(stamps: &[u64], nodes: &[u16], stamp: u64) -> Option<usize>
     requires { length nodes.now ≡ length stamps.now }
     ensures { IsGreatestAt stamps.now nodes.now stamp result }
@@ -83,7 +83,7 @@ fn greatest_place(stamps: &[u64], nodes: &[u16], stamp: u64) -> Option<usize>
     place_of(stamps, nodes, stamp, node)
 }
 
-/// Whether the first is a row above a stamp.
+/// Returns whether `first` is a row above a stamp.
 fn is_above(stamps: &[u64], first: Option<usize>, stamp: u64) -> bool
     ensures { IsTrue result ↔ MatchOption first ⊥ (λ place. stamp < slice_index stamps.now place) }
 {
@@ -93,8 +93,8 @@ fn is_above(stamps: &[u64], first: Option<usize>, stamp: u64) -> bool
     }
 }
 
-/// The newest of all rows, where the first is that of those before a place. Of many rows it is found by the kernels:
-/// the stamp, its greatest node, and their first place.
+/// Returns the position of the newest of all rows at or below the bound, where `first` is that of the rows before
+/// `from`. Among many rows the kernels find it: the stamp, its greatest node, and the first position of both.
 pub fn newest_from(
     stamps: &[u64],
     nodes: &[u16],
@@ -122,7 +122,8 @@ pub fn newest_from(
     Some(newer(stamps, nodes, first, from + place))
 }
 
-/// The newest of the rows that an index has, where so many of them are at or below the bound.
+/// Returns the position of the newest row of an index at or below the bound, where `count` rows of
+/// the index are at or below it.
 pub fn newest_of_first(
     stamps: &[u64],
     nodes: &[u16],
@@ -142,7 +143,7 @@ pub fn newest_of_first(
     Some(order[count - 1] as usize)
 }
 
-/// Whether the first rows of an index, so many, are all at or below the bound.
+/// Returns whether the first `count` rows of an index are all at or below the bound.
 fn are_first_within(stamps: &[u64], nodes: &[u16], order: &[u32], bound: u64, count: usize) -> bool
     requires { IsIndex stamps.now nodes.now order.now }
     ensures few { IsTrue result → count ≤ length order.now }
@@ -157,8 +158,8 @@ fn are_first_within(stamps: &[u64], nodes: &[u16], order: &[u32], bound: u64, co
     }
 }
 
-/// How many of the rows that an index has are at or below the bound, sought from a place on, one row after another.
-/// From any place it is the same.
+/// Returns how many rows of an index are at or below the bound. It searches from a position on, one row after another;
+/// the result does not depend on that position.
 pub fn count_from(stamps: &[u64], nodes: &[u16], order: &[u32], bound: u64, from: usize) -> usize
     requires { IsIndex stamps.now nodes.now order.now }
     ensures point { IsPartitionPoint (λ place. IsTrue (nat_le (slice_index stamps.now place) bound))
@@ -176,7 +177,7 @@ pub fn count_from(stamps: &[u64], nodes: &[u16], order: &[u32], bound: u64, from
     order.len()
 }
 
-/// Whether the last row of an index is at or below the bound.
+/// Returns whether the last row of an index is at or below the bound.
 fn is_last_within(stamps: &[u64], order: &[u32], bound: u64) -> bool
     ensures { IsTrue result
         → slice_index stamps.now (slice_index order.now (length order.now - 1)) ≤ bound }
@@ -187,8 +188,8 @@ fn is_last_within(stamps: &[u64], order: &[u32], bound: u64) -> bool
     }
 }
 
-/// How many of the rows that an index has are at or below the bound: all of them where its last is, and else it is
-/// found by binary search.
+/// Returns how many rows of an index are at or below the bound: all of them if its last is, and otherwise the result of
+/// a binary search.
 pub fn count_indexed(stamps: &[u64], nodes: &[u16], order: &[u32], bound: u64) -> usize
     requires { IsIndex stamps.now nodes.now order.now }
     ensures point { IsPartitionPoint (λ place. IsTrue (nat_le (slice_index stamps.now place) bound))

@@ -1,5 +1,5 @@
-//! The index of a key of many rows: the places of its first rows, in the order of their stamps and nodes. It only makes
-//! reads fast, so want of memory leaves it as it was.
+//! The index of a key with many rows: the positions of its first rows, in the order of their stamps and nodes. It only
+//! makes reads fast, so if memory runs out, it stays as it was.
 ghost use Rattle.std.specs.Prelude.{◌≡◌, ◌≤◌, ◌<◌, ◌+◌, ◌++◌, [], ℕ, IsTrue, IfOk, length, take, drop, slice_index};
 ghost use Rattle.std.specs.Prelude.{◌/◌, ◌==◌, false, min, nat_le, if◌then◌else◌};
 ghost use Rattle.std.specs.List.Sorted.{IsPermutation};
@@ -9,18 +9,19 @@ use crate::newest::{is_below, node_at, stamp_at};
 use hlc_values::NoMemory;
 use std::cmp::Ordering;
 
-/// A column of so many rows has no index yet.
+/// A column of at most this many rows has no index.
 const FIRST: usize = 16;
 
-/// So many rows, and one more for each `SHARE` rows of the index, may stand behind it.
+/// This many rows, and one more for each `SHARE` rows of the index, may be outside it.
 const LEAST: usize = 64;
 
 const SHARE: usize = 256;
 
-/// No place of the index is above this.
+/// No position in the index is above this.
 const MOST: usize = 4294967295;
 
-/// How two rows stand in the index: by stamp, then by node, and then the later one first.
+/// Compares two rows in the order of the index: by stamp, then by node, and then the later one
+/// first.
 fn compare(stamps: &[u64], nodes: &[u16], place: u32, other: u32) -> Ordering
     ensures { result ≡ place_cmp stamps.now nodes.now place other }
 {
@@ -29,7 +30,7 @@ fn compare(stamps: &[u64], nodes: &[u16], place: u32, other: u32) -> Ordering
     by_stamp.then(by_node).then(other.cmp(&place))
 }
 
-/// Adds the places up to a count, and says whether there was memory.
+/// Adds the positions up to a count, and returns whether there was memory.
 fn add_places(order: &mut Vec<u32>, count: usize) -> bool
     requires { length order.old.items ≤ count }
     ensures yes { IsTrue result → IsNumbered order.old.items order.new.items count }
@@ -48,7 +49,7 @@ fn add_places(order: &mut Vec<u32>, count: usize) -> bool
     true
 }
 
-/// The least stamp from a place on.
+/// Returns the least stamp from a position on.
 fn least_from(stamps: &[u64], from: usize) -> u64
     ensures { (p : ℕ) → from ≤ p → p < length stamps.now → result ≤ slice_index stamps.now p }
 {
@@ -61,7 +62,7 @@ fn least_from(stamps: &[u64], from: usize) -> u64
     least
 }
 
-/// How many rows of the index are below a stamp. They stand in front.
+/// Returns how many rows of the index are below a stamp. They come first.
 fn count_below(stamps: &[u64], nodes: &[u16], order: &[u32], stamp: u64) -> usize
     requires { IsIndex stamps.now nodes.now order.now }
     ensures few { result ≤ length order.now }
@@ -73,7 +74,7 @@ fn count_below(stamps: &[u64], nodes: &[u16], order: &[u32], stamp: u64) -> usiz
     order.partition_point(|place| stamp_at(stamps, *place as usize) < stamp)
 }
 
-/// The end of the list of places, sorted.
+/// Returns the positions from `from` on, sorted.
 fn sorted_tail(
     order: &Vec<u32>,
     from: usize,
@@ -89,7 +90,7 @@ fn sorted_tail(
     Ok(tail)
 }
 
-/// Replaces the end of the list by another that is as long. It takes no memory.
+/// Replaces the positions from `from` on by others of the same number. It needs no memory.
 fn replace_tail(order: &mut Vec<u32>, from: usize, tail: Vec<u32>)
     requires from { from ≤ length order.old.items }
     requires alike { from + length tail.items ≡ length order.old.items }
@@ -100,7 +101,7 @@ fn replace_tail(order: &mut Vec<u32>, from: usize, tail: Vec<u32>)
     let _ = order.append(&mut tail);
 }
 
-/// Takes all rows into the index, if there is memory. It sorts only from the least of the new stamps on.
+/// Adds all rows to the index, if there is memory. It sorts only from the least of the new stamps on.
 fn index_all(order: &mut Vec<u32>, stamps: &[u64], nodes: &[u16])
     requires { IsIndex stamps.now nodes.now order.old.items }
     ensures { IsIndex stamps.now nodes.now order.new.items }
@@ -118,7 +119,7 @@ fn index_all(order: &mut Vec<u32>, stamps: &[u64], nodes: &[u16])
     }
 }
 
-/// Takes the next row into the index where it is above all that are there, if there is memory.
+/// Adds the next row to the index if it is above all rows of the index and there is memory.
 fn index_next(order: &mut Vec<u32>, stamps: &[u64], nodes: &[u16])
     requires index { IsIndex stamps.now nodes.now order.old.items }
     requires one { length order.old.items < length stamps.now }
@@ -130,8 +131,8 @@ fn index_next(order: &mut Vec<u32>, stamps: &[u64], nodes: &[u16])
     }
 }
 
-/// How many rows may stand behind an index of so many.
-fn most_behind(count: usize) -> usize
+/// Returns how many rows may be outside an index of this many rows.
+fn most_after(count: usize) -> usize
     ensures { result ≡ (if count == 0 then FIRST else LEAST + count / SHARE) }
 {
     if count == 0 {
@@ -141,8 +142,8 @@ fn most_behind(count: usize) -> usize
     }
 }
 
-/// Whether taking all rows into the index now sorts no more of those that it has than of the others. It is asked at
-/// each `LEAST` rows outside alone, since it passes over them.
+/// Returns whether adding all rows to the index now sorts no more of its own rows than of the others. It checks this
+/// only at each multiple of `LEAST` rows outside, since the check scans them.
 fn sorts_few(order: &[u32], stamps: &[u64], nodes: &[u16]) -> bool
     requires { IsIndex stamps.now nodes.now order.now }
 {
@@ -155,8 +156,8 @@ fn sorts_few(order: &[u32], stamps: &[u64], nodes: &[u16]) -> bool
     count - count_below(stamps, nodes, order, least) <= outside
 }
 
-/// Extends the index after a row was added: by that row where it is the only one outside and above all others, and
-/// else by all rows once many are outside, or fewer where that sorts few of those that it has.
+/// Extends the index after a row was added: by that row if it is the only one outside and above all others; otherwise
+/// by all rows if many are outside, or if this sorts few of its own rows.
 pub fn extend_index(order: &mut Vec<u32>, stamps: &[u64], nodes: &[u16])
     requires { IsIndex stamps.now nodes.now order.old.items }
     ensures { IsIndex stamps.now nodes.now order.new.items }
@@ -165,12 +166,12 @@ pub fn extend_index(order: &mut Vec<u32>, stamps: &[u64], nodes: &[u16])
     let outside = stamps.len() - count;
     if outside == 1 {
         index_next(order, stamps, nodes);
-    } else if outside > most_behind(count) || sorts_few(order.as_slice(), stamps, nodes) {
+    } else if outside > most_after(count) || sorts_few(order.as_slice(), stamps, nodes) {
         index_all(order, stamps, nodes);
     }
 }
 
-/// Makes the list that of the first places.
+/// Sets each member of the list to its own position.
 fn number(order: &mut Vec<u32>)
     requires { length order.old.items ≤ 4294967295 }
     ensures { IsNumbered [] order.new.items (length order.old.items) }
@@ -180,7 +181,7 @@ fn number(order: &mut Vec<u32>)
     }
 }
 
-/// Makes the index anew after rows were dropped, of no more rows than it had. It takes no memory.
+/// Rebuilds the index after rows were dropped, over no more rows than it had. It needs no memory.
 pub fn index_again(order: &mut Vec<u32>, stamps: &[u64], nodes: &[u16])
     ensures index { IsIndex stamps.now nodes.now order.new.items }
     ensures many { length order.new.items ≡ (if nat_le (length stamps.now) LEAST then 0

@@ -6,7 +6,7 @@ use Rattle.std.specs.Result.{is_ok}
 use Rattle.std.proofs.lemmas.Bool.{cases_lt}
 use Rattle.std.proofs.lemmas.List.{append-nil, take-append-drop, take-append-le, length-take, length-drop}
 use Rattle.std.proofs.lemmas.List.{get_or_append_left, get_or-append_right}
-use Rattle.hlc_core.specs.Kept.{Kept}
+use Rattle.hlc_core.specs.StoreView.{StoreView}
 use Rattle.hlc_wire.specs.declared.fault.WireFault.{WireFault}
 use Rattle.hlc_wire.specs.Reading.{◌>>=◌, whole}
 use Rattle.hlc_wire.proofs.FieldLemmas.{IsBytes, bind_ok, ok_is, done}
@@ -25,9 +25,9 @@ use Rattle.hlc_saved.specs.Reading.{checkpoint_at, saved}
 use Rattle.hlc_saved.specs.Blocks.{rest_of, parts_left, HasRead}
 use Rattle.hlc_saved.proofs.Stages.{dropped_back}
 
--- ---- what is pending
+-- ---- the pending bytes
 
--- the bytes that are left are the last ones of all
+-- the remaining bytes are the last ones of all
 pub pending_back : (bytes : List ℕ) (at : ℕ) (rest : List ℕ) → (front : List ℕ) × (drop at bytes ≡ front ++ rest)
     → drop (length bytes - length rest) bytes ≡ rest
 pending_back bytes at rest back =
@@ -55,7 +55,7 @@ pub nothing_fed : body_so_far [] ≡ []
 unfolding body_so_far front_at
 nothing_fed = refl
 
--- as much of the body as follows a front
+-- the part of the body that follows a front
 abbrev body_of : Result (Front × List ℕ) WireFault → List ℕ → List ℕ
 body_of found rest = body_after (found >>= with_rest rest)
 
@@ -72,7 +72,7 @@ body_more (Err fault) rest block = omega arith
 none_left : (n : ℕ) → 20 ≤ n → 20 - n ≡ 0
 none_left n le = omega arith
 
--- a block brings no more of the body than its bytes
+-- a block adds no more to the body than its bytes
 pub body_grows : (fed block : List ℕ) → length (body_so_far (fed ++ block)) ≤ length (body_so_far fed) + length block
 body_grows fed block =
     let now : length (body_so_far (fed ++ block))
@@ -160,16 +160,16 @@ pub saved_fed : (reader : CheckpointReader) (fed : List ℕ) (word : ℕ) → Ha
 saved_fed reader fed word has e =
     word_read fed word e
     ∙ ap (λ (l : List ℕ). whole (checkpoint_at l) >>= λ kept. done (word, kept)) (sym (append-nil (body_so_far fed)))
-    ∙ ap (λ (r : Result (Kept × List ℕ) WireFault). whole r >>= λ kept. done (word, kept)) (has.body [])
+    ∙ ap (λ (r : Result (StoreView × List ℕ) WireFault). whole r >>= λ kept. done (word, kept)) (has.body [])
 
-pub saved_ok : (reader : CheckpointReader) (fed : List ℕ) (word : ℕ) (kept : Kept) → HasRead reader fed
+pub saved_ok : (reader : CheckpointReader) (fed : List ℕ) (word : ℕ) (kept : StoreView) → HasRead reader fed
     → word_of fed ≡ Ok word → whole (parts_left reader.parts []) ≡ Ok kept → saved fed ≡ Ok (word, kept)
 saved_ok reader fed word kept has e read =
     saved_fed reader fed word has e
-    ∙ ap (λ (r : Result Kept WireFault). r >>= λ k. done (word, k)) read
+    ∙ ap (λ (r : Result StoreView WireFault). r >>= λ k. done (word, k)) read
 
 pub saved_err : (reader : CheckpointReader) (fed : List ℕ) (word : ℕ) (fault : WireFault) → HasRead reader fed
     → word_of fed ≡ Ok word → whole (parts_left reader.parts []) ≡ Err fault → saved fed ≡ Err fault
 saved_err reader fed word fault has e read =
     saved_fed reader fed word has e
-    ∙ ap (λ (r : Result Kept WireFault). r >>= λ k. done (word, k)) read
+    ∙ ap (λ (r : Result StoreView WireFault). r >>= λ k. done (word, k)) read

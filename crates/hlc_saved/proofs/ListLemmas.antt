@@ -16,7 +16,7 @@ use Rattle.hlc_wire.proofs.FieldLemmas.{IsBytes, bind_ok, ok_is, Takes, Takes-th
 use Rattle.hlc_saved.specs.Spelling.{list_bytes, ListFits}
 use Rattle.hlc_saved.specs.Reading.{times_at, list_at}
 
--- what was read before, and what is still read
+-- what was read before, and what is still to be read
 abbrev pub with_front : {A : Type 0} → List A → Result (List A × List ℕ) WireFault → Result (List A × List ℕ) WireFault
 with_front front read = read >>= λ x. Ok (front ++ x.0, x.1)
 
@@ -127,10 +127,10 @@ list_reader w limit wide read spell Fits is = record {
 pub list_on : {A : Type 0} (spell : A → List ℕ) (xs : List A) (i : ℕ) (x : A) (old size now new : List ℕ)
     → i < length xs → x ≡ get_or xs i x → now ≡ old ++ (size ++ flat_map spell (take i xs)) → new ≡ now ++ spell x
     → new ≡ old ++ (size ++ flat_map spell (take (i + 1) xs))
-list_on spell xs i x old size now new lt is told step =
+list_on spell xs i x old size now new lt is returned step =
     let so_far : List ℕ = flat_map spell (take i xs) in
     let more : so_far ++ spell x ≡ flat_map spell (take (i + 1) xs) =
     ap (λ t. so_far ++ t) (sym (append-nil (spell x))) ∙ sym (flat_map-append spell (take i xs) (x ∷ []))
     ∙ ap (flat_map spell) (sym (take_more xs i x lt ∙ ap (λ y. take i xs ++ y ∷ []) (sym is))) in
-    step ∙ ap (λ t. t ++ spell x) told ∙ append_assoc old (size ++ so_far) (spell x)
+    step ∙ ap (λ t. t ++ spell x) returned ∙ append_assoc old (size ++ so_far) (spell x)
     ∙ ap (λ t. old ++ t) (append_assoc size so_far (spell x) ∙ ap (λ t. size ++ t) more)

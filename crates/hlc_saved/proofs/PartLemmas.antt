@@ -1,17 +1,17 @@
--- A checkpoint that is read is the checkpoint that was written, and what was written is read again.
+-- A checkpoint that is read is the checkpoint that was written, and a checkpoint that was written is read again.
 use Rattle.std.proofs.Common.{◌≡◌, ℕ, ◌<◌, Bool, List, ◌++◌, Option, Result, Ok, refl, sym, ap}
 use Rattle.std.proofs.Common.{subst, ◌∙◌, append_assoc}
 use Rattle.std.specs.List.{flat_map}
 use Rattle.std.specs.Int.{w16, w64, to_be_bytes}
 use Rattle.hlc_node.specs.declared.row.Row.{Row}
-use Rattle.hlc_intake.specs.Progress.{Progress}
+use Rattle.hlc_intake.specs.IntakeView.{IntakeView}
 use Rattle.hlc_snapshot.specs.declared.snapshot.Snapshot.{Snapshot}
 use Rattle.hlc_wire.specs.declared.fault.WireFault.{WireFault}
 use Rattle.hlc_wire.specs.Spelling.{flag_bytes, key_bytes, value_bytes}
 use Rattle.hlc_wire.specs.Reading.{◌>>=◌, number_at, flag_at, key_at, value_at}
 use Rattle.hlc_wire.proofs.FieldLemmas.{IsBytes, bind_ok, ok_is, Takes, Takes-then, IsReader}
 use Rattle.hlc_wire.proofs.FieldLemmas.{wide16, wide64, number_reader, flag_reader, key_reader, value_reader}
-use Rattle.hlc_core.specs.Kept.{Kept, greatest_head}
+use Rattle.hlc_core.specs.StoreView.{StoreView, greatest_head}
 use Rattle.hlc_saved.specs.Spelling.{link_bytes, snapshot_bytes, row_bytes, list_bytes, Preamble, preamble_bytes}
 use Rattle.hlc_saved.specs.Spelling.{preamble_of, kept_of, checkpoint_bytes}
 use Rattle.hlc_saved.specs.Spelling.{LinkFits, SnapshotFits, RowFits, ListFits, CheckpointFits}
@@ -25,10 +25,10 @@ abbrev eight : IsReader (number_at w64) (to_be_bytes w64) (λ n. n < 18446744073
 eight = number_reader w64 18446744073709551616 wide64
 
 -- links
-abbrev a_link : ℕ → ℕ → Bool → Progress
+abbrev a_link : ℕ → ℕ → Bool → IntakeView
 a_link next head retired = record { next = next; head = head; retired = retired }
 
-link_takes : (bytes : List ℕ) (x : Progress × List ℕ) → IsBytes bytes → link_at bytes ≡ Ok x
+link_takes : (bytes : List ℕ) (x : IntakeView × List ℕ) → IsBytes bytes → link_at bytes ≡ Ok x
     → Takes bytes (link_bytes x.0) x.1 × LinkFits x.0
 unfolding link_at
 link_takes bytes x fits e =
@@ -42,10 +42,10 @@ link_takes bytes x fits e =
     let v = flag_reader.takes b.0.1 c.0 u.0.rest_fits c.1 in
     let uv = Takes-then a.0.1 (to_be_bytes w64 b.0.0) b.0.1 (flag_bytes c.0.0) c.0.1 u.0 v.0 in
     let tv = Takes-then bytes (to_be_bytes w64 a.0.0) a.0.1 (to_be_bytes w64 b.0.0 ++ flag_bytes c.0.0) c.0.1 t.0 uv in
-    subst (λ (y : Progress × List ℕ). Takes bytes (link_bytes y.0) y.1 × LinkFits y.0)
+    subst (λ (y : IntakeView × List ℕ). Takes bytes (link_bytes y.0) y.1 × LinkFits y.0)
     (ok_is (a_link a.0.0 b.0.0 c.0.0, c.0.1) x c.2) (tv, record { next = t.1; head = u.1 })
 
-link_again : (link : Progress) (rest : List ℕ) → LinkFits link → link_at (link_bytes link ++ rest) ≡ Ok (link, rest)
+link_again : (link : IntakeView) (rest : List ℕ) → LinkFits link → link_at (link_bytes link ++ rest) ≡ Ok (link, rest)
 unfolding link_at
 link_again link rest fits =
     let a : List ℕ = to_be_bytes w64 link.next in
@@ -147,9 +147,9 @@ links = list_reader w16 65536 wide16 link_at link_bytes LinkFits link_reader
 abbrev snapshots : IsReader (list_at w16 snapshot_at) (list_bytes w16 snapshot_bytes) (ListFits 65536 SnapshotFits)
 snapshots = list_reader w16 65536 wide16 snapshot_at snapshot_bytes SnapshotFits snapshot_reader
 
--- ---- what stands before the rows
+-- ---- the part before the rows
 
-abbrev a_preamble : ℕ → List Progress → List Snapshot → ℕ → ℕ → ℕ → Preamble
+abbrev a_preamble : ℕ → List IntakeView → List Snapshot → ℕ → ℕ → ℕ → Preamble
 a_preamble start ls ss opened horizon count = record {
   start = start;
   links = ls;
@@ -167,19 +167,19 @@ pub record PreambleFits (preamble : Preamble) : Type 0 where
   pub horizon : preamble.horizon < 18446744073709551616
   pub count : preamble.count < 18446744073709551616
 
--- what is read after the first parts
-abbrev from_count : ℕ → List Progress → List Snapshot → ℕ → ℕ → List ℕ → Result (Preamble × List ℕ) WireFault
+-- the reading after the first parts
+abbrev from_count : ℕ → List IntakeView → List Snapshot → ℕ → ℕ → List ℕ → Result (Preamble × List ℕ) WireFault
 from_count start ls ss opened horizon bytes =
     number_at w64 bytes >>= λ count. Ok (a_preamble start ls ss opened horizon count.0, count.1)
 
-abbrev from_horizon : ℕ → List Progress → List Snapshot → ℕ → List ℕ → Result (Preamble × List ℕ) WireFault
+abbrev from_horizon : ℕ → List IntakeView → List Snapshot → ℕ → List ℕ → Result (Preamble × List ℕ) WireFault
 from_horizon start ls ss opened bytes =
     number_at w64 bytes >>= λ horizon. from_count start ls ss opened horizon.0 horizon.1
 
-abbrev from_opened : ℕ → List Progress → List Snapshot → List ℕ → Result (Preamble × List ℕ) WireFault
+abbrev from_opened : ℕ → List IntakeView → List Snapshot → List ℕ → Result (Preamble × List ℕ) WireFault
 from_opened start ls ss bytes = number_at w64 bytes >>= λ opened. from_horizon start ls ss opened.0 opened.1
 
-abbrev from_snapshots : ℕ → List Progress → List ℕ → Result (Preamble × List ℕ) WireFault
+abbrev from_snapshots : ℕ → List IntakeView → List ℕ → Result (Preamble × List ℕ) WireFault
 from_snapshots start ls bytes = list_at w16 snapshot_at bytes >>= λ ss. from_opened start ls ss.0 ss.1
 
 abbrev from_links : ℕ → List ℕ → Result (Preamble × List ℕ) WireFault
@@ -251,7 +251,7 @@ preamble_reader = record { takes = preamble_takes; again = preamble_again }
 
 -- ---- all parts
 
-checkpoint_takes : (bytes : List ℕ) (x : Kept × List ℕ) → IsBytes bytes → checkpoint_at bytes ≡ Ok x
+checkpoint_takes : (bytes : List ℕ) (x : StoreView × List ℕ) → IsBytes bytes → checkpoint_at bytes ≡ Ok x
     → Takes bytes (checkpoint_bytes x.0) x.1 × CheckpointFits x.0
 unfolding checkpoint_at
 checkpoint_takes bytes x fits e =
@@ -266,7 +266,7 @@ checkpoint_takes bytes x fits e =
     (sym u.1) t.0 in
     let both = Takes-then bytes (preamble_bytes (preamble_of (kept_of p b.0.0))) a.0.1 (flat_map row_bytes b.0.0) b.0.1
     front u.0 in
-    subst (λ (y : Kept × List ℕ). Takes bytes (checkpoint_bytes y.0) y.1 × CheckpointFits y.0)
+    subst (λ (y : StoreView × List ℕ). Takes bytes (checkpoint_bytes y.0) y.1 × CheckpointFits y.0)
     (ok_is (kept_of p b.0.0, b.0.1) x b.2) (
       both,
       record {
@@ -280,7 +280,7 @@ checkpoint_takes bytes x fits e =
       },
     )
 
-pub fits_before : (kept : Kept) → CheckpointFits kept → PreambleFits (preamble_of kept)
+pub fits_before : (kept : StoreView) → CheckpointFits kept → PreambleFits (preamble_of kept)
 fits_before kept fits = record {
   start = fits.start;
   links = fits.links;
@@ -290,7 +290,7 @@ fits_before kept fits = record {
   count = fits.rows.0;
 }
 
-same_kept : (kept : Kept) → kept.top ≡ greatest_head kept.links → kept_of (preamble_of kept) kept.rows ≡ kept
+same_kept : (kept : StoreView) → kept.top ≡ greatest_head kept.links → kept_of (preamble_of kept) kept.rows ≡ kept
 same_kept kept top =
     ap (λ (t : ℕ). record {
       start = kept.start;
@@ -302,7 +302,7 @@ same_kept kept top =
       rows = kept.rows;
     }) (sym top)
 
-checkpoint_again : (kept : Kept) (rest : List ℕ) → CheckpointFits kept
+checkpoint_again : (kept : StoreView) (rest : List ℕ) → CheckpointFits kept
     → checkpoint_at (checkpoint_bytes kept ++ rest) ≡ Ok (kept, rest)
 unfolding checkpoint_at
 checkpoint_again kept rest fits =
@@ -311,7 +311,7 @@ checkpoint_again kept rest fits =
     ∙ rw (
       preamble_again (preamble_of kept) (rows ++ rest) (fits_before kept fits),
       times_again row_at row_bytes RowFits row_reader kept.rows rest fits.rows.1,
-    ) (ap (λ (k : Kept). Ok (k, rest)) (same_kept kept fits.top))
+    ) (ap (λ (k : StoreView). Ok (k, rest)) (same_kept kept fits.top))
 
 pub checkpoint_reader : IsReader checkpoint_at checkpoint_bytes CheckpointFits
 checkpoint_reader = record { takes = checkpoint_takes; again = checkpoint_again }

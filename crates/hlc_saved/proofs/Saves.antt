@@ -1,5 +1,5 @@
--- What is read of some bytes is what they spell, and what they spell is read; there is one word and one checkpoint that
--- they spell.
+-- The result of reading some bytes has that encoding, and an encoding is read back; some bytes are the encoding of only
+-- one word and one checkpoint.
 use Rattle.std.proofs.Common.{◌≡◌, ◌≢◌, ℕ, ◌+◌, ◌<◌, List, ◌++◌, length, take, get_or, Result, Ok, Err, refl, sym, ap}
 use Rattle.std.proofs.Common.{subst, ◌∙◌, arith, inl, inr}
 use Rattle.std.specs.Prelude.{IfOk, IfErr}
@@ -7,11 +7,11 @@ use Rattle.std.proofs.lemmas.Bool.{cases_lt}
 use Rattle.std.proofs.lemmas.List.{take_at, drop_at, get_or-take, get_or-drop, get_or_past}
 use Rattle.sha2.specs.Sha256.{sha256}
 use Rattle.hlc_core.specs.Past.{Step}
-use Rattle.hlc_core.specs.Kept.{Kept, StandsFor}
+use Rattle.hlc_core.specs.StoreView.{StoreView, Represents}
 use Rattle.hlc_checkpoint.specs.Checkpoint.{IsCheckpoint, IsCopyOf, IsFirstReason}
 use Rattle.hlc_checkpoint.specs.declared.checkpoint.RestoreFault.{RestoreFault}
 use Rattle.hlc_checkpoint.specs.declared.checkpoint.RestoreFault.TheVariants as reasons
-use Rattle.hlc_core.proofs.Checkpoints.{copy-stands}
+use Rattle.hlc_core.proofs.Checkpoints.{copy-represents}
 use Rattle.hlc_wire.specs.declared.fault.WireFault.{WireFault}
 use Rattle.hlc_wire.specs.declared.fault.DecodeError.{DecodeError}
 use Rattle.hlc_wire.specs.Reading.{◌>>=◌, Gives, whole}
@@ -25,7 +25,7 @@ use Rattle.hlc_saved.specs.declared.fault.ResumeError.{ResumeError}
 use Rattle.hlc_saved.specs.declared.fault.ResumeError.TheVariants.{NoMemory, Bytes, Parts}
 use Rattle.hlc_saved.specs.Spelling.{checkpoint_bytes, saved_bytes, CheckpointFits, SavedFits}
 use Rattle.hlc_saved.specs.Reading.{checkpoint_at, saved}
-use Rattle.hlc_saved.specs.Saved.{AreOf, BytesStandFor, Resumes, Restored}
+use Rattle.hlc_saved.specs.Saved.{AreOf, BytesRepresent, Resumes, Restored}
 use Rattle.hlc_saved.proofs.PartLemmas.{checkpoint_reader}
 
 first_bytes : (xs ys : List ℕ) → IsBytes (xs ++ ys) → IsBytes xs
@@ -41,11 +41,11 @@ last_bytes : (xs ys : List ℕ) → IsBytes (xs ++ ys) → IsBytes ys
 last_bytes xs ys h i =
     subst (λ (l : List ℕ). get_or l i 0 < 256) (drop_at xs ys (length xs) refl) (rw get_or-drop (h (length xs + i)))
 
-abbrev with_word : ℕ → Result Kept WireFault → Result (ℕ × Kept) WireFault
+abbrev with_word : ℕ → Result StoreView WireFault → Result (ℕ × StoreView) WireFault
 with_word word read = read >>= λ kept. Ok (word, kept)
 
--- what is read is spelled so
-pub saved_takes : (bytes : List ℕ) (word : ℕ) (kept : Kept) → IsBytes bytes → saved bytes ≡ Ok (word, kept)
+-- the bytes are the encoding of the result
+pub saved_takes : (bytes : List ℕ) (word : ℕ) (kept : StoreView) → IsBytes bytes → saved bytes ≡ Ok (word, kept)
     → SavedFits word kept × (bytes ≡ saved_bytes word kept)
 saved_takes bytes word kept fits e =
     let a = bind_ok (opened bytes) (λ frame. with_word frame.0 (whole (checkpoint_at frame.1))) (word, kept) e in
@@ -59,11 +59,11 @@ saved_takes bytes word kept fits e =
       record { frame = subst (λ (l : List ℕ). FrameFits a.0.0 l) c.1 f.0; checkpoint = c.0 },
       f.1 ∙ ap (λ (l : List ℕ). frame_bytes a.0.0 l) c.1,
     ) in
-    subst (λ (x : ℕ × Kept). SavedFits x.0 x.1 × (bytes ≡ saved_bytes x.0 x.1))
+    subst (λ (x : ℕ × StoreView). SavedFits x.0 x.1 × (bytes ≡ saved_bytes x.0 x.1))
     (ok_is (a.0.0, b.0) (word, kept) b.2) made
 
--- what is spelled so is read
-pub saved_again : (word : ℕ) (kept : Kept) → SavedFits word kept → saved (saved_bytes word kept) ≡ Ok (word, kept)
+-- the encoding of a word and a checkpoint is read
+pub saved_again : (word : ℕ) (kept : StoreView) → SavedFits word kept → saved (saved_bytes word kept) ≡ Ok (word, kept)
 saved_again word kept fits =
     ap (λ (r : Result (ℕ × List ℕ) WireFault). r >>= λ frame. with_word frame.0 (whole (checkpoint_at frame.1)))
     (frame_is_opened word (checkpoint_bytes kept) fits.frame)
@@ -78,8 +78,8 @@ found (Err error) bytes fits e = tt
 
 -- ---- stores
 
--- a store was made of what was read
-pub resumes : (r : Result Resumed ResumeError) (kept : Kept) (word : ℕ) (bytes : List ℕ) → IsBytes bytes
+-- a store was made from what was read
+pub resumes : (r : Result Resumed ResumeError) (kept : StoreView) (word : ℕ) (bytes : List ℕ) → IsBytes bytes
     → saved bytes ≡ Ok (word, kept) → Restored kept word r → Resumes bytes r
 resumes (Ok made) kept word bytes fits e is =
     let t = saved_takes bytes word kept fits e in
@@ -90,30 +90,31 @@ resumes (Err (Bytes fault)) kept word bytes fits e is = absurd is
 resumes (Err (Parts fault)) kept word bytes fits e is = (word, kept, e, is.0, is.1)
 
 -- there is one word and one checkpoint
-of_saved : (bytes : List ℕ) (word : ℕ) (kept : Kept) → AreOf bytes word kept → saved bytes ≡ Ok (word, kept)
+of_saved : (bytes : List ℕ) (word : ℕ) (kept : StoreView) → AreOf bytes word kept → saved bytes ≡ Ok (word, kept)
 of_saved bytes word kept of = ap saved of.spelled ∙ saved_again word kept of.fits
 
-same_saved : (bytes : List ℕ) (word other : ℕ) (kept copy : Kept) → saved bytes ≡ Ok (word, kept)
+same_saved : (bytes : List ℕ) (word other : ℕ) (kept copy : StoreView) → saved bytes ≡ Ok (word, kept)
     → saved bytes ≡ Ok (other, copy) → (other ≡ word) × (copy ≡ kept)
 same_saved bytes word other kept copy a b =
     let same : (other, copy) ≡ (word, kept) = ok_is (other, copy) (word, kept) (sym b ∙ a) in
-    (ap (λ (x : ℕ × Kept). x.0) same, ap (λ (x : ℕ × Kept). x.1) same)
+    (ap (λ (x : ℕ × StoreView). x.0) same, ap (λ (x : ℕ × StoreView). x.1) same)
 
-pub resumed_word : (r : Result Resumed ResumeError) (bytes : List ℕ) (word : ℕ) (kept : Kept) → AreOf bytes word kept
+pub resumed_word : (r : Result Resumed ResumeError) (bytes : List ℕ) (word : ℕ) (kept : StoreView)
+    → AreOf bytes word kept
     → Resumes bytes r → IfOk r (λ made. made.word ≡ word)
 resumed_word (Ok made) bytes word kept of is =
     (same_saved bytes word made.word kept is.0 (of_saved bytes word kept of) (of_saved bytes made.word is.0 is.1)).0
 resumed_word (Err error) bytes word kept of is = tt
 
-pub resumed_stands : (r : Result Resumed ResumeError) (bytes : List ℕ) (word : ℕ) (past : List Step)
-    → BytesStandFor bytes word past → Resumes bytes r → IfOk r (λ made. StandsFor made.core past)
-resumed_stands (Ok made) bytes word past of is =
+pub resumed_represents : (r : Result Resumed ResumeError) (bytes : List ℕ) (word : ℕ) (past : List Step)
+    → BytesRepresent bytes word past → Resumes bytes r → IfOk r (λ made. Represents made.core past)
+resumed_represents (Ok made) bytes word past of is =
     let same = same_saved bytes word made.word of.0 is.0 (of_saved bytes word of.0 of.1)
     (of_saved bytes made.word is.0 is.1) in
-    copy-stands of.0 made.core past of.2 (subst (λ (k : Kept). IsCopyOf k made.core) same.1 is.2)
-resumed_stands (Err error) bytes word past of is = tt
+    copy-represents of.0 made.core past of.2 (subst (λ (k : StoreView). IsCopyOf k made.core) same.1 is.2)
+resumed_represents (Err error) bytes word past of is = tt
 
-not_first : (kept : Kept) (fault : RestoreFault) → IsFirstReason kept fault → fault ≢ reasons.NoMemory
+not_first : (kept : StoreView) (fault : RestoreFault) → IsFirstReason kept fault → fault ≢ reasons.NoMemory
     → IsCheckpoint kept → ⊥
 not_first kept reasons.NodesOutOfRange r not is = r is.nodes
 not_first kept reasons.NumberAboveHead r not is = r.1 is.stamps
@@ -129,7 +130,8 @@ not_first kept reasons.RowAboveHead r not is = r.2 is.under
 not_first kept reasons.RowOutOfLimits r not is = r.3 is.limits
 not_first kept reasons.NoMemory r not is = not refl
 
-pub resumed_only : (r : Result Resumed ResumeError) (bytes : List ℕ) (word : ℕ) (kept : Kept) → AreOf bytes word kept
+pub resumed_only : (r : Result Resumed ResumeError) (bytes : List ℕ) (word : ℕ) (kept : StoreView)
+    → AreOf bytes word kept
     → Resumes bytes r → IfErr r (λ error. error ≡ NoMemory)
 resumed_only (Ok made) bytes word kept of is = tt
 resumed_only (Err NoMemory) bytes word kept of is = refl

@@ -1,4 +1,4 @@
--- How many bytes the parts of a checkpoint take.
+-- The number of bytes of the parts of a checkpoint.
 use Rattle.std.proofs.Common.{◌≡◌, ℕ, ◌+◌, ◌*◌, ◌<◌, ◌≤◌, Bool, true, false, List, [], ◌∷◌, ◌++◌, length, take}
 use Rattle.std.proofs.Common.{get_or, refl}
 use Rattle.std.proofs.Common.{sym, ap, subst, ◌∙◌, arith, length-append}
@@ -9,14 +9,14 @@ use Rattle.std.proofs.lemmas.Grind.{flat_map-append}
 use Rattle.std.proofs.lemmas.List.{append-nil, take_more}
 use Rattle.std.proofs.lemmas.List.Concat.{flat_map-cons}
 use Rattle.std.proofs.lemmas.List.Folds.{length-flat_map-take}
-use Rattle.hlc_intake.specs.Progress.{Progress}
+use Rattle.hlc_intake.specs.IntakeView.{IntakeView}
 use Rattle.hlc_snapshot.specs.declared.snapshot.Snapshot.{Snapshot}
-use Rattle.hlc_core.specs.Kept.{Kept}
+use Rattle.hlc_core.specs.StoreView.{StoreView}
 use Rattle.hlc_wire.specs.Spelling.{flag_bytes}
 use Rattle.hlc_saved.specs.Spelling.{link_bytes, snapshot_bytes, row_bytes, list_bytes, Preamble, preamble_bytes}
 use Rattle.hlc_saved.specs.Spelling.{preamble_of, checkpoint_bytes}
 
--- each takes as many
+-- each has as many bytes
 each_takes : {A : Type 0} (spell : A → List ℕ) (n : ℕ) → ((a : A) → length (spell a) ≡ n) → (xs : List A)
     → length (flat_map spell xs) ≡ n * length xs
 each_takes spell n each [] = omega arith
@@ -31,18 +31,18 @@ flag_takes : (flag : Bool) → length (flag_bytes flag) ≡ 1
 flag_takes true = refl
 flag_takes false = refl
 
-link_takes : (link : Progress) → length (link_bytes link) ≡ 17
+link_takes : (link : IntakeView) → length (link_bytes link) ≡ 17
 link_takes link =
     let one = flag_takes link.retired in
     omega (arith, one)
 
-pub links_take : (links : List Progress) → length (flat_map link_bytes links) ≡ 17 * length links
+pub links_take : (links : List IntakeView) → length (flat_map link_bytes links) ≡ 17 * length links
 links_take links = each_takes link_bytes 17 link_takes links
 
 pub snapshots_take : (snapshots : List Snapshot) → length (flat_map snapshot_bytes snapshots) ≡ 16 * length snapshots
 snapshots_take snapshots = each_takes snapshot_bytes 16 (λ snapshot. refl) snapshots
 
--- what stands before the rows
+-- the part before the rows
 pub preamble_takes : (p : Preamble) → length (preamble_bytes p) ≡ 30 + 17 * length p.links + 16 * length p.snapshots
 preamble_takes p =
     let ls : List ℕ = flat_map link_bytes p.links in
@@ -61,7 +61,7 @@ a_sum : (whole before after ls ss links snapshots : ℕ) (rows : ℕ) → whole 
 a_sum whole before after ls ss links snapshots rows a b c d e = omega arith
 
 -- all of it
-pub all_take : (kept : Kept) (rows ls ss : ℕ) → rows ≡ length (flat_map row_bytes kept.rows)
+pub all_take : (kept : StoreView) (rows ls ss : ℕ) → rows ≡ length (flat_map row_bytes kept.rows)
     → ls ≡ 2 + 17 * length kept.links → ss ≡ 2 + 16 * length kept.snapshots
     → rows + (26 + ls + ss) ≡ length (checkpoint_bytes kept)
 all_take kept rows ls ss a b c =

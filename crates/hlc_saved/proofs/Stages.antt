@@ -1,9 +1,9 @@
--- What is left to read stays the same when a row is read, and when no more is.
+-- What is left to read does not change when a row is read, and when no more is.
 use Rattle.std.proofs.Common.{◌≡◌, ℕ, suc, ◌-◌, ◌+◌, ◌<◌, ◌≤◌, List, [], ◌∷◌, ◌++◌, length, Result, Ok, Err, refl}
 use Rattle.std.proofs.Common.{eqb, true, false, subst, sym, ap, ◌∙◌, append_assoc, arith, length-append, drop}
 use Rattle.std.proofs.lemmas.List.{append-nil, drop_at, get_or-drop}
 use Rattle.hlc_node.specs.declared.row.Row.{Row}
-use Rattle.hlc_core.specs.Kept.{Kept}
+use Rattle.hlc_core.specs.StoreView.{StoreView}
 use Rattle.hlc_wire.specs.declared.fault.WireFault.{WireFault}
 use Rattle.hlc_wire.specs.declared.fault.WireFault.TheVariants.{Trailing}
 use Rattle.hlc_wire.specs.declared.fault.DecodeError.{DecodeError}
@@ -16,7 +16,7 @@ use Rattle.hlc_saved.specs.Blocks.{rows_after}
 use Rattle.hlc_saved.proofs.PartLemmas.{row_reader, preamble_reader}
 use Rattle.hlc_saved.proofs.Steady.{row_steady, preamble_steady}
 
-abbrev rows_read : Preamble → List Row → Result (List Row × List ℕ) WireFault → Result (Kept × List ℕ) WireFault
+abbrev rows_read : Preamble → List Row → Result (List Row × List ℕ) WireFault → Result (StoreView × List ℕ) WireFault
 rows_read preamble rows read = read >>= λ others. Ok (kept_of preamble (rows ++ others.0), others.1)
 
 one_more : (preamble : Preamble) (rows : List Row) (row : Row) (read : Result (List Row × List ℕ) WireFault)
@@ -60,7 +60,7 @@ rows_done preamble rows rest le =
 less_none : (n : ℕ) → n - 0 ≡ n
 less_none n = omega arith
 
--- what stands before the rows was read
+-- the part before the rows was read
 pub begun : (preamble : Preamble) (bytes rest more : List ℕ) → preamble_at bytes ≡ Ok (preamble, rest)
     → rows_after preamble [] (rest ++ more) ≡ checkpoint_at (bytes ++ more)
 unfolding rows_after checkpoint_at
@@ -76,7 +76,7 @@ unfolding checkpoint_at
 not_begun bytes errors.NoMemory read = tt
 not_begun bytes (errors.Fault fault) read = rw read refl
 
--- the bytes after a row, and after what stands before the rows, are the last ones
+-- the bytes after a row, and after the part before the rows, are the last ones
 pub row_back : (bytes : List ℕ) (row : Row) (rest : List ℕ) → IsBytes bytes → row_at bytes ≡ Ok (row, rest)
     → (front : List ℕ) × (bytes ≡ front ++ rest)
 row_back bytes row rest fits read = (row_bytes row, (row_reader.takes bytes (row, rest) fits read).0.parts)
@@ -91,7 +91,7 @@ pub back_again : (bytes rest after : List ℕ) → (front : List ℕ) × (bytes 
 back_again bytes rest after a b =
     (a.0 ++ b.0, a.1 ∙ ap (λ (l : List ℕ). a.0 ++ l) b.1 ∙ sym (append_assoc a.0 b.0 after))
 
--- the last so many bytes
+-- this many last bytes
 pub dropped_back : (bytes rest : List ℕ) → (front : List ℕ) × (bytes ≡ front ++ rest)
     → drop (length bytes - length rest) bytes ≡ rest
 dropped_back bytes rest back =
@@ -105,7 +105,7 @@ pub back_fits : (bytes rest : List ℕ) → (front : List ℕ) × (bytes ≡ fro
 back_fits bytes rest back fits =
     subst IsBytes (dropped_back bytes rest back) (λ i. rw get_or-drop (fits (length bytes - length rest + i)))
 
--- what was read is all of it, or bytes follow
+-- the result so far is all of it, or bytes follow
 pub ended_more : (preamble : Preamble) (rows : List Row) (rest : List ℕ) → preamble.count ≤ length rows
     → eqb (length rest) 0 ≡ false → whole (rows_after preamble rows rest) ≡ Err Trailing
 ended_more preamble rows rest le some = ap whole (rows_done preamble rows rest le) ∙ rw some refl

@@ -1,5 +1,5 @@
--- Reading in pieces: when more bytes follow, the parts of a checkpoint are read the same, and each fault but Short
--- stays.
+-- Reading in pieces: if more bytes follow, the parts of a checkpoint are read the same, and each fault except Short
+-- stays the same.
 use Rattle.std.proofs.Common.{ℕ, zero, suc, ◌-◌, List, [], ◌∷◌, ◌++◌, length, Result}
 use Rattle.std.specs.Int.{Width, w16, w64}
 use Rattle.hlc_node.specs.declared.row.Row.{Row}

@@ -1,7 +1,7 @@
 -- A checkpoint that is read in blocks of any size.
 use Rattle.std.specs.Prelude.{◌≡◌, ℕ, ◌-◌, ◌<◌, List, ◌++◌, length, drop, Result, Ok, Err, slice_index}
 use Rattle.hlc_node.specs.declared.row.Row.{Row}
-use Rattle.hlc_core.specs.Kept.{Kept}
+use Rattle.hlc_core.specs.StoreView.{StoreView}
 use Rattle.hlc_wire.specs.declared.fault.WireFault.{WireFault}
 use Rattle.hlc_wire.specs.declared.fault.WireFault.TheVariants.{Short}
 use Rattle.hlc_wire.specs.Reading.{◌>>=◌}
@@ -15,26 +15,26 @@ use Rattle.hlc_saved.specs.Spelling.{Preamble, kept_of}
 use Rattle.hlc_saved.specs.Reading.{row_at, times_at, checkpoint_at}
 
 -- the rows that are left after these, and the checkpoint of all
-unfoldable pub rows_after : Preamble → List Row → List ℕ → Result (Kept × List ℕ) WireFault
+unfoldable pub rows_after : Preamble → List Row → List ℕ → Result (StoreView × List ℕ) WireFault
 rows_after preamble rows bytes = do
   others ← times_at row_at (preamble.count - length rows) bytes
   Ok (kept_of preamble (rows ++ others.0), others.1)
 
--- the checkpoint of what was read and of what these bytes go on with
-abbrev pub rest_of : Stage → List ℕ → Result (Kept × List ℕ) WireFault
+-- the checkpoint of the result so far and of these next bytes
+abbrev pub rest_of : Stage → List ℕ → Result (StoreView × List ℕ) WireFault
 rest_of Start bytes = checkpoint_at bytes
 rest_of (Rows preamble rows) bytes = rows_after preamble rows.items bytes
 rest_of (Wrong fault) bytes = Err fault
 
--- nothing more is read of these bytes: they end within what comes next, or all rows were read
+-- nothing more is read from these bytes: they end within the next part, or all rows were read
 abbrev pub IsStuck : Stage → List ℕ → Type 0
 IsStuck Start bytes = checkpoint_at bytes ≡ Err Short
 IsStuck (Rows preamble rows) bytes =
     length rows.items < preamble.count → rows_after preamble rows.items bytes ≡ Err Short
 IsStuck (Wrong fault) bytes = Unit {0}
 
--- the checkpoint of what was read, of what is pending, and of what these bytes go on with
-abbrev pub parts_left : PartsReader → List ℕ → Result (Kept × List ℕ) WireFault
+-- the checkpoint of the result so far, of the pending bytes, and of these next bytes
+abbrev pub parts_left : PartsReader → List ℕ → Result (StoreView × List ℕ) WireFault
 parts_left reader more = rest_of reader.stage (drop reader.at reader.pending.items ++ more)
 
 -- the reader was fed these bytes

@@ -1,17 +1,17 @@
--- Reading a checkpoint from left to right, with the first fault that is met.
+-- Reading a checkpoint from left to right, up to the first fault.
 use Rattle.std.specs.Prelude.{ℕ, zero, suc, List, [], ◌∷◌, Result, Ok}
 use Rattle.std.specs.Int.{Width, w16, w64}
 use Rattle.hlc_node.specs.declared.row.Row.{Row}
-use Rattle.hlc_intake.specs.Progress.{Progress}
+use Rattle.hlc_intake.specs.IntakeView.{IntakeView}
 use Rattle.hlc_snapshot.specs.declared.snapshot.Snapshot.{Snapshot}
-use Rattle.hlc_core.specs.Kept.{Kept}
+use Rattle.hlc_core.specs.StoreView.{StoreView}
 use Rattle.hlc_wire.specs.declared.fault.WireFault.{WireFault}
 use Rattle.hlc_wire.specs.Reading.{◌>>=◌, number_at, flag_at, key_at, value_at, whole}
 use Rattle.hlc_frame.specs.Opening.{opened}
 use Rattle.hlc_saved.specs.Spelling.{Preamble, kept_of}
 
 -- a link
-unfoldable pub link_at : List ℕ → Result (Progress × List ℕ) WireFault
+unfoldable pub link_at : List ℕ → Result (IntakeView × List ℕ) WireFault
 link_at bytes = do
   next ← number_at w64 bytes
   head ← number_at w64 next.1
@@ -34,7 +34,7 @@ row_at bytes = do
   value ← value_at node.1
   Ok (record { key = key.0; stamp = stamp.0; node = node.0; value = value.0 }, value.1)
 
--- so many of them
+-- this many of them
 unfoldable pub times_at : {A : Type 0} → (List ℕ → Result (A × List ℕ) WireFault) → ℕ → List ℕ
     → Result (List A × List ℕ) WireFault
 times_at read zero bytes = Ok ([], bytes)
@@ -43,14 +43,14 @@ times_at read (suc n) bytes = do
   others ← times_at read n first.1
   Ok (first.0 ∷ others.0, others.1)
 
--- how many, and as many of them
+-- a number, and as many of them
 unfoldable pub list_at : {A : Type 0} → Width → (List ℕ → Result (A × List ℕ) WireFault) → List ℕ
     → Result (List A × List ℕ) WireFault
 list_at w read bytes = do
   n ← number_at w bytes
   times_at read n.0 n.1
 
--- what stands before the rows
+-- the part before the rows
 unfoldable pub preamble_at : List ℕ → Result (Preamble × List ℕ) WireFault
 preamble_at bytes = do
   start ← number_at w16 bytes
@@ -72,14 +72,14 @@ preamble_at bytes = do
   )
 
 -- a checkpoint
-unfoldable pub checkpoint_at : List ℕ → Result (Kept × List ℕ) WireFault
+unfoldable pub checkpoint_at : List ℕ → Result (StoreView × List ℕ) WireFault
 checkpoint_at bytes = do
   preamble ← preamble_at bytes
   rows ← times_at row_at preamble.0.count preamble.1
   Ok (kept_of preamble.0 rows.0, rows.1)
 
 -- all of the bytes are a frame, and all of its body is a checkpoint: the word and the checkpoint
-abbrev pub saved : List ℕ → Result (ℕ × Kept) WireFault
+abbrev pub saved : List ℕ → Result (ℕ × StoreView) WireFault
 saved bytes = do
   frame ← opened bytes
   kept ← whole (checkpoint_at frame.1)

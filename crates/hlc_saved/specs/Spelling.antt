@@ -1,16 +1,16 @@
--- The one spelling of each checkpoint. Numbers have the high byte first.
+-- The one encoding of each checkpoint. Numbers are big-endian.
 use Rattle.std.specs.Prelude.{◌≡◌, ℕ, ◌<◌, List, ◌++◌, length, All}
 use Rattle.std.specs.List.{flat_map}
 use Rattle.std.specs.Int.{Width, w16, w64, to_be_bytes}
 use Rattle.hlc_node.specs.declared.row.Row.{Row}
-use Rattle.hlc_intake.specs.Progress.{Progress}
+use Rattle.hlc_intake.specs.IntakeView.{IntakeView}
 use Rattle.hlc_snapshot.specs.declared.snapshot.Snapshot.{Snapshot}
-use Rattle.hlc_core.specs.Kept.{Kept, greatest_head}
+use Rattle.hlc_core.specs.StoreView.{StoreView, greatest_head}
 use Rattle.hlc_wire.specs.Spelling.{flag_bytes, key_bytes, value_bytes, KeyFits, ValueFits}
 use Rattle.hlc_frame.specs.Frame.{frame_bytes, FrameFits}
 
--- how far a link has come: the next number and the head in eight bytes each, and whether its node retired
-abbrev pub link_bytes : Progress → List ℕ
+-- the progress of a link: the next number and the head in eight bytes each, and whether its node has retired
+abbrev pub link_bytes : IntakeView → List ℕ
 link_bytes link = to_be_bytes w64 link.next ++ (to_be_bytes w64 link.head ++ flag_bytes link.retired)
 
 -- an open snapshot: its id and its stamp in eight bytes each
@@ -21,15 +21,15 @@ snapshot_bytes snapshot = to_be_bytes w64 snapshot.id ++ to_be_bytes w64 snapsho
 abbrev pub row_bytes : Row → List ℕ
 row_bytes row = key_bytes row.key ++ (to_be_bytes w64 row.stamp ++ (to_be_bytes w16 row.node ++ value_bytes row.value))
 
--- how many there are, and each in turn
+-- their number, and each in turn
 abbrev pub list_bytes : {A : Type 0} → Width → (A → List ℕ) → List A → List ℕ
 list_bytes w spell xs = to_be_bytes w (length xs) ++ flat_map spell xs
 
--- what stands before the rows: the nodes of the start; the links; the open snapshots; how many were opened; the
--- horizon; how many rows there are
+-- the part before the rows: the number of nodes at the start; the links; the open snapshots; the number ever opened;
+-- the horizon; the number of rows
 pub record Preamble : Type 0 where
   pub start : ℕ
-  pub links : List Progress
+  pub links : List IntakeView
   pub snapshots : List Snapshot
   pub opened : ℕ
   pub horizon : ℕ
@@ -41,8 +41,8 @@ preamble_bytes preamble =
     ++ (list_bytes w16 snapshot_bytes preamble.snapshots ++ (to_be_bytes w64 preamble.opened
     ++ (to_be_bytes w64 preamble.horizon ++ to_be_bytes w64 preamble.count))))
 
--- all of a checkpoint but its rows; its greatest stamp is the greatest head, and not spelled
-abbrev pub preamble_of : Kept → Preamble
+-- a checkpoint without its rows; its greatest stamp is the greatest head, and is not encoded
+abbrev pub preamble_of : StoreView → Preamble
 preamble_of kept = record {
   start = kept.start;
   links = kept.links;
@@ -52,8 +52,8 @@ preamble_of kept = record {
   count = length kept.rows;
 }
 
--- with these rows
-abbrev pub kept_of : Preamble → List Row → Kept
+-- the checkpoint with these rows
+abbrev pub kept_of : Preamble → List Row → StoreView
 kept_of preamble rows = record {
   start = preamble.start;
   links = preamble.links;
@@ -64,16 +64,16 @@ kept_of preamble rows = record {
   rows = rows;
 }
 
--- a checkpoint: what stands before the rows, and the rows
-abbrev pub checkpoint_bytes : Kept → List ℕ
+-- a checkpoint: the part before the rows, and the rows
+abbrev pub checkpoint_bytes : StoreView → List ℕ
 checkpoint_bytes kept = preamble_bytes (preamble_of kept) ++ flat_map row_bytes kept.rows
 
 -- in a frame, with a word of the caller's
-abbrev pub saved_bytes : ℕ → Kept → List ℕ
+abbrev pub saved_bytes : ℕ → StoreView → List ℕ
 saved_bytes word kept = frame_bytes word (checkpoint_bytes kept)
 
--- What has a spelling: numbers in their ranges, rows in their limits, the greatest head as the greatest stamp.
-pub record LinkFits (link : Progress) : Type 0 where
+-- What has an encoding: numbers in their ranges, rows in their limits, the greatest head as the greatest stamp.
+pub record LinkFits (link : IntakeView) : Type 0 where
   pub next : link.next < 18446744073709551616
   pub head : link.head < 18446744073709551616
 
@@ -90,7 +90,7 @@ pub record RowFits (row : Row) : Type 0 where
 abbrev pub ListFits : {A : Type 0} → ℕ → (A → Type 0) → List A → Type 0
 ListFits limit Fits xs = (length xs < limit) × All Fits xs
 
-pub record CheckpointFits (kept : Kept) : Type 0 where
+pub record CheckpointFits (kept : StoreView) : Type 0 where
   pub start : kept.start < 65536
   pub links : ListFits 65536 LinkFits kept.links
   pub top : kept.top ≡ greatest_head kept.links
@@ -99,6 +99,6 @@ pub record CheckpointFits (kept : Kept) : Type 0 where
   pub horizon : kept.horizon < 18446744073709551616
   pub rows : ListFits 18446744073709551616 RowFits kept.rows
 
-pub record SavedFits (word : ℕ) (kept : Kept) : Type 0 where
+pub record SavedFits (word : ℕ) (kept : StoreView) : Type 0 where
   pub frame : FrameFits word (checkpoint_bytes kept)
   pub checkpoint : CheckpointFits kept

@@ -1,7 +1,7 @@
-//! Bytes from a place on.
+//! Bytes from a position on.
 ghost use Rattle.std.specs.Prelude.{◌≡◌, drop};
 
-/// The bytes from a place on; none where it is past the end.
+/// Returns the bytes from a position on, or none if it is past the end.
 pub fn bytes_from(bytes: &[u8], place: usize) -> &[u8]
     ensures { result.now ≡ drop place bytes.now }
 {

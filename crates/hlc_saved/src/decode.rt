@@ -1,6 +1,6 @@
 //! A checkpoint read from bytes.
 ghost use Rattle.std.specs.Prelude.{◌≡◌, ℕ, IfOk, Ok};
-ghost use Rattle.hlc_core.specs.Kept.{Kept};
+ghost use Rattle.hlc_core.specs.StoreView.{StoreView};
 ghost use Rattle.hlc_wire.specs.Reading.{Gives};
 ghost use Rattle.hlc_saved.specs.Spelling.{saved_bytes, SavedFits};
 ghost use Rattle.hlc_saved.specs.Reading.{saved};
@@ -11,34 +11,34 @@ use hlc_frame::open_frame;
 use hlc_wire::DecodeError;
 use std::alloc::Global;
 
-/// What some bytes spell.
+/// The content of some bytes.
 #[derive(Debug, Drop)]
 pub struct Decoded {
-    /// The checkpoint. Whether it is one of a store is for `Checkpoint::fault` to say.
+    /// The checkpoint. `Checkpoint::fault` says whether it is one.
     pub checkpoint: Checkpoint,
     /// The word that it was saved with.
     pub word: u64,
 }
 
-/// Reads the checkpoint and the word that the bytes spell, all of the bytes.
+/// Reads the checkpoint and the word from their encoding, which is all of the bytes.
 ///
 /// The frame is checked first: `Short`, `Version`, `Damaged` or `Trailing`. Then comes the first
 /// fault of its body from the left, `Trailing` at last.
 pub fn decode_checkpoint(alloc: Global, bytes: &[u8]) -> Result<Decoded, DecodeError>
-    // What is read is spelled so.
+    // The bytes are the encoding of the result.
     ensures found { IfOk result (λ made. SavedFits made.word made.checkpoint
         × (bytes.now ≡ saved_bytes made.word made.checkpoint)) }
-    // What is spelled so is read, unless memory runs out.
-    ensures only { (word : ℕ) (kept : Kept) → SavedFits word kept
+    // The encoding of a word and a checkpoint is read, unless memory runs out.
+    ensures only { (word : ℕ) (kept : StoreView) → SavedFits word kept
         → bytes.now ≡ saved_bytes word kept
-        → Gives {Y = ℕ × Kept} (λ made. (made.word, made.checkpoint)) result (Ok (word, kept)) }
-    // Which fault it is.
+        → Gives {Y = ℕ × StoreView} (λ made. (made.word, made.checkpoint)) result (Ok (word, kept)) }
+    // The fault is exactly this one.
     ensures exact { Gives (λ made. (made.word, made.checkpoint)) result (saved bytes.now) }
 {
     all(alloc, bytes)
 }
 
-/// All of the bytes.
+/// Reads a checkpoint and a word from all of the bytes.
 fn all(alloc: Global, bytes: &[u8]) -> Result<Decoded, DecodeError>
     ensures { Gives (λ made. (made.word, made.checkpoint)) result (saved bytes.now) }
 {

@@ -1,23 +1,21 @@
-//! Why no store is made of some bytes.
+//! Why no store is made from some bytes.
 ghost use Rattle.std.specs.Prelude.{◌≡◌, Some};
-ghost use Rattle.std.proofs.Common.{rules};
-ghost use Rattle.std.proofs.lemmas.Grind.{common_steps};
 ghost use Rattle.hlc_saved.specs.Faults.{resume_text};
 
 use hlc_core::RestoreFault;
-use hlc_values::{Exact, NoMemory};
+use hlc_values::NoMemory;
 use hlc_wire::WireFault;
 use std::error::Error;
 use std::fmt;
 
-/// Why no store is made of some bytes.
+/// Why no store is made from some bytes.
 #[derive(Clone, Copy, Debug, PartialEq, Eq)]
 pub enum ResumeError {
     /// Memory ran out.
     NoMemory,
-    /// The bytes are no frame, or its body does not spell the parts of a checkpoint.
+    /// The bytes are no frame, or its body is not an encoding of the parts of a checkpoint.
     Bytes(WireFault),
-    /// The parts that they spell are no checkpoint. Never `RestoreFault::NoMemory`.
+    /// The parts in the bytes are no checkpoint. Never `RestoreFault::NoMemory`.
     Parts(RestoreFault),
 }
 
@@ -34,12 +32,6 @@ impl fmt::Display for ResumeError {
 }
 
 impl Error for ResumeError {}
-
-impl Exact for ResumeError {
-    ghost equal = { Prim.search (rules, common_steps) };
-
-    ghost copied = { Prim.search rules };
-}
 
 impl From<NoMemory> for ResumeError {
     ghost use Rattle.hlc_saved.specs.declared.fault.ResumeError.TheVariants.{NoMemory as no_memory};

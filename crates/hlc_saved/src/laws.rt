@@ -1,15 +1,14 @@
-//! What holds of checkpoints that are written in pieces.
+//! What is true of checkpoints that are written in pieces.
 ghost use Rattle.std.specs.Prelude.{◌≡◌, ◌++◌, ℕ, List};
 ghost use Rattle.std.specs.List.{flat_map};
 ghost use Rattle.hlc_node.specs.declared.row.Row.{Row as ARow};
-ghost use Rattle.hlc_core.specs.Kept.{Kept};
+ghost use Rattle.hlc_core.specs.StoreView.{StoreView};
 ghost use Rattle.hlc_saved.specs.Spelling.{row_bytes, saved_bytes};
 ghost use Rattle.hlc_saved.specs.Writing.{begin_bytes, end_bytes};
 
-/// What a `CheckpointWriter` appends in all, for the rows of the checkpoint in turn, are the bytes of
-/// the checkpoint.
+/// All that a `CheckpointWriter` appends, for the rows of the checkpoint in turn, are the bytes of the checkpoint.
 pub fn pieces_are_the_bytes()
-    ensures { (word : ℕ) (kept : Kept) (rows : List ARow) → rows ≡ kept.rows
+    ensures { (word : ℕ) (kept : StoreView) (rows : List ARow) → rows ≡ kept.rows
         → (begin_bytes word kept ++ flat_map row_bytes rows) ++ end_bytes word kept rows
         ≡ saved_bytes word kept }
 {}

@@ -1,9 +1,10 @@
-//! Checkpoints as bytes in a frame: each has one spelling, which is written and read back, and no
-//! other bytes are read. So a store goes from one machine to another, or to a disk and back.
+//! Checkpoints as bytes in a frame: each has one encoding, which is written and read back, and no
+//! other bytes are read. So a store moves from one machine to another, or to a disk and back.
 #![tactic(auto)]
 
 mod bytes;
 mod decode;
+mod exact;
 mod fault;
 mod laws;
 mod parts;

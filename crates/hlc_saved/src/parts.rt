@@ -13,7 +13,7 @@ use hlc_wire::DecodeError;
 use std::alloc::Global;
 use std::mem;
 
-/// What was read, and the bytes that are pending: those from `at` on are not read yet.
+/// The result so far, and the pending bytes: those from `at` on are not read yet.
 #[derive(Drop)]
 pub struct PartsReader {
     alloc: Global,
@@ -23,7 +23,7 @@ pub struct PartsReader {
 }
 
 impl PartsReader {
-    /// Nothing was read.
+    /// Makes a reader that has read nothing.
     pub fn new(alloc: Global) -> PartsReader
         ensures { (more : List ℕ) → parts_left result more ≡ checkpoint_at more }
     {
@@ -35,7 +35,7 @@ impl PartsReader {
         }
     }
 
-    /// Reads as far as the pending bytes go. Where memory runs out, it has read less far.
+    /// Reads as far as the pending bytes go. If memory runs out, it has read less far.
     pub fn advance(&mut self) -> Result<(), NoMemory>
         ensures same { (more : List ℕ) → parts_left self.new more ≡ parts_left self.old more }
         ensures stuck { OnOk result
@@ -52,7 +52,7 @@ impl PartsReader {
         end
     }
 
-    /// Makes room for so many bytes, and drops those that were read.
+    /// Makes room for `count` bytes, and drops those that were read.
     pub fn make_room(&mut self, count: usize) -> Result<(), NoMemory>
         ensures same { (more : List ℕ) → parts_left self.new more ≡ parts_left self.old more }
         ensures room { OnOk result
@@ -68,7 +68,7 @@ impl PartsReader {
         Ok(())
     }
 
-    /// Takes the next bytes, after room was made.
+    /// Adds the next bytes, after room was made.
     pub fn take(&mut self, bytes: &[u8]) -> Result<(), NoMemory>
         requires { self.old.at ≡ 0 }
         ensures ok { (more : List ℕ)
@@ -79,7 +79,7 @@ impl PartsReader {
         self.pending.extend_from_slice(bytes)
     }
 
-    /// The checkpoint, where all bytes were taken.
+    /// Returns the checkpoint, after all bytes were added.
     pub fn finish(self) -> Result<Checkpoint, DecodeError>
         ensures { Gives (λ made. made) result (whole (parts_left self [])) }
     {

@@ -1,4 +1,4 @@
-//! What stands before the rows of a checkpoint.
+//! The part of a checkpoint before the rows.
 ghost use Rattle.std.specs.Prelude.{◌≡◌, ◌++◌, ◌<◌, OnOk, length};
 ghost use Rattle.hlc_checkpoint.specs.Checkpoint.{IsCheckpoint};
 ghost use Rattle.hlc_wire.specs.Reading.{Gives};
@@ -13,7 +13,7 @@ use hlc_wire::{DecodeError, u16_at, u64_at};
 use std::alloc::{AllocError, Global};
 use std::marker::Model;
 
-/// All parts of a checkpoint but its rows, and how many rows there are.
+/// All parts of a checkpoint except its rows, and the number of rows.
 #[derive(Drop)]
 pub struct Preamble {
     start: u16,
@@ -40,14 +40,14 @@ impl Model for Preamble {
 }
 
 impl Preamble {
-    /// How many rows there are.
+    /// Returns the number of rows.
     pub fn count(&self) -> u64
         ensures { result ≡ self.now.count }
     {
         self.count
     }
 
-    /// The checkpoint with these rows.
+    /// Returns the checkpoint with these rows.
     pub fn with_rows(self, rows: Vec<Row>) -> Checkpoint
         ensures { result ≡ kept_of self rows.items }
     {
@@ -63,7 +63,7 @@ impl Preamble {
     }
 }
 
-/// What stands before the rows.
+/// Reads the part before the rows.
 #[tactic(auto, unfolding(crate::specs::Reading::preamble_at))]
 pub fn preamble_at(alloc: Global, bytes: &[u8]) -> Result<(Preamble, &[u8]), DecodeError>
     ensures { Gives (λ x. (x.0, x.1.now)) result (preamble_at bytes.now) }
@@ -88,7 +88,7 @@ pub fn preamble_at(alloc: Global, bytes: &[u8]) -> Result<(Preamble, &[u8]), Dec
     ))
 }
 
-/// Writes all parts of a checkpoint but its rows, and how many rows there are.
+/// Writes all parts of a checkpoint except its rows, and the number of rows.
 pub fn put_preamble(out: &mut Vec<u8>, checkpoint: &Checkpoint) -> Result<(), AllocError>
     requires links { length checkpoint.now.links < 65536 }
     requires snapshots { length checkpoint.now.snapshots < 65536 }
@@ -108,7 +108,7 @@ pub fn put_preamble(out: &mut Vec<u8>, checkpoint: &Checkpoint) -> Result<(), Al
     Ok(())
 }
 
-/// How many rows there are.
+/// Returns the number of rows.
 fn many(rows: &[Row]) -> u64
     ensures { result ≡ length rows.now }
 {

@@ -13,9 +13,8 @@ use std::alloc::Global;
 
 /// A checkpoint that is being read.
 ///
-/// It holds the rows that were read, and of the bytes at most a block and what is left of a row; while
-/// it takes a block, for a moment twice that. Until all that stands before the rows has come, each
-/// block reads it anew.
+/// It keeps the rows that were read, and of the bytes at most a block and the incomplete part of a row; while it adds a
+/// block, for a moment twice that. Until everything before the rows has come, each block reads that part again.
 #[derive(Drop)]
 pub struct CheckpointReader {
     alloc: Global,
@@ -35,10 +34,10 @@ impl CheckpointReader {
         }
     }
 
-    /// Takes the next block, of any size. Where memory runs out, it was not taken, and may be fed
+    /// Adds the next block, of any size. If memory runs out, it was not added, and may be fed
     /// again.
     ///
-    /// No fault is reported before `finish`: no digest vouches for a block yet.
+    /// No fault is reported before `finish`: no block is verified before that.
     pub fn feed(&mut self, block: &[u8]) -> Result<(), NoMemory>
         ensures ok { (fed : List ℕ) → HasRead self.old fed
             → OnOk result (HasRead self.new (fed ++ block.now)) }
@@ -51,7 +50,8 @@ impl CheckpointReader {
         self.parts.take(piece)
     }
 
-    /// The store and the word, or the first fault, as `resume` gives them for all that was fed.
+    /// Returns the store and the word, or the first fault, as `resume` returns them for all that
+    /// was fed.
     pub fn finish(self) -> Result<Resumed, ResumeError>
         ensures { (fed : List ℕ) → HasRead self fed → Resumes fed result }
     {

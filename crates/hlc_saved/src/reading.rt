@@ -1,5 +1,5 @@
-//! The parts of a checkpoint, read from the front of some bytes. Each reader returns what it read and
-//! the bytes after it.
+//! The parts of a checkpoint, read from the front of some bytes. Each reader returns what it read and the bytes after
+//! it.
 ghost use Rattle.std.specs.Int.{w16};
 ghost use Rattle.hlc_wire.specs.Reading.{Gives};
 ghost use Rattle.hlc_saved.specs.Reading.{link_at, snapshot_at, row_at, times_at, list_at};
@@ -9,7 +9,7 @@ use hlc_core::{Intake, Row, Snapshot};
 use hlc_wire::{DecodeError, flag_at, key_at, u16_at, u64_at, value_at};
 use std::alloc::Global;
 
-/// How far a link has come.
+/// The progress of a link.
 #[derive(Clone, Copy)]
 struct LinkParts {
     next: u64,
@@ -17,7 +17,7 @@ struct LinkParts {
     retired: bool,
 }
 
-/// How many links, and as many of them.
+/// Reads the number of links, and as many links.
 #[tactic(auto, unfolding(crate::specs::Reading::list_at))]
 pub fn links_at(alloc: Global, bytes: &[u8]) -> Result<(Vec<Intake>, &[u8]), DecodeError>
     ensures { Gives (λ x. (x.0.items, x.1.now)) result (list_at w16 link_at bytes.now) }
@@ -26,7 +26,7 @@ pub fn links_at(alloc: Global, bytes: &[u8]) -> Result<(Vec<Intake>, &[u8]), Dec
     links_of(alloc, count, rest)
 }
 
-/// So many links.
+/// Reads this many links.
 fn links_of(alloc: Global, count: u16, bytes: &[u8]) -> Result<(Vec<Intake>, &[u8]), DecodeError>
     ensures { Gives (λ x. (x.0.items, x.1.now)) result (times_at link_at count bytes.now) }
 {
@@ -44,7 +44,7 @@ fn links_of(alloc: Global, count: u16, bytes: &[u8]) -> Result<(Vec<Intake>, &[u
     Ok((links, rest))
 }
 
-/// A link.
+/// Reads a link.
 #[tactic(auto, unfolding(crate::specs::Reading::link_at))]
 fn link_at(bytes: &[u8]) -> Result<(LinkParts, &[u8]), DecodeError>
     ensures { Gives (λ x.
@@ -65,7 +65,7 @@ fn link_at(bytes: &[u8]) -> Result<(LinkParts, &[u8]), DecodeError>
     ))
 }
 
-/// How many snapshots, and as many of them.
+/// Reads the number of snapshots, and as many snapshots.
 #[tactic(auto, unfolding(crate::specs::Reading::list_at))]
 pub fn snapshots_at(alloc: Global, bytes: &[u8]) -> Result<(Vec<Snapshot>, &[u8]), DecodeError>
     ensures { Gives (λ x. (x.0.items, x.1.now)) result (list_at w16 snapshot_at bytes.now) }
@@ -74,7 +74,7 @@ pub fn snapshots_at(alloc: Global, bytes: &[u8]) -> Result<(Vec<Snapshot>, &[u8]
     snapshots_of(alloc, count, rest)
 }
 
-/// So many snapshots.
+/// Reads this many snapshots.
 fn snapshots_of(
     alloc: Global,
     count: u16,
@@ -96,7 +96,7 @@ fn snapshots_of(
     Ok((snapshots, rest))
 }
 
-/// An open snapshot.
+/// Reads an open snapshot.
 #[tactic(auto, unfolding(crate::specs::Reading::snapshot_at))]
 fn snapshot_at(bytes: &[u8]) -> Result<(Snapshot, &[u8]), DecodeError>
     ensures { Gives (λ x. (x.0, x.1.now)) result (snapshot_at bytes.now) }
@@ -107,7 +107,7 @@ fn snapshot_at(bytes: &[u8]) -> Result<(Snapshot, &[u8]), DecodeError>
     Ok((Snapshot { id, stamp }, rest))
 }
 
-/// A row.
+/// Reads a row.
 #[tactic(auto, unfolding(crate::specs::Reading::row_at))]
 pub fn row_at(alloc: Global, bytes: &[u8]) -> Result<(Row, &[u8]), DecodeError>
     ensures { Gives (λ x. (x.0, x.1.now)) result (row_at bytes.now) }

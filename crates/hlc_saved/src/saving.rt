@@ -1,9 +1,9 @@
 //! A store to bytes and back.
 ghost use Rattle.std.specs.Prelude.{◌≡◌, List, ℕ, IfOk, IfErr};
 ghost use Rattle.hlc_core.specs.Past.{Step};
-ghost use Rattle.hlc_core.specs.Kept.{Kept, StandsFor};
+ghost use Rattle.hlc_core.specs.StoreView.{StoreView, Represents};
 ghost use Rattle.hlc_saved.specs.declared.fault.ResumeError.TheVariants.{NoMemory as no_memory};
-ghost use Rattle.hlc_saved.specs.Saved.{AreOf, AreOfStore, BytesStandFor, Restored, Resumes};
+ghost use Rattle.hlc_saved.specs.Saved.{AreOf, AreOfStore, BytesRepresent, Restored, Resumes};
 
 use crate::decode::{Decoded, decode_checkpoint};
 use crate::fault::ResumeError;
@@ -13,7 +13,7 @@ use hlc_values::NoMemory;
 use hlc_wire::DecodeError;
 use std::alloc::Global;
 
-/// A store that was made of some bytes.
+/// A store that was made from some bytes.
 #[derive(Drop)]
 pub struct Resumed {
     pub core: Core,
@@ -21,35 +21,35 @@ pub struct Resumed {
     pub word: u64,
 }
 
-/// The bytes of a store and of a word: whatever past the store represents, they do.
+/// Returns the bytes of a store and of a word: they represent every past that the store represents.
 ///
-/// Refused where memory runs out, alone.
+/// Refused only if memory runs out.
 pub fn save(alloc: Global, core: &Core, word: u64) -> Result<Vec<u8>, NoMemory>
     ensures kept { IfOk result (λ bytes. AreOfStore bytes.items word core.now) }
-    ensures stands { (past : List Step) → StandsFor core.now past
-        → IfOk result (λ bytes. BytesStandFor bytes.items word past) }
+    ensures represents { (past : List Step) → Represents core.now past
+        → IfOk result (λ bytes. BytesRepresent bytes.items word past) }
 {
     let checkpoint = core.checkpoint()?;
     encoded(alloc, &checkpoint, word)
 }
 
-/// Makes a store of bytes, whoever wrote them: it represents whatever past they do.
+/// Makes a store from bytes, whoever wrote them: it represents every past that they represent.
 ///
-/// The bytes are checked first, as by `decode_checkpoint`; then what they spell, as by
-/// `Core::restore`. Bytes that `save` returned are refused for memory alone.
+/// The bytes are checked first, as by `decode_checkpoint`; then their content, as by
+/// `Core::restore`. Bytes that `save` returned are refused only if memory runs out.
 pub fn resume(alloc: Global, bytes: &[u8]) -> Result<Resumed, ResumeError>
     ensures exact { Resumes bytes.now result }
-    ensures word { (word : ℕ) (kept : Kept) → AreOf bytes.now word kept
+    ensures word { (word : ℕ) (kept : StoreView) → AreOf bytes.now word kept
         → IfOk result (λ made. made.word ≡ word) }
-    ensures stands { (word : ℕ) (past : List Step) → BytesStandFor bytes.now word past
-        → IfOk result (λ made. StandsFor made.core past) }
-    ensures only { (word : ℕ) (kept : Kept) → AreOf bytes.now word kept
+    ensures represents { (word : ℕ) (past : List Step) → BytesRepresent bytes.now word past
+        → IfOk result (λ made. Represents made.core past) }
+    ensures only { (word : ℕ) (kept : StoreView) → AreOf bytes.now word kept
         → IfErr result (λ error. error ≡ no_memory) }
 {
     resume_exactly(alloc, bytes)
 }
 
-/// Makes a store of bytes.
+/// Makes a store from bytes.
 fn resume_exactly(alloc: Global, bytes: &[u8]) -> Result<Resumed, ResumeError>
     ensures { Resumes bytes.now result }
 {
@@ -61,7 +61,7 @@ fn resume_exactly(alloc: Global, bytes: &[u8]) -> Result<Resumed, ResumeError>
     restored(alloc, checkpoint, word)
 }
 
-/// Makes a store of a checkpoint that was read.
+/// Makes a store from a checkpoint that was read.
 pub(crate) fn restored(
     alloc: Global,
     checkpoint: Checkpoint,
@@ -76,13 +76,12 @@ pub(crate) fn restored(
     }
 }
 
-/// Makes the same store once more, by way of its bytes: whatever past this one represents, that one
-/// does.
+/// Copies a store by way of its bytes: the copy represents every past that this one represents.
 ///
-/// Refused where memory runs out, alone.
+/// Refused only if memory runs out.
 pub fn copy_by_bytes(alloc: Global, core: &Core) -> Result<Core, NoMemory>
-    ensures { (past : List Step) → StandsFor core.now past
-        → IfOk result (λ copy. StandsFor copy past) }
+    ensures { (past : List Step) → Represents core.now past
+        → IfOk result (λ copy. Represents copy past) }
 {
     let bytes = save(alloc, core, 0)?;
     match resume(alloc, bytes.as_slice()) {

@@ -1,4 +1,4 @@
-//! How many bytes a checkpoint takes.
+//! The number of bytes of a checkpoint.
 ghost use Rattle.std.specs.Prelude.{◌≡◌, ◌<◌, ◌+◌, ◌*◌, All, OnSome, SomeIff, length};
 ghost use Rattle.std.specs.List.{flat_map};
 ghost use Rattle.hlc_witness.specs.Cost.{IsInLimits, AreInLimits};
@@ -16,7 +16,7 @@ ghost use Rattle.hlc_wire.specs.Spelling.{value_bytes, ValueFits};
 use hlc_core::{Checkpoint, Intake, Row, Snapshot};
 use hlc_node::Bytes;
 
-/// How many bytes what is a checkpoint takes, if a number of eight bytes says it.
+/// Returns the number of bytes of a checkpoint, if it fits in eight bytes.
 pub fn checkpoint_size(checkpoint: &Checkpoint) -> Option<u64>
     requires { IsCheckpoint checkpoint.now }
     ensures size { SomeIff result (length (checkpoint_bytes checkpoint.now) < 18446744073709551616)
@@ -32,7 +32,7 @@ pub fn checkpoint_size(checkpoint: &Checkpoint) -> Option<u64>
     rows.checked_add(26 + links + snapshots)
 }
 
-/// How many bytes some links take, and their number.
+/// Returns the number of bytes of some links and of their count.
 fn links_size(links: &[Intake]) -> u64
     requires { length links.now < 65536 }
     ensures size { result ≡ 2 + 17 * length links.now }
@@ -45,7 +45,7 @@ fn links_size(links: &[Intake]) -> u64
     size
 }
 
-/// How many bytes a link takes.
+/// Returns the number of bytes of a link.
 fn link_size(link: &Intake) -> u64
     ensures size { result ≡ 17 }
     ensures fits { LinkFits link.now }
@@ -55,7 +55,7 @@ fn link_size(link: &Intake) -> u64
     17
 }
 
-/// How many bytes some snapshots take, and their number.
+/// Returns the number of bytes of some snapshots and of their count.
 fn snapshots_size(snapshots: &[Snapshot]) -> u64
     requires { length snapshots.now < 65536 }
     ensures size { result ≡ 2 + 16 * length snapshots.now }
@@ -68,7 +68,7 @@ fn snapshots_size(snapshots: &[Snapshot]) -> u64
     size
 }
 
-/// How many bytes a snapshot takes.
+/// Returns the number of bytes of a snapshot.
 fn snapshot_size(snapshot: &Snapshot) -> u64
     ensures size { result ≡ 16 }
     ensures fits { SnapshotFits snapshot.now }
@@ -78,7 +78,7 @@ fn snapshot_size(snapshot: &Snapshot) -> u64
     16
 }
 
-/// How many bytes some rows take, if a number of eight bytes says it.
+/// Returns the number of bytes of some rows, if it fits in eight bytes.
 fn rows_size(rows: &[Row]) -> Option<u64>
     requires { AreInLimits rows.now }
     ensures size { SomeIff result (length (flat_map row_bytes rows.now) < 18446744073709551616)
@@ -95,7 +95,7 @@ fn rows_size(rows: &[Row]) -> Option<u64>
     Some(size)
 }
 
-/// How many bytes a row takes.
+/// Returns the number of bytes of a row.
 fn row_size(row: &Row) -> u64
     requires { IsInLimits row.now }
     ensures size { result ≡ length (row_bytes row.now) }
@@ -106,7 +106,7 @@ fn row_size(row: &Row) -> u64
     11 + row.key.len() as u64 + value_size(&row.value)
 }
 
-/// How many bytes a value takes.
+/// Returns the number of bytes of a value.
 fn value_size(value: &Option<Bytes>) -> u64
     requires { ValueFits value.now }
     ensures { result ≡ length (value_bytes value.now) }

@@ -1,4 +1,4 @@
-//! How far the reading of a checkpoint has come.
+//! The progress of the reading of a checkpoint.
 ghost use Rattle.std.specs.Prelude.{◌≡◌, ◌≢◌, ◌++◌, List, ℕ, OnOk, Err};
 ghost use Rattle.hlc_wire.specs.declared.fault.WireFault.{WireFault as AFault};
 ghost use Rattle.hlc_wire.specs.declared.fault.WireFault.TheVariants.{Short as short};
@@ -12,18 +12,18 @@ use hlc_values::NoMemory;
 use hlc_wire::{DecodeError, WireFault};
 use std::alloc::Global;
 
-/// What was read so far.
+/// The result so far.
 #[derive(Drop)]
 pub enum Stage {
     /// Nothing.
     Start,
-    /// What stands before the rows, and these rows.
+    /// The part before the rows, and these rows.
     Rows(Preamble, Vec<Row>),
-    /// What is no checkpoint, whatever comes.
+    /// A fault, whatever follows.
     Wrong(WireFault),
 }
 
-/// What was read, and the bytes after it.
+/// The result so far, and the bytes after it.
 pub struct Advanced<'b> {
     pub stage: Stage,
     pub rest: &'b [u8],
@@ -82,7 +82,8 @@ fn advance_rows(alloc: Global, preamble: Preamble, rows: Vec<Row>, bytes: &[u8])
     }
 }
 
-/// What was read, where no more is: the bytes are short, or wrong, or memory ran out.
+/// Returns the result so far when no more can be read: the bytes are short, or wrong, or memory ran
+/// out.
 fn halted(stage: Stage, rest: &[u8], error: DecodeError) -> Advanced<'_>
     requires fails { Fails error (rest_of stage rest.now) }
     requires steady { (fault : AFault) (more : List ℕ) → rest_of stage rest.now ≡ Err fault
@@ -111,7 +112,7 @@ fn halted(stage: Stage, rest: &[u8], error: DecodeError) -> Advanced<'_>
     }
 }
 
-/// The checkpoint of what was read and of these bytes, all of them.
+/// Returns the checkpoint of the result so far and of these bytes, all of them.
 pub fn finish(alloc: Global, stage: Stage, bytes: &[u8]) -> Result<Checkpoint, DecodeError>
     ensures { Gives (λ made. made) result (whole (rest_of stage bytes.now)) }
 {
@@ -120,7 +121,7 @@ pub fn finish(alloc: Global, stage: Stage, bytes: &[u8]) -> Result<Checkpoint, D
     finished(stage, rest)
 }
 
-/// The checkpoint of what was read, where no more is read of these bytes.
+/// Returns the checkpoint of the result so far, if nothing more is read from these bytes.
 fn finished(stage: Stage, rest: &[u8]) -> Result<Checkpoint, DecodeError>
     requires { IsStuck stage rest.now }
     ensures { Gives (λ made. made) result (whole (rest_of stage rest.now)) }

@@ -3,7 +3,7 @@ ghost use Rattle.std.specs.Prelude.{◌≡◌, ◌++◌, ◌∷◌, [], ℕ, Lis
 ghost use Rattle.std.specs.List.{flat_map};
 ghost use Rattle.hlc_node.specs.declared.row.Row.{Row as ARow};
 ghost use Rattle.hlc_witness.specs.Cost.{IsInLimits, AreInLimits};
-ghost use Rattle.hlc_core.specs.Kept.{Kept};
+ghost use Rattle.hlc_core.specs.StoreView.{StoreView};
 ghost use Rattle.hlc_checkpoint.specs.Checkpoint.{IsCheckpoint, IsFirstReason};
 ghost use Rattle.hlc_saved.specs.Spelling.{row_bytes, checkpoint_bytes, saved_bytes, CheckpointFits, SavedFits};
 ghost use Rattle.hlc_saved.specs.Writing.{HasWritten, begin_bytes, end_bytes};
@@ -17,11 +17,10 @@ use hlc_frame::{DIGEST_BYTES, FRONT_BYTES, FrameWriter};
 use hlc_values::NoMemory;
 use std::alloc::Global;
 
-/// The one spelling of a checkpoint and a word, which is the caller's: say, up to which place in its
-/// log the store has applied it.
+/// Returns the one encoding of a checkpoint and a word of the caller's: for example, the position in its log up to
+/// which the store has applied it.
 ///
-/// Refused for the first reason why it is no checkpoint; then out of memory. The bytes are allocated
-/// once.
+/// Refused for the first reason why it is no checkpoint; then out of memory. The bytes are allocated once.
 pub fn encode_checkpoint(
     alloc: Global,
     checkpoint: &Checkpoint,
@@ -38,7 +37,7 @@ pub fn encode_checkpoint(
     Ok(encoded(alloc, checkpoint, word)?)
 }
 
-/// The bytes of what is a checkpoint.
+/// Returns the bytes of a checkpoint, which is one.
 pub(crate) fn encoded(
     alloc: Global,
     checkpoint: &Checkpoint,
@@ -56,7 +55,7 @@ pub(crate) fn encoded(
     Ok(out)
 }
 
-/// How many bytes a frame takes that has so many in its body.
+/// Returns the number of bytes of a frame with this many bytes in its body.
 fn whole_size(size: u64) -> Result<usize, NoMemory> {
     let framed = size
         .checked_add((FRONT_BYTES + DIGEST_BYTES) as u64)
@@ -64,11 +63,11 @@ fn whole_size(size: u64) -> Result<usize, NoMemory> {
     Ok(framed as usize)
 }
 
-/// A checkpoint that is being written: all before its rows is written, and they come one by one.
+/// A checkpoint that is being written: everything before its rows is written, and they come one by one.
 ///
-/// The caller hands in the rows of the checkpoint in turn, each once. What is appended in all is then
-/// what `encode_checkpoint` returns. Other rows make a frame of other rows, or no frame. The caller may
-/// write out what was appended, and clear it, between any two calls.
+/// The caller passes in the rows of the checkpoint in turn, each once. Then all that is appended is what
+/// `encode_checkpoint` returns. Other rows make a frame of other rows, or no frame. The caller may write out what was
+/// appended, and clear it, between any two calls.
 #[derive(Drop)]
 pub struct CheckpointWriter {
     frame: FrameWriter,
@@ -76,7 +75,7 @@ pub struct CheckpointWriter {
 }
 
 impl CheckpointWriter {
-    /// Appends all that stands before the rows.
+    /// Appends everything before the rows.
     ///
     /// Refused for the first reason why it is no checkpoint; then out of memory. `out` is unchanged
     /// then. It looks at each row, to check it and to add up its length.
@@ -103,7 +102,7 @@ impl CheckpointWriter {
         Ok(CheckpointWriter::begin_sized(out, checkpoint, size, word)?)
     }
 
-    /// Appends all that stands before the rows of what is a checkpoint.
+    /// Appends everything before the rows of a checkpoint, which is one.
     fn begin_sized(
         out: &mut Vec<u8>,
         checkpoint: &Checkpoint,
@@ -126,15 +125,15 @@ impl CheckpointWriter {
         Ok(CheckpointWriter { frame, piece })
     }
 
-    /// Appends a row. Where memory runs out, `out` and the writer are unchanged, and the row may be
-    /// handed in again.
+    /// Appends a row. If memory runs out, `out` and the writer are unchanged, and the row may be
+    /// passed in again.
     pub fn row(&mut self, out: &mut Vec<u8>, row: &Row) -> Result<(), NoMemory>
         requires { IsInLimits row.now }
-        ensures written { (word : ℕ) (kept : Kept) (rows : List ARow)
+        ensures written { (word : ℕ) (kept : StoreView) (rows : List ARow)
             → HasWritten self.old word kept rows
             → OnOk result (HasWritten self.new word kept (rows ++ row.now ∷ [])) }
         ensures ok { OnOk result (out.new.items ≡ out.old.items ++ row_bytes row.now) }
-        ensures waits { (word : ℕ) (kept : Kept) (rows : List ARow)
+        ensures waits { (word : ℕ) (kept : StoreView) (rows : List ARow)
             → HasWritten self.old word kept rows
             → OnErr result (HasWritten self.new word kept rows) }
         ensures unchanged { OnErr result (out.new.items ≡ out.old.items) }
@@ -149,7 +148,7 @@ impl CheckpointWriter {
     /// Appends some rows.
     fn rows(&mut self, out: &mut Vec<u8>, rows: &[Row]) -> Result<(), NoMemory>
         requires { AreInLimits rows.now }
-        ensures written { (word : ℕ) (kept : Kept) → HasWritten self.old word kept []
+        ensures written { (word : ℕ) (kept : StoreView) → HasWritten self.old word kept []
             → OnOk result (HasWritten self.new word kept rows.now) }
         ensures ok { OnOk result (out.new.items ≡ out.old.items ++ flat_map row_bytes rows.now) }
     {
@@ -159,9 +158,9 @@ impl CheckpointWriter {
         Ok(())
     }
 
-    /// Appends the digest, which ends the frame. `out` is unchanged where memory runs out.
+    /// Appends the digest, which ends the frame. `out` is unchanged if memory runs out.
     pub fn end(self, out: &mut Vec<u8>) -> Result<(), NoMemory>
-        ensures ok { (word : ℕ) (kept : Kept) (rows : List ARow) → HasWritten self word kept rows
+        ensures ok { (word : ℕ) (kept : StoreView) (rows : List ARow) → HasWritten self word kept rows
             → OnOk result (out.new.items ≡ out.old.items ++ end_bytes word kept rows) }
         ensures unchanged { OnErr result (out.new.items ≡ out.old.items) }
     {

@@ -1,5 +1,5 @@
-//! The parts of a checkpoint, written at the end of some bytes. The only error is that memory ran out;
-//! of `out` nothing is said then.
+//! The parts of a checkpoint, written at the end of some bytes. The only error is out of memory; the content of `out`
+//! is then not specified.
 ghost use Rattle.std.specs.Prelude.{◌≡◌, ◌<◌, ◌++◌, OnOk, length};
 ghost use Rattle.std.specs.Int.{w16, w64, to_be_bytes};
 ghost use Rattle.hlc_witness.specs.Cost.{IsInLimits};
@@ -9,7 +9,7 @@ use hlc_core::{Intake, Row, Snapshot};
 use hlc_wire::{put_flag, put_key, put_value};
 use std::alloc::{AllocError, Global};
 
-/// Writes how many links there are, and each.
+/// Writes the number of links, and each link.
 pub fn put_links(out: &mut Vec<u8>, links: &[Intake]) -> Result<(), AllocError>
     requires { length links.now < 65536 }
     ensures { OnOk result (out.new.items ≡ out.old.items ++ list_bytes w16 link_bytes links.now) }
@@ -33,7 +33,7 @@ fn put_link(out: &mut Vec<u8>, link: &Intake) -> Result<(), AllocError>
     Ok(())
 }
 
-/// Writes how many snapshots there are, and each.
+/// Writes the number of snapshots, and each snapshot.
 pub fn put_snapshots(out: &mut Vec<u8>, snapshots: &[Snapshot]) -> Result<(), AllocError>
     requires { length snapshots.now < 65536 }
     ensures { OnOk result

@@ -1,4 +1,4 @@
--- In the midst of a script: the lines so far are answered by what was printed, and the world stands for a schedule of
+-- In the middle of a script: the lines so far are answered by what was printed, and the world represents a schedule of
 -- them.
 use Rattle.std.proofs.Common.{◌≡◌, ℕ, ◌+◌, sym, refl, subst, List, [], ◌∷◌}
 use Rattle.std.proofs.Common.{◌++◌, length, Option, Some, None}
@@ -12,48 +12,48 @@ use Rattle.hlc_text.specs.Text.{printed}
 use Rattle.hlc_text.specs.Lines.{lines_of, bad_line}
 use Rattle.hlc_world.specs.Schedule.{Event}
 use Rattle.hlc_world.specs.declared.reply.Reply.{Reply}
-use Rattle.hlc_world.specs.State.{State, world_nodes, StandsFor}
+use Rattle.hlc_world.specs.WorldView.{WorldView, world_nodes, Represents}
 use Rattle.hlc_script.specs.Line.{event_line, HasLine, HasHeader, header_line}
 use Rattle.hlc_script.specs.Reply.{reply_text}
 use Rattle.hlc_script.specs.Run.{AnswersLine, Answers, AnswersScript}
 
--- whatever answers the lines that are left completes an answer to all of them
-pub record Going {W : Type 0} (contents : W → Option (List ℕ)) (nodes : ℕ) (world : State) (text rest : List ℕ)
+-- an answer to the remaining lines completes an answer to all of them
+pub record Going {W : Type 0} (contents : W → Option (List ℕ)) (nodes : ℕ) (world : WorldView) (text rest : List ℕ)
     (number : ℕ) (old new : Printer W) : Type 0 where
   pub schedule : List (Event × Reply)
   pub so_far : List ℕ
-  pub stands : StandsFor world schedule
+  pub represents : Represents world schedule
   pub wrote : Prints contents old new so_far
   pub completes : (output : List ℕ) (bad : Option ℕ) → Answers nodes schedule number (lines_of rest) output bad
       → Answers nodes [] 2 (lines_of text) (so_far ++ output) bad
 
-pub going_first : {W : Type 0} {contents : W → Option (List ℕ)} {nodes : ℕ} {world : State} {text : List ℕ}
-    {old : Printer W} → StandsFor world [] → Going contents nodes world text text 2 old old
-going_first stands =
+pub going_first : {W : Type 0} {contents : W → Option (List ℕ)} {nodes : ℕ} {world : WorldView} {text : List ℕ}
+    {old : Printer W} → Represents world [] → Going contents nodes world text text 2 old old
+going_first represents =
     record {
       schedule = [];
       so_far = [];
-      stands = stands;
+      represents = represents;
       wrote = printed_none;
       completes = λ output bad answers. answers;
     }
 
--- one good line more
-pub going_more : {W : Type 0} {contents : W → Option (List ℕ)} {nodes : ℕ} {world world_after : State}
+-- one more good line
+pub going_more : {W : Type 0} {contents : W → Option (List ℕ)} {nodes : ℕ} {world world_after : WorldView}
     {text rest : List ℕ} (after : List ℕ) {line : List ℕ} {number : ℕ} {old mid new : Printer W} {event : Event}
     {reply : Reply} → Going contents nodes world text rest number old mid → lines_of rest ≡ line ∷ lines_of after
     → HasLine event → line ≡ event_line event → world_nodes world ≡ nodes
-    → ((s : List (Event × Reply)) → StandsFor world s → (t : List (Event × Reply))
-    × AnswersLine (world_nodes world) s event reply t × StandsFor world_after t)
+    → ((s : List (Event × Reply)) → Represents world s → (t : List (Event × Reply))
+    × AnswersLine (world_nodes world) s event reply t × Represents world_after t)
     → Prints contents mid new (reply_text reply)
     → Going contents nodes world_after text after (number + 1) old new
 going_more {W} {contents} {nodes} {world} {world_after} {text} {rest} after {line} {number} {old} {mid} {new} {event}
     {reply} going first has spelled same answered wrote =
-    let next = answered going.schedule going.stands in
+    let next = answered going.schedule going.represents in
     record {
       schedule = next.0;
       so_far = going.so_far ++ reply_text reply;
-      stands = next.2;
+      represents = next.2;
       wrote = printed_then going.wrote wrote;
       completes = λ output bad answers.
           subst (λ (zs : List ℕ). Answers nodes [] 2 (lines_of text) zs bad)
@@ -75,7 +75,7 @@ going_more {W} {contents} {nodes} {world} {world_after} {text} {rest} after {lin
     }
 
 -- the first bad line
-pub going_bad : {W : Type 0} {contents : W → Option (List ℕ)} {nodes : ℕ} {world : State} {text rest : List ℕ}
+pub going_bad : {W : Type 0} {contents : W → Option (List ℕ)} {nodes : ℕ} {world : WorldView} {text rest : List ℕ}
     (after : List ℕ) {line : List ℕ} {number : ℕ} {old mid new : Printer W}
     → Going contents nodes world text rest number old mid → lines_of rest ≡ line ∷ lines_of after
     → ((event : Event) → HasLine event → line ≢ event_line event)
@@ -91,7 +91,7 @@ going_bad {W} {contents} {nodes} {world} {text} {rest} after {line} {number} {ol
 )
 
 -- no line is left
-pub going_end : {W : Type 0} {contents : W → Option (List ℕ)} {nodes : ℕ} {world : State} {text : List ℕ}
+pub going_end : {W : Type 0} {contents : W → Option (List ℕ)} {nodes : ℕ} {world : WorldView} {text : List ℕ}
     (rest : List ℕ) {number : ℕ} {old new : Printer W} → Going contents nodes world text rest number old new
     → length rest ≡ 0 → (output : List ℕ)
     × Answers nodes [] 2 (lines_of text) output None × Prints contents old new output
@@ -102,7 +102,7 @@ going_end {W} {contents} {nodes} {world} {text} [] {number} {old} {new} going no
 )
 going_end (x ∷ rest) going none = absurd (omega (arith, none))
 
--- a header and the answers behind it
+-- a header and the answers after it
 pub script_answered : {W : Type 0} {contents : W → Option (List ℕ)} {old mid new : Printer W} (input : List ℕ)
     (rest : List ℕ) (nodes made : ℕ) (bad : Option ℕ) → length input ≤ 16777216
     → lines_of input ≡ header_line nodes ∷ lines_of rest → HasHeader nodes → made ≡ nodes

@@ -1,5 +1,5 @@
--- A line is the line of one event: it is parted into the words that it was put together from, the first word tells
--- the kind of event, and each other word spells one value.
+-- A line is the line of one event: it is split into the words from which it was built, the first word determines the
+-- kind of event, and each other word spells one value.
 use Rattle.std.proofs.Common.{◌≡◌, ℕ, ◌+◌, ◌*◌, ◌<◌, ◌^◌, ◌∙◌, sym, ap, refl, List, [], ◌∷◌, get_or, length, arith, eqb}
 use Rattle.std.specs.Prelude.{decimal, codes}
 use Rattle.std.specs.List.{slice_split, AllByRecursion}
@@ -20,7 +20,7 @@ use Rattle.hlc_script.specs.OneOutput.{OneEvent}
 node_is_word : (node : ℕ) → node < 2 ^ 16 → IsWord (decimal node)
 node_is_word node small = number_is_word node (omega arith)
 
--- a verb and the words behind it are words
+-- a verb and the words after it are words
 AreWords : List (List ℕ) → Type 0
 AreWords [] = ⊥
 AreWords (verb ∷ words) = AllByRecursion IsWord (verb ∷ words)
@@ -65,7 +65,7 @@ pub words_of_header : (nodes : ℕ) → HasHeader nodes
 words_of_header nodes has =
     split_words (codes "nodes") (decimal nodes ∷ []) (refl, (number_is_word nodes (omega arith), tt))
 
--- a number that no two kinds of events share, of the first word
+-- a number computed from the first word, which differs between any two kinds of events
 abbrev mark : List (List ℕ) → ℕ
 mark [] = 0
 mark (verb ∷ words) = get_or verb 0 0 + 256 * get_or verb 2 0 + 65536 * length verb
@@ -134,13 +134,13 @@ same_words Vacuum Vacuum has also same = refl
 same_words Rows Rows has also same = refl
 same_words event other has also same = absurd (omega (arith, ap mark same))
 
--- a line is one event's at most
+-- a line is the line of at most one event
 pub one_event : OneEvent
 one_event event other has also same =
     same_words event other has also
     (sym (words_of_line event has) ∙ ap (slice_split (λ b. eqb b 32)) same ∙ words_of_line other also)
 
--- a header is that of one number of nodes
+-- a header is that of one number of nodes only
 pub one_header : (nodes other : ℕ) → HasHeader nodes → HasHeader other → header_line nodes ≡ header_line other
     → nodes ≡ other
 one_header nodes other has also same =

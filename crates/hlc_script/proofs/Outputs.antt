@@ -1,5 +1,4 @@
--- What may be written for an input is one text: each line has one event, and an event has one reply, unless memory
--- was wanting.
+-- An input has one output: each line has one event, and an event has one reply, unless memory runs out.
 use Rattle.std.proofs.Common.{◌≡◌, ℕ, ◌+◌, ◌∙◌, sym, ap, refl, subst, List, [], ◌∷◌, ◌++◌, Option, Some, None, Ok}
 use Rattle.std.proofs.Common.{Result, append_assoc, arith, ◌⊎◌, inl, inr}
 use Rattle.std.specs.Prelude.{codes, decimal, ◌≢◌}
@@ -29,18 +28,19 @@ use Rattle.hlc_world.specs.declared.refusal.Refusal.{Refusal}
 use Rattle.hlc_world.specs.declared.refusal.Refusal.TheVariants.{NoMemory as no_memory}
 use Rattle.hlc_world.specs.Schedule.{Event, item_at}
 use Rattle.hlc_world.specs.Store.{accepting, accepted, paired, core_past}
-use Rattle.hlc_world.specs.Due.{refusal_due, IsReceived, IsObserved, IsOwed, IsDueReply, IsGiven}
+use Rattle.hlc_world.specs.Expected.{expected_refusal, IsReceived, IsObserved, IsExpectedOfStore, IsExpectedReply}
+use Rattle.hlc_world.specs.Expected.{MayReply}
 use Rattle.hlc_script.specs.declared.run.RunEnd.{RunEnd}
-use Rattle.hlc_script.specs.declared.run.RunEnd.TheVariants.{Answered, BadLine, BadHeader, NoMemory, NotHeld}
+use Rattle.hlc_script.specs.declared.run.RunEnd.TheVariants.{Answered, BadLine, BadHeader, NoMemory, NotLoaded}
 use Rattle.hlc_script.specs.declared.run.RunEnd.TheVariants.{WriteFault}
 use Rattle.hlc_text.specs.declared.input.InputFault.TheVariants.{NoMemory as not_enough, ReadFault, TooLong}
 use Rattle.hlc_script.specs.Line.{HasHeader, header_line}
 use Rattle.hlc_script.specs.Reply.{reply_lines, reply_text}
 use Rattle.hlc_script.specs.Run.{AnswersLine, Answers, AnswersScript}
-use Rattle.hlc_script.specs.OneOutput.{TellsNoMemory, OneOutput}
+use Rattle.hlc_script.specs.OneOutput.{ReportsNoMemory, OneOutput}
 use Rattle.hlc_script.proofs.Lines.{one_event, one_header}
 
--- the two are equal, or one of them is a want of memory
+-- the two are equal, or one of them is out of memory
 abbrev OneReply : Reply → Reply → Type 0
 OneReply reply other = (reply ≡ other) ⊎ ((reply ≡ Refused no_memory) ⊎ (other ≡ Refused no_memory))
 
@@ -56,177 +56,180 @@ same_receipt (Some message) last reading stamp other is also =
     let stamps : ◌≡◌ {A = Result ℕ ClockFault} (Ok stamp) (Ok other) = sym is ∙ also in cc
 
 -- an issued item has one stamp and one number
-issued_once : (due : Result ℕ NodeFault) (next stamp stamp2 number number2 : ℕ) → (due ≡ Ok stamp) × (number ≡ next)
-    → (due ≡ Ok stamp2) × (number2 ≡ next) → Stamped stamp number ≡ Stamped stamp2 number2
-issued_once due next stamp stamp2 number number2 is also =
+issued_once : (expected : Result ℕ NodeFault) (next stamp stamp2 number number2 : ℕ) → (expected ≡ Ok stamp)
+    × (number ≡ next)
+    → (expected ≡ Ok stamp2) × (number2 ≡ next) → Stamped stamp number ≡ Stamped stamp2 number2
+issued_once expected next stamp stamp2 number number2 is also =
     let stamps : ◌≡◌ {A = Result ℕ NodeFault} (Ok stamp) (Ok stamp2) = sym is.0 ∙ also.0 in
     let s : stamp ≡ stamp2 = cc in
     let n : number ≡ number2 = is.1 ∙ sym also.1 in cc
 
 same_observation : (o : Option ℕ) (last reading stamp stamp2 : ℕ) → IsObserved o last reading stamp
     → IsObserved o last reading stamp2 → stamp ≡ stamp2
-same_observation None last reading stamp stamp2 due also = absurd due
-same_observation (Some seen) last reading stamp stamp2 due also =
-    let stamps : ◌≡◌ {A = Result ℕ ClockFault} (Ok stamp) (Ok stamp2) = sym due ∙ also in cc
+same_observation None last reading stamp stamp2 expected also = absurd expected
+same_observation (Some seen) last reading stamp stamp2 expected also =
+    let stamps : ◌≡◌ {A = Result ℕ ClockFault} (Ok stamp) (Ok stamp2) = sym expected ∙ also in cc
 
 same_listing : (o : Option ℕ) (rows : List Row) (pairs pairs2 : List Pair) → IsListed o rows pairs
     → IsListed o rows pairs2 → pairs ≡ pairs2
-same_listing None rows pairs pairs2 due also = absurd due
-same_listing (Some stamp) rows pairs pairs2 due also = one-listing rows stamp pairs pairs2 due also
+same_listing None rows pairs pairs2 expected also = absurd expected
+same_listing (Some stamp) rows pairs pairs2 expected also = one-listing rows stamp pairs pairs2 expected also
 
 same_acceptance : (nodes node : ℕ) (past : List Step) (o : Option Item) (stamp stamp2 : ℕ)
-    → IsOwed nodes past (paired (accepted node stamp o) (accepting o))
-    → IsOwed nodes past (paired (accepted node stamp2 o) (accepting o)) → stamp ≡ stamp2
-same_acceptance nodes node past None stamp stamp2 due also = absurd due
-same_acceptance nodes node past (Some item) stamp stamp2 due also = ap (λ x. x.stamp) (due ∙ sym also)
+    → IsExpectedOfStore nodes past (paired (accepted node stamp o) (accepting o))
+    → IsExpectedOfStore nodes past (paired (accepted node stamp2 o) (accepting o)) → stamp ≡ stamp2
+same_acceptance nodes node past None stamp stamp2 expected also = absurd expected
+same_acceptance nodes node past (Some item) stamp stamp2 expected also = ap (λ x. x.stamp) (expected ∙ sym also)
 
--- what is due where nothing is refused is one reply
-due_once : (nodes : ℕ) (schedule : List (Event × Reply)) (event : Event) (reply other : Reply)
-    → IsDueReply nodes schedule event reply → IsDueReply nodes schedule event other → reply ≡ other
-due_once nodes schedule (Write node reading key value) (Stamped stamp number) (Stamped stamp2 number2) due also =
-    issued_once _ _ stamp stamp2 number number2 due also
-due_once nodes schedule (Write node reading key value) (Stamped stamp number) other due also = absurd also
-due_once nodes schedule (Delete node reading key) (Stamped stamp number) (Stamped stamp2 number2) due also =
-    issued_once _ _ stamp stamp2 number number2 due also
-due_once nodes schedule (Delete node reading key) (Stamped stamp number) other due also = absurd also
-due_once nodes schedule (Report node reading) (Stamped stamp number) (Stamped stamp2 number2) due also =
-    issued_once _ _ stamp stamp2 number number2 due also
-due_once nodes schedule (Report node reading) (Stamped stamp number) other due also = absurd also
-due_once nodes schedule (Retire node reading) (Stamped stamp number) (Stamped stamp2 number2) due also =
-    issued_once _ _ stamp stamp2 number number2 due also
-due_once nodes schedule (Retire node reading) (Stamped stamp number) other due also = absurd also
-due_once nodes schedule Join (Joined node start) (Joined node2 start2) due also =
-    let n : node ≡ node2 = due.0 ∙ sym also.0 in
-    let s : start ≡ start2 = due.1 ∙ sym also.1 in cc
-due_once nodes schedule Join (Joined node start) other due also = absurd also
-due_once nodes schedule (Send node reading) (Sent stamp number) (Sent stamp2 number2) due also =
-    let stamps : ◌≡◌ {A = Result ℕ ClockFault} (Ok stamp) (Ok stamp2) = sym due.0 ∙ also.0 in
+-- where nothing is refused, only one reply is expected
+expected_once : (nodes : ℕ) (schedule : List (Event × Reply)) (event : Event) (reply other : Reply)
+    → IsExpectedReply nodes schedule event reply → IsExpectedReply nodes schedule event other → reply ≡ other
+expected_once nodes schedule (Write node reading key value) (Stamped stamp number) (Stamped stamp2 number2) expected
+    also =
+    issued_once _ _ stamp stamp2 number number2 expected also
+expected_once nodes schedule (Write node reading key value) (Stamped stamp number) other expected also = absurd also
+expected_once nodes schedule (Delete node reading key) (Stamped stamp number) (Stamped stamp2 number2) expected also =
+    issued_once _ _ stamp stamp2 number number2 expected also
+expected_once nodes schedule (Delete node reading key) (Stamped stamp number) other expected also = absurd also
+expected_once nodes schedule (Report node reading) (Stamped stamp number) (Stamped stamp2 number2) expected also =
+    issued_once _ _ stamp stamp2 number number2 expected also
+expected_once nodes schedule (Report node reading) (Stamped stamp number) other expected also = absurd also
+expected_once nodes schedule (Retire node reading) (Stamped stamp number) (Stamped stamp2 number2) expected also =
+    issued_once _ _ stamp stamp2 number number2 expected also
+expected_once nodes schedule (Retire node reading) (Stamped stamp number) other expected also = absurd also
+expected_once nodes schedule Join (Joined node start) (Joined node2 start2) expected also =
+    let n : node ≡ node2 = expected.0 ∙ sym also.0 in
+    let s : start ≡ start2 = expected.1 ∙ sym also.1 in cc
+expected_once nodes schedule Join (Joined node start) other expected also = absurd also
+expected_once nodes schedule (Send node reading) (Sent stamp number) (Sent stamp2 number2) expected also =
+    let stamps : ◌≡◌ {A = Result ℕ ClockFault} (Ok stamp) (Ok stamp2) = sym expected.0 ∙ also.0 in
     let s : stamp ≡ stamp2 = cc in
-    let n : number ≡ number2 = due.1 ∙ sym also.1 in cc
-due_once nodes schedule (Send node reading) (Sent stamp number) other due also = absurd also
-due_once nodes schedule (Receive node reading message) (Received stamp) (Received stamp2) due also =
-    ap Received (same_receipt _ _ reading stamp stamp2 due also)
-due_once nodes schedule (Receive node reading message) (Received stamp) other due also = absurd also
-due_once nodes schedule (Deliver node number) (Accepted stamp) (Accepted stamp2) due also =
+    let n : number ≡ number2 = expected.1 ∙ sym also.1 in cc
+expected_once nodes schedule (Send node reading) (Sent stamp number) other expected also = absurd also
+expected_once nodes schedule (Receive node reading message) (Received stamp) (Received stamp2) expected also =
+    ap Received (same_receipt _ _ reading stamp stamp2 expected also)
+expected_once nodes schedule (Receive node reading message) (Received stamp) other expected also = absurd also
+expected_once nodes schedule (Deliver node number) (Accepted stamp) (Accepted stamp2) expected also =
     ap Accepted
-    (same_acceptance nodes node (core_past schedule) (item_at node number schedule) stamp stamp2 due also)
-due_once nodes schedule (Deliver node number) (Accepted stamp) other due also = absurd also
-due_once nodes schedule (Observe node reading id) (Observed stamp) (Observed stamp2) due also =
-    ap Observed (same_observation _ _ reading stamp stamp2 due also)
-due_once nodes schedule (Observe node reading id) (Observed stamp) other due also = absurd also
-due_once nodes schedule (OpenAt at) (Snapshot id stamp) (Snapshot id2 stamp2) due also =
-    let i : id ≡ id2 = due.0 ∙ sym also.0 in
-    let s : stamp ≡ stamp2 = due.1 ∙ sym also.1 in cc
-due_once nodes schedule (OpenAt at) (Snapshot id stamp) other due also = absurd also
-due_once nodes schedule OpenFloor (Snapshot id stamp) (Snapshot id2 stamp2) due also =
-    let i : id ≡ id2 = due.0 ∙ sym also.0 in
-    let s : stamp ≡ stamp2 = due.1 ∙ sym also.1 in cc
-due_once nodes schedule OpenFloor (Snapshot id stamp) other due also = absurd also
-due_once nodes schedule (Read id key) (Answer value) (Answer value2) due also =
-    ap Answer (same_answer _ _ value value2 due also)
-due_once nodes schedule (Read id key) (Answer value) other due also = absurd also
-due_once nodes schedule (ListAll id) (Listing pairs) (Listing pairs2) due also =
-    ap Listing (same_listing _ _ pairs pairs2 due also)
-due_once nodes schedule (ListAll id) (Listing pairs) other due also = absurd also
-due_once nodes schedule (Close id) (Closed stamp) (Closed stamp2) due also =
-    let stamps : Some stamp ≡ Some stamp2 = sym due ∙ also in
+    (same_acceptance nodes node (core_past schedule) (item_at node number schedule) stamp stamp2 expected also)
+expected_once nodes schedule (Deliver node number) (Accepted stamp) other expected also = absurd also
+expected_once nodes schedule (Observe node reading id) (Observed stamp) (Observed stamp2) expected also =
+    ap Observed (same_observation _ _ reading stamp stamp2 expected also)
+expected_once nodes schedule (Observe node reading id) (Observed stamp) other expected also = absurd also
+expected_once nodes schedule (OpenAt at) (Snapshot id stamp) (Snapshot id2 stamp2) expected also =
+    let i : id ≡ id2 = expected.0 ∙ sym also.0 in
+    let s : stamp ≡ stamp2 = expected.1 ∙ sym also.1 in cc
+expected_once nodes schedule (OpenAt at) (Snapshot id stamp) other expected also = absurd also
+expected_once nodes schedule OpenFloor (Snapshot id stamp) (Snapshot id2 stamp2) expected also =
+    let i : id ≡ id2 = expected.0 ∙ sym also.0 in
+    let s : stamp ≡ stamp2 = expected.1 ∙ sym also.1 in cc
+expected_once nodes schedule OpenFloor (Snapshot id stamp) other expected also = absurd also
+expected_once nodes schedule (Read id key) (Answer value) (Answer value2) expected also =
+    ap Answer (same_answer _ _ value value2 expected also)
+expected_once nodes schedule (Read id key) (Answer value) other expected also = absurd also
+expected_once nodes schedule (ListAll id) (Listing pairs) (Listing pairs2) expected also =
+    ap Listing (same_listing _ _ pairs pairs2 expected also)
+expected_once nodes schedule (ListAll id) (Listing pairs) other expected also = absurd also
+expected_once nodes schedule (Close id) (Closed stamp) (Closed stamp2) expected also =
+    let stamps : Some stamp ≡ Some stamp2 = sym expected ∙ also in
     let s : stamp ≡ stamp2 = cc in cc
-due_once nodes schedule (Close id) (Closed stamp) other due also = absurd also
-due_once nodes schedule Floor (FloorIs stamp) (FloorIs stamp2) due also = ap FloorIs (due ∙ sym also)
-due_once nodes schedule Floor (FloorIs stamp) other due also = absurd also
-due_once nodes schedule Vacuum (Vacuumed report) (Vacuumed report2) due also =
-    ap Vacuumed (there_is_one_report (floor nodes (core_past schedule)) (core_past schedule) report report2 due also)
-due_once nodes schedule Vacuum (Vacuumed report) other due also = absurd also
-due_once nodes schedule Rows (RowsAre count) (RowsAre count2) due also =
-    ap RowsAre (there_is_one_count (core_past schedule) count count2 due also)
-due_once nodes schedule Rows (RowsAre count) other due also = absurd also
-due_once nodes schedule _ _ _ due also = absurd due
+expected_once nodes schedule (Close id) (Closed stamp) other expected also = absurd also
+expected_once nodes schedule Floor (FloorIs stamp) (FloorIs stamp2) expected also = ap FloorIs (expected ∙ sym also)
+expected_once nodes schedule Floor (FloorIs stamp) other expected also = absurd also
+expected_once nodes schedule Vacuum (Vacuumed report) (Vacuumed report2) expected also =
+    ap Vacuumed (there_is_one_report (floor nodes (core_past schedule)) (core_past schedule) report report2 expected
+    also)
+expected_once nodes schedule Vacuum (Vacuumed report) other expected also = absurd also
+expected_once nodes schedule Rows (RowsAre count) (RowsAre count2) expected also =
+    ap RowsAre (there_is_one_count (core_past schedule) count count2 expected also)
+expected_once nodes schedule Rows (RowsAre count) other expected also = absurd also
+expected_once nodes schedule _ _ _ expected also = absurd expected
 
--- a given reply is a refusal, which is due or a want of memory; or it is due where no refusal is
-abbrev GivenCases : ℕ → List (Event × Reply) → Event → Reply → Type 0
-GivenCases nodes schedule event reply =
+-- this reply is a refusal, which is expected or is out of memory; or it is expected where no refusal is
+abbrev ReplyCases : ℕ → List (Event × Reply) → Event → Reply → Type 0
+ReplyCases nodes schedule event reply =
     ((refusal : Refusal) × (reply ≡ Refused refusal)
-    × ((refusal_due nodes schedule event ≡ Some refusal) ⊎ (refusal ≡ no_memory)))
-    ⊎ ((refusal_due nodes schedule event ≡ None) × IsDueReply nodes schedule event reply)
+    × ((expected_refusal nodes schedule event ≡ Some refusal) ⊎ (refusal ≡ no_memory)))
+    ⊎ ((expected_refusal nodes schedule event ≡ None) × IsExpectedReply nodes schedule event reply)
 
-given_cases : (nodes : ℕ) (schedule : List (Event × Reply)) (event : Event) (reply : Reply)
-    → IsGiven nodes schedule event reply → GivenCases nodes schedule event reply
-given_cases nodes schedule event (Refused refusal) (inl due) = inl (refusal, refl, inl due)
-given_cases nodes schedule event (Refused refusal) (inr lost) = inl (refusal, refl, inr lost.1)
-given_cases nodes schedule event (Stamped stamp item) given = inr given
-given_cases nodes schedule event (Joined node start) given = inr given
-given_cases nodes schedule event (Sent stamp message) given = inr given
-given_cases nodes schedule event (Received stamp) given = inr given
-given_cases nodes schedule event (Observed stamp) given = inr given
-given_cases nodes schedule event (Accepted stamp) given = inr given
-given_cases nodes schedule event (Listing pairs) given = inr given
-given_cases nodes schedule event (Closed stamp) given = inr given
-given_cases nodes schedule event (Snapshot id stamp) given = inr given
-given_cases nodes schedule event (Answer value) given = inr given
-given_cases nodes schedule event (FloorIs stamp) given = inr given
-given_cases nodes schedule event (Vacuumed report) given = inr given
-given_cases nodes schedule event (RowsAre count) given = inr given
+reply_cases : (nodes : ℕ) (schedule : List (Event × Reply)) (event : Event) (reply : Reply)
+    → MayReply nodes schedule event reply → ReplyCases nodes schedule event reply
+reply_cases nodes schedule event (Refused refusal) (inl expected) = inl (refusal, refl, inl expected)
+reply_cases nodes schedule event (Refused refusal) (inr lost) = inl (refusal, refl, inr lost.1)
+reply_cases nodes schedule event (Stamped stamp item) allowed = inr allowed
+reply_cases nodes schedule event (Joined node start) allowed = inr allowed
+reply_cases nodes schedule event (Sent stamp message) allowed = inr allowed
+reply_cases nodes schedule event (Received stamp) allowed = inr allowed
+reply_cases nodes schedule event (Observed stamp) allowed = inr allowed
+reply_cases nodes schedule event (Accepted stamp) allowed = inr allowed
+reply_cases nodes schedule event (Listing pairs) allowed = inr allowed
+reply_cases nodes schedule event (Closed stamp) allowed = inr allowed
+reply_cases nodes schedule event (Snapshot id stamp) allowed = inr allowed
+reply_cases nodes schedule event (Answer value) allowed = inr allowed
+reply_cases nodes schedule event (FloorIs stamp) allowed = inr allowed
+reply_cases nodes schedule event (Vacuumed report) allowed = inr allowed
+reply_cases nodes schedule event (RowsAre count) allowed = inr allowed
 
 once : (nodes : ℕ) (schedule : List (Event × Reply)) (event : Event) (reply other : Reply)
-    → GivenCases nodes schedule event reply → GivenCases nodes schedule event other → OneReply reply other
+    → ReplyCases nodes schedule event reply → ReplyCases nodes schedule event other → OneReply reply other
 once nodes schedule event reply other (inl (refusal, is, inr lost)) also = inr (inl (is ∙ ap Refused lost))
-once nodes schedule event reply other (inl (refusal, is, inl due)) (inl (refusal2, is2, inr lost)) =
+once nodes schedule event reply other (inl (refusal, is, inl expected)) (inl (refusal2, is2, inr lost)) =
     inr (inr (is2 ∙ ap Refused lost))
-once nodes schedule event reply other (inl (refusal, is, inl due)) (inl (refusal2, is2, inl due2)) =
-    let both : Some refusal ≡ Some refusal2 = sym due ∙ due2 in
+once nodes schedule event reply other (inl (refusal, is, inl expected)) (inl (refusal2, is2, inl expected2)) =
+    let both : Some refusal ≡ Some refusal2 = sym expected ∙ expected2 in
     let same : refusal ≡ refusal2 = cc in inl (is ∙ ap Refused same ∙ sym is2)
-once nodes schedule event reply other (inl (refusal, is, inl due)) (inr (none, reply_due)) =
-    absurd (let e : Some refusal ≡ None = sym due ∙ none in cc)
-once nodes schedule event reply other (inr (none, due)) (inl (refusal2, is2, inr lost)) =
+once nodes schedule event reply other (inl (refusal, is, inl expected)) (inr (none, expected_reply)) =
+    absurd (let e : Some refusal ≡ None = sym expected ∙ none in cc)
+once nodes schedule event reply other (inr (none, expected)) (inl (refusal2, is2, inr lost)) =
     inr (inr (is2 ∙ ap Refused lost))
-once nodes schedule event reply other (inr (none, due)) (inl (refusal2, is2, inl due2)) =
-    absurd (let e : Some refusal2 ≡ None = sym due2 ∙ none in cc)
-once nodes schedule event reply other (inr (none, due)) (inr (none2, due2)) =
-    inl (due_once nodes schedule event reply other due due2)
+once nodes schedule event reply other (inr (none, expected)) (inl (refusal2, is2, inl expected2)) =
+    absurd (let e : Some refusal2 ≡ None = sym expected2 ∙ none in cc)
+once nodes schedule event reply other (inr (none, expected)) (inr (none2, expected2)) =
+    inl (expected_once nodes schedule event reply other expected expected2)
 
--- a world gives one reply, unless memory was wanting
-given_once : (nodes : ℕ) (schedule : List (Event × Reply)) (event : Event) (reply other : Reply)
-    → IsGiven nodes schedule event reply → IsGiven nodes schedule event other → OneReply reply other
-given_once nodes schedule event reply other given also =
-    once nodes schedule event reply other (given_cases nodes schedule event reply given)
-    (given_cases nodes schedule event other also)
+-- a world returns one reply, unless memory runs out
+reply_once : (nodes : ℕ) (schedule : List (Event × Reply)) (event : Event) (reply other : Reply)
+    → MayReply nodes schedule event reply → MayReply nodes schedule event other → OneReply reply other
+reply_once nodes schedule event reply other allowed also =
+    once nodes schedule event reply other (reply_cases nodes schedule event reply allowed)
+    (reply_cases nodes schedule event other also)
 
 abbrev Same : List ℕ → List ℕ → Option ℕ → Option ℕ → Type 0
-Same output other bad worse = ((output ≡ other) × (bad ≡ worse)) ⊎ (TellsNoMemory output ⊎ TellsNoMemory other)
+Same output other bad worse = ((output ≡ other) × (bad ≡ worse)) ⊎ (ReportsNoMemory output ⊎ ReportsNoMemory other)
 
 fifteen : decimal 15 ≡ codes "15"
 fifteen = decimal-digits_of 15 (omega arith) (omega arith)
 
--- a reply that tells of want of memory
-tells : (reply : Reply) (rest : List ℕ) → reply ≡ Refused no_memory → TellsNoMemory (reply_text reply ++ rest)
-tells reply rest is =
+-- a reply that reports out of memory
+reports : (reply : Reply) (rest : List ℕ) → reply ≡ Refused no_memory → ReportsNoMemory (reply_text reply ++ rest)
+reports reply rest is =
     rw is ([], rest, ap (λ (d : List ℕ). flat_map printed (((codes "refused " ++ d) ++ []) ∷ []) ++ rest) fifteen)
 
 -- a line in front
-behind : (line rest : List ℕ) → TellsNoMemory rest → TellsNoMemory (printed line ++ rest)
-behind line rest (before, back, is) = (
+after : (line rest : List ℕ) → ReportsNoMemory rest → ReportsNoMemory (printed line ++ rest)
+after line rest (before, back, is) = (
   line ∷ before,
   back,
   ap (λ l. printed line ++ l) is
       ∙ sym (append_assoc (printed line) (flat_map printed before) (printed (codes "refused 15") ++ back)),
 )
 
-same_behind : (line rest more : List ℕ) (bad worse : Option ℕ) → Same rest more bad worse
+same_after : (line rest more : List ℕ) (bad worse : Option ℕ) → Same rest more bad worse
     → Same (printed line ++ rest) (printed line ++ more) bad worse
-same_behind line rest more bad worse (inl same) = inl (ap (λ l. printed line ++ l) same.0, same.1)
-same_behind line rest more bad worse (inr (inl short)) = inr (inl (behind line rest short))
-same_behind line rest more bad worse (inr (inr short)) = inr (inr (behind line more short))
+same_after line rest more bad worse (inl same) = inl (ap (λ l. printed line ++ l) same.0, same.1)
+same_after line rest more bad worse (inr (inl short)) = inr (inl (after line rest short))
+same_after line rest more bad worse (inr (inr short)) = inr (inr (after line more short))
 
 -- some lines in front
-same_behind_lines : (lines : List (List ℕ)) (rest more : List ℕ) (bad worse : Option ℕ) → Same rest more bad worse
+same_after_lines : (lines : List (List ℕ)) (rest more : List ℕ) (bad worse : Option ℕ) → Same rest more bad worse
     → Same (flat_map printed lines ++ rest) (flat_map printed lines ++ more) bad worse
-same_behind_lines [] rest more bad worse same = same
-same_behind_lines (line ∷ lines) rest more bad worse same =
+same_after_lines [] rest more bad worse same = same
+same_after_lines (line ∷ lines) rest more bad worse same =
     let F : List ℕ → Type 0 = λ (o : List ℕ). Same o (flat_map printed (line ∷ lines) ++ more) bad worse in
     let G : List ℕ → Type 0 = λ (o : List ℕ). Same (printed line ++ (flat_map printed lines ++ rest)) o bad worse in
     subst F (sym (append_assoc (printed line) (flat_map printed lines) rest))
     (subst G (sym (append_assoc (printed line) (flat_map printed lines) more))
-    (same_behind line _ _ bad worse (same_behind_lines lines rest more bad worse same)))
+    (same_after line _ _ bad worse (same_after_lines lines rest more bad worse same)))
 
 -- a good line, answered twice
 one_line : (nodes : ℕ) (schedule : List (Event × Reply)) (number : ℕ) (lines : List (List ℕ)) (bad worse : Option ℕ)
@@ -236,19 +239,19 @@ one_line : (nodes : ℕ) (schedule : List (Event × Reply)) (number : ℕ) (line
     → AnswersLine nodes schedule e q t → Answers nodes s (number + 1) lines rest bad
     → Answers nodes t (number + 1) lines more worse → Same (reply_text r ++ rest) (reply_text q ++ more) bad worse
 one_line nodes schedule number lines bad worse e r q s t rest more onward (inr lost) other first second =
-    inr (inl (tells r rest lost.1))
-one_line nodes schedule number lines bad worse e r q s t rest more onward (inl given) (inr lost) first second =
-    inr (inr (tells q more lost.1))
-one_line nodes schedule number lines bad worse e r q s t rest more onward (inl given) (inl also) first second =
-    elim (given_once nodes schedule e r q given.0 also.0) [
-      | inr (inl lost) ↦ inr (inl (tells r rest lost))
-      | inr (inr lost) ↦ inr (inr (tells q more lost))
+    inr (inl (reports r rest lost.1))
+one_line nodes schedule number lines bad worse e r q s t rest more onward (inl allowed) (inr lost) first second =
+    inr (inr (reports q more lost.1))
+one_line nodes schedule number lines bad worse e r q s t rest more onward (inl allowed) (inl also) first second =
+    elim (reply_once nodes schedule e r q allowed.0 also.0) [
+      | inr (inl lost) ↦ inr (inl (reports r rest lost))
+      | inr (inr lost) ↦ inr (inr (reports q more lost))
       | inl same ↦
-          let together : s ≡ t = given.1 ∙ ap (λ (x : Reply). (e, x) ∷ schedule) same ∙ sym also.1 in
+          let together : s ≡ t = allowed.1 ∙ ap (λ (x : Reply). (e, x) ∷ schedule) same ∙ sym also.1 in
           let F : List (Event × Reply) → Type 0 =
           λ (x : List (Event × Reply)). Answers nodes x (number + 1) lines more worse in
           let found =
-          same_behind_lines (reply_lines r) rest more bad worse
+          same_after_lines (reply_lines r) rest more bad worse
           (onward s rest more first (subst F (sym together) second)) in
           let G : Reply → Type 0 = λ (x : Reply). Same (reply_text r ++ rest) (reply_text x ++ more) bad worse in
           subst G same found
@@ -291,7 +294,7 @@ script_once input output other bad worse (nodes, lines, replies, has, first, is,
     subst (λ (n : ℕ). Answers n [] 2 lines replies2 worse) same
     (subst (λ (ls : List (List ℕ)). Answers nodes2 [] 2 ls replies2 worse) same_lines answers2) in
     let found : Same (printed (header_line nodes) ++ replies) (printed (header_line nodes) ++ replies2) bad worse =
-    same_behind (header_line nodes) replies replies2 bad worse
+    same_after (header_line nodes) replies replies2 bad worse
     (answered_once nodes [] 2 lines replies replies2 bad worse answers answers3) in
     let G : List ℕ → Type 0 = λ (o : List ℕ). Same o other bad worse in
     let H : List ℕ → Type 0 = λ (o : List ℕ). Same (printed (header_line nodes) ++ replies) o bad worse in
@@ -303,11 +306,11 @@ end_of None = Answered
 end_of (Some number) = BadLine number
 
 ended : (output other : List ℕ) (bad worse : Option ℕ) → Same output other bad worse
-    → ((output ≡ other) × (end_of bad ≡ end_of worse)) ⊎ (TellsNoMemory output ⊎ TellsNoMemory other)
+    → ((output ≡ other) × (end_of bad ≡ end_of worse)) ⊎ (ReportsNoMemory output ⊎ ReportsNoMemory other)
 ended output other bad worse (inl same) = inl (same.0, ap end_of same.1)
 ended output other bad worse (inr short) = inr short
 
-short_alone : (output : List ℕ) → output ≡ printed (codes "refused 15") → TellsNoMemory output
+short_alone : (output : List ℕ) → output ≡ printed (codes "refused 15") → ReportsNoMemory output
 short_alone output is = ([], [], is)
 
 -- an input has a header or it has none
@@ -316,8 +319,8 @@ header_not : (input output : List ℕ) (bad : Option ℕ) → AnswersScript inpu
 header_not input output bad (nodes, lines, replies, has, first, is, answers) none = none nodes lines has first
 
 pub one_output : OneOutput
-one_output input output other (NotHeld not_enough) finish is also e f = inr (inl (short_alone output is.1))
-one_output input output other end (NotHeld not_enough) is also e f = inr (inr (short_alone other also.1))
+one_output input output other (NotLoaded not_enough) finish is also e f = inr (inl (short_alone output is.1))
+one_output input output other end (NotLoaded not_enough) is also e f = inr (inr (short_alone other also.1))
 one_output input output other NoMemory finish is also e f = inr (inl (short_alone output is.2))
 one_output input output other end NoMemory is also e f = inr (inr (short_alone other also.2))
 one_output input output other Answered Answered is also e f =
@@ -335,14 +338,14 @@ one_output input output other BadHeader Answered is also e f = absurd (header_no
 one_output input output other BadHeader (BadLine n) is also e f =
     absurd (header_not input other (Some n) also.1 is.1)
 one_output input output other BadHeader BadHeader is also e f = inl (is.2 ∙ sym also.2, refl)
-one_output input output other (NotHeld TooLong) (NotHeld TooLong) is also e f = inl (is.1 ∙ sym also.1, refl)
-one_output input output other (NotHeld TooLong) Answered is also e f = absurd (omega (arith, is.0, also.0))
-one_output input output other (NotHeld TooLong) (BadLine n) is also e f = absurd (omega (arith, is.0, also.0))
-one_output input output other (NotHeld TooLong) BadHeader is also e f = absurd (omega (arith, is.0, also.0))
-one_output input output other Answered (NotHeld TooLong) is also e f = absurd (omega (arith, is.0, also.0))
-one_output input output other (BadLine m) (NotHeld TooLong) is also e f = absurd (omega (arith, is.0, also.0))
-one_output input output other BadHeader (NotHeld TooLong) is also e f = absurd (omega (arith, is.0, also.0))
-one_output input output other (NotHeld ReadFault) finish is also e f = absurd (e refl)
-one_output input output other end (NotHeld ReadFault) is also e f = absurd (f refl)
+one_output input output other (NotLoaded TooLong) (NotLoaded TooLong) is also e f = inl (is.1 ∙ sym also.1, refl)
+one_output input output other (NotLoaded TooLong) Answered is also e f = absurd (omega (arith, is.0, also.0))
+one_output input output other (NotLoaded TooLong) (BadLine n) is also e f = absurd (omega (arith, is.0, also.0))
+one_output input output other (NotLoaded TooLong) BadHeader is also e f = absurd (omega (arith, is.0, also.0))
+one_output input output other Answered (NotLoaded TooLong) is also e f = absurd (omega (arith, is.0, also.0))
+one_output input output other (BadLine m) (NotLoaded TooLong) is also e f = absurd (omega (arith, is.0, also.0))
+one_output input output other BadHeader (NotLoaded TooLong) is also e f = absurd (omega (arith, is.0, also.0))
+one_output input output other (NotLoaded ReadFault) finish is also e f = absurd (e refl)
+one_output input output other end (NotLoaded ReadFault) is also e f = absurd (f refl)
 one_output input output other WriteFault finish is also e f = absurd is
 one_output input output other end WriteFault is also e f = absurd also

@@ -29,11 +29,11 @@ event_words Floor = codes "floor" ∷ []
 event_words Vacuum = codes "vacuum" ∷ []
 event_words Rows = codes "rows" ∷ []
 
--- the one line of an event
+-- the only line of an event
 abbrev pub event_line : Event → List ℕ
 event_line event = spaced (event_words event)
 
--- what has a line: a node below 2^16, numbers and stamps below 2^64, and bytes
+-- what can be written as a line: a node below 2^16, numbers and stamps below 2^64, and bytes
 abbrev pub HasLine : Event → Type 0
 HasLine (Write node reading key value) = (node < 2 ^ 16) × (reading < 2 ^ 64) × AreBytes key × AreBytes value
 HasLine (Delete node reading key) = (node < 2 ^ 16) × (reading < 2 ^ 64) × AreBytes key
@@ -53,7 +53,7 @@ HasLine Floor = ⊤
 HasLine Vacuum = ⊤
 HasLine Rows = ⊤
 
--- the event has a key, which may want memory
+-- the event has a key, which may need memory
 abbrev pub BearsBytes : Event → Type 0
 BearsBytes (Write node reading key value) = ⊤
 BearsBytes (Delete node reading key) = ⊤

@@ -62,7 +62,7 @@ reply_line (Vacuumed report) = report_line report
 reply_line (Rows count) = codes "rows " ++ decimal count
 reply_line (Refused refusal) = refusal_line refusal
 
--- the lines behind it: those of a listing's pairs, or of a vacuum's changes
+-- the lines after it: those of a listing's pairs, or of a vacuum's changes
 abbrev pub more_lines : Reply → List (List ℕ)
 more_lines (Listing pairs) = map pair_line pairs
 more_lines (Vacuumed report) = map witness_line report.witnesses

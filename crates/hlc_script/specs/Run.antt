@@ -15,22 +15,22 @@ use Rattle.hlc_world.specs.Schedule.{Event}
 use Rattle.hlc_world.specs.declared.reply.Reply.{Reply}
 use Rattle.hlc_world.specs.declared.reply.Reply.TheVariants.{Refused}
 use Rattle.hlc_world.specs.declared.refusal.Refusal.TheVariants.{NoMemory as no_memory}
-use Rattle.hlc_world.specs.Due.{IsGiven}
+use Rattle.hlc_world.specs.Expected.{MayReply}
 use Rattle.hlc_script.specs.declared.run.RunEnd.{RunEnd}
-use Rattle.hlc_script.specs.declared.run.RunEnd.TheVariants.{Answered, BadLine, BadHeader, NoMemory, NotHeld}
+use Rattle.hlc_script.specs.declared.run.RunEnd.TheVariants.{Answered, BadLine, BadHeader, NoMemory, NotLoaded}
 use Rattle.hlc_script.specs.declared.run.RunEnd.TheVariants.{WriteFault}
 use Rattle.hlc_script.specs.Line.{event_line, HasLine, BearsBytes, header_line, HasHeader}
 use Rattle.hlc_script.specs.Reply.{reply_text}
 
--- A good line was answered, and the schedule came to be `after`. Its event got the reply that a world gives; or there
--- was no memory for the event's bytes, and it did not take place.
+-- A good line was answered, and the schedule is `after` then. Its event got a reply that a world may return; or memory
+-- ran out for the event's bytes, and it did not take place.
 abbrev pub AnswersLine : ℕ → List (Event × Reply) → Event → Reply → List (Event × Reply) → Type 0
 AnswersLine nodes schedule event reply after =
-    (IsGiven nodes schedule event reply × (after ≡ (event, reply) ∷ schedule))
+    (MayReply nodes schedule event reply × (after ≡ (event, reply) ∷ schedule))
     ⊎ (BearsBytes event × (reply ≡ Refused no_memory) × (after ≡ schedule))
 
--- What may be written for the lines from one number on, after a schedule: the reply to each, to the end or to the
--- refusal of the first bad line, whose number comes last.
+-- What may be written for the lines from one number on, after a schedule: the reply to each line, up to the end or to
+-- the refusal of the first bad line, whose number comes last.
 abbrev pub Answers : ℕ → List (Event × Reply) → ℕ → List (List ℕ) → List ℕ → Option ℕ → Type 0
 Answers nodes schedule number [] output bad = (output ≡ []) × (bad ≡ None)
 Answers nodes schedule number (line ∷ lines) output bad =
@@ -42,7 +42,7 @@ Answers nodes schedule number (line ∷ lines) output bad =
     ⊎ (((event : Event) → HasLine event → line ≢ event_line event)
     × (output ≡ printed (bad_line number)) × (bad ≡ Some number))
 
--- the header, and then the answers to the lines behind it
+-- the header, and then the answers to the lines after it
 abbrev pub AnswersScript : List ℕ → List ℕ → Option ℕ → Type 0
 AnswersScript input output bad =
     (nodes : ℕ) × (lines : List (List ℕ)) × (replies : List ℕ)
@@ -50,7 +50,7 @@ AnswersScript input output bad =
     × (output ≡ printed (header_line nodes) ++ replies)
     × Answers nodes [] 2 lines replies bad
 
--- what may be written for an input, by how the run ends
+-- what may be written for an input, depending on how the run ends
 abbrev pub MayWrite : List ℕ → List ℕ → RunEnd → Type 0
 MayWrite input output Answered = (length input ≤ INPUT_LIMIT) × AnswersScript input output None
 MayWrite input output (BadLine number) = (length input ≤ INPUT_LIMIT) × AnswersScript input output (Some number)
@@ -58,34 +58,34 @@ MayWrite input output BadHeader =
     (length input ≤ INPUT_LIMIT)
     × ((nodes : ℕ) (lines : List (List ℕ)) → HasHeader nodes → lines_of input ≢ header_line nodes ∷ lines)
     × (output ≡ printed (codes "refused 17"))
-MayWrite input output (NotHeld fault) = MayFault input fault × (output ≡ printed (fault_line fault))
--- a world is made only behind a header
+MayWrite input output (NotLoaded fault) = MayFault input fault × (output ≡ printed (fault_line fault))
+-- a world is made only after a header
 MayWrite input output NoMemory =
     (length input ≤ INPUT_LIMIT)
     × ((nodes : ℕ) × (lines : List (List ℕ)) × HasHeader nodes × (lines_of input ≡ header_line nodes ∷ lines))
     × (output ≡ printed (codes "refused 15"))
--- a failed write is no end of what may be written: it cuts that off
+-- a failed write is no end of what may be written, since it cuts that off
 MayWrite input output WriteFault = ⊥
 
--- the input was read whole and held, and then it came to this end
-abbrev pub IsOfHeld : RunEnd → Type 0
-IsOfHeld Answered = ⊤
-IsOfHeld (BadLine number) = ⊤
-IsOfHeld BadHeader = ⊤
-IsOfHeld NoMemory = ⊤
-IsOfHeld (NotHeld fault) = ⊥
-IsOfHeld WriteFault = ⊥
+-- the input was read whole and loaded, and then the run ended like this
+abbrev pub IsOfLoaded : RunEnd → Type 0
+IsOfLoaded Answered = ⊤
+IsOfLoaded (BadLine number) = ⊤
+IsOfLoaded BadHeader = ⊤
+IsOfLoaded NoMemory = ⊤
+IsOfLoaded (NotLoaded fault) = ⊥
+IsOfLoaded WriteFault = ⊥
 
--- What may have been taken from the reader when a run came to its end: the whole input, unless it was not held.
+-- What may have been taken from the reader when a run ended: the whole input, unless it was not loaded.
 abbrev pub MayTake : List ℕ → List ℕ → RunEnd → Type 0
-MayTake input taken (NotHeld fault) = FaultTakes taken fault
+MayTake input taken (NotLoaded fault) = FaultTakes taken fault
 MayTake input taken Answered = taken ≡ input
 MayTake input taken (BadLine number) = taken ≡ input
 MayTake input taken BadHeader = taken ≡ input
 MayTake input taken NoMemory = taken ≡ input
 MayTake input taken WriteFault = ⊥
 
--- What the reader had left was read as an input, and what may be written for it at this end was printed.
+-- What the reader had left was read as an input, and an output that it may have at this end was printed.
 pub record ReadsScript {R W : Type 0} (remaining : R → Option (List ℕ)) (contents : W → Option (List ℕ))
     (reader reader_after : Watched R) (printer printer_after : Printer W) (end : RunEnd) : Type 0 where
   pub input : List ℕ
@@ -98,7 +98,7 @@ pub record ReadsScript {R W : Type 0} (remaining : R → Option (List ℕ)) (con
   pub prints : Prints contents printer printer_after output
 
 -- A script was read and answered: there are an input, an output that it may have, and the end of such a run.
--- `remaining` and `contents` tell what the reader has left and what the writer holds, where that is known.
+-- `remaining` and `contents` are what the reader has left and what the writer contains, where that is known.
 pub record RunsScript {R W : Type 0} (remaining : R → Option (List ℕ)) (contents : W → Option (List ℕ))
     (reader reader_after : Watched R) (writer writer_after : Watched W) (result : RunEnd) : Type 0 where
   pub input : List ℕ
@@ -112,7 +112,7 @@ pub record RunsScript {R W : Type 0} (remaining : R → Option (List ℕ)) (cont
   pub may_write : MayWrite input output end
   -- the output was written, or a beginning of it where the writer failed
   pub wrote : Writes contents writer writer_after output
-  pub read_fault : (end ≡ NotHeld ReadFault) ↔ (has_failed reader_after ≡ true)
+  pub read_fault : (end ≡ NotLoaded ReadFault) ↔ (has_failed reader_after ≡ true)
   -- a failed write cuts the end off
   pub end_is : has_failed writer_after ≡ false → result ≡ end
   pub write_fault : (result ≡ WriteFault) ↔ (has_failed writer_after ≡ true)
@@ -123,5 +123,5 @@ status_of Answered = 0
 status_of (BadLine number) = 2
 status_of BadHeader = 2
 status_of NoMemory = 2
-status_of (NotHeld fault) = 2
+status_of (NotLoaded fault) = 2
 status_of WriteFault = 3

@@ -1,13 +1,13 @@
-//! What holds of every script.
+//! What is true of every script.
 ghost use Rattle.hlc_script.specs.OneOutput.{OneEvent, OneOutput};
 
-/// A line is the line of one event at most.
+/// States that a line is the line of at most one event.
 pub fn one_event_for_a_line()
     ensures { OneEvent }
 {}
 
-/// What may be written for an input is one text, and the run ends in one way, where no line of it
-/// tells of want of memory and no read failed.
+/// States that an input has one output, and one end of the run, except where a line of the output reports out of memory
+/// or a read failed.
 pub fn one_output_for_an_input()
     ensures { OneOutput }
 {}

@@ -1,6 +1,7 @@
 //! Scripts: the lines of events, the lines of replies, and a whole run from bytes to bytes.
 #![tactic(auto)]
 
+mod exact;
 mod laws;
 mod line;
 mod reply;

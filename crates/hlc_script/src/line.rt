@@ -11,8 +11,7 @@ use hlc_values::NoMemory;
 use hlc_world::{Bytes, Event};
 use std::alloc::Global;
 
-/// The event of a line, with its bytes still as they are spelled, or none where no event has this
-/// line.
+/// Returns the event of a line, with its bytes still in their spelling, or none where no event has this line.
 #[inline(always)]
 pub fn read_line(line: &[u8]) -> Option<Event<Spelled<'_>>>
     ensures { Reads event_line HasLine line.now result }
@@ -21,7 +20,7 @@ pub fn read_line(line: &[u8]) -> Option<Event<Spelled<'_>>>
     event_of_words(&mut words)
 }
 
-/// The event with its key and its value in memory of their own. Other events take no memory.
+/// Returns the event with copies of its key and its value. Other events take no memory.
 pub fn owned_event(alloc: Global, event: Event<Spelled<'_>>) -> Result<Event, NoMemory>
     ensures ok { IfOk result (λ owned. owned ≡ event.entry) }
     ensures err { OnErr result (BearsBytes event.entry) }
@@ -67,7 +66,7 @@ pub fn owned_event(alloc: Global, event: Event<Spelled<'_>>) -> Result<Event, No
     }
 }
 
-/// The write with its key and its value in memory of their own.
+/// Returns the write with copies of its key and its value.
 fn owned_write(
     alloc: Global,
     node: u16,
@@ -85,7 +84,7 @@ fn owned_write(
     })
 }
 
-/// The bytes by themselves. Up to 22 bytes that are their own spelling take no memory.
+/// Returns a copy of the bytes. Up to 22 bytes that are their own spelling take no memory.
 #[inline(always)]
 pub(crate) fn owned(alloc: Global, spelled: &Spelled<'_>) -> Result<Bytes, NoMemory>
     ensures { IfOk result (λ owned. owned ≡ spelled.now) }
@@ -96,7 +95,7 @@ pub(crate) fn owned(alloc: Global, spelled: &Spelled<'_>) -> Result<Bytes, NoMem
     }
 }
 
-/// The event of the words.
+/// Returns the event of the words, or none.
 fn event_of_words<'a>(words: &mut LineWords<'a>) -> Option<Event<Spelled<'a>>>
     ensures { Reads event_words HasLine words.old result }
 {
@@ -131,7 +130,7 @@ fn event_of_words<'a>(words: &mut LineWords<'a>) -> Option<Event<Spelled<'a>>>
     store_event(verb, words)
 }
 
-/// The event of a verb that is none of those of nodes, and of the words after it.
+/// Returns the event of a verb that is not a verb of nodes, and of the words after it.
 fn store_event<'a>(verb: &[u8], words: &mut LineWords<'a>) -> Option<Event<Spelled<'a>>>
     requires no_node { (verb.now ≢ codes "write") × (verb.now ≢ codes "delete")
         × (verb.now ≢ codes "report") × (verb.now ≢ codes "retire") × (verb.now ≢ codes "join")
@@ -163,9 +162,9 @@ fn store_event<'a>(verb: &[u8], words: &mut LineWords<'a>) -> Option<Event<Spell
     None
 }
 
-// The event of each verb, of the words after it.
+// The event of each verb, from the words after it.
 
-/// A write: its node, reading, key and value.
+/// Returns a write: its node, reading, key and value.
 fn write<'a>(words: &mut LineWords<'a>) -> Option<Event<Spelled<'a>>>
     ensures { Reads event_words HasLine (codes "write" ∷ words.old) result }
 {
@@ -180,7 +179,7 @@ fn write<'a>(words: &mut LineWords<'a>) -> Option<Event<Spelled<'a>>>
     })
 }
 
-/// A deletion: its node, reading and key.
+/// Returns a deletion: its node, reading and key.
 fn delete<'a>(words: &mut LineWords<'a>) -> Option<Event<Spelled<'a>>>
     ensures { Reads event_words HasLine (codes "delete" ∷ words.old) result }
 {
@@ -193,7 +192,7 @@ fn delete<'a>(words: &mut LineWords<'a>) -> Option<Event<Spelled<'a>>>
     })
 }
 
-/// A report: its node and reading.
+/// Returns a report: its node and reading.
 fn report<'a>(words: &mut LineWords<'a>) -> Option<Event<Spelled<'a>>>
     ensures { Reads event_words HasLine (codes "report" ∷ words.old) result }
 {
@@ -201,7 +200,7 @@ fn report<'a>(words: &mut LineWords<'a>) -> Option<Event<Spelled<'a>>>
     Some(Event::Report { node, reading })
 }
 
-/// A retirement: its node and reading.
+/// Returns a retirement: its node and reading.
 fn retire<'a>(words: &mut LineWords<'a>) -> Option<Event<Spelled<'a>>>
     ensures { Reads event_words HasLine (codes "retire" ∷ words.old) result }
 {
@@ -209,7 +208,7 @@ fn retire<'a>(words: &mut LineWords<'a>) -> Option<Event<Spelled<'a>>>
     Some(Event::Retire { node, reading })
 }
 
-/// A join.
+/// Returns a join.
 fn join<'a>(words: &mut LineWords<'a>) -> Option<Event<Spelled<'a>>>
     ensures { Reads event_words HasLine (codes "join" ∷ words.old) result }
 {
@@ -217,7 +216,7 @@ fn join<'a>(words: &mut LineWords<'a>) -> Option<Event<Spelled<'a>>>
     Some(Event::Join)
 }
 
-/// A message sent: its node and reading.
+/// Returns the sending of a message: its node and reading.
 fn send<'a>(words: &mut LineWords<'a>) -> Option<Event<Spelled<'a>>>
     ensures { Reads event_words HasLine (codes "send" ∷ words.old) result }
 {
@@ -225,7 +224,7 @@ fn send<'a>(words: &mut LineWords<'a>) -> Option<Event<Spelled<'a>>>
     Some(Event::Send { node, reading })
 }
 
-/// A message received: its node, reading and the number of the message.
+/// Returns the receipt of a message: its node, reading and the number of the message.
 fn receive<'a>(words: &mut LineWords<'a>) -> Option<Event<Spelled<'a>>>
     ensures { Reads event_words HasLine (codes "receive" ∷ words.old) result }
 {
@@ -237,7 +236,7 @@ fn receive<'a>(words: &mut LineWords<'a>) -> Option<Event<Spelled<'a>>>
     })
 }
 
-/// A snapshot observed: its node, reading and id.
+/// Returns the observation of a snapshot: its node, reading and id.
 fn observe<'a>(words: &mut LineWords<'a>) -> Option<Event<Spelled<'a>>>
     ensures { Reads event_words HasLine (codes "observe" ∷ words.old) result }
 {
@@ -245,7 +244,7 @@ fn observe<'a>(words: &mut LineWords<'a>) -> Option<Event<Spelled<'a>>>
     Some(Event::Observe { node, reading, id })
 }
 
-/// A delivery: the node and number of an item.
+/// Returns a delivery: the node and number of an item.
 fn deliver<'a>(words: &mut LineWords<'a>) -> Option<Event<Spelled<'a>>>
     ensures { Reads event_words HasLine (codes "deliver" ∷ words.old) result }
 {
@@ -253,7 +252,7 @@ fn deliver<'a>(words: &mut LineWords<'a>) -> Option<Event<Spelled<'a>>>
     Some(Event::Deliver { node, number })
 }
 
-/// The opening of a snapshot, at the floor or at a stamp.
+/// Returns the opening of a snapshot, at the floor or at a stamp.
 fn open<'a>(words: &mut LineWords<'a>) -> Option<Event<Spelled<'a>>>
     ensures { Reads event_words HasLine (codes "open" ∷ words.old) result }
 {
@@ -265,7 +264,7 @@ fn open<'a>(words: &mut LineWords<'a>) -> Option<Event<Spelled<'a>>>
     Some(Event::OpenAt { stamp })
 }
 
-/// A read: its snapshot and key.
+/// Returns a read: its snapshot and key.
 fn read<'a>(words: &mut LineWords<'a>) -> Option<Event<Spelled<'a>>>
     ensures { Reads event_words HasLine (codes "read" ∷ words.old) result }
 {
@@ -277,7 +276,7 @@ fn read<'a>(words: &mut LineWords<'a>) -> Option<Event<Spelled<'a>>>
     })
 }
 
-/// A listing: its snapshot.
+/// Returns a listing: its snapshot.
 fn list<'a>(words: &mut LineWords<'a>) -> Option<Event<Spelled<'a>>>
     ensures { Reads event_words HasLine (codes "list" ∷ words.old) result }
 {
@@ -285,7 +284,7 @@ fn list<'a>(words: &mut LineWords<'a>) -> Option<Event<Spelled<'a>>>
     Some(Event::List { id })
 }
 
-/// The closing of a snapshot.
+/// Returns the closing of a snapshot.
 fn close<'a>(words: &mut LineWords<'a>) -> Option<Event<Spelled<'a>>>
     ensures { Reads event_words HasLine (codes "close" ∷ words.old) result }
 {
@@ -293,7 +292,7 @@ fn close<'a>(words: &mut LineWords<'a>) -> Option<Event<Spelled<'a>>>
     Some(Event::Close { id })
 }
 
-/// A question for the floor.
+/// Returns a question for the floor.
 fn floor<'a>(words: &mut LineWords<'a>) -> Option<Event<Spelled<'a>>>
     ensures { Reads event_words HasLine (codes "floor" ∷ words.old) result }
 {
@@ -301,7 +300,7 @@ fn floor<'a>(words: &mut LineWords<'a>) -> Option<Event<Spelled<'a>>>
     Some(Event::Floor)
 }
 
-/// A vacuum.
+/// Returns a vacuum.
 fn vacuum<'a>(words: &mut LineWords<'a>) -> Option<Event<Spelled<'a>>>
     ensures { Reads event_words HasLine (codes "vacuum" ∷ words.old) result }
 {
@@ -309,7 +308,7 @@ fn vacuum<'a>(words: &mut LineWords<'a>) -> Option<Event<Spelled<'a>>>
     Some(Event::Vacuum)
 }
 
-/// A question for the number of stored rows.
+/// Returns a question for the number of stored rows.
 fn rows<'a>(words: &mut LineWords<'a>) -> Option<Event<Spelled<'a>>>
     ensures { Reads event_words HasLine (codes "rows" ∷ words.old) result }
 {
@@ -317,9 +316,9 @@ fn rows<'a>(words: &mut LineWords<'a>) -> Option<Event<Spelled<'a>>>
     Some(Event::Rows)
 }
 
-// What several verbs are followed by.
+// The words that follow several verbs.
 
-/// Nothing.
+/// Checks that no word is left.
 fn no_more(words: &mut LineWords<'_>) -> Option<()>
     ensures { MatchOption result (words.old ≢ []) (λ _. words.old ≡ []) }
 {
@@ -329,7 +328,7 @@ fn no_more(words: &mut LineWords<'_>) -> Option<()>
     }
 }
 
-/// A number.
+/// Returns a number, if nothing comes after it.
 fn one_number(words: &mut LineWords<'_>) -> Option<u64>
     ensures { Reads (λ x. decimal x ∷ []) (λ x. x < 2 ^ 64) words.old result }
 {
@@ -338,7 +337,7 @@ fn one_number(words: &mut LineWords<'_>) -> Option<u64>
     Some(id)
 }
 
-/// A node and a number, whatever comes after them.
+/// Returns a node and a number, whatever comes after them.
 #[inline(always)]
 fn front_numbers(words: &mut LineWords<'_>) -> Option<(u16, u64)>
     ensures { MatchOption result
@@ -352,7 +351,7 @@ fn front_numbers(words: &mut LineWords<'_>) -> Option<(u16, u64)>
     Some((node, number))
 }
 
-/// A node and a number.
+/// Returns a node and a number, if nothing comes after them.
 fn node_number(words: &mut LineWords<'_>) -> Option<(u16, u64)>
     ensures { MatchOption result
         ((m n : ℕ) → m < 2 ^ 16 → n < 2 ^ 64 → words.old ≢ decimal m ∷ decimal n ∷ [])
@@ -363,7 +362,7 @@ fn node_number(words: &mut LineWords<'_>) -> Option<(u16, u64)>
     Some((first, second))
 }
 
-/// A node and two numbers.
+/// Returns a node and two numbers, if nothing comes after them.
 fn node_two_numbers(words: &mut LineWords<'_>) -> Option<(u16, u64, u64)>
     ensures { MatchOption result
         ((m n k : ℕ) → m < 2 ^ 16 → n < 2 ^ 64 → k < 2 ^ 64

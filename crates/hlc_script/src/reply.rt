@@ -13,8 +13,7 @@ use hlc_text::printer::Printer;
 use hlc_world::{Pair, Refusal, Reply, Report};
 use std::io::Write;
 
-/// Prints the lines of a reply: one, and behind that of a listing one for each pair, behind that of
-/// a vacuum one for each change.
+/// Prints the lines of a reply: one line, then for a listing one for each pair, and for a vacuum one for each change.
 #[inline(always)]
 pub fn put_reply<W: Write>(printer: &mut Printer<'_, W>, reply: Reply)
     ensures { Prints W.contents printer.old printer.new (reply_text reply) }
@@ -23,7 +22,7 @@ pub fn put_reply<W: Write>(printer: &mut Printer<'_, W>, reply: Reply)
     put_more(printer, &reply);
 }
 
-/// Prints the lines behind the first one of a reply.
+/// Prints the lines after the first one of a reply.
 fn put_more<W: Write>(printer: &mut Printer<'_, W>, reply: &Reply)
     ensures { Prints W.contents printer.old printer.new (flat_map printed (more_lines reply.now)) }
 {
@@ -106,7 +105,7 @@ fn put_report<W: Write>(printer: &mut Printer<'_, W>, report: &Report)
     printer.put_named_count(b" bytes ", report.bytes);
 }
 
-/// Prints the line of a key's value, or that of none.
+/// Prints the line of a key's value, or the line for none.
 pub(crate) fn put_value_line<W: Write>(printer: &mut Printer<'_, W>, value: Option<&[u8]>)
     ensures { Prints W.contents printer.old printer.new
         (reply_text (Reply.Answer (option_copied value.entry))) }
@@ -125,7 +124,7 @@ fn put_value<W: Write>(printer: &mut Printer<'_, W>, value: &[u8])
     printer.put(b"\n");
 }
 
-/// Prints the text of a refusal: its number, and what the table of refusals adds.
+/// Prints the text of a refusal: its number, and what the table of refusals adds to it.
 pub fn put_refusal<W: Write>(printer: &mut Printer<'_, W>, refusal: Refusal)
     ensures { Prints W.contents printer.old printer.new (refusal_line refusal) }
 {

@@ -1,7 +1,5 @@
-//! A whole run: the bytes of a script in, the bytes of its replies out.
+//! A whole run: reads the bytes of a script, and writes the bytes of its replies.
 ghost use Rattle.std.specs.Prelude.{◌≡◌, ◌≢◌, ◌≤◌, ◌↔◌, ◌∷◌, [], ℕ, List, MatchOption, false, true, length};
-ghost use Rattle.std.proofs.Common.{rules};
-ghost use Rattle.std.proofs.lemmas.Grind.{common_steps};
 ghost use Rattle.hlc_text.specs.declared.input.TheConstants.{INPUT_LIMIT};
 ghost use Rattle.hlc_text.specs.Text.{Reads, printed};
 ghost use Rattle.hlc_text.specs.Lines.{lines_of, bad_line};
@@ -9,10 +7,10 @@ ghost use Rattle.hlc_text.specs.Watched.{has_failed};
 ghost use Rattle.hlc_text.specs.Printing.{Prints};
 ghost use Rattle.hlc_world.specs.Schedule.{Event as AnEvent};
 ghost use Rattle.hlc_world.specs.declared.reply.Reply.{Reply as AReply};
-ghost use Rattle.hlc_world.specs.State.{StandsFor, world_nodes};
+ghost use Rattle.hlc_world.specs.WorldView.{Represents, world_nodes};
 ghost use Rattle.hlc_script.specs.Line.{header_line, header_words, HasHeader};
 ghost use Rattle.hlc_script.specs.Reply.{reply_text};
-ghost use Rattle.hlc_script.specs.Run.{Answers, AnswersLine, MayWrite, IsOfHeld, ReadsScript, RunsScript, status_of};
+ghost use Rattle.hlc_script.specs.Run.{Answers, AnswersLine, MayWrite, IsOfLoaded, ReadsScript, RunsScript, status_of};
 
 use crate::line::{owned, owned_event, read_line};
 use crate::reply::{put_reply, put_value_line};
@@ -22,7 +20,6 @@ use hlc_text::number;
 use hlc_text::printer::Printer;
 use hlc_text::watched::Watched;
 use hlc_text::words::LineWords;
-use hlc_values::Exact;
 use hlc_world::{Event, Refusal, Reply, World};
 use std::alloc::Global;
 use std::io::{Read, Write};
@@ -30,29 +27,23 @@ use std::io::{Read, Write};
 /// How a run ended.
 #[derive(Clone, Copy, Debug, PartialEq, Eq)]
 pub enum RunEnd {
-    /// Every line was answered, refused events among them.
+    /// Every line was answered, including refused events.
     Answered,
-    /// The line of this number is no event's. The first line has number 1.
+    /// The line of this number is not the line of an event. The first line has number 1.
     BadLine(u64),
     /// There is no first line, or it is not `nodes N` with N from 1 to 64.
     BadHeader,
-    /// The first line is a header, and the world could not be made.
+    /// The first line is a header, but it ran out of memory for the world.
     NoMemory,
-    /// The input could not be held.
-    NotHeld(InputFault),
+    /// The input could not be loaded.
+    NotLoaded(InputFault),
     /// A write failed.
     WriteFault,
 }
 
-impl Exact for RunEnd {
-    ghost equal = { Prim.search (rules, common_steps) };
-
-    ghost copied = { Prim.search rules };
-}
-
 impl RunEnd {
-    /// The exit status of the program: 0 where every line was answered, 3 where a write failed,
-    /// else 2.
+    /// Returns the exit status of the program: 0 where every line was answered, 3 where a write failed, and 2
+    /// otherwise.
     pub fn status(self) -> u8
         ensures { result ≡ status_of self }
     {
@@ -64,10 +55,10 @@ impl RunEnd {
     }
 }
 
-/// Reads a whole script, and then writes the reply to each of its lines.
+/// Reads a whole script, writes the reply to each of its lines, and returns how the run ended.
 ///
-/// All is written before it returns, in blocks of 4 KiB or more but for the last. Where a write
-/// failed, a beginning of the replies was written.
+/// All is written before it returns, in blocks of 8 KiB or more except for the last one. Where a write failed, a
+/// beginning of the replies was written.
 pub fn run_script<R: Read, W: Write>(
     alloc: Global,
     reader: &mut Watched<R>,
@@ -95,24 +86,23 @@ fn read_and_answer<R: Read, W: Write>(
     requires { has_failed reader.old ≡ false }
     ensures written { ReadsScript R.remaining W.contents reader.old reader.new
         printer.old printer.new result }
-    ensures read_fault { (result ≡ RunEnd.NotHeld InputFault.ReadFault)
+    ensures read_fault { (result ≡ RunEnd.NotLoaded InputFault.ReadFault)
         ↔ (has_failed reader.new ≡ true) }
 {
     match read_input(alloc, reader) {
         Ok(input) => answer_input(alloc, input.as_slice(), printer),
         Err(fault) => {
             put_fault(printer, fault);
-            RunEnd::NotHeld(fault)
+            RunEnd::NotLoaded(fault)
         }
     }
 }
 
-/// Answers an input that is held, as `run_script` does once it has read one. It prints, and leaves
-/// `finish` to the caller.
-/// Memory is asked for only behind a header, so a first line that is none is refused as such.
+/// Answers an input that is in memory, as `run_script` does once it has read one. It prints, and leaves `finish` to the
+/// caller. It needs memory only after a header, so a first line that is no header is refused as such.
 pub fn answer_input<W: Write>(alloc: Global, input: &[u8], printer: &mut Printer<'_, W>) -> RunEnd
     requires { length input.now ≤ INPUT_LIMIT }
-    ensures held { IsOfHeld result }
+    ensures loaded { IsOfLoaded result }
     ensures written { (output : List ℕ) × MayWrite input.now output result
         × Prints W.contents printer.old printer.new output }
 {
@@ -133,7 +123,7 @@ pub fn answer_input<W: Write>(alloc: Global, input: &[u8], printer: &mut Printer
     }
 }
 
-/// The nodes of the header, and the text behind it, or none where the first line is no header.
+/// Returns the number of nodes in the header, and the text after it, or none where the first line is no header.
 fn split_header(input: &[u8]) -> Option<(u16, &[u8])>
     ensures { MatchOption result
         ((nodes : ℕ) (lines : List (List ℕ)) → HasHeader nodes
@@ -150,7 +140,7 @@ fn split_header(input: &[u8]) -> Option<(u16, &[u8])>
     Some((nodes, rest))
 }
 
-/// The nodes of a header, or none where the line is no header.
+/// Returns the number of nodes in a header, or none where the line is no header.
 fn read_header(line: &[u8]) -> Option<u16>
     ensures { Reads header_line HasHeader line.now result }
 {
@@ -176,8 +166,8 @@ fn put_header<W: Write>(printer: &mut Printer<'_, W>, nodes: u16)
     printer.put(b"\n");
 }
 
-/// Answers the lines behind the header, and gives the number of the first bad line, if there is
-/// one. The lines behind that are not looked at.
+/// Answers the lines after the header, and returns the number of the first bad line, if there is one. The lines after a
+/// bad line are not read.
 fn answer_lines<W: Write>(
     alloc: Global,
     world: &mut World,
@@ -185,7 +175,7 @@ fn answer_lines<W: Write>(
     printer: &mut Printer<'_, W>,
 ) -> Option<u64>
     requires fits { length text.now ≤ INPUT_LIMIT }
-    requires fresh { StandsFor world.old [] }
+    requires fresh { Represents world.old [] }
     ensures { (output : List ℕ)
         × Answers (world_nodes world.old) [] 2 (lines_of text.now) output result
         × Prints W.contents printer.old printer.new output }
@@ -205,7 +195,7 @@ fn answer_lines<W: Write>(
     None
 }
 
-/// Prints the answer to a good line. The events that bear no bytes go to the world at once.
+/// Prints the answer to a good line. Events that have no bytes are passed to the world directly.
 #[inline(always)]
 fn answer_line<W: Write>(
     alloc: Global,
@@ -215,10 +205,10 @@ fn answer_line<W: Write>(
 )
     ensures nodes { world_nodes world.new ≡ world_nodes world.old }
     ensures answers { (reply : AReply)
-        × ((schedule : List (AnEvent × AReply)) → StandsFor world.old schedule
+        × ((schedule : List (AnEvent × AReply)) → Represents world.old schedule
         → (after : List (AnEvent × AReply))
         × AnswersLine (world_nodes world.old) schedule event.entry reply after
-        × StandsFor world.new after)
+        × Represents world.new after)
         × Prints W.contents printer.old printer.new (reply_text reply) }
 {
     match &event {
@@ -246,7 +236,7 @@ fn answer_line<W: Write>(
     }
 }
 
-/// The answer to a write: what the world replies to it, or want of memory where there was none for its bytes.
+/// Returns the answer to a write: the reply of the world, or out of memory where there is none for its bytes.
 #[inline(always)]
 fn reply_to_write(
     alloc: Global,
@@ -257,11 +247,11 @@ fn reply_to_write(
     value: &Spelled<'_>,
 ) -> Reply
     ensures nodes { world_nodes world.new ≡ world_nodes world.old }
-    ensures answers { (schedule : List (AnEvent × AReply)) → StandsFor world.old schedule
+    ensures answers { (schedule : List (AnEvent × AReply)) → Represents world.old schedule
         → (after : List (AnEvent × AReply))
         × AnswersLine (world_nodes world.old) schedule (Event.Write node reading key.now value.now)
         result after
-        × StandsFor world.new after }
+        × Represents world.new after }
 {
     let Ok(key) = owned(alloc, key) else {
         return Reply::Refused(Refusal::NoMemory);
@@ -272,8 +262,8 @@ fn reply_to_write(
     world.write(node, reading, key, value)
 }
 
-/// Prints the answer to a good line, whatever its event. A key that is read is looked up where it stands in the line,
-/// if it can be, and its value is printed from where it is stored.
+/// Prints the answer to a good line, whatever its event. The key of a read is looked up as a part of the line, if
+/// possible, and its value is printed without a copy.
 fn answer_other<W: Write>(
     alloc: Global,
     world: &mut World,
@@ -282,10 +272,10 @@ fn answer_other<W: Write>(
 )
     ensures nodes { world_nodes world.new ≡ world_nodes world.old }
     ensures answers { (reply : AReply)
-        × ((schedule : List (AnEvent × AReply)) → StandsFor world.old schedule
+        × ((schedule : List (AnEvent × AReply)) → Represents world.old schedule
         → (after : List (AnEvent × AReply))
         × AnswersLine (world_nodes world.old) schedule event.entry reply after
-        × StandsFor world.new after)
+        × Represents world.new after)
         × Prints W.contents printer.old printer.new (reply_text reply) }
 {
     if let Event::Write {
@@ -312,8 +302,8 @@ fn answer_other<W: Write>(
 /// Prints the answer to a read.
 fn answer_read<W: Write>(world: &World, id: u64, key: &[u8], printer: &mut Printer<'_, W>)
     ensures { (reply : AReply)
-        × ((schedule : List (AnEvent × AReply)) → StandsFor world.now schedule
-        → StandsFor world.now ((Event.Read id key.now, reply) ∷ schedule))
+        × ((schedule : List (AnEvent × AReply)) → Represents world.now schedule
+        → Represents world.now ((Event.Read id key.now, reply) ∷ schedule))
         × Prints W.contents printer.old printer.new (reply_text reply) }
 {
     match world.look(id, key) {
@@ -322,15 +312,15 @@ fn answer_read<W: Write>(world: &World, id: u64, key: &[u8], printer: &mut Print
     }
 }
 
-/// The answer to a good line: what the world replies to its event, or want of memory where there
-/// was none for the event's bytes.
+/// Returns the answer to a good line: the reply of the world to its event, or out of memory where there is none for the
+/// event's bytes.
 #[inline(always)]
 fn reply_to(alloc: Global, world: &mut World, event: Event<Spelled<'_>>) -> Reply
     ensures nodes { world_nodes world.new ≡ world_nodes world.old }
-    ensures answers { (schedule : List (AnEvent × AReply)) → StandsFor world.old schedule
+    ensures answers { (schedule : List (AnEvent × AReply)) → Represents world.old schedule
         → (after : List (AnEvent × AReply))
         × AnswersLine (world_nodes world.old) schedule event.entry result after
-        × StandsFor world.new after }
+        × Represents world.new after }
 {
     match owned_event(alloc, event) {
         Ok(event) => world.step(event),

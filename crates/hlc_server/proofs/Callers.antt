@@ -1,4 +1,4 @@
--- The receipts of each caller are the trail's calls of that caller, in order: both lists rise by number and hold the
+-- The receipts of each caller are the trail's calls of that caller, in order: both lists rise by number and have the
 -- same receipts.
 use Rattle.std.proofs.Common.{◌≡◌, ℕ, suc, zero, ◌+◌, ◌<◌, ◌≤◌, ◌⊎◌, inl, inr, ⊎_elim, List, [], ◌∷◌, length, Bool}
 use Rattle.std.proofs.Common.{true, false}
@@ -9,9 +9,9 @@ use Rattle.std.proofs.lemmas.Bool.{false≢true}
 use Rattle.hlc_server.specs.declared.entry.Entry.{Entry}
 use Rattle.hlc_server.specs.declared.entry.Receipt.{Receipt}
 use Rattle.hlc_server.specs.Trails.{entry}
-use Rattle.hlc_server.specs.Settling.{Claim, key_of, IsBelow, StandsIn, AreGood, IsSettled, receipt_of, receipts_from}
-use Rattle.hlc_server.specs.Settling.{of_caller, receipts_in, EachIsTold}
-use Rattle.hlc_server.proofs.Settlings.{all_told}
+use Rattle.hlc_server.specs.Settling.{Claim, key_of, IsBelow, IsInTrail, AreGood, IsSettled, receipt_of, receipts_from}
+use Rattle.hlc_server.specs.Settling.{of_caller, receipts_in, EachIsClaimed}
+use Rattle.hlc_server.proofs.Settlings.{all_claimed}
 
 -- the numbers rise strictly, from n on
 Above : ℕ → List Receipt → Type 0
@@ -34,7 +34,7 @@ in_above n r [] h i = absurd i
 in_above n r (x ∷ xs) h (inl e) = omega (arith, h.0, ap (λ (y : Receipt). y.number) e)
 in_above n r (x ∷ xs) h (inr i) = omega (arith, h.0, in_above (x.number + 1) r xs h.1 i)
 
--- two rising lists with the same receipts are one
+-- two rising lists with the same receipts are equal
 same_rising : (n : ℕ) (xs ys : List Receipt) → Above n xs → Above n ys → ((r : Receipt) → In r xs → In r ys)
     → ((r : Receipt) → In r ys → In r xs) → xs ≡ ys
 unfolding Above In
@@ -125,40 +125,40 @@ of_caller_in k r (x ∷ xs) =
     (λ j. let p = of_caller_in k r xs j in (p.0, inr p.1)) i)
     (λ away i. let p = of_caller_in k r xs i in (p.0, inr p.1))
 
--- a receipt that stands in the trail is one of those due for it
-due_of : (n m : ℕ) (es : List Entry) (r : Receipt) → slice_get es m ≡ Some (entry r.caller r.event r.reply)
+-- a receipt that is in the trail is one of those expected for it
+expected_of : (n m : ℕ) (es : List Entry) (r : Receipt) → slice_get es m ≡ Some (entry r.caller r.event r.reply)
     → r.number ≡ n + m
     → In r (receipts_from n es)
 unfolding In
-due_of n m [] r at is = absurd (cc)
-due_of n zero (e ∷ es) r at is =
+expected_of n m [] r at is = absurd (cc)
+expected_of n zero (e ∷ es) r at is =
     inl (let same : e ≡ entry r.caller r.event r.reply = cc in
     let num : r.number ≡ n = omega (arith, is) in
     sym (ap (λ (x : Entry). receipt_of n x) same
     ∙ ap (λ (k : ℕ). receipt_of k (entry r.caller r.event r.reply)) (sym num)))
-due_of n (suc m) (e ∷ es) r at is = inr (due_of (n + 1) m es r at (omega (arith, is)))
+expected_of n (suc m) (e ∷ es) r at is = inr (expected_of (n + 1) m es r at (omega (arith, is)))
 
--- and the other way round
-stands_of : (n : ℕ) (es : List Entry) (r : Receipt) → In r (receipts_from n es)
+-- and the other way around
+is_in_trail_of : (n : ℕ) (es : List Entry) (r : Receipt) → In r (receipts_from n es)
     → (m : ℕ) × (r.number ≡ n + m) × (m < length es) × (slice_get es m ≡ Some (entry r.caller r.event r.reply))
 unfolding In
-stands_of n [] r i = absurd i
-stands_of n (e ∷ es) r (inl same) = (
+is_in_trail_of n [] r i = absurd i
+is_in_trail_of n (e ∷ es) r (inl same) = (
   0,
   (let q = ap (λ (x : Receipt). x.number) same in omega (arith, q)),
   omega arith,
   ap (λ (x : Receipt). Some (entry x.caller x.event x.reply)) (sym same),
 )
-stands_of n (e ∷ es) r (inr i) = let p = stands_of (n + 1) es r i in
+is_in_trail_of n (e ∷ es) r (inr i) = let p = is_in_trail_of (n + 1) es r i in
     (suc p.0, omega (arith, p.1), omega (arith, p.2), p.3)
 
-good_stands : (t : List Entry) (b : Option (ℕ × ℕ)) (cs : List Claim) (r : Receipt) → AreGood t b cs
+good_is_in_trail : (t : List Entry) (b : Option (ℕ × ℕ)) (cs : List Claim) (r : Receipt) → AreGood t b cs
     → In r (receipts_in cs)
-    → StandsIn t r
+    → IsInTrail t r
 unfolding In
-good_stands t b [] r g i = absurd i
-good_stands t b (c ∷ cs) r g (inl e) = subst (λ (x : Receipt). StandsIn t x) (sym e) g.0.0
-good_stands t b (c ∷ cs) r g (inr i) = good_stands t (Some (key_of c.receipt)) cs r g.1 i
+good_is_in_trail t b [] r g i = absurd i
+good_is_in_trail t b (c ∷ cs) r g (inl e) = subst (λ (x : Receipt). IsInTrail t x) (sym e) g.0.0
+good_is_in_trail t b (c ∷ cs) r g (inr i) = good_is_in_trail t (Some (key_of c.receipt)) cs r g.1 i
 
 in_at : (cs : List Claim) (i : ℕ) (c : Claim) → slice_get cs i ≡ Some c → In c.receipt (receipts_in cs)
 unfolding In
@@ -166,25 +166,26 @@ in_at [] i c at = absurd (cc)
 in_at (x ∷ cs) zero c at = inl (let same : x ≡ c = cc in ap (λ (y : Claim). y.receipt) (sym same))
 in_at (x ∷ cs) (suc i) c at = inr (in_at cs i c at)
 
--- two receipts of one number that stand in the trail are one
-one_standing : (t : List Entry) (r s : Receipt) → StandsIn t r → StandsIn t s → r.number ≡ s.number → r ≡ s
-one_standing t r s a b is =
+-- two receipts of one number that are in the trail are equal
+one_in_trail : (t : List Entry) (r s : Receipt) → IsInTrail t r → IsInTrail t s → r.number ≡ s.number → r ≡ s
+one_in_trail t r s a b is =
     let same : entry r.caller r.event r.reply ≡ entry s.caller s.event s.reply = cc (sym a ∙ ap (slice_get t) is ∙ b) in
     ap (λ (k : ℕ). receipt_of k (entry r.caller r.event r.reply)) is ∙ ap (receipt_of s.number) same
 
-pub each_is_told : (t : List Entry) (cs : List Claim) → IsSettled t cs → EachIsTold t cs
-each_is_told t cs s k =
+pub each_is_claimed : (t : List Entry) (cs : List Claim) → IsSettled t cs → EachIsClaimed t cs
+each_is_claimed t cs s k =
     same_rising 0 (of_caller k (receipts_in cs)) (of_caller k (receipts_from 0 t))
     (good_above t k None cs s.0 0 (λ j h. omega arith)) (entries_above k 0 t)
     (λ r i. let p = of_caller_in k r (receipts_in cs) i in in_of_caller k r (receipts_from 0 t) p.0
-    (due_of 0 r.number t r (good_stands t None cs r s.0 p.1) (omega arith)))
+    (expected_of 0 r.number t r (good_is_in_trail t None cs r s.0 p.1) (omega arith)))
     (λ r i.
     let p = of_caller_in k r (receipts_from 0 t) i in
-    let q = stands_of 0 t r p.1 in
+    let q = is_in_trail_of 0 t r p.1 in
     let num : r.number ≡ q.0 = omega (arith, q.1) in
-    let stands : StandsIn t r = ap (slice_get t) num ∙ q.3 in
-    let told = all_told t cs s r.number (omega (arith, num, q.2)) in
-    let there = in_at cs told.0 told.1 told.2 in
-    let same : told.1.receipt ≡ r =
-    one_standing t told.1.receipt r (good_stands t None cs told.1.receipt s.0 there) stands told.3 in
+    let represents : IsInTrail t r = ap (slice_get t) num ∙ q.3 in
+    let returned = all_claimed t cs s r.number (omega (arith, num, q.2)) in
+    let there = in_at cs returned.0 returned.1 returned.2 in
+    let same : returned.1.receipt ≡ r =
+    one_in_trail t returned.1.receipt r (good_is_in_trail t None cs returned.1.receipt s.0 there) represents
+    returned.3 in
     in_of_caller k r (receipts_in cs) p.0 (subst (λ (x : Receipt). In x (receipts_in cs)) same there))

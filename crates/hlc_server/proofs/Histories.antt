@@ -1,5 +1,5 @@
--- A trail with one call more is the history with that call as its last event, by induction on the trail; so one call
--- more keeps a trail legal and the core standing for it.
+-- A trail with one more call is the history with that call as its last event, by induction on the trail. So one more
+-- call keeps the trail legal, and the core still represents it.
 use Rattle.std.proofs.Common.{Bool, true, false, ◌≡◌, ℕ, ◌+◌, List, [], ◌∷◌, ◌++◌, length, Option, Some, None, refl, ap}
 use Rattle.std.proofs.Common.{sym}
 use Rattle.std.proofs.Common.{◌∙◌, subst, arith, length-append}
@@ -11,9 +11,9 @@ use Rattle.hlc_vacuum.specs.declared.report.Report.{Report}
 use Rattle.hlc_core.specs.declared.event.CoreEvent.TheVariants.{VacuumTo}
 use Rattle.hlc_core.specs.declared.reply.CoreReply.TheVariants.{Vacuumed}
 use Rattle.hlc_core.specs.Past.{vacuum_refusal}
-use Rattle.hlc_core.specs.Kept.{Kept, nodes, StandsFor}
+use Rattle.hlc_core.specs.StoreView.{StoreView, nodes, Represents}
 use Rattle.hlc_core.specs.Calls.{Vacuums}
-use Rattle.hlc_core.specs.History.{StandsForHistory, IsStep, IsDue, IsLegalHistory, past_of}
+use Rattle.hlc_core.specs.History.{RepresentsHistory, IsStep, IsExpected, IsLegalHistory, past_of}
 use Rattle.hlc_server.specs.declared.entry.Entry.{Entry}
 use Rattle.hlc_server.specs.Trails.{history_after, history_of, IsAudited, HasHistory, entry, with_entry, entries_of}
 use Rattle.hlc_server.specs.declared.trail.Trail.{Trail}
@@ -28,38 +28,39 @@ pub history_of-push : (trail : List Entry) (e : Entry)
     → history_of (trail ++ e ∷ []) ≡ (e.event, e.reply) ∷ history_of trail
 history_of-push trail e = history_after-push [] trail e
 
--- One call more keeps the trail legal, the core standing for it, and the count.
-pub audited_more : (old new : Kept) (trail trail' : Option (List Entry)) (caller : ℕ) (event : CoreEvent)
+-- One more call keeps the trail legal, the core representing it, and the count right.
+pub audited_more : (old new : StoreView) (trail trail' : Option (List Entry)) (caller : ℕ) (event : CoreEvent)
     (reply : CoreReply)
     (total total' : ℕ)
     → ForSome trail (λ t. IsAudited old t total) → trail' ≡ with_entry trail (entry caller event reply)
-    → ((history : List (CoreEvent × CoreReply)) → StandsForHistory old history → IsStep old new event history reply)
+    → ((history : List (CoreEvent × CoreReply)) → RepresentsHistory old history → IsStep old new event history reply)
     → total' ≡ total + 1 → ForSome trail' (λ t. IsAudited new t total')
-audited_more old new None trail' caller event reply total total' audited is stands more =
+audited_more old new None trail' caller event reply total total' audited is represents more =
     λ t some. absurd (let e : Some t ≡ None = sym some ∙ is in cc)
-audited_more old new (Some before) trail' caller event reply total total' audited is stands more = λ t some.
+audited_more old new (Some before) trail' caller event reply total total' audited is represents more = λ t some.
     let same : t ≡ before ++ entry caller event reply ∷ [] =
     (let both : Some t ≡ Some (before ++ entry caller event reply ∷ []) = sym some ∙ is in cc) in
     let was = audited before refl in
-    let goes = (stands (history_of before) was.stands).1 in
-    let now : StandsForHistory new (history_of t) =
-    subst (λ h. StandsForHistory new h) (sym (ap history_of same ∙ history_of-push before (entry caller event reply)))
+    let goes = (represents (history_of before) was.represents).1 in
+    let now : RepresentsHistory new (history_of t) =
+    subst (λ h. RepresentsHistory new h) (sym (ap history_of same ∙ history_of-push before (entry caller event reply)))
     goes in
     record {
       legal = now.legal;
-      stands = now;
+      represents = now;
       counted = ap length same ∙ omega (arith, length-append before (entry caller event reply ∷ []), was.counted, more);
     }
 
--- One call more, with a trail or without: the history that the core stands for has the call as its last event.
-pub history_more : (old new : Kept) (event : CoreEvent) (reply : CoreReply) (total total' : ℕ) → HasHistory old total
-    → ((history : List (CoreEvent × CoreReply)) → StandsForHistory old history → IsStep old new event history reply)
+-- One more call, with a trail or without: the history that the core represents has the call as its last event.
+pub history_more : (old new : StoreView) (event : CoreEvent) (reply : CoreReply) (total total' : ℕ)
+    → HasHistory old total
+    → ((history : List (CoreEvent × CoreReply)) → RepresentsHistory old history → IsStep old new event history reply)
     → total' ≡ total + 1 → HasHistory new total'
-history_more old new event reply total total' had stands more =
+history_more old new event reply total total' had represents more =
     let n = had.counted in
     record {
       history = (event, reply) ∷ had.history;
-      stands = (stands had.history had.stands).1;
+      represents = (represents had.history had.represents).1;
       counted = omega (arith, n, more);
     }
 
@@ -67,27 +68,28 @@ cond-empty : (audit : Bool) (t : List Entry) → Some t ≡ (if audit then Some 
 cond-empty true t are = cc
 cond-empty false t are = absurd (cc)
 
--- a new core stands for the empty trail
-pub audited_first : (core : Kept) (audit : Bool) (trail : Option Trail) (total : ℕ) → StandsFor core []
+-- a new core represents the empty trail
+pub audited_first : (core : StoreView) (audit : Bool) (trail : Option Trail) (total : ℕ) → Represents core []
     → entries_of trail ≡ (if audit then Some [] else None) → total ≡ 0
     → ForSome (entries_of trail) (λ t. IsAudited core t total)
-audited_first core audit trail total stands is none = λ t some. first t (sym some ∙ is)
+audited_first core audit trail total represents is none = λ t some. first t (sym some ∙ is)
   where
     first : (t : List Entry) → Some t ≡ (if audit then Some [] else None) → IsAudited core t total
     first t are =
         let empty : t ≡ [] = cond-empty audit t are in
         subst (λ l. IsAudited core l total) (sym empty)
-        (record { legal = tt; stands = record { legal = tt; core = stands }; counted = sym none })
+        (record { legal = tt; represents = record { legal = tt; core = represents }; counted = sym none })
 
--- A vacuum to a stamp is a step of each history that the core stood for.
-pub vacuum_is_step : (old new : Kept) (at : ℕ) (history : List (CoreEvent × CoreReply)) (report : Report)
-    → nodes new ≡ nodes old → StandsForHistory old history → vacuum_refusal (nodes old) (past_of history) at ≡ None
+-- A vacuum to a stamp is a step of each history that the core represented.
+pub vacuum_is_step : (old new : StoreView) (at : ℕ) (history : List (CoreEvent × CoreReply)) (report : Report)
+    → nodes new ≡ nodes old → RepresentsHistory old history → vacuum_refusal (nodes old) (past_of history) at ≡ None
     → Vacuums old new at (past_of history) report → IsStep old new (VacuumTo at) history (Vacuumed report)
-vacuum_is_step old new at history report same stands none made = (
-  (none, made.due),
+vacuum_is_step old new at history report same represents none made = (
+  (none, made.expected),
   record {
-    legal = subst (λ n. IsDue n (past_of history) (VacuumTo at) (Vacuumed report) × IsLegalHistory n history) (sym same)
-        ((none, made.due), stands.legal);
-    core = made.stands;
+    legal = subst (λ n. IsExpected n (past_of history) (VacuumTo at) (Vacuumed report) × IsLegalHistory n history)
+        (sym same)
+        ((none, made.expected), represents.legal);
+    core = made.represents;
   },
 )

@@ -1,6 +1,5 @@
--- Good receipts, one after another, and how many there can be: their callers and numbers rise, and each stands in the
--- trail, so they are no
--- more than its entries; and where they are as many, each entry is the one of some receipt.
+-- Good receipts, one after another, and how many there can be. Their callers and numbers rise, and each is in the
+-- trail, so there are no more of them than entries; and where there are as many, each entry is that of some receipt.
 use Rattle.std.proofs.Common.{◌≡◌, ℕ, suc, zero, ◌+◌, ◌<◌, ◌≤◌, ◌⊎◌, inl, inr, ⊎_elim, List, [], ◌∷◌, ◌++◌, length, map}
 use Rattle.std.proofs.Common.{take}
 use Rattle.std.proofs.Common.{Bool, true, false, ◌&&◌, ◌||◌, not, ◌==◌, nat_lt, Option, Some, None, slice_get, refl}
@@ -14,13 +13,13 @@ use Rattle.hlc_server.specs.Trails.{entry}
 use Rattle.std.specs.declared.vec.Vec.{Vec}
 use Rattle.std.proofs.lemmas.List.{take_more, append-nil, take-append-le, take-append-drop, map-append, length-map}
 use Rattle.std.proofs.lemmas.List.{take-map}
-use Rattle.hlc_server.specs.Seats.{Seat}
+use Rattle.hlc_server.specs.Seats.{CallerView}
 use Rattle.hlc_server.specs.Settling.{Claim, claim, claims_of, IsFirstBad, key_of, IsBelow, IsGood, AreGood, IsSettled}
 use Rattle.hlc_server.specs.Settling.{last_key}
 
 -- each entry of the trail is that of a receipt
-abbrev pub AllTold : List Entry → List Claim → Type 0
-AllTold trail claims =
+abbrev pub AllClaimed : List Entry → List Claim → Type 0
+AllClaimed trail claims =
     (number : ℕ) → number < length trail
     → (i : ℕ) × (c : Claim) × (slice_get claims i ≡ Some c) × (c.receipt.number ≡ number)
 
@@ -120,7 +119,7 @@ and_false false b e = refl
 candidates : (ℕ → Bool) → Option (ℕ × ℕ) → ℕ → Entry → Bool
 candidates test b n e = test n && is_above b (e.caller, n)
 
--- good receipts are no more than the entries above the one before
+-- there are no more good receipts than entries above the one before
 good-bound : (t : List Entry) (test : ℕ → Bool) (b : Option (ℕ × ℕ)) (cs : List Claim)
     → AreGood t b cs → AllPass test cs
     → length cs ≤ counts (candidates test b) 0 t
@@ -148,21 +147,21 @@ unfolding AllPass
 all_pass [] = tt
 all_pass (c ∷ cs) = (refl, all_pass cs)
 
--- good receipts are no more than the entries
+-- there are no more good receipts than entries
 pub good-le : (t : List Entry) (b : Option (ℕ × ℕ)) (cs : List Claim) → AreGood t b cs → length cs ≤ length t
 good-le t b cs g =
     omega (arith, good-bound t (λ n. true) b cs g (all_pass cs), counts-le (candidates (λ n. true) b) 0 t)
 
-Told : ℕ → List Claim → Type 0
-Told number cs = (i : ℕ) × (c : Claim) × (slice_get cs i ≡ Some c) × (c.receipt.number ≡ number)
+Claimed : ℕ → List Claim → Type 0
+Claimed number cs = (i : ℕ) × (c : Claim) × (slice_get cs i ≡ Some c) × (c.receipt.number ≡ number)
 
-told_or_not : (number : ℕ) (cs : List Claim) → Told number cs ⊎ AllPass (λ n. not (n == number)) cs
-unfolding Told AllPass
-told_or_not number [] = inr tt
-told_or_not number (c ∷ cs) = go (c.receipt.number == number) refl (told_or_not number cs)
+claimed_or_not : (number : ℕ) (cs : List Claim) → Claimed number cs ⊎ AllPass (λ n. not (n == number)) cs
+unfolding Claimed AllPass
+claimed_or_not number [] = inr tt
+claimed_or_not number (c ∷ cs) = go (c.receipt.number == number) refl (claimed_or_not number cs)
   where
     go : (b : Bool) → (c.receipt.number == number) ≡ b
-        → (Told number cs ⊎ AllPass (λ n. not (n == number)) cs) → Told number
+        → (Claimed number cs ⊎ AllPass (λ n. not (n == number)) cs) → Claimed number
         (c ∷ cs) ⊎ AllPass (λ n. not (n == number)) (c ∷ cs)
     go true is rest = inl (0, c, refl, grind (arith, nat_tests))
     go false is (inl h) = inl (suc h.0, h.1, h.2, h.3)
@@ -173,9 +172,9 @@ place_of [] m lt = absurd (omega arith)
 place_of (e ∷ t) zero lt = (e, refl)
 place_of (e ∷ t) (suc m) lt = place_of t m (omega arith)
 
-pub all_told : (t : List Entry) (cs : List Claim) → IsSettled t cs → AllTold t cs
-unfolding Told candidates
-all_told t cs s number lt = ⊎_elim (λ h. h) (λ none. absurd (fails none)) (told_or_not number cs)
+pub all_claimed : (t : List Entry) (cs : List Claim) → IsSettled t cs → AllClaimed t cs
+unfolding Claimed candidates
+all_claimed t cs s number lt = ⊎_elim (λ h. h) (λ none. absurd (fails none)) (claimed_or_not number cs)
   where
     fails : AllPass (λ n. not (n == number)) cs → ⊥
     fails none =
@@ -188,25 +187,25 @@ all_told t cs s number lt = ⊎_elim (λ h. h) (λ none. absurd (fails none)) (t
         (rw here (rw same refl)) in
         omega (arith, bound, less, counts-le (λ n e. true) 0 t, s.1)
 
-pub claims_of-append : {Z : Type 0} (xs ys : List (Seat × Vec Receipt Z))
+pub claims_of-append : {Z : Type 0} (xs ys : List (CallerView × Vec Receipt Z))
     → claims_of (xs ++ ys) ≡ claims_of xs ++ claims_of ys
 claims_of-append [] ys = refl
 claims_of-append (x ∷ xs) ys =
     ap (λ (cs : List Claim). map (claim x.0.number) x.1.items ++ cs) (claims_of-append xs ys) ∙ sym
     (append_assoc (map (claim x.0.number) x.1.items) (claims_of xs) (claims_of ys))
 
--- the claims of one list more
-pub claims_more : {Z : Type 0} (lists : List (Seat × Vec Receipt Z)) (i : ℕ) (x : Seat × Vec Receipt Z)
+-- the claims of one more list
+pub claims_more : {Z : Type 0} (lists : List (CallerView × Vec Receipt Z)) (i : ℕ) (x : CallerView × Vec Receipt Z)
     → i < length lists
     → x ≡ get_or lists i x
     → claims_of (take (i + 1) lists) ≡ claims_of (take i lists) ++ map (claim x.0.number) x.1.items
 claims_more {Z} lists i x lt is =
-    ap claims_of (take_more lists i x lt ∙ ap (λ (y : Seat × Vec Receipt Z). take i lists ++ y ∷ []) (sym is))
+    ap claims_of (take_more lists i x lt ∙ ap (λ (y : CallerView × Vec Receipt Z). take i lists ++ y ∷ []) (sym is))
     ∙ claims_of-append (take i lists) (x ∷ []) ∙ ap (λ (cs : List Claim). claims_of (take i lists) ++ cs)
     (append-nil (map (claim x.0.number) x.1.items))
 
 -- all claims begin with those of the first lists
-pub claims_split : {Z : Type 0} (lists : List (Seat × Vec Receipt Z)) (i : ℕ)
+pub claims_split : {Z : Type 0} (lists : List (CallerView × Vec Receipt Z)) (i : ℕ)
     → claims_of lists ≡ claims_of (take i lists) ++ claims_of (drop i lists)
 claims_split lists i = ap claims_of (sym (take-append-drop i lists)) ∙ claims_of-append (take i lists) (drop i lists)
 
@@ -238,7 +237,7 @@ first_within t front list rest all k is lt good here bad =
       ),
     )
 
--- a front and a good part of the next list are no more than the entries
+-- a front and a good part of the next list have no more receipts than there are entries
 pub fits_within : (t : List Entry) (front list : List Claim) → AreGood t None front
     → AreGood t (last_key None front) list
     → length front + length list ≤ length t
@@ -252,7 +251,7 @@ map_more by xs i x lt is =
     ∙ map-append (claim by)
     (take i xs) (x ∷ [])
 
--- one good receipt more
+-- one more good receipt
 pub one_more_good : (t : List Entry) (b last : Option (ℕ × ℕ)) (by : ℕ) (xs : List Receipt) (i : ℕ) (x : Receipt)
     → i < length xs → x ≡ get_or xs i x
     → AreGood t b (map (claim by) (take i xs)) → last ≡ last_key b (map (claim by) (take i xs))
@@ -267,7 +266,7 @@ one_more_good t b last by xs i x lt is good key here =
       sym (ap (last_key b) more ∙ last_key-append b front (claim by x ∷ [])),
     )
 
--- one bad receipt more
+-- one more bad receipt
 pub one_more_bad : (t : List Entry) (b last : Option (ℕ × ℕ)) (by : ℕ) (xs : List Receipt) (i : ℕ) (x : Receipt)
     → i < length xs
     → x ≡ get_or xs i x
@@ -279,9 +278,9 @@ one_more_bad t b last by xs i x lt is key bad good =
     (good-rest t b front (claim by x ∷ [])
     (subst (λ (l : List Claim). AreGood t b l) (map_more by xs i x lt is) good)).0)
 
--- one caller's good receipts more
-pub list_good : {Z : Type 0} (t : List Entry) (lists : List (Seat × Vec Receipt Z)) (i : ℕ)
-    (x : Seat × Vec Receipt Z) (by : ℕ)
+-- one more caller's good receipts
+pub list_good : {Z : Type 0} (t : List Entry) (lists : List (CallerView × Vec Receipt Z)) (i : ℕ)
+    (x : CallerView × Vec Receipt Z) (by : ℕ)
     (items : List Receipt) (last key : Option (ℕ × ℕ)) (count len : ℕ)
     → i < length lists → x ≡ get_or lists i x → by ≡ x.0.number → items ≡ x.1.items
     → AreGood t None (claims_of (take i lists)) → last ≡ last_key None (claims_of (take i lists)) → count ≡ length
@@ -308,8 +307,8 @@ list_good t lists i x by items last key count len lt is by_is items_is good last
     )
 
 -- a bad receipt in one caller's list
-pub list_bad : {Z : Type 0} (t : List Entry) (lists : List (Seat × Vec Receipt Z)) (i : ℕ)
-    (x : Seat × Vec Receipt Z) (by : ℕ)
+pub list_bad : {Z : Type 0} (t : List Entry) (lists : List (CallerView × Vec Receipt Z)) (i : ℕ)
+    (x : CallerView × Vec Receipt Z) (by : ℕ)
     (items : List Receipt) (last : Option (ℕ × ℕ)) (count k : ℕ)
     → i < length lists → x ≡ get_or lists i x → by ≡ x.0.number → items ≡ x.1.items
     → AreGood t None (claims_of (take i lists)) → last ≡ last_key None (claims_of (take i lists)) → count ≡ length

@@ -1,46 +1,45 @@
--- What the lock keeps, and the history that a trail tells.
+-- What the lock protects, and the history that a trail has.
 use Rattle.std.specs.Prelude.{◌≡◌, ℕ, List, [], ◌∷◌, ◌++◌, length, Option}
 use Rattle.std.specs.Option.{option_map}
 use Rattle.hlc_core.specs.declared.event.CoreEvent.{CoreEvent}
 use Rattle.hlc_core.specs.declared.reply.CoreReply.{CoreReply}
-use Rattle.hlc_core.specs.Kept.{Kept, nodes}
-use Rattle.hlc_core.specs.History.{IsLegalHistory, StandsForHistory}
+use Rattle.hlc_core.specs.StoreView.{StoreView, nodes}
+use Rattle.hlc_core.specs.History.{IsLegalHistory, RepresentsHistory}
 use Rattle.hlc_server.specs.declared.entry.Entry.{Entry}
 use Rattle.hlc_server.specs.declared.trail.Trail.{Trail}
 
--- what lies under the lock: a core; the calls that it took, the first of them first, where they are kept;
--- and how many there were
-pub record Lock : Type 0 where
-  pub core : Kept
+-- what the lock protects: a core; the calls that it took, in order, where they are kept; and how many there were
+pub record GuardedView : Type 0 where
+  pub core : StoreView
   pub trail : Option (List Entry)
   pub calls : ℕ
 
--- a call of a caller, as it stands in a trail
+-- a call of a caller, as an entry of a trail
 abbrev pub entry : ℕ → CoreEvent → CoreReply → Entry
 entry caller event reply = record { caller = caller; event = event; reply = reply }
 
--- a history, and then the calls of a trail, the first of them first
+-- a history, and then the calls of a trail in order
 abbrev pub history_after : List (CoreEvent × CoreReply) → List Entry → List (CoreEvent × CoreReply)
 history_after history [] = history
 history_after history (e ∷ trail) = history_after ((e.event, e.reply) ∷ history) trail
 
--- the history that a trail tells: its calls without their callers, the last call first
+-- the history in a trail: its calls without their callers, the last call first
 abbrev pub history_of : List Entry → List (CoreEvent × CoreReply)
 history_of trail = history_after [] trail
 
--- the trail is a legal history, the core stands for it, and so many calls are its length
-pub record IsAudited (core : Kept) (trail : List Entry) (calls : ℕ) : Type 0 where
+-- the trail is a legal history, the core represents it, and its length is the number of calls
+pub record IsAudited (core : StoreView) (trail : List Entry) (calls : ℕ) : Type 0 where
   pub legal : IsLegalHistory (nodes core) (history_of trail)
-  pub stands : StandsForHistory core (history_of trail)
+  pub represents : RepresentsHistory core (history_of trail)
   pub counted : length trail ≡ calls
 
--- the core stands for a history of so many calls
-pub record HasHistory (core : Kept) (calls : ℕ) : Type 0 where
+-- the core represents a history of so many calls
+pub record HasHistory (core : StoreView) (calls : ℕ) : Type 0 where
   pub history : List (CoreEvent × CoreReply)
-  pub stands : StandsForHistory core history
+  pub represents : RepresentsHistory core history
   pub counted : length history ≡ calls
 
--- the trail with one entry more, where there is one
+-- the trail with one more entry, where there is one
 abbrev pub with_entry : Option (List Entry) → Entry → Option (List Entry)
 with_entry trail e = option_map (λ (t : List Entry). t ++ e ∷ []) trail
 

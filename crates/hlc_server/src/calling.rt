@@ -1,7 +1,7 @@
-//! The calls of what lies under the lock, for one thread.
+//! Calls on what the lock protects, for one thread.
 ghost use Rattle.std.specs.Prelude.{◌≡◌, ◌<◌, ◌≤◌, ◌+◌, ◌-◌, ◌^◌};
 ghost use Rattle.hlc_core.specs.declared.event.CoreEvent.{CoreEvent as AnEvent};
-ghost use Rattle.hlc_server.specs.Calls.{IsToldFor, Holds};
+ghost use Rattle.hlc_server.specs.Calls.{IsResultFor, IsLockedCall};
 
 use crate::caller::{Called, Caller};
 use crate::entry::{CallResult, NotDone, Receipt};
@@ -12,59 +12,59 @@ use hlc_core::{CoreEvent, CoreReply, Stamp};
 use std::sync::ledger::{Book, Ledger};
 use std::thread::Threads;
 
-/// Makes the call that an event asks for, and gives the receipt for it.
+/// Makes the call that an event asks for, and returns its caller with the receipt.
 ///
-/// It is not made where no number is left, or where memory lacks: all that it wants is taken before
-/// anything changes. Any other refusal is the reply of a call that was made.
+/// The call is not made where no number is left, or where it runs out of memory: all memory that it needs is allocated
+/// before anything changes. Any other refusal is the reply of a call that was made.
 #[inline(always)]
 pub fn step_guarded<L: Ledger>(
     guarded: &mut Guarded<L>,
     caller: Caller<L>,
     event: CoreEvent,
 ) -> Called<L>
-    ensures held { Holds guarded.old guarded.new event result.1 }
-    ensures told { IsToldFor caller event result }
+    ensures called { IsLockedCall guarded.old guarded.new event result.1 }
+    ensures returned { IsResultFor caller event result }
 {
     let mut caller = caller;
-    let told = guarded.call(&mut caller, event);
-    (caller, told)
+    let returned = guarded.call(&mut caller, event);
+    (caller, returned)
 }
 
-/// The same for a vacuum, which is planned by several threads.
+/// Does the same for a vacuum, which several threads plan.
 pub fn vacuum_guarded<L: Ledger>(
     rt: &(impl Threads + Sync),
     guarded: &mut Guarded<L>,
     caller: Caller<L>,
 ) -> Called<L>
-    ensures held { Holds guarded.old guarded.new AnEvent.Vacuum result.1 }
-    ensures told { IsToldFor caller AnEvent.Vacuum result }
+    ensures called { IsLockedCall guarded.old guarded.new AnEvent.Vacuum result.1 }
+    ensures returned { IsResultFor caller AnEvent.Vacuum result }
 {
     let mut caller = caller;
-    let told = guarded.call_by_threads(rt, &mut caller, CoreEvent::Vacuum);
-    (caller, told)
+    let returned = guarded.call_by_threads(rt, &mut caller, CoreEvent::Vacuum);
+    (caller, returned)
 }
 
-/// The same for a vacuum to a stamp, which is planned by several threads.
+/// Does the same for a vacuum to a stamp, which several threads plan.
 pub fn vacuum_to_guarded<L: Ledger>(
     rt: &(impl Threads + Sync),
     guarded: &mut Guarded<L>,
     caller: Caller<L>,
     at: Stamp,
 ) -> Called<L>
-    ensures held { Holds guarded.old guarded.new (AnEvent.VacuumTo at) result.1 }
-    ensures told { IsToldFor caller (AnEvent.VacuumTo at) result }
+    ensures called { IsLockedCall guarded.old guarded.new (AnEvent.VacuumTo at) result.1 }
+    ensures returned { IsResultFor caller (AnEvent.VacuumTo at) result }
 {
     let mut caller = caller;
-    let told = guarded.call_by_threads(rt, &mut caller, CoreEvent::VacuumTo(at));
-    (caller, told)
+    let returned = guarded.call_by_threads(rt, &mut caller, CoreEvent::VacuumTo(at));
+    (caller, returned)
 }
 
 impl<L: Ledger> Guarded<L> {
-    /// Makes the call that an event asks for, as `step_guarded`.
+    /// Makes the call that an event asks for, as `step_guarded` does.
     #[inline(always)]
     pub(crate) fn call(&mut self, caller: &mut Caller<L>, event: CoreEvent) -> CallResult
-        ensures held { Holds self.old self.new event result }
-        ensures told { IsToldFor caller.old event (caller.new, result) }
+        ensures called { IsLockedCall self.old self.new event result }
+        ensures returned { IsResultFor caller.old event (caller.new, result) }
     {
         if self.calls == u64::MAX {
             return Err((NotDone::NumbersSpent, event));
@@ -75,15 +75,15 @@ impl<L: Ledger> Guarded<L> {
         }
     }
 
-    /// The same, but a vacuum is planned by several threads.
+    /// Does the same, but several threads plan a vacuum.
     pub(crate) fn call_by_threads(
         &mut self,
         rt: &(impl Threads + Sync),
         caller: &mut Caller<L>,
         event: CoreEvent,
     ) -> CallResult
-        ensures held { Holds self.old self.new event result }
-        ensures told { IsToldFor caller.old event (caller.new, result) }
+        ensures called { IsLockedCall self.old self.new event result }
+        ensures returned { IsResultFor caller.old event (caller.new, result) }
     {
         if self.calls == u64::MAX {
             return Err((NotDone::NumbersSpent, event));
@@ -95,7 +95,7 @@ impl<L: Ledger> Guarded<L> {
     }
 }
 
-/// Counts a call that a caller made, and gives the receipt for it.
+/// Counts a call that a caller made, and returns the receipt for it.
 #[inline(always)]
 fn count_call<L: Ledger>(
     calls: &mut u64,

@@ -1,10 +1,10 @@
-//! What lies under the lock, and how it is made.
+//! What the lock protects, and how it is made.
 ghost use Rattle.std.specs.Prelude.{◌≡◌, ◌<◌, [], ⊤, Some, None, IfOk, MatchResult, map, if◌then◌else◌};
 ghost use Rattle.std.specs.Option.{ForSome};
 ghost use Rattle.std.specs.List.{range_with_len};
-ghost use Rattle.hlc_core.specs.Kept.{nodes as nodes_of};
+ghost use Rattle.hlc_core.specs.StoreView.{nodes as nodes_of};
 ghost use Rattle.hlc_core.specs.Calls.{new_refusal, IsRefusal};
-ghost use Rattle.hlc_core.specs.History.{StandsForHistory};
+ghost use Rattle.hlc_core.specs.History.{RepresentsHistory};
 ghost use Rattle.hlc_server.specs.Seats.{fresh_seat};
 ghost use Rattle.hlc_server.specs.Trails.{IsAudited, HasHistory, entries_of};
 
@@ -15,11 +15,11 @@ use std::alloc::Global;
 use std::marker::Model;
 use std::sync::ledger::{Blank, Book, Ledger, Share};
 
-/// What lies under the lock of a shared store: a core, the trail of its calls where one is kept, and
-/// how many calls there were, which the book of the ledger counts too.
+/// What the lock of a shared store protects: a core, the trail of its calls where one is kept, and how many calls there
+/// were, which the book of the ledger counts too.
 ///
-/// Contracts see the core, the calls of the trail and their number. With a trail or without, the core
-/// stands for a legal history of as many calls; the trail is such a history.
+/// Contracts describe the core, the calls of the trail and their number. With a trail or without, the core represents a
+/// legal history of as many calls; the trail is such a history.
 #[derive(Drop)]
 pub struct Guarded<L: Ledger> {
     pub(crate) core: Core,
@@ -31,9 +31,9 @@ pub struct Guarded<L: Ledger> {
 impl<L: Ledger> Model for Guarded<L> {
     ghost use Rattle.std.specs.Prelude.{◌≡◌};
     ghost use Rattle.std.specs.Option.{ForSome};
-    ghost use Rattle.hlc_server.specs.Trails.{Lock, IsAudited, HasHistory, entries_of};
+    ghost use Rattle.hlc_server.specs.Trails.{GuardedView, IsAudited, HasHistory, entries_of};
 
-    ghost Value = { Lock };
+    ghost Value = { GuardedView };
 
     ghost view = { λ guarded.
         record { core = guarded.core; trail = entries_of guarded.trail; calls = guarded.calls } };
@@ -45,10 +45,10 @@ impl<L: Ledger> Model for Guarded<L> {
 }
 
 impl<L: Ledger> Guarded<L> {
-    /// A new core of so many nodes and its callers, who are numbered from 0, with no lock round it.
-    /// With `audit`, a trail is kept.
+    /// Returns a new core of so many nodes and its callers, who are numbered from 0, with no lock around it. With
+    /// `audit`, a trail is kept.
     ///
-    /// Refused, in this order: not 1 to 64 nodes; want of memory.
+    /// Refused, in this order: not 1 to 64 nodes; out of memory.
     pub fn new(
         alloc: Global,
         blank: Blank,
@@ -63,7 +63,7 @@ impl<L: Ledger> Guarded<L> {
         ensures callers { IfOk result
             (λ made. made.1.items ≡ map fresh_seat (range_with_len 0 callers)) }
         ensures fresh { IfOk result
-            (λ made. (nodes_of made.0.core ≡ nodes) × StandsForHistory made.0.core []
+            (λ made. (nodes_of made.0.core ≡ nodes) × RepresentsHistory made.0.core []
             × (made.0.trail ≡ (if audit then Some [] else None)) × (made.0.calls ≡ 0)) }
     {
         let core = Core::new(alloc, nodes)?;
@@ -80,8 +80,8 @@ impl<L: Ledger> Guarded<L> {
         Ok((guarded, callers))
     }
 
-    /// How many calls were made. What holds whenever nobody is in a call: the core stands for a legal
-    /// history of as many calls, with a trail or without. A trail is such a history.
+    /// Returns how many calls were made. Whenever nobody is in a call, the core represents a legal history of as many
+    /// calls, with a trail or without. A trail is such a history.
     pub fn calls(&self) -> u64
         ensures calls { result ≡ self.now.calls }
         ensures trail { ForSome self.now.trail
@@ -92,7 +92,7 @@ impl<L: Ledger> Guarded<L> {
     }
 }
 
-/// An empty trail, if there is to be one.
+/// Returns an empty trail, if one is to be kept.
 fn new_trail(alloc: Global, audit: bool) -> Option<Trail>
     ensures { entries_of result ≡ (if audit then Some [] else None) }
 {
@@ -105,7 +105,7 @@ fn new_trail(alloc: Global, audit: bool) -> Option<Trail>
     }
 }
 
-/// Cuts a share with all parts into as many callers.
+/// Splits a share with all parts into as many callers, and returns these.
 fn callers_of<L: Ledger>(
     alloc: Global,
     share: Share<L>,

@@ -1,10 +1,11 @@
-//! A store that threads share: one lock, a trail of the calls under it,
-//! and receipts that can be checked against the trail.
+//! A store that threads share: one lock, a trail of the calls under it, and receipts that can be checked against the
+//! trail.
 #![tactic(auto)]
 
 mod caller;
 mod calling;
 mod entry;
+mod exact;
 mod guarded;
 mod lock;
 mod locked;

@@ -1,7 +1,7 @@
-//! The lock of a shared store, by whether a trail is kept under it.
+//! The lock of a shared store, with or without a trail.
 ghost use Rattle.std.specs.Prelude.{◌≡◌};
 ghost use Rattle.std.specs.Option.{is_some};
-ghost use Rattle.hlc_server.specs.Sharing.{keeps_trail};
+ghost use Rattle.hlc_server.specs.SharedView.{keeps_trail};
 
 use crate::guarded::Guarded;
 use crate::locked::Locked;
@@ -11,14 +11,14 @@ use std::sync::ledger::Ledger;
 /// The lock of a shared store.
 #[derive(Drop)]
 pub(crate) enum StoreLock<L: Ledger> {
-    /// A trail is kept under it.
+    /// With a trail.
     Audited(Mutex<Locked<L, 1>>),
-    /// None is.
+    /// Without a trail.
     Plain(Mutex<Locked<L, 0>>),
 }
 
 impl<L: Ledger> StoreLock<L> {
-    /// A lock round this.
+    /// Returns a lock around this.
     pub(crate) fn new(guarded: Guarded<L>) -> StoreLock<L>
         ensures { keeps_trail result ≡ is_some guarded.trail }
     {
@@ -29,7 +29,7 @@ impl<L: Ledger> StoreLock<L> {
         }
     }
 
-    /// Takes out what the lock kept.
+    /// Removes the lock, and returns what it protected.
     pub(crate) fn into_inner(self) -> Guarded<L>
         ensures { is_some result.trail ≡ keeps_trail self }
     {

@@ -1,7 +1,7 @@
-//! What lies under the lock of a shared store, by how many trails are kept.
+//! What the lock of a shared store protects, by the number of trails.
 ghost use Rattle.std.specs.Prelude.{◌≡◌, ◌==◌};
 ghost use Rattle.std.specs.Option.{is_some};
-ghost use Rattle.hlc_server.specs.Calls.{IsToldFor, Holds};
+ghost use Rattle.hlc_server.specs.Calls.{IsResultFor, IsLockedCall};
 
 use crate::caller::Caller;
 use crate::entry::CallResult;
@@ -10,7 +10,8 @@ use hlc_core::CoreEvent;
 use std::sync::ledger::Ledger;
 use std::thread::Threads;
 
-/// What lies under a lock, with so many trails, 0 or 1: whoever takes a lock knows of that no more than its type says.
+/// What a lock protects, with so many trails, 0 or 1. Code that takes the lock knows no more about that than its type
+/// says.
 #[derive(Drop)]
 pub(crate) struct Locked<L: Ledger, const TRAILS: usize> {
     pub(crate) guarded: Guarded<L>,
@@ -21,21 +22,21 @@ impl<L: Ledger, const TRAILS: usize> Locked<L, TRAILS> {
     /// Makes the call that an event asks for.
     #[inline(always)]
     pub(crate) fn call(&mut self, caller: &mut Caller<L>, event: CoreEvent) -> CallResult
-        ensures held { Holds self.old.guarded self.new.guarded event result }
-        ensures told { IsToldFor caller.old event (caller.new, result) }
+        ensures called { IsLockedCall self.old.guarded self.new.guarded event result }
+        ensures returned { IsResultFor caller.old event (caller.new, result) }
     {
         self.guarded.call(caller, event)
     }
 
-    /// The same, but a vacuum is planned by several threads.
+    /// Does the same, but several threads plan a vacuum.
     pub(crate) fn call_by_threads(
         &mut self,
         rt: &(impl Threads + Sync),
         caller: &mut Caller<L>,
         event: CoreEvent,
     ) -> CallResult
-        ensures held { Holds self.old.guarded self.new.guarded event result }
-        ensures told { IsToldFor caller.old event (caller.new, result) }
+        ensures called { IsLockedCall self.old.guarded self.new.guarded event result }
+        ensures returned { IsResultFor caller.old event (caller.new, result) }
     {
         self.guarded.call_by_threads(rt, caller, event)
     }

@@ -1,4 +1,4 @@
-//! A vacuum that several threads plan, and its entry in the trail.
+//! Vacuums that several threads plan, and their entries in the trail.
 ghost use Rattle.std.specs.Prelude.{◌≡◌, Some};
 ghost use Rattle.hlc_core.specs.declared.event.CoreEvent.{CoreEvent as AnEvent};
 ghost use Rattle.hlc_server.specs.Trails.{entries_of};
@@ -10,7 +10,7 @@ use crate::writing::{make_call, refuse, refuse_twice};
 use hlc_core::{Core, CoreEvent, CoreReply, NoMemory, Stamp};
 use std::thread::Threads;
 
-/// Makes a call of the core, and writes it into the trail. A vacuum is planned by several threads.
+/// Makes a call of the core, and writes it into the trail. Several threads plan a vacuum.
 pub(crate) fn plan_call(
     rt: &(impl Threads + Sync),
     core: &mut Core,
@@ -28,7 +28,7 @@ pub(crate) fn plan_call(
     }
 }
 
-/// Vacuums the core by a plan of several threads, and writes that into the trail.
+/// Vacuums the core with a plan by several threads, and writes the call into the trail.
 fn make_vacuum(
     rt: &(impl Threads + Sync),
     core: &mut Core,
@@ -48,7 +48,7 @@ fn make_vacuum(
     }
 }
 
-/// The same as `write_vacuum`, by a plan of several threads.
+/// Does the same as `write_vacuum`, with a plan by several threads.
 fn write_parallel_vacuum(
     rt: &(impl Threads + Sync),
     core: &mut Core,
@@ -72,7 +72,7 @@ fn write_parallel_vacuum(
     Ok(CoreReply::Vacuumed(block.with(report)))
 }
 
-/// Vacuums the core to a stamp by a plan of several threads, and writes that into the trail.
+/// Vacuums the core to a stamp with a plan by several threads, and writes the call into the trail.
 fn make_vacuum_to(
     rt: &(impl Threads + Sync),
     core: &mut Core,
@@ -95,7 +95,7 @@ fn make_vacuum_to(
     }
 }
 
-/// The same as `write_vacuum_to`, by a plan of several threads.
+/// Does the same as `write_vacuum_to`, with a plan by several threads.
 fn write_parallel_vacuum_to(
     rt: &(impl Threads + Sync),
     core: &mut Core,
@@ -118,7 +118,7 @@ fn write_parallel_vacuum_to(
     Ok(reply)
 }
 
-/// The same as `vacuum_twice_to`, by a plan of several threads.
+/// Does the same as `vacuum_twice_to`, with a plan by several threads.
 fn vacuum_twice_to_parallel(
     rt: &(impl Threads + Sync),
     core: &mut Core,

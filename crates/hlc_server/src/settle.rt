@@ -1,8 +1,8 @@
 //! Compares the receipts of all callers with the trail, once all threads have ended.
 ghost use Rattle.std.specs.Prelude.{◌≡◌, ◌+◌, ◌<◌, ◌↔◌, length, map, take, IsTrue, IfOk, IfErr, IfSome, IfNone};
 ghost use Rattle.std.specs.Option.{is_some};
-ghost use Rattle.hlc_server.specs.Trails.{Lock};
-ghost use Rattle.hlc_server.specs.Settling.{claim, claims_of, StandsIn, key_of, IsBelow, IsGood, AreGood, IsSettled};
+ghost use Rattle.hlc_server.specs.Trails.{GuardedView};
+ghost use Rattle.hlc_server.specs.Settling.{claim, claims_of, IsInTrail, key_of, IsBelow, IsGood, AreGood, IsSettled};
 ghost use Rattle.hlc_server.specs.Settling.{IsFirstBad, IsSettlement, last_key};
 
 use crate::caller::Caller;
@@ -17,7 +17,7 @@ use std::sync::ledger::Ledger;
 #[derive(Drop)]
 pub struct Settled {
     pub core: Core,
-    /// How many calls stand in the trail.
+    /// How many entries the trail has.
     pub entries: u64,
 }
 
@@ -26,26 +26,16 @@ pub struct Settled {
 pub enum SettleFault {
     /// No trail was kept.
     NoTrail,
-    /// The receipt at this place of all, in the order given, does not stand in the trail, or stands
-    /// there twice; or only their number differs, and this is it.
+    /// The receipt at this place of all, in the order of the lists, is not in the trail, or is there twice; or only the
+    /// number of receipts differs, and this is that number.
     ReceiptMismatch { index: u64 },
 }
 
-impl Exact for SettleFault {
-    ghost use Rattle.std.proofs.Common.{rules};
-    ghost use Rattle.std.proofs.lemmas.Grind.{common_steps};
-
-    ghost equal = { Prim.search (rules, common_steps) };
-
-    ghost copied = { Prim.search rules };
-}
-
-/// Compares the receipts of all callers with the trail, and gives the core and the number of calls.
+/// Compares the receipts of all callers with the trail, and returns the core and the number of calls.
 ///
-/// They settle where each receipt is the trail's entry at its number and was handed in by its own
-/// caller; where by caller, and then by number, they strictly rise over all lists in the order
-/// given; and where they are as many as the entries. Refused, in this order: no trail was kept; the
-/// first receipt that breaks a rule, or else their number.
+/// The receipts settle where each is the trail's entry at its number and is in the list of its own caller; where by
+/// caller, and then by number, they strictly rise over all lists in their order; and where they are as many as the
+/// entries. Refused, in this order: no trail was kept; the first receipt that breaks a rule, or else their number.
 pub fn settle_guarded<L: Ledger>(
     guarded: Guarded<L>,
     lists: Vec<(Caller<L>, Vec<Receipt>)>,
@@ -69,17 +59,17 @@ pub fn settle_guarded<L: Ledger>(
 }
 
 impl<L: Ledger> Shared<L> {
-    /// The same for a shared store, once all threads have ended: `into_guarded`, and then
-    /// `settle_guarded`, whose clause is of the very store that it is handed.
+    /// Does the same for a shared store, once all threads have ended: calls `into_guarded`, and then `settle_guarded`,
+    /// whose contract is about exactly the store that it gets.
     pub fn settle(self, lists: Vec<(Caller<L>, Vec<Receipt>)>) -> Result<Settled, SettleFault>
-        ensures { (lock : Lock) × (is_some lock.trail ≡ self.audited)
+        ensures { (lock : GuardedView) × (is_some lock.trail ≡ self.audited)
             × IsSettlement lock (claims_of lists.items) result }
     {
         settle_guarded(self.into_guarded(), lists)
     }
 }
 
-/// The place of the first bad receipt, or the number of receipts where only that differs.
+/// Returns the place of the first bad receipt, the number of receipts where only that differs, or none.
 fn first_bad<L: Ledger>(
     trail: &[Entry],
     entries: u64,
@@ -101,8 +91,8 @@ fn first_bad<L: Ledger>(
     if count == entries { None } else { Some(count) }
 }
 
-/// Looks at the receipts that a caller hands in, after this caller and number. Gives those of the
-/// last one, or the place of the first bad one.
+/// Checks the receipts in a caller's list, which come after this caller and number. Returns the caller and number of
+/// the last one, or the place of the first bad one.
 fn look_through(
     trail: &[Entry],
     by: u16,
@@ -126,17 +116,16 @@ fn look_through(
     Ok(last)
 }
 
-/// Whether a receipt stands in the trail, was handed in by its own caller, and comes after this
-/// caller and number.
+/// Returns whether a receipt is in the trail, is in the list of its own caller, and comes after this caller and number.
 fn is_good(trail: &[Entry], by: u16, receipt: &Receipt, before: Option<(u16, u64)>) -> bool
     ensures { IsTrue result ↔ IsGood trail.now before (claim by receipt.now) }
 {
-    stands_in(trail, receipt) && receipt.caller == by && comes_after(before, receipt)
+    is_in_trail(trail, receipt) && receipt.caller == by && comes_after(before, receipt)
 }
 
-/// Whether a receipt is the trail's entry at its number.
-fn stands_in(trail: &[Entry], receipt: &Receipt) -> bool
-    ensures { IsTrue result ↔ StandsIn trail.now receipt.now }
+/// Returns whether a receipt is the trail's entry at its number.
+fn is_in_trail(trail: &[Entry], receipt: &Receipt) -> bool
+    ensures { IsTrue result ↔ IsInTrail trail.now receipt.now }
 {
     match trail.get(receipt.number as usize) {
         Some(entry) => {
@@ -148,7 +137,7 @@ fn stands_in(trail: &[Entry], receipt: &Receipt) -> bool
     }
 }
 
-/// Whether a receipt comes after this caller and number.
+/// Returns whether a receipt comes after this caller and number.
 fn comes_after(before: Option<(u16, u64)>, receipt: &Receipt) -> bool
     ensures { IsTrue result ↔ IsBelow before (key_of receipt.now) }
 {
@@ -160,7 +149,7 @@ fn comes_after(before: Option<(u16, u64)>, receipt: &Receipt) -> bool
     }
 }
 
-/// Whether two values are equal.
+/// Returns whether two values are equal.
 fn are_equal<T: Exact>(a: &T, b: &T) -> bool
     ensures { IsTrue result ↔ (a.now ≡ b.now) }
 {

@@ -5,7 +5,7 @@ ghost use Rattle.std.specs.Option.{is_some};
 ghost use Rattle.hlc_core.specs.Calls.{new_refusal, IsRefusal};
 ghost use Rattle.hlc_core.specs.declared.event.CoreEvent.{CoreEvent as AnEvent};
 ghost use Rattle.hlc_server.specs.Seats.{fresh_seat};
-ghost use Rattle.hlc_server.specs.Calls.{IsToldFor};
+ghost use Rattle.hlc_server.specs.Calls.{IsResultFor};
 
 use crate::caller::{Called, Caller};
 use crate::entry::CallResult;
@@ -18,29 +18,28 @@ use std::sync::Wait;
 use std::sync::ledger::{Blank, Ledger};
 use std::thread::Threads;
 
-/// A store that threads share, behind one lock. Each call holds the lock once.
+/// A store that threads share, protected by one lock. Each call takes the lock once.
 ///
-/// A call hands its caller back, with the receipt of the call; or why it was not made, and the event.
-/// `call` and `call_by_threads` leave the caller with its owner. What a caller was told can be checked
-/// afterwards, by `settle`.
+/// A call returns its caller, with the receipt of the call; or the reason why it was not made, and the event. `call`
+/// and `call_by_threads` leave the caller with its owner. `settle` can check afterwards what the callers got.
 #[derive(Drop)]
 pub struct Shared<L: Ledger> {
     pub(crate) lock: StoreLock<L>,
 }
 
 impl<L: Ledger> Model for Shared<L> {
-    ghost use Rattle.hlc_server.specs.Sharing.{Sharing, keeps_trail};
+    ghost use Rattle.hlc_server.specs.SharedView.{SharedView, keeps_trail};
 
-    ghost Value = { Sharing };
+    ghost Value = { SharedView };
 
     ghost view = { λ shared. record { audited = keeps_trail shared.lock } };
 }
 
 impl<L: Ledger> Shared<L> {
-    /// A new core of so many nodes under a lock, and its callers, who are numbered from 0. With
-    /// `audit`, a trail is kept: each call costs one copy more of its event and its reply.
+    /// Returns a new core of so many nodes under a lock, and its callers, who are numbered from 0. With `audit`, a
+    /// trail is kept: each call costs one more copy of its event and its reply.
     ///
-    /// Refused, in this order: not 1 to 64 nodes; want of memory.
+    /// Refused, in this order: not 1 to 64 nodes; out of memory.
     pub fn new(
         alloc: Global,
         blank: Blank,
@@ -69,10 +68,10 @@ impl<L: Ledger> Shared<L> {
         }
     }
 
-    /// Takes the lock away, once all threads have ended: what it kept, for `settle_guarded`.
+    /// Removes the lock, once all threads have ended, and returns what it protected, for `settle_guarded`.
     ///
-    /// Of that, contracts know what holds of every store whenever nobody is in a call
-    /// (`Guarded::calls`), and whether there is a trail.
+    /// Contracts know of that what is true of every store whenever nobody is in a call (`Guarded::calls`), and whether
+    /// there is a trail.
     pub fn into_guarded(self) -> Guarded<L>
         ensures { is_some result.trail ≡ self.audited }
     {
@@ -80,10 +79,9 @@ impl<L: Ledger> Shared<L> {
         lock.into_inner()
     }
 
-    /// Makes the call that an event asks for, and leaves the caller with its owner. A vacuum is planned
-    /// by this thread alone.
+    /// Makes the call that an event asks for, and leaves the caller with its owner. This thread alone plans a vacuum.
     pub fn call<R: Wait>(&self, rt: &R, caller: &mut Caller<L>, event: CoreEvent) -> CallResult
-        ensures { IsToldFor caller.old event (caller.new, result) }
+        ensures { IsResultFor caller.old event (caller.new, result) }
     {
         match &self.lock {
             StoreLock::Audited(lock) => lock.lock(rt).call(caller, event),
@@ -91,14 +89,14 @@ impl<L: Ledger> Shared<L> {
         }
     }
 
-    /// The same, but a vacuum is planned by several threads. The lock is held all the while.
+    /// Does the same, but several threads plan a vacuum. The store is locked for the whole call.
     pub fn call_by_threads<R: Wait + Threads + Sync>(
         &self,
         rt: &R,
         caller: &mut Caller<L>,
         event: CoreEvent,
     ) -> CallResult
-        ensures { IsToldFor caller.old event (caller.new, result) }
+        ensures { IsResultFor caller.old event (caller.new, result) }
     {
         match &self.lock {
             StoreLock::Audited(lock) => lock.lock(rt).call_by_threads(rt, caller, event),
@@ -106,104 +104,102 @@ impl<L: Ledger> Shared<L> {
         }
     }
 
-    /// Makes the call that an event asks for. A vacuum is planned by this thread alone; `vacuum` and
-    /// `vacuum_to` plan it by several.
+    /// Makes the call that an event asks for. This thread alone plans a vacuum; `vacuum` and `vacuum_to` let several
+    /// plan it.
     pub fn step<R: Wait>(&self, rt: &R, caller: Caller<L>, event: CoreEvent) -> Called<L>
-        ensures { IsToldFor caller event result }
+        ensures { IsResultFor caller event result }
     {
         let mut caller = caller;
-        let told = self.call(rt, &mut caller, event);
-        (caller, told)
+        let returned = self.call(rt, &mut caller, event);
+        (caller, returned)
     }
 
-    /// Takes the next item of a link.
+    /// Accepts the next item of a link.
     pub fn accept<R: Wait>(&self, rt: &R, caller: Caller<L>, item: Item) -> Called<L>
-        ensures { IsToldFor caller (AnEvent.Accept item) result }
+        ensures { IsResultFor caller (AnEvent.Accept item) result }
     {
         self.step(rt, caller, CoreEvent::Accept(item))
     }
 
-    /// Lets a node join. The reply tells its number and the stamp at which its clock starts: from them
-    /// the node's side is made, by `NodeCore::new(node, start)`.
+    /// Lets a node join. The reply has its number and the stamp at which its clock starts: `NodeCore::new(node, start)`
+    /// makes the node's side from them.
     pub fn join<R: Wait>(&self, rt: &R, caller: Caller<L>) -> Called<L>
-        ensures { IsToldFor caller AnEvent.Join result }
+        ensures { IsResultFor caller AnEvent.Join result }
     {
         self.step(rt, caller, CoreEvent::Join)
     }
 
-    /// Lets a node join at a stamp, where its clock starts. The reply tells its number and that start:
-    /// from them the node's side is made, as after `join`. Its items at or below the start are refused.
+    /// Lets a node join at a stamp, where its clock starts. The reply has its number and that start: the node's side is
+    /// made from them, as after `join`. The node's items at or below the start are refused.
     ///
-    /// The reply is a refusal, in this order: 1,024 node numbers were given already; the start is below
-    /// the floor. A refusal leaves the store unchanged but for its trail, and out of memory no call is
-    /// made.
+    /// The reply is a refusal, in this order: 1,024 node numbers are already assigned; the start is below the floor. A
+    /// refusal leaves the store unchanged but for its trail. Where it runs out of memory, no call is made.
     pub fn join_at<R: Wait>(&self, rt: &R, caller: Caller<L>, start: Stamp) -> Called<L>
-        ensures { IsToldFor caller (AnEvent.JoinAt start) result }
+        ensures { IsResultFor caller (AnEvent.JoinAt start) result }
     {
         self.step(rt, caller, CoreEvent::JoinAt(start))
     }
 
     /// Opens a snapshot at a stamp.
     pub fn open<R: Wait>(&self, rt: &R, caller: Caller<L>, stamp: Stamp) -> Called<L>
-        ensures { IsToldFor caller (AnEvent.OpenAt stamp) result }
+        ensures { IsResultFor caller (AnEvent.OpenAt stamp) result }
     {
         self.step(rt, caller, CoreEvent::OpenAt(stamp))
     }
 
-    /// Opens a snapshot at the floor.
+    /// Opens a snapshot at the floor (closed timestamp).
     pub fn open_floor<R: Wait>(&self, rt: &R, caller: Caller<L>) -> Called<L>
-        ensures { IsToldFor caller AnEvent.OpenFloor result }
+        ensures { IsResultFor caller AnEvent.OpenFloor result }
     {
         self.step(rt, caller, CoreEvent::OpenFloor)
     }
 
     /// Reads a key in an open snapshot.
     pub fn read<R: Wait>(&self, rt: &R, caller: Caller<L>, id: u64, key: Bytes) -> Called<L>
-        ensures { IsToldFor caller (AnEvent.Read id key) result }
+        ensures { IsResultFor caller (AnEvent.Read id key) result }
     {
         self.step(rt, caller, CoreEvent::Read { id, key })
     }
 
     /// Lists an open snapshot.
     pub fn list<R: Wait>(&self, rt: &R, caller: Caller<L>, id: u64) -> Called<L>
-        ensures { IsToldFor caller (AnEvent.List id) result }
+        ensures { IsResultFor caller (AnEvent.List id) result }
     {
         self.step(rt, caller, CoreEvent::List(id))
     }
 
     /// Closes an open snapshot.
     pub fn close<R: Wait>(&self, rt: &R, caller: Caller<L>, id: u64) -> Called<L>
-        ensures { IsToldFor caller (AnEvent.Close id) result }
+        ensures { IsResultFor caller (AnEvent.Close id) result }
     {
         self.step(rt, caller, CoreEvent::Close(id))
     }
 
-    /// Drops the rows that no reader needs, by a plan of several threads. The lock is held all the
-    /// while.
+    /// Drops the rows that no reader needs, with a plan by several threads. The store is locked for the whole call.
     pub fn vacuum<R: Wait + Threads + Sync>(&self, rt: &R, caller: Caller<L>) -> Called<L>
-        ensures { IsToldFor caller AnEvent.Vacuum result }
+        ensures { IsResultFor caller AnEvent.Vacuum result }
     {
         let mut caller = caller;
-        let told = self.call_by_threads(rt, &mut caller, CoreEvent::Vacuum);
-        (caller, told)
+        let returned = self.call_by_threads(rt, &mut caller, CoreEvent::Vacuum);
+        (caller, returned)
     }
 
-    /// Drops the rows at or below a stamp that no reader needs, by a plan of several threads. The lock is
-    /// held all the while. The rows above the stamp stay, and snapshots can be opened from it on.
+    /// Drops the rows at or below a stamp that no reader needs, with a plan by several threads. The store is locked for
+    /// the whole call. The rows above the stamp stay, and snapshots can be opened from the stamp on.
     ///
-    /// The reply is a refusal, in this order: the stamp is above the floor; it is below the horizon, the
-    /// stamp of the last vacuum. A refusal leaves the store unchanged but for its trail, and out of
-    /// memory no call is made.
+    /// The reply is a refusal, in this order: the stamp is above the floor; it is below the horizon (GC threshold), the
+    /// stamp of the last vacuum. A refusal leaves the store unchanged but for its trail. Where it runs out of memory,
+    /// no call is made.
     pub fn vacuum_to<R: Wait + Threads + Sync>(
         &self,
         rt: &R,
         caller: Caller<L>,
         at: Stamp,
     ) -> Called<L>
-        ensures { IsToldFor caller (AnEvent.VacuumTo at) result }
+        ensures { IsResultFor caller (AnEvent.VacuumTo at) result }
     {
         let mut caller = caller;
-        let told = self.call_by_threads(rt, &mut caller, CoreEvent::VacuumTo(at));
-        (caller, told)
+        let returned = self.call_by_threads(rt, &mut caller, CoreEvent::VacuumTo(at));
+        (caller, returned)
     }
 }

@@ -1,7 +1,7 @@
 //! The calls that were made.
 use crate::entry::Entry;
 
-/// The calls that were made, the first of them first.
+/// The calls that were made, in order.
 #[derive(Debug, Drop)]
 pub struct Trail {
     pub(crate) entries: Vec<Entry>,

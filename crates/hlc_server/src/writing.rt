@@ -1,4 +1,4 @@
-//! A call of the core, and its entry in the trail.
+//! Calls of the core, and their entries in the trail.
 ghost use Rattle.std.specs.Prelude.{◌≡◌, ◌≢◌, Some, IfOk, OnErr};
 ghost use Rattle.hlc_core.specs.History.{IsVacuum};
 ghost use Rattle.hlc_core.specs.declared.event.CoreEvent.{CoreEvent as AnEvent};
@@ -32,8 +32,8 @@ pub(crate) fn make_call(
     }
 }
 
-/// Makes a call of the core that is no vacuum, and its entry. A reply whose copy takes memory left
-/// the core as it was, so the copy may be made after the call.
+/// Makes a call of the core other than a vacuum, and its entry. A call whose reply takes memory to copy leaves the core
+/// unchanged, so the copy may be made after the call.
 fn write_call(
     core: &mut Core,
     trail: &mut Trail,
@@ -51,18 +51,18 @@ fn write_call(
         return Err(NoMemory);
     };
     let reply = core.step_ref(event)?;
-    let Ok(told) = reply.clone() else {
+    let Ok(returned) = reply.clone() else {
         return Err(NoMemory);
     };
     trail.entries.push_reserved(Entry {
         caller,
         event: written,
-        reply: told,
+        reply: returned,
     });
     Ok(reply)
 }
 
-/// Vacuums the core, and makes the entry of that. Both reports are made before anything changes.
+/// Vacuums the core, and makes the entry of the call. Both reports are made before anything changes.
 fn write_vacuum(core: &mut Core, trail: &mut Trail, caller: u16) -> Result<CoreReply, NoMemory>
     ensures { Enters core.old core.new (Some trail.old.entries.items) (Some trail.new.entries.items)
         caller AnEvent.Vacuum result }
@@ -72,17 +72,16 @@ fn write_vacuum(core: &mut Core, trail: &mut Trail, caller: u16) -> Result<CoreR
     };
     let block = core.report_block()?;
     let other = core.report_block()?;
-    let (report, told) = core.vacuum_pair()?;
+    let (report, returned) = core.vacuum_pair()?;
     trail.entries.push_reserved(Entry {
         caller,
         event: CoreEvent::Vacuum,
-        reply: CoreReply::Vacuumed(other.with(told)),
+        reply: CoreReply::Vacuumed(other.with(returned)),
     });
     Ok(CoreReply::Vacuumed(block.with(report)))
 }
 
-/// Vacuums the core to a stamp, and makes the entry of that. Both replies are made before anything
-/// changes.
+/// Vacuums the core to a stamp, and makes the entry of the call. Both replies are made before anything changes.
 fn write_vacuum_to(
     core: &mut Core,
     trail: &mut Trail,
@@ -104,7 +103,7 @@ fn write_vacuum_to(
     Ok(reply)
 }
 
-/// Vacuums the core to a stamp, and makes the reply twice.
+/// Vacuums the core to a stamp, and returns the reply twice.
 fn vacuum_twice_to(core: &mut Core, at: Stamp) -> Result<(CoreReply, CoreReply), NoMemory>
     ensures { RepliesTwice core.old core.new (AnEvent.VacuumTo at) result }
 {
@@ -119,7 +118,7 @@ fn vacuum_twice_to(core: &mut Core, at: Stamp) -> Result<(CoreReply, CoreReply),
     }
 }
 
-/// A refusal as the reply to a call. Out of memory is no reply: then no call was made.
+/// Returns a refusal as the reply to a call. Out of memory is no reply: then no call was made.
 pub(crate) fn refuse(fault: CoreFault) -> Result<CoreReply, NoMemory>
     ensures ok { IfOk result
         (λ reply. (reply ≡ AReply.Refused fault) × (fault ≢ AFault.NoMemory)) }
@@ -131,7 +130,7 @@ pub(crate) fn refuse(fault: CoreFault) -> Result<CoreReply, NoMemory>
     }
 }
 
-/// The same, and a copy of it.
+/// Returns the same twice.
 pub(crate) fn refuse_twice(fault: CoreFault) -> Result<(CoreReply, CoreReply), NoMemory>
     ensures { IfOk result (λ replies. (replies.0 ≡ AReply.Refused fault)
         × (replies.1 ≡ AReply.Refused fault) × (fault ≢ AFault.NoMemory)) }

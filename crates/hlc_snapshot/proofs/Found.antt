@@ -1,4 +1,4 @@
--- The snapshot of an id, found where the lower ids end: the ids rise, so it stands there or nowhere.
+-- The snapshot with an id, found where the lower ids end: the ids ascend, so it is there or nowhere.
 use Rattle.std.proofs.Common.{subst, ◌≡◌, ◌≢◌, ℕ, suc, ◌<◌, ◌≤◌, List, [], ◌∷◌, Some, None, refl, sym}
 use Rattle.std.proofs.Common.{◌∙◌, inl, inr, arith, true, false, zero, get_or}
 use Rattle.std.specs.Prelude.{All, length, nat_lt}
@@ -8,7 +8,7 @@ use Rattle.std.proofs.lemmas.Bool.{cases_eq, cases_lt}
 use Rattle.std.proofs.lemmas.Bool.Decides.{nat_tests}
 use Rattle.std.proofs.lemmas.List.Elements.{All-head, All-tail}
 use Rattle.hlc_snapshot.specs.declared.snapshot.Snapshot.{Snapshot}
-use Rattle.hlc_snapshot.specs.Register.{stamp_in}
+use Rattle.hlc_snapshot.specs.RegistryView.{stamp_in}
 use Rattle.hlc_snapshot.proofs.RegisterLemmas.{stamp_in-hit, stamp_in-miss}
 use Rattle.hlc_snapshot.proofs.Rising.{IsOlder, pairs-tail}
 
@@ -25,7 +25,7 @@ stamp_in-none id (x ∷ xs) others =
     stamp_in-miss id x xs (All-head (λ snapshot. snapshot.id ≢ id) x xs others)
     ∙ stamp_in-none id xs (All-tail (λ snapshot. snapshot.id ≢ id) x xs others)
 
--- each snapshot is found under its id
+-- each snapshot is found by its id
 stamp_in-at : (xs : List Snapshot) → AllPairs IsOlder xs → (i : ℕ) (d : Snapshot) → i < length xs
     → stamp_in (get_or xs i d).id xs ≡ Some (get_or xs i d).stamp
 stamp_in-at [] pairs i d inside = absurd (omega (arith, inside))
@@ -35,7 +35,7 @@ stamp_in-at (x ∷ xs) pairs (suc i) d inside =
     stamp_in-miss (get_or xs i d).id x xs (λ same. omega (arith, less, same))
     ∙ stamp_in-at xs (pairs-tail x xs pairs) i d (omega (arith, inside))
 
--- the lower ids stand in front
+-- the lower ids come first
 abbrev pub IsFront : ℕ → List Snapshot → ℕ → Type 0
 IsFront id xs n =
     IsPartitionPoint (λ snapshot. nat_lt snapshot.id id ≡ true) (λ snapshot. nat_lt snapshot.id id ≡ false) xs n
@@ -46,7 +46,7 @@ stamp_in-found xs id n x pairs inside here same =
     subst (λ k. stamp_in k xs ≡ Some x.stamp) same
     (subst (λ (y : Snapshot). stamp_in y.id xs ≡ Some y.stamp) (sym here) (stamp_in-at xs pairs n x inside))
 
--- where the first that is not lower has another id, all have
+-- if the first snapshot that is not lower has another id, all have
 differs : (xs : List Snapshot) (id n : ℕ) → AllPairs IsOlder xs → IsFront id xs n
     → ((d : Snapshot) → n < length xs → (get_or xs n d).id ≢ id) → All (λ snapshot. snapshot.id ≢ id) xs
 differs xs id n pairs (front, back) other i d inside =

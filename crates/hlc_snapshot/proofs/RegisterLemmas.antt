@@ -1,5 +1,5 @@
--- A register is a map from ids to stamps. Its ids rise and none is above the number of those opened, so a new one is
--- above all others; an opening or a closing touches the look-up of one id alone.
+-- A register is a map from ids to stamps. Its ids ascend and none is above the number ever opened, so a new one is
+-- above all others; an opening or a closing changes the look-up of one id alone.
 use Rattle.std.proofs.Common.{◌⊎◌, subst, ◌≡◌, ◌≢◌, ℕ, ◌+◌, ◌<◌, ◌≤◌, List, [], ◌∷◌, ◌++◌, Some, None, refl, ap, sym}
 use Rattle.std.proofs.Common.{◌∙◌, inl, inr, arith}
 use Rattle.std.specs.Prelude.{All, true, ◌==◌, not, find, if◌then◌else◌, nat_le}
@@ -9,8 +9,9 @@ use Rattle.std.proofs.lemmas.List.Elements.{All-head, All-tail, All-weaker, All-
 use Rattle.std.proofs.lemmas.List.Filters.{length-filter_both}
 use Rattle.std.proofs.lemmas.List.Kept.{AllPairs-filter}
 use Rattle.hlc_snapshot.specs.declared.snapshot.Snapshot.{Snapshot}
-use Rattle.hlc_snapshot.specs.Register.{Register, IsRegister, Follows, at_once, opening, closing, closed, opened_at}
-use Rattle.hlc_snapshot.specs.Register.{stamp_in, stamps, stamps_to, without}
+use Rattle.hlc_snapshot.specs.RegistryView.{RegistryView, IsRegister, Follows, at_once, opening, closing, closed}
+use Rattle.hlc_snapshot.specs.RegistryView.{opened_at}
+use Rattle.hlc_snapshot.specs.RegistryView.{stamp_in, stamps, stamps_to, without}
 
 pub stamp_in-hit : (id : ℕ) (x : Snapshot) (xs : List Snapshot) → x.id ≡ id → stamp_in id (x ∷ xs) ≡ Some x.stamp
 stamp_in-hit id x xs same =
@@ -36,7 +37,7 @@ stamp_in-above id (x ∷ xs) below =
     stamp_in-miss id x xs (λ same. omega arith)
     ∙ stamp_in-above id xs (All-tail (λ snapshot. snapshot.id < id) x xs below)
 
--- one more snapshot behind the others is found under its id, where that is above theirs
+-- a snapshot that is appended is found by its id, if that is above the others
 stamp_in-push_here : (y : Snapshot) (xs : List Snapshot) → All (λ snapshot. snapshot.id < y.id) xs
     → stamp_in y.id (xs ++ y ∷ []) ≡ Some y.stamp
 stamp_in-push_here y [] below = stamp_in-hit y.id y [] refl
@@ -45,7 +46,7 @@ stamp_in-push_here y (x ∷ xs) below =
     stamp_in-miss y.id x (xs ++ y ∷ []) (λ same. omega arith)
     ∙ stamp_in-push_here y xs (All-tail (λ snapshot. snapshot.id < y.id) x xs below)
 
--- and hides no other
+-- and it hides no other
 pub stamp_in-push_other : (id : ℕ) (y : Snapshot) (xs : List Snapshot) → y.id ≢ id
     → stamp_in id (xs ++ y ∷ []) ≡ stamp_in id xs
 stamp_in-push_other id y [] other = stamp_in-miss id y [] other
@@ -56,13 +57,13 @@ stamp_in-push_other id y (x ∷ xs) other =
           ∙ sym (stamp_in-miss id x xs differs)
     ]
 
-pub stamp_in-without_gone : (id : ℕ) (xs : List Snapshot) → stamp_in id (without id xs) ≡ None
-stamp_in-without_gone id [] = refl
-stamp_in-without_gone id (x ∷ xs) =
+pub stamp_in-without_itself : (id : ℕ) (xs : List Snapshot) → stamp_in id (without id xs) ≡ None
+stamp_in-without_itself id [] = refl
+stamp_in-without_itself id (x ∷ xs) =
     elim (cases_eq x.id id) [
-      | inl same ↦ ap (stamp_in id) (without-hit id x xs same) ∙ stamp_in-without_gone id xs
+      | inl same ↦ ap (stamp_in id) (without-hit id x xs same) ∙ stamp_in-without_itself id xs
       | inr differs ↦ ap (stamp_in id) (without-miss id x xs differs) ∙ stamp_in-miss id x (without id xs) differs
-          ∙ stamp_in-without_gone id xs
+          ∙ stamp_in-without_itself id xs
     ]
 
 pub stamp_in-without_other : (id other : ℕ) (xs : List Snapshot) → other ≢ id
@@ -70,8 +71,8 @@ pub stamp_in-without_other : (id other : ℕ) (xs : List Snapshot) → other ≢
 stamp_in-without_other id other [] differs = refl
 stamp_in-without_other id other (x ∷ xs) differs =
     elim (cases_eq x.id id) [
-      | inl gone ↦ ap (stamp_in other) (without-hit id x xs gone) ∙ stamp_in-without_other id other xs differs
-          ∙ sym (stamp_in-miss other x xs (λ same. differs (sym same ∙ gone)))
+      | inl removed ↦ ap (stamp_in other) (without-hit id x xs removed) ∙ stamp_in-without_other id other xs differs
+          ∙ sym (stamp_in-miss other x xs (λ same. differs (sym same ∙ removed)))
       | inr kept ↦
           ap (stamp_in other) (without-miss id x xs kept)
           ∙ elim (cases_eq x.id other) [
@@ -81,31 +82,31 @@ stamp_in-without_other id other (x ∷ xs) differs =
           ]
     ]
 
--- the next id is above all those of a register
-pub next_id-above : (register : Register) → IsRegister register
+-- the next id is above all ids of a register
+pub next_id-above : (register : RegistryView) → IsRegister register
     → All (λ snapshot. snapshot.id < register.opened + 1) register.snapshots
 next_id-above register h =
     All-weaker (λ snapshot. (0 < snapshot.id) × (snapshot.id ≤ register.opened))
-    (λ snapshot. snapshot.id < register.opened + 1) (λ x given. omega (arith, given.1)) register.snapshots h.given
+    (λ snapshot. snapshot.id < register.opened + 1) (λ x bounded. omega (arith, bounded.1)) register.snapshots h.bounded
 
-pub next_id-fresh : (register : Register) → IsRegister register
+pub next_id-fresh : (register : RegistryView) → IsRegister register
     → stamp_in (register.opened + 1) register.snapshots ≡ None
 next_id-fresh register h = stamp_in-above _ register.snapshots (next_id-above register h)
 
-pub opened-here : (register : Register) (stamp : ℕ) → IsRegister register
+pub opened-here : (register : RegistryView) (stamp : ℕ) → IsRegister register
     → stamp_in (register.opened + 1) (opened_at register stamp).snapshots ≡ Some stamp
 opened-here register stamp h =
     stamp_in-push_here (record { id = register.opened + 1; stamp = stamp }) register.snapshots
     (next_id-above register h)
 
-pub opened-other : (register : Register) (stamp id : ℕ) → id ≢ register.opened + 1
+pub opened-other : (register : RegistryView) (stamp id : ℕ) → id ≢ register.opened + 1
     → stamp_in id (opened_at register stamp).snapshots ≡ stamp_in id register.snapshots
 opened-other register stamp id other =
     stamp_in-push_other id (record { id = register.opened + 1; stamp = stamp }) register.snapshots
     (λ same. other (sym same))
 
 -- both in one: the map after an opening
-pub opened-map : (register : Register) (stamp id : ℕ) → IsRegister register
+pub opened-map : (register : RegistryView) (stamp id : ℕ) → IsRegister register
     → stamp_in id (opened_at register stamp).snapshots
     ≡ (if id == register.opened + 1 then Some stamp else stamp_in id register.snapshots)
 opened-map register stamp id h =
@@ -115,15 +116,15 @@ opened-map register stamp id h =
       | inr other ↦ opened-other register stamp id other ∙ sym (cond-false _ _ _ (ne_eqb _ _ other))
     ]
 
-pub closed-here : (register : Register) (id : ℕ) → stamp_in id (closed id register).snapshots ≡ None
-closed-here register id = stamp_in-without_gone id register.snapshots
+pub closed-here : (register : RegistryView) (id : ℕ) → stamp_in id (closed id register).snapshots ≡ None
+closed-here register id = stamp_in-without_itself id register.snapshots
 
-pub closed-other : (register : Register) (id other : ℕ) → other ≢ id
+pub closed-other : (register : RegistryView) (id other : ℕ) → other ≢ id
     → stamp_in other (closed id register).snapshots ≡ stamp_in other register.snapshots
 closed-other register id other differs = stamp_in-without_other id other register.snapshots differs
 
 -- the map after a closing
-pub closed-map : (register : Register) (id other : ℕ)
+pub closed-map : (register : RegistryView) (id other : ℕ)
     → stamp_in other (closed id register).snapshots ≡ (if other == id then None else stamp_in other register.snapshots)
 closed-map register id other =
     elim (cases_eq other id) [
@@ -132,41 +133,41 @@ closed-map register id other =
       | inr differs ↦ closed-other register id other differs ∙ sym (cond-false _ _ _ (ne_eqb _ _ differs))
     ]
 
--- fewer snapshots are a register still
-pub closed-is_register : (register : Register) (id : ℕ) → IsRegister register → IsRegister (closed id register)
+-- a register from which a snapshot was removed is a register
+pub closed-is_register : (register : RegistryView) (id : ℕ) → IsRegister register → IsRegister (closed id register)
 closed-is_register register id h = record {
   rising = AllPairs-filter (λ older newer. older.id < newer.id)
       (λ snapshot. not (snapshot.id == id)) register.snapshots h.rising;
-  given =
+  bounded =
       All-filter (λ snapshot. not (snapshot.id == id))
-      (λ snapshot. (0 < snapshot.id) × (snapshot.id ≤ register.opened)) register.snapshots h.given;
+      (λ snapshot. (0 < snapshot.id) × (snapshot.id ≤ register.opened)) register.snapshots h.bounded;
   few =
       (let both = length-filter_both (λ snapshot. not (snapshot.id == id)) (λ snapshot. not (not (snapshot.id == id)))
       (λ _. refl) register.snapshots in omega (arith, both, h.few));
   in_range = h.in_range;
 }
 
-opened-rises : {older newer : Register} → Follows older newer → older.opened ≤ newer.opened
+opened-rises : {older newer : RegistryView} → Follows older newer → older.opened ≤ newer.opened
 opened-rises at_once = omega arith
 opened-rises (opening stamp follows) = (let rises = opened-rises follows in omega (arith, rises))
 opened-rises (closing id follows) = opened-rises follows
 
--- what is open under an old id was open before, with the same stamp
-pub open_before : {older newer : Register} (id stamp : ℕ) → Follows older newer → id ≤ older.opened
+-- a snapshot that is open with an old id was open before, with the same stamp
+pub open_before : {older newer : RegistryView} (id stamp : ℕ) → Follows older newer → id ≤ older.opened
     → stamp_in id newer.snapshots ≡ Some stamp → stamp_in id older.snapshots ≡ Some stamp
 open_before id stamp at_once old found = found
 open_before id stamp (opening {newer = between} at follows) old found =
     let rises : _ = opened-rises follows in
     open_before id stamp follows old
     (sym (opened-other between at id (λ same. omega (arith, rises, same, old))) ∙ found)
-open_before id stamp (closing {newer = between} gone follows) old found =
-    elim (cases_eq id gone) [
-      | inl same ↦ absurd (let none : stamp_in id (closed gone between).snapshots ≡ None =
-          ap (λ k. stamp_in k (closed gone between).snapshots) same ∙ closed-here between gone in cc)
-      | inr differs ↦ open_before id stamp follows old (sym (closed-other between gone id differs) ∙ found)
+open_before id stamp (closing {newer = between} removed follows) old found =
+    elim (cases_eq id removed) [
+      | inl same ↦ absurd (let none : stamp_in id (closed removed between).snapshots ≡ None =
+          ap (λ k. stamp_in k (closed removed between).snapshots) same ∙ closed-here between removed in cc)
+      | inr differs ↦ open_before id stamp follows old (sym (closed-other between removed id differs) ∙ found)
     ]
 
--- what is found with one more snapshot behind the others was found before, or is that one
+-- a snapshot that is found after another was appended was found before, or is that one
 pub stamp_in-push_cases : (id stamp : ℕ) (y : Snapshot) (xs : List Snapshot) → stamp_in id (xs ++ y ∷ []) ≡ Some stamp
     → (stamp_in id xs ≡ Some stamp) ⊎ ((y.id ≡ id) × (y.stamp ≡ stamp))
 stamp_in-push_cases id stamp y [] is =
@@ -203,7 +204,7 @@ stamps_to-low bound snapshots =
     All-weaker (λ stamp. nat_le stamp bound ≡ true) (λ stamp. stamp ≤ bound) (λ stamp le. leb-true stamp bound le)
     (stamps_to bound snapshots) (filter_passes (λ stamp. nat_le stamp bound) (stamps snapshots))
 
--- and they are all stamps, where none is above the bound
+-- and they are all the stamps, if none is above the bound
 pub stamps_to-all : (bound : ℕ) (snapshots : List Snapshot) → All (λ snapshot. snapshot.stamp ≤ bound) snapshots
     → stamps_to bound snapshots ≡ stamps snapshots
 stamps_to-all bound [] low = refl

@@ -1,4 +1,4 @@
--- What a registry's refusal is called: its number and its text.
+-- The refusals of a registry: the number and the text of each.
 use Rattle.std.specs.Prelude.{ℕ, List, codes}
 use Rattle.hlc_snapshot.specs.declared.fault.SnapshotFault.{SnapshotFault}
 use Rattle.hlc_snapshot.specs.declared.fault.SnapshotFault.TheVariants.{TooManySnapshots, NumbersSpent, NoMemory}

@@ -1,2 +1,2 @@
-pub mod Register
+pub mod RegistryView
 pub mod Faults

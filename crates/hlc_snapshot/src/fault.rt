@@ -1,10 +1,7 @@
 //! Why a registry refuses a call.
 ghost use Rattle.std.specs.Prelude.{◌≡◌};
 ghost use Rattle.hlc_snapshot.specs.Faults.{snapshot_code};
-ghost use Rattle.std.proofs.Common.{rules};
-ghost use Rattle.std.proofs.lemmas.Grind.{common_steps};
 
-use hlc_values::Exact;
 use std::error::Error;
 use std::fmt;
 
@@ -15,18 +12,12 @@ pub enum SnapshotFault {
     TooManySnapshots,
     /// No further id is left.
     NumbersSpent,
-    /// A growth was refused.
+    /// Out of memory.
     NoMemory,
 }
 
-impl Exact for SnapshotFault {
-    ghost equal = { Prim.search (rules, common_steps) };
-
-    ghost copied = { Prim.search rules };
-}
-
 impl SnapshotFault {
-    /// Its number: 11, 14 or 15.
+    /// Returns the number of this refusal: 11, 14 or 15.
     pub fn code(self) -> u32
         ensures { result ≡ snapshot_code self }
     {
@@ -58,12 +49,6 @@ impl Error for SnapshotFault {}
 /// No open snapshot has that id.
 #[derive(Clone, Copy, PartialEq, Eq, Debug)]
 pub struct NoSnapshot;
-
-impl Exact for NoSnapshot {
-    ghost equal = { Prim.search (rules, common_steps) };
-
-    ghost copied = { Prim.search rules };
-}
 
 impl fmt::Display for NoSnapshot {
     ghost use Rattle.std.specs.Prelude.{Some, codes};

@@ -1,6 +1,7 @@
 //! The open snapshots of a table, and the points of a vacuum.
 #![tactic(auto)]
 
+mod exact;
 mod fault;
 mod laws;
 mod registry;

@@ -1,8 +1,8 @@
 //! The registry of open snapshots.
 ghost use Rattle.std.specs.Prelude.{◌≡◌, ℕ, ◌+◌, ◌<◌, ◌≤◌, ◌==◌, [], ◌∷◌, ◌++◌, ◌↔◌, IsTrue, length};
 ghost use Rattle.std.specs.Prelude.{if◌then◌else◌, All, IfOk, IfErr, IfSome, OnErr};
-ghost use Rattle.hlc_snapshot.specs.Register.{IsRegister, IsRefusal, closed, opened_at, room_refusal};
-ghost use Rattle.hlc_snapshot.specs.Register.{ids_rise, stamp_in, stamps, stamps_to};
+ghost use Rattle.hlc_snapshot.specs.RegistryView.{IsRegister, IsRefusal, closed, opened_at, room_refusal};
+ghost use Rattle.hlc_snapshot.specs.RegistryView.{ids_rise, stamp_in, stamps, stamps_to};
 ghost use Rattle.hlc_clock.specs.Points.{ArePoints};
 ghost use Rattle.std.specs.Prelude.{AllPairs, nat_lt, false};
 ghost use Rattle.std.specs.List.Sorted.{IsPartitionPoint};
@@ -14,11 +14,11 @@ use hlc_values::NoMemory;
 use std::alloc::Global;
 use std::marker::Model;
 
-/// The most snapshots that may be open at once.
+/// The maximum number of open snapshots.
 pub const MOST_OPEN: usize = 1024;
 
-/// The open snapshots of a table. Contracts see them in the order in which they were opened, and
-/// how many were ever opened.
+/// The open snapshots of a table. In contracts they are in the order in which they were opened,
+/// with the number of snapshots that were ever opened.
 #[derive(Debug, Drop)]
 pub struct Registry {
     snapshots: Vec<Snapshot>,
@@ -26,9 +26,9 @@ pub struct Registry {
 }
 
 impl Model for Registry {
-    ghost use Rattle.hlc_snapshot.specs.Register.{Register, IsRegister};
+    ghost use Rattle.hlc_snapshot.specs.RegistryView.{RegistryView, IsRegister};
 
-    ghost Value = { Register };
+    ghost Value = { RegistryView };
 
     ghost view = { λ registry.
         record { snapshots = registry.snapshots.items; opened = registry.opened } };
@@ -38,7 +38,7 @@ impl Model for Registry {
 }
 
 impl Registry {
-    /// A registry in which no snapshot was ever opened.
+    /// Returns a registry in which no snapshot was ever opened.
     pub fn new(alloc: Global) -> Registry
         ensures { result ≡ record { snapshots = []; opened = 0 } }
     {
@@ -48,8 +48,8 @@ impl Registry {
         }
     }
 
-    /// A registry of these open snapshots, the oldest first, after so many were ever opened. It takes
-    /// no memory.
+    /// Returns a registry of these open snapshots, the oldest first, with this number of snapshots ever opened. It
+    /// needs no memory.
     pub fn resuming(snapshots: Vec<Snapshot>, opened: u64) -> Registry
         requires { IsRegister (record { snapshots = snapshots.items; opened = opened }) }
         ensures { result ≡ record { snapshots = snapshots.items; opened = opened } }
@@ -57,7 +57,7 @@ impl Registry {
         Registry { snapshots, opened }
     }
 
-    /// The open snapshots, the oldest first.
+    /// Returns the open snapshots, the oldest first.
     pub fn snapshots(&self) -> &[Snapshot]
         ensures value { result.now ≡ self.now.snapshots }
         ensures register { IsRegister self.now }
@@ -65,17 +65,18 @@ impl Registry {
         self.snapshots.as_slice()
     }
 
-    /// How many were ever opened, which is also the greatest id that was given.
+    /// Returns the number of snapshots that were ever opened, which is also the greatest assigned
+    /// id.
     pub fn opened(&self) -> u64
         ensures { result ≡ self.now.opened }
     {
         self.opened
     }
 
-    /// Opens a snapshot at a stamp, and gives its id. Ids are 1, 2, 3 and so on, and are never used
-    /// again.
+    /// Opens a snapshot at a stamp and returns its id. Ids are 1, 2, 3 and so on, and are never
+    /// used again.
     ///
-    /// Refused, in this order: 1,024 snapshots are open; no id is left; want of memory.
+    /// Refused, in this order: 1,024 snapshots are open; no id is left; out of memory.
     pub fn open(&mut self, stamp: Stamp) -> Result<u64, SnapshotFault>
         ensures ok { IfOk result
             (λ id. (room_refusal (length self.old.snapshots) self.old.opened ≡ None)
@@ -103,8 +104,8 @@ impl Registry {
         Ok(id)
     }
 
-    /// The stamp of the open snapshot that has this id. It costs one look where no snapshot from the oldest open one to
-    /// this one was closed, and else a binary search of the ids.
+    /// Returns the stamp of the open snapshot with this id, or none. It costs one look-up if no snapshot from the
+    /// oldest open one to this one was closed, and otherwise a binary search of the ids.
     pub fn stamp_of(&self, id: u64) -> Option<Stamp>
         ensures value { result ≡ stamp_in id self.now.snapshots }
         ensures register { IsRegister self.now }
@@ -120,7 +121,7 @@ impl Registry {
         }
     }
 
-    /// Closes the snapshot that has this id, and gives its stamp. Takes no memory.
+    /// Closes the snapshot with this id and returns its stamp. It needs no memory.
     pub fn close(&mut self, id: u64) -> Result<Stamp, NoSnapshot>
         ensures ok { IfOk result
             (λ stamp. (stamp_in id self.old.snapshots ≡ Some stamp)
@@ -141,15 +142,15 @@ impl Registry {
         Ok(stamp)
     }
 
-    /// Closes all open snapshots. It takes no memory.
+    /// Closes all open snapshots. It needs no memory.
     pub fn clear(&mut self)
         ensures { self.new ≡ record { snapshots = []; opened = self.old.opened } }
     {
         self.snapshots.clear();
     }
 
-    /// The points of a vacuum to this stamp: the distinct stamps of the open snapshots at or below it, and
-    /// the stamp itself, ascending, so that it is the last.
+    /// Returns the points of a vacuum to this stamp: the distinct stamps of the open snapshots at or below it, and the
+    /// stamp itself, ascending, so that it is the last.
     pub fn points(&self, at: Stamp) -> Result<Vec<Stamp>, NoMemory>
         ensures points { IfOk result
             (λ points. ArePoints (stamps_to at self.now.snapshots) at points.items) }
@@ -163,7 +164,7 @@ impl Registry {
         Ok(points)
     }
 
-    /// The stamps of the open snapshots at or below a bound.
+    /// Returns the stamps of the open snapshots at or below a bound.
     fn stamps_to(&self, bound: Stamp) -> Result<Vec<Stamp>, NoMemory>
         ensures { IfOk result (λ found. found.items ≡ stamps_to bound self.now.snapshots) }
     {
@@ -178,7 +179,8 @@ impl Registry {
     }
 }
 
-/// Whether these may be the open snapshots of a registry in which so many were ever opened.
+/// Returns whether these may be the open snapshots of a registry in which `opened` snapshots were
+/// ever opened.
 pub fn is_register(snapshots: &[Snapshot], opened: u64) -> bool
     ensures { IsTrue result
         ↔ IsRegister (record { snapshots = snapshots.now; opened = opened }) }
@@ -189,7 +191,8 @@ pub fn is_register(snapshots: &[Snapshot], opened: u64) -> bool
     do_ids_rise(snapshots, opened)
 }
 
-/// Where a snapshot stands if none from the oldest open one to this one was closed: ids are given in turn.
+/// Returns the position of a snapshot, assuming that no snapshot from the oldest open one to this one was closed: ids
+/// are assigned in order.
 fn place_after_oldest(snapshots: &[Snapshot], id: u64) -> usize {
     match snapshots.first() {
         Some(oldest) => id.saturating_sub(oldest.id) as usize,
@@ -197,7 +200,7 @@ fn place_after_oldest(snapshots: &[Snapshot], id: u64) -> usize {
     }
 }
 
-/// The stamp of the snapshot at a place, if it has this id.
+/// Returns the stamp of the snapshot at a position, if it has this id.
 fn stamp_at(snapshots: &[Snapshot], place: usize, id: u64) -> Option<Stamp>
     requires { AllPairs (λ older newer. older.id < newer.id) snapshots.now }
     ensures { IfSome result (λ stamp. stamp_in id snapshots.now ≡ Some stamp) }
@@ -210,7 +213,7 @@ fn stamp_at(snapshots: &[Snapshot], place: usize, id: u64) -> Option<Stamp>
     }
 }
 
-/// How many snapshots have a lower id. They stand in front.
+/// Returns the number of snapshots with a lower id. They come first.
 fn count_below(snapshots: &[Snapshot], id: u64) -> usize
     requires { AllPairs (λ older newer. older.id < newer.id) snapshots.now }
     ensures { IsPartitionPoint (λ snapshot. IsTrue (nat_lt snapshot.id id))
@@ -219,7 +222,7 @@ fn count_below(snapshots: &[Snapshot], id: u64) -> usize
     snapshots.partition_point(|snapshot| snapshot.id < id)
 }
 
-/// Whether the ids rise, and lie from 1 to the number of those ever opened.
+/// Returns whether the ids ascend and are between 1 and `opened`.
 fn do_ids_rise(snapshots: &[Snapshot], opened: u64) -> bool
     ensures { result ≡ ids_rise 0 opened snapshots.now }
 {
@@ -233,8 +236,8 @@ fn do_ids_rise(snapshots: &[Snapshot], opened: u64) -> bool
     last <= opened
 }
 
-/// The first reason that there is no room for one more, where so many are open and so many were
-/// ever opened.
+/// Returns the first reason that no snapshot can be opened, from the number of open snapshots and
+/// the number ever opened; or none.
 fn room_fault(open_now: usize, opened: u64) -> Option<SnapshotFault>
     ensures { result ≡ room_refusal open_now opened }
 {

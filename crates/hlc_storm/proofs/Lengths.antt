@@ -1,5 +1,5 @@
--- How many there are: a list is one longer than what is left where its last element is taken off, and a board of so
--- many nodes has as many feeders.
+-- Lengths: a list is one longer than what is left where its last element is removed, and a board of so many nodes has
+-- as many feeders.
 use Rattle.std.proofs.Common.{◌≡◌, ◌∙◌, ℕ, zero, suc, ◌+◌, List, [], ◌∷◌, ◌++◌, length, ap, refl, arith, length-append}
 use Rattle.atomic_table.specs.Seated.{TableId}
 use Rattle.hlc_floor.specs.Views.{post, posts}

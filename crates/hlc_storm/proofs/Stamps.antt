@@ -3,7 +3,7 @@ use Rattle.std.proofs.Common.{◌≡◌, ℕ, ◌+◌, ◌<◌, Option, Some, No
 use Rattle.std.proofs.Common.{false, arith, ap, ◌∙◌}
 use Rattle.std.proofs.lemmas.Bool.Decides.{nat_tests}
 use Rattle.hlc_clock.specs.Stamp.{physical}
-use Rattle.hlc_clock.specs.NextStamp.{next_stamp, is_carried, stamp_due}
+use Rattle.hlc_clock.specs.NextStamp.{next_stamp, is_carried, expected_stamp}
 use Rattle.hlc_node.specs.declared.item.BodyFault.{BodyFault}
 use Rattle.hlc_node.specs.Node.{issue_after}
 use Rattle.hlc_storm.specs.Written.{stamp_at, after_writes}
@@ -20,12 +20,12 @@ not_carried n =
     ap physical (next_is n) ∙ physical_of (n + 1) in
     grind (arith, nat_tests, here)
 
-due : (n : ℕ) → n < 2000 → stamp_due (stamp_at n ∷ []) (n + 1) ≡ Ok (stamp_at (n + 1))
-due n low = let carried = not_carried n in let next = next_is n in grind (arith, nat_tests, carried, next)
+expected : (n : ℕ) → n < 2000 → expected_stamp (stamp_at n ∷ []) (n + 1) ≡ Ok (stamp_at (n + 1))
+expected n low = let carried = not_carried n in let next = next_is n in grind (arith, nat_tests, carried, next)
 
--- a stamp that such a node gives, whatever its item says
+-- the stamp of an item of such a node, whatever its body
 pub issued_at : (refusal : Option BodyFault) (node n stamp : ℕ) → n < 2000
     → issue_after refusal (after_writes node n) (n + 1) ≡ Ok stamp
     → stamp ≡ stamp_at (n + 1)
 issued_at (Some fault) node n stamp low is = absurd (cc)
-issued_at None node n stamp low is = let is_due = due n low in grind (arith, nat_tests, is_due)
+issued_at None node n stamp low is = let is_expected = expected n low in grind (arith, nat_tests, is_expected)

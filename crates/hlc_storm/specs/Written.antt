@@ -16,7 +16,7 @@ key_text number = codes "k" ++ decimal number
 abbrev pub value_text : ℕ → ℕ → List ℕ
 value_text node number = decimal node ++ (codes "." ++ decimal number)
 
--- the stamp of a node's event at a reading that is above all before: the counter starts at 0
+-- the stamp of a node's event at a reading above all earlier ones: the counter starts at 0
 abbrev pub stamp_at : ℕ → ℕ
 stamp_at reading = COUNTER_BOUND * reading
 
@@ -25,7 +25,7 @@ abbrev pub write_item : ℕ → ℕ → ℕ → Item
 write_item keys node number =
     an_item node number (stamp_at (number + 1)) (Write (key_text (number % keys)) (Some (value_text node number)))
 
--- a node's report behind so many writes
+-- a node's report after so many writes
 abbrev pub report_item : ℕ → ℕ → Item
 report_item node writes = an_item node writes (stamp_at (writes + 1)) Report
 

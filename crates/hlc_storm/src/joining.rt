@@ -1,4 +1,4 @@
-//! The end of a storm's threads: all are joined, and how the workers ended is noted.
+//! The end of a storm's threads: all are joined, and how the workers ended is recorded.
 ghost use Rattle.std.specs.Prelude.{◌≡◌, ◌≢◌, ◌+◌, All, false, length, None, IfOk, IfErr};
 ghost use Rattle.hlc_storm_report.specs.Found.{MayRefuse};
 
@@ -16,7 +16,7 @@ pub type Worker<L> = Option<JoinHandle<Served<L>>>;
 /// The thread of a writer.
 pub type Writer = Option<JoinHandle<Result<(), WriteFault>>>;
 
-/// The threads of a storm. None stands for a thread that was not started. Each list of workers has the one with the
+/// The threads of a storm. `None` represents a thread that was not started. Each list of workers has the one with the
 /// last caller first.
 #[derive(Drop)]
 pub struct Started<L: Ledger> {
@@ -24,50 +24,50 @@ pub struct Started<L: Ledger> {
     pub feeders: Vec<Worker<L>>,
     pub readers: Vec<Worker<L>>,
     pub vacuum: Worker<L>,
-    /// Whether a thread could not be kept in its list.
-    pub lacks_memory: bool,
+    /// Whether there was no memory to put a thread into its list.
+    pub out_of_memory: bool,
 }
 
-/// Joins the writers, and says whether one was not started, or found no memory. How a writer that was started ended is
-/// not said, since a join says nothing of it.
+/// Joins the writers, and returns whether one was not started, or ran out of memory. The contract says nothing about
+/// how a started writer ended, since that of a join says nothing about it.
 fn join_writers<R: Threads + Wait>(rt: &R, writers: Vec<Writer>) -> bool
     ensures { result ≡ false → All (λ writer. writer ≢ None) writers.items }
 {
-    let mut lacks_memory = false;
+    let mut out_of_memory = false;
     for writer in writers {
-        lacks_memory = match writer {
-            Some(writer) => writer.join(rt) == Err(WriteFault::NoMemory) || lacks_memory,
+        out_of_memory = match writer {
+            Some(writer) => writer.join(rt) == Err(WriteFault::NoMemory) || out_of_memory,
             None => true,
         };
     }
-    lacks_memory
+    out_of_memory
 }
 
-/// Joins a worker and notes how it ended, or that it was not started.
+/// Joins a worker and records how it ended, or that it was not started.
 fn join_worker<L: Ledger, R: Threads + Wait>(rt: &R, worker: Worker<L>, ends: Ends<L>) -> Ends<L>
-    ensures list { result.lacks_memory ≡ false
+    ensures list { result.out_of_memory ≡ false
         → length result.lists.items ≡ length ends.lists.items + 1 }
-    ensures lacks { result.lacks_memory ≡ false → ends.lacks_memory ≡ false }
+    ensures out_of_memory { result.out_of_memory ≡ false → ends.out_of_memory ≡ false }
 {
     match worker {
         Some(worker) => ends.with(worker.join(rt)),
         None => Ends {
             lists: ends.lists,
             first: ends.first,
-            lacks_memory: true,
+            out_of_memory: true,
         },
     }
 }
 
-/// Joins workers, and notes how each ended.
+/// Joins workers, and records how each ended.
 fn join_workers<L: Ledger, R: Threads + Wait>(
     rt: &R,
     workers: Vec<Worker<L>>,
     ends: Ends<L>,
 ) -> Ends<L>
-    ensures lists { result.lacks_memory ≡ false
+    ensures lists { result.out_of_memory ≡ false
         → length result.lists.items ≡ length ends.lists.items + length workers.items }
-    ensures lacks { result.lacks_memory ≡ false → ends.lacks_memory ≡ false }
+    ensures out_of_memory { result.out_of_memory ≡ false → ends.out_of_memory ≡ false }
 {
     let mut ends = ends;
     for worker in workers {
@@ -76,7 +76,7 @@ fn join_workers<L: Ledger, R: Threads + Wait>(
     ends
 }
 
-/// Joins all threads, and gives the receipts by caller.
+/// Joins all threads, and returns the receipts by caller.
 pub fn join_all<L: Ledger, R: Threads + Wait>(
     rt: &R,
     alloc: Global,
@@ -85,7 +85,7 @@ pub fn join_all<L: Ledger, R: Threads + Wait>(
     ensures lists { IfOk result
         (λ lists. length lists.items
         ≡ length started.feeders.items + length started.readers.items + 1) }
-    ensures memory { IfOk result (λ _. started.lacks_memory ≡ false) }
+    ensures memory { IfOk result (λ _. started.out_of_memory ≡ false) }
     ensures faults { IfErr result MayRefuse }
 {
     let Started {
@@ -93,10 +93,10 @@ pub fn join_all<L: Ledger, R: Threads + Wait>(
         feeders,
         readers,
         vacuum,
-        lacks_memory,
+        out_of_memory,
     } = started;
-    let lacks_memory = join_writers(rt, writers) || lacks_memory;
-    let ends = join_worker(rt, vacuum, Ends::new(alloc, lacks_memory));
+    let out_of_memory = join_writers(rt, writers) || out_of_memory;
+    let ends = join_worker(rt, vacuum, Ends::new(alloc, out_of_memory));
     let ends = join_workers(rt, readers, ends);
     join_workers(rt, feeders, ends).outcome()
 }

@@ -1,5 +1,5 @@
 //! A storm: writers, feeders, readers and a vacuum use one store, each in a thread of its own. Once all have ended,
-//! their receipts are settled, and the store is asked what it holds.
+//! their receipts are settled, and the report says what the store contains.
 #![tactic(auto)]
 
 mod gates;

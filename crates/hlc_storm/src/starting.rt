@@ -1,4 +1,4 @@
-//! The start of a storm's threads. None stands for a thread that was not started.
+//! The start of a storm's threads. `None` represents a thread that was not started.
 ghost use Rattle.std.specs.Prelude.{◌≡◌, ◌+◌, false, length};
 ghost use Rattle.hlc_floor.specs.Views.{FeedersOf, PassesOf};
 ghost use Rattle.hlc_floor.proofs.PlaceLemmas.{feeders_prop, passes_prop};
@@ -18,7 +18,7 @@ use std::sync::Wait;
 use std::sync::ledger::Ledger;
 use std::thread::{Scope, Threads};
 
-/// How many parcels a link holds.
+/// The capacity of a link, in parcels.
 const CAPACITY: usize = 8;
 
 /// The feeders and the passes of a board.
@@ -31,7 +31,8 @@ pub(crate) struct Seats<'a> {
     ghost passes_of: { PassesOf board.now passes.items } by { passes_prop board.now passes.items },
 }
 
-/// Starts all threads of a storm. Of the callers the vacuum has the last, then come the readers, then the feeders.
+/// Starts all threads of a storm. The vacuum has the last of the callers, the readers come before it, and the feeders
+/// first.
 pub(crate) fn start_all<
     's,
     E,
@@ -51,9 +52,9 @@ pub(crate) fn start_all<
     plan: StormPlan,
     gates: &'s StormGates<F, D, V>,
 ) -> Started<L>
-    ensures feeders { result.lacks_memory ≡ false
+    ensures feeders { result.out_of_memory ≡ false
         → length result.feeders.items ≡ length seats.entry.feeders.items }
-    ensures readers { result.lacks_memory ≡ false
+    ensures readers { result.out_of_memory ≡ false
         → length result.readers.items ≡ length seats.entry.passes.items }
 {
     let mut callers = callers;
@@ -63,7 +64,7 @@ pub(crate) fn start_all<
         passes,
     } = seats;
     let vacuum = start_vacuum(scope, rt, alloc, shared, callers.pop(), &gates.vacuum);
-    let (readers, lacks_reader) = start_readers(
+    let (readers, reader_out_of_memory) = start_readers(
         scope,
         rt,
         alloc,
@@ -74,7 +75,7 @@ pub(crate) fn start_all<
         keys,
         &gates.readers,
     );
-    let (writers, feeders, lacks_node) = start_nodes(
+    let (writers, feeders, node_out_of_memory) = start_nodes(
         scope,
         rt,
         alloc,
@@ -90,7 +91,7 @@ pub(crate) fn start_all<
         feeders,
         readers,
         vacuum,
-        lacks_memory: lacks_reader || lacks_node,
+        out_of_memory: reader_out_of_memory || node_out_of_memory,
     }
 }
 
@@ -115,8 +116,8 @@ fn start_vacuum<
         .ok()
 }
 
-/// Starts a reader for each pass, the last one first, each with the last of the callers that are left. Says whether one
-/// of them could not be kept in the list.
+/// Starts a reader for each pass, the last one first, each with the last of the callers that are left. Returns also
+/// whether there was no memory to put one of them into the list.
 fn start_readers<
     's,
     E,
@@ -139,7 +140,7 @@ fn start_readers<
 {
     let mut passes = passes;
     let mut readers = Vec::new(alloc);
-    let mut lacks_memory = false;
+    let mut out_of_memory = false;
     for _place in 0..passes.len() {
         let Some(pass) = passes.pop() else {
             break;
@@ -155,9 +156,9 @@ fn start_readers<
             keys,
             gate,
         );
-        lacks_memory = is_one_lost(&mut readers, reader, lacks_memory);
+        out_of_memory = is_one_lost(&mut readers, reader, out_of_memory);
     }
-    (readers, lacks_memory)
+    (readers, out_of_memory)
 }
 
 /// Starts a reader, if there is a caller for it.
@@ -192,7 +193,7 @@ fn start_reader<
 }
 
 /// Starts a writer and a feeder for each node, the last one first, each feeder with the last of the callers that are
-/// left. Says whether one of them could not be kept in its list.
+/// left. Returns also whether there was no memory to put one of them into its list.
 fn start_nodes<
     's,
     E,
@@ -216,7 +217,7 @@ fn start_nodes<
     let mut feeders = feeders;
     let mut writers = Vec::new(alloc);
     let mut workers = Vec::new(alloc);
-    let mut lacks_memory = false;
+    let mut out_of_memory = false;
     for _place in 0..feeders.len() {
         let Some(feeder) = feeders.pop() else {
             break;
@@ -232,13 +233,13 @@ fn start_nodes<
             plan,
             gate,
         );
-        lacks_memory = is_one_lost(&mut writers, writer, lacks_memory);
-        lacks_memory = is_one_lost(&mut workers, worker, lacks_memory);
+        out_of_memory = is_one_lost(&mut writers, writer, out_of_memory);
+        out_of_memory = is_one_lost(&mut workers, worker, out_of_memory);
     }
-    (writers, workers, lacks_memory)
+    (writers, workers, out_of_memory)
 }
 
-/// Starts the writer and the feeder of a node, with a new link between them, if there are memory for that and a caller.
+/// Starts the writer and the feeder of a node, with a new link between them, if there is memory for that and a caller.
 fn start_node<
     's,
     E,
@@ -277,7 +278,8 @@ fn start_node<
     (writer, worker)
 }
 
-/// Keeps a thread in its list. Says whether one was lost before, or this one is, since there is no memory for it.
+/// Puts a thread into its list. Returns whether a thread was lost before, or this one is lost because it ran out of
+/// memory.
 fn is_one_lost<T: Drop>(threads: &mut Vec<T>, thread: T, lost: bool) -> bool
     ensures { result ≡ false
         → (lost ≡ false) × (length threads.new.items ≡ length threads.old.items + 1) }

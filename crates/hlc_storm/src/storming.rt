@@ -1,7 +1,7 @@
-//! A storm by a scope of threads.
+//! Runs a storm in a scope of threads.
 ghost use Rattle.std.specs.Prelude.{◌≡◌, ◌+◌, true, IfOk, IfErr, length};
 ghost use Rattle.std.specs.Option.{is_some};
-ghost use Rattle.hlc_storm_report.specs.Found.{MayRefuse, MayTell};
+ghost use Rattle.hlc_storm_report.specs.Found.{MayRefuse, MayReport};
 
 use crate::gates::StormGates;
 use crate::joining::join_all;
@@ -19,13 +19,13 @@ use std::sync::ledger::{Blank, Ledger};
 use std::thread;
 use std::thread::Threads;
 
-/// A storm whose workers are never held.
+/// Runs a storm whose gates never stop a worker.
 pub fn storm<R: Threads + Wait + Sync>(
     rt: &R,
     alloc: Global,
     plan: StormPlan,
 ) -> Result<StormReport, StormFault>
-    ensures { MayTell plan result }
+    ensures { MayReport plan result }
 {
     let gates = StormGates {
         feeders: FreeGate,
@@ -36,29 +36,29 @@ pub fn storm<R: Threads + Wait + Sync>(
 }
 
 /// Starts each writer, feeder, reader and the vacuum in a thread of its own, joins them, settles, and then lists at the
-/// floor and makes a last vacuum.
+/// floor (closed timestamp) and makes a last vacuum.
 ///
-/// Node i makes its write of number j, from 0, of the value `i.j` to the key `k` with j modulo the number of keys
-/// behind it, at reading j + 1. After its last write it reports at the reading after it. Its link holds 8 parcels.
-/// Each reader makes 16 rounds over all keys, at the floor of a board that the feeders raise,
-/// and one worker makes 16 vacuums.
+/// Write number j of node i, from 0, writes the value `i.j` to the key `k` followed by j modulo the number of keys, at
+/// reading j + 1. After its last write the node reports at the next reading. Its link has room for 8 parcels. Each
+/// reader makes 16 rounds over all keys, at the floor of a board that the feeders raise, and one worker makes 16
+/// vacuums.
 ///
-/// Refused, in this order: out of memory, a writer too, or a thread could not be started; the first worker that was not
-/// done, feeders by node, then readers, then the vacuum; receipts that don't settle; out of memory for what is asked of
-/// the store then.
+/// Refused, in this order: out of memory, which includes a writer that ran out of memory, or a thread could not be
+/// started; the first worker that was not done, feeders by node, then readers, then the vacuum; receipts that don't
+/// settle; out of memory for the report.
 pub fn storm_gated<F: Gate + Sync, D: Gate + Sync, V: Gate + Sync, R: Threads + Wait + Sync>(
     rt: &R,
     alloc: Global,
     plan: StormPlan,
     gates: &StormGates<F, D, V>,
 ) -> Result<StormReport, StormFault>
-    ensures { MayTell plan result }
+    ensures { MayReport plan result }
 {
     let callers = plan.nodes + plan.readers + 1;
     storm_in::<Brand, F, D, V, R>(rt, alloc, Blank::new(u64::from(callers)), plan, gates)
 }
 
-/// A storm of callers of this ledger.
+/// Runs a storm with callers of this ledger.
 fn storm_in<
     L: Ledger + Send + Sync,
     F: Gate + Sync,
@@ -74,14 +74,15 @@ fn storm_in<
 ) -> Result<StormReport, StormFault>
     requires ledger { (blank.name ≡ L.name) × (blank.parts ≡ L.parts) }
     requires callers { blank.parts ≡ plan.nodes + plan.readers + 1 }
-    ensures { MayTell plan result }
+    ensures { MayReport plan result }
 {
     let (store, lists) = work::<L, F, D, V, R>(rt, alloc, blank, plan, gates)?;
     let settled = settle_guarded(store, lists)?;
     report_of(alloc, settled.core, plan)
 }
 
-/// The work of a storm: what was under the lock of its store, and the receipts by caller, one list for each.
+/// Does the work of a storm. Returns what was under the lock of its store, and the receipts by caller, one list for
+/// each.
 pub fn work<
     L: Ledger + Send + Sync,
     F: Gate + Sync,
@@ -97,8 +98,8 @@ pub fn work<
 ) -> Result<(Guarded<L>, Lists<L>), StormFault>
     requires ledger { (blank.name ≡ L.name) × (blank.parts ≡ L.parts) }
     requires callers { blank.parts ≡ plan.nodes + plan.readers + 1 }
-    ensures audited { IfOk result (λ told. is_some told.0.trail ≡ true) }
-    ensures lists { IfOk result (λ told. length told.1.items ≡ plan.nodes + plan.readers + 1) }
+    ensures audited { IfOk result (λ outcome. is_some outcome.0.trail ≡ true) }
+    ensures lists { IfOk result (λ outcome. length outcome.1.items ≡ plan.nodes + plan.readers + 1) }
     ensures faults { IfErr result MayRefuse }
 {
     let (store, callers) = new_store::<L>(alloc, blank, &plan)?;
@@ -107,7 +108,7 @@ pub fn work<
     Ok((shared.into_guarded(), lists))
 }
 
-/// The work of these callers of a store, beside a new board: the receipts by caller, one list for each.
+/// Does the work of these callers of a store, with a new board. Returns the receipts by caller, one list for each.
 #[tactic(auto, using(hlc_floor::proofs::PlaceLemmas::feeders_new, hlc_floor::proofs::PlaceLemmas::passes_new))]
 fn work_of<
     L: Ledger + Send + Sync,
@@ -146,8 +147,9 @@ fn work_of<
     }
 }
 
-/// Runs all threads of a storm, and gives the receipts by caller: a list for each feeder, each reader and the vacuum.
-/// No clause says what is in the lists: the join of a thread says nothing of its result, and settling looks at each.
+/// Runs all threads of a storm, and returns the receipts by caller: a list for each feeder, each reader and the vacuum.
+/// No clause says what is in the lists, since the contract of a thread's join says nothing about its result; settling
+/// checks each receipt.
 fn run_all<
     L: Ledger + Send + Sync,
     F: Gate + Sync,

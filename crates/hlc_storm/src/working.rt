@@ -2,8 +2,8 @@
 ghost use Rattle.std.specs.Prelude.{◌≡◌, ◌≢◌, ◌<◌, ℕ, false, true, None, length, map, replicate, vec_len};
 ghost use Rattle.hlc_node.specs.declared.item.Item.{Item as AnItem};
 ghost use Rattle.std.specs.Prelude.{Option};
-ghost use Rattle.hlc_floor.specs.Views.{Sight};
-ghost use Rattle.hlc_link.specs.Ends.{Received};
+ghost use Rattle.hlc_floor.specs.Views.{FloorPassView};
+ghost use Rattle.hlc_link.specs.Ends.{ReceiverView};
 ghost use Rattle.hlc_core.specs.declared.event.CoreEvent.{CoreEvent as AnEvent};
 ghost use Rattle.hlc_workers.specs.declared.end.WorkEnd.{WorkEnd};
 ghost use Rattle.hlc_workers.specs.Paid.{IsPaid, event_of};
@@ -21,7 +21,7 @@ use std::sync::Wait;
 use std::sync::ledger::Ledger;
 use std::thread::Threads;
 
-/// How many rounds a reader makes, and how many vacuums the worker of the vacuum.
+/// The number of rounds of a reader, and of vacuums of the worker of the vacuum.
 const ROUNDS: u64 = 16;
 
 /// What the worker of a link starts with: its caller, the receiving end, and its feeder of the board.
@@ -43,8 +43,8 @@ pub(crate) struct Looking<'a, L: Ledger> {
     ghost of_board: { pass.board ≡ board.now },
 }
 
-/// The worker of a link, and its feeder, raised to what was accepted. Its end of the link is dropped in its thread, so
-/// that no writer waits for a feeder that has ended.
+/// Runs the worker of a link, and returns its result and its feeder, raised to what was accepted. Its end of the link
+/// is dropped in its thread, so that no writer waits for a feeder that has ended.
 pub(crate) fn feed_link<L: Ledger, G: Gate, R: Wait>(
     rt: &R,
     alloc: Global,
@@ -53,11 +53,11 @@ pub(crate) fn feed_link<L: Ledger, G: Gate, R: Wait>(
     gate: &G,
 ) -> (Served<L>, Feeder)
     ensures share { IsPaid place.entry.caller result.0.caller result.0.receipts.items }
-    ensures items { (link : Received) × (left : Option AnItem)
+    ensures items { (link : ReceiverView) × (left : Option AnItem)
         × TookAll place.entry.link.taken link.taken result.0.receipts.items left
         × (result.0.end ≡ WorkEnd.Done → (link.ended ≡ true) × (left ≡ None)) }
     ensures raised { result.1 ≡ fed_all place.entry.feeder result.0.receipts.items }
-    ensures held { result.0.end ≡ WorkEnd.Held
+    ensures stopped { result.0.end ≡ WorkEnd.Held
         → G.may_answer gate.now (vec_len result.0.receipts) false }
     ensures passed { (turn : ℕ) → turn < length result.0.receipts.items
         → G.may_answer gate.now turn true }
@@ -85,7 +85,7 @@ pub(crate) fn feed_link<L: Ledger, G: Gate, R: Wait>(
     (served, feeder)
 }
 
-/// The worker of a reader.
+/// Runs the worker of a reader.
 pub(crate) fn read_keys<L: Ledger, G: Gate, R: Wait>(
     rt: &R,
     alloc: Global,
@@ -96,8 +96,8 @@ pub(crate) fn read_keys<L: Ledger, G: Gate, R: Wait>(
 ) -> Served<L>
     ensures share { IsPaid place.entry.caller result.caller result.receipts.items }
     ensures done { result.end ≡ WorkEnd.Done
-        → (pass : Sight) × HasServed keys.now ROUNDS place.entry.pass pass result.receipts.items }
-    ensures held { result.end ≡ WorkEnd.Held
+        → (pass : FloorPassView) × HasServed keys.now ROUNDS place.entry.pass pass result.receipts.items }
+    ensures stopped { result.end ≡ WorkEnd.Held
         → G.may_answer gate.now (vec_len result.receipts) false }
     ensures open { result.end ≢ WorkEnd.Closed }
     ensures passed { (turn : ℕ) → turn < length result.receipts.items
@@ -121,7 +121,7 @@ pub(crate) fn read_keys<L: Ledger, G: Gate, R: Wait>(
     }
 }
 
-/// The worker of the vacuum.
+/// Runs the worker of the vacuum.
 pub(crate) fn vacuum_rows<L: Ledger, G: Gate, R: Wait + Threads + Sync>(
     rt: &R,
     alloc: Global,
@@ -132,7 +132,7 @@ pub(crate) fn vacuum_rows<L: Ledger, G: Gate, R: Wait + Threads + Sync>(
     ensures share { IsPaid caller result.caller result.receipts.items }
     ensures done { result.end ≡ WorkEnd.Done
         → map event_of result.receipts.items ≡ replicate ROUNDS AnEvent.Vacuum }
-    ensures held { result.end ≡ WorkEnd.Held
+    ensures stopped { result.end ≡ WorkEnd.Held
         → G.may_answer gate.now (vec_len result.receipts) false }
     ensures open { result.end ≢ WorkEnd.Closed }
     ensures passed { (turn : ℕ) → turn < length result.receipts.items

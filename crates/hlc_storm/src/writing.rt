@@ -24,14 +24,14 @@ impl From<NoMemory> for WriteFault {
     ghost use Rattle.std.specs.Prelude.{◌≡◌};
     ghost use Rattle.hlc_storm.specs.declared.writing.WriteFault.{WriteFault};
 
-    ghost from_gives = { λ lack fault. fault ≡ WriteFault.NoMemory };
+    ghost from_gives = { λ shortage fault. fault ≡ WriteFault.NoMemory };
 
     fn from(_error: NoMemory) -> WriteFault {
         WriteFault::NoMemory
     }
 }
 
-/// The key of this number.
+/// Returns the key of this number.
 fn key_of(alloc: Global, number: u64) -> Result<Bytes, NoMemory>
     ensures { IfOk result (λ key. key ≡ key_text number) }
 {
@@ -39,7 +39,7 @@ fn key_of(alloc: Global, number: u64) -> Result<Bytes, NoMemory>
     Bytes::from_slice(alloc, text.as_bytes())
 }
 
-/// All keys of a storm.
+/// Returns all keys of a storm.
 pub(crate) fn all_keys(alloc: Global, plan: &StormPlan) -> Result<Vec<Bytes>, NoMemory>
     ensures { IfOk result (λ keys. keys.items ≡ map key_text (range_with_len 0 plan.now.keys)) }
 {
@@ -51,7 +51,7 @@ pub(crate) fn all_keys(alloc: Global, plan: &StormPlan) -> Result<Vec<Bytes>, No
     Ok(keys)
 }
 
-/// The value of a node's write of this number.
+/// Returns the value of a node's write of this number.
 fn value_of(alloc: Global, node: u16, number: u64) -> Result<Bytes, NoMemory>
     ensures { IfOk result (λ value. value ≡ value_text node number) }
 {
@@ -59,7 +59,7 @@ fn value_of(alloc: Global, node: u16, number: u64) -> Result<Bytes, NoMemory>
     Bytes::from_slice(alloc, text.as_bytes())
 }
 
-/// The writer of a node: all its items are put on a new link, and then the end. The sending end is dropped in its
+/// Runs the writer of a node: puts all its items on a new link, and then the end. The sending end is dropped in its
 /// thread.
 pub(crate) fn write_link<R: Wait>(
     rt: &R,
@@ -75,9 +75,10 @@ pub(crate) fn write_link<R: Wait>(
 }
 
 /// Issues the writes of a node, and puts each on its link; then a report, and then the end of the link. The write of
-/// number j, from 0, is made at reading j + 1, and the report one above the last.
+/// number j, from 0, is made at reading j + 1, and the report at the reading after the last write's.
 ///
-/// Nothing was put before, and the end neither. Stopped where the link is closed: what was put by then stays.
+/// Nothing was put before, not even the end. It returns `Stopped` where the link is closed: what was put before stays
+/// there.
 pub(crate) fn write_all<R: Wait>(
     rt: &R,
     alloc: Global,
@@ -142,7 +143,7 @@ fn write_of(
     }
 }
 
-/// Issues the report behind all writes.
+/// Issues the report after all writes.
 fn report_of(core: &mut NodeCore, node: u16, plan: &StormPlan) -> Result<Item, WriteFault>
     requires { core.old ≡ after_writes node plan.now.writes }
     ensures { IfOk result (λ item. item ≡ report_item node plan.now.writes) }

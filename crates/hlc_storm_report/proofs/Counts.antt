@@ -1,4 +1,4 @@
--- The lines of the nodes are printed one by one: one count more gives one line more, numbered by how many there were.
+-- The lines of the nodes are printed one by one: one more count adds one more line, numbered by how many there were.
 use Rattle.std.proofs.Common.{◌≡◌, ℕ, ◌+◌, ◌<◌, get_or, ◌∙◌, sym, ap, subst, arith, Bool, List, [], ◌∷◌, ◌++◌}
 use Rattle.std.proofs.Common.{take, length, Option}
 use Rattle.std.specs.List.{flat_map}

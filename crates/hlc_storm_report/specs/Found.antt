@@ -1,4 +1,4 @@
--- What a storm's report says: it is that of some legal history of calls, in which each reply was due.
+-- What a storm's report says: it is that of some legal history of calls, in which each reply was expected.
 use Rattle.std.specs.Prelude.{◌≡◌, ◌≢◌, ℕ, ◌+◌, List, ◌∷◌, map, Result, Ok, Err}
 use Rattle.std.specs.List.{range_with_len}
 use Rattle.hlc_vacuum.specs.declared.report.Report.{Report}
@@ -15,24 +15,25 @@ use Rattle.hlc_storm_report.specs.declared.report.StormFault.{StormFault}
 use Rattle.hlc_storm_report.specs.declared.report.StormFault.TheVariants.{Work, Settle}
 use Rattle.hlc_workers.specs.declared.end.WorkEnd.TheVariants.{Done}
 
--- Of a past of a core of so many nodes: the number of accepted items of each node of the plan, the floor, the keys that
--- have a value there, with the newest accepted one, and the rows that a vacuum to the floor keeps, made once the
+-- For a past of a core with so many nodes: the number of accepted items of each node of the plan, the floor, the keys
+-- that have a value there, with the newest accepted one, and the rows that a vacuum to the floor keeps, made after the
 -- snapshot of the listing is closed.
 pub record IsFoundIn (plan : StormPlan) (nodes : ℕ) (past : List Step) (report : StormReport) : Type 0 where
   pub accepted : report.accepted.items ≡ map (λ node. count node past) (range_with_len 0 plan.nodes)
   pub floor : report.floor ≡ floor nodes past
   pub pairs : IsListing (writes past) report.floor report.pairs
   pub vacuum : Report
-  pub due : IsReport report.floor (Closed (opened past + 1) ∷ Opened report.floor ∷ past) vacuum
+  pub expected : IsReport report.floor (Closed (opened past + 1) ∷ Opened report.floor ∷ past) vacuum
   pub kept : report.kept ≡ vacuum.kept
 
--- why a storm may have no report: for no worker that was done, and never for want of a trail, since it keeps one
+-- why a storm may have no report: never because of a worker that was done, and never because there is no trail, since
+-- it keeps one
 abbrev pub MayRefuse : StormFault → Type 0
 MayRefuse fault = (fault ≢ Work Done) × (fault ≢ Settle NoTrail)
 
--- what a storm may tell
-abbrev pub MayTell : StormPlan → Result StormReport StormFault → Type 0
-MayTell plan (Ok report) =
+-- the possible results of a storm
+abbrev pub MayReport : StormPlan → Result StormReport StormFault → Type 0
+MayReport plan (Ok report) =
     (nodes : ℕ) × (history : List (CoreEvent × CoreReply))
     × IsLegalHistory nodes history × IsFoundIn plan nodes (past_of history) report
-MayTell plan (Err fault) = MayRefuse fault
+MayReport plan (Err fault) = MayRefuse fault

@@ -5,7 +5,7 @@ ghost use Rattle.hlc_vacuum.specs.declared.report.Report.{Report as AReport};
 ghost use Rattle.hlc_core.specs.Past.{Step, Opened, Closed, count, floor, opened, writes};
 ghost use Rattle.hlc_core.specs.Listing.{IsListing};
 ghost use Rattle.hlc_core.specs.Stored.{IsReport};
-ghost use Rattle.hlc_core.specs.Kept.{nodes, StandsFor};
+ghost use Rattle.hlc_core.specs.StoreView.{nodes, Represents};
 ghost use Rattle.hlc_storm_report.specs.Found.{IsFoundIn};
 
 use crate::report::{StormFault, StormReport};
@@ -13,10 +13,10 @@ use hlc_core::{Core, Listing, Stamp};
 use hlc_words::StormPlan;
 use std::alloc::Global;
 
-/// What the settled core tells. Refused where it is out of memory.
+/// Returns what the settled core contains. Refused where it runs out of memory.
 pub fn report_of(alloc: Global, core: Core, plan: StormPlan) -> Result<StormReport, StormFault>
     ensures found { IfOk result
-        (λ report. (past : List Step) → StandsFor core past
+        (λ report. (past : List Step) → Represents core past
         → IsFoundIn plan (nodes core) past report) }
     ensures memory { IfErr result (λ fault. fault ≡ StormFault.NoMemory) }
 {
@@ -24,10 +24,10 @@ pub fn report_of(alloc: Global, core: Core, plan: StormPlan) -> Result<StormRepo
     found_in(alloc, &mut core, plan)
 }
 
-/// The same of a core that is kept.
+/// Does the same, and keeps the core.
 fn found_in(alloc: Global, core: &mut Core, plan: StormPlan) -> Result<StormReport, StormFault>
     ensures found { IfOk result
-        (λ report. (past : List Step) → StandsFor core.old past
+        (λ report. (past : List Step) → Represents core.old past
         → IsFoundIn plan (nodes core.old) past report) }
     ensures memory { IfErr result (λ fault. fault ≡ StormFault.NoMemory) }
 {
@@ -43,12 +43,12 @@ fn found_in(alloc: Global, core: &mut Core, plan: StormPlan) -> Result<StormRepo
     })
 }
 
-/// The floor, and the keys that have a value there. A snapshot is opened for that, and closed again.
+/// Returns the floor, and the keys that have a value there. A snapshot is opened for that, and closed again.
 fn listed_at_floor(core: &mut Core) -> Result<(Stamp, Listing), StormFault>
     ensures found { IfOk result
-        (λ found. (past : List Step) → StandsFor core.old past
+        (λ found. (past : List Step) → Represents core.old past
         → (found.0 ≡ floor (nodes core.old) past) × IsListing (writes past) found.0 found.1
-        × StandsFor core.new (Closed (opened past + 1) ∷ Opened found.0 ∷ past)) }
+        × Represents core.new (Closed (opened past + 1) ∷ Opened found.0 ∷ past)) }
     ensures nodes { nodes core.new ≡ nodes core.old }
     ensures memory { IfErr result (λ fault. fault ≡ StormFault.NoMemory) }
 {
@@ -65,10 +65,10 @@ fn listed_at_floor(core: &mut Core) -> Result<(Stamp, Listing), StormFault>
     Ok((floor, pairs))
 }
 
-/// How many rows a vacuum to the floor keeps.
+/// Returns how many rows a vacuum to the floor keeps.
 fn kept_by_vacuum(core: &mut Core) -> Result<u64, StormFault>
     ensures kept { IfOk result
-        (λ kept. (past : List Step) → StandsFor core.old past
+        (λ kept. (past : List Step) → Represents core.old past
         → (report : AReport) × IsReport (floor (nodes core.old) past) past report
         × (kept ≡ report.kept)) }
     ensures memory { IfErr result (λ fault. fault ≡ StormFault.NoMemory) }
@@ -79,9 +79,9 @@ fn kept_by_vacuum(core: &mut Core) -> Result<u64, StormFault>
     }
 }
 
-/// How many items of each of so many nodes the core accepted.
+/// Returns how many items of each of so many nodes the core accepted.
 fn counts_of(alloc: Global, core: &Core, count_of_nodes: u16) -> Result<Vec<u64>, StormFault>
-    ensures counts { IfOk result (λ counts. (past : List Step) → StandsFor core.now past
+    ensures counts { IfOk result (λ counts. (past : List Step) → Represents core.now past
         → counts.items ≡ map (λ node. count node past) (range_with_len 0 count_of_nodes)) }
     ensures memory { IfErr result (λ fault. fault ≡ StormFault.NoMemory) }
 {

@@ -3,6 +3,7 @@
 #![tactic(auto)]
 
 mod ends;
+mod exact;
 mod found;
 mod printing;
 mod report;

@@ -16,35 +16,38 @@ use hlc_text::watched::Watched;
 use hlc_workers::WorkEnd;
 use std::io::Write;
 
-/// Prints what a storm found, or the one line that refuses it, and gives the exit status: 0 where it settled, 3 where a
-/// write failed, else 2. It takes no memory.
-pub fn print_storm<W: Write>(writer: &mut Watched<W>, told: &Result<StormReport, StormFault>) -> u8
-    ensures written { Writes W.contents writer.old writer.new (storm_text told.now) }
-    ensures status { result ≡ storm_status (has_failed writer.new) told.now }
+/// Prints what a storm found, or the one line that refuses it, and returns the exit status: 0 where the storm settled,
+/// 3 where a write failed, and 2 otherwise. It takes no memory.
+pub fn print_storm<W: Write>(
+    writer: &mut Watched<W>,
+    outcome: &Result<StormReport, StormFault>,
+) -> u8
+    ensures written { Writes W.contents writer.old writer.new (storm_text outcome.now) }
+    ensures status { result ≡ storm_status (has_failed writer.new) outcome.now }
 {
-    print_told(writer, told);
+    print_outcome(writer, outcome);
     if writer.failed() {
         return 3;
     }
-    match told {
+    match outcome {
         Ok(_) => 0,
         Err(_) => 2,
     }
 }
 
-/// Prints it from nothing on, and writes all that waits.
-fn print_told<W: Write>(writer: &mut Watched<W>, told: &Result<StormReport, StormFault>)
-    ensures { Writes W.contents writer.old writer.new (storm_text told.now) }
+/// Prints the outcome with a new printer, and writes all that waits.
+fn print_outcome<W: Write>(writer: &mut Watched<W>, outcome: &Result<StormReport, StormFault>)
+    ensures { Writes W.contents writer.old writer.new (storm_text outcome.now) }
 {
     let mut printer = Printer::new(writer);
-    put_told(&mut printer, told);
+    put_outcome(&mut printer, outcome);
     printer.finish();
 }
 
-fn put_told<W: Write>(printer: &mut Printer<'_, W>, told: &Result<StormReport, StormFault>)
-    ensures { Prints W.contents printer.old printer.new (storm_text told.now) }
+fn put_outcome<W: Write>(printer: &mut Printer<'_, W>, outcome: &Result<StormReport, StormFault>)
+    ensures { Prints W.contents printer.old printer.new (storm_text outcome.now) }
 {
-    match told {
+    match outcome {
         Ok(report) => put_report(printer, report),
         Err(fault) => {
             put_fault(printer, *fault);

@@ -1,10 +1,8 @@
 //! What a storm found, and why it may have no report.
-ghost use Rattle.std.proofs.Common.{rules};
-ghost use Rattle.std.proofs.lemmas.Grind.{common_steps};
 
 use hlc_core::{Listing, Stamp};
 use hlc_server::SettleFault;
-use hlc_values::{Exact, NoMemory};
+use hlc_values::NoMemory;
 use hlc_workers::WorkEnd;
 
 /// What a storm found, once its receipts settled.
@@ -12,7 +10,7 @@ use hlc_workers::WorkEnd;
 pub struct StormReport {
     /// How many items of each node were accepted, by node.
     pub accepted: Vec<u64>,
-    /// The floor after the last of them.
+    /// The floor (closed timestamp) after the last of them.
     pub floor: Stamp,
     /// The keys that have a value at the floor, with their values, in byte order.
     pub pairs: Listing,
@@ -23,18 +21,13 @@ pub struct StormReport {
 /// Why a storm has no report.
 #[derive(Clone, Copy, Debug, PartialEq, Eq)]
 pub enum StormFault {
-    /// A worker did not do all its work: the first of them, feeders by node, then readers, then the vacuum.
+    /// A worker did not do all its work. This is the end of the first such worker: feeders by node, then readers, then
+    /// the vacuum.
     Work(WorkEnd),
     /// The receipts don't settle.
     Settle(SettleFault),
-    /// Out of memory, a writer too, or a thread could not be started.
+    /// Out of memory, which includes a writer that ran out of memory, or a thread could not be started.
     NoMemory,
-}
-
-impl Exact for StormFault {
-    ghost equal = { Prim.search (rules, common_steps) };
-
-    ghost copied = { Prim.search rules };
 }
 
 impl From<SettleFault> for StormFault {
@@ -52,7 +45,7 @@ impl From<NoMemory> for StormFault {
     ghost use Rattle.std.specs.Prelude.{◌≡◌};
     ghost use Rattle.hlc_storm_report.specs.declared.report.StormFault.{StormFault};
 
-    ghost from_gives = { λ lack fault. fault ≡ StormFault.NoMemory };
+    ghost from_gives = { λ shortage fault. fault ≡ StormFault.NoMemory };
 
     fn from(_error: NoMemory) -> StormFault {
         StormFault::NoMemory

@@ -1,8 +1,8 @@
 //! The store of a storm.
 ghost use Rattle.std.specs.Prelude.{◌≡◌, ◌+◌, [], Some, IfOk, IfErr, map};
 ghost use Rattle.std.specs.List.{range_with_len};
-ghost use Rattle.hlc_core.specs.Kept.{nodes as nodes_of};
-ghost use Rattle.hlc_core.specs.History.{StandsForHistory};
+ghost use Rattle.hlc_core.specs.StoreView.{nodes as nodes_of};
+ghost use Rattle.hlc_core.specs.History.{RepresentsHistory};
 ghost use Rattle.hlc_server.specs.Seats.{fresh_seat};
 ghost use Rattle.hlc_storm_report.specs.Found.{MayRefuse};
 
@@ -12,8 +12,8 @@ use hlc_words::StormPlan;
 use std::alloc::Global;
 use std::sync::ledger::{Blank, Ledger};
 
-/// A new store of the nodes of a plan, which keeps a trail, and its callers: one for each feeder and each reader, and
-/// one for the vacuum. No lock is around it yet.
+/// Returns a new store of the nodes of a plan, which keeps a trail, and its callers: one for each feeder and each
+/// reader, and one for the vacuum. There is no lock around it yet.
 pub fn new_store<L: Ledger>(
     alloc: Global,
     blank: Blank,
@@ -22,7 +22,7 @@ pub fn new_store<L: Ledger>(
     requires ledger { (blank.name ≡ L.name) × (blank.parts ≡ L.parts) }
     requires callers { blank.parts ≡ plan.now.nodes + plan.now.readers + 1 }
     ensures store { IfOk result
-        (λ made. (nodes_of made.0.core ≡ plan.now.nodes) × StandsForHistory made.0.core []
+        (λ made. (nodes_of made.0.core ≡ plan.now.nodes) × RepresentsHistory made.0.core []
         × (made.0.trail ≡ Some []) × (made.0.calls ≡ 0)) }
     ensures callers { IfOk result (λ made. made.1.items
         ≡ map fresh_seat (range_with_len 0 (plan.now.nodes + plan.now.readers + 1))) }

@@ -1,5 +1,5 @@
--- Lemmas on inputs, for proofs about what reads them: an input is taken bit by bit, parted into lines,
--- and each line into its words.
+-- Lemmas on inputs, for proofs about what reads them: an input is read piece by piece, split into lines, and each line
+-- into its words.
 use Rattle.std.proofs.Common.{◌≡◌, ℕ, ◌<◌, ◌≤◌, ◌∙◌, sym, ap, refl, List, [], ◌∷◌, ◌++◌, length, Option, Some, None}
 use Rattle.std.proofs.Common.{append_assoc, arith, eqb, length-append}
 use Rattle.std.specs.List.{slice_split}

@@ -1,4 +1,5 @@
--- The digits at the front of a text are its first word where a space follows them, and its only one where nothing does.
+-- The digits at the front of a text are its first word where a space follows them, and its only word where nothing
+-- follows.
 use Rattle.std.proofs.Common.{◌≡◌, ℕ, ◌+◌, ◌-◌, ◌<◌, ◌∙◌, sym, ap, List, [], ◌∷◌, length, get_or, take, drop, arith}
 use Rattle.std.proofs.Common.{eqb}
 use Rattle.std.specs.Prelude.{decimal}

@@ -1,19 +1,19 @@
--- The first such byte among the next so many, counted by those before it, is the first in the text.
+-- The first byte of some value among the next so many, found by counting those before it, is the first one in the text.
 use Rattle.std.proofs.Common.{◌≡◌, ℕ, ◌+◌, ◌<◌, ◌≤◌, ◌∙◌, sym, List, length, get_or, arith, eqb, eq-eqb, inl, inr, not}
 use Rattle.std.specs.List.{prefix_len}
 use lib.Lanes.{chunk}
 use Rattle.std.proofs.lemmas.Bool.{cases_lt, eqb-true, false≢true}
 use Rattle.std.proofs.lemmas.Simd.{run_in_chunk_fails, run_in_chunk_stops}
 
--- none of the bytes that were counted is it
+-- none of the counted bytes is it
 none_counted : (text : List ℕ) (byte from n r : ℕ) → from + n ≤ length text
     → r ≡ prefix_len (λ x. not (eqb x byte)) (chunk from n text)
     → ((k : ℕ) → k < from → get_or text k 0 ≡ byte → ⊥) → (k : ℕ) → k < from + r → get_or text k 0 ≡ byte → ⊥
 none_counted text byte from n r room counted before k below is =
     elim (cases_lt k from) [
       | inl front ↦ before k front is
-      | inr behind ↦ false≢true
-          (sym (run_in_chunk_fails (λ x. eqb x byte) text from n r 0 room counted k behind below)
+      | inr beyond ↦ false≢true
+          (sym (run_in_chunk_fails (λ x. eqb x byte) text from n r 0 room counted k beyond below)
           ∙ eq-eqb (get_or text k 0) byte is)
     ]
 

@@ -1,4 +1,5 @@
--- Each byte passes a test where those of blocks that cover them all do, though the last block overlaps one before it.
+-- Each byte passes a test if all bytes of some blocks do that cover them all, though the last block overlaps the one
+-- before it.
 use Rattle.std.proofs.Common.{◌≡◌, ℕ, zero, suc, ◌+◌, ◌-◌, ◌*◌, ◌≤◌, ◌%◌, ◌^◌, Bool, true, false, not, ◌&&◌, List, []}
 use Rattle.std.proofs.Common.{◌∷◌, ◌++◌, get_or, map, length, take, drop, eqb, Fits, w8, refl, sym, ap, ap₂, ◌∙◌, arith}
 use Rattle.std.proofs.Common.{if◌then◌else◌}
@@ -9,7 +10,7 @@ use Rattle.std.proofs.lemmas.Simd.{map-map, mask_l-mod, length-chunk, chunk-fits
 use lib.Lanes.{chunk, mask_l, top, Each1}
 use Rattle.std.specs.List.{list_all}
 
--- the first ones pass, so only those from a place among them on are left to ask
+-- the first bytes pass, so only those from a place among them on are left to check
 pub rest_decides : (p : ℕ → Bool) (xs : List ℕ) (a b : ℕ) → b ≤ a → list_all p (take a xs) ≡ true
     → list_all p (drop b xs) ≡ list_all p xs
 rest_decides p xs a zero le h = refl
@@ -23,7 +24,7 @@ and_false : (b : Bool) → (b && false) ≡ false
 and_false true = refl
 and_false false = refl
 
--- one that is among the next ones fails
+-- if some of the bytes from a place on fail, the whole fails
 fails_drop : (p : ℕ → Bool) (xs : List ℕ) (i : ℕ) → list_all p (drop i xs) ≡ false → list_all p xs ≡ false
 fails_drop p xs zero h = h
 fails_drop p [] (suc i) h = h
@@ -41,7 +42,7 @@ fails_take p (x ∷ xs) (suc n) h = fails_cons (p x) (list_all p (take n xs)) (l
 pub fails_chunk : (p : ℕ → Bool) (xs : List ℕ) (i n : ℕ) → list_all p (chunk i n xs) ≡ false → list_all p xs ≡ false
 fails_chunk p xs i n h = fails_drop p xs i (fails_take p (drop i xs) n h)
 
--- the ones so far pass, and the next ones do
+-- the bytes so far pass, and so do the next ones
 pub passes_more : (p : ℕ → Bool) (xs : List ℕ) (a n : ℕ) → list_all p (take a xs) ≡ true
     → list_all p (chunk a n xs) ≡ true → list_all p (take (a + n) xs) ≡ true
 passes_more p xs a n h g =
@@ -61,7 +62,7 @@ one b true m rest e h =
     let none : 0 + 2 * m ≡ 2 * m = omega arith in rw e (ap (λ k. eqb k 0) none ∙ double_zero m ∙ h)
 one b false m rest e h = rw e (ne_eqb (1 + 2 * m) 0 (λ e'. absurd (omega (arith, e'))))
 
--- no bit is set where each lane passes the test that a set bit denies
+-- no bit is set if each lane passes the test, since a set bit means that its lane fails
 mask_decides : (bit p : ℕ → Bool) (xs : List ℕ) → Each1 (λ x. bit x ≡ not (p x)) xs
     → eqb (mask_l (map bit xs)) 0 ≡ list_all p xs
 mask_decides bit p [] each = refl
@@ -85,6 +86,6 @@ block_decides f p xs i n z room few fits agree lanes =
     ∙ mask_decides (λ x. top 7 (f x)) p v (each_below (λ x. top 7 (f x)) (λ x. not (p x)) v agree
     (chunk-fits w8 i n xs fits))
 
--- a last block is all from its place on
+-- a last block is all bytes from its place on
 pub last_chunk : (xs : List ℕ) (n : ℕ) → n ≤ length xs → chunk (length xs - n) n xs ≡ drop (length xs - n) xs
 last_chunk xs n le = take_all n (drop (length xs - n) xs) (omega (arith, length-drop (length xs - n) xs))

@@ -1,6 +1,6 @@
 -- Lemmas on printing, for proofs about what is printed piece by piece: one text printed after another, the lines of a
--- list printed one by one, and what `finish` makes of it all. A printer keeps its writer, so what several calls printed
--- is what that took and what waits for it.
+-- list printed one by one, and the effect of `finish` on it all. A printer keeps its writer, so what several calls
+-- printed is what the writer took and what still waits.
 use Rattle.std.proofs.Common.{◌≡◌, ℕ, ◌+◌, ◌<◌, get_or, ◌∙◌, sym, ap, subst, refl}
 use Rattle.std.proofs.Common.{List, [], ◌∷◌, ◌++◌, take, length}
 use Rattle.std.proofs.Common.{map, Option, append-nil}
@@ -32,7 +32,7 @@ took_of printed = record {
   nothing = printed.nothing;
 }
 
--- what waits is written, and nothing waits then
+-- what waits is written, and then nothing waits
 finish_of : {W : Type 0} {contents : W → Option (List ℕ)} {old new : Printer W}
     → Finishes contents old new → TookOf contents old new []
 unfolding TookOf
@@ -70,7 +70,7 @@ pub printed_none : {W : Type 0} {contents : W → Option (List ℕ)} {old : Prin
 unfolding TookOf
 printed_none = prints_of refl took_none
 
--- text that waits behind what waited
+-- text that waits after what already waited
 pub printed_waits : {W : Type 0} {contents : W → Option (List ℕ)} {old new : Printer W} {text : List ℕ}
     → new.writer ≡ old.writer → waiting_of new ≡ waiting_of old ++ text → Prints contents old new text
 printed_waits {W} {contents} {old} {new} {text} same added = record {
@@ -88,7 +88,8 @@ pub printed_at_once : {W : Type 0} {contents : W → Option (List ℕ)} {old new
     → Finishes contents old new → Prints contents old new []
 printed_at_once finished = prints_of finished.same (finish_of finished)
 
--- Printed from a start on, and then written: that is what was written to the writer, whose last state is the printer's.
+-- Text that was printed from a start on and then written is what was written to the writer, whose last state is the
+-- printer's.
 pub printed_finished : {W : Type 0} {contents : W → Option (List ℕ)} {start last : Watched W} {made old new : Printer W}
     {text : List ℕ} → StartsAt start made → Prints contents made old text → Finishes contents old new
     → last ≡ writer_of new → Writes contents start last text
@@ -104,7 +105,7 @@ printed_finished {W} {contents} {start} {last} {made} {old} {new} {text} starts 
     } in
     subst (λ (from : Watched W). Writes contents from last text) starts.as_it_is (rw is wrote)
 
--- one line more of a list that is printed line by line
+-- one more line of a list that is printed line by line
 pub printed_line : {X W : Type 0} {contents : W → Option (List ℕ)} {old mid new : Printer W}
     (line : List ℕ → List ℕ) (text : X → List ℕ) (xs : List X) (i : ℕ) (d : X) → i < length xs
     → Prints contents old mid (flat_map line (map text (take i xs)))

@@ -1,5 +1,5 @@
--- Bytes are spelled as percent-encoding spells them: of 256 bytes each is escaped by the one just where the other
--- escapes it, which is tried out, and a byte below 256 has the same two digits in both.
+-- Bytes are spelled as percent-encoding spells them: for each of 256 bytes, one escapes it exactly where the other
+-- does, which is checked by trying all; and a byte below 256 has the same two digits in both.
 use Rattle.std.proofs.Common.{◌≡◌, ℕ, suc, ◌<◌, ◌/◌, ◌%◌, true, not, List, [], ◌∷◌, get_or, refl, ap, ◌∙◌}
 use Rattle.std.proofs.Common.{inl, inr, arith}
 use Rattle.std.specs.Fmt.{digit_glyph}
@@ -9,14 +9,14 @@ use Rattle.percent_encoding.specs.AsciiSet.{should_percent_encode}
 use Rattle.percent_encoding.specs.Percent.{percent_encode, percent_encode_byte}
 use Rattle.percent_encoding.proofs.PercentLemmas.{percent_encode-nil, percent_encode_escaped, percent_encode_kept}
 use Rattle.hlc_text.specs.declared.printer.TheConstants.{ESCAPED}
-use Rattle.hlc_text.specs.Text.{stands_as_itself, byte_token}
+use Rattle.hlc_text.specs.Text.{is_literal, byte_token}
 
-tried : agree_below (should_percent_encode ESCAPED) (λ b. not (stands_as_itself b)) 256 ≡ true
+tried : agree_below (should_percent_encode ESCAPED) (λ b. not (is_literal b)) 256 ≡ true
 unfolding should_percent_encode
 tried = refl
 
-escaped_where : (b : ℕ) → b < 256 → should_percent_encode ESCAPED b ≡ not (stands_as_itself b)
-escaped_where b small = agree_below_at (should_percent_encode ESCAPED) (λ b. not (stands_as_itself b)) 256 b tried small
+escaped_where : (b : ℕ) → b < 256 → should_percent_encode ESCAPED b ≡ not (is_literal b)
+escaped_where b small = agree_below_at (should_percent_encode ESCAPED) (λ b. not (is_literal b)) 256 b tried small
 
 -- the high digit of a byte
 high_digit : (b : ℕ) → b < 256 → percent_encode_byte b ≡ 37 ∷ digit_glyph true (b / 16) ∷ digit_glyph true (b % 16) ∷ []
@@ -30,7 +30,7 @@ pub spelled : (bytes : List ℕ) → ((i : ℕ) → get_or bytes i 0 < 256)
 spelled [] small = percent_encode-nil ESCAPED
 spelled (b ∷ bytes) small =
     let rest = spelled bytes (λ i. small (suc i)) in
-    elim (cases_Bool (stands_as_itself b)) [
+    elim (cases_Bool (is_literal b)) [
       | inl plain ↦ percent_encode_kept ESCAPED b bytes (escaped_where b (small 0) ∙ ap not plain)
           ∙ rw plain (ap (λ l. b ∷ l) rest)
       | inr other ↦ percent_encode_escaped ESCAPED b bytes (escaped_where b (small 0) ∙ ap not other)

@@ -1,5 +1,5 @@
--- Lemmas on the spelling of bytes, for proofs about lines: it is read as the bytes that were spelled,
--- so it stands for no others.
+-- Lemmas on the spelling of bytes, for proofs about lines: it is read as the bytes that were spelled, so it represents
+-- no others.
 use Rattle.std.proofs.Common.{◌≡◌, ℕ, ◌+◌, ◌*◌, ◌/◌, ◌%◌, ◌<◌, ◌∙◌, sym, ap, refl, length, get_or, List, [], ◌∷◌, ◌++◌}
 use Rattle.std.proofs.Common.{Some, true, false, arith, inl, inr}
 use Rattle.std.specs.Fmt.{digit_glyph}
@@ -7,7 +7,7 @@ use Rattle.std.specs.List.{flat_map}
 use Rattle.std.proofs.lemmas.Grind.{common_steps}
 use Rattle.std.proofs.lemmas.Bool.{cases_Bool, cases_eq, ne_eqb}
 use Rattle.std.proofs.lemmas.Option.{same_Some}
-use Rattle.hlc_text.specs.Text.{stands_as_itself, byte_token, bytes_token, AreBytes}
+use Rattle.hlc_text.specs.Text.{is_literal, byte_token, bytes_token, AreBytes}
 use Rattle.hlc_text.specs.Spelling.{is_hex, hex_value, is_escaped, with_byte, spelled_bytes, token_bytes}
 
 -- the digit of a value below 16 is a digit, of that value
@@ -17,15 +17,15 @@ glyph_is_hex d small = grind (arith, common_steps)
 value_of_glyph : (d : ℕ) → d < 16 → hex_value (digit_glyph true d) ≡ d
 value_of_glyph d small = grind (arith, common_steps)
 
--- a byte that stands as itself goes in front
-plain_front : (b : ℕ) (text : List ℕ) → stands_as_itself b ≡ true
+-- a byte that is its own spelling goes in front
+plain_front : (b : ℕ) (text : List ℕ) → is_literal b ≡ true
     → spelled_bytes (b ∷ text) ≡ with_byte b (spelled_bytes text)
 plain_front b [] plain = rw plain refl
 plain_front b (c ∷ []) plain = rw plain refl
 plain_front b (c ∷ d ∷ rest) plain = rw plain refl
 
--- the two digits of a byte that does not stand as itself
-digits_are_escaped : (b : ℕ) → stands_as_itself b ≡ false → b < 256
+-- the two digits of a byte that is not its own spelling
+digits_are_escaped : (b : ℕ) → is_literal b ≡ false → b < 256
     → (is_escaped (digit_glyph true (b / 16)) (digit_glyph true (b % 16)) ≡ true)
     × (16 * hex_value (digit_glyph true (b / 16)) + hex_value (digit_glyph true (b % 16)) ≡ b)
 digits_are_escaped b plain small =
@@ -43,7 +43,7 @@ digits_are_escaped b plain small =
       simp (value_of_glyph (b / 16) high, value_of_glyph (b % 16) low) whole,
     )
 
-escaped_front : (b : ℕ) (rest : List ℕ) → stands_as_itself b ≡ false → b < 256
+escaped_front : (b : ℕ) (rest : List ℕ) → is_literal b ≡ false → b < 256
     → spelled_bytes (37 ∷ digit_glyph true (b / 16) ∷ digit_glyph true (b % 16) ∷ rest)
     ≡ with_byte b (spelled_bytes rest)
 escaped_front b rest plain small =
@@ -53,7 +53,7 @@ escaped_front b rest plain small =
 -- the spelling of a byte is read as that byte, whatever follows
 byte_front : (b : ℕ) (rest : List ℕ) → b < 256 → spelled_bytes (byte_token b ++ rest) ≡ with_byte b (spelled_bytes rest)
 byte_front b rest small =
-    elim (cases_Bool (stands_as_itself b)) [
+    elim (cases_Bool (is_literal b)) [
       | inl plain ↦ rw plain (plain_front b rest plain)
       | inr plain ↦ rw plain (escaped_front b rest plain small)
     ]
@@ -70,11 +70,11 @@ read_by_byte (b ∷ []) some long =
     elim (cases_eq b 37) [ inl percent ↦ absurd (long refl percent) | inr other ↦ rw (ne_eqb b 37 other) refl ]
 read_by_byte (b ∷ c ∷ rest) some long = refl
 
--- the spelling of a byte is itself, and no percent sign, or three bytes
+-- the spelling of a byte is that byte, which is no percent sign, or three bytes
 length_byte_token : (b : ℕ) (rest : List ℕ) → (0 < length (byte_token b ++ rest))
     × (length (byte_token b ++ rest) ≡ 1 → get_or (byte_token b ++ rest) 0 0 ≡ 37 → ⊥)
 length_byte_token b rest =
-    elim (cases_Bool (stands_as_itself b)) [
+    elim (cases_Bool (is_literal b)) [
       | inl plain ↦ rw plain (omega arith, λ one percent. grind arith)
       | inr other ↦ rw other (omega arith, λ one percent. omega arith)
     ]

@@ -1,12 +1,12 @@
--- Texts that a writer takes one after another, behind text that waited: two texts, and no text. What one call leaves
--- to wait is what the next call finds.
+-- Texts that a writer takes one after another, after text that waited: two texts, and no text. The next call starts
+-- with the text that one call leaves waiting.
 use Rattle.std.proofs.Common.{◌≡◌, ℕ, ◌∙◌, sym, ap, subst, refl, Bool, true, false}
 use Rattle.std.proofs.Common.{List, [], ◌++◌, Option, Some, None}
 use Rattle.std.proofs.Common.{append-nil, append_assoc}
 use Rattle.std.specs.Io.KnownBytes.{Appends}
 use Rattle.std.proofs.lemmas.Bool.{false≢true}
 
--- what waited and the text were taken, but for what waits, or a front of them where the writer failed
+-- what waited and the text were taken, except for what still waits; or a front of them where the writer failed
 pub record Took (failed_before failed : Bool) (before after : Option (List ℕ)) (waited waits text : List ℕ)
     : Type 0 where
   pub front : List ℕ

@@ -1,5 +1,5 @@
--- Lemmas on words, for proofs about lines: the spellings hold no byte that parts words or lines, so a line is parted
--- into the words that it was put together from; and a stamp's text is parted into its two numbers, so it stands for no
+-- Lemmas on words, for proofs about lines: the spellings contain no byte that separates words or lines, so a line is
+-- split into the words from which it was built; and a stamp's text is split into its two numbers, so it represents no
 -- other stamp.
 use Rattle.std.proofs.Common.{◌≡◌, ℕ, ◌/◌, ◌%◌, ◌<◌, ◌≤◌, ◌^◌, ◌∙◌, sym, ap, refl, true, false, List, [], ◌∷◌, ◌++◌}
 use Rattle.std.proofs.Common.{get_or, length, arith, eqb, inl, inr, le-leb}
@@ -15,10 +15,10 @@ use Rattle.std.proofs.lemmas.List.Sums.{list_all-from_AllPass}
 use Rattle.std.proofs.lemmas.List.Folds.{list_all-append}
 use Rattle.std.proofs.lemmas.List.Splits.{slice_split_none, slice_split_at}
 use Rattle.hlc_clock.specs.Stamp.{stamp_text}
-use Rattle.hlc_text.specs.Text.{stands_as_itself, byte_token, bytes_token}
+use Rattle.hlc_text.specs.Text.{is_literal, byte_token, bytes_token}
 
--- the text is a word: it holds neither a space nor a line feed, nor any other byte below 33.
--- Of a literal this holds by `refl`
+-- the text is a word: it contains neither a space nor a line feed, nor any other byte below 33. For a literal `refl`
+-- proves this
 abbrev pub IsWord : List ℕ → Type 0
 IsWord text = list_all (nat_le 33) text ≡ true
 
@@ -43,7 +43,7 @@ glyph_is_above d = le-leb 33 (digit_glyph true d) (grind (arith, common_steps))
 
 byte_is_word : (b : ℕ) → IsWord (byte_token b)
 byte_is_word b =
-    elim (cases_Bool (stands_as_itself b)) [
+    elim (cases_Bool (is_literal b)) [
       | inl plain ↦ rw plain (and_from _ _ (le-leb 33 b (grind (arith, plain))) refl)
       | inr escaped ↦ rw escaped (and_from _ _ (glyph_is_above (b / 16)) (and_from _ _ (glyph_is_above (b % 16)) refl))
     ]
@@ -56,7 +56,7 @@ pub bytes_are_word : (bytes : List ℕ) → IsWord (bytes_token bytes)
 bytes_are_word [] = refl
 bytes_are_word (b ∷ bytes) = each_byte (b ∷ bytes)
 
--- no byte of a text is the given one
+-- no byte of a text is this one
 abbrev Lacks : ℕ → List ℕ → Type 0
 Lacks c text = AllByRecursion (λ b. eqb b c ≡ false) text
 
@@ -71,7 +71,7 @@ lacks_both : (c : ℕ) (xs ys : List ℕ) → Lacks c xs → Lacks c ys → Lack
 lacks_both c [] ys first second = second
 lacks_both c (x ∷ xs) ys first second = (first.0, lacks_both c xs ys first.1 second)
 
--- a word holds no byte below 33, as 32, a space, or 10, a line feed
+-- a word contains no byte below 33, such as 32, a space, or 10, a line feed
 pub word_has_no : (c : ℕ) → c < 33 → (word : List ℕ) → IsWord word → All (λ b. eqb b c ≡ false) word
 word_has_no c low word is = All-from_recursion (λ b. eqb b c ≡ false) word (word_lacks c low word is)
 
@@ -82,12 +82,12 @@ line_lacks (word ∷ next ∷ words) are =
     lacks_both 10 word (32 ∷ join_with_byte 32 (next ∷ words)) (word_lacks 10 (omega arith) word are.0)
     (refl, line_lacks (next ∷ words) are.1)
 
--- words with one space between each two hold no line feed
+-- words with one space between each two contain no line feed
 pub line_has_no_feed : (words : List (List ℕ)) → AllByRecursion IsWord words
     → All (λ b. eqb b 10 ≡ false) (join_with_byte 32 words)
 line_has_no_feed words are = All-from_recursion (λ b. eqb b 10 ≡ false) (join_with_byte 32 words) (line_lacks words are)
 
--- words with one space between each two are parted into those words
+-- words with one space between each two are split into those words
 pub split_words : (word : List ℕ) (words : List (List ℕ)) → AllByRecursion IsWord (word ∷ words)
     → slice_split (λ b. eqb b 32) (join_with_byte 32 (word ∷ words)) ≡ word ∷ words
 split_words word [] are = slice_split_none (λ b. eqb b 32) word (word_has_no 32 (omega arith) word are.0)
@@ -95,7 +95,7 @@ split_words word (next ∷ words) are =
     slice_split_at (λ b. eqb b 32) word 32 (join_with_byte 32 (next ∷ words))
     (word_has_no 32 (omega arith) word are.0) refl ∙ ap (λ ws. word ∷ ws) (split_words next words are.1)
 
--- a line is parted from what stands behind its line feed
+-- a line is split from what comes after its line feed
 pub split_line : (line rest : List ℕ) → All (λ b. eqb b 10 ≡ false) line
     → slice_split (λ b. eqb b 10) (line ++ 10 ∷ rest) ≡ line ∷ slice_split (λ b. eqb b 10) rest
 split_line line rest none = slice_split_at (λ b. eqb b 10) line 10 rest none refl
@@ -115,7 +115,7 @@ split_two l c small_l small_c =
     slice_split_at (λ b. eqb b 46) (decimal l) 46 (decimal c) (no_stop l small_l) refl
     ∙ ap (λ parts. decimal l ∷ parts) (split_number c small_c)
 
--- a stamp's text is parted into its two numbers
+-- a stamp's text is split into its two numbers
 pub split_stamp : (s : ℕ) → s < 2 ^ 64
     → slice_split (λ b. eqb b 46) (stamp_text s) ≡ decimal (s / 65536) ∷ decimal (s % 65536) ∷ []
 split_stamp s small = split_two (s / 65536) (s % 65536) (omega arith) (omega arith)
@@ -127,7 +127,7 @@ no_stamp word s one small e =
     ∙ split_stamp s small in
     absurd (omega (arith, ap length two))
 
--- a text of two numbers stands for one stamp
+-- a text of two numbers represents one stamp
 pub one_stamp : (s t : ℕ) → s < 2 ^ 64 → t < 2 ^ 64 → stamp_text s ≡ stamp_text t → s ≡ t
 one_stamp s t small also e =
     let both : decimal (s / 65536) ∷ decimal (s % 65536) ∷ [] ≡ decimal (t / 65536) ∷ decimal (t % 65536) ∷ [] =

@@ -1,4 +1,4 @@
--- What an input is, by what its reader tells of its bytes, and why there is none.
+-- What an input is, according to what is known of its reader's bytes, and why there is none.
 use Rattle.std.specs.Prelude.{◌≡◌, ℕ, ◌<◌, ◌≤◌, List, length, codes, Option, Some, None, ⊤}
 use Rattle.std.specs.Io.KnownBytes.{Consumes}
 use Rattle.hlc_text.specs.declared.input.InputFault.{InputFault}
@@ -10,21 +10,21 @@ abbrev pub IsInput : Option (List ℕ) → List ℕ → Type 0
 IsInput None input = ⊤
 IsInput (Some bytes) input = bytes ≡ input
 
--- what may be why an input is not held: memory is asked for only where there is a byte to hold
+-- the possible reasons why an input is not loaded: it can run out of memory only where there is a byte to load
 abbrev pub MayFault : List ℕ → InputFault → Type 0
 MayFault input NoMemory = 0 < length input
 MayFault input ReadFault = ⊤
 MayFault input TooLong = INPUT_LIMIT < length input
 
--- What may have been taken from the reader at a fault: bytes that can't be held, some before a read that fails, or a
--- byte past the limit. The first of them ends the reading.
+-- What may have been taken from the reader at a fault: bytes for which it ran out of memory, some bytes before a read
+-- that fails, or a byte past the limit. The first fault ends the reading.
 abbrev pub FaultTakes : List ℕ → InputFault → Type 0
 FaultTakes taken NoMemory = (0 < length taken) × (length taken ≤ INPUT_LIMIT)
 FaultTakes taken ReadFault = length taken ≤ INPUT_LIMIT
 FaultTakes taken TooLong = INPUT_LIMIT < length taken
 
--- an input was not held, of which some was taken
-pub record IsNotHeld (before after : Option (List ℕ)) (fault : InputFault) : Type 0 where
+-- an input of which some was taken was not loaded
+pub record IsNotLoaded (before after : Option (List ℕ)) (fault : InputFault) : Type 0 where
   pub input : List ℕ
   pub taken : List ℕ
   pub is_input : IsInput before input
@@ -32,7 +32,7 @@ pub record IsNotHeld (before after : Option (List ℕ)) (fault : InputFault) : T
   pub may_take : FaultTakes taken fault
   pub may_fault : MayFault input fault
 
--- the line of a fault
+-- the line for a fault
 abbrev pub fault_line : InputFault → List ℕ
 fault_line NoMemory = codes "refused 15"
 fault_line ReadFault = codes "refused 18"

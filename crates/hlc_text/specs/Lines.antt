@@ -12,7 +12,7 @@ lines_of_parts [] = []
 lines_of_parts (line ∷ []) = if length line == 0 then [] else line ∷ []
 lines_of_parts (line ∷ next ∷ lines) = line ∷ lines_of_parts (next ∷ lines)
 
--- the lines of a text: a line feed ends each, and the last one may lack it
+-- the lines of a text: a line feed ends each, and the last one may have none
 abbrev pub lines_of : List ℕ → List (List ℕ)
 lines_of text = lines_of_parts (slice_split (λ byte. byte == 10) text)
 

@@ -1,11 +1,9 @@
 //! The whole input of a run or a check, and its first line.
 ghost use Rattle.std.specs.Prelude.{◌≡◌, ◌<◌, ◌≤◌, ◌∷◌, ◌↔◌, ◌^◌, Err, false, true, length, vec_len, IfOk, IfErr};
-ghost use Rattle.std.proofs.Common.{rules};
-ghost use Rattle.std.proofs.lemmas.Grind.{common_steps};
 ghost use Rattle.std.specs.Io.KnownBytes.{Consumes};
 ghost use Rattle.hlc_text.specs.Watched.{inner_of, has_failed};
 ghost use Rattle.hlc_text.specs.Lines.{lines_of};
-ghost use Rattle.hlc_text.specs.Input.{IsInput, IsNotHeld, fault_line};
+ghost use Rattle.hlc_text.specs.Input.{IsInput, IsNotLoaded, fault_line};
 ghost use Rattle.hlc_text.specs.Printing.{Prints};
 ghost use Rattle.hlc_text.specs.Text.{printed};
 ghost use Rattle.hlc_text.specs.declared.input.TheConstants.{INPUT_LIMIT};
@@ -13,14 +11,13 @@ ghost use Rattle.hlc_text.specs.declared.input.TheConstants.{INPUT_LIMIT};
 use crate::printer::Printer;
 use crate::watched::Watched;
 use crate::words::cut;
-use hlc_values::Exact;
 use std::alloc::Global;
 use std::io::{Read, Write};
 
-/// The most bytes that an input may have.
+/// The maximum number of bytes of an input.
 pub const INPUT_LIMIT: usize = 16_777_216;
 
-/// An input has at most 16,777,216 bytes.
+/// States that an input has at most 16,777,216 bytes.
 pub fn inputs_have_a_limit()
     ensures { INPUT_LIMIT ≡ 2 ^ 24 }
 {}
@@ -28,21 +25,15 @@ pub fn inputs_have_a_limit()
 /// Why there is no input.
 #[derive(Clone, Copy, Debug, PartialEq, Eq)]
 pub enum InputFault {
-    /// It can't be held.
+    /// Out of memory.
     NoMemory,
     /// A read failed.
     ReadFault,
-    /// It has more bytes than may be.
+    /// It has too many bytes.
     TooLong,
 }
 
-impl Exact for InputFault {
-    ghost equal = { Prim.search (rules, common_steps) };
-
-    ghost copied = { Prim.search rules };
-}
-
-/// Prints the line of a fault.
+/// Prints the line for a fault.
 pub fn put_fault<W: Write>(printer: &mut Printer<'_, W>, fault: InputFault)
     ensures { Prints W.contents printer.old printer.new (printed (fault_line fault)) }
 {
@@ -53,7 +44,7 @@ pub fn put_fault<W: Write>(printer: &mut Printer<'_, W>, fault: InputFault)
     }
 }
 
-/// Reads all that the reader has left. The fault is the one that is met first.
+/// Reads all that the reader has left. The fault is the first one that occurs.
 pub fn read_input<R: Read>(alloc: Global, reader: &mut Watched<R>) -> Result<Vec<u8>, InputFault>
     requires { has_failed reader.old ≡ false }
     ensures ok { IfOk result (λ input. IsInput (R.remaining (inner_of reader.old)) input.items
@@ -62,7 +53,7 @@ pub fn read_input<R: Read>(alloc: Global, reader: &mut Watched<R>) -> Result<Vec
         × (vec_len input ≤ INPUT_LIMIT)) }
     ensures failed { (result ≡ Err InputFault.ReadFault) ↔ (has_failed reader.new ≡ true) }
     ensures err { IfErr result (λ fault.
-        IsNotHeld (R.remaining (inner_of reader.old)) (R.remaining (inner_of reader.new)) fault) }
+        IsNotLoaded (R.remaining (inner_of reader.old)) (R.remaining (inner_of reader.new)) fault) }
 {
     let mut input = Vec::new(alloc);
     let mut block = [0u8; 32768];
@@ -82,7 +73,7 @@ pub fn read_input<R: Read>(alloc: Global, reader: &mut Watched<R>) -> Result<Vec
     }
 }
 
-/// The first line, and the text behind it. The last line may lack its line feed.
+/// Returns the first line, and the text after it. The last line may have no line feed.
 pub fn first_line(text: &[u8]) -> (&[u8], &[u8])
     requires { 0 < length text.now }
     ensures line { lines_of text.now ≡ result.0.now ∷ lines_of result.1.now }

@@ -1,11 +1,11 @@
-//! The place of the first such byte in a text, found by several bytes at a time.
+//! Searches for the place of the first byte of some value in a text, several bytes at a time.
 ghost use Rattle.std.specs.Prelude.{◌≡◌, ◌≢◌, ◌==◌, ◌<◌, ◌≤◌, ◌+◌, not, ℕ, MatchOption, length, slice_index};
 ghost use Rattle.std.specs.List.{prefix_len};
 ghost use Rattle.std.specs.Simd.Lanes.{chunk};
 
 use std::simd::prelude::*;
 
-/// How many of the next sixteen bytes come before the first such byte: all where it is none of them.
+/// Returns how many of the next sixteen bytes come before the first one that equals `byte`: sixteen where none does.
 #[inline(always)]
 fn before_of_16(text: &[u8], from: usize, byte: u8) -> usize
     requires { from + 16 ≤ length text.now }
@@ -21,7 +21,7 @@ fn before_of_16(text: &[u8], from: usize, byte: u8) -> usize
     }
 }
 
-/// How many of the next eight bytes come before the first such byte: all where it is none of them.
+/// Returns how many of the next eight bytes come before the first one that equals `byte`: eight where none does.
 #[inline(always)]
 fn before_of_8(text: &[u8], from: usize, byte: u8) -> usize
     requires { from + 8 ≤ length text.now }
@@ -37,7 +37,7 @@ fn before_of_8(text: &[u8], from: usize, byte: u8) -> usize
     }
 }
 
-/// The place of the first such byte from a place on, before which there is none.
+/// Returns the place of the first byte that equals `byte`, where none before `from` does.
 #[inline(always)]
 fn place_from(text: &[u8], from: usize, byte: u8) -> Option<usize>
     requires within { from ≤ length text.now }
@@ -55,7 +55,8 @@ fn place_from(text: &[u8], from: usize, byte: u8) -> Option<usize>
     None
 }
 
-/// The place of the first such byte, if there is one, where it is likely to be farther than eight bytes off.
+/// Returns the place of the first byte that equals `byte`, if there is one. It is fast where that is likely to be more
+/// than eight bytes away.
 #[inline(always)]
 pub fn far_place(text: &[u8], byte: u8) -> Option<usize>
     ensures { MatchOption result
@@ -74,7 +75,7 @@ pub fn far_place(text: &[u8], byte: u8) -> Option<usize>
     place_from(text, from, byte)
 }
 
-/// The same, where it is likely to be among the next eight bytes.
+/// Returns the same, fast where it is likely to be among the next eight bytes.
 #[inline(always)]
 pub fn near_place(text: &[u8], byte: u8) -> Option<usize>
     ensures { MatchOption result

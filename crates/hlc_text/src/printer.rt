@@ -1,9 +1,8 @@
-//! A printer: a watched writer, and the text that waits for it. It takes no memory.
+//! A printer: a watched writer, and a buffer of text for it. It takes no memory.
 //!
-//! Each call prints one text, whatever becomes of the writer: one that has failed takes nothing
-//! more. So a caller prints all that it has to, then calls `finish`, and then asks the writer once
-//! whether it failed. Before `finish` no fewer than 8,192 bytes are sent at once; only where the
-//! writer takes a part of them is it handed the rest alone.
+//! Each call prints one text, whatever happens to the writer: one that has failed takes nothing more. So a caller
+//! prints all of its text, then calls `finish`, and then asks the writer once whether it failed. Before `finish` at
+//! least 8,192 bytes are written at once; only where the writer takes a part of them, the rest is written alone.
 ghost use Rattle.std.specs.Prelude.{◌≡◌, ◌<◌, ◌≤◌, ◌+◌, decimal, ◌++◌, [], length};
 ghost use Rattle.std.specs.List.{flat_map};
 ghost use Rattle.arrayvec.specs.ArrayVec.{array_vec_len};
@@ -20,10 +19,10 @@ use itoa::Buffer;
 use percent_encoding::{AsciiSet, CONTROLS, ascii_set, percent_encode};
 use std::io::Write;
 
-/// The bytes below 128 that do not stand as themselves.
+/// The bytes below 128 that are escaped.
 const ESCAPED: AsciiSet = ascii_set!(CONTROLS.add(b' ').add(b'%'));
 
-/// Prints to a writer, through text that waits for it: 8,192 bytes at most.
+/// Prints to a writer through a buffer of at most 8,192 bytes of text that waits.
 #[derive(Drop)]
 pub struct Printer<'a, W> {
     writer: &'a mut Watched<W>,
@@ -31,7 +30,7 @@ pub struct Printer<'a, W> {
 }
 
 impl<'a, W: Write> Printer<'a, W> {
-    /// A printer for the writer. No text waits.
+    /// Returns a printer for the writer. No text waits.
     #[inline(always)]
     pub fn new(writer: &'a mut Watched<W>) -> Printer<'a, W>
         ensures same_writer { result.writer.ghost_name ≡ writer.entry.ghost_name }
@@ -43,7 +42,7 @@ impl<'a, W: Write> Printer<'a, W> {
         }
     }
 
-    /// Writes what waits, so that nothing waits any more. It does not flush the writer.
+    /// Writes the text that waits, so that none waits any more. It does not flush the writer.
     pub fn finish(&mut self)
         ensures { Finishes W.contents self.old self.new }
     {
@@ -51,7 +50,7 @@ impl<'a, W: Write> Printer<'a, W> {
         self.waiting.clear();
     }
 
-    /// Prints the text, which waits where there is room.
+    /// Prints the text, which waits where there is room for it.
     #[inline(always)]
     pub fn put(&mut self, text: &[u8])
         ensures { Prints W.contents self.old self.new text.now }
@@ -61,12 +60,12 @@ impl<'a, W: Write> Printer<'a, W> {
         }
     }
 
-    /// Prints a text that there is no room for.
+    /// Prints a text for which there is no room.
     fn put_beyond(&mut self, text: &[u8])
         requires { 8192 < array_vec_len self.old.waiting + length text.now }
         ensures { Prints W.contents self.old self.new text.now }
     {
-        // What is written is a full buffer, so that no small block leaves it before the end.
+        // A full buffer is written, so that no small block is written before the end.
         let (front, back) = text.split_at(self.waiting.remaining_capacity());
         let _ = self.waiting.try_extend_from_slice(front);
         self.finish();
@@ -104,7 +103,7 @@ impl<'a, W: Write> Printer<'a, W> {
         self.put(text.as_slice());
     }
 
-    /// Prints a line: some words, and the stamp behind them.
+    /// Prints a line: some words, followed by the stamp.
     #[inline(always)]
     pub fn put_stamp_line(&mut self, name: &[u8], stamp: Stamp)
         requires { length name.now ≤ 24 }
@@ -117,7 +116,7 @@ impl<'a, W: Write> Printer<'a, W> {
         self.put(text.as_slice());
     }
 
-    /// Prints a line: some words, the stamp behind them, more words, and the number behind those.
+    /// Prints a line: some words, followed by the stamp, more words, and the number.
     #[inline(always)]
     pub fn put_numbered_stamp_line(&mut self, name: &[u8], stamp: Stamp, middle: &[u8], number: u64)
         requires { length name.now + length middle.now ≤ 24 }
@@ -145,7 +144,7 @@ impl<'a, W: Write> Printer<'a, W> {
         }
     }
 
-    /// Prints the word that spells some bytes of which one may be escaped.
+    /// Prints the word that spells some bytes, of which one may be escaped.
     fn put_spelled(&mut self, bytes: &[u8])
         ensures { Prints W.contents self.old self.new (bytes_token bytes.now) }
     {
@@ -165,7 +164,7 @@ impl<'a, W: Write> Printer<'a, W> {
         }
     }
 
-    /// Prints some words, and the number behind them.
+    /// Prints some words, followed by the number.
     #[inline(always)]
     pub fn put_named_number(&mut self, name: &[u8], number: u64)
         ensures { Prints W.contents self.old self.new (name.now ++ decimal number) }
@@ -174,7 +173,7 @@ impl<'a, W: Write> Printer<'a, W> {
         self.put_number(number);
     }
 
-    /// Prints some words, and the count behind them.
+    /// Prints some words, followed by the count.
     pub fn put_named_count(&mut self, name: &[u8], count: u128)
         ensures { Prints W.contents self.old self.new (name.now ++ decimal count) }
     {
@@ -190,7 +189,7 @@ impl<'a, W: Write> Printer<'a, W> {
         self.put(buffer.format(count).as_bytes());
     }
 
-    /// Prints some words, and the stamp behind them.
+    /// Prints some words, followed by the stamp.
     #[inline(always)]
     pub fn put_named_stamp(&mut self, name: &[u8], stamp: Stamp)
         ensures { Prints W.contents self.old self.new (name.now ++ stamp_text stamp) }
@@ -199,7 +198,7 @@ impl<'a, W: Write> Printer<'a, W> {
         self.put_stamp(stamp);
     }
 
-    /// Prints some words, and the word that spells the bytes behind them.
+    /// Prints some words, followed by the word that spells the bytes.
     #[inline(always)]
     pub fn put_named_bytes(&mut self, name: &[u8], bytes: &[u8])
         ensures { Prints W.contents self.old self.new (name.now ++ bytes_token bytes.now) }

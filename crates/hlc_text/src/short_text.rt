@@ -1,4 +1,4 @@
-//! A short text, made from its end to its front, since the last digit of a number is found first.
+//! A short text, built from its end to its front, since the last digit of a number is computed first.
 ghost use Rattle.std.specs.Prelude.{◌≡◌, ◌≤◌, ◌+◌, ◌++◌, [], decimal, length};
 ghost use Rattle.hlc_clock.specs.Stamp.{stamp_text};
 
@@ -6,7 +6,7 @@ use hlc_clock::Stamp;
 use itoa::write_digits;
 use std::marker::Model;
 
-/// A text of 96 bytes at most, in place. Contracts see it as its bytes.
+/// A text of at most 96 bytes, stored in place. Contracts see it as its bytes.
 #[derive(Drop)]
 pub(crate) struct ShortText {
     bytes: [u8; 96],
@@ -24,7 +24,7 @@ impl Model for ShortText {
 }
 
 impl ShortText {
-    /// No text.
+    /// Returns an empty text.
     #[inline(always)]
     pub(crate) fn new() -> ShortText
         ensures { result ≡ [] }
@@ -35,7 +35,7 @@ impl ShortText {
         }
     }
 
-    /// The text.
+    /// Returns the text.
     #[inline(always)]
     pub(crate) fn as_slice(&self) -> &[u8]
         ensures { result.now ≡ self.now }

@@ -1,5 +1,5 @@
--- What changes force: of changes one after another it is the sum, and the newest rows at the changes are all that
--- counts.
+-- The bytes that changes force: for changes one after another it is the sum, and only the newest rows at the changes
+-- count.
 use Rattle.std.proofs.Common.{◌≡◌, ◌∙◌, ℕ, ◌+◌, List, [], ◌∷◌, ◌++◌, Contains, ap, ap₂, sym, refl, arith}
 use Rattle.std.specs.Prelude.{option_and_then}
 use Rattle.std.proofs.lemmas.List.Sums.{sum_by-append, sum_by-cons}
@@ -21,7 +21,7 @@ cost-push rows changes change =
 pub cost-none : (rows : List Row) (bytes : ℕ) → bytes ≡ bytes + changes_cost rows []
 cost-none rows bytes = omega arith
 
--- what changes force depends on the newest rows there alone
+-- the bytes that changes force depend only on the newest rows there
 pub cost-alike : (rows others : List Row) (changes : List Witness)
     → ((change : Witness) → Contains changes change
     → newest rows change.key change.at ≡ newest others change.key change.at)
@@ -35,7 +35,7 @@ cost-alike rows others (change ∷ changes) alike =
     (cost-alike rows others changes (λ other i. alike other (Contains-rest change other changes i)))
     ∙ sym (sum_by-cons (change_cost others) change changes)
 
--- what the changes of two lists of rows force, where each is alone with its own
+-- the bytes that the changes of two lists of rows force, if neither list affects the newest rows of the other
 pub cost-append : (rows others both : List Row) (changes more : List Witness) (bytes total : ℕ)
     → ((c : Witness) → Contains changes c → newest both c.key c.at ≡ newest rows c.key c.at)
     → ((d : Witness) → Contains more d → newest both d.key d.at ≡ newest others d.key d.at)

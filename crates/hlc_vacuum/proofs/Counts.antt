@@ -1,5 +1,5 @@
--- Rows at or below a stamp, and rows above it, are counted apart. A row set has no more rows above a stamp than any
--- rows that have them all.
+-- Rows at or below a stamp, and rows above it, are counted separately. A row set has no more rows above a stamp than
+-- any rows that include them all.
 use Rattle.std.proofs.Common.{Contains, sum_by, length, refl, sym, ap, ◌∙◌, inl, inr, arith, cond, true, false, ltb}
 use Rattle.std.proofs.Common.{filter, ◌≡◌, ℕ, ◌≤◌, List, [], ◌∷◌, ◌<◌, ◌+◌, ◌++◌}
 use Rattle.std.proofs.lemmas.Bool.{cases_lt, ltb-true, lt-leb, lt-ltb, le-leb, le-ltb}
@@ -8,11 +8,11 @@ use Rattle.hlc_values.proofs.PigeonLemmas.{served, sum_by_one}
 use Rattle.hlc_node.specs.Rows.{IsRowSet, IsSameVersion}
 use Rattle.hlc_node.specs.declared.row.Row.{Row}
 use Rattle.hlc_columns.proofs.FlagLemmas.{filter-IsRowSet}
-use Rattle.hlc_vacuum.specs.Standing.{count_above}
+use Rattle.hlc_vacuum.specs.Representing.{count_above}
 use Rattle.hlc_vacuum.specs.Vacuumed.{rows_to}
 use Rattle.hlc_vacuum.proofs.Parts.{apart_rows}
 
--- a list is what is at or below a bound and what is above it
+-- a list is its rows at or below a bound and its rows above it
 pub split_count : (bound : ℕ) (rows : List Row) → length rows ≡ length (rows_to bound rows) + count_above bound rows
 split_count bound [] = refl
 split_count bound (row ∷ rows) =

@@ -1,7 +1,7 @@
--- Keeping the newest row at each change is enough. At a change the newest row is kept; where the answer stays, each
--- kept row of the key was kept for an earlier point, so the answer of the kept rows stays too. And each row kept at or
--- below the last point is the newest at some change, so they are no more than the changes; no fewer,
--- since each change forces a row.
+-- Keeping the newest row at each change is enough. At a change the newest row is kept; if the answer does not change,
+-- each kept row of the key was kept for an earlier point, so the answer of the kept rows does not change either. And
+-- each row kept at or below the last point is the newest at some change, so they are no more than the changes; and no
+-- fewer, since each change forces a row.
 use Rattle.std.proofs.Common.{Contains, true≢false, sum_by, Option, Some, None, length, get_or, refl, sym, ap, ◌∙◌}
 use Rattle.std.proofs.Common.{subst, ◌⊎◌, inl, inr, arith, leb, bytes_eq, ◌≡◌, ◌≢◌, ℕ, ◌≤◌, List, suc, ◌-◌, ◌<◌, zero}
 use Rattle.std.proofs.lemmas.Bool.{cases_Bool, cases_lt, cases_order, leb-true}
@@ -65,7 +65,7 @@ module _ (rows : List Row) (points : List ℕ) (changes : List Witness)
         )
       ]
 
-  -- at a change the newest is kept
+  -- at a change the newest row is kept
   kept_at : (c : Witness) → IsChange rows points c → answer kept c.key c.at ≡ answer rows c.key c.at
   kept_at c is =
       elim (newest rows c.key c.at) as (λ o. newest rows c.key c.at ≡ o
@@ -78,7 +78,7 @@ module _ (rows : List Row) (points : List ℕ) (changes : List Witness)
             ∙ sym (answer_some rows c.key c.at row e)
       ] refl
 
-  -- where the answer stays, each kept row of the key was kept for an earlier point
+  -- if the answer does not change, each kept row of the key was kept for an earlier point
   kept_before : (k : List ℕ) (p : ℕ) (before : Option ℕ) → Contains points p → IsPointBefore points before p
       → answer rows k p ≡ answer_at rows k before → (u : Row) → Contains kept u → u.key ≡ k → u.stamp ≤ p
       → (q : ℕ) × Contains points q × (q < p) × (u.stamp ≤ q)
@@ -101,7 +101,7 @@ module _ (rows : List Row) (points : List ℕ) (changes : List Witness)
         | inr (inr gt) ↦ absurd (omega arith)
       ]
 
-  -- the same answers at each point, by its place
+  -- the same answers at each point, by its position
   alike_at : (k : List ℕ) (j : ℕ) → j < length points
       → answer kept k (get_or points j 0) ≡ answer rows k (get_or points j 0)
   alike_at k zero lt =
@@ -146,7 +146,7 @@ module _ (rows : List Row) (points : List ℕ) (changes : List Witness)
       let f : get_or points j 0 ≡ p = get_or_default points j 0 p l ∙ e in
       ap (answer kept k) (sym f) ∙ alike_at k j l ∙ ap (answer rows k) f
 
-  -- of those kept, the ones at or below the last point
+  -- the kept rows at or below the last point
   abbrev low : List Row
   low = rows_to (last_point points) kept
 

@@ -1,5 +1,5 @@
--- Some of the rows of a row set answer as all do where they have what is newest: at a stamp, from a stamp on above
--- which they have all, without the rows above a stamp, and with one more row.
+-- Some of the rows of a row set answer as all do if they include the newest row: at a stamp, from a stamp on above
+-- which they include all, without the rows above a stamp, and with one more row.
 use Rattle.std.proofs.Common.{Contains, Some, None, refl, sym, ap, ◌∙◌, subst, inl, inr, arith, leb}
 use Rattle.std.proofs.Common.{◌≡◌, ℕ, ◌≤◌, List, [], ◌∷◌, ◌<◌, ◌++◌}
 use Rattle.std.proofs.lemmas.Bool.{cases_lt, le-leb}
@@ -14,7 +14,7 @@ use Rattle.hlc_node.proofs.NewestLemmas.{answer_none, answer_some, answer_stays}
 use Rattle.hlc_columns.proofs.FlagLemmas.{filter-IsRowSet}
 use Rattle.hlc_vacuum.specs.Vacuumed.{rows_to}
 
--- no row of a row set is one version with the last
+-- no row of a row set is the same version as the last one
 last_apart : (all : List Row) (row last : Row) → IsRowSet (all ++ last ∷ []) → Contains all row
     → IsSameVersion row last → ⊥
 last_apart [] row last set' i same = Contains-none row i
@@ -24,7 +24,7 @@ last_apart (first ∷ all) row last set' i same =
       | inr rest ↦ last_apart all row last set'.1 rest same
     ]
 
--- a part of a row set is one with one more row, if all are
+-- a part of a row set is a row set with one more row, if all are
 pub push-IsRowSet : (part all : List Row) (last : Row) → IsRowSet part
     → ((row : Row) → Contains part row → Contains all row) → IsRowSet (all ++ last ∷ []) → IsRowSet (part ++ last ∷ [])
 push-IsRowSet [] all last set' within pushed = ((λ other i same. Contains-none other i), tt)
@@ -38,12 +38,12 @@ push-IsRowSet (first ∷ part) all last set' within pushed = (
   push-IsRowSet part all last set'.1 (λ row i. within row (Contains-rest first row part i)) pushed,
 )
 
--- each thing of a row set is no version of a later one
+-- no row of a row set is the same version as a later one
 pub apart_rows : (rows : List Row) → IsRowSet rows → AreApart (λ a b. IsSameVersion a b → ⊥) rows
 apart_rows [] set' = tt
 apart_rows (row ∷ rows) set' = (set'.0, apart_rows rows set'.1)
 
--- what is newest in all is newest in a part that has it
+-- the newest of all is the newest of a part that has it
 pub newest_in_part : (part all : List Row) (key : List ℕ) (stamp : ℕ) (row : Row) → IsRowSet part
     → ((r : Row) → Contains part r → Contains all r) → IsNewest all key stamp row → Contains part row
     → newest part key stamp ≡ Some row
@@ -64,7 +64,7 @@ none_in_part part all key stamp within e =
           absurd (no_newest_no_row all key stamp row e (within row is.member) is.of_key is.in_bound)
     ] refl
 
--- alike at f, and all above f: alike from f on
+-- if they are alike at f and the part has all rows above f, they are alike from f on
 pub alike_from : (part all : List Row) (f : ℕ) → IsRowSet part
     → ((r : Row) → Contains part r → Contains all r) → ((r : Row) → Contains all r → f < r.stamp → Contains part r)
     → (key : List ℕ) (stamp : ℕ) → f ≤ stamp → answer part key f ≡ answer all key f
@@ -160,7 +160,7 @@ answer-push part all horizon last part_set all_set within above new key stamp sa
           ]
     ] refl
 
--- a row set with the same rows is told the same
+-- a row set with the same rows has the same answers
 pub same_rows : (rows others : List Row) → IsRowSet rows
     → ((row : Row) → Contains rows row → Contains others row) → ((row : Row) → Contains others row → Contains rows row)
     → (key : List ℕ) (stamp : ℕ) → answer rows key stamp ≡ answer others key stamp
@@ -176,7 +176,7 @@ same_rows rows others set' within back key stamp =
           ∙ sym (answer_some others key stamp row e)
     ] refl
 
--- of a row set, the rows above a stamp are not needed to answer at or below it
+-- the rows above a stamp are not needed to answer at or below it
 pub answer-rows_to : (rows : List Row) (bound : ℕ) (key : List ℕ) (point : ℕ) → IsRowSet rows
     → point ≤ bound → answer (rows_to bound rows) key point ≡ answer rows key point
 answer-rows_to rows bound key point set' le =

@@ -1,5 +1,5 @@
--- The drafts of the pieces of some columns, joined: each piece adds its draft to those before it, since keys ascend
--- over all of them.
+-- The drafts of the pieces of some columns, joined: each piece adds its draft to those before it, since the keys of all
+-- pieces ascend.
 use Rattle.std.proofs.Common.{◌≡◌, ◌∙◌, ◌+◌, ◌<◌, ℕ, zero, suc, List, [], ◌∷◌, ◌++◌, length, Result, Ok, sym, ap, refl}
 use Rattle.std.proofs.Common.{subst, arith}
 use Rattle.std.proofs.Common.{get_or}
@@ -21,7 +21,7 @@ piece_ascends (piece ∷ pieces) zero d up lt = ascend_front piece (columns_of p
 piece_ascends (piece ∷ pieces) (suc k) d up lt =
     piece_ascends pieces k d (ascend_back piece (columns_of pieces) up) (omega arith)
 
--- what stands beside a list and one more
+-- a list that matches another list and one more member: its front, and its last member
 record Last {A B : Type 0} (R : A → B → Type 0) (xs : List A) (ys : List B) (y : B) : Type 0 where
   front : List A
   last : A
@@ -45,14 +45,14 @@ last_of_zip R (x ∷ xs) (z ∷ ys) y h =
       lasts = rest.lasts;
     }
 
--- what the joined draft of some pieces says
+-- the meaning of the joined draft of some pieces
 abbrev pub JoinsPieces : List (Result Draft AllocError) → Draft → Type 0
 JoinsPieces drafts whole =
     (points : List ℕ) (pieces : List (List KeyCells)) → KeysAscend (columns_of pieces)
     → AllZip (DraftsPiece points) pieces
     drafts → IsJoined (columns_of pieces) points whole.witnesses.items whole.keep.items whole.bytes
 
--- one piece on
+-- one more piece
 pub pieces_on : (drafts : List (Result Draft AllocError)) (whole more new : Draft)
     → JoinsPieces drafts whole
     → new.witnesses.items ≡ whole.witnesses.items ++ more.witnesses.items
@@ -77,7 +77,7 @@ pieces_on drafts whole more new so news keeps total = λ points pieces up each.
     (columns_of parts.front) parts.last ascend whole.witnesses.items more.witnesses.items
     whole.keep.items more.keep.items whole.bytes more.bytes front parts.lasts))))
 
--- of no piece
+-- no piece
 pub pieces_none : (pieces : List (List KeyCells)) (points : List ℕ) → AllZip (DraftsPiece points) pieces []
     → IsJoined (columns_of pieces) points [] [] 0
 pieces_none [] points each = joined_none points

@@ -1,4 +1,4 @@
--- Between two points where no row lies the answer stays, so nothing is to be found there.
+-- If no row is between two points, the answer does not change, so there is no change.
 use Rattle.std.proofs.Common.{◌≡◌, ◌<◌, ◌≤◌, ◌+◌, ◌⊎◌, ◌∙◌, ℕ, zero, suc, List, [], ◌∷◌, length, map, drop, get_or}
 use Rattle.std.proofs.Common.{slice_get, Contains, Option, Some, None, sym, ap, refl, subst, inl, inr, arith}
 use Rattle.std.specs.Prelude.{IfSome}
@@ -15,7 +15,7 @@ use Rattle.hlc_witness.specs.Changes.{answer_at}
 use Rattle.hlc_witness.specs.AllChanges.{key_changes}
 use Rattle.hlc_witness.proofs.PlaceLemmas.{rising, last_upper}
 use Rattle.hlc_vacuum.specs.Gaps.{NoneBetween}
-use Rattle.hlc_vacuum.specs.KeyPlan.{point_before}
+use Rattle.hlc_vacuum.proofs.SoFar.{point_before}
 use Rattle.hlc_vacuum.proofs.Steps.{none_more}
 
 -- each row is at or below the point before, or at or above the next stamp
@@ -38,7 +38,7 @@ quiet_answer rows key (Some b) next p quiet lt le =
       | inr high ↦ absurd (omega arith)
     ])
 
--- it stays quiet at such a point
+-- from such a point on there is no row either
 pub quiet_on : (rows : List Row) (before : Option ℕ) (next p : ℕ) → IsQuiet rows before next
     → IfSome before (λ b. b ≤ p) → IsQuiet rows (Some p) next
 quiet_on rows None next p quiet le = λ row i. inr (quiet row i)
@@ -91,7 +91,7 @@ quiet_first key cells stamps next is apart = λ row i.
       | inr high ↦ high
     ]
 
--- where the gap goes on beyond the last point, no change is left
+-- if the gap extends beyond the last point, no change is left
 pub quiet_rest : (rows : List Row) (key points : List ℕ) (i next : ℕ) → PointsAscend points
     → IsQuiet rows (point_before points i) next → last_point points < next
     → key_changes rows key (point_before points i) (drop i points) ≡ []

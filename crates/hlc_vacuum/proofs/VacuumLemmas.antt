@@ -1,5 +1,6 @@
--- Keeping the newest row at each change, and what is above the last point, is a vacuum, and what a vacuum keeps at or
--- below the last point is the fewest and the cheapest: it answers alike there, and is as many as the changes.
+-- Keeping the newest row at each change, and the rows above the last point, is a vacuum; and the rows that a vacuum
+-- keeps at or below the last point are the fewest and the cheapest: they answer alike there, and are as many as the
+-- changes.
 use Rattle.std.proofs.Common.{◌∙◌, arith, ◌≡◌, ℕ, List}
 use Rattle.hlc_clock.specs.Points.{PointsAscend, last_point}
 use Rattle.hlc_node.specs.declared.row.Row.{Row}
@@ -26,7 +27,7 @@ newest_rows_suffice rows kept points changes ascend are keeps = record {
   count = low_count rows points changes kept ascend are keeps;
 }
 
--- what a vacuum leaves is alike at the points without what is above them
+-- the rows that a vacuum keeps are alike at the points without those above them
 left_alike : (rows kept : List Row) (points : List ℕ) (changes : List Witness)
     → PointsAscend points → IsVacuumOf rows points changes kept → Alike (rows_to (last_point points) kept) rows points
 left_alike rows kept points changes rise v key point i =

@@ -5,8 +5,8 @@ use Rattle.hlc_node.specs.declared.row.Row.{Row}
 use Rattle.hlc_node.specs.Rows.{newest}
 use Rattle.hlc_witness.specs.declared.witness.Witness.{Witness}
 
--- There is a flag for each row. It is set for each row above the bound, for the newest row at each change,
--- and for no other.
+-- There is a flag for each row. It is set for each row above the bound, for the newest row at each change, and for no
+-- other.
 pub record IsDraft (rows : List Row) (bound : ℕ) (changes : List Witness) (keep : List Bool) : Type 0 where
   pub each : length keep ≡ length rows
   pub above : (place : ℕ) (row : Row) → slice_get rows place ≡ Some row → bound < row.stamp

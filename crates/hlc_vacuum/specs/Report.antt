@@ -1,12 +1,12 @@
--- What a plan reports.
+-- The report of a plan.
 use Rattle.std.specs.Prelude.{[], length, count_by, not}
 use Rattle.hlc_clock.specs.Points.{last_point}
 use Rattle.hlc_vacuum.specs.declared.report.Report.{Report}
-use Rattle.hlc_vacuum.specs.Plan.{Planned}
+use Rattle.hlc_vacuum.specs.Plan.{PlanView}
 
--- its last point is the floor; a row is kept for each change, and they cost what it says; and those that it does not
+-- its last point is the floor; one row is kept for each change, at the cost in the plan; and the rows that it does not
 -- keep are dropped
-abbrev pub report_of : Planned → Report
+abbrev pub report_of : PlanView → Report
 report_of plan = record {
   floor = last_point plan.points;
   points = plan.points;
@@ -16,6 +16,6 @@ report_of plan = record {
   witnesses = plan.witnesses;
 }
 
--- of no vacuum
+-- the report of no vacuum
 abbrev pub blank_report : Report
 blank_report = record { floor = 0; points = []; kept = 0; bytes = 0; dropped = 0; witnesses = [] }

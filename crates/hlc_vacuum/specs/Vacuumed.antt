@@ -1,4 +1,4 @@
--- What a vacuum leaves of rows.
+-- The rows that a vacuum keeps.
 use Rattle.std.specs.Prelude.{◌≡◌, ℕ, ◌<◌, ◌⊎◌, List, Some, length, Contains, filter, nat_le}
 use Rattle.hlc_node.specs.declared.row.Row.{Row}
 use Rattle.hlc_node.specs.Rows.{newest, IsRowSet}
@@ -11,8 +11,8 @@ use Rattle.hlc_witness.specs.Changes.{AreChanges}
 abbrev pub rows_to : ℕ → List Row → List Row
 rows_to bound rows = filter (λ row. nat_le row.stamp bound) rows
 
--- The rows kept are rows of these and a row set, all above the last point among them. They answer alike at the points,
--- and at or below the last point they are as many as the changes.
+-- The kept rows are among these rows and are a row set, with all rows above the last point. They answer alike at the
+-- points, and at or below the last point they are as many as the changes.
 pub record IsVacuumOf (rows : List Row) (points : List ℕ) (changes : List Witness) (kept : List Row) : Type 0 where
   pub listed : AreChanges rows points changes
   pub row_set : IsRowSet kept
@@ -21,7 +21,8 @@ pub record IsVacuumOf (rows : List Row) (points : List ℕ) (changes : List Witn
   pub alike : Alike kept rows points
   pub count : length (rows_to (last_point points) kept) ≡ length changes
 
--- The rows kept are rows of these and a row set: each above the last point, the newest at each change, and no other.
+-- The kept rows are among these rows and are a row set: each row above the last point, the newest at each change, and
+-- no other.
 pub record KeepsNewest (rows : List Row) (points : List ℕ) (changes : List Witness) (kept : List Row) : Type 0 where
   pub row_set : IsRowSet kept
   pub within : (row : Row) → Contains kept row → Contains rows row

@@ -4,11 +4,11 @@ ghost use Rattle.hlc_columns.specs.Rows.{rows_in};
 
 use hlc_columns::Keyed;
 
-/// So many columns are fetched together.
+/// This many columns are fetched together.
 const AHEAD: usize = 64;
 
-/// How many rows the next 64 columns have, asked at every 64th place, and 0 at the others. None of these looks waits
-/// for the one before it, so a walk through those columns does not wait for memory at each.
+/// Returns the number of rows of the next 64 columns at every 64th position, and 0 at the others. None of these reads
+/// waits for the one before it, so a walk through those columns does not wait for memory at each.
 pub fn rows_ahead(columns: &[Keyed], from: usize) -> usize
     requires { from < length columns.now }
     ensures { result ≤ length (rows_in columns.now) }

@@ -1,9 +1,9 @@
-//! Reports that lie in a block of memory of their own.
+//! Reports in a block of memory of their own.
 ghost use Rattle.std.specs.Prelude.{◌≡◌, IfOk};
 ghost use Rattle.hlc_vacuum.specs.Report.{blank_report};
 ghost use Rattle.hlc_vacuum.specs.contracts.report.ReportPartialEq.TheImpl.Laws.{laws-law as report_partial_eq};
 ghost use Rattle.hlc_vacuum.specs.contracts.report.ReportEq.TheImpl.Laws.{laws-law as report_eq};
-ghost use Rattle.hlc_vacuum.specs.contracts.report.ReportExact.TheImpl.Laws.{equal-law as report_equal};
+ghost use Rattle.hlc_vacuum.specs.contracts.exact.ReportExact.TheImpl.Laws.{equal-law as report_equal};
 
 use crate::points::Points;
 use crate::report::Report;
@@ -13,11 +13,11 @@ use hlc_values::{Exact, NoMemory};
 use std::alloc::Global;
 use std::marker::Model;
 
-/// A report in a block of memory of its own, so that what has it in a field is small. Contracts see
-/// the report.
+/// A report in a block of memory of its own, so that a value with a field of this type is small. In
+/// contracts it is the report.
 #[derive(Debug, Drop)]
 pub struct BoxedReport {
-    held: Box<Report>,
+    block: Box<Report>,
 }
 
 impl Model for BoxedReport {
@@ -25,12 +25,12 @@ impl Model for BoxedReport {
 
     ghost Value = { AReport };
 
-    ghost view = { λ boxed. boxed.held.value };
+    ghost view = { λ boxed. boxed.block.value };
 }
 
 impl BoxedReport {
-    /// A block for a report that is still to be made, with a report of nothing in it. So memory can be
-    /// taken before anything changes.
+    /// Returns a block with a blank report, for a report that is still to be made. So the memory can be allocated
+    /// before anything changes.
     pub fn blank(alloc: Global) -> Result<BoxedReport, NoMemory>
         ensures { IfOk result (λ boxed. boxed ≡ blank_report) }
     {
@@ -42,24 +42,24 @@ impl BoxedReport {
             dropped: 0,
             witnesses: Witnesses::from_vec(Vec::new(alloc)),
         };
-        let held = Box::new(alloc, report)?;
-        Ok(BoxedReport { held })
+        let block = Box::new(alloc, report)?;
+        Ok(BoxedReport { block })
     }
 
-    /// The report in this block, in place of the one that it held. It takes no memory.
+    /// Replaces the report in this block by another. It needs no memory.
     pub fn with(self, report: Report) -> BoxedReport
         ensures { result ≡ report }
     {
-        let BoxedReport { mut held } = self;
-        *held = report;
-        BoxedReport { held }
+        let BoxedReport { mut block } = self;
+        *block = report;
+        BoxedReport { block }
     }
 
-    /// The report.
+    /// Returns the report.
     pub fn get(&self) -> &Report
         ensures { result.now ≡ self.now }
     {
-        &self.held
+        &self.block
     }
 }
 
@@ -68,8 +68,8 @@ impl Clone for BoxedReport {
 
     fn clone(&self) -> Result<BoxedReport, NoMemory> {
         let report = self.get().clone()?;
-        let held = Box::new(*Box::allocator(&self.held), report)?;
-        Ok(BoxedReport { held })
+        let block = Box::new(*Box::allocator(&self.block), report)?;
+        Ok(BoxedReport { block })
     }
 }
 

@@ -2,12 +2,11 @@
 ghost use Rattle.std.specs.Prelude.{◌≤◌, All};
 ghost use Rattle.hlc_vacuum.specs.Gaps.{NoneBetween};
 
-/// Of more stamps than these a pass for each gap costs more than the points in it.
+/// Among more stamps than these a pass for each gap costs more than the points in it.
 const FEW: usize = 32;
 
-/// Where a gap ends that begins at a stamp: after the greatest stamp at `u64::MAX`, else at the least
-/// one from there on. Of many stamps, or as many as there are points, it ends at once, since few
-/// points would be in a gap.
+/// Returns the end of a gap that begins at a stamp: `u64::MAX` after the greatest stamp, otherwise the least stamp from
+/// there on. If there are many stamps, or as many as points, the gap ends at once, since few points would be in a gap.
 pub(crate) fn gap_end(stamps: &[u64], greatest: u64, from: u64, points: usize) -> u64
     requires { All (λ stamp. stamp ≤ greatest) stamps.now }
     ensures { NoneBetween stamps.now from result }
@@ -21,7 +20,7 @@ pub(crate) fn gap_end(stamps: &[u64], greatest: u64, from: u64, points: usize) -
     least_from(stamps, from)
 }
 
-/// The least of the stamps from one on, `u64::MAX` where there is none.
+/// Returns the least of the stamps from one on, or `u64::MAX` if there is none.
 fn least_from(stamps: &[u64], from: u64) -> u64
     ensures { NoneBetween stamps.now from result }
 {
@@ -34,7 +33,7 @@ fn least_from(stamps: &[u64], from: u64) -> u64
     least
 }
 
-/// The greatest of some stamps, 0 of none.
+/// Returns the greatest of some stamps, or 0 if there are none.
 pub(crate) fn greatest_of(stamps: &[u64]) -> u64
     ensures { All (λ stamp. stamp ≤ result) stamps.now }
 {

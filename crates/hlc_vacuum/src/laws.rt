@@ -1,4 +1,4 @@
-//! What holds of vacuums, and of rows that stand for all accepted ones, whichever rows there are.
+//! What is true of vacuums, and of rows that represent all accepted ones, for any rows.
 ghost use Rattle.std.specs.Prelude.{◌≡◌, ◌↔◌, ◌⊎◌, ◌+◌, ◌<◌, ◌≤◌, ℕ, List, [], ◌∷◌, ◌++◌, length, Contains};
 ghost use Rattle.std.specs.List.Sorted.{IsPermutation};
 ghost use Rattle.hlc_clock.specs.Points.{PointsAscend, last_point};
@@ -10,10 +10,10 @@ ghost use Rattle.hlc_witness.specs.Cost.{Cheapest, AreInLimits, changes_cost, ro
 ghost use Rattle.hlc_witness.specs.Changes.{AreChanges};
 ghost use Rattle.hlc_witness.specs.Certificate.{IsCertificate, RowsAscend};
 ghost use Rattle.hlc_vacuum.specs.Vacuumed.{KeepsNewest, IsVacuumOf, rows_to};
-ghost use Rattle.hlc_vacuum.specs.Standing.{RowsStandFor, StandsAfterVacuum, count_above, count_between};
+ghost use Rattle.hlc_vacuum.specs.Representing.{RowsRepresent, RepresentsAfterVacuum, count_above, count_between};
 
-/// What a vacuum keeps at or below the last point is the cheapest, against all rows that there were,
-/// and costs just what the changes force.
+/// The rows that a vacuum keeps at or below the last point are the cheapest, against all rows that there were, and cost
+/// exactly what the changes force.
 pub fn vacuums_keep_cheapest()
     ensures cheapest { (rows kept : List ARow) (points : List ℕ) (changes : List AWitness)
         → PointsAscend points
@@ -25,7 +25,8 @@ pub fn vacuums_keep_cheapest()
         → rows_cost (rows_to (last_point points) kept) ≡ changes_cost rows changes }
 {}
 
-/// What a vacuum keeps at or below the last point is the fewest, against all rows that there were.
+/// The rows that a vacuum keeps at or below the last point are the fewest, against all rows that
+/// there were.
 pub fn vacuums_keep_fewest()
     ensures { (rows kept : List ARow) (points : List ℕ) (changes : List AWitness)
         → PointsAscend points
@@ -41,40 +42,40 @@ pub fn newest_rows_suffice()
         → IsVacuumOf rows points changes kept }
 {}
 
-/// Just after a vacuum the stored rows at or below the floor, once sorted by key, stamp and node, are
-/// certified by the changes.
+/// Just after a vacuum the stored rows at or below the floor, sorted by key, stamp and node, are certified by the
+/// changes.
 pub fn vacuums_are_certified()
     ensures { (stored all rows : List ARow) (floor : ℕ) (opened points : List ℕ)
         (changes : List AWitness)
-        → StandsAfterVacuum stored all floor opened points changes → PointsAscend points
+        → RepresentsAfterVacuum stored all floor opened points changes → PointsAscend points
         → last_point points ≡ floor
         → IsPermutation (rows_to floor stored) rows → RowsAscend rows → AreInLimits all
         → IsCertificate rows points changes }
 {}
 
-/// After a vacuum at the floor the rows stand for all accepted ones, and those at or below the floor
-/// are the fewest against all of them, whatever was dropped before. Its points are the open stamps,
-/// none of them above the floor, and the floor.
+/// After a vacuum at the floor the rows represent all accepted ones, and those at or below the floor are the fewest
+/// against all of them, whatever was dropped before. Its points are the open stamps, none of them above the floor, and
+/// the floor.
 pub fn vacuums_compose()
     ensures { (stored all kept : List ARow) (horizon floor : ℕ) (opened points : List ℕ)
         (changes : List AWitness)
-        → RowsStandFor stored all horizon opened → horizon ≤ floor → PointsAscend points
+        → RowsRepresent stored all horizon opened → horizon ≤ floor → PointsAscend points
         → ((point : ℕ) → Contains points point ↔ (Contains opened point ⊎ (point ≡ floor)))
         → ((stamp : ℕ) → Contains opened stamp → stamp ≤ floor)
         → IsVacuumOf stored points changes kept
-        → StandsAfterVacuum kept all floor opened points changes }
+        → RepresentsAfterVacuum kept all floor opened points changes }
 {}
 
-/// Rows that stand for all with the floor as the horizon, and are as many as the changes and the rows
-/// above the floor, are just after a vacuum: those at or below the floor are the fewest.
-pub fn standing_rows_are_fewest()
+/// Rows that represent all with the floor as the horizon, and are as many as the changes and the rows above the floor
+/// together, are as after a vacuum: those at or below the floor are the fewest.
+pub fn representing_rows_are_fewest()
     ensures { (stored all : List ARow) (floor : ℕ) (opened points : List ℕ)
         (changes : List AWitness)
-        → RowsStandFor stored all floor opened
+        → RowsRepresent stored all floor opened
         → ((point : ℕ) → Contains points point ↔ (Contains opened point ⊎ (point ≡ floor)))
         → ((stamp : ℕ) → Contains opened stamp → stamp ≤ floor) → AreChanges all points changes
         → length stored ≡ length changes + count_above floor all
-        → StandsAfterVacuum stored all floor opened points changes }
+        → RepresentsAfterVacuum stored all floor opened points changes }
 {}
 
 /// The rows above a stamp are those up to a higher one, and those above that.
@@ -84,25 +85,25 @@ pub fn rows_above_are_counted()
 {}
 
 /// A row that is written above the horizon is stored with the others, and counts as one more.
-pub fn writes_keep_standing()
-    ensures stands { (stored all : List ARow) (horizon : ℕ) (opened : List ℕ) (row : ARow)
-        → RowsStandFor stored all horizon opened → horizon < row.stamp → IsRowSet (all ++ row ∷ [])
-        → RowsStandFor (stored ++ row ∷ []) (all ++ row ∷ []) horizon opened }
+pub fn writes_keep_representing()
+    ensures represents { (stored all : List ARow) (horizon : ℕ) (opened : List ℕ) (row : ARow)
+        → RowsRepresent stored all horizon opened → horizon < row.stamp → IsRowSet (all ++ row ∷ [])
+        → RowsRepresent (stored ++ row ∷ []) (all ++ row ∷ []) horizon opened }
     ensures count { (stored all : List ARow) (horizon changes : ℕ) (row : ARow)
         → length stored ≡ changes + count_above horizon all → horizon < row.stamp
         → length (stored ++ row ∷ []) ≡ changes + count_above horizon (all ++ row ∷ []) }
 {}
 
-/// Stored rows stand for all in whichever order they are stored.
+/// Stored rows represent all in any order.
 pub fn stored_rows_may_be_moved()
     ensures { (stored moved all : List ARow) (horizon : ℕ) (opened : List ℕ)
-        → RowsStandFor stored all horizon opened
-        → IsPermutation stored moved → IsRowSet moved → RowsStandFor moved all horizon opened }
+        → RowsRepresent stored all horizon opened
+        → IsPermutation stored moved → IsRowSet moved → RowsRepresent moved all horizon opened }
 {}
 
-/// A snapshot that opens at or above the horizon is told the same.
-pub fn opens_keep_standing()
+/// A snapshot that opens at or above the horizon reads the same answers.
+pub fn opens_keep_representing()
     ensures { (stored all : List ARow) (horizon stamp : ℕ) (opened : List ℕ)
-        → RowsStandFor stored all horizon opened
-        → horizon ≤ stamp → RowsStandFor stored all horizon (opened ++ stamp ∷ []) }
+        → RowsRepresent stored all horizon opened
+        → horizon ≤ stamp → RowsRepresent stored all horizon (opened ++ stamp ∷ []) }
 {}

@@ -5,10 +5,10 @@ ghost use Rattle.hlc_clock.specs.Points.{last_point};
 use hlc_clock::Stamp;
 use hlc_values::Listed;
 
-/// Some stamps. Contracts see their list.
+/// Some stamps. In contracts it is the list of them.
 pub type Points = Listed<Stamp>;
 
-/// The last of some points.
+/// Returns the last of some points.
 pub(crate) fn last_of(points: &[Stamp]) -> Stamp
     requires { 0 < length points.now }
     ensures { result ≡ last_point points.now }

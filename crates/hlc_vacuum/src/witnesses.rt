@@ -2,5 +2,5 @@
 use hlc_values::Listed;
 use hlc_witness::Witness;
 
-/// Some changes. Contracts see their list.
+/// Some changes. In contracts it is the list of them.
 pub type Witnesses = Listed<Witness>;

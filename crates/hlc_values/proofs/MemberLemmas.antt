@@ -1,5 +1,5 @@
--- What is in a list: by its first member and its rest, after a map or a filter, and after a member is taken out. A
--- member is told by the place at which it stands.
+-- Membership in a list: by its first member and its rest, after a map or a filter, and after a member is removed. A
+-- member is identified by its position.
 use Rattle.std.proofs.Common.{◌≡◌, ◌≢◌, ℕ, zero, suc, ◌+◌, ◌-◌, ◌<◌, Bool, true, false, cond, List, [], ◌∷◌, length}
 use Rattle.std.proofs.Common.{get_or, refl, sym, ap, ◌∙◌, subst, ◌⊎◌, inl, inr, arith, Contains, filter, map}
 use Rattle.std.specs.List.{remove}
@@ -28,7 +28,7 @@ Contains-map f (y ∷ ys) x i =
       | inr r ↦ Contains-rest (f y) (f x) (map f ys) (Contains-map f ys x r)
     ]
 
--- what a filter keeps
+-- the members that a filter keeps
 pub Contains-filter : {X : Type 0} (p : X → Bool) (xs : List X) (x : X) → Contains xs x → p x ≡ true
     → Contains (filter p xs) x
 Contains-filter p [] x i t = absurd (Contains-none x i)
@@ -57,7 +57,7 @@ Contains-from_filter {X} p (y ∷ ys) x i =
           let h = Contains-from_filter p ys x j in (Contains-rest y x ys h.0, h.1)
     ]
 
--- what stays when one place is taken out
+-- the other members stay when the member at one position is removed
 pub Contains-remove : {X : Type 0} (xs : List X) (i : ℕ) (y x : X) → i < length xs → get_or xs i y ≡ y → Contains xs x
     → (y ≢ x) → Contains (remove xs i) x
 Contains-remove xs i y x l here (k, m, e) apart =

@@ -1,6 +1,6 @@
--- Where each of some things is served by a member of a list, and no member serves two that are apart, what they weigh
--- is no more than what the list weighs: take the member that serves the first thing out of the list, and go on with the
--- rest. With a weight of 1 for each it says that they are no more than the list's members.
+-- If each of some things is served by a member of a list, and no member serves two things that are apart, then the
+-- things weigh no more than the list: remove the member that serves the first thing from the list, and go on with the
+-- rest. With a weight of 1 each, there are no more things than members.
 use Rattle.std.proofs.Common.{◌≡◌, ℕ, ◌+◌, ◌<◌, ◌≤◌, List, [], ◌∷◌, length, get_or, refl, sym, ap, subst, arith}
 use Rattle.std.proofs.Common.{Contains, sum_by}
 use Rattle.std.specs.List.{remove}
@@ -17,7 +17,7 @@ AreApart {X} D (x ∷ xs) = ((y : X) → Contains xs y → D x y) × AreApart D 
 abbrev pub Served : {X Y : Type 0} → (X → Y → Type 0) → List Y → X → Type 0
 Served {X} {Y} R ys x = (y : Y) × Contains ys y × R x y
 
--- where the one that serves the first thing is taken out, the rest are served still
+-- when the member that serves the first thing is removed, the rest are still served
 rest_served : {X Y : Type 0} (D : X → X → Type 0) (R : X → Y → Type 0)
     → ((x z : X) (y : Y) → D x z → R x y → R z y → ⊥)
     → (x : X) (xs : List X) (ys : List Y) → AreApart D (x ∷ xs) → ((z : X) → Contains (x ∷ xs) z → Served R ys z)
@@ -54,7 +54,7 @@ pub sum_by_one : {X : Type 0} (xs : List X) → sum_by (λ _. 1) xs ≡ length x
 sum_by_one [] = refl
 sum_by_one (x ∷ xs) = let h = sum_by_one xs in let c = sum_by-cons (λ _. 1) x xs in omega arith
 
--- where there are as many of each, all of ys serve, and the weights are equal
+-- if there are as many things as members, all of ys serve, and the weights are equal
 pub served_all : {X Y : Type 0} (D : X → X → Type 0) (R : X → Y → Type 0) (f : X → ℕ) (g : Y → ℕ)
     → ((x : X) (y : Y) → R x y → f x ≡ g y)
     → ((x z : X) (y : Y) → D x z → R x y → R z y → ⊥)

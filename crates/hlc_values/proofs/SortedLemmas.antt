@@ -1,5 +1,6 @@
--- Lists in which each member is before each later one: two of them that have the same members are equal, since each
--- begins with the one that is before all others. Of numbers that rise, one that no other exceeds is the last.
+-- Lists in which each member is before each later one: two of them with the same members are equal, since each begins
+-- with the member that is before all others. In a list of ascending numbers, a member that no other exceeds is the
+-- last.
 use Rattle.std.proofs.Common.{◌≡◌, ℕ, suc, ◌+◌, ◌<◌, ◌≤◌, List, [], ◌∷◌, ◌++◌, length, get_or, take, refl, ap, ap₂}
 use Rattle.std.proofs.Common.{sym, ◌∙◌, subst, inl, inr, arith}
 use Rattle.std.specs.Prelude.{Contains, ◌↔◌}
@@ -9,7 +10,7 @@ use Rattle.std.proofs.lemmas.Bool.{cases_lt}
 use Rattle.std.proofs.lemmas.List.{take_more, take_all, get_or_default}
 use Rattle.hlc_values.proofs.MemberLemmas.{Contains-none, Contains-first, Contains-rest, Contains-cons_cases}
 
--- the rest of such a list is one, and its first is before each of the rest
+-- the rest of such a list is such a list, and the first member is before each of the rest
 pub AllPairs-rest : {X : Type 0} (R : X → X → Type 0) (x : X) (xs : List X) → AllPairs R (x ∷ xs) → AllPairs R xs
 AllPairs-rest R x xs h = λ i j d before within. h (suc i) (suc j) d (omega arith) (omega arith)
 
@@ -23,14 +24,14 @@ module _ {X : Type 0} (R : X → X → Type 0) (one_way : (x y : X) → R x y �
   heads_same x y xs ys a b m k =
       elim (Contains-cons_cases y x ys m) [
         | inl is ↦ sym is
-        | inr behind ↦
+        | inr beyond ↦
             elim (Contains-cons_cases x y xs k) [
               | inl is ↦ is
-              | inr after ↦ absurd (one_way y x (AllPairs-first R y ys x b behind) (AllPairs-first R x xs y a after))
+              | inr after ↦ absurd (one_way y x (AllPairs-first R y ys x b beyond) (AllPairs-first R x xs y a after))
             ]
       ]
 
-  -- what is in the rest of the one is in the rest of the other
+  -- what is in the rest of one list is in the rest of the other
   rest_same : (x : X) (xs ys : List X) → AllPairs R (x ∷ xs) → ((z : X) → Contains (x ∷ xs) z → Contains (x ∷ ys) z)
       → (z : X) → Contains xs z → Contains ys z
   rest_same x xs ys a same z m =
@@ -58,7 +59,7 @@ module _ {X : Type 0} (R : X → X → Type 0) (one_way : (x y : X) → R x y �
       (λ z. (rest_same x xs ys a into z, rest_same x ys xs also back z)) in
       ap₂ (λ w ws. w ∷ ws) first rest
 
--- a member of a rising list that no other exceeds is its last
+-- a member of an ascending list that no other exceeds is its last
 pub last-greatest : (xs : List ℕ) (top : ℕ) → IsStrictlyIncreasing xs → Contains xs top
     → ((x : ℕ) → Contains xs x → x ≤ top) → (earlier : List ℕ) × (xs ≡ earlier ++ top ∷ [])
 last-greatest xs top rises (k, within, here) low =

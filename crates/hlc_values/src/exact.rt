@@ -1,12 +1,14 @@
-//! Values that are compared and copied as what contracts see of them.
+//! Values whose equality and copies are exactly what contracts see.
 ghost use Rattle.std.specs.Prelude.{◌≡◌, ◌↔◌, IsTrue};
 ghost use Rattle.std.proofs.Common.{rules};
 ghost use Rattle.std.specs.Cmp.Rules.{comparing};
 
-/// Values of which `==` answers true exactly on equal ones, and of which each copy is equal.
+/// Values where `==` returns true exactly on equal ones, and where each copy is equal to its
+/// original.
 ///
-/// Equal means equal to contracts: what a contract says of the one holds of the other. A type that
-/// derives `PartialEq` and `Clone` still says so by an impl, since neither derive promises it.
+/// Equal means equal in contracts: what a contract says of one is true of the other. A type that
+/// derives `PartialEq` and `Clone` still needs an impl of this trait, since neither derive promises
+/// it.
 pub trait Exact: PartialEq + Clone {
     ghost equal: { (a b : Self) → IsTrue (Self.eq a b) ↔ (a ≡ b) };
 

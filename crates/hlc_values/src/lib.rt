@@ -1,4 +1,4 @@
-//! Values that are compared and copied as what contracts see of them, and lists of such values.
+//! Values whose equality and copies are exactly what contracts see, and lists of such values.
 #![tactic(auto)]
 
 mod bounds;

@@ -9,10 +9,10 @@ use std::alloc::{AllocError, Global};
 use std::marker::Model;
 use std::slice;
 
-/// Some values in their order. Contracts see their list.
+/// Some values in order. In contracts it is the list of them.
 ///
-/// It is a vector whose capacity and place no contract can name. Making one of a vector, and giving
-/// the vector back, moves it.
+/// It is a vector, but contracts say nothing of its capacity or address. `from_vec` and `into_vec`
+/// move the vector and copy nothing.
 #[derive(Debug, Drop)]
 pub struct Listed<T> {
     values: Vec<T>,
@@ -30,14 +30,14 @@ impl<T> Model for Listed<T> {
 }
 
 impl<T> Listed<T> {
-    /// The values of a vector.
+    /// Returns the list of the values of a vector.
     pub fn from_vec(values: Vec<T>) -> Listed<T>
         ensures { result ≡ values.items }
     {
         Listed { values }
     }
 
-    /// The vector of the values.
+    /// Returns the vector of the values.
     pub fn into_vec(self) -> Vec<T>
         ensures { result.items ≡ self }
     {
@@ -45,28 +45,28 @@ impl<T> Listed<T> {
         values
     }
 
-    /// The values as a slice.
+    /// Returns the values as a slice.
     pub fn as_slice(&self) -> &[T]
         ensures { result.now ≡ self.now }
     {
         self.values.as_slice()
     }
 
-    /// How many values there are.
+    /// Returns the number of values.
     pub fn len(&self) -> usize
         ensures { result ≡ length self.now }
     {
         self.values.len()
     }
 
-    /// Whether there are none.
+    /// Returns whether the list is empty.
     pub fn is_empty(&self) -> bool
         ensures { result ≡ (length self.now == 0) }
     {
         self.values.is_empty()
     }
 
-    /// The values in turn.
+    /// Returns an iterator of the values in order.
     pub fn iter(&self) -> slice::Iter<'_, T>
         ensures { iter_rest result ≡ self.now }
     {
@@ -75,7 +75,7 @@ impl<T> Listed<T> {
 }
 
 impl<T: Exact> Listed<T> {
-    /// Copies of the values of a slice, in their order.
+    /// Copies the values of a slice, in order. It may run out of memory.
     pub fn from_slice(alloc: Global, values: &[T]) -> Result<Listed<T>, AllocError>
         ensures { IfOk result (λ listed. listed ≡ values.now) }
     {

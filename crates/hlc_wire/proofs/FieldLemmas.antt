@@ -51,7 +51,7 @@ done x = Ok x
 pub ok_is : {A : Type 0} (x y : A) → done x ≡ done y → x ≡ y
 ok_is x y e = cc
 
--- what a reader took from the front
+-- the part that a reader took from the front
 pub record Takes (bytes text rest : List ℕ) : Type 0 where
   pub parts : bytes ≡ text ++ rest
   pub rest_fits : IsBytes rest
@@ -66,7 +66,7 @@ Takes-then a x b y c p q =
 pub Takes-cons : (b : ℕ) (a x c : List ℕ) → Takes a x c → Takes (b ∷ a) (b ∷ x) c
 Takes-cons b a x c p = record { parts = ap (λ (t : List ℕ). b ∷ t) p.parts; rest_fits = p.rest_fits }
 
--- a reader reads just what is spelled so, whatever follows
+-- a reader reads exactly the encodings, whatever follows
 pub record IsReader {A : Type 0} (read : List ℕ → Result (A × List ℕ) WireFault) (spell : A → List ℕ)
     (Fits : A → Type 0) : Type 0 where
   pub takes : (bytes : List ℕ) (x : A × List ℕ) → IsBytes bytes → read bytes ≡ Ok x

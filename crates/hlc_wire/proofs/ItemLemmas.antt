@@ -173,14 +173,14 @@ message_again message rest fits = message_rest_again message rest fits
 pub message_reader : IsReader message_at message_bytes MessageFits
 message_reader = record { takes = message_takes; again = message_again }
 
--- what was returned is found so
+-- a result that was returned has that encoding
 pub is_found : {A : Type 0} (read : List ℕ → Result (A × List ℕ) WireFault) (spell : A → List ℕ) (Fits : A → Type 0)
     → IsReader read spell Fits → (bytes : List ℕ) (r : Result A DecodeError) → IsBytes bytes
     → Gives (λ (a : A). a) r (whole (read bytes)) → IfOk r (λ a. Fits a × (bytes ≡ spell a))
-is_found read spell Fits is bytes (Ok a) fits given = whole_takes read spell Fits is bytes a fits given
-is_found read spell Fits is bytes (Err e) fits given = tt
+is_found read spell Fits is bytes (Ok a) fits found_it = whole_takes read spell Fits is bytes a fits found_it
+is_found read spell Fits is bytes (Err e) fits found_it = tt
 
--- the version, the numbers and what is said, one after the other
+-- the version, the numbers and the body, one after the other
 pub written : (old one all' new : List ℕ) (item : Item) → one ≡ old ++ 1 ∷ []
     → all' ≡ one ++ (to_be_bytes w16 item.node ++ to_be_bytes w64 item.number ++ to_be_bytes w64 item.stamp)
     → new ≡ all' ++ body_bytes item.body → new ≡ old ++ item_bytes item
@@ -203,7 +203,7 @@ message_written old one both new message first second third =
     third ∙ ap (λ (x : List ℕ). x ++ b) (second ∙ ap (λ (x : List ℕ). x ++ a) first)
     ∙ append_assoc (old ++ 1 ∷ []) a b ∙ append_assoc old (1 ∷ []) (a ++ b)
 
--- ---- how many bytes
+-- ---- the number of bytes
 
 body_length : (body : Body) → BodyFits body → length (body_bytes body) ≤ 65795
 body_length Report fits = omega arith

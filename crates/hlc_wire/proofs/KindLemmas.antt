@@ -1,4 +1,4 @@
--- Which byte says what kind of item it is, seen from the fields before it.
+-- The byte for the kind of the item, seen from the fields before it.
 use Rattle.std.proofs.Common.{◌≡◌, ℕ, ◌+◌, ◌<◌, List, length, get_or, drop, Some, Ok}
 use Rattle.std.proofs.Common.{take, sym, ap, subst, ◌∙◌, arith, ltb}
 use Rattle.std.specs.List.{slice_get}
@@ -9,7 +9,7 @@ use Rattle.hlc_wire.specs.declared.fault.WireFault.TheVariants.{Short}
 use Rattle.hlc_wire.specs.Reading.{number_at}
 use Rattle.hlc_wire.proofs.FieldLemmas.{guard_ok}
 
--- the byte after so many others
+-- the byte after this many others
 pub after_drop : (n i : ℕ) (bytes : List ℕ) → slice_get (drop n bytes) i ≡ Some 0 → slice_get bytes (n + i) ≡ Some 0
 after_drop n i bytes e =
     let within : i < length (drop n bytes) = slice_get_within (drop n bytes) i 0 e in

@@ -1,4 +1,5 @@
--- Reading in pieces: when more bytes follow, a reader reads the same and leaves them too, and a fault but Short stays.
+-- Reading in pieces: if more bytes follow, a reader reads the same and leaves them too, and each fault except Short
+-- stays the same.
 use Rattle.std.proofs.Common.{◌≡◌, ℕ, zero, suc, ◌≤◌, ◌⊎◌, Bool, true, false, cond, ltb, List, [], ◌∷◌, ◌++◌, length}
 use Rattle.std.proofs.Common.{take, drop, Some, None, Result, Ok, Err, refl, ap, subst, ◌∙◌}
 use Rattle.std.proofs.Common.{arith, inl, inr, length-append, sym}
@@ -79,7 +80,7 @@ pub steady_head : {A : Type 0} (read : List ℕ → Result (A × List ℕ) WireF
     → ((b : ℕ) → IsSteady (λ (rest : List ℕ). read (b ∷ rest))) → IsSteady read
 steady_head read short each = record { more = head_more read short each; wrong = head_wrong read short each }
 
--- ---- a beginning of what is spelled
+-- ---- a beginning of an encoding
 
 read_or_wrong : {A : Type 0} (r : Result A WireFault) → ((x : A) × (r ≡ Ok x)) ⊎ ((f : WireFault) × (r ≡ Err f))
 read_or_wrong (Ok x) = inl (x, refl)
@@ -94,7 +95,7 @@ short_or_not Flag = inr (λ e. cc)
 short_or_not Trailing = inr (λ e. cc)
 short_or_not Damaged = inr (λ e. cc)
 
--- a beginning of a spelling that is not all of it is Short, so a reader of pieces waits for more
+-- a beginning of an encoding that is not all of it is Short, so a reader of pieces waits for more
 pub steady_short : {A : Type 0} (read : List ℕ → Result (A × List ℕ) WireFault) (spell : A → List ℕ)
     (Fits : A → Type 0) → IsSteady read → IsReader read spell Fits → (a : A) (front back : List ℕ) → Fits a
     → front ++ back ≡ spell a → (back ≡ [] → ⊥) → read front ≡ Err Short
@@ -129,7 +130,7 @@ guard_err : {A : Type 0} (b : Bool) (d f : WireFault) (x : A) → cond b (Err d)
 guard_err true d f x e = cc
 guard_err false d f x e = absurd cc
 
--- so many bytes, seen by view
+-- this many bytes, seen by view
 cut_steady : {A : Type 0} (n : ℕ) (view : List ℕ → A)
     → IsSteady (λ (bytes : List ℕ). cond (ltb (length bytes) n) (failed Short)
     (done {A = A × List ℕ} (view (take n bytes), drop n bytes)))

@@ -8,7 +8,7 @@ use Rattle.hlc_wire.specs.declared.fault.DecodeError.TheVariants as decoding
 use Rattle.hlc_wire.specs.declared.fault.EncodeError.{EncodeError}
 use Rattle.hlc_wire.specs.declared.fault.EncodeError.TheVariants as encoding
 
--- the number that stands for a fault
+-- the number of a fault in outputs
 abbrev pub fault_code : WireFault → ℕ
 fault_code Short = 1
 fault_code Version = 2
@@ -18,7 +18,7 @@ fault_code Flag = 5
 fault_code Trailing = 6
 fault_code Damaged = 7
 
--- what a fault says
+-- the text of a fault
 abbrev pub fault_text : WireFault → List ℕ
 fault_text Short = codes "the bytes end within a field"
 fault_text Version = codes "the version is not 1"

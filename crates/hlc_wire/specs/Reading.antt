@@ -1,4 +1,4 @@
--- Reading from left to right, with the first fault that is met.
+-- Reading from left to right, up to the first fault.
 use Rattle.std.specs.Prelude.{◌≡◌, ℕ, zero, suc, Bool, true, false, List, [], ◌∷◌, length, take, drop}
 use Rattle.std.specs.Prelude.{Option, Some, None, Result, Ok, Err, nat_lt, ◌==◌, if◌then◌else◌}
 use Rattle.std.specs.Int.{Width, w16, w64, byte_len, from_be_bytes}
@@ -16,7 +16,7 @@ abbrev pub ◌>>=◌ : {A B : Type 0} → Result A WireFault → (A → Result B
 (Ok x) >>= f = f x
 (Err e) >>= f = Err e
 
--- what a call returned, seen by view, is what reading gives, unless memory ran out
+-- the result of a call, seen by view, is the result of the reading, unless memory ran out
 abbrev pub Fails : {Y : Type 0} → DecodeError → Result Y WireFault → Type 0
 Fails errors.NoMemory read = Unit {0}
 Fails (errors.Fault f) read = read ≡ Err f
@@ -32,13 +32,13 @@ abbrev pub byte_at : List ℕ → Result (ℕ × List ℕ) WireFault
 byte_at [] = Err Short
 byte_at (b ∷ rest) = Ok (b, rest)
 
--- a number in so many bytes
+-- a number in this many bytes
 abbrev pub number_at : Width → List ℕ → Result (ℕ × List ℕ) WireFault
 number_at w bytes =
     if nat_lt (length bytes) (byte_len w) then Err Short
     else Ok (from_be_bytes w (take (byte_len w) bytes), drop (byte_len w) bytes)
 
--- so many bytes
+-- this many bytes
 abbrev pub bytes_at : ℕ → List ℕ → Result (List ℕ × List ℕ) WireFault
 bytes_at n bytes = if nat_lt (length bytes) n then Err Short else Ok (take n bytes, drop n bytes)
 
@@ -65,7 +65,7 @@ value_at (suc zero ∷ rest) = do
   Ok (Some value.0, value.1)
 value_at (suc (suc b) ∷ rest) = Err Flag
 
--- what an item says
+-- the body of an item
 unfoldable pub body_at : List ℕ → Result (Body × List ℕ) WireFault
 body_at [] = Err Short
 body_at (zero ∷ rest) = do

@@ -4,7 +4,7 @@ use Rattle.hlc_node.specs.declared.item.BodyFault.{BodyFault}
 use Rattle.hlc_wire.specs.declared.fault.EncodeError.{EncodeError}
 use Rattle.hlc_wire.specs.declared.fault.EncodeError.TheVariants.{BadBody, NoMemory}
 
--- the reason that is due; or out of memory, where none is due
+-- the expected reason; or out of memory, if none is expected
 abbrev pub IsRefusal : Option BodyFault → EncodeError → Type 0
-IsRefusal due (BadBody fault) = due ≡ Some fault
-IsRefusal due NoMemory = due ≡ None
+IsRefusal expected (BadBody fault) = expected ≡ Some fault
+IsRefusal expected NoMemory = expected ≡ None

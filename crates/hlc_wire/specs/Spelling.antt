@@ -1,4 +1,4 @@
--- The one spelling of each item and each message. Numbers have the high byte first.
+-- The one encoding of each item and each message. Numbers are big-endian.
 use Rattle.std.specs.Prelude.{ℕ, ◌<◌, Bool, true, false, List, [], ◌∷◌, ◌++◌, length, Option, Some, None}
 use Rattle.std.specs.Int.{w16, w64, to_be_bytes}
 use Rattle.hlc_node.specs.declared.item.Item.{Item}
@@ -20,13 +20,13 @@ abbrev pub value_bytes : Option (List ℕ) → List ℕ
 value_bytes None = 0 ∷ []
 value_bytes (Some value) = 1 ∷ (to_be_bytes w16 (length value) ++ value)
 
--- what an item says: 0, a key and a value; or 1 of a report; or 2 of a retirement
+-- the body of an item: 0, a key and a value; or 1 for a report; or 2 for a retirement
 abbrev pub body_bytes : Body → List ℕ
 body_bytes (Write key value) = 0 ∷ (key_bytes key ++ value_bytes value)
 body_bytes Report = 1 ∷ []
 body_bytes Retire = 2 ∷ []
 
--- the version, which is 1; the node in two bytes; the number and the stamp in eight each; what it says
+-- the version, which is 1; the node in two bytes; the number and the stamp in eight each; the body
 abbrev pub item_bytes : Item → List ℕ
 item_bytes item =
     1 ∷ (to_be_bytes w16 item.node ++ to_be_bytes w64 item.number ++ to_be_bytes w64 item.stamp ++ body_bytes item.body)
@@ -35,7 +35,7 @@ item_bytes item =
 abbrev pub message_bytes : Message → List ℕ
 message_bytes message = 1 ∷ (to_be_bytes w16 message.from ++ to_be_bytes w64 message.stamp)
 
--- What has a spelling: numbers in their ranges, keys of 1 to 255 bytes, values of at most 65,535.
+-- What has an encoding: numbers in their ranges, keys of 1 to 255 bytes, values of at most 65,535.
 abbrev pub KeyFits : List ℕ → Type 0
 KeyFits key = (0 < length key) × (length key < 256)
 

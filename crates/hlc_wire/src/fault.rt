@@ -1,11 +1,8 @@
-//! Why bytes are not read, or not written.
+//! Why bytes are not read or written.
 ghost use Rattle.std.specs.Prelude.{◌≡◌, Some};
-ghost use Rattle.std.proofs.Common.{rules};
-ghost use Rattle.std.proofs.lemmas.Grind.{common_steps};
 ghost use Rattle.hlc_wire.specs.Faults.{fault_code, fault_text, decode_text, encode_text};
 
 use hlc_node::BodyFault;
-use hlc_values::Exact;
 use std::alloc::{AllocError, AllocFailed};
 use std::error::Error;
 use std::fmt;
@@ -17,7 +14,7 @@ pub enum WireFault {
     Short,
     /// The first byte is not the version, which is 1.
     Version,
-    /// The byte that says what kind of item it is has no meaning.
+    /// The byte for the kind of item has no meaning.
     Kind,
     /// A key has no bytes.
     EmptyKey,
@@ -34,21 +31,21 @@ pub enum WireFault {
 pub enum DecodeError {
     /// Memory ran out.
     NoMemory,
-    /// The bytes are not a spelling.
+    /// The bytes are not an encoding.
     Fault(WireFault),
 }
 
 /// Why nothing was written.
 #[derive(Clone, Copy, Debug, PartialEq, Eq)]
 pub enum EncodeError {
-    /// No item may say this.
+    /// No item may have this body.
     BadBody(BodyFault),
     /// Memory ran out.
     NoMemory,
 }
 
 impl WireFault {
-    /// The number that stands for the fault in outputs: 1 to 7, in the order of the variants.
+    /// Returns the number of the fault in outputs: 1 to 7, in the order of the variants.
     pub fn code(self) -> u32
         ensures { result ≡ fault_code self }
     {
@@ -108,24 +105,6 @@ impl Error for WireFault {}
 impl Error for DecodeError {}
 
 impl Error for EncodeError {}
-
-impl Exact for WireFault {
-    ghost equal = { Prim.search (rules, common_steps) };
-
-    ghost copied = { Prim.search rules };
-}
-
-impl Exact for DecodeError {
-    ghost equal = { Prim.search (rules, common_steps) };
-
-    ghost copied = { Prim.search rules };
-}
-
-impl Exact for EncodeError {
-    ghost equal = { Prim.search (rules, common_steps) };
-
-    ghost copied = { Prim.search rules };
-}
 
 impl From<AllocError> for DecodeError {
     ghost use Rattle.hlc_wire.specs.declared.fault.DecodeError.TheVariants.{NoMemory};

@@ -1,5 +1,5 @@
-//! Fields, read from the front of some bytes and written at the end of others. Numbers have the high
-//! byte first. Each reader returns what it read and the bytes after it.
+//! Fields, read from the front of some bytes and written at the end of others. Numbers are big-endian. Each reader
+//! returns what it read and the bytes after it.
 ghost use Rattle.std.specs.Prelude.{◌≡◌, ◌++◌, OnOk, IsOk, IsErrOf};
 ghost use Rattle.std.specs.Int.{w16, w32, w64};
 ghost use Rattle.hlc_wire.specs.Spelling.{flag_bytes, key_bytes, value_bytes, KeyFits, ValueFits};
@@ -9,7 +9,7 @@ use crate::fault::{DecodeError, WireFault};
 use hlc_node::Bytes;
 use std::alloc::{AllocError, Global};
 
-/// The first byte. `Short` where there is none.
+/// Reads the first byte. `Short` if there is none.
 pub fn byte_at(bytes: &[u8]) -> Result<(u8, &[u8]), DecodeError>
     ensures read { Gives (λ x. (x.0, x.1.now)) result (byte_at bytes.now) }
     ensures memory { ¬ IsErrOf result DecodeError.NoMemory }
@@ -20,7 +20,7 @@ pub fn byte_at(bytes: &[u8]) -> Result<(u8, &[u8]), DecodeError>
     }
 }
 
-/// The number in the first two bytes. `Short` where there are fewer.
+/// Reads the number in the first two bytes. `Short` if there are fewer.
 pub fn u16_at(bytes: &[u8]) -> Result<(u16, &[u8]), DecodeError>
     ensures read { Gives (λ x. (x.0, x.1.now)) result (number_at w16 bytes.now) }
     ensures memory { ¬ IsErrOf result DecodeError.NoMemory }
@@ -33,7 +33,7 @@ pub fn u16_at(bytes: &[u8]) -> Result<(u16, &[u8]), DecodeError>
     Ok((number, rest))
 }
 
-/// The number in the first four bytes. `Short` where there are fewer.
+/// Reads the number in the first four bytes. `Short` if there are fewer.
 pub fn u32_at(bytes: &[u8]) -> Result<(u32, &[u8]), DecodeError>
     ensures read { Gives (λ x. (x.0, x.1.now)) result (number_at w32 bytes.now) }
     ensures memory { ¬ IsErrOf result DecodeError.NoMemory }
@@ -46,7 +46,7 @@ pub fn u32_at(bytes: &[u8]) -> Result<(u32, &[u8]), DecodeError>
     Ok((number, rest))
 }
 
-/// The number in the first eight bytes. `Short` where there are fewer.
+/// Reads the number in the first eight bytes. `Short` if there are fewer.
 pub fn u64_at(bytes: &[u8]) -> Result<(u64, &[u8]), DecodeError>
     ensures read { Gives (λ x. (x.0, x.1.now)) result (number_at w64 bytes.now) }
     ensures memory { ¬ IsErrOf result DecodeError.NoMemory }
@@ -61,7 +61,7 @@ pub fn u64_at(bytes: &[u8]) -> Result<(u64, &[u8]), DecodeError>
     Ok((number, rest))
 }
 
-/// A copy of the first `count` bytes. `Short` where there are fewer, before memory is taken.
+/// Copies the first `count` bytes. `Short` if there are fewer, before memory is allocated.
 pub fn bytes_at(alloc: Global, count: usize, bytes: &[u8]) -> Result<(Bytes, &[u8]), DecodeError>
     ensures read { Gives (λ x. (x.0, x.1.now)) result (bytes_at count bytes.now) }
     ensures memory { IsErrOf result DecodeError.NoMemory → IsOk (bytes_at count bytes.now) }
@@ -74,7 +74,7 @@ pub fn bytes_at(alloc: Global, count: usize, bytes: &[u8]) -> Result<(Bytes, &[u
     Ok((copy, rest))
 }
 
-/// Yes or no: a byte 1 or 0. `Short` where there is no byte, `Flag` at any other.
+/// Reads yes or no: a byte 1 or 0. `Short` if there is no byte, `Flag` for any other.
 #[tactic(auto, unfolding(crate::specs::Reading::flag_at))]
 pub fn flag_at(bytes: &[u8]) -> Result<(bool, &[u8]), DecodeError>
     ensures read { Gives (λ x. (x.0, x.1.now)) result (flag_at bytes.now) }
@@ -88,10 +88,10 @@ pub fn flag_at(bytes: &[u8]) -> Result<(bool, &[u8]), DecodeError>
     }
 }
 
-/// A copy of a key: a byte of length, 1 to 255, and so many bytes.
+/// Reads and copies a key: a byte of length, 1 to 255, and that many bytes.
 ///
-/// `Short` where there is no byte of length, `EmptyKey` where it is 0, `Short` where fewer bytes
-/// follow; then out of memory.
+/// `Short` if there is no byte of length, `EmptyKey` if it is 0, `Short` if fewer bytes follow;
+/// then out of memory.
 #[tactic(auto, unfolding(crate::specs::Reading::key_at))]
 pub fn key_at(alloc: Global, bytes: &[u8]) -> Result<(Bytes, &[u8]), DecodeError>
     ensures read { Gives (λ x. (x.0, x.1.now)) result (key_at bytes.now) }
@@ -104,11 +104,11 @@ pub fn key_at(alloc: Global, bytes: &[u8]) -> Result<(Bytes, &[u8]), DecodeError
     }
 }
 
-/// A copy of a value, or a deletion mark: a byte 0; or a byte 1, two bytes of length, and so many
-/// bytes.
+/// Reads and copies a value, or a deletion mark: a byte 0; or a byte 1, two bytes of length, and
+/// that many bytes.
 ///
-/// `Short` where there is no first byte, `Flag` where it is neither 0 nor 1, `Short` where fewer
-/// bytes follow; then out of memory.
+/// `Short` if there is no first byte, `Flag` if it is neither 0 nor 1, `Short` if fewer bytes
+/// follow; then out of memory.
 #[tactic(auto, unfolding(crate::specs::Reading::value_at))]
 pub fn value_at(alloc: Global, bytes: &[u8]) -> Result<(Option<Bytes>, &[u8]), DecodeError>
     ensures read { Gives (λ x. (x.0, x.1.now)) result (value_at bytes.now) }
@@ -128,7 +128,7 @@ pub fn value_at(alloc: Global, bytes: &[u8]) -> Result<(Option<Bytes>, &[u8]), D
 
 /// Writes yes or no, in one byte.
 ///
-/// The only error of the writers here is that memory ran out; of `out` nothing is said then.
+/// The only error of the writers here is out of memory; the content of `out` is then not specified.
 pub fn put_flag(out: &mut Vec<u8>, flag: bool) -> Result<(), AllocError>
     ensures { OnOk result (out.new.items ≡ out.old.items ++ flag_bytes flag) }
 {

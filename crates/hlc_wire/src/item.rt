@@ -13,7 +13,7 @@ use hlc_clock::Stamp;
 use hlc_node::{Body, Item, body_fault};
 use std::alloc::{AllocError, Global};
 
-/// The most bytes that an item may have.
+/// The maximum number of bytes of an item.
 pub const MOST_ITEM_BYTES: usize = 65_814;
 
 /// An item has at most 65,814 bytes: 1 of version, 2 of node, 8 of number, 8 of stamp, 1 of kind,
@@ -22,25 +22,25 @@ pub fn most_item_bytes_are_65814()
     ensures { MOST_ITEM_BYTES ≡ 65814 }
 {}
 
-/// The item that the bytes spell, all of the bytes.
+/// Reads the item from its encoding, which is all of the bytes.
 ///
 /// The error is the first fault from the left, or that memory ran out for the copy of a write's key
-/// or value before that fault was met.
+/// or value before that fault was reached.
 pub fn decode_item(alloc: Global, bytes: &[u8]) -> Result<Item, DecodeError>
-    // What is read is spelled so.
+    // The bytes are the encoding of the item that is read.
     ensures found { IfOk result (λ item. ItemFits item × (bytes.now ≡ item_bytes item)) }
-    // What is spelled so is read, unless memory runs out.
+    // The encoding of an item is read, unless memory runs out.
     ensures only { (item : AnItem) → ItemFits item → bytes.now ≡ item_bytes item
         → Gives (λ item. item) result (Ok item) }
-    // Which fault it is.
+    // The fault is exactly this one.
     ensures exact { Gives (λ item. item) result (whole (item_at bytes.now)) }
-    // Memory is taken for a write alone: byte 19 says what kind of item it is.
+    // Only a write needs memory: byte 19 is the kind of the item.
     ensures memory { IsErrOf result DecodeError.NoMemory → slice_get bytes.now 19 ≡ Some 0 }
 {
     all(alloc, bytes)
 }
 
-/// The one spelling of an item, of at most `MOST_ITEM_BYTES` bytes.
+/// Returns the one encoding of an item, of at most `MOST_ITEM_BYTES` bytes.
 ///
 /// Refused, in this order: a bad key; a value that is too long; out of memory.
 pub fn encode_item(alloc: Global, item: &Item) -> Result<Vec<u8>, EncodeError>
@@ -56,8 +56,7 @@ pub fn encode_item(alloc: Global, item: &Item) -> Result<Vec<u8>, EncodeError>
     Ok(out)
 }
 
-/// Writes an item after what is there. The only error is that memory ran out; of `out` nothing is said
-/// then.
+/// Writes an item at the end of `out`. The only error is out of memory; the content of `out` is then not specified.
 pub fn put_item(out: &mut Vec<u8>, item: &Item) -> Result<(), AllocError>
     requires { body_refusal item.now.body ≡ None }
     ensures ok { OnOk result (out.new.items ≡ out.old.items ++ item_bytes item.now) }
@@ -83,7 +82,7 @@ fn put_numbers(out: &mut Vec<u8>, node: u16, number: u64, stamp: u64) -> Result<
     Ok(())
 }
 
-/// Writes what an item says.
+/// Writes the body of an item.
 fn put_body(out: &mut Vec<u8>, body: &Body) -> Result<(), AllocError>
     requires { BodyFits body.now }
     ensures { OnOk result (out.new.items ≡ out.old.items ++ body_bytes body.now) }
@@ -100,10 +99,10 @@ fn put_body(out: &mut Vec<u8>, body: &Body) -> Result<(), AllocError>
     Ok(())
 }
 
-/// The item at the front of some bytes, and the bytes after it.
+/// Reads the item at the front of some bytes, and returns it with the bytes after it.
 ///
 /// The error is the first fault from the left, or that memory ran out for the copy of a write's key
-/// or value before that fault was met.
+/// or value before that fault was reached.
 #[tactic(auto, unfolding(crate::specs::Reading::item_at))]
 pub fn item_at(alloc: Global, bytes: &[u8]) -> Result<(Item, &[u8]), DecodeError>
     ensures read { Gives (λ x. (x.0, x.1.now)) result (item_at bytes.now) }
@@ -116,7 +115,7 @@ pub fn item_at(alloc: Global, bytes: &[u8]) -> Result<(Item, &[u8]), DecodeError
     }
 }
 
-/// An item after its version.
+/// Reads an item after its version.
 #[tactic(auto, unfolding(crate::specs::Reading::item_rest_at))]
 fn item_rest_at(alloc: Global, bytes: &[u8]) -> Result<(Item, &[u8]), DecodeError>
     ensures read { Gives (λ x. (x.0, x.1.now)) result (item_rest_at bytes.now) }
@@ -138,7 +137,7 @@ fn item_rest_at(alloc: Global, bytes: &[u8]) -> Result<(Item, &[u8]), DecodeErro
     ))
 }
 
-/// What an item says.
+/// Reads the body of an item.
 #[tactic(auto, unfolding(crate::specs::Reading::body_at))]
 fn body_at(alloc: Global, bytes: &[u8]) -> Result<(Body, &[u8]), DecodeError>
     ensures read { Gives (λ x. (x.0, x.1.now)) result (body_at bytes.now) }
@@ -157,7 +156,7 @@ fn body_at(alloc: Global, bytes: &[u8]) -> Result<(Body, &[u8]), DecodeError>
     }
 }
 
-/// All of the bytes.
+/// Reads an item from all of the bytes.
 fn all(alloc: Global, bytes: &[u8]) -> Result<Item, DecodeError>
     ensures read { Gives (λ item. item) result (whole (item_at bytes.now)) }
     ensures memory { IsErrOf result DecodeError.NoMemory → slice_get bytes.now 19 ≡ Some 0 }

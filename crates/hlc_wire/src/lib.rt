@@ -1,7 +1,8 @@
-//! Items and messages as bytes: each has one spelling, which is written and read back, and no other
+//! Items and messages as bytes: each has one encoding, which is written and read back, and no other
 //! bytes are read.
 #![tactic(auto)]
 
+mod exact;
 mod fault;
 mod fields;
 mod item;

@@ -10,7 +10,7 @@ use hlc_clock::Stamp;
 use hlc_node::Message;
 use std::alloc::{AllocError, Global};
 
-/// The bytes of a message.
+/// The number of bytes of a message.
 pub const MESSAGE_BYTES: usize = 11;
 
 /// A message has 11 bytes: 1 of version, 2 of node, 8 of stamp.
@@ -18,9 +18,9 @@ pub fn message_bytes_are_11()
     ensures { MESSAGE_BYTES ≡ 11 }
 {}
 
-/// The message that the bytes spell, all of the bytes.
+/// Reads the message from its encoding, which is all of the bytes.
 ///
-/// The error is the first fault from the left, and never `NoMemory`: no memory is taken.
+/// The error is the first fault from the left, and never `NoMemory`: no memory is needed.
 pub fn decode_message(bytes: &[u8]) -> Result<Message, DecodeError>
     ensures found { IfOk result
         (λ message. MessageFits message × (bytes.now ≡ message_bytes message)) }
@@ -32,7 +32,8 @@ pub fn decode_message(bytes: &[u8]) -> Result<Message, DecodeError>
     all(bytes)
 }
 
-/// The one spelling of a message, of `MESSAGE_BYTES` bytes. The only error is that memory ran out.
+/// Returns the one encoding of a message, of `MESSAGE_BYTES` bytes. The only error is out of
+/// memory.
 pub fn encode_message(alloc: Global, message: &Message) -> Result<Vec<u8>, AllocError>
     ensures spelled { IfOk result (λ bytes. bytes.items ≡ message_bytes message.now) }
     ensures fits { IfOk result (λ _. MessageFits message.now) }
@@ -43,8 +44,8 @@ pub fn encode_message(alloc: Global, message: &Message) -> Result<Vec<u8>, Alloc
     Ok(out)
 }
 
-/// Writes a message after what is there. The only error is that memory ran out; of `out` nothing is
-/// said then.
+/// Writes a message at the end of `out`. The only error is out of memory; the content of `out` is
+/// then not specified.
 pub fn put_message(out: &mut Vec<u8>, message: &Message) -> Result<(), AllocError>
     ensures ok { OnOk result (out.new.items ≡ out.old.items ++ message_bytes message.now) }
     ensures fits { MessageFits message.now }
@@ -57,9 +58,9 @@ pub fn put_message(out: &mut Vec<u8>, message: &Message) -> Result<(), AllocErro
     Ok(())
 }
 
-/// The message at the front of some bytes, and the bytes after it.
+/// Reads the message at the front of some bytes, and returns it with the bytes after it.
 ///
-/// The error is the first fault from the left, and never `NoMemory`: no memory is taken.
+/// The error is the first fault from the left, and never `NoMemory`: no memory is needed.
 #[tactic(auto, unfolding(crate::specs::Reading::message_at))]
 pub fn message_at(bytes: &[u8]) -> Result<(Message, &[u8]), DecodeError>
     ensures read { Gives (λ x. (x.0, x.1.now)) result (message_at bytes.now) }
@@ -72,7 +73,7 @@ pub fn message_at(bytes: &[u8]) -> Result<(Message, &[u8]), DecodeError>
     }
 }
 
-/// A message after its version.
+/// Reads a message after its version.
 #[tactic(auto, unfolding(crate::specs::Reading::message_rest_at))]
 fn message_rest_at(bytes: &[u8]) -> Result<(Message, &[u8]), DecodeError>
     ensures read { Gives (λ x. (x.0, x.1.now)) result (message_rest_at bytes.now) }
@@ -84,7 +85,7 @@ fn message_rest_at(bytes: &[u8]) -> Result<(Message, &[u8]), DecodeError>
     Ok((Message { from, stamp }, rest))
 }
 
-/// All of the bytes.
+/// Reads a message from all of the bytes.
 fn all(bytes: &[u8]) -> Result<Message, DecodeError>
     ensures read { Gives (λ message. message) result (whole (message_at bytes.now)) }
     ensures memory { ¬ IsErrOf result DecodeError.NoMemory }

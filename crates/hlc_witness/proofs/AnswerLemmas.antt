@@ -1,4 +1,4 @@
--- The test of two answers says what it should: true exactly where they are equal.
+-- The test of two answers is true exactly if they are equal.
 use Rattle.std.proofs.Common.{◌≡◌, ℕ, List, true, true≢false, Option, Some, None, refl, sym, ap}
 use Rattle.std.proofs.lemmas.Option.{none-some, same_Some}
 use Rattle.std.proofs.lemmas.Slice.Eq.{bytes_eq-Decides}

@@ -1,5 +1,5 @@
--- Ascending rows and witnesses by their places: an order is total, so neighbours in order are a list in order, and what
--- is above the last of an ascending list is above all of it.
+-- Ascending rows and witnesses by their positions: an order is total, so if neighbours are in order the list is in
+-- order, and what is above the last of an ascending list is above all of it.
 use Rattle.std.proofs.Common.{nat_cmp, Less, Equal, Ordering, Some, length, get_or, drop, refl, sym, ap, ◌∙◌, subst}
 use Rattle.std.proofs.Common.{inl, inr, arith, true, slice_get, Greater, is_lt, take, ◌≡◌, ℕ, List, [], ◌∷◌, ◌-◌, ◌<◌}
 use Rattle.std.proofs.Common.{◌+◌, ◌++◌, ap₂}
@@ -81,7 +81,7 @@ ascend_more witnesses i witness lt is up above =
       | inr none ↦ absurd (Contains-none y none)
     ]))
 
--- a list is what comes before a place, what stands there, and what comes after
+-- a list is the part before a position, the member there, and the part after it
 pub around : (witnesses : List Witness) (i : ℕ) (witness : Witness) → i < length witnesses
     → witness ≡ get_or witnesses i witness → witnesses ≡ take i witnesses ++ witness ∷ drop (i + 1) witnesses
 around witnesses i witness lt is =

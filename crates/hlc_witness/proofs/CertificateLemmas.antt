@@ -1,6 +1,6 @@
 -- A certificate shows that its rows are the fewest and the cheapest, since its witnesses are changes and as many. Rows
--- that answer as all do have the same changes, since a change speaks of answers at points alone, so what is as many as
--- the changes of all is certified by them. Ascending rows differ in key, stamp or node, so they are a row set.
+-- that answer as all do have the same changes, since a change depends on answers at points alone; so rows that are as
+-- many as the changes of all are certified by them. Ascending rows differ in key, stamp or node, so they are a row set.
 use Rattle.std.proofs.Common.{nat_cmp, Less, Equal, length, refl, sym, ap, ◌∙◌, arith, ◌≡◌, ℕ, List, [], ◌∷◌}
 use Rattle.std.specs.Cmp.Lexicographic.{slice_cmp}
 use Rattle.std.specs.Ordering.{ordering_then}
@@ -18,7 +18,7 @@ use Rattle.hlc_witness.specs.declared.witness.Witness.{Witness}
 use Rattle.hlc_witness.proofs.ChangeLemmas.{changes_force_rows, change_alike}
 use Rattle.hlc_witness.proofs.CostLemmas.{fewest_rows_are_cheapest}
 
--- whoever made the witnesses is not believed
+-- this does not depend on who made the witnesses
 pub certificates_show_fewest : (rows : List Row) (points : List ℕ) (witnesses : List Witness)
     → IsCertificate rows points witnesses → Fewest rows rows points
 certificates_show_fewest rows points witnesses is = record {
@@ -28,7 +28,7 @@ certificates_show_fewest rows points witnesses is = record {
       let e = is.count in omega arith;
 }
 
--- whoever made the witnesses is not believed
+-- this does not depend on who made the witnesses
 pub certificates_show_cheapest : (rows : List Row) (points : List ℕ) (witnesses : List Witness)
     → IsCertificate rows points witnesses → Cheapest rows rows points
 certificates_show_cheapest rows points witnesses is =

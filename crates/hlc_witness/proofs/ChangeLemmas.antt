@@ -1,5 +1,6 @@
--- Changes: each forces a row into whatever answers alike, so rows that answer alike are at least as many; found key by
--- key and point by point they are all there are, and the only list of them; and rows that are alike have the same ones.
+-- Changes: each forces a row into any list that answers alike, so rows that answer alike are at least as many as the
+-- changes. The changes that are found key by key and point by point are all changes, and the only list of them; and
+-- rows that are alike have the same changes.
 use Rattle.std.proofs.Common.{Contains, All, nat_cmp, Less, Equal, sum_by, Some, None, length, sym, ◌∙◌, subst, arith}
 use Rattle.std.proofs.Common.{◌≡◌, ◌≢◌, ℕ, ◌≤◌, List}
 use Rattle.std.specs.Cmp.Lexicographic.{slice_cmp}
@@ -71,7 +72,7 @@ pub changes_are_one : (rows : List Row) (points : List ℕ) (cs : List Witness) 
 changes_are_one rows points cs rise are =
     changes_once rows points cs (all_changes rows points) are (changes_are_computed rows points rise)
 
--- a change of one is a change of the other, where they are alike
+-- a change of one is a change of the other, if they are alike
 pub change_alike : (rows others : List Row) (points : List ℕ) (c : Witness) → Alike rows others points
     → IsChange rows points c → IsChange others points c
 change_alike rows others points c alike is = record {

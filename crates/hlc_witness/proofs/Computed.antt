@@ -1,4 +1,4 @@
--- The keys of the rows, each once and in byte order: setting a key into its place keeps them so.
+-- The keys of the rows, each once and in byte order: inserting a key at its position preserves this.
 use Rattle.std.proofs.Common.{Contains, All, nat_cmp, Less, Equal, refl, ap, ◌∙◌, subst, inl, inr, Greater, ◌≡◌, ℕ}
 use Rattle.std.proofs.Common.{List, [], ◌∷◌}
 use Rattle.std.specs.Cmp.Lexicographic.{slice_cmp}

@@ -1,6 +1,6 @@
--- What a change forces is as long as the row that it forces: of its key, with the changed value. So the changes force
--- bytes as they force rows. And rows that are as many as the changes are the very rows that these force,
--- so they cost no more.
+-- The row that a change forces costs as much as the change: it is of its key, with the changed value. So the changes
+-- force bytes as they force rows. And rows that are as many as the changes are exactly the rows that these force, so
+-- they cost no more.
 use Rattle.std.proofs.Common.{All, Less, length, sym, arith, ◌≡◌, ℕ, ◌≤◌, List, ap₂}
 use Rattle.std.proofs.lemmas.List.Elements.{All-contains}
 use Rattle.hlc_values.proofs.PigeonLemmas.{served, served_all}
@@ -25,7 +25,7 @@ changes_force_bytes all others points changes up each alike =
     (serves_once all points) changes others (apart changes up)
     (λ c i. forced all others points c (All-contains (IsChange all points) changes c each i) alike)
 
--- as many as the changes: no dearer than they force
+-- as many rows as changes cost no more than the changes force
 pub fewest_rows_cost : (all rows : List Row) (points : List ℕ) (changes : List Witness)
     → ChangesAscend changes → All (IsChange all points) changes → Alike rows all points
     → length rows ≡ length changes → rows_cost rows ≡ changes_cost all changes

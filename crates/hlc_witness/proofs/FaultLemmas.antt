@@ -1,4 +1,4 @@
--- A witness that is a change, and above those before it, has no fault, since each fault denies one of the two; so in
+-- A witness that is a change, and above those before it, has no fault, since each fault denies one of the two; so among
 -- ascending changes none has one.
 use Rattle.std.proofs.Common.{All, length, get_or, sym, ap, ◌∙◌, subst, arith, ◌≡◌, ◌<◌, ◌++◌, ℕ, List, ◌∷◌}
 use Rattle.std.proofs.Common.{length-append}

@@ -23,7 +23,7 @@ certificate_no_fault rows points witnesses i witness reason lt is fault certific
     changes_no_fault rows points witnesses (take i witnesses) (drop (i + 1) witnesses) witness reason
     (around witnesses i witness lt is) certificate.witnesses_ascend certificate.each fault
 
--- the fault of a witness, where those before it have none
+-- the fault of a witness, if those before it have none
 pub first_fault : (rows : List Row) (points : List ℕ) (witnesses : List Witness) (i : ℕ) (witness : Witness)
     (reason : NotShown) → i < length witnesses → witness ≡ get_or witnesses i witness → ChangesAscend (take i witnesses)
     → All (IsChange rows points) (take i witnesses) → IsFault rows points (take i witnesses) witness reason

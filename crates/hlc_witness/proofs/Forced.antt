@@ -1,5 +1,5 @@
--- Each change forces a row into whatever answers alike: the newest row there at the change's point is above the point
--- before, else the answer would have stayed. So it serves no other change.
+-- Each change forces a row into any list that answers alike: the newest row there at the change's point is above the
+-- point before, since otherwise the answer would not have changed. So it serves no other change.
 use Rattle.std.proofs.Common.{Contains, nat_cmp, Less, Equal, Some, None, refl, sym, ap, ◌∙◌, inl, inr, arith, ◌≡◌}
 use Rattle.std.proofs.Common.{◌≢◌, ℕ, ◌≤◌, List, [], ◌∷◌, ◌<◌}
 use Rattle.std.specs.Cmp.Lexicographic.{slice_cmp}

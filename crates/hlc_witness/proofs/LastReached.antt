@@ -1,6 +1,6 @@
 -- The last row that does not come after a key and a stamp is the key's newest row there, if it is of that key: in
--- ascending rows the rows that do not come after them stand first, each candidate is one of them,
--- and the last of them is the greatest.
+-- ascending rows the rows that do not come after them come first, each candidate is one of them, and the last of them
+-- is the greatest.
 use Rattle.std.proofs.Common.{Contains, nat_cmp, Less, Equal, Ordering, Some, None, length, get_or, refl, sym, ap}
 use Rattle.std.proofs.Common.{◌∙◌, subst, ◌⊎◌, inl, inr, arith, true, false, Greater, ◌≡◌, ◌≢◌, ℕ, ◌≤◌, List, ◌-◌}
 use Rattle.std.proofs.Common.{◌<◌}
@@ -57,7 +57,7 @@ less-key_not_gt Less s h = refl
 less-key_not_gt Equal s h = refl
 less-key_not_gt Greater s h = cc
 
--- neither greater nor less
+-- the rows that do not come after the key and the stamp come first
 pub partitioned : (rows : List Row) (key : List ℕ) (bound : ℕ) → RowsAscend rows
     → IsPartitionedBy (is_reached key bound) rows
 partitioned rows key bound up i j d le lt h =
@@ -94,7 +94,7 @@ reached-below : (row : Row) (key : List ℕ) (bound : ℕ) → row.key ≡ key �
 reached-below row key bound same h = is_le-le row.stamp bound
     (sym (ap (λ o. is_le (ordering_then o (nat_cmp row.stamp bound))) (keys_tied row.key key same)) ∙ h)
 
--- the keys of a row at or before one that is reached, where the first is of the key
+-- what is no greater by key and stamp is no greater by key
 first_key : (o s : Ordering) → is_le (ordering_then o s) ≡ true → is_gt o ≡ false
 first_key Less s h = refl
 first_key Equal s h = refl
@@ -127,7 +127,7 @@ first_no_later a b same less =
 
 module _ (rows : List Row) (key : List ℕ) (bound : ℕ) (end : ℕ) (up : RowsAscend rows) (parted : IsPartitionPoint
     (λ row. is_reached key bound row ≡ true) (λ row. is_reached key bound row ≡ false) rows end) where
-  -- each candidate stands before the end
+  -- each candidate comes before the end
   candidate_before : (other : Row) → Contains rows other → other.key ≡ key → other.stamp ≤ bound
       → (j : ℕ) × (j < end) × (j < length rows) × (get_or rows j other ≡ other)
   candidate_before other (j, lt, is) same le =
@@ -139,7 +139,7 @@ module _ (rows : List Row) (key : List ℕ) (bound : ℕ) (end : ℕ) (up : Rows
             (candidate-reached other key bound same le))
       ]
 
-  -- where the end is the start there is none
+  -- if the end is the start, there is none
   pub none_at_start : end ≡ 0 → None ≡ newest rows key bound
   none_at_start at_start =
       elim (newest rows key bound) as (λ o. newest rows key bound ≡ o → None ≡ o) [

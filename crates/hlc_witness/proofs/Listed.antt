@@ -1,5 +1,5 @@
--- The changes found key by key and point by point are all of them, in order: those of one key ascend with the points,
--- and each key is above the ones before it.
+-- The changes that are found key by key and point by point are all changes, in order: those of one key ascend with the
+-- points, and each key is above the ones before it.
 use Rattle.std.proofs.Common.{Contains, All, true≢false, nat_cmp, Less, Ordering, Option, Some, None, length}
 use Rattle.std.proofs.Common.{get_or, drop, refl, sym, ap, ◌∙◌, subst, ◌⊎◌, inl, inr, arith, cond, true, false, ◌≡◌}
 use Rattle.std.proofs.Common.{Bool, ◌≢◌, ℕ, List, [], ◌∷◌, suc, ◌-◌, ◌<◌, ◌+◌, ◌++◌, zero}
@@ -60,7 +60,7 @@ one_member : {X : Type 0} (b : Bool) (a x : X) → Contains (cond b [] (a ∷ []
 one_member true a x i = absurd (Contains-none x i)
 one_member false a x i = elim (Contains-cons_cases a x [] i) [ inl e ↦ e | inr r ↦ absurd (Contains-none x r) ]
 
--- one point's changes
+-- the changes of one point
 key_step : (rows : List Row) (key : List ℕ) (before : Option ℕ) (p : ℕ) (ps : List ℕ) (c : Witness)
     → Contains (key_changes rows key before (p ∷ ps)) c
     → ((is_same_answer (answer rows key p) (answer_at rows key before) ≡ false)
@@ -144,7 +144,7 @@ sorted_append {X} R (x ∷ xs) ys a b below = (
   sorted_append R xs ys a.1 b (λ u y i j. below u y (Contains-rest x u xs i) j),
 )
 
--- those of one key rise
+-- the changes of one key ascend
 key_sorted : (rows : List Row) (points : List ℕ) (key : List ℕ) (before : Option ℕ) (ps : List ℕ)
     → Follows points before ps → IsStrictlySortedBy nat_cmp ps
     → IsStrictlySortedBy change_cmp (key_changes rows key before ps)
@@ -184,7 +184,7 @@ change_has_row rows points c is =
           ] is.place.neighbour is.differs
     ] refl
 
--- those of all keys
+-- the changes of all keys
 pub changes_each : (rows : List Row) (points : List ℕ) → PointsAscend points → (ks : List (List ℕ)) (c : Witness)
     → Contains (changes_of rows points ks) c → IsChange rows points c × Contains ks c.key
 changes_each rows points rise [] c i = absurd (Contains-none c i)

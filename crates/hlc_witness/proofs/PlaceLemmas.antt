@@ -1,4 +1,4 @@
--- Ascending points by their places: the point before one stands just before it, and the last one is the greatest.
+-- Ascending points by their positions: the point before another is just before it, and the last one is the greatest.
 use Rattle.std.proofs.Common.{Contains, Option, Some, None, length, get_or, refl, sym, ap, ◌∙◌, subst, inl, inr}
 use Rattle.std.proofs.Common.{arith, ◌≡◌, ℕ, ◌≤◌, List, [], ◌∷◌, suc, ◌-◌, ◌<◌}
 use Rattle.std.proofs.lemmas.Bool.{cases_lt, cases_order}
@@ -68,7 +68,7 @@ next_only points i at b rise lt is ((j, l, e), below, most) =
       ],
     )
 
--- the point before is one
+-- there is only one point before
 pub before_one : (points : List ℕ) (p : ℕ) (a b : Option ℕ) → IsPointBefore points a p
     → IsPointBefore points b p → a ≡ b
 before_one points p None None h k = refl
@@ -81,7 +81,7 @@ before_one points p (Some a) (Some b) h k =
     let m : b ≤ a = All-contains (λ q. q < p → q ≤ a) points b h.2 k.0 k.1 in
     ap Some (omega arith)
 
--- the last point by its place
+-- the last point by its position
 pub last_point-get_or : (points : List ℕ) → last_point points ≡ get_or points (length points - 1) 0
 last_point-get_or [] = refl
 last_point-get_or (p ∷ []) = refl
@@ -100,7 +100,7 @@ last_upper points rise p (i, l, e) =
       | inr (inr m) ↦ absurd (omega arith)
     ]
 
--- what a search of ascending points finds
+-- for the binary search: ascending points never fall; a stamp at a position is a point, and one between two is not
 pub never_falling : (points : List ℕ) → PointsAscend points → (i j : ℕ) → i ≤ j → j < length points
     → get_or points i 0 ≤ get_or points j 0
 never_falling points rise i j le lt =

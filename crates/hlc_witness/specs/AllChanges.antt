@@ -1,4 +1,4 @@
--- The changes as a function, for definitions that compute with them: key by key, and of each key point by point.
+-- The changes as a function, for definitions that compute with them: key by key, and for each key point by point.
 use Rattle.std.specs.Prelude.{ℕ, List, [], ◌∷◌, ◌++◌, Option, Some, None, Bool, true, false, bytes_eq, if◌then◌else◌}
 use Rattle.std.specs.Prelude.{flat_map}
 use Rattle.std.specs.Ordering.{nat_cmp}
@@ -23,19 +23,19 @@ change_at rows key before at =
     if is_same_answer (answer rows key at) (answer_at rows key before) then []
     else record { key = key; before = before; at = at } ∷ []
 
--- the changes of a key at these points, the first of which comes after a point
+-- the changes of a key at these points, where `before` is the point before the first
 unfoldable pub key_changes : List Row → List ℕ → Option ℕ → List ℕ → List Witness
 key_changes rows key before [] = []
 key_changes rows key before (point ∷ points) =
     change_at rows key before point ++ key_changes rows key (Some point) points
 
--- the keys from the first on, if a key comes before, at or after it
+-- the keys from the first on after a key is inserted that comes before, at or after the first
 abbrev pub placed : Ordering → List ℕ → List ℕ → List (List ℕ) → List (List ℕ) → List (List ℕ)
 placed Less key first keys rest = key ∷ first ∷ keys
 placed Equal key first keys rest = first ∷ keys
 placed Greater key first keys rest = first ∷ rest
 
--- a key set into its place in byte order, once
+-- a key is inserted at its position in byte order, once
 unfoldable pub with_key : List ℕ → List (List ℕ) → List (List ℕ)
 with_key key [] = key ∷ []
 with_key key (first ∷ keys) = placed (slice_cmp nat_cmp key first) key first keys (with_key key keys)

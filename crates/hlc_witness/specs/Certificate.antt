@@ -1,4 +1,4 @@
--- A certificate: what shows that rows are the fewest.
+-- A certificate: the evidence that rows are the fewest.
 use Rattle.std.specs.Prelude.{◌≡◌, ℕ, ◌≤◌, List, length, All}
 use Rattle.std.specs.Ordering.{nat_cmp, ordering_then}
 use Rattle.std.specs.Cmp.Lexicographic.{slice_cmp}

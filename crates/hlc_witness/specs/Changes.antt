@@ -9,7 +9,7 @@ use Rattle.hlc_node.specs.Rows.{answer}
 use Rattle.hlc_witness.specs.declared.witness.Witness.{Witness}
 use Rattle.hlc_clock.specs.Points.{IsPointBefore}
 
--- the answer at a point, and none where there is no point
+-- the answer at a point, or none if there is no point
 abbrev pub answer_at : List Row → List ℕ → Option ℕ → Option (List ℕ)
 answer_at rows key None = None
 answer_at rows key (Some point) = answer rows key point

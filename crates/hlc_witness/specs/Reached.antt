@@ -1,4 +1,4 @@
--- Where a key and a stamp stand among ascending rows, for the search of the newest row.
+-- The position of a key and a stamp among ascending rows, for the search of the newest row.
 use Rattle.std.specs.Prelude.{ℕ, List, Bool}
 use Rattle.std.specs.Ordering.{nat_cmp, ordering_then, is_le}
 use Rattle.std.specs.Cmp.Lexicographic.{slice_cmp}

@@ -1,4 +1,4 @@
--- Why rows, points and witnesses are no certificate: the first reason that holds.
+-- Why rows, points and witnesses are no certificate: the first reason that applies.
 use Rattle.std.specs.Prelude.{◌≡◌, ◌≢◌, ℕ, List, ◌∷◌, ◌++◌, length, All, codes}
 use Rattle.std.specs.declared.cmp.Ordering.TheVariants.{Less}
 use Rattle.hlc_node.specs.declared.row.Row.{Row}
@@ -13,7 +13,7 @@ use Rattle.hlc_witness.specs.Changes.{answer_at, IsAtPoint, IsChange, change_cmp
 use Rattle.hlc_witness.specs.Certificate.{RowsAscend, NoneAbove}
 use Rattle.hlc_witness.specs.Cost.{AreInLimits}
 
--- the number of a reason: reasons are looked for in the order of their numbers
+-- the number of a reason: reasons are checked in the order of their numbers
 abbrev pub reason_number : NotShown → ℕ
 reason_number PointsNotAscending = 1
 reason_number RowsNotAscending = 2
@@ -39,7 +39,7 @@ reason_text RowOutOfLimits = codes "a key or a value is out of the limits"
 abbrev pub IsAbove : List Witness → Witness → Type 0
 IsAbove front witness = All (λ other. change_cmp other witness ≡ Less) front
 
--- the first reason against one witness, by those before it
+-- the first reason against one witness, after those before it
 abbrev pub IsFault : List Row → List ℕ → List Witness → Witness → NotShown → Type 0
 IsFault rows points front witness WitnessNotAscending = IsAbove front witness → ⊥
 IsFault rows points front witness NotAtPoint = IsAbove front witness × (IsAtPoint points witness → ⊥)

@@ -17,9 +17,9 @@ use crate::witness::Witness;
 use hlc_clock::Stamp;
 use hlc_node::Row;
 
-/// Checks that as many changes as rows are shown, so that the rows are the fewest and the cheapest
-/// that answer as they do at the points. It takes no memory, and believes nothing of who made the
-/// witnesses.
+/// Checks that the witnesses show as many changes as there are rows, so that the rows are the
+/// fewest and the cheapest that answer as they do at the points. It needs no memory, and trusts
+/// neither the rows nor the witnesses.
 pub fn check(rows: &[Row], points: &[Stamp], witnesses: &[Witness]) -> Result<Shown, NotShown>
     ensures certificate { IfOk result (λ _. IsCertificate rows.now points.now witnesses.now) }
     ensures count { IfOk result (λ shown. shown.rows ≡ length rows.now) }
@@ -36,7 +36,8 @@ pub fn check(rows: &[Row], points: &[Stamp], witnesses: &[Witness]) -> Result<Sh
     }
 }
 
-/// The first reason why the witnesses do not show that the rows are the fewest and the cheapest.
+/// Returns the first reason why the witnesses do not show that the rows are the fewest and the
+/// cheapest, or none.
 fn reason_against(rows: &[Row], points: &[Stamp], witnesses: &[Witness]) -> Option<NotShown>
     ensures reason { MatchOption result
         (IsCertificate rows.now points.now witnesses.now)
@@ -66,7 +67,7 @@ fn reason_against(rows: &[Row], points: &[Stamp], witnesses: &[Witness]) -> Opti
     None
 }
 
-/// The first reason against a witness, by those before it, which ascend.
+/// Returns the first reason against a witness, after those before it, which ascend; or none.
 fn fault_of(
     rows: &[Row],
     points: &[Stamp],
@@ -92,7 +93,7 @@ fn fault_of(
     None
 }
 
-/// Whether `at` is a point, and `before` is the point before it.
+/// Returns whether `at` is a point and `before` is the point before it.
 fn is_at_point(points: &[Stamp], witness: &Witness) -> bool
     requires { PointsAscend points.now }
     ensures { IsTrue result ↔ IsAtPoint points.now witness.now }
@@ -106,7 +107,7 @@ fn is_at_point(points: &[Stamp], witness: &Witness) -> bool
     }
 }
 
-/// Whether the answers at `at` and at `before` are equal.
+/// Returns whether the answers at `at` and at `before` are equal.
 fn has_same_answers(rows: &[Row], witness: &Witness) -> bool
     requires { RowsAscend rows.now }
     ensures { IsTrue result

@@ -1,15 +1,12 @@
 //! Why witnesses do not show that rows are the fewest.
 ghost use Rattle.std.specs.Prelude.{◌≡◌};
-ghost use Rattle.std.proofs.Common.{rules};
-ghost use Rattle.std.proofs.lemmas.Grind.{common_steps};
 ghost use Rattle.hlc_witness.specs.Reasons.{reason_number};
 
-use hlc_values::Exact;
 use std::error::Error;
 use std::fmt;
 
-/// The reasons, in the order in which they are looked for. Each witness in turn is looked at for
-/// the fourth, the fifth and the sixth.
+/// The reasons, in the order in which they are checked. The fourth, the fifth and the sixth are
+/// checked for each witness in turn.
 #[derive(Clone, Copy, PartialEq, Eq, Debug)]
 pub enum NotShown {
     /// There is no point, or a point is not above the one before it.
@@ -28,12 +25,6 @@ pub enum NotShown {
     CountsDiffer,
     /// No item may write a row: its key or its value is out of the limits.
     RowOutOfLimits,
-}
-
-impl Exact for NotShown {
-    ghost equal = { Prim.search (rules, common_steps) };
-
-    ghost copied = { Prim.search rules };
 }
 
 impl fmt::Display for NotShown {
@@ -59,7 +50,7 @@ impl fmt::Display for NotShown {
 impl Error for NotShown {}
 
 impl NotShown {
-    /// Its number, from 1: the first reason that is looked for has the number 1.
+    /// Returns the number of this reason, from 1, in the order in which they are checked.
     pub fn reason(self) -> u8
         ensures { result ≡ reason_number self }
     {

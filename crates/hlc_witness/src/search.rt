@@ -8,7 +8,7 @@ ghost use Rattle.hlc_witness.specs.Reached.{is_reached};
 use hlc_clock::Stamp;
 use hlc_node::{Bytes, Row};
 
-/// The newest value of a key at a point, and none where there is no point.
+/// Returns the newest value of a key at a point, or none if there is no point.
 pub(crate) fn value_at<'a>(rows: &'a [Row], key: &Bytes, point: Option<Stamp>) -> Option<&'a [u8]>
     requires { RowsAscend rows.now }
     ensures { option_copied result ≡ answer_at rows.now key.now point }
@@ -19,7 +19,7 @@ pub(crate) fn value_at<'a>(rows: &'a [Row], key: &Bytes, point: Option<Stamp>) -
     }
 }
 
-/// The newest value of a key at or below a stamp.
+/// Returns the newest value of a key at or below a stamp, or none.
 pub(crate) fn value_in<'a>(rows: &'a [Row], key: &Bytes, bound: Stamp) -> Option<&'a [u8]>
     requires { RowsAscend rows.now }
     ensures { option_copied result ≡ answer rows.now key.now bound }
@@ -30,8 +30,8 @@ pub(crate) fn value_in<'a>(rows: &'a [Row], key: &Bytes, bound: Stamp) -> Option
     }
 }
 
-/// The newest row of a key at or below a stamp: the last one that does not come after them, if it
-/// is of that key.
+/// Returns the newest row of a key at or below a stamp, or none: the last row that does not come
+/// after them, if it is of that key.
 fn newest_in<'a>(rows: &'a [Row], key: &Bytes, bound: Stamp) -> Option<&'a Row>
     requires { RowsAscend rows.now }
     ensures { option_copied result ≡ newest rows.now key.now bound }
@@ -44,7 +44,7 @@ fn newest_in<'a>(rows: &'a [Row], key: &Bytes, bound: Stamp) -> Option<&'a Row>
     if row.key == *key { Some(row) } else { None }
 }
 
-/// Whether a row does not come after a key and a stamp, in the order of rows.
+/// Returns whether a row does not come after a key and a stamp, in the order of rows.
 pub fn is_reached(row: &Row, key: &Bytes, bound: Stamp) -> bool
     ensures { result ≡ is_reached key.now bound row.now }
 {

@@ -1,4 +1,4 @@
--- Two plans of a storm are one where their sizes are: that they are in their ranges is shown in one way.
+-- Two plans of a storm are equal if their sizes are: there is only one proof that the sizes are in their ranges.
 use Rattle.std.specs.Prelude.{◌≡◌, ◌≤◌}
 use mathlib.Core.HLevel.{×_prop, is_prop→PathP}
 use native.Mathlib.Bridge.{le_prop}

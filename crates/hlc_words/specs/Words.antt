@@ -1,4 +1,4 @@
--- The words behind the program's name. The sizes of a storm are in their ranges by the type.
+-- The words after the program's name. The type ensures that the sizes of a storm are in their ranges.
 use Rattle.std.specs.Prelude.{ℕ, List, [], ◌∷◌, map, codes, decimal, String, string_bytes}
 use Rattle.hlc_words.specs.declared.plan.StormPlan.{StormPlan}
 use Rattle.hlc_words.specs.declared.words.Words.{Words}
@@ -8,7 +8,7 @@ use Rattle.hlc_words.specs.declared.words.Words.TheVariants.{Run, Check, Storm}
 abbrev pub bytes_of : {Z : Type 0} → List (String Z) → List (List ℕ)
 bytes_of words = map (λ word. string_bytes word) words
 
--- the words behind `storm`
+-- the words after `storm`
 abbrev pub plan_words : StormPlan → List (List ℕ)
 plan_words plan =
     codes "--nodes" ∷ decimal plan.nodes ∷ codes "--writes" ∷ decimal plan.writes

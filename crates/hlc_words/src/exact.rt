@@ -1,9 +1,11 @@
-//! A plan of a storm is another exactly where all its sizes are.
+//! Two plans of a storm are equal exactly where all their sizes are.
+ghost use Rattle.std.proofs.lemmas.Grind.{common_steps};
 ghost use Rattle.std.proofs.Common.{rules, ap};
 ghost use Rattle.std.proofs.lemmas.Bool.Decides.{Decides-and, Decides-eqb};
 ghost use Rattle.hlc_words.specs.Plan.{same_plan};
 
 use crate::plan::StormPlan;
+use crate::words::BadWords;
 use hlc_values::Exact;
 
 impl Exact for StormPlan {
@@ -14,6 +16,12 @@ impl Exact for StormPlan {
               same_plan a b is.0 is.1.0 is.1.1.0 is.1.1.1,
           λ is. parts.1 (ap (λ p. p.nodes) is, (ap (λ p. p.writes) is, (ap (λ p. p.keys) is, ap (λ p. p.readers) is))),
         ) };
+
+    ghost copied = { Prim.search rules };
+}
+
+impl Exact for BadWords {
+    ghost equal = { Prim.search (rules, common_steps) };
 
     ghost copied = { Prim.search rules };
 }

@@ -1,4 +1,4 @@
-//! The words behind the program's name, and what they ask for.
+//! The words after the program's name, and what they ask for.
 #![tactic(auto)]
 
 mod exact;

@@ -1,7 +1,7 @@
-//! How large a storm is.
+//! The sizes of a storm.
 ghost use Rattle.std.specs.Prelude.{◌≤◌};
 
-/// How large a storm is: threads that write, read and vacuum one store beside each other.
+/// The sizes of a storm: threads that write, read and vacuum one store concurrently.
 #[derive(Clone, Copy, PartialEq, Eq, Debug)]
 pub struct StormPlan {
     /// How many nodes there are: 1 to 64, each with a thread that writes and one that feeds.

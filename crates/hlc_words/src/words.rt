@@ -1,4 +1,4 @@
-//! The words behind the program's name.
+//! The words after the program's name.
 ghost use Rattle.std.specs.Prelude.{◌≡◌, ◌≢◌, ◌≤◌, ◌∷◌, [], ℕ, List, decimal, ⊤, MatchOption};
 ghost use Rattle.std.specs.Result.{result_ok};
 ghost use Rattle.std.proofs.Common.{rules};
@@ -18,7 +18,7 @@ pub enum Words {
     Run,
     /// Check a certificate: `check`.
     Check,
-    /// Let threads write, read and vacuum beside each other: `storm` and its sizes.
+    /// Run threads that write, read and vacuum concurrently: `storm` and its sizes.
     Storm(StormPlan),
 }
 
@@ -28,17 +28,11 @@ impl Exact for Words {
     ghost copied = { Prim.search rules };
 }
 
-/// The words ask for nothing that the program does.
+/// The words ask for nothing that the program can do.
 #[derive(Clone, Copy, Debug, PartialEq, Eq)]
 pub struct BadWords;
 
-impl Exact for BadWords {
-    ghost equal = { Prim.search (rules, common_steps) };
-
-    ghost copied = { Prim.search rules };
-}
-
-/// The first word, and the others.
+/// Returns the first word, and the others.
 fn next_word(words: &[String]) -> Option<(&[u8], &[String])>
     ensures { MatchOption result (bytes_of words.now ≡ [])
         (λ parts. bytes_of words.now ≡ parts.0.now ∷ bytes_of parts.1.now) }
@@ -47,7 +41,7 @@ fn next_word(words: &[String]) -> Option<(&[u8], &[String])>
     Some((first.as_bytes(), others))
 }
 
-/// The number behind a name, from `low` to `high`, and the words after it.
+/// Returns the number after a name, from `low` to `high`, and the words after it.
 fn named<'a>(words: &'a [String], name: &[u8], low: u64, high: u64) -> Option<(u64, &'a [String])>
     ensures { MatchOption result
         ((n : ℕ) (others : List (List ℕ)) → low ≤ n → n ≤ high
@@ -64,7 +58,7 @@ fn named<'a>(words: &'a [String], name: &[u8], low: u64, high: u64) -> Option<(u
     Some((value, rest))
 }
 
-/// The sizes of a storm.
+/// Returns the sizes of a storm.
 fn read_plan(words: &[String]) -> Option<StormPlan>
     ensures { Reads plan_words (λ plan. ⊤) (bytes_of words.now) result }
 {
@@ -83,9 +77,9 @@ fn read_plan(words: &[String]) -> Option<StormPlan>
     })
 }
 
-/// What the words ask for: `run`, `check`, or the nine words
-/// `storm --nodes N --writes W --keys K --readers R` in this order, N from 1 to 64, W from 0 to 1,000,
-/// K from 1 to 1,000, R from 0 to 64, each number in its one spelling. It takes no memory.
+/// Returns what the words ask for: `run`, `check`, or the nine words `storm --nodes N --writes W --keys K --readers R`
+/// in this order, N from 1 to 64, W from 0 to 1,000, K from 1 to 1,000, R from 0 to 64, each number in its only
+/// spelling. It takes no memory.
 pub fn read_words(words: &[String]) -> Result<Words, BadWords>
     ensures { Reads words_of (λ asked. ⊤) (bytes_of words.now) (result_ok result) }
 {

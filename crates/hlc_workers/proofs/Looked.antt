@@ -1,5 +1,5 @@
--- One look at each word more: what it found stands last, and the stamp is the least of it. Seen values only rise, so
--- the least of them does too, and no stamp is below the one before.
+-- One more look at each word: what it found comes last, and the stamp is the least of it. Seen values only rise, so the
+-- least of them does too, and no stamp is below the one before.
 use Rattle.std.proofs.Common.{◌≡◌, ℕ, ◌+◌, ◌-◌, ◌<◌, ◌≤◌, List, [], ◌∷◌, ◌++◌, length, zero, suc, refl, ◌∙◌, sym, ap}
 use Rattle.std.proofs.Common.{subst}
 use Rattle.std.proofs.Common.{arith, length-append, append_assoc, append-nil}
@@ -7,7 +7,7 @@ use Rattle.std.specs.Prelude.{slice_index}
 use mathlib.Core.Logic.{dite}
 use native.Mathlib.Decide.{dec_lt}
 use Rattle.hlc_floor.specs.Board.{found_at}
-use Rattle.hlc_floor.specs.Views.{Sight, IsLeast}
+use Rattle.hlc_floor.specs.Views.{FloorPassView, IsLeast}
 use Rattle.hlc_workers.specs.Rounds.{NeverFalls, HasFound, look_of, IsLeastFound, HasLookedFor}
 
 -- the entries of a list with one more
@@ -31,7 +31,7 @@ least_up words xs ys m n p q up =
     let d = up k in
     omega arith
 
--- stamps that never fall, and one more that is not below the last
+-- stamps that never fall, and one more that is not below the last one
 never_more : (xs : List ℕ) (n : ℕ) → NeverFalls xs → (0 < length xs → slice_index xs (length xs - 1) ≤ n)
     → NeverFalls (xs ++ n ∷ [])
 never_more xs n h top i j le lt =
@@ -56,7 +56,7 @@ never_more xs n h top i j le lt =
     let e : i ≡ j = omega arith in
     subst (λ (k : ℕ). slice_index (xs ++ n ∷ []) k ≤ slice_index (xs ++ n ∷ []) j) (sym e) (omega arith)))
 
--- what a look found stands last, and what those before it found stays
+-- what a look found comes last, and what earlier looks found stays
 stays_found : (now was : List ℕ) (n j : ℕ) → now ≡ was ++ n ∷ [] → j < length was
     → slice_index now j ≡ slice_index was j
 stays_found now was n j is b = ap (λ (l : List ℕ). slice_index l j) is ∙ at_front was n j b
@@ -65,8 +65,8 @@ found_last : (now was : List ℕ) (n j : ℕ) → now ≡ was ++ n ∷ [] → j 
 found_last now was n j is e =
     ap (λ (l : List ℕ). slice_index l j) is ∙ ap (slice_index (was ++ n ∷ [])) e ∙ at_back was n
 
--- as often as it looked, so much longer is what it found
-length_found : (before after : Sight) (k looks : ℕ) → HasFound before after k looks
+-- the list of what it found is longer by the number of its looks
+length_found : (before after : FloorPassView) (k looks : ℕ) → HasFound before after k looks
     → length (found_at after.found k) ≡ length (found_at before.found k) + looks
 length_found before after k looks h =
     let all = ap length h.1 in
@@ -74,8 +74,8 @@ length_found before after k looks h =
     let more = h.2 in
     omega arith
 
--- one look more at a word
-found_more : (first before after : Sight) (k looks n : ℕ) → HasFound first before k looks
+-- one more look at a word
+found_more : (first before after : FloorPassView) (k looks n : ℕ) → HasFound first before k looks
     → found_at after.found k ≡ found_at before.found k ++ n ∷ [] → HasFound first after k (looks + 1)
 found_more first before after k looks n h is = (
   h.0 ++ n ∷ [],
@@ -84,7 +84,7 @@ found_more first before after k looks n h is = (
 )
 
 -- the least that earlier looks found stays
-least_stays : (first before after : Sight) (i m n : ℕ) → IsLeastFound first before i m → n ≡ m
+least_stays : (first before after : FloorPassView) (i m n : ℕ) → IsLeastFound first before i m → n ≡ m
     → ((k : ℕ) → k < first.board.words → look_of first after i k ≡ look_of first before i k)
     → IsLeastFound first after i n
 least_stays first before after i m n h is same = record {
@@ -93,7 +93,7 @@ least_stays first before after i m n h is same = record {
 }
 
 -- the least of what is seen is the least that the last looks found
-least_last : (first after : Sight) (i m n : ℕ) → IsLeast first.board.words after.seen m → n ≡ m
+least_last : (first after : FloorPassView) (i m n : ℕ) → IsLeast first.board.words after.seen m → n ≡ m
     → ((k : ℕ) → k < first.board.words → look_of first after i k ≡ slice_index after.seen k)
     → IsLeastFound first after i n
 least_last first after i m n h is same = record {
@@ -102,7 +102,7 @@ least_last first after i m n h is same = record {
 }
 
 -- before the first round
-pub looked-none : (first : Sight) → HasLookedFor first first []
+pub looked-none : (first : FloorPassView) → HasLookedFor first first []
 looked-none first = record {
   board = refl;
   finds = λ k b. ([], sym (append-nil (found_at first.found k)), refl);
@@ -112,8 +112,9 @@ looked-none first = record {
   last = λ some_there. absurd (omega arith);
 }
 
--- after one round more, which looked at each word once
-pub looked_more : (first before after : Sight) (words : ℕ) (stamps : List ℕ) (n : ℕ) → before.board.words ≡ words
+-- after one more round, which looked at each word once
+pub looked_more : (first before after : FloorPassView) (words : ℕ) (stamps : List ℕ) (n : ℕ) → before.board.words
+    ≡ words
     → HasLookedFor first before stamps → after.board ≡ before.board → IsLeast words after.seen n
     → ((k : ℕ) → k < words → found_at after.found k ≡ found_at before.found k ++ slice_index after.seen k ∷ [])
     → ((k : ℕ) → slice_index before.seen k ≤ slice_index after.seen k) → HasLookedFor first after (stamps ++ n ∷ [])

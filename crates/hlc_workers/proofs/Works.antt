@@ -1,5 +1,5 @@
--- What the receipts tell after one call more, or one round more: the new receipts stand behind those before, and each
--- fact about a list of receipts is put together of those about its two parts.
+-- What the receipts say after one more call, or one more round: the new receipts come after the earlier ones, and each
+-- fact about a list of receipts follows from those about its two parts.
 use Rattle.std.proofs.Common.{◌≡◌, ℕ, List, [], ◌∷◌, ◌++◌, map, Bool, Option, Some}
 use Rattle.std.proofs.Common.{None, sym, ap, ◌∙◌, arith}
 use Rattle.std.proofs.Common.{length-append, append_assoc, refl, subst, All, length, take, get_or, ◌+◌, ◌<◌}
@@ -11,9 +11,9 @@ use mathlib.Core.Logic.{dite}
 use native.Mathlib.Decide.{dec_lt}
 use Rattle.hlc_node.specs.declared.item.Item.{Item}
 use Rattle.hlc_server.specs.declared.entry.Receipt.{Receipt}
-use Rattle.hlc_server.specs.Seats.{Seat}
+use Rattle.hlc_server.specs.Seats.{CallerView}
 use Rattle.std.specs.Option.{option_map}
-use Rattle.hlc_floor.specs.Views.{Post, post}
+use Rattle.hlc_floor.specs.Views.{FeederView, post}
 use Rattle.hlc_workers.specs.declared.session.Work.{Work}
 use Rattle.hlc_workers.specs.Paid.{event_of, IsPaid, Passed, HasCalled, HasStayed, IsStopped, MadeSome}
 use Rattle.hlc_workers.specs.Feeding.{accept_of, TookAll, raised_by, highest, fed_by, fed_all}
@@ -24,11 +24,11 @@ use Rattle.hlc_workers.specs.declared.session.Opening.{Opening}
 use Rattle.hlc_workers.specs.Rounds.{opening_of, IsOpening, IsRound, AreRounds}
 
 -- before the first call
-pub paid-none : (seat : Seat) → IsPaid seat seat []
+pub paid-none : (seat : CallerView) → IsPaid seat seat []
 paid-none seat = record { number = refl; share = omega arith; bear = All-nil (λ (r : Receipt). r.caller ≡ seat.number) }
 
 -- the calls of two parts of the work
-pub paid-append : (a b c : Seat) (xs ys : List Receipt) → IsPaid a b xs → IsPaid b c ys → IsPaid a c (xs ++ ys)
+pub paid-append : (a b c : CallerView) (xs ys : List Receipt) → IsPaid a b xs → IsPaid b c ys → IsPaid a c (xs ++ ys)
 paid-append a b c xs ys p q = record {
   number = q.number ∙ p.number;
   share = omega (arith, p.share, q.share, length-append xs ys);
@@ -51,7 +51,7 @@ pub called-none : {L : Type 0} (may : ℕ → Bool → Type 0) (old new : Work L
     → HasCalled may old new []
 called-none may old new stayed = record {
   receipts = stayed.receipts ∙ sym (append-nil old.receipts.items);
-  paid = subst (λ (seat : Seat). IsPaid old.caller seat []) (sym stayed.caller) (paid-none old.caller);
+  paid = subst (λ (seat : CallerView). IsPaid old.caller seat []) (sym stayed.caller) (paid-none old.caller);
   passed = λ turn low high. absurd (omega arith);
 }
 
@@ -71,7 +71,7 @@ called-append may old mid new xs ys p q = record {
       (subst (λ (n : ℕ). Passed may n ys) (ap length p.receipts ∙ length-append old.receipts.items xs) q.passed);
 }
 
--- the same, where the second calls were made behind a gate that is the first one's
+-- the same, where the second calls were made with a gate that equals the first one
 pub called_on : {S L : Type 0} (may : S → ℕ → Bool → Type 0) (gate gate' : S) (old mid new : Work L)
     (xs ys : List Receipt)
     → gate' ≡ gate → HasCalled (may gate) old mid xs → HasCalled (may gate') mid new ys
@@ -79,20 +79,20 @@ pub called_on : {S L : Type 0} (may : S → ℕ → Bool → Type 0) (gate gate'
 called_on may gate gate' old mid new xs ys same p q =
     called-append (may gate) old mid new xs ys p (subst (λ s. HasCalled (may s) mid new ys) same q)
 
--- the end of the work behind such a gate
+-- the end of the work with such a gate
 pub stopped_on : {S L : Type 0} (may : S → ℕ → Bool → Type 0) (gate gate' : S) (new : Work L) (end : WorkEnd)
     → gate' ≡ gate → IsStopped (may gate') new end → IsStopped (may gate) new end
 stopped_on may gate gate' new end same is = subst (λ s. IsStopped (may s) new end) same is
 
 -- all calls so far, and then more of them
-pub paid_all : {L : Type 0} (may : ℕ → Bool → Type 0) (first : Seat) (mid new : Work L) (ys : List Receipt)
+pub paid_all : {L : Type 0} (may : ℕ → Bool → Type 0) (first : CallerView) (mid new : Work L) (ys : List Receipt)
     → HasCalled may mid new ys → IsPaid first mid.caller mid.receipts.items
     → IsPaid first new.caller new.receipts.items
 paid_all may first mid new ys called had =
     subst (λ (l : List Receipt). IsPaid first new.caller l) (sym called.receipts)
     (paid-append first mid.caller new.caller mid.receipts.items ys had called.paid)
 
--- the turns of all calls so far, and of more of them behind a gate that is the same
+-- the turns of all calls so far, and of more calls with an equal gate
 pub passed_all : {S L : Type 0} (may : S → ℕ → Bool → Type 0) (gate gate' : S) (mid new : Work L) (ys : List Receipt)
     → gate' ≡ gate → HasCalled (may gate') mid new ys → Passed (may gate) 0 mid.receipts.items
     → Passed (may gate) 0 new.receipts.items
@@ -102,7 +102,7 @@ passed_all may gate gate' mid new ys same called had =
     (subst (λ (n : ℕ). Passed (may gate) n ys) (sym (zero-add (length mid.receipts.items)))
     (subst (λ s. Passed (may s) (length mid.receipts.items) ys) same called.passed)))
 
--- one vacuum more
+-- one more vacuum
 pub vacuums_more : (n : ℕ) (more : List Receipt) (r : Receipt) → r.event ≡ Vacuum
     → map event_of more ≡ replicate n Vacuum
     → map event_of (more ++ r ∷ []) ≡ replicate (n + 1) Vacuum
@@ -112,7 +112,7 @@ vacuums_more n more r event had =
     ∙ ap (λ e. replicate n Vacuum ++ e ∷ []) event
     ∙ replicate-append-replicate n 1 Vacuum
 
--- one item more was taken and handed in
+-- one more item was taken and passed to the store
 pub took_more : (before taken after : List Item) (receipts more : List Receipt) (r : Receipt) (item : Item)
     → TookAll before taken receipts None → more ≡ receipts ++ r ∷ [] → r.event ≡ accept_of item
     → after ≡ taken ++ item ∷ []
@@ -130,14 +130,14 @@ took_more before taken after receipts more r item took is event now = (
       ∙ sym (map-append accept_of took.0 (item ∷ [])),
 )
 
--- what is raised after one receipt more
+-- what is raised after one more receipt
 highest_more : (node raised : ℕ) (xs : List Receipt) (r : Receipt)
     → highest node raised (xs ++ r ∷ []) ≡ raised_by node (highest node raised xs) r.reply
 highest_more node raised [] r = refl
 highest_more node raised (y ∷ ys) r = highest_more node (raised_by node raised y.reply) ys r
 
--- the feeder, where there is one, after one receipt more
-pub raised_more : (first was now : Option Post) (receipts more : List Receipt) (r : Receipt)
+-- the feeder, where there is one, after one more receipt
+pub raised_more : (first was now : Option FeederView) (receipts more : List Receipt) (r : Receipt)
     → was ≡ option_map (λ feeder. fed_all feeder receipts) first → more ≡ receipts ++ r ∷ []
     → now ≡ option_map (λ feeder. fed_by feeder r.reply) was
     → now ≡ option_map (λ feeder. fed_all feeder more) first
@@ -147,14 +147,14 @@ raised_more first was now receipts more r before is step =
     ∙ one_more first
     ∙ ap (λ (l : List Receipt). option_map (λ feeder. fed_all feeder l) first) (sym is)
   where
-    one_more : (feeder : Option Post)
+    one_more : (feeder : Option FeederView)
         → option_map (λ f. fed_by f r.reply) (option_map (λ f. fed_all f receipts) feeder)
         ≡ option_map (λ f. fed_all f (receipts ++ r ∷ [])) feeder
     one_more None = refl
     one_more (Some feeder) =
         ap (λ (n : ℕ). Some (post feeder.board feeder.node n)) (sym (highest_more feeder.node feeder.raised receipts r))
 
--- one round more behind those before
+-- one more round after the earlier ones
 pub rounds-append : (keys : List (List ℕ)) (stamps : List ℕ) (stamp : ℕ) (before round : List Receipt)
     → AreRounds keys stamps before
     → IsRound keys stamp round → AreRounds keys (stamps ++ stamp ∷ []) (before ++ round)
@@ -168,7 +168,7 @@ rounds-append keys (s ∷ stamps) stamp before round had here = (
   rounds-append keys stamps stamp had.1 round had.4 here,
 )
 
--- one key more was read
+-- one more key was read
 pub read_more : (keys : List (List ℕ)) (id i : ℕ) (item key : List ℕ) (more : List Receipt) (r : Receipt)
     → i < length keys → item ≡ get_or keys i item → key ≡ item → r.event ≡ Read id key
     → map event_of more ≡ map (Read id) (take i keys)

@@ -4,8 +4,8 @@ use Rattle.std.specs.Prelude.{map, nat_lt, Bool, true, false}
 use Rattle.std.specs.Prelude.{if◌then◌else◌, Option, None}
 use Rattle.std.specs.Option.{option_to_list, option_map}
 use Rattle.hlc_node.specs.declared.item.Item.{Item}
-use Rattle.hlc_link.specs.Ends.{Received}
-use Rattle.hlc_floor.specs.Views.{Post, post, word_of}
+use Rattle.hlc_link.specs.Ends.{ReceiverView}
+use Rattle.hlc_floor.specs.Views.{FeederView, post, word_of}
 use Rattle.hlc_core.specs.declared.event.CoreEvent.{CoreEvent}
 use Rattle.hlc_core.specs.declared.event.CoreEvent.TheVariants.{Accept}
 use Rattle.hlc_core.specs.declared.reply.CoreReply.{CoreReply}
@@ -16,11 +16,11 @@ use Rattle.hlc_workers.specs.declared.end.WorkEnd.{WorkEnd}
 use Rattle.hlc_workers.specs.declared.end.WorkEnd.TheVariants.{Done, Held, Closed}
 use Rattle.hlc_workers.specs.Paid.{event_of, HasCalled, HasStayed}
 
--- the call that hands an item in
+-- the call that passes an item to the store
 abbrev pub accept_of : Item → CoreEvent
 accept_of item = Accept item
 
--- some items were taken: the receipts are of handing them in, in order, and then comes the one that was left
+-- some items were taken: the receipts are those of the calls for them, in order, and then comes the item that was left
 abbrev pub TookAll : List Item → List Item → List Receipt → Option Item → Type 0
 TookAll before after receipts left =
     (items : List Item) × (after ≡ before ++ items ++ option_to_list left)
@@ -39,19 +39,19 @@ highest node raised [] = raised
 highest node raised (receipt ∷ receipts) = highest node (raised_by node raised receipt.reply) receipts
 
 -- the feeder after this reply
-abbrev pub fed_by : Post → CoreReply → Post
+abbrev pub fed_by : FeederView → CoreReply → FeederView
 fed_by feeder reply = post feeder.board feeder.node (raised_by feeder.node feeder.raised reply)
 
 -- the feeder after these receipts
-abbrev pub fed_all : Post → List Receipt → Post
+abbrev pub fed_all : FeederView → List Receipt → FeederView
 fed_all feeder receipts = post feeder.board feeder.node (highest feeder.node feeder.raised receipts)
 
 -- Below, a worker's caller and receipts were `old` and are `new`, and `may` is what its gate may answer at a turn; the
--- items that its link gave were `had` and are `taken`, and its feeder, where there is one, was `one` and is `other`.
+-- items taken from its link were `had` and are `taken`, and its feeder, where there is one, was `one` and is `other`.
 
--- one item was taken and handed in
+-- one item was taken and passed to the store
 pub record FedOne {L : Type 0} (may : ℕ → Bool → Type 0) (old new : Work L) (had taken : List Item)
-    (one other : Option Post) : Type 0 where
+    (one other : Option FeederView) : Type 0 where
   pub item : Item
   pub receipt : Receipt
   pub called : HasCalled may old new (receipt ∷ [])
@@ -59,12 +59,12 @@ pub record FedOne {L : Type 0} (may : ℕ → Bool → Type 0) (old new : Work L
   pub took : taken ≡ had ++ item ∷ []
   pub raised : other ≡ option_map (λ feeder. fed_by feeder receipt.reply) one
 
--- no item was handed in: this one is left, and so the work ends
-pub record FedNone {L : Type 0} (may : ℕ → Bool → Type 0) (old new : Work L) (had : List Item) (link : Received)
-    (one other : Option Post) (left : Option Item) (end : WorkEnd) : Type 0 where
+-- no item was passed to the store: this one is left, and the work ends like this
+pub record FedNone {L : Type 0} (may : ℕ → Bool → Type 0) (old new : Work L) (had : List Item) (link : ReceiverView)
+    (one other : Option FeederView) (left : Option Item) (end : WorkEnd) : Type 0 where
   pub stayed : HasStayed old new
   pub took : link.taken ≡ had ++ option_to_list left
   pub raised : other ≡ one
   pub done : end ≡ Done → (link.ended ≡ true) × (left ≡ None)
   pub closed : end ≡ Closed → left ≡ None
-  pub held : end ≡ Held → may (length new.receipts.items) false
+  pub stopped : end ≡ Held → may (length new.receipts.items) false

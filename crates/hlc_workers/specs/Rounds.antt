@@ -7,20 +7,20 @@ use Rattle.hlc_core.specs.declared.reply.CoreReply.{CoreReply}
 use Rattle.hlc_core.specs.declared.reply.CoreReply.TheVariants.{Opened, Refused}
 use Rattle.hlc_server.specs.declared.entry.Receipt.{Receipt}
 use Rattle.hlc_floor.specs.Board.{found_at}
-use Rattle.hlc_floor.specs.Views.{Sight, IsLeast}
+use Rattle.hlc_floor.specs.Views.{FloorPassView, IsLeast}
 use Rattle.hlc_workers.specs.declared.session.Opening.{Opening}
 use Rattle.hlc_workers.specs.declared.session.Opening.TheVariants.{Opened as opened, Outside as outside}
 use Rattle.hlc_workers.specs.declared.session.Opening.TheVariants.{NotOpened as refused}
 use Rattle.hlc_workers.specs.Paid.{event_of}
 
--- what an opening came to, by its reply
+-- the result of an opening, from its reply
 abbrev pub opening_of : CoreReply → Opening
 opening_of (Opened id stamp) = opened id
 opening_of (Refused (AboveFloor floor)) = outside
 opening_of (Refused (BelowHorizon horizon)) = outside
 opening_of _ = refused
 
--- the call of the receipt was for this event, and as an opening it came to this
+-- the call of the receipt was for this event, and its result as an opening is this
 abbrev pub IsOpening : CoreEvent → Opening → Receipt → Type 0
 IsOpening event opening receipt = (receipt.event ≡ event) × (opening ≡ opening_of receipt.reply)
 
@@ -28,7 +28,7 @@ IsOpening event opening receipt = (receipt.event ≡ event) × (opening ≡ open
 abbrev pub reads_of : ℕ → List (List ℕ) → List CoreEvent
 reads_of id keys = map (Read id) keys ++ Close id ∷ []
 
--- after an opening at the floor
+-- what follows an opening at the floor
 abbrev pub GoesOn : List (List ℕ) → Opening → List Receipt → Type 0
 GoesOn keys (opened id) receipts = map event_of receipts ≡ reads_of id keys
 GoesOn keys outside receipts = receipts ≡ []
@@ -39,7 +39,8 @@ abbrev pub AtFloor : List (List ℕ) → List Receipt → Type 0
 AtFloor keys [] = ⊥
 AtFloor keys (receipt ∷ receipts) = (receipt.event ≡ OpenFloor) × GoesOn keys (opening_of receipt.reply) receipts
 
--- after an opening at the board's floor: where it is above the floor or below the horizon, an opening at the floor
+-- what follows an opening at the board's floor: where that is above the floor or below the horizon, an opening at the
+-- floor
 abbrev pub GoesOnOrAgain : List (List ℕ) → Opening → List Receipt → Type 0
 GoesOnOrAgain keys (opened id) receipts = map event_of receipts ≡ reads_of id keys
 GoesOnOrAgain keys outside receipts = AtFloor keys receipts
@@ -62,23 +63,23 @@ AreRounds keys (stamp ∷ stamps) receipts =
 abbrev pub NeverFalls : List ℕ → Type 0
 NeverFalls xs = (i j : ℕ) → i ≤ j → j < length xs → slice_index xs i ≤ slice_index xs j
 
--- a pass has looked so often at the word of node k: what it found there stands behind what it found before
-abbrev pub HasFound : Sight → Sight → ℕ → ℕ → Type 0
+-- a pass has looked so often at the word of node k: what it found there comes after what it found before
+abbrev pub HasFound : FloorPassView → FloorPassView → ℕ → ℕ → Type 0
 HasFound before after k looks =
     (more : List ℕ) × (found_at after.found k ≡ found_at before.found k ++ more) × (length more ≡ looks)
 
 -- what its look number i since then, from 0 on, found at the word of node k
-abbrev pub look_of : Sight → Sight → ℕ → ℕ → ℕ
+abbrev pub look_of : FloorPassView → FloorPassView → ℕ → ℕ → ℕ
 look_of before after i k = slice_index (found_at after.found k) (length (found_at before.found k) + i)
 
 -- n is the least that its looks of this number found
-pub record IsLeastFound (before after : Sight) (i n : ℕ) : Type 0 where
+pub record IsLeastFound (before after : FloorPassView) (i n : ℕ) : Type 0 where
   pub among : (k : ℕ) × (k < before.board.words) × (look_of before after i k ≡ n)
   pub below : (k : ℕ) → k < before.board.words → n ≤ look_of before after i k
 
 -- For each of these stamps a pass has made one look at each word of its board, and the stamp is the least that those
 -- looks found. No seen value fell, nor do the stamps, and the last of them is the least of the values seen at the end.
-pub record HasLookedFor (before after : Sight) (stamps : List ℕ) : Type 0 where
+pub record HasLookedFor (before after : FloorPassView) (stamps : List ℕ) : Type 0 where
   pub board : after.board ≡ before.board
   pub finds : (k : ℕ) → k < before.board.words → HasFound before after k (length stamps)
   pub least : (i : ℕ) → i < length stamps → IsLeastFound before after i (slice_index stamps i)
@@ -87,6 +88,6 @@ pub record HasLookedFor (before after : Sight) (stamps : List ℕ) : Type 0 wher
   pub last : 0 < length stamps → IsLeast before.board.words after.seen (slice_index stamps (length stamps - 1))
 
 -- so many rounds, each at a stamp for which the pass has looked
-abbrev pub HasServed : List (List ℕ) → ℕ → Sight → Sight → List Receipt → Type 0
+abbrev pub HasServed : List (List ℕ) → ℕ → FloorPassView → FloorPassView → List Receipt → Type 0
 HasServed keys rounds before after receipts =
     (stamps : List ℕ) × (length stamps ≡ rounds) × AreRounds keys stamps receipts × HasLookedFor before after stamps

@@ -1,32 +1,23 @@
 //! How a worker ends.
 ghost use Rattle.std.specs.Prelude.{◌≡◌, MatchResult};
-ghost use Rattle.std.proofs.Common.{rules};
-ghost use Rattle.std.proofs.lemmas.Grind.{common_steps};
 
 use hlc_server::NotDone;
-use hlc_values::Exact;
 
 /// How a worker ended.
 #[derive(Clone, Copy, PartialEq, Eq, Debug)]
 pub enum WorkEnd {
-    /// All was done.
+    /// All work was done.
     Done,
-    /// The gate answered false.
+    /// The gate stopped the worker: it answered false.
     Held,
-    /// The link is closed: it handed a call back.
+    /// The link is closed: it refused a call.
     Closed,
-    /// A call of the store was not made, or its room was refused.
+    /// A call of the store was not made, or there was no memory to prepare it.
     Spent(NotDone),
 }
 
-impl Exact for WorkEnd {
-    ghost equal = { Prim.search (rules, common_steps) };
-
-    ghost copied = { Prim.search rules };
-}
-
 impl WorkEnd {
-    /// How the work ended that was done, or stopped before that.
+    /// Returns how work ended that was done, or that stopped before.
     pub(crate) fn of(done: Result<(), WorkEnd>) -> WorkEnd
         ensures { MatchResult done (λ _. result ≡ WorkEnd.Done) (λ end. result ≡ end) }
     {

@@ -15,28 +15,28 @@ use std::alloc::Global;
 use std::sync::Wait;
 use std::sync::ledger::Ledger;
 
-/// What the worker of a link gives back: its caller, its ends of the link and of the board, its
-/// receipts in the order of its calls, and how it ended.
+/// What the worker of a link returns: its caller, its ends of the link and of the board, its receipts in the order of
+/// its calls, and how it ended.
 #[derive(Drop)]
 pub struct Fed<L: Ledger> {
     pub caller: Caller<L>,
     pub link: LinkReceiver,
-    /// None where none was given.
+    /// None where none was passed.
     pub feeder: Option<Feeder>,
     pub receipts: Vec<Receipt>,
-    /// The item that was taken and not handed in, where there is one.
+    /// The item that was taken from the link and not passed to the store, if there is one.
     pub left: Option<Item>,
     pub end: WorkEnd,
 }
 
-/// Takes the parcels of a link until its end. It hands each item in, and raises the board with each
-/// item of the feeder's node that was accepted above what was raised, after the lock is free, and with
-/// no other. The feeder is of this board. Of a node that joined there is none, since it has no word on
-/// the board: then nothing is raised. Parcels are taken first, then the gate is asked.
+/// Takes the parcels of a link until its end, and passes each item to the store. When an item of the feeder's node was
+/// accepted above what was raised, it raises the board with that item, after the lock is free, and with no other item.
+/// The feeder must be of this board. A node that joined has no word on the board and so no feeder: then nothing is
+/// raised. The worker takes a parcel first, and then asks the gate.
 ///
-/// It ends `Done` at the end of the link, `Closed` where the link handed the call back, `Held` where
-/// the gate answered false, and `Spent` where an item was not handed in, or the room for its receipt
-/// was refused; in the last two cases the item is `left`. A refusal of the store does not end it.
+/// It ends `Done` at the end of the link, `Closed` where the link refused the call, `Held` where the gate answered
+/// false, and `Spent` where the store did not make the call for an item, or it ran out of memory for the receipt. In
+/// the last two cases the item is `left`. A refusal of the store does not end it.
 pub fn feed<L: Ledger, G: Gate, R: Wait>(
     rt: &R,
     alloc: Global,
@@ -55,7 +55,7 @@ pub fn feed<L: Ledger, G: Gate, R: Wait>(
         ≡ option_map (λ feeder. fed_all feeder result.receipts.items) feeder }
     ensures done { result.end ≡ WorkEnd.Done → (result.link.ended ≡ true) × (result.left ≡ None) }
     ensures closed { result.end ≡ WorkEnd.Closed → result.left ≡ None }
-    ensures held { result.end ≡ WorkEnd.Held
+    ensures stopped { result.end ≡ WorkEnd.Held
         → G.may_answer gate.now (vec_len result.receipts) false }
     ensures passed { (turn : ℕ) → turn < length result.receipts.items
         → G.may_answer gate.now turn true }
@@ -80,7 +80,7 @@ pub fn feed<L: Ledger, G: Gate, R: Wait>(
 }
 
 impl<L: Ledger, G: Gate, R: Wait> Session<'_, L, G, R> {
-    /// Takes one item and hands it in, or says what is left and how the work ends.
+    /// Takes one item and passes it to the store, or returns what is left and how the work ends.
     fn feed_one(
         &mut self,
         link: &mut LinkReceiver,
@@ -121,7 +121,7 @@ impl<L: Ledger, G: Gate, R: Wait> Session<'_, L, G, R> {
     }
 }
 
-/// Raises the board with what the reply says, where there is a feeder.
+/// Raises the board with the item that the reply accepts, where there is a feeder.
 fn raise_where(board: &Board, feeder: &mut Option<Feeder>, reply: &CoreReply)
     requires { IfSome feeder.old (λ feeder. feeder.board ≡ board.now) }
     ensures { feeder.new ≡ option_map (λ feeder. fed_by feeder reply.now) feeder.old }
@@ -131,8 +131,7 @@ fn raise_where(board: &Board, feeder: &mut Option<Feeder>, reply: &CoreReply)
     }
 }
 
-/// Raises the board where the reply says that an item of the feeder's node was accepted, above what the
-/// feeder raised.
+/// Raises the board where the reply says that an item of the feeder's node was accepted above what the feeder raised.
 fn raise_if(board: &Board, feeder: &mut Feeder, reply: &CoreReply)
     requires { feeder.old.board ≡ board.now }
     ensures { feeder.new ≡ fed_by feeder.old reply.now }

@@ -14,8 +14,7 @@ use std::alloc::Global;
 use std::sync::Wait;
 use std::sync::ledger::Ledger;
 
-/// What a reader gives back: its caller, its pass, its receipts in the order of its calls, and how it
-/// ended.
+/// What a reader returns: its caller, its pass, its receipts in the order of its calls, and how it ended.
 #[derive(Drop)]
 pub struct Reader<L: Ledger> {
     pub caller: Caller<L>,
@@ -51,8 +50,8 @@ impl<L: Ledger, G: Gate, R: Wait> Session<'_, L, G, R> {
         Ok(())
     }
 
-    /// The part of a round that opens at the floor of the store, where the board's was above it, or
-    /// below the horizon.
+    /// Makes the part of a round that opens at the floor of the store, where the board's floor was above it, or below
+    /// the horizon.
     fn read_at_floor(&mut self, keys: &[Bytes]) -> Result<(), WorkEnd>
         ensures gate { self.new.gate.now ≡ self.old.gate.now }
         ensures made { MadeSome (G.may_answer self.old.gate.now) self.old.work self.new.work result
@@ -64,8 +63,8 @@ impl<L: Ledger, G: Gate, R: Wait> Session<'_, L, G, R> {
         }
     }
 
-    /// One round: opens at the stamp, or at the floor of the store where the stamp is above it or below
-    /// the horizon, reads each key and closes.
+    /// Makes one round: opens at the stamp, or at the floor of the store where the stamp is above it or below the
+    /// horizon, reads each key and closes.
     fn make_round(&mut self, stamp: Stamp, keys: &[Bytes]) -> Result<(), WorkEnd>
         ensures gate { self.new.gate.now ≡ self.old.gate.now }
         ensures made { MadeSome (G.may_answer self.old.gate.now) self.old.work self.new.work result
@@ -99,14 +98,13 @@ impl<L: Ledger, G: Gate, R: Wait> Session<'_, L, G, R> {
     }
 }
 
-/// Makes so many rounds. Each looks at the floor of the board, opens a snapshot there, reads each key
-/// in turn, and closes it. Where that stamp is above the floor of the store, as it may be while a node
-/// that joined is behind, or below the horizon, it makes one more call, and opens at the floor of the
-/// store. A round whose opening is refused otherwise ends there. The pass is of this board.
+/// Makes so many rounds. Each looks at the floor of the board, opens a snapshot there, reads each key in turn, and
+/// closes it. That stamp may be above the floor of the store while a node that joined lags, or it may be below the
+/// horizon (GC threshold): then the round makes one more call, and opens at the floor of the store. A round whose
+/// opening is refused for another reason ends there. The pass must be of this board.
 ///
-/// It ends `Done` after the last round, `Held` where the gate answered false, and `Spent` where a call
-/// was not made, or the copy of a key or the room for a receipt was refused; the receipts so far are
-/// given back.
+/// It ends `Done` after the last round, `Held` where the gate answered false, and `Spent` where a call was not made, or
+/// it ran out of memory for the copy of a key or for a receipt. It returns the receipts so far.
 pub fn serve_reader<L: Ledger, G: Gate, R: Wait>(
     rt: &R,
     alloc: Global,
@@ -123,7 +121,7 @@ pub fn serve_reader<L: Ledger, G: Gate, R: Wait>(
     ensures board { result.pass.board ≡ pass.board }
     ensures done { result.end ≡ WorkEnd.Done
         → HasServed keys.now rounds pass result.pass result.receipts.items }
-    ensures held { result.end ≡ WorkEnd.Held
+    ensures stopped { result.end ≡ WorkEnd.Held
         → G.may_answer gate.now (vec_len result.receipts) false }
     ensures open { result.end ≢ WorkEnd.Closed }
     ensures passed { (turn : ℕ) → turn < length result.receipts.items

@@ -1,4 +1,4 @@
-//! A worker at its calls of a store.
+//! What a worker needs to make its calls of a store.
 ghost use Rattle.std.specs.Prelude.{◌≡◌, ◌<◌, ◌⊎◌, [], false, true, length, vec_len, vec_capacity};
 ghost use Rattle.std.specs.Prelude.{IfErr, OnOk};
 ghost use Rattle.hlc_workers.specs.Paid.{MadeOne};
@@ -19,7 +19,7 @@ pub(crate) struct Work<L: Ledger> {
     pub(crate) receipts: Vec<Receipt>,
 }
 
-/// A worker at its calls: the store that it calls, and the gate that it asks before.
+/// A worker that makes calls: the store that it calls, and the gate that it asks before each call.
 #[derive(Drop)]
 pub(crate) struct Session<'a, L: Ledger, G: Gate, R: Wait> {
     pub(crate) rt: &'a R,
@@ -28,7 +28,7 @@ pub(crate) struct Session<'a, L: Ledger, G: Gate, R: Wait> {
     pub(crate) work: Work<L>,
 }
 
-/// What an opening came to.
+/// The result of an opening.
 #[derive(Clone, Copy, Debug)]
 pub enum Opening {
     /// The snapshot of this id was opened.
@@ -40,7 +40,7 @@ pub enum Opening {
 }
 
 impl<'a, L: Ledger, G: Gate, R: Wait> Session<'a, L, G, R> {
-    /// A worker that made no call yet.
+    /// Returns a worker that has made no call.
     pub(crate) fn new(
         rt: &'a R,
         alloc: Global,
@@ -62,8 +62,8 @@ impl<'a, L: Ledger, G: Gate, R: Wait> Session<'a, L, G, R> {
         }
     }
 
-    /// Asks the gate at the turn of the next call, which is the number of the receipts, and makes room
-    /// for one receipt more. Held by the gate, or out of memory.
+    /// Asks the gate at the turn of the next call, which is the number of receipts, and makes room for one more
+    /// receipt. Returns `Held` where the gate stops the worker, and `Spent` where it runs out of memory.
     pub(crate) fn make_room(&mut self) -> Result<(), WorkEnd>
         ensures gate { self.new.gate.now ≡ self.old.gate.now }
         ensures caller { self.new.work.caller ≡ self.old.work.caller }
@@ -72,7 +72,7 @@ impl<'a, L: Ledger, G: Gate, R: Wait> Session<'a, L, G, R> {
             (vec_len self.new.work.receipts < vec_capacity self.new.work.receipts) }
         ensures passed { OnOk result
             (G.may_answer self.old.gate.now (length self.old.work.receipts.items) true) }
-        ensures held { IfErr result (λ end. end ≡ WorkEnd.Held
+        ensures stopped { IfErr result (λ end. end ≡ WorkEnd.Held
             → G.may_answer self.old.gate.now (length self.old.work.receipts.items) false) }
         ensures stops { IfErr result
             (λ end. (end ≡ WorkEnd.Held) ⊎ (end ≡ WorkEnd.Spent NotDone.NoMemory)) }
@@ -87,8 +87,8 @@ impl<'a, L: Ledger, G: Gate, R: Wait> Session<'a, L, G, R> {
         Ok(())
     }
 
-    /// Makes the call that an event asks for, once the gate let it pass, and keeps its receipt. Returns
-    /// what it came to where it is an opening.
+    /// Makes the call that an event asks for, once the gate let it pass, and stores its receipt. Returns the result as
+    /// that of an opening.
     pub(crate) fn call(&mut self, event: CoreEvent) -> Result<Opening, WorkEnd>
         ensures gate { self.new.gate.now ≡ self.old.gate.now }
         ensures made { MadeOne (G.may_answer self.old.gate.now) self.old.work self.new.work result
@@ -106,7 +106,7 @@ impl<'a, L: Ledger, G: Gate, R: Wait> Session<'a, L, G, R> {
     }
 }
 
-/// What an opening came to, by its reply.
+/// Returns the result of an opening from its reply.
 fn opening_in(reply: &CoreReply) -> Opening
     ensures { result ≡ opening_of reply.now }
 {

@@ -13,8 +13,7 @@ use std::sync::Wait;
 use std::sync::ledger::Ledger;
 use std::thread::Threads;
 
-/// What the worker of the vacuum gives back: its caller, its receipts in the order of its calls, and
-/// how it ended.
+/// What the worker of the vacuum returns: its caller, its receipts in the order of its calls, and how it ended.
 #[derive(Drop)]
 pub struct Served<L: Ledger> {
     pub caller: Caller<L>,
@@ -56,8 +55,8 @@ impl<L: Ledger, G: Gate, R: Wait + Threads + Sync> Session<'_, L, G, R> {
 
 /// Makes so many vacuums, one after another. The gate is asked before each.
 ///
-/// It ends `Done` after the last of them, `Held` where the gate answered false, and `Spent` where a
-/// vacuum was not made, or the room for its receipt was refused; the receipts so far are given back.
+/// It ends `Done` after the last vacuum, `Held` where the gate answered false, and `Spent` where a vacuum was not made,
+/// or it ran out of memory for the receipt. It returns the receipts so far.
 pub fn serve_vacuum<L: Ledger, G: Gate, R: Wait + Threads + Sync>(
     rt: &R,
     alloc: Global,
@@ -69,7 +68,7 @@ pub fn serve_vacuum<L: Ledger, G: Gate, R: Wait + Threads + Sync>(
     ensures share { IsPaid caller result.caller result.receipts.items }
     ensures done { result.end ≡ WorkEnd.Done
         → map event_of result.receipts.items ≡ replicate times AnEvent.Vacuum }
-    ensures held { result.end ≡ WorkEnd.Held
+    ensures stopped { result.end ≡ WorkEnd.Held
         → G.may_answer gate.now (vec_len result.receipts) false }
     ensures open { result.end ≢ WorkEnd.Closed }
     ensures passed { (turn : ℕ) → turn < length result.receipts.items

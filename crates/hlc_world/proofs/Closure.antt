@@ -1,6 +1,6 @@
 -- An open snapshot is closed under happened-before: what happened before an item that is read there has a lesser stamp,
--- so it is at or below the snapshot's stamp, which is not above the floor; and what is there was accepted,
--- since the floor is complete.
+-- so it is at or below the snapshot's stamp, which is not above the floor; and what is at or below the floor was
+-- accepted, since the floor is complete.
 use Rattle.std.proofs.Common.{◌≡◌, ℕ, ◌<◌, ◌≤◌, List, [], ◌∷◌, Some, None, Option, refl, ap, sym, ◌∙◌, subst, inl, inr}
 use Rattle.std.proofs.Common.{arith}
 use Rattle.std.specs.Prelude.{Contains}
@@ -17,7 +17,7 @@ use Rattle.hlc_world.specs.declared.reply.Reply.TheVariants.{Stamped}
 use Rattle.hlc_node.specs.Items.{an_item}
 use Rattle.hlc_world.specs.Schedule.{Event, item_made, stamping_of, with_item, issued}
 use Rattle.hlc_world.specs.Store.{core_past}
-use Rattle.hlc_world.specs.Due.{IsLegal}
+use Rattle.hlc_world.specs.Expected.{IsLegal}
 use Rattle.hlc_world.specs.Before.{entry_at, IsStamped}
 use Rattle.hlc_world.specs.Floor.{IsIssuedAt, IsClosed}
 use Rattle.hlc_world.proofs.Lists.{some-injective}

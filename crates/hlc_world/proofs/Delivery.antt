@@ -1,5 +1,5 @@
--- A delivery is answered as is due: an issued item is refused by the store for its number alone, or since its node's
--- last item was accepted, as the schedule says.
+-- A delivery gets the expected reply: the store refuses an issued item only because of its number, or because its
+-- node's last item was accepted, as the schedule says.
 use Rattle.std.proofs.Common.{◌≡◌, ℕ, ◌<◌, List, ◌∷◌, length, Some, None, Option, Ok, Err, Result, refl, ap, sym, ◌∙◌}
 use Rattle.std.proofs.Common.{subst, inl, inr, arith}
 use Rattle.std.specs.Prelude.{not, MatchResult, slice_get}
@@ -9,9 +9,9 @@ use Rattle.hlc_node.specs.Items.{retires}
 use Rattle.hlc_core.specs.declared.fault.CoreFault.{CoreFault}
 use Rattle.hlc_intake.specs.declared.intake.LinkFault.TheVariants as link_fault
 use Rattle.hlc_core.specs.declared.fault.CoreFault.TheVariants as core_fault
-use Rattle.hlc_heads.specs.Heads.{Acceptance}
+use Rattle.hlc_heads.specs.Heads.{AcceptedView}
 use Rattle.hlc_core.specs.Past.{Took, numbered, retired, count, head, of_body as body_fault, item_refusal}
-use Rattle.hlc_core.specs.Kept.{Kept, nodes, StandsFor as CoreStandsFor}
+use Rattle.hlc_core.specs.StoreView.{StoreView, nodes, Represents as CoreRepresents}
 use Rattle.hlc_core.specs.Calls.{IsRefusal, IsWrite}
 use Rattle.hlc_world.specs.declared.event.Event.TheVariants.{Deliver}
 use Rattle.hlc_world.specs.declared.reply.Reply.{Reply}
@@ -19,14 +19,14 @@ use Rattle.hlc_world.specs.declared.reply.Reply.TheVariants.{Accepted, Refused}
 use Rattle.hlc_world.specs.declared.refusal.Refusal.TheVariants.{NoMemory}
 use Rattle.hlc_world.specs.Schedule.{Event, item_at}
 use Rattle.hlc_world.specs.Store.{accepting, accepted, paired, store_history, core_past}
-use Rattle.hlc_world.specs.Due.{of_core, core_refusal, on_link, deliver_refusal, refusal_due, number_refusal}
-use Rattle.hlc_world.specs.Due.{GoesByNumber, IsOwed, StoreMayLack, IsLegal}
-use Rattle.hlc_world.specs.State.{KeptIssuer, State, world_nodes, StandsFor}
+use Rattle.hlc_world.specs.Expected.{of_core, core_refusal, on_link, deliver_refusal, expected_refusal, number_refusal}
+use Rattle.hlc_world.specs.Expected.{GoesByNumber, IsExpectedOfStore, StoreMayRunOut, IsLegal}
+use Rattle.hlc_world.specs.WorldView.{IssuerView, WorldView, world_nodes, Represents}
 use Rattle.hlc_world.proofs.Lists.{some-injective}
 use Rattle.hlc_world.proofs.Nodes.{stays, on_link-inside}
 use Rattle.hlc_world.proofs.Orderly.{IsOrderly, orderly, past_taken}
 
--- the core refuses an issued item for its number alone, or since its node's last item was accepted
+-- the core refuses an issued item only because of its number, or because its node's last item was accepted
 by-number : (n : ℕ) (s : List (Event × Reply)) (p k : ℕ) (item : Item) → IsOrderly n s → item_at p k s ≡ Some item
     → core_refusal (item_refusal n (core_past s) item)
     ≡ number_refusal (Some item) (retired p (core_past s)) k (count p (core_past s))
@@ -37,10 +37,10 @@ by-number n s p k item o at =
     let c : count item.node (core_past s) ≡ count p (core_past s) = ap (λ j. count j (core_past s)) own in
     let out : retired item.node (core_past s) ≡ retired p (core_past s) = ap (λ j. retired j (core_past s)) own in
     elim (cases_Bool (retired p (core_past s))) [
-      | inl over ↦
+      | inl was_last ↦
           let is_out : item_refusal n (core_past s) item ≡ Some (core_fault.Link link_fault.Retired) =
-          cond-false _ _ _ (lt-leb (numbered n (core_past s)) item.node inside) ∙ cond-true _ _ _ (out ∙ over) in
-          ap core_refusal is_out ∙ sym (cond-true _ _ _ over)
+          cond-false _ _ _ (lt-leb (numbered n (core_past s)) item.node inside) ∙ cond-true _ _ _ (out ∙ was_last) in
+          ap core_refusal is_out ∙ sym (cond-true _ _ _ was_last)
       | inr here ↦
           elim (cases_eq k (count p (core_past s))) [
             | inl next ↦
@@ -70,65 +70,68 @@ found-number : (n : ℕ) (s : List (Event × Reply)) (p k : ℕ) (o : Option Ite
 found-number n s p k None ordered at = refl
 found-number n s p k (Some item) ordered at = by-number n s p k item ordered at
 
--- so is a delivery
+-- the same is true of a delivery
 pub goes-by-number : (n : ℕ) (s : List (Event × Reply)) → IsLegal n s → GoesByNumber n s
 goes-by-number n s legal =
     λ p k. ap (λ rest. on_link n s p rest) (found-number n s p k (item_at p k s) (orderly n s legal) refl)
 
--- why the world refuses to deliver an issued item is why the core does
-due : (n : ℕ) (s : List (Event × Reply)) (p k : ℕ) (item : Item) → IsOrderly n s → item_at p k s ≡ Some item
-    → refusal_due n s (Deliver p k) ≡ core_refusal (item_refusal n (core_past s) item)
-due n s p k item o at = on_link-inside n s p _ (o.each p k item at).inside
+-- the world refuses to deliver an issued item for the same reason as the core
+expected : (n : ℕ) (s : List (Event × Reply)) (p k : ℕ) (item : Item) → IsOrderly n s → item_at p k s ≡ Some item
+    → expected_refusal n s (Deliver p k) ≡ core_refusal (item_refusal n (core_past s) item)
+expected n s p k item o at = on_link-inside n s p _ (o.each p k item at).inside
     ∙ ap (λ x. deliver_refusal n (core_past s) x) at
 
 -- the item that the world finds is the issued one
-pub found : (state : State) (s : List (Event × Reply)) (p k : ℕ) (issuer : KeptIssuer) (item : Item) → StandsFor state s
+pub found : (state : WorldView) (s : List (Event × Reply)) (p k : ℕ) (issuer : IssuerView) (item : Item)
+    → Represents state s
     → p < length state.nodes → slice_get state.nodes p ≡ Some issuer → Some item ≡ slice_get issuer.issued k
     → item_at p k s ≡ Some item
 found state s p k issuer item h inside at in_items =
     ap (λ x. slice_get x.issued k) (some-injective _ _ (sym (h.nodes p inside) ∙ at)) ∙ sym in_items
 
--- the core refuses the item, memory aside
-refused : (state : State) (s : List (Event × Reply)) (p k : ℕ) (item : Item) (f : CoreFault)
-    → StandsFor state s → item_at p k s ≡ Some item → item_refusal (nodes state.core) (core_past s) item ≡ Some f
-    → StandsFor state ((Deliver p k, Refused (of_core f)) ∷ s)
+-- the core refuses the item, apart from out of memory
+refused : (state : WorldView) (s : List (Event × Reply)) (p k : ℕ) (item : Item) (f : CoreFault)
+    → Represents state s → item_at p k s ≡ Some item → item_refusal (nodes state.core) (core_past s) item ≡ Some f
+    → Represents state ((Deliver p k, Refused (of_core f)) ∷ s)
 refused state s p k item f h at refusal =
     stays state s (Deliver p k) (of_core f) refl
-    (inl (due (world_nodes state) s p k item (orderly (world_nodes state) s h.legal) at ∙ ap core_refusal refusal)) h
+    (inl (expected (world_nodes state) s p k item (orderly (world_nodes state) s h.legal) at
+    ∙ ap core_refusal refusal)) h
 
--- there is no memory for it, which a write alone may want
-no_memory : (state : State) (s : List (Event × Reply)) (p k : ℕ) (item : Item) → StandsFor state s
+-- it runs out of memory for it, as only a write may
+no_memory : (state : WorldView) (s : List (Event × Reply)) (p k : ℕ) (item : Item) → Represents state s
     → item_at p k s ≡ Some item → item_refusal (nodes state.core) (core_past s) item ≡ None → IsWrite item.body
-    → StandsFor state ((Deliver p k, Refused NoMemory) ∷ s)
+    → Represents state ((Deliver p k, Refused NoMemory) ∷ s)
 no_memory state s p k item h at none takes =
     stays state s (Deliver p k) NoMemory refl
     (inr (
-      due (world_nodes state) s p k item (orderly (world_nodes state) s h.legal) at ∙ ap core_refusal none,
+      expected (world_nodes state) s p k item (orderly (world_nodes state) s h.legal) at ∙ ap core_refusal none,
       refl,
-      subst (λ o. StoreMayLack (core_past s) (accepting o)) (sym at) takes,
+      subst (λ o. StoreMayRunOut (core_past s) (accepting o)) (sym at) takes,
     )) h
 
 -- the core accepts it
-taken : (state : State) (s : List (Event × Reply)) (p k : ℕ) (item : Item) (core : Kept)
-    → nodes core ≡ nodes state.core → StandsFor state s
+taken : (state : WorldView) (s : List (Event × Reply)) (p k : ℕ) (item : Item) (core : StoreView)
+    → nodes core ≡ nodes state.core → Represents state s
     → item_at p k s ≡ Some item → item_refusal (nodes state.core) (core_past s) item ≡ None
-    → CoreStandsFor core (Took item ∷ core_past s)
-    → StandsFor (record { core = core; nodes = state.nodes; sent_stamps = state.sent_stamps })
+    → CoreRepresents core (Took item ∷ core_past s)
+    → Represents (record { core = core; nodes = state.nodes; sent_stamps = state.sent_stamps })
     ((Deliver p k, Accepted item.stamp) ∷ s)
 taken state s p k item core same h at none took =
     let ordered = orderly (world_nodes state) s h.legal in
-    let acceptance : ℕ → Acceptance = λ j. record { node = j; stamp = item.stamp; retires = retires item.body } in
+    let acceptance : ℕ → AcceptedView = λ j. record { node = j; stamp = item.stamp; retires = retires item.body } in
     record {
       legal = subst (λ n. IsLegal n ((Deliver p k, Accepted item.stamp) ∷ s)) (sym same) (
         (
-          due (world_nodes state) s p k item ordered at ∙ ap core_refusal none,
-          subst (λ o. IsOwed (world_nodes state) (core_past s) (paired (accepted p item.stamp o) (accepting o)))
+          expected (world_nodes state) s p k item ordered at ∙ ap core_refusal none,
+          subst (λ o. IsExpectedOfStore (world_nodes state) (core_past s)
+              (paired (accepted p item.stamp o) (accepting o)))
               (sym at)
               (ap acceptance (sym (ordered.each p k item at).node)),
         ),
         h.legal,
       );
-      core = subst (λ o. CoreStandsFor core (past_taken p item.stamp o (store_history s))) (sym at) took;
+      core = subst (λ o. CoreRepresents core (past_taken p item.stamp o (store_history s))) (sym at) took;
       many = subst (λ o. length state.nodes ≡ numbered (nodes core) (past_taken p item.stamp o (store_history s)))
           (sym at) (h.many ∙ ap (λ n. numbered n (core_past s)) (sym same));
       nodes = h.nodes;
@@ -141,27 +144,27 @@ reply_of (Ok stamp) = Accepted stamp
 reply_of (Err fault) = Refused (of_core fault)
 
 -- what the core answers to the item
-pub answered : (state : State) (s : List (Event × Reply)) (p k : ℕ) (item : Item) (core : Kept)
+pub answered : (state : WorldView) (s : List (Event × Reply)) (p k : ℕ) (item : Item) (core : StoreView)
     (result : Result ℕ CoreFault)
-    → nodes core ≡ nodes state.core → StandsFor state s → item_at p k s ≡ Some item
+    → nodes core ≡ nodes state.core → Represents state s → item_at p k s ≡ Some item
     → MatchResult result
-    (λ stamp. (stamp ≡ item.stamp) × (item_refusal (nodes state.core) (core_past s) item ≡ None) × CoreStandsFor core
+    (λ stamp. (stamp ≡ item.stamp) × (item_refusal (nodes state.core) (core_past s) item ≡ None) × CoreRepresents core
     (Took item ∷ core_past s))
     (λ fault. IsRefusal (item_refusal (nodes state.core) (core_past s) item) (IsWrite item.body) fault
     × (core ≡ state.core))
-    → StandsFor (record { core = core; nodes = state.nodes; sent_stamps = state.sent_stamps })
+    → Represents (record { core = core; nodes = state.nodes; sent_stamps = state.sent_stamps })
     ((Deliver p k, reply_of result) ∷ s)
 answered state s p k item core (Ok stamp) same h at a =
-    let t : StandsFor (record { core = core; nodes = state.nodes; sent_stamps = state.sent_stamps })
+    let t : Represents (record { core = core; nodes = state.nodes; sent_stamps = state.sent_stamps })
     ((Deliver p k, Accepted item.stamp) ∷ s) =
     taken state s p k item core same h at a.1 a.2 in
-    subst (λ x. StandsFor (record { core = core; nodes = state.nodes; sent_stamps = state.sent_stamps })
+    subst (λ x. Represents (record { core = core; nodes = state.nodes; sent_stamps = state.sent_stamps })
     ((Deliver p k, Accepted x) ∷ s)) (sym a.0) t
 answered state s p k item core (Err f) same h at a =
-    subst (λ x. StandsFor (record { core = x; nodes = state.nodes; sent_stamps = state.sent_stamps })
+    subst (λ x. Represents (record { core = x; nodes = state.nodes; sent_stamps = state.sent_stamps })
     ((Deliver p k, Refused (of_core f)) ∷ s)) (sym a.1)
     (elim a.0 [
-      | inl due ↦ refused state s p k item f h at due
-      | inr lost ↦ subst (λ x. StandsFor state ((Deliver p k, Refused (of_core x)) ∷ s)) (sym lost.1)
+      | inl expected ↦ refused state s p k item f h at expected
+      | inr lost ↦ subst (λ x. Represents state ((Deliver p k, Refused (of_core x)) ∷ s)) (sym lost.1)
           (no_memory state s p k item h at lost.0 lost.2)
     ])

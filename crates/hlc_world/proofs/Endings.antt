@@ -16,21 +16,21 @@ use Rattle.hlc_world.specs.declared.reply.Reply.{Reply}
 use Rattle.hlc_world.specs.declared.reply.Reply.TheVariants.{Stamped, Joined, Accepted, Snapshot, Answer, Listing}
 use Rattle.hlc_world.specs.declared.reply.Reply.TheVariants.{Closed, Vacuumed}
 use Rattle.hlc_world.specs.declared.refusal.Refusal.{Refusal}
-use Rattle.hlc_world.specs.Schedule.{Event, with_item, ends, issued, gone}
+use Rattle.hlc_world.specs.Schedule.{Event, with_item, ends, issued, has_retired}
 use Rattle.hlc_world.specs.Store.{store_history, core_past}
-use Rattle.hlc_world.specs.Due.{on_node, deliver_refusal, IsGiven, IsLegal}
+use Rattle.hlc_world.specs.Expected.{on_node, deliver_refusal, MayReply, IsLegal}
 use Rattle.hlc_world.proofs.Nodes.{with_item-same, with_item-other, ends-same, ends-other}
 use Rattle.hlc_world.proofs.Orderly.{IsOrderly, orderly, get-with_item, count-same, delivered, past_taken}
 use Rattle.hlc_world.proofs.Orderly.{on_link-none, on_node-none}
 
--- an item that retires its node is the node's last one; and where it was accepted, so were all
+-- an item that retires its node is the node's last one; and where it was accepted, all of them were
 pub record Ended (items : ℕ → List Item) (overs : ℕ → Bool) (counts : ℕ → ℕ) (outs : ℕ → Bool) : Type 0 where
   pub last : (n k : ℕ) (item : Item) → slice_get (items n) k ≡ Some item → retires item.body ≡ true
       → (k + 1 ≡ length (items n)) × (overs n ≡ true)
   pub done : (n : ℕ) → outs n ≡ true → (counts n ≡ length (items n)) × (overs n ≡ true)
 
-not-over : (over : Bool) → over ≡ false → over ≡ true → ⊥
-not-over over a b = absurd (let e : false ≡ true = sym a ∙ b in cc)
+not-last : (was_last : Bool) → was_last ≡ false → was_last ≡ true → ⊥
+not-last was_last a b = absurd (let e : false ≡ true = sym a ∙ b in cc)
 
 -- a node that has not retired issues an item
 ended-issue : (items : ℕ → List Item) (overs : ℕ → Bool) (counts : ℕ → ℕ) (outs : ℕ → Bool) (item : Item)
@@ -38,7 +38,7 @@ ended-issue : (items : ℕ → List Item) (overs : ℕ → Bool) (counts : ℕ �
     → Ended (λ n. with_item n (Some item) (items n)) (λ n. ends n (Some item) (overs n)) counts outs
 ended-issue items overs counts outs item h here =
     let not : (n : ℕ) → item.node ≡ n → overs n ≡ true → ⊥ =
-    λ n same. not-over (overs n) (sym (ap overs same) ∙ here) in
+    λ n same. not-last (overs n) (sym (ap overs same) ∙ here) in
     record {
       last = λ n k x at ret.
           elim (get-with_item n k item x (items n) at) [
@@ -85,9 +85,9 @@ ended-took items overs past p k item h own at next =
           ];
     }
 
--- the items end so in a schedule, after which the core's past is this
+-- the items of a schedule end like this, where the core's past after it is this one
 abbrev IsEndedAt : List (Event × Reply) → List Step → Type 0
-IsEndedAt s past = Ended (λ n. issued n s) (λ n. gone n s) (λ n. count n past) (λ n. retired n past)
+IsEndedAt s past = Ended (λ n. issued n s) (λ n. has_retired n s) (λ n. count n past) (λ n. retired n past)
 
 abbrev IsEnded : List (Event × Reply) → Type 0
 IsEnded s = IsEndedAt s (core_past s)
@@ -98,39 +98,40 @@ ended-delivered : (nodes : ℕ) (s : List (Event × Reply)) (p k st : ℕ) (o : 
 ended-delivered nodes s p k st None at none ordered h = h
 ended-delivered nodes s p k st (Some item) at none ordered h =
     let is = ordered.each p k item at in
-    ended-took (λ j. issued j s) (λ j. gone j s) (core_past s) p k item h is.node at
+    ended-took (λ j. issued j s) (λ j. has_retired j s) (core_past s) p k item h is.node at
     (delivered nodes (core_past s) p k item is.node is.number none)
 
 ended-issued : (nodes : ℕ) (s : List (Event × Reply)) (item : Item) (rest : Option Refusal)
     → on_node nodes s item.node rest ≡ None → IsEnded s
-    → Ended (λ n. with_item n (Some item) (issued n s)) (λ n. ends n (Some item) (gone n s))
+    → Ended (λ n. with_item n (Some item) (issued n s)) (λ n. ends n (Some item) (has_retired n s))
     (λ n. count n (core_past s)) (λ n. retired n (core_past s))
 ended-issued nodes s item rest none h =
-    ended-issue (λ j. issued j s) (λ j. gone j s) (λ n. count n (core_past s)) (λ n. retired n (core_past s)) item h
+    ended-issue (λ j. issued j s) (λ j. has_retired j s) (λ n. count n (core_past s)) (λ n. retired n (core_past s))
+    item h
     (on_node-none nodes s item.node rest none).1
 
-ended-entry : (nodes : ℕ) (s : List (Event × Reply)) (event : Event) (reply : Reply) → IsGiven nodes s event reply
+ended-entry : (nodes : ℕ) (s : List (Event × Reply)) (event : Event) (reply : Reply) → MayReply nodes s event reply
     → IsOrderly nodes s → IsEnded s → IsEnded ((event, reply) ∷ s)
-ended-entry nodes s (Write p reading key value) (Stamped st num) given ordered h =
-    ended-issued nodes s (an_item p num st (a_write key (Some value))) _ given.0 h
-ended-entry nodes s (Delete p reading key) (Stamped st num) given ordered h =
-    ended-issued nodes s (an_item p num st (a_write key None)) _ given.0 h
-ended-entry nodes s (Report p reading) (Stamped st num) given ordered h =
-    ended-issued nodes s (an_item p num st a_report) _ given.0 h
-ended-entry nodes s (Retire p reading) (Stamped st num) given ordered h =
-    ended-issued nodes s (an_item p num st a_retire) _ given.0 h
-ended-entry nodes s Join (Joined node start) given ordered h = h
-ended-entry nodes s (Deliver p k) (Accepted st) given ordered h =
-    ended-delivered nodes s p k st (slice_get (issued p s) k) refl (on_link-none nodes s p _ given.0).1 ordered h
-ended-entry nodes s (OpenAt at) (Snapshot id st) given ordered h = h
-ended-entry nodes s OpenFloor (Snapshot id st) given ordered h = h
-ended-entry nodes s (Read id key) (Answer value) given ordered h = h
-ended-entry nodes s (ListAll id) (Listing pairs) given ordered h = h
-ended-entry nodes s (Close id) (Closed st) given ordered h = h
-ended-entry nodes s Vacuum (Vacuumed report) given ordered h = h
-ended-entry nodes s _ _ given ordered h = h
+ended-entry nodes s (Write p reading key value) (Stamped st num) allowed ordered h =
+    ended-issued nodes s (an_item p num st (a_write key (Some value))) _ allowed.0 h
+ended-entry nodes s (Delete p reading key) (Stamped st num) allowed ordered h =
+    ended-issued nodes s (an_item p num st (a_write key None)) _ allowed.0 h
+ended-entry nodes s (Report p reading) (Stamped st num) allowed ordered h =
+    ended-issued nodes s (an_item p num st a_report) _ allowed.0 h
+ended-entry nodes s (Retire p reading) (Stamped st num) allowed ordered h =
+    ended-issued nodes s (an_item p num st a_retire) _ allowed.0 h
+ended-entry nodes s Join (Joined node start) allowed ordered h = h
+ended-entry nodes s (Deliver p k) (Accepted st) allowed ordered h =
+    ended-delivered nodes s p k st (slice_get (issued p s) k) refl (on_link-none nodes s p _ allowed.0).1 ordered h
+ended-entry nodes s (OpenAt at) (Snapshot id st) allowed ordered h = h
+ended-entry nodes s OpenFloor (Snapshot id st) allowed ordered h = h
+ended-entry nodes s (Read id key) (Answer value) allowed ordered h = h
+ended-entry nodes s (ListAll id) (Listing pairs) allowed ordered h = h
+ended-entry nodes s (Close id) (Closed st) allowed ordered h = h
+ended-entry nodes s Vacuum (Vacuumed report) allowed ordered h = h
+ended-entry nodes s _ _ allowed ordered h = h
 
--- the items of every legal schedule end so
+-- the items of every legal schedule end like this
 pub ended : (nodes : ℕ) (s : List (Event × Reply)) → IsLegal nodes s → IsEnded s
 ended nodes [] legal =
     record {

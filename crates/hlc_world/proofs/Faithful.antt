@@ -1,18 +1,18 @@
--- What is promised of a whole schedule follows from the world's standing for it: the core stands for the store's
+-- What is promised about a whole schedule follows where the world represents it: the core represents the store's
 -- history, which is legal, so the core is faithful to it; each moment of the schedule is one of that history; and each
 -- moment of a legal schedule is legal, so what can be read there is closed.
 use Rattle.std.proofs.Common.{ℕ, List, [], ◌∷◌, ◌++◌, Some, None, Option, refl, ap, sym, subst}
 use Rattle.hlc_core.specs.declared.event.CoreEvent.{CoreEvent}
 use Rattle.hlc_core.specs.declared.reply.CoreReply.{CoreReply}
-use Rattle.hlc_core.specs.History.{StandsForHistory}
+use Rattle.hlc_core.specs.History.{RepresentsHistory}
 use Rattle.hlc_core.specs.Headline.{IsMoment as IsStoreMoment}
 use Rattle.hlc_core.proofs.FaithfulLemmas.{histories_are_faithful}
 use Rattle.hlc_world.specs.Schedule.{Event}
 use Rattle.hlc_world.specs.declared.reply.Reply.{Reply}
 use Rattle.hlc_world.specs.Store.{share, with_entry, store_history}
-use Rattle.hlc_world.specs.Due.{IsLegal}
-use Rattle.hlc_world.specs.State.{State, world_nodes, StandsFor}
-use Rattle.hlc_world.specs.Headline.{MomentsAreTold, ReadsAreClosed, IsFaithful}
+use Rattle.hlc_world.specs.Expected.{IsLegal}
+use Rattle.hlc_world.specs.WorldView.{WorldView, world_nodes, Represents}
+use Rattle.hlc_world.specs.Headline.{MomentsAreReported, ReadsAreClosed, IsFaithful}
 use Rattle.hlc_world.proofs.Histories.{history-legal}
 use Rattle.hlc_world.proofs.Closure.{closed}
 
@@ -22,18 +22,18 @@ moment-stays None h before moment = moment
 moment-stays (Some entry) h before moment =
     record { later = entry ∷ moment.later; order = ap (λ x. entry ∷ x) moment.order }
 
-moment-told : (later before : List (Event × Reply))
+moment-returned : (later before : List (Event × Reply))
     → IsStoreMoment (store_history (later ++ before)) (store_history before)
-moment-told [] before = record { later = []; order = refl }
-moment-told (entry ∷ later) before =
+moment-returned [] before = record { later = []; order = refl }
+moment-returned (entry ∷ later) before =
     moment-stays (share (later ++ before) entry.0 entry.1) (store_history (later ++ before)) (store_history before)
-    (moment-told later before)
+    (moment-returned later before)
 
 -- each moment of a schedule is one of the store's history
-moments-told : (s : List (Event × Reply)) → MomentsAreTold s
-moments-told s =
+moments-returned : (s : List (Event × Reply)) → MomentsAreReported s
+moments-returned s =
     λ before moment. subst (λ x. IsStoreMoment (store_history x) (store_history before)) (sym moment.order)
-    (moment-told moment.later before)
+    (moment-returned moment.later before)
 
 before-legal : (nodes : ℕ) (later before : List (Event × Reply)) → IsLegal nodes (later ++ before)
     → IsLegal nodes before
@@ -46,15 +46,16 @@ reads-closed nodes s legal =
     λ before moment. closed nodes before
     (before-legal nodes moment.later before (subst (λ x. IsLegal nodes x) moment.order legal))
 
--- the core stands for the store's history
-stands : (state : State) (s : List (Event × Reply)) → StandsFor state s → StandsForHistory state.core (store_history s)
-stands state s h = record { legal = history-legal (world_nodes state) s h.legal; core = h.core }
+-- the core represents the store's history
+represents : (state : WorldView) (s : List (Event × Reply)) → Represents state s
+    → RepresentsHistory state.core (store_history s)
+represents state s h = record { legal = history-legal (world_nodes state) s h.legal; core = h.core }
 
--- a world is faithful to each schedule that it stands for
-pub faithful : (state : State) (s : List (Event × Reply)) → StandsFor state s
+-- a world is faithful to each schedule that it represents
+pub faithful : (state : WorldView) (s : List (Event × Reply)) → Represents state s
     → IsFaithful (world_nodes state) s state.core.rows
 faithful state s h = record {
-  store = histories_are_faithful state.core (store_history s) (stands state s h);
-  moments = moments-told s;
+  store = histories_are_faithful state.core (store_history s) (represents state s h);
+  moments = moments-returned s;
   closed = reads-closed (world_nodes state) s h.legal;
 }

@@ -18,7 +18,7 @@ use Rattle.hlc_world.specs.declared.reply.Reply.TheVariants.{Stamped, Joined, Ac
 use Rattle.hlc_world.specs.declared.reply.Reply.TheVariants.{Closed, Vacuumed}
 use Rattle.hlc_world.specs.Schedule.{Event, with_item, issued}
 use Rattle.hlc_world.specs.Store.{store_history, core_past}
-use Rattle.hlc_world.specs.Due.{IsGiven, IsLegal, deliver_refusal}
+use Rattle.hlc_world.specs.Expected.{MayReply, IsLegal, deliver_refusal}
 use Rattle.hlc_world.specs.Floor.{IsComplete, IsBelowClocks}
 use Rattle.hlc_world.proofs.Lists.{some-injective}
 use Rattle.hlc_world.proofs.Nodes.{with_item-same, with_item-other}
@@ -26,7 +26,7 @@ use Rattle.hlc_world.proofs.Orderly.{IsOrderly, orderly, get-with_item, count-sa
 use Rattle.hlc_world.proofs.Orderly.{on_link-none}
 use Rattle.hlc_world.proofs.Endings.{ended}
 
--- the first items of a node, as many as were accepted, are those that were
+-- this many items of a node, its first ones, were accepted
 record AreTaken (items : List Item) (number : ℕ) (past : List Step) : Type 0 where
   pub low : number ≤ length items
   pub each : (k : ℕ) (item : Item) → slice_get items k ≡ Some item → k < number → Contains past (Took item)
@@ -99,31 +99,31 @@ taken-delivered nodes s p k st (Some item) at none ordered h n =
     taken-took n p k item (λ j. issued j s) (core_past s) is.node at
     (delivered nodes (core_past s) p k item is.node is.number none) (h n)
 
-taken-entry : (nodes : ℕ) (s : List (Event × Reply)) (event : Event) (reply : Reply) → IsGiven nodes s event reply
+taken-entry : (nodes : ℕ) (s : List (Event × Reply)) (event : Event) (reply : Reply) → MayReply nodes s event reply
     → IsOrderly nodes s → AllTaken s → AllTaken ((event, reply) ∷ s)
-taken-entry nodes s (Write p reading key value) (Stamped st num) given ordered h =
+taken-entry nodes s (Write p reading key value) (Stamped st num) allowed ordered h =
     λ n. taken-issue n _ (issued n s) (count n (core_past s)) (core_past s) (h n)
-taken-entry nodes s (Delete p reading key) (Stamped st num) given ordered h =
+taken-entry nodes s (Delete p reading key) (Stamped st num) allowed ordered h =
     λ n. taken-issue n _ (issued n s) (count n (core_past s)) (core_past s) (h n)
-taken-entry nodes s (Report p reading) (Stamped st num) given ordered h =
+taken-entry nodes s (Report p reading) (Stamped st num) allowed ordered h =
     λ n. taken-issue n _ (issued n s) (count n (core_past s)) (core_past s) (h n)
-taken-entry nodes s (Retire p reading) (Stamped st num) given ordered h =
+taken-entry nodes s (Retire p reading) (Stamped st num) allowed ordered h =
     λ n. taken-issue n _ (issued n s) (count n (core_past s)) (core_past s) (h n)
-taken-entry nodes s Join (Joined node start) given ordered h =
+taken-entry nodes s Join (Joined node start) allowed ordered h =
     λ n. taken-more (issued n s) (count n (core_past s)) (core_past s) (JoinedOf node start) (h n)
-taken-entry nodes s (Deliver p k) (Accepted st) given ordered h =
-    taken-delivered nodes s p k st (slice_get (issued p s) k) refl (on_link-none nodes s p _ given.0).1 ordered h
-taken-entry nodes s (OpenAt at) (Snapshot id st) given ordered h =
+taken-entry nodes s (Deliver p k) (Accepted st) allowed ordered h =
+    taken-delivered nodes s p k st (slice_get (issued p s) k) refl (on_link-none nodes s p _ allowed.0).1 ordered h
+taken-entry nodes s (OpenAt at) (Snapshot id st) allowed ordered h =
     λ n. taken-more (issued n s) (count n (core_past s)) (core_past s) (Opened st) (h n)
-taken-entry nodes s OpenFloor (Snapshot id st) given ordered h =
+taken-entry nodes s OpenFloor (Snapshot id st) allowed ordered h =
     λ n. taken-more (issued n s) (count n (core_past s)) (core_past s) (Opened st) (h n)
-taken-entry nodes s (Read id key) (Answer value) given ordered h = h
-taken-entry nodes s (ListAll id) (Listing pairs) given ordered h = h
-taken-entry nodes s (Close id) (Closed st) given ordered h =
+taken-entry nodes s (Read id key) (Answer value) allowed ordered h = h
+taken-entry nodes s (ListAll id) (Listing pairs) allowed ordered h = h
+taken-entry nodes s (Close id) (Closed st) allowed ordered h =
     λ n. taken-more (issued n s) (count n (core_past s)) (core_past s) (ClosedOf id) (h n)
-taken-entry nodes s Vacuum (Vacuumed report) given ordered h =
+taken-entry nodes s Vacuum (Vacuumed report) allowed ordered h =
     λ n. taken-more (issued n s) (count n (core_past s)) (core_past s) (VacuumedOf report.floor) (h n)
-taken-entry nodes s _ _ given ordered h = h
+taken-entry nodes s _ _ allowed ordered h = h
 
 taken : (nodes : ℕ) (s : List (Event × Reply)) → IsLegal nodes s → AllTaken s
 taken nodes [] legal = λ n. record { low = omega arith; each = λ k x at lt. absurd (omega arith) }

@@ -1,5 +1,5 @@
--- The store's history of a legal schedule is legal, since what is due to an event that asks something of the store is
--- what the store owes; and what took place in a legal history is a legal past.
+-- The store's history of a legal schedule is legal, since the expected reply to an event that asks something of the
+-- store is what the store is expected to return; and what took place in a legal history is a legal past.
 use Rattle.std.proofs.Common.{◌≡◌, ℕ, ◌≤◌, List, [], ◌∷◌, Some, None, Option, ◌∙◌, sym, subst, inl, inr, arith}
 use Rattle.std.proofs.lemmas.Bool.{cond-true, cond-false, lt-leb, le-leb, lt-ltb, cases_lt}
 use Rattle.hlc_node.specs.declared.item.Item.{Item}
@@ -14,7 +14,7 @@ use Rattle.hlc_core.specs.Past.{Step, numbered, floor, horizon, stamp_of, join_r
 use Rattle.hlc_core.specs.Past.{IsLegal as IsLegalPast}
 use Rattle.hlc_core.proofs.PastLemmas.{open-room, vacuum-none, horizon-low}
 use Rattle.hlc_core.specs.Calls.{list_refusal}
-use Rattle.hlc_core.specs.History.{step_of, with_step, past_of, IsDue, IsLegalHistory}
+use Rattle.hlc_core.specs.History.{step_of, with_step, past_of, IsExpected, IsLegalHistory}
 use Rattle.hlc_world.specs.declared.event.Event.TheVariants.{Deliver, OpenAt, OpenFloor, Read, List as ListAll, Close}
 use Rattle.hlc_world.specs.declared.event.Event.TheVariants.{Join, Vacuum}
 use Rattle.hlc_world.specs.declared.reply.Reply.{Reply}
@@ -22,29 +22,29 @@ use Rattle.hlc_world.specs.declared.reply.Reply.TheVariants.{Accepted, Joined, S
 use Rattle.hlc_world.specs.declared.reply.Reply.TheVariants.{Vacuumed}
 use Rattle.hlc_world.specs.Schedule.{Event, item_at}
 use Rattle.hlc_world.specs.Store.{accepting, accepted, paired, with_entry, store_history, core_past}
-use Rattle.hlc_world.specs.Due.{deliver_refusal, IsOwed, IsGiven, IsLegal}
+use Rattle.hlc_world.specs.Expected.{deliver_refusal, IsExpectedOfStore, MayReply, IsLegal}
 use Rattle.hlc_world.proofs.Orderly.{no-core, on_link-none}
 
--- the store's share of a delivery is due
+-- the store's part of a delivery is an expected reply
 history-taken : (nodes : ℕ) (h : List (CoreEvent × CoreReply)) (p st : ℕ) (o : Option Item)
     → deliver_refusal nodes (past_of h) o ≡ None
-    → IsOwed nodes (past_of h) (paired (accepted p st o) (accepting o)) → IsLegalHistory nodes h
+    → IsExpectedOfStore nodes (past_of h) (paired (accepted p st o) (accepting o)) → IsLegalHistory nodes h
     → IsLegalHistory nodes (with_entry (paired (accepted p st o) (accepting o)) h)
-history-taken nodes h p st None none owed legal = legal
-history-taken nodes h p st (Some item) none owed legal = ((no-core _ none, owed), legal)
+history-taken nodes h p st None none expected legal = legal
+history-taken nodes h p st (Some item) none expected legal = ((no-core _ none, expected), legal)
 
-history-entry : (nodes : ℕ) (s : List (Event × Reply)) (event : Event) (reply : Reply) → IsGiven nodes s event reply
+history-entry : (nodes : ℕ) (s : List (Event × Reply)) (event : Event) (reply : Reply) → MayReply nodes s event reply
     → IsLegalHistory nodes (store_history s) → IsLegalHistory nodes (store_history ((event, reply) ∷ s))
-history-entry nodes s (Deliver p k) (Accepted st) given legal =
-    history-taken nodes (store_history s) p st (item_at p k s) (on_link-none nodes s p _ given.0).1 given.1 legal
-history-entry nodes s Join (Joined node start) given legal = ((no-core _ given.0, given.1), legal)
-history-entry nodes s (OpenAt at) (Snapshot id st) given legal = ((no-core _ given.0, given.1), legal)
-history-entry nodes s OpenFloor (Snapshot id st) given legal = ((no-core _ given.0, given.1), legal)
-history-entry nodes s (Read id key) (Answer value) given legal = ((no-core _ given.0, given.1), legal)
-history-entry nodes s (ListAll id) (Listing pairs) given legal = ((no-core _ given.0, given.1), legal)
-history-entry nodes s (Close id) (Closed st) given legal = ((no-core _ given.0, given.1), legal)
-history-entry nodes s Vacuum (Vacuumed report) given legal = ((no-core _ given.0, given.1), legal)
-history-entry nodes s _ _ given legal = legal
+history-entry nodes s (Deliver p k) (Accepted st) allowed legal =
+    history-taken nodes (store_history s) p st (item_at p k s) (on_link-none nodes s p _ allowed.0).1 allowed.1 legal
+history-entry nodes s Join (Joined node start) allowed legal = ((no-core _ allowed.0, allowed.1), legal)
+history-entry nodes s (OpenAt at) (Snapshot id st) allowed legal = ((no-core _ allowed.0, allowed.1), legal)
+history-entry nodes s OpenFloor (Snapshot id st) allowed legal = ((no-core _ allowed.0, allowed.1), legal)
+history-entry nodes s (Read id key) (Answer value) allowed legal = ((no-core _ allowed.0, allowed.1), legal)
+history-entry nodes s (ListAll id) (Listing pairs) allowed legal = ((no-core _ allowed.0, allowed.1), legal)
+history-entry nodes s (Close id) (Closed st) allowed legal = ((no-core _ allowed.0, allowed.1), legal)
+history-entry nodes s Vacuum (Vacuumed report) allowed legal = ((no-core _ allowed.0, allowed.1), legal)
+history-entry nodes s _ _ allowed legal = legal
 
 -- the store's history of a legal schedule is legal
 pub history-legal : (nodes : ℕ) (s : List (Event × Reply)) → IsLegal nodes s → IsLegalHistory nodes (store_history s)
@@ -73,28 +73,29 @@ starts nodes past start none =
           sym (cond-true _ _ _ (le-leb MOST_NUMBERS (numbered nodes past) full)) ∙ none in cc)
     ]
 
-past-step : (nodes : ℕ) (past : List Step) (event : CoreEvent) (reply : CoreReply) → IsDue nodes past event reply
+past-step : (nodes : ℕ) (past : List Step) (event : CoreEvent) (reply : CoreReply) → IsExpected nodes past event reply
     → IsLegalPast nodes past → IsLegalPast nodes (with_step (step_of event reply) past)
-past-step nodes past (core_event.Accept item) (core_reply.Accepted acceptance) due legal = (due.0, legal)
-past-step nodes past (core_event.OpenAt at) (core_reply.Opened id st) due legal =
-    (subst (λ x. open_refusal nodes past x ≡ None) (sym due.1.1) due.0, legal)
-past-step nodes past core_event.OpenFloor (core_reply.Opened id st) due legal =
-    let e : st ≡ floor nodes past = due.1.1 in
+past-step nodes past (core_event.Accept item) (core_reply.Accepted acceptance) expected legal = (expected.0, legal)
+past-step nodes past (core_event.OpenAt at) (core_reply.Opened id st) expected legal =
+    (subst (λ x. open_refusal nodes past x ≡ None) (sym expected.1.1) expected.0, legal)
+past-step nodes past core_event.OpenFloor (core_reply.Opened id st) expected legal =
+    let e : st ≡ floor nodes past = expected.1.1 in
     let low : horizon past ≤ floor nodes past = horizon-low nodes past legal in
-    (open-room nodes past st (omega arith) (omega arith) ∙ due.0, legal)
-past-step nodes past (core_event.Close id) (core_reply.Closed st) due legal = (no-list (stamp_of id past) due.0, legal)
-past-step nodes past core_event.Join (core_reply.Joined node start) due legal =
-    let e : start ≡ floor nodes past = due.1.1 in (due.0, due.1.0, omega arith, legal)
-past-step nodes past (core_event.JoinAt at) (core_reply.Joined node start) due legal =
-    let free = starts nodes past at due.0 in
+    (open-room nodes past st (omega arith) (omega arith) ∙ expected.0, legal)
+past-step nodes past (core_event.Close id) (core_reply.Closed st) expected legal =
+    (no-list (stamp_of id past) expected.0, legal)
+past-step nodes past core_event.Join (core_reply.Joined node start) expected legal =
+    let e : start ≡ floor nodes past = expected.1.1 in (expected.0, expected.1.0, omega arith, legal)
+past-step nodes past (core_event.JoinAt at) (core_reply.Joined node start) expected legal =
+    let free = starts nodes past at expected.0 in
     let up : floor nodes past ≤ at = free.1 in
-    let e : start ≡ at = due.1.1 in (free.0, due.1.0, omega arith, legal)
-past-step nodes past core_event.Vacuum (core_reply.Vacuumed report) due legal =
-    let e : report.floor ≡ floor nodes past = due.1.at_stamp in
+    let e : start ≡ at = expected.1.1 in (free.0, expected.1.0, omega arith, legal)
+past-step nodes past core_event.Vacuum (core_reply.Vacuumed report) expected legal =
+    let e : report.floor ≡ floor nodes past = expected.1.at_stamp in
     let low : horizon past ≤ floor nodes past = horizon-low nodes past legal in
     (vacuum-none nodes past report.floor (omega arith) (omega arith), legal)
-past-step nodes past (core_event.VacuumTo at) (core_reply.Vacuumed report) due legal = (due.0, legal)
-past-step nodes past _ _ due legal = legal
+past-step nodes past (core_event.VacuumTo at) (core_reply.Vacuumed report) expected legal = (expected.0, legal)
+past-step nodes past _ _ expected legal = legal
 
 past-legal : (nodes : ℕ) (h : List (CoreEvent × CoreReply)) → IsLegalHistory nodes h → IsLegalPast nodes (past_of h)
 past-legal nodes [] legal = tt

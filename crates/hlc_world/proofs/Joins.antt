@@ -7,7 +7,7 @@ use Rattle.hlc_node.specs.declared.item.Item.{Item}
 use Rattle.hlc_heads.specs.declared.heads.TheConstants.{MOST_NUMBERS}
 use Rattle.hlc_core.specs.declared.fault.CoreFault.{CoreFault}
 use Rattle.hlc_core.specs.Past.{Joined as JoinedOf, numbered, floor, join_refusal}
-use Rattle.hlc_core.specs.Kept.{Kept, nodes, StandsFor as CoreStandsFor}
+use Rattle.hlc_core.specs.StoreView.{StoreView, nodes, Represents as CoreRepresents}
 use Rattle.hlc_core.specs.Calls.{IsRefusal}
 use Rattle.hlc_world.specs.declared.event.Event.TheVariants.{Join}
 use Rattle.hlc_world.specs.declared.reply.Reply.{Reply}
@@ -15,10 +15,10 @@ use Rattle.hlc_world.specs.declared.reply.Reply.TheVariants.{Joined, Refused}
 use Rattle.hlc_heads.specs.declared.heads.JoinFault.TheVariants.{TooManyNodes}
 use Rattle.hlc_core.specs.declared.fault.CoreFault.TheVariants.{Join as joining}
 use Rattle.hlc_world.specs.declared.refusal.Refusal.TheVariants.{Store, NoMemory}
-use Rattle.hlc_world.specs.Schedule.{Event, item_made, with_item, ends, stamp_or, issued, gone, last_stamp}
+use Rattle.hlc_world.specs.Schedule.{Event, item_made, with_item, ends, stamp_or, issued, has_retired, last_stamp}
 use Rattle.hlc_world.specs.Store.{core_past}
-use Rattle.hlc_world.specs.Due.{of_core, core_refusal, IsLegal}
-use Rattle.hlc_world.specs.State.{KeptIssuer, State, world_nodes, StandsFor}
+use Rattle.hlc_world.specs.Expected.{of_core, core_refusal, IsLegal}
+use Rattle.hlc_world.specs.WorldView.{IssuerView, WorldView, world_nodes, Represents}
 use Rattle.hlc_world.proofs.Lists.{get-append_left, get-push}
 use Rattle.hlc_world.proofs.Nodes.{a_node, stays, stamp_or-same, stamp_or-other, with_item-same, with_item-other}
 use Rattle.hlc_world.proofs.Nodes.{ends-other}
@@ -28,7 +28,7 @@ no-items : (xs : List Item) → ((k : ℕ) (item : Item) → slice_get xs k ≡ 
 no-items [] h = refl
 no-items (x ∷ xs) h = absurd (h 0 x refl)
 
--- to be put behind is to be there
+-- a list to which an item was appended is not empty
 not-empty : (xs : List Item) (x : Item) → xs ++ x ∷ [] ≡ [] → ⊥
 not-empty [] x e = absurd (cc)
 not-empty (y ∷ ys) x e = absurd (cc)
@@ -43,26 +43,26 @@ item-ends n (Some item) xs before h e =
     ]
 
 -- a node that issued nothing has not retired
-not-gone : (n : ℕ) (s : List (Event × Reply)) → issued n s ≡ [] → gone n s ≡ false
-not-gone n [] e = refl
-not-gone n (entry ∷ s) e = item-ends n (item_made entry.0 entry.1) (issued n s) (gone n s) (not-gone n s) e
+not-retired : (n : ℕ) (s : List (Event × Reply)) → issued n s ≡ [] → has_retired n s ≡ false
+not-retired n [] e = refl
+not-retired n (entry ∷ s) e = item-ends n (item_made entry.0 entry.1) (issued n s) (has_retired n s) (not-retired n s) e
 
 -- a node joined, with the next number
-pub joins : (state : State) (s : List (Event × Reply)) (node start : ℕ) (core : Kept) → StandsFor state s
+pub joins : (state : WorldView) (s : List (Event × Reply)) (node start : ℕ) (core : StoreView) → Represents state s
     → nodes core ≡ nodes state.core → join_refusal (world_nodes state) (core_past s) ≡ None
     → node ≡ numbered (world_nodes state) (core_past s) → start ≡ floor (world_nodes state) (core_past s)
-    → CoreStandsFor core (JoinedOf node start ∷ core_past s) → StandsFor (record {
+    → CoreRepresents core (JoinedOf node start ∷ core_past s) → Represents (record {
       core = core;
       nodes = state.nodes ++ a_node node start [] false ∷ [];
       sent_stamps = state.sent_stamps;
     }) ((Join, Joined node start) ∷ s)
-joins state s node start core h same none is at stands =
-    let x : KeptIssuer = a_node node start [] false in
+joins state s node start core h same none is at represents =
+    let x : IssuerView = a_node node start [] false in
     let l : length (state.nodes ++ x ∷ []) ≡ length state.nodes + 1 = length-append state.nodes (x ∷ []) in
     record {
       legal = subst (λ n. IsLegal n ((Join, Joined node start) ∷ s)) (sym same)
           ((ap core_refusal none, (is, at)), h.legal);
-      core = stands;
+      core = represents;
       many = l ∙ ap (λ n. n + 1) h.many ∙ ap (λ n. numbered n (core_past s) + 1) (sym same);
       nodes = λ n lt.
           elim (cases_eq n (length state.nodes)) [
@@ -75,33 +75,33 @@ joins state s node start core h same none is at stands =
                 ap (λ k. slice_get (state.nodes ++ x ∷ []) k) last
                 ∙ get-push state.nodes x
                 ∙ ap (λ k. Some (a_node k start [] false)) own
-                ∙ sym (ap (λ a. Some (a_node n a (issued n s) (gone n s)))
+                ∙ sym (ap (λ a. Some (a_node n a (issued n s) (has_retired n s)))
                 (ap (λ k. stamp_or n (Some (k, start)) (last_stamp n s)) own
                 ∙ stamp_or-same n start (last_stamp n s))
-                ∙ ap (λ xs. Some (a_node n start xs (gone n s))) empty
-                ∙ ap (λ g. Some (a_node n start [] g)) (not-gone n s empty))
+                ∙ ap (λ xs. Some (a_node n start xs (has_retired n s))) empty
+                ∙ ap (λ g. Some (a_node n start [] g)) (not-retired n s empty))
             | inr earlier ↦
                 let within : n < length state.nodes = omega (arith, lt, l) in
                 let other : node ≡ n → ⊥ = λ e. (let m = h.many in omega (arith, is, m, e)) in
                 get-append_left state.nodes (x ∷ []) n within
                 ∙ h.nodes n within
-                ∙ sym (ap (λ a. Some (a_node n a (issued n s) (gone n s)))
+                ∙ sym (ap (λ a. Some (a_node n a (issued n s) (has_retired n s)))
                 (stamp_or-other n node start (last_stamp n s) other))
           ];
       sent_stamps = h.sent_stamps;
     }
 
--- none joined: 1,024 numbers were given
-pub joins_full : (state : State) (s : List (Event × Reply)) → StandsFor state s → MOST_NUMBERS ≤ length state.nodes
-    → StandsFor state ((Join, Refused (Store (joining TooManyNodes))) ∷ s)
+-- none joined: 1,024 numbers are assigned
+pub joins_full : (state : WorldView) (s : List (Event × Reply)) → Represents state s → MOST_NUMBERS ≤ length state.nodes
+    → Represents state ((Join, Refused (Store (joining TooManyNodes))) ∷ s)
 joins_full state s h full =
     stays state s Join (Store (joining TooManyNodes)) refl
     (inl (ap core_refusal (cond-true _ _ _ (le-leb MOST_NUMBERS (numbered (world_nodes state) (core_past s))
     (let m = h.many in omega (arith, m)))))) h
 
--- or there is no memory
-pub joins_lost : (state : State) (s : List (Event × Reply)) → StandsFor state s → length state.nodes < MOST_NUMBERS
-    → StandsFor state ((Join, Refused NoMemory) ∷ s)
+-- or it is out of memory
+pub joins_lost : (state : WorldView) (s : List (Event × Reply)) → Represents state s → length state.nodes < MOST_NUMBERS
+    → Represents state ((Join, Refused NoMemory) ∷ s)
 joins_lost state s h few =
     let none : join_refusal (world_nodes state) (core_past s) ≡ None =
     cond-false _ _ _ (lt-leb MOST_NUMBERS (numbered (world_nodes state) (core_past s))
@@ -109,11 +109,11 @@ joins_lost state s h few =
     stays state s Join NoMemory refl (inr (ap core_refusal none, refl, tt)) h
 
 -- or the core refuses it
-pub joins_not : (state : State) (s : List (Event × Reply)) (fault : CoreFault) → StandsFor state s
+pub joins_not : (state : WorldView) (s : List (Event × Reply)) (fault : CoreFault) → Represents state s
     → IsRefusal (join_refusal (world_nodes state) (core_past s)) ⊤ fault
-    → StandsFor state ((Join, Refused (of_core fault)) ∷ s)
-joins_not state s fault h (inl due) =
-    stays state s Join (of_core fault) refl (inl (ap core_refusal due)) h
+    → Represents state ((Join, Refused (of_core fault)) ∷ s)
+joins_not state s fault h (inl expected) =
+    stays state s Join (of_core fault) refl (inl (ap core_refusal expected)) h
 joins_not state s fault h (inr lost) =
-    subst (λ f. StandsFor state ((Join, Refused (of_core f)) ∷ s)) (sym lost.1)
+    subst (λ f. Represents state ((Join, Refused (of_core f)) ∷ s)) (sym lost.1)
     (stays state s Join NoMemory refl (inr (ap core_refusal lost.0, refl, tt)) h)

@@ -1,4 +1,4 @@
--- Lists read and written at one place.
+-- Lists that are read and written at one index.
 use Rattle.std.proofs.Common.{◌≡◌, ℕ, zero, suc, ◌+◌, ◌<◌, List, [], ◌∷◌, ◌++◌, length, Some, refl, ap, sym, ◌∙◌, inl}
 use Rattle.std.proofs.Common.{inr, arith, length-set, length-append, get_or-set_other}
 use Rattle.std.proofs.lemmas.Grind.{get_or-set_at}
@@ -28,7 +28,7 @@ get-set_other xs i k x other =
       | inr outside ↦ slice_get_past (slice_set xs i x) k (omega arith) ∙ sym (slice_get_past xs k outside)
     ]
 
--- to write what stands there changes nothing
+-- to write the element that is already there changes nothing
 pub set-same : {X : Type 0} (xs : List X) (i : ℕ) (x : X) → slice_get xs i ≡ Some x → slice_set xs i x ≡ xs
 set-same [] i x h = refl
 set-same (y ∷ ys) zero x h = ap (λ z. z ∷ ys) (sym (some-injective y x h))

@@ -1,10 +1,10 @@
--- The world goes on standing for its schedule: new nodes, the events of nodes, and events that change nothing.
+-- The world goes on representing its schedule: new nodes, the events of nodes, and events that change nothing.
 use Rattle.std.proofs.Common.{◌≡◌, ℕ, zero, suc, ◌+◌, ◌<◌, Bool, true, false, List, [], ◌∷◌, ◌++◌, length, Some, None}
 use Rattle.std.proofs.Common.{Ok, Err, Option, Result, refl, ap, sym, ◌∙◌, subst, inl, inr, arith, length-set}
 use Rattle.std.proofs.Common.{length-append, option_map}
 use Rattle.std.specs.Prelude.{slice_get, slice_set, if◌then◌else◌}
 use Rattle.std.proofs.lemmas.Bool.{cond-true, cond-false, eq-eqb, ne_eqb, lt-leb, cases_eq}
-use Rattle.hlc_clock.specs.NextStamp.{stamp_due}
+use Rattle.hlc_clock.specs.NextStamp.{expected_stamp}
 use Rattle.hlc_clock.specs.declared.clock.ClockFault.{ClockFault}
 use Rattle.hlc_node.specs.declared.item.Item.{Item}
 use Rattle.hlc_node.specs.declared.item.Message.{Message}
@@ -12,11 +12,12 @@ use Rattle.hlc_node.specs.declared.item.Body.{Body}
 use Rattle.hlc_node.specs.declared.item.Body.TheVariants.{Write as a_write, Report as a_report, Retire as a_retire}
 use Rattle.hlc_node.specs.declared.node.NodeFault.{NodeFault}
 use Rattle.hlc_node.specs.Items.{an_item, retires}
-use Rattle.hlc_node.specs.Node.{Node, clocked, unless_retired, event_due, issue_due, next_item, stamped, after_issue}
+use Rattle.hlc_node.specs.Node.{Node, clocked, unless_retired, expected_event, expected_issue, next_item, stamped}
+use Rattle.hlc_node.specs.Node.{after_issue}
 use Rattle.hlc_core.specs.declared.reply.CoreReply.{CoreReply}
 use Rattle.hlc_core.specs.Past.{Step, numbered, stamp_of}
 use Rattle.hlc_core.specs.History.{past_of}
-use Rattle.hlc_core.specs.Kept.{Kept, nodes as core_nodes, StandsFor as CoreStandsFor}
+use Rattle.hlc_core.specs.StoreView.{StoreView, nodes as core_nodes, Represents as CoreRepresents}
 use Rattle.hlc_world.specs.declared.event.Event.TheVariants.{Send, Receive, Observe}
 use Rattle.hlc_world.specs.declared.reply.Reply.{Reply}
 use Rattle.hlc_world.specs.declared.reply.Reply.TheVariants.{Stamped, Sent, Received, Observed, Refused}
@@ -24,19 +25,20 @@ use Rattle.hlc_world.specs.declared.refusal.Refusal.{Refusal}
 use Rattle.hlc_node.specs.declared.node.NodeFault.TheVariants.{Retired}
 use Rattle.hlc_world.specs.declared.refusal.Refusal.TheVariants.{Node as at_node, NoMemory}
 use Rattle.hlc_world.specs.Schedule.{item_made, message_made, mark_of, with_item, ends, stamp_or, with_message}
-use Rattle.hlc_world.specs.Schedule.{Event, issuing, issued, gone, last_stamp, sent, message_at, node_of}
-use Rattle.hlc_world.specs.Store.{asked, told, paired, with_entry, store_history, core_past}
-use Rattle.hlc_world.specs.Due.{issue_refusal, stamp_refusal, receive_refusal, observe_refusal, on_link}
-use Rattle.hlc_world.specs.Due.{on_node, refusal_due, IsReceived, IsObserved, MayLackMemory, IsGiven}
-use Rattle.hlc_world.specs.State.{KeptIssuer, State, world_nodes, StandsFor, fresh_issuers, stamps_of, Issues, Sees}
+use Rattle.hlc_world.specs.Schedule.{Event, issuing, issued, has_retired, last_stamp, sent, message_at, node_of}
+use Rattle.hlc_world.specs.Store.{asked, returned, paired, with_entry, store_history, core_past}
+use Rattle.hlc_world.specs.Expected.{issue_refusal, stamp_refusal, receive_refusal, observe_refusal, on_link}
+use Rattle.hlc_world.specs.Expected.{on_node, expected_refusal, IsReceived, IsObserved, MayRunOutOfMemory, MayReply}
+use Rattle.hlc_world.specs.WorldView.{IssuerView, WorldView, world_nodes, Represents, fresh_issuers, stamps_of, Issues}
+use Rattle.hlc_world.specs.WorldView.{Sees}
 use Rattle.std.proofs.lemmas.List.{map-append, length-map}
 use Rattle.std.proofs.lemmas.Option.{slice_get-map}
 use Rattle.hlc_world.proofs.Lists.{some-injective, get-set_at, get-set_other, set-same, get-append_left, get-push}
 
--- what is kept of a node
-abbrev pub a_node : ℕ → ℕ → List Item → Bool → KeptIssuer
-a_node n last items over =
-    record { node = record { id = n; last = last; next = length items; retired = over }; issued = items }
+-- what is stored for a node
+abbrev pub a_node : ℕ → ℕ → List Item → Bool → IssuerView
+a_node n last items was_last =
+    record { node = record { id = n; last = last; next = length items; retired = was_last }; issued = items }
 
 pub stamp_or-same : (p st last : ℕ) → stamp_or p (Some (p, st)) last ≡ st
 stamp_or-same p st last = cond-true _ _ _ (eq-eqb p p refl)
@@ -52,47 +54,50 @@ pub with_item-other : (n : ℕ) (item : Item) (items : List Item) → (item.node
     → with_item n (Some item) items ≡ items
 with_item-other n item items e = cond-false _ _ _ (ne_eqb _ _ e)
 
-pub ends-same : (p : ℕ) (item : Item) (over : Bool) → item.node ≡ p → ends p (Some item) over ≡ retires item.body
-ends-same p item over e = cond-true _ _ _ (eq-eqb _ _ e)
+pub ends-same : (p : ℕ) (item : Item) (was_last : Bool) → item.node ≡ p → ends p (Some item) was_last
+    ≡ retires item.body
+ends-same p item was_last e = cond-true _ _ _ (eq-eqb _ _ e)
 
-pub ends-other : (n : ℕ) (item : Item) (over : Bool) → (item.node ≡ n → ⊥) → ends n (Some item) over ≡ over
-ends-other n item over e = cond-false _ _ _ (ne_eqb _ _ e)
+pub ends-other : (n : ℕ) (item : Item) (was_last : Bool) → (item.node ≡ n → ⊥) → ends n (Some item) was_last ≡ was_last
+ends-other n item was_last e = cond-false _ _ _ (ne_eqb _ _ e)
 
 pub on_link-inside : (nodes : ℕ) (s : List (Event × Reply)) (p : ℕ) (rest : Option Refusal)
     → p < numbered nodes (core_past s) → on_link nodes s p rest ≡ rest
 on_link-inside nodes s p rest h = cond-false _ _ _ (lt-leb (numbered nodes (core_past s)) p h)
 
-gone-issue : (over : Bool) (r : Result ℕ NodeFault)
-    → (if over then Some (at_node Retired) else issue_refusal (unless_retired over r))
-    ≡ issue_refusal (unless_retired over r)
-gone-issue true r = refl
-gone-issue false r = refl
+retired-issue : (was_last : Bool) (r : Result ℕ NodeFault)
+    → (if was_last then Some (at_node Retired) else issue_refusal (unless_retired was_last r))
+    ≡ issue_refusal (unless_retired was_last r)
+retired-issue true r = refl
+retired-issue false r = refl
 
-gone-sight : (over : Bool) (r : Result ℕ ClockFault)
-    → (if over then Some (at_node Retired) else stamp_refusal r) ≡ issue_refusal (unless_retired over (clocked r))
-gone-sight true r = refl
-gone-sight false (Ok st) = refl
-gone-sight false (Err fault) = refl
+retired-sight : (was_last : Bool) (r : Result ℕ ClockFault)
+    → (if was_last then Some (at_node Retired) else stamp_refusal r)
+    ≡ issue_refusal (unless_retired was_last (clocked r))
+retired-sight true r = refl
+retired-sight false (Ok st) = refl
+retired-sight false (Err fault) = refl
 
--- an event of a node that is there is refused as the node refuses it
-issue-due : (nodes : ℕ) (s : List (Event × Reply)) (p : ℕ) (r : Result ℕ NodeFault)
-    → p < numbered nodes (core_past s) → on_node nodes s p (issue_refusal (unless_retired (gone p s) r))
-    ≡ issue_refusal (unless_retired (gone p s) r)
-issue-due nodes s p r h = on_link-inside nodes s p _ h ∙ gone-issue (gone p s) r
+-- an event of a known node is refused as the node refuses it
+issue-expected : (nodes : ℕ) (s : List (Event × Reply)) (p : ℕ) (r : Result ℕ NodeFault)
+    → p < numbered nodes (core_past s) → on_node nodes s p (issue_refusal (unless_retired (has_retired p s) r))
+    ≡ issue_refusal (unless_retired (has_retired p s) r)
+issue-expected nodes s p r h = on_link-inside nodes s p _ h ∙ retired-issue (has_retired p s) r
 
-sight-due : (nodes : ℕ) (s : List (Event × Reply)) (p : ℕ) (r : Result ℕ ClockFault)
+sight-expected : (nodes : ℕ) (s : List (Event × Reply)) (p : ℕ) (r : Result ℕ ClockFault)
     → p < numbered nodes (core_past s) → on_node nodes s p (stamp_refusal r)
-    ≡ issue_refusal (unless_retired (gone p s) (clocked r))
-sight-due nodes s p r h = on_link-inside nodes s p _ h ∙ gone-sight (gone p s) r
+    ≡ issue_refusal (unless_retired (has_retired p s) (clocked r))
+sight-expected nodes s p r h = on_link-inside nodes s p _ h ∙ retired-sight (has_retired p s) r
 
--- a stamp that is due to a node is due by its clock
-event-ok : (over : Bool) (r : Result ℕ ClockFault) (st : ℕ) → unless_retired over (clocked r) ≡ Ok st → r ≡ Ok st
+-- the expected stamp of a node is the expected stamp of its clock
+event-ok : (was_last : Bool) (r : Result ℕ ClockFault) (st : ℕ) → unless_retired was_last (clocked r) ≡ Ok st → r
+    ≡ Ok st
 event-ok true r st h = absurd (cc)
 event-ok false (Ok x) st h = ap Ok (cc)
 event-ok false (Err fault) st h = absurd (cc)
 
--- one node issued an item, and the others are as they were
-nodes-issued : (nodes : List KeptIssuer) (lasts : ℕ → ℕ) (items : ℕ → List Item) (overs : ℕ → Bool) (p st : ℕ)
+-- one node issued an item, and the others are unchanged
+nodes-issued : (nodes : List IssuerView) (lasts : ℕ → ℕ) (items : ℕ → List Item) (overs : ℕ → Bool) (p st : ℕ)
     (item : Item) → item.node ≡ p → p < length nodes
     → ((n : ℕ) → n < length nodes → slice_get nodes n ≡ Some (a_node n (lasts n) (items n) (overs n)))
     → (n : ℕ) → n < length nodes
@@ -100,8 +105,8 @@ nodes-issued : (nodes : List KeptIssuer) (lasts : ℕ → ℕ) (items : ℕ → 
     ≡ Some (a_node n (stamp_or n (Some (p, st)) (lasts n)) (with_item n (Some item) (items n))
     (ends n (Some item) (overs n)))
 nodes-issued nodes lasts items overs p st item own inside h n lt =
-    let new : KeptIssuer = a_node p st (items p ++ item ∷ []) (retires item.body) in
-    let every : ℕ → KeptIssuer =
+    let new : IssuerView = a_node p st (items p ++ item ∷ []) (retires item.body) in
+    let every : ℕ → IssuerView =
     λ k. a_node k (stamp_or k (Some (p, st)) (lasts k)) (with_item k (Some item) (items k))
     (ends k (Some item) (overs k)) in
     elim (cases_eq p n) [
@@ -123,8 +128,8 @@ nodes-issued nodes lasts items overs p st item own inside h n lt =
           ∙ ap (λ g. Some (a_node n (lasts n) (items n) g)) (ends-other n item (overs n) far))
     ]
 
--- one node was stamped without an item, and the others are as they were
-nodes-stamped : (nodes : List KeptIssuer) (lasts : ℕ → ℕ) (items : ℕ → List Item) (overs : ℕ → Bool) (p st : ℕ)
+-- one node was stamped without an item, and the others are unchanged
+nodes-stamped : (nodes : List IssuerView) (lasts : ℕ → ℕ) (items : ℕ → List Item) (overs : ℕ → Bool) (p st : ℕ)
     → p < length nodes
     → ((n : ℕ) → n < length nodes → slice_get nodes n ≡ Some (a_node n (lasts n) (items n) (overs n)))
     → (n : ℕ) → n < length nodes → slice_get (slice_set nodes p (a_node p st (items p) (overs p))) n
@@ -142,101 +147,104 @@ nodes-stamped nodes lasts items overs p st inside h n lt =
           ∙ sym (ap (λ a. Some (a_node n a (items n) (overs n))) (stamp_or-other n p st (lasts n) other))
     ]
 
--- the core's past after an event by which the store was told this
-abbrev past_told : List (Event × Reply) → Event → Option CoreReply → List Step
-past_told s e reply = past_of (with_entry (paired reply (asked s e)) (store_history s))
+-- the core's past after an event to which the store returned this
+abbrev past_reported : List (Event × Reply) → Event → Option CoreReply → List Step
+past_reported s e reply = past_of (with_entry (paired reply (asked s e)) (store_history s))
 
--- what is kept of a node after an event that set this mark and issued this item, if it did
-abbrev node_by : ℕ → Option (ℕ × ℕ) → Option Item → List (Event × Reply) → KeptIssuer
+-- what is stored for a node after an event that set this mark and issued this item, if it did
+abbrev node_by : ℕ → Option (ℕ × ℕ) → Option Item → List (Event × Reply) → IssuerView
 node_by n mark item s =
-    a_node n (stamp_or n mark (last_stamp n s)) (with_item n item (issued n s)) (ends n item (gone n s))
+    a_node n (stamp_or n mark (last_stamp n s)) (with_item n item (issued n s)) (ends n item (has_retired n s))
 
--- a node that is kept has a number that was given
-there : (state : State) (s : List (Event × Reply)) (p : ℕ) → StandsFor state s → p < length state.nodes
+-- a stored node has an assigned number
+there : (state : WorldView) (s : List (Event × Reply)) (p : ℕ) → Represents state s → p < length state.nodes
     → p < numbered (world_nodes state) (core_past s)
 there state s p h inside = (let m = h.many in omega (arith, m))
 
 -- and it is as the schedule says
-was : (state : State) (s : List (Event × Reply)) (p : ℕ) (before : KeptIssuer) → StandsFor state s
+was : (state : WorldView) (s : List (Event × Reply)) (p : ℕ) (before : IssuerView) → Represents state s
     → p < length state.nodes → slice_get state.nodes p ≡ Some before
-    → before ≡ a_node p (last_stamp p s) (issued p s) (gone p s)
+    → before ≡ a_node p (last_stamp p s) (issued p s) (has_retired p s)
 was state s p before h inside at = some-injective _ _ (sym at ∙ h.nodes p inside)
 
--- what an event did by this reply: the item that it issued, its mark, the message that it sent, and what the store told
+-- what an event did by this reply: the item that it issued, its mark, the message that it sent, and what the store
+-- returned
 abbrev Deed : Type 0
 Deed = Option Item × Option (ℕ × ℕ) × Option Message × Option CoreReply
 
 abbrev deed : List (Event × Reply) → Event → Reply → Deed
-deed s e reply = (item_made e reply, mark_of e reply, message_made e reply, told s e reply)
+deed s e reply = (item_made e reply, mark_of e reply, message_made e reply, returned s e reply)
 
--- an event that sent no message and was told nothing by the store leaves all but the nodes as it was
-goes-on : (state : State) (s : List (Event × Reply)) (e : Event) (reply : Reply) (item : Option Item)
-    (mark : Option (ℕ × ℕ)) (nodes : List KeptIssuer) → deed s e reply ≡ (item, mark, None, None)
-    → IsGiven (world_nodes state) s e reply → StandsFor state s → length nodes ≡ length state.nodes
+-- an event that sent no message and to which the store returned nothing changes nothing but the nodes
+goes-on : (state : WorldView) (s : List (Event × Reply)) (e : Event) (reply : Reply) (item : Option Item)
+    (mark : Option (ℕ × ℕ)) (nodes : List IssuerView) → deed s e reply ≡ (item, mark, None, None)
+    → MayReply (world_nodes state) s e reply → Represents state s → length nodes ≡ length state.nodes
     → ((n : ℕ) → n < length nodes → slice_get nodes n ≡ Some (node_by n mark item s))
-    → StandsFor (record { core = state.core; nodes = nodes; sent_stamps = state.sent_stamps }) ((e, reply) ∷ s)
-goes-on state s e reply item mark nodes did given h same each =
+    → Represents (record { core = state.core; nodes = nodes; sent_stamps = state.sent_stamps }) ((e, reply) ∷ s)
+goes-on state s e reply item mark nodes did allowed h same each =
     record {
-      legal = (given, h.legal);
-      core = subst (λ (d : Deed). CoreStandsFor state.core (past_told s e d.3)) (sym did) h.core;
-      many = subst (λ (d : Deed). length nodes ≡ numbered (world_nodes state) (past_told s e d.3)) (sym did)
+      legal = (allowed, h.legal);
+      core = subst (λ (d : Deed). CoreRepresents state.core (past_reported s e d.3)) (sym did) h.core;
+      many = subst (λ (d : Deed). length nodes ≡ numbered (world_nodes state) (past_reported s e d.3)) (sym did)
           (same ∙ h.many);
       nodes = λ n lt. subst (λ (d : Deed). slice_get nodes n ≡ Some (node_by n d.1 d.0 s)) (sym did) (each n lt);
       sent_stamps = subst (λ (d : Deed). state.sent_stamps ≡ stamps_of (with_message d.2 (sent s))) (sym did)
           h.sent_stamps;
     }
 
--- a refused event leaves all as it was
-pub stays : (state : State) (s : List (Event × Reply)) (e : Event) (refusal : Refusal)
+-- a refused event changes nothing
+pub stays : (state : WorldView) (s : List (Event × Reply)) (e : Event) (refusal : Refusal)
     → deed s e (Refused refusal) ≡ (None, None, None, None)
-    → IsGiven (world_nodes state) s e (Refused refusal) → StandsFor state s → StandsFor state ((e, Refused refusal) ∷ s)
-stays state s e refusal nothing given h =
-    goes-on state s e (Refused refusal) None None state.nodes nothing given h refl h.nodes
+    → MayReply (world_nodes state) s e (Refused refusal) → Represents state s
+    → Represents state ((e, Refused refusal) ∷ s)
+stays state s e refusal nothing allowed h =
+    goes-on state s e (Refused refusal) None None state.nodes nothing allowed h refl h.nodes
 
-abbrev with_node : State → ℕ → KeptIssuer → State
+abbrev with_node : WorldView → ℕ → IssuerView → WorldView
 with_node state p node =
     record { core = state.core; nodes = slice_set state.nodes p node; sent_stamps = state.sent_stamps }
 
--- to write back what is kept of a node changes nothing
-pub put-back : (state : State) (s : List (Event × Reply)) (p : ℕ) (node : KeptIssuer)
-    → slice_get state.nodes p ≡ Some node → StandsFor state s → StandsFor (with_node state p node) s
+-- to write back what is stored for a node changes nothing
+pub put-back : (state : WorldView) (s : List (Event × Reply)) (p : ℕ) (node : IssuerView)
+    → slice_get state.nodes p ≡ Some node → Represents state s → Represents (with_node state p node) s
 put-back state s p node at h =
-    subst (λ xs. StandsFor (record { core = state.core; nodes = xs; sent_stamps = state.sent_stamps }) s)
+    subst (λ xs. Represents (record { core = state.core; nodes = xs; sent_stamps = state.sent_stamps }) s)
     (sym (set-same state.nodes p node at)) h
 
--- an event by which a node issues an item that says this
+-- an event by which a node issues an item with this body
 pub record IsIssue (nodes : ℕ) (s : List (Event × Reply)) (e : Event) (p : ℕ) (body : Body) (reading : ℕ) : Type 0 where
-  pub due : refusal_due nodes s e ≡ on_node nodes s p (issue_refusal (issue_due (node_of p s) body reading))
+  pub expected : expected_refusal nodes s e
+      ≡ on_node nodes s p (issue_refusal (expected_issue (node_of p s) body reading))
   pub done : (st num : ℕ) → deed s e (Stamped st num) ≡ (Some (an_item p num st body), Some (p, st), None, None)
   pub left : (f : Refusal) → deed s e (Refused f) ≡ (None, None, None, None)
-  pub given : (st num : ℕ) → refusal_due nodes s e ≡ None → issue_due (node_of p s) body reading ≡ Ok st
-      → num ≡ length (issued p s) → IsGiven nodes s e (Stamped st num)
-  pub may : MayLackMemory s e
+  pub allowed : (st num : ℕ) → expected_refusal nodes s e ≡ None → expected_issue (node_of p s) body reading ≡ Ok st
+      → num ≡ length (issued p s) → MayReply nodes s e (Stamped st num)
+  pub may : MayRunOutOfMemory s e
 
 issuing-is : (nodes : ℕ) (s : List (Event × Reply)) (p reading : ℕ) (body : Body)
     → IsIssue nodes s (issuing p reading body) p body reading
 issuing-is nodes s p reading (a_write key (Some value)) =
-    record { due = refl; done = λ st num. refl; left = λ f. refl; given = λ st num a b c. (a, (b, c)); may = tt }
+    record { expected = refl; done = λ st num. refl; left = λ f. refl; allowed = λ st num a b c. (a, (b, c)); may = tt }
 issuing-is nodes s p reading (a_write key None) =
-    record { due = refl; done = λ st num. refl; left = λ f. refl; given = λ st num a b c. (a, (b, c)); may = tt }
+    record { expected = refl; done = λ st num. refl; left = λ f. refl; allowed = λ st num a b c. (a, (b, c)); may = tt }
 issuing-is nodes s p reading a_report =
-    record { due = refl; done = λ st num. refl; left = λ f. refl; given = λ st num a b c. (a, (b, c)); may = tt }
+    record { expected = refl; done = λ st num. refl; left = λ f. refl; allowed = λ st num a b c. (a, (b, c)); may = tt }
 issuing-is nodes s p reading a_retire =
-    record { due = refl; done = λ st num. refl; left = λ f. refl; given = λ st num a b c. (a, (b, c)); may = tt }
+    record { expected = refl; done = λ st num. refl; left = λ f. refl; allowed = λ st num a b c. (a, (b, c)); may = tt }
 
 -- an item that a node issued
-pub issues : (state : State) (s : List (Event × Reply)) (p reading : ℕ) (body : Body) (before after : KeptIssuer)
-    (made : ℕ × ℕ) → StandsFor state s → p < length state.nodes → slice_get state.nodes p ≡ Some before
+pub issues : (state : WorldView) (s : List (Event × Reply)) (p reading : ℕ) (body : Body) (before after : IssuerView)
+    (made : ℕ × ℕ) → Represents state s → p < length state.nodes → slice_get state.nodes p ≡ Some before
     → Issues before after body reading (Ok made)
-    → StandsFor (with_node state p after) ((issuing p reading body, Stamped made.0 made.1) ∷ s)
+    → Represents (with_node state p after) ((issuing p reading body, Stamped made.0 made.1) ∷ s)
 issues state s p reading body before after made h inside at taken =
     let e : Event = issuing p reading body in
     let is = issuing-is (world_nodes state) s p reading body in
     let st : ℕ = made.0 in
     let number : ℕ = length (issued p s) in
-    let so : before ≡ a_node p (last_stamp p s) (issued p s) (gone p s) = was state s p before h inside at in
-    let due : issue_due (node_of p s) body reading ≡ Ok st =
-    ap (λ issuer. issue_due issuer.node body reading) (sym so) ∙ taken.0 in
+    let so : before ≡ a_node p (last_stamp p s) (issued p s) (has_retired p s) = was state s p before h inside at in
+    let expected : expected_issue (node_of p s) body reading ≡ Ok st =
+    ap (λ issuer. expected_issue issuer.node body reading) (sym so) ∙ taken.0 in
     let next : made.1 ≡ number = taken.1 ∙ ap (λ issuer. issuer.node.next) so in
     let longer : length (issued p s ++ an_item p number st body ∷ []) ≡ number + 1 =
     length-append (issued p s) (an_item p number st body ∷ []) in
@@ -250,51 +258,52 @@ issues state s p reading body before after made h inside at taken =
       node = record { id = p; last = st; next = k; retired = retires body };
       issued = issued p s ++ an_item p number st body ∷ [];
     }) (sym longer) in
-    let none : refusal_due (world_nodes state) s e ≡ None =
-    is.due ∙ issue-due (world_nodes state) s p _ (there state s p h inside) ∙ ap issue_refusal due in
+    let none : expected_refusal (world_nodes state) s e ≡ None =
+    is.expected ∙ issue-expected (world_nodes state) s p _ (there state s p h inside) ∙ ap issue_refusal expected in
     let same : length (slice_set state.nodes p after) ≡ length state.nodes = length-set state.nodes p after in
-    subst (λ k. StandsFor (with_node state p after) ((e, Stamped st k) ∷ s)) (sym next)
+    subst (λ k. Represents (with_node state p after) ((e, Stamped st k) ∷ s)) (sym next)
     (goes-on state s e (Stamped st number) (Some (an_item p number st body)) (Some (p, st))
-    (slice_set state.nodes p after) (is.done st number) (is.given st number none due refl) h same
+    (slice_set state.nodes p after) (is.done st number) (is.allowed st number none expected refl) h same
     (λ n lt. subst (λ x. slice_get (slice_set state.nodes p x) n
     ≡ Some (node_by n (Some (p, st)) (Some (an_item p number st body)) s)) (sym came)
-    (nodes-issued state.nodes (λ k. last_stamp k s) (λ k. issued k s) (λ k. gone k s) p st
+    (nodes-issued state.nodes (λ k. last_stamp k s) (λ k. issued k s) (λ k. has_retired k s) p st
     (an_item p number st body) refl inside h.nodes n (rw same at lt))))
 
 -- an item that it did not issue
-pub issues_not : (state : State) (s : List (Event × Reply)) (p reading : ℕ) (body : Body) (before after : KeptIssuer)
-    (refusal : Refusal) → StandsFor state s → p < length state.nodes → slice_get state.nodes p ≡ Some before
+pub issues_not : (state : WorldView) (s : List (Event × Reply)) (p reading : ℕ) (body : Body)
+    (before after : IssuerView)
+    (refusal : Refusal) → Represents state s → p < length state.nodes → slice_get state.nodes p ≡ Some before
     → Issues before after body reading (Err refusal)
-    → StandsFor (with_node state p after) ((issuing p reading body, Refused refusal) ∷ s)
+    → Represents (with_node state p after) ((issuing p reading body, Refused refusal) ∷ s)
 issues_not state s p reading body before after refusal h inside at left =
     let e : Event = issuing p reading body in
     let is = issuing-is (world_nodes state) s p reading body in
-    let first : refusal_due (world_nodes state) s e ≡ issue_refusal (issue_due before.node body reading) =
-    is.due ∙ issue-due (world_nodes state) s p _ (there state s p h inside)
-    ∙ ap (λ issuer. issue_refusal (issue_due issuer.node body reading)) (sym (was state s p before h inside at)) in
-    let given : IsGiven (world_nodes state) s e (Refused refusal) =
-    elim left.0 [ inl due ↦ inl (first ∙ due) | inr lost ↦ inr (first ∙ lost.0, lost.1, is.may) ] in
-    subst (λ x. StandsFor (with_node state p x) ((e, Refused refusal) ∷ s)) (sym left.1)
-    (put-back state _ p before at (stays state s e refusal (is.left refusal) given h))
+    let first : expected_refusal (world_nodes state) s e ≡ issue_refusal (expected_issue before.node body reading) =
+    is.expected ∙ issue-expected (world_nodes state) s p _ (there state s p h inside)
+    ∙ ap (λ issuer. issue_refusal (expected_issue issuer.node body reading)) (sym (was state s p before h inside at)) in
+    let allowed : MayReply (world_nodes state) s e (Refused refusal) =
+    elim left.0 [ inl expected ↦ inl (first ∙ expected) | inr lost ↦ inr (first ∙ lost.0, lost.1, is.may) ] in
+    subst (λ x. Represents (with_node state p x) ((e, Refused refusal) ∷ s)) (sym left.1)
+    (put-back state _ p before at (stays state s e refusal (is.left refusal) allowed h))
 
 -- a message that a node sent
-pub sends : (state : State) (s : List (Event × Reply)) (p reading : ℕ) (before : KeptIssuer) (node : Node)
-    (st : ℕ) (stamps : List ℕ) → StandsFor state s → p < length state.nodes
+pub sends : (state : WorldView) (s : List (Event × Reply)) (p reading : ℕ) (before : IssuerView) (node : Node)
+    (st : ℕ) (stamps : List ℕ) → Represents state s → p < length state.nodes
     → slice_get state.nodes p ≡ Some before
-    → event_due before.node (before.node.last ∷ []) reading ≡ Ok st
+    → expected_event before.node (before.node.last ∷ []) reading ≡ Ok st
     → node ≡ stamped before.node st
-    → stamps ≡ state.sent_stamps ++ st ∷ [] → StandsFor (record {
+    → stamps ≡ state.sent_stamps ++ st ∷ [] → Represents (record {
       core = state.core;
       nodes = slice_set state.nodes p (record { node = node; issued = before.issued });
       sent_stamps = stamps;
     }) ((Send p reading, Sent st (length state.sent_stamps)) ∷ s)
-sends state s p reading before node st stamps h inside at due node-is posted =
-    let after : KeptIssuer = record { node = node; issued = before.issued } in
-    let so : before ≡ a_node p (last_stamp p s) (issued p s) (gone p s) = was state s p before h inside at in
-    let by : event_due (node_of p s) (last_stamp p s ∷ []) reading ≡ Ok st =
-    ap (λ issuer. event_due issuer.node (issuer.node.last ∷ []) reading) (sym so) ∙ due in
-    let due' : stamp_due (last_stamp p s ∷ []) reading ≡ Ok st = event-ok (gone p s) _ st by in
-    let came : after ≡ a_node p st (issued p s) (gone p s) =
+sends state s p reading before node st stamps h inside at expected node-is posted =
+    let after : IssuerView = record { node = node; issued = before.issued } in
+    let so : before ≡ a_node p (last_stamp p s) (issued p s) (has_retired p s) = was state s p before h inside at in
+    let by : expected_event (node_of p s) (last_stamp p s ∷ []) reading ≡ Ok st =
+    ap (λ issuer. expected_event issuer.node (issuer.node.last ∷ []) reading) (sym so) ∙ expected in
+    let expected' : expected_stamp (last_stamp p s ∷ []) reading ≡ Ok st = event-ok (has_retired p s) _ st by in
+    let came : after ≡ a_node p st (issued p s) (has_retired p s) =
     ap (λ c. record { node = c; issued = before.issued }) node-is
     ∙ ap (λ issuer. record { node = stamped issuer.node st; issued = issuer.issued }) so in
     let last : Message = record { from = p; stamp = st } in
@@ -302,8 +311,8 @@ sends state s p reading before node st stamps h inside at due node-is posted =
     record {
       legal = (
         (
-          sight-due (world_nodes state) s p _ (there state s p h inside) ∙ ap issue_refusal by,
-          (due', ap length h.sent_stamps ∙ length-map (sent s) (λ (message : Message). message.stamp)),
+          sight-expected (world_nodes state) s p _ (there state s p h inside) ∙ ap issue_refusal by,
+          (expected', ap length h.sent_stamps ∙ length-map (sent s) (λ (message : Message). message.stamp)),
         ),
         h.legal,
       );
@@ -311,56 +320,59 @@ sends state s p reading before node st stamps h inside at due node-is posted =
       many = same ∙ h.many;
       nodes = λ n lt.
           subst (λ x. slice_get (slice_set state.nodes p x) n ≡ Some (node_by n (Some (p, st)) None s)) (sym came)
-          (nodes-stamped state.nodes (λ k. last_stamp k s) (λ k. issued k s) (λ k. gone k s) p st inside
+          (nodes-stamped state.nodes (λ k. last_stamp k s) (λ k. issued k s) (λ k. has_retired k s) p st inside
           h.nodes n (rw same at lt));
       sent_stamps = posted ∙ ap (λ xs. xs ++ st ∷ []) h.sent_stamps
           ∙ sym (map-append (λ (message : Message). message.stamp) (sent s) (last ∷ []));
     }
 
--- why the world refuses a message is why the node does
-sends-due : (state : State) (s : List (Event × Reply)) (p reading : ℕ) (before : KeptIssuer) → StandsFor state s
+-- the world refuses a message for the same reason as the node
+sends-expected : (state : WorldView) (s : List (Event × Reply)) (p reading : ℕ) (before : IssuerView)
+    → Represents state s
     → p < length state.nodes → slice_get state.nodes p ≡ Some before
-    → refusal_due (world_nodes state) s (Send p reading)
-    ≡ issue_refusal (event_due before.node (before.node.last ∷ []) reading)
-sends-due state s p reading before h inside at =
-    sight-due (world_nodes state) s p _ (there state s p h inside)
-    ∙ ap (λ issuer. issue_refusal (event_due issuer.node (issuer.node.last ∷ []) reading))
+    → expected_refusal (world_nodes state) s (Send p reading)
+    ≡ issue_refusal (expected_event before.node (before.node.last ∷ []) reading)
+sends-expected state s p reading before h inside at =
+    sight-expected (world_nodes state) s p _ (there state s p h inside)
+    ∙ ap (λ issuer. issue_refusal (expected_event issuer.node (issuer.node.last ∷ []) reading))
     (sym (was state s p before h inside at))
 
--- a message that was not sent: the node refuses, or there is no memory
-pub sends_not : (state : State) (s : List (Event × Reply)) (p reading : ℕ) (before : KeptIssuer) (fault : NodeFault)
-    → StandsFor state s → p < length state.nodes → slice_get state.nodes p ≡ Some before
-    → event_due before.node (before.node.last ∷ []) reading ≡ Err fault
-    → StandsFor state ((Send p reading, Refused (at_node fault)) ∷ s)
-sends_not state s p reading before fault h inside at due =
+-- a message that was not sent: the node refuses, or it is out of memory
+pub sends_not : (state : WorldView) (s : List (Event × Reply)) (p reading : ℕ) (before : IssuerView) (fault : NodeFault)
+    → Represents state s → p < length state.nodes → slice_get state.nodes p ≡ Some before
+    → expected_event before.node (before.node.last ∷ []) reading ≡ Err fault
+    → Represents state ((Send p reading, Refused (at_node fault)) ∷ s)
+sends_not state s p reading before fault h inside at expected =
     stays state s (Send p reading) (at_node fault) refl
-    (inl (sends-due state s p reading before h inside at ∙ ap issue_refusal due)) h
+    (inl (sends-expected state s p reading before h inside at ∙ ap issue_refusal expected)) h
 
-pub sends_lost : (state : State) (s : List (Event × Reply)) (p reading st : ℕ) (before : KeptIssuer) → StandsFor state s
+pub sends_lost : (state : WorldView) (s : List (Event × Reply)) (p reading st : ℕ) (before : IssuerView)
+    → Represents state s
     → p < length state.nodes → slice_get state.nodes p ≡ Some before
-    → event_due before.node (before.node.last ∷ []) reading ≡ Ok st
-    → StandsFor state ((Send p reading, Refused NoMemory) ∷ s)
-sends_lost state s p reading st before h inside at due =
+    → expected_event before.node (before.node.last ∷ []) reading ≡ Ok st
+    → Represents state ((Send p reading, Refused NoMemory) ∷ s)
+sends_lost state s p reading st before h inside at expected =
     stays state s (Send p reading) NoMemory refl
-    (inr (sends-due state s p reading before h inside at ∙ ap issue_refusal due, refl, tt)) h
+    (inr (sends-expected state s p reading before h inside at ∙ ap issue_refusal expected, refl, tt)) h
 
 -- an event by which a node sees a stamp
 pub record IsSight (nodes : ℕ) (s : List (Event × Reply)) (e : Event) (reply : ℕ → Reply)
     (p seen reading : ℕ) : Type 0 where
-  pub due : refusal_due nodes s e
-      ≡ on_node nodes s p (stamp_refusal (stamp_due (last_stamp p s ∷ seen ∷ []) reading))
+  pub expected : expected_refusal nodes s e
+      ≡ on_node nodes s p (stamp_refusal (expected_stamp (last_stamp p s ∷ seen ∷ []) reading))
   pub done : (st : ℕ) → deed s e (reply st) ≡ (None, Some (p, st), None, None)
   pub left : (f : Refusal) → deed s e (Refused f) ≡ (None, None, None, None)
-  pub given : (st : ℕ) → refusal_due nodes s e ≡ None → stamp_due (last_stamp p s ∷ seen ∷ []) reading ≡ Ok st
-      → IsGiven nodes s e (reply st)
+  pub allowed : (st : ℕ) → expected_refusal nodes s e ≡ None → expected_stamp (last_stamp p s ∷ seen ∷ []) reading
+      ≡ Ok st
+      → MayReply nodes s e (reply st)
 
--- a message was sent where its stamp is kept
+-- a message was sent where its stamp is stored
 was-sent : (o : Option Message) (seen : ℕ) → option_map (λ (message : Message). message.stamp) o ≡ Some seen
     → (message : Message) × (o ≡ Some message) × (message.stamp ≡ seen)
 was-sent None seen h = absurd (cc)
 was-sent (Some message) seen h = (message, refl, some-injective _ _ h)
 
-pub message-there : (state : State) (s : List (Event × Reply)) (number seen : ℕ) → StandsFor state s
+pub message-there : (state : WorldView) (s : List (Event × Reply)) (number seen : ℕ) → Represents state s
     → slice_get state.sent_stamps number ≡ Some seen
     → (message : Message) × (message_at number s ≡ Some message) × (message.stamp ≡ seen)
 message-there state s number seen h at =
@@ -372,10 +384,10 @@ receives : (nodes : ℕ) (s : List (Event × Reply)) (p reading number : ℕ) (m
     → message_at number s ≡ Some message → IsSight nodes s (Receive p reading number) Received p message.stamp reading
 receives nodes s p reading number message found =
     record {
-      due = ap (λ o. on_node nodes s p (receive_refusal o (last_stamp p s) reading)) found;
+      expected = ap (λ o. on_node nodes s p (receive_refusal o (last_stamp p s) reading)) found;
       done = λ st. refl;
       left = λ f. refl;
-      given = λ st none due. (none, subst (λ o. IsReceived o (last_stamp p s) reading st) (sym found) due);
+      allowed = λ st none expected. (none, subst (λ o. IsReceived o (last_stamp p s) reading st) (sym found) expected);
     }
 
 pub receive-is : (nodes : ℕ) (s : List (Event × Reply)) (p reading number seen : ℕ)
@@ -389,44 +401,44 @@ pub observe-is : (nodes : ℕ) (s : List (Event × Reply)) (p reading id seen : 
     → IsSight nodes s (Observe p reading id) Observed p seen reading
 observe-is nodes s p reading id seen found =
     record {
-      due = ap (λ o. on_node nodes s p (observe_refusal o (last_stamp p s) reading)) found;
+      expected = ap (λ o. on_node nodes s p (observe_refusal o (last_stamp p s) reading)) found;
       done = λ st. refl;
       left = λ f. refl;
-      given = λ st none due. (none, subst (λ o. IsObserved o (last_stamp p s) reading st) (sym found) due);
+      allowed = λ st none expected. (none, subst (λ o. IsObserved o (last_stamp p s) reading st) (sym found) expected);
     }
 
 -- a node that saw a stamp
-pub sees : (state : State) (s : List (Event × Reply)) (e : Event) (reply : ℕ → Reply) (p seen reading st : ℕ)
-    (before after : KeptIssuer) → IsSight (world_nodes state) s e reply p seen reading
-    → StandsFor state s → p < length state.nodes → slice_get state.nodes p ≡ Some before
-    → Sees before after seen reading (Ok st) → StandsFor (with_node state p after) ((e, reply st) ∷ s)
+pub sees : (state : WorldView) (s : List (Event × Reply)) (e : Event) (reply : ℕ → Reply) (p seen reading st : ℕ)
+    (before after : IssuerView) → IsSight (world_nodes state) s e reply p seen reading
+    → Represents state s → p < length state.nodes → slice_get state.nodes p ≡ Some before
+    → Sees before after seen reading (Ok st) → Represents (with_node state p after) ((e, reply st) ∷ s)
 sees state s e reply p seen reading st before after is h inside at saw =
-    let so : before ≡ a_node p (last_stamp p s) (issued p s) (gone p s) = was state s p before h inside at in
-    let by : event_due (node_of p s) (last_stamp p s ∷ seen ∷ []) reading ≡ Ok st =
-    ap (λ issuer. event_due issuer.node (issuer.node.last ∷ seen ∷ []) reading) (sym so) ∙ saw.0 in
-    let came : after ≡ a_node p st (issued p s) (gone p s) =
+    let so : before ≡ a_node p (last_stamp p s) (issued p s) (has_retired p s) = was state s p before h inside at in
+    let by : expected_event (node_of p s) (last_stamp p s ∷ seen ∷ []) reading ≡ Ok st =
+    ap (λ issuer. expected_event issuer.node (issuer.node.last ∷ seen ∷ []) reading) (sym so) ∙ saw.0 in
+    let came : after ≡ a_node p st (issued p s) (has_retired p s) =
     saw.1 ∙ ap (λ issuer. record { node = stamped issuer.node st; issued = issuer.issued }) so in
-    let none : refusal_due (world_nodes state) s e ≡ None =
-    is.due ∙ sight-due (world_nodes state) s p _ (there state s p h inside) ∙ ap issue_refusal by in
+    let none : expected_refusal (world_nodes state) s e ≡ None =
+    is.expected ∙ sight-expected (world_nodes state) s p _ (there state s p h inside) ∙ ap issue_refusal by in
     let same : length (slice_set state.nodes p after) ≡ length state.nodes = length-set state.nodes p after in
     goes-on state s e (reply st) None (Some (p, st)) (slice_set state.nodes p after) (is.done st)
-    (is.given st none (event-ok (gone p s) _ st by)) h same
+    (is.allowed st none (event-ok (has_retired p s) _ st by)) h same
     (λ n lt. subst (λ x. slice_get (slice_set state.nodes p x) n ≡ Some (node_by n (Some (p, st)) None s)) (sym came)
-    (nodes-stamped state.nodes (λ k. last_stamp k s) (λ k. issued k s) (λ k. gone k s) p st inside
+    (nodes-stamped state.nodes (λ k. last_stamp k s) (λ k. issued k s) (λ k. has_retired k s) p st inside
     h.nodes n (rw same at lt)))
 
 -- one that did not see it
-pub sees_not : (state : State) (s : List (Event × Reply)) (e : Event) (reply : ℕ → Reply) (p seen reading : ℕ)
-    (before after : KeptIssuer) (refusal : Refusal) → IsSight (world_nodes state) s e reply p seen reading
-    → StandsFor state s → p < length state.nodes → slice_get state.nodes p ≡ Some before
-    → Sees before after seen reading (Err refusal) → StandsFor (with_node state p after) ((e, Refused refusal) ∷ s)
+pub sees_not : (state : WorldView) (s : List (Event × Reply)) (e : Event) (reply : ℕ → Reply) (p seen reading : ℕ)
+    (before after : IssuerView) (refusal : Refusal) → IsSight (world_nodes state) s e reply p seen reading
+    → Represents state s → p < length state.nodes → slice_get state.nodes p ≡ Some before
+    → Sees before after seen reading (Err refusal) → Represents (with_node state p after) ((e, Refused refusal) ∷ s)
 sees_not state s e reply p seen reading before after refusal is h inside at left =
-    let due : issue_refusal (event_due (node_of p s) (last_stamp p s ∷ seen ∷ []) reading) ≡ Some refusal =
-    ap (λ issuer. issue_refusal (event_due issuer.node (issuer.node.last ∷ seen ∷ []) reading))
+    let expected : issue_refusal (expected_event (node_of p s) (last_stamp p s ∷ seen ∷ []) reading) ≡ Some refusal =
+    ap (λ issuer. issue_refusal (expected_event issuer.node (issuer.node.last ∷ seen ∷ []) reading))
     (sym (was state s p before h inside at)) ∙ left.0 in
-    subst (λ x. StandsFor (with_node state p x) ((e, Refused refusal) ∷ s)) (sym left.1)
+    subst (λ x. Represents (with_node state p x) ((e, Refused refusal) ∷ s)) (sym left.1)
     (put-back state _ p before at (stays state s e refusal (is.left refusal)
-    (inl (is.due ∙ sight-due (world_nodes state) s p _ (there state s p h inside) ∙ due)) h))
+    (inl (is.expected ∙ sight-expected (world_nodes state) s p _ (there state s p h inside) ∙ expected)) h))
 
 pub fresh-length : (n : ℕ) → length (fresh_issuers n) ≡ n
 fresh-length zero = refl
@@ -444,8 +456,8 @@ fresh-at (suc n) k h =
     ]
 
 -- a new world
-pub starts : (n : ℕ) (core : Kept) → core_nodes core ≡ n → CoreStandsFor core []
-    → StandsFor (record { core = core; nodes = fresh_issuers n; sent_stamps = [] }) []
+pub starts : (n : ℕ) (core : StoreView) → core_nodes core ≡ n → CoreRepresents core []
+    → Represents (record { core = core; nodes = fresh_issuers n; sent_stamps = [] }) []
 starts n core is h = record {
   legal = tt;
   core = h;

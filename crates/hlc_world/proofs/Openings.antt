@@ -1,11 +1,11 @@
--- Snapshots keep their stamps: an id is one above the number of those opened before, so it is given once, and an
+-- Snapshots keep their stamps: an id is one above the number of those opened before, so it is assigned once, and an
 -- observation sees the stamp of the opening.
 use Rattle.std.proofs.Common.{◌≡◌, ℕ, ◌+◌, ◌<◌, ◌≤◌, List, [], ◌∷◌, Some, None, Option, refl, ap, sym, ◌∙◌, subst, inl}
 use Rattle.std.proofs.Common.{inr, arith}
 use Rattle.std.specs.Prelude.{◌==◌, if◌then◌else◌}
 use Rattle.std.proofs.lemmas.Bool.{cond-true, cond-false, eq-eqb, ne_eqb, cases_eq}
-use Rattle.hlc_snapshot.specs.Register.{stamp_in}
-use Rattle.hlc_snapshot.proofs.RegisterLemmas.{stamp_in-push_cases, stamp_in-without_gone, stamp_in-without_other}
+use Rattle.hlc_snapshot.specs.RegistryView.{stamp_in}
+use Rattle.hlc_snapshot.proofs.RegisterLemmas.{stamp_in-push_cases, stamp_in-without_itself, stamp_in-without_other}
 use Rattle.hlc_core.specs.declared.event.CoreEvent.{CoreEvent}
 use Rattle.hlc_core.specs.declared.reply.CoreReply.{CoreReply}
 use Rattle.hlc_core.specs.History.{step_of, with_step, past_of}
@@ -16,12 +16,12 @@ use Rattle.hlc_world.specs.declared.event.Event.TheVariants.{OpenAt, OpenFloor, 
 use Rattle.hlc_world.specs.declared.reply.Reply.{Reply}
 use Rattle.hlc_world.specs.declared.reply.Reply.TheVariants.{Snapshot, Observed}
 use Rattle.hlc_world.specs.Store.{share, with_entry, store_history, core_past}
-use Rattle.hlc_world.specs.Due.{IsObserved, IsGiven, IsLegal}
+use Rattle.hlc_world.specs.Expected.{IsObserved, MayReply, IsLegal}
 use Rattle.hlc_world.specs.Before.{entry_at}
 use Rattle.hlc_world.proofs.Orderly.{sight-rises}
 use Rattle.hlc_world.proofs.Entries.{entry-cases}
 
--- the stamp at which the snapshot of this id was opened, be it open still or closed
+-- the stamp at which the snapshot of this id was opened, whether it is still open or closed
 abbrev pub opening : ℕ → List Step → Option ℕ
 opening id [] = None
 opening id (Opened stamp ∷ past) = if opened past + 1 == id then Some stamp else opening id past
@@ -77,20 +77,20 @@ open-opening (Opened at ∷ past) id stamp is =
     ]
 open-opening (ClosedOf other ∷ past) id stamp is =
     elim (cases_eq id other) [
-      | inl same ↦ absurd (let e : None ≡ Some stamp = sym (stamp_in-without_gone id (open_snapshots past))
+      | inl same ↦ absurd (let e : None ≡ Some stamp = sym (stamp_in-without_itself id (open_snapshots past))
           ∙ subst (λ k. stamp_in id (open_snapshots (ClosedOf k ∷ past)) ≡ Some stamp) (sym same) is in cc)
       | inr differs ↦
           open-opening past id stamp (sym (stamp_in-without_other other id (open_snapshots past) differs) ∙ is)
     ]
 
 opened-here : (nodes : ℕ) (s : List (Event × Reply)) (event : Event) (id stamp : ℕ)
-    → IsGiven nodes s event (Snapshot id stamp)
+    → MayReply nodes s event (Snapshot id stamp)
     → opening id (past_of (with_entry (share s event (Snapshot id stamp)) (store_history s))) ≡ Some stamp
-opened-here nodes s (OpenAt at) id stamp given = opening-here (core_past s) id stamp given.1.0
-opened-here nodes s OpenFloor id stamp given = opening-here (core_past s) id stamp given.1.0
-opened-here nodes s _ id stamp given = absurd given.1
+opened-here nodes s (OpenAt at) id stamp allowed = opening-here (core_past s) id stamp allowed.1.0
+opened-here nodes s OpenFloor id stamp allowed = opening-here (core_past s) id stamp allowed.1.0
+opened-here nodes s _ id stamp allowed = absurd allowed.1
 
--- the reply to an opening tells the snapshot's stamp
+-- the reply to an opening has the snapshot's stamp
 pub opened-found : (nodes : ℕ) (s : List (Event × Reply)) (turn : ℕ) (event : Event) (id stamp : ℕ) → IsLegal nodes s
     → entry_at s turn ≡ Some (event, Snapshot id stamp) → opening id (core_past s) ≡ Some stamp
 opened-found nodes [] turn event id stamp legal at = absurd (cc)
@@ -99,9 +99,10 @@ opened-found nodes (entry ∷ s) turn event id stamp legal at =
       | inr there ↦ opening-later (share s entry.0 entry.1) (store_history s) id stamp
           (opened-found nodes s turn event id stamp legal.1 there.1)
       | inl here ↦
-          let given : IsGiven nodes s event (Snapshot id stamp) = subst (λ y. IsGiven nodes s y.0 y.1) here.1 legal.0 in
+          let allowed : MayReply nodes s event (Snapshot id stamp) = subst (λ y. MayReply nodes s y.0 y.1) here.1
+          legal.0 in
           subst (λ y. opening id (past_of (with_entry (share s y.0 y.1) (store_history s))) ≡ Some stamp) (sym here.1)
-          (opened-here nodes s event id stamp given)
+          (opened-here nodes s event id stamp allowed)
     ]
 
 seen-below : (o : Option ℕ) (last reading t : ℕ) → IsObserved o last reading t
@@ -120,9 +121,9 @@ observed-above nodes (entry ∷ s) turn n r id t legal at =
           let x = observed-above nodes s turn n r id t legal.1 there.1 in
           (x.0, opening-later (share s entry.0 entry.1) (store_history s) id x.0 x.1, x.2)
       | inl here ↦
-          let given : IsGiven nodes s (Observe n r id) (Observed t) =
-          subst (λ y. IsGiven nodes s y.0 y.1) here.1 legal.0 in
-          let x = seen-below _ _ r t given.1 in (
+          let allowed : MayReply nodes s (Observe n r id) (Observed t) =
+          subst (λ y. MayReply nodes s y.0 y.1) here.1 legal.0 in
+          let x = seen-below _ _ r t allowed.1 in (
             x.0,
             opening-later (share s entry.0 entry.1) (store_history s) id x.0 (open-opening (core_past s) id x.0 x.1),
             x.2,

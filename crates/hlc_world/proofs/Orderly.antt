@@ -1,6 +1,6 @@
--- What is true of the items of every legal schedule: they bear their numbers, their stamps rise, none is above its
--- node's clock, and those that were not yet accepted lie above the node's head.
--- So the store refuses an issued item for its number alone. A node that is not there yet has no stamp.
+-- What is true of the items of every legal schedule: they have their numbers, their stamps rise, none is above its
+-- node's clock, and those that were not yet accepted lie above the node's head. So the store refuses an issued item
+-- only because of its number. A node that has not joined yet has no stamp.
 use Rattle.std.proofs.Common.{◌≡◌, ℕ, Bool, true, false, ◌+◌, ◌*◌, ◌<◌, ◌≤◌, ◌⊎◌, List, [], ◌∷◌, ◌++◌, length, max}
 use Rattle.std.proofs.Common.{Some, None, Ok, Err, Option, Result, refl, ap, sym, ◌∙◌, subst, inl, inr, arith}
 use Rattle.std.proofs.Common.{length-append}
@@ -8,7 +8,7 @@ use Rattle.std.specs.Prelude.{◌==◌, nat_le, slice_get, if◌then◌else◌}
 use Rattle.std.proofs.lemmas.Option.{slice_get_within}
 use Rattle.std.proofs.lemmas.Bool.{cond-true, cond-false, le-leb, lt-leb, eq-eqb, ne_eqb, cases_lt, cases_eq}
 use Rattle.std.proofs.lemmas.Bool.{cases_Bool}
-use Rattle.hlc_clock.specs.NextStamp.{stamp_due, next_stamp, greatest, is_carried}
+use Rattle.hlc_clock.specs.NextStamp.{expected_stamp, next_stamp, greatest, is_carried}
 use Rattle.hlc_clock.specs.declared.clock.ClockFault.{ClockFault}
 use Rattle.hlc_clock.specs.declared.clock.ClockFault.TheVariants as clock_fault
 use Rattle.hlc_node.specs.declared.item.Item.{Item}
@@ -19,7 +19,7 @@ use Rattle.hlc_node.specs.declared.item.Message.{Message}
 use Rattle.hlc_node.specs.declared.node.NodeFault.{NodeFault}
 use Rattle.hlc_node.specs.declared.node.NodeFault.TheVariants.{NumbersSpent}
 use Rattle.hlc_node.specs.Items.{an_item, body_refusal}
-use Rattle.hlc_node.specs.Node.{Node, clocked, unless_retired, unless_bad, issue_due}
+use Rattle.hlc_node.specs.Node.{Node, clocked, unless_retired, unless_bad, expected_issue}
 use Rattle.hlc_core.specs.declared.fault.CoreFault.{CoreFault}
 use Rattle.hlc_core.specs.declared.event.CoreEvent.{CoreEvent}
 use Rattle.hlc_core.specs.declared.reply.CoreReply.{CoreReply}
@@ -36,14 +36,14 @@ use Rattle.hlc_values.specs.declared.bounds.TheConstants.{NUMBER_BOUND}
 use Rattle.hlc_world.specs.declared.refusal.Refusal.{Refusal}
 use Rattle.hlc_node.specs.declared.node.NodeFault.TheVariants.{Retired as retired_node}
 use Rattle.hlc_world.specs.declared.refusal.Refusal.TheVariants.{NoNode, Node as at_node}
-use Rattle.hlc_world.specs.Schedule.{Event, with_item, stamp_or, issued, gone, last_stamp, node_of}
+use Rattle.hlc_world.specs.Schedule.{Event, with_item, stamp_or, issued, has_retired, last_stamp, node_of}
 use Rattle.hlc_world.specs.Store.{accepting, accepted, paired, with_entry, store_history, core_past}
-use Rattle.hlc_world.specs.Due.{core_refusal, on_link, on_node, deliver_refusal, IsReceived, IsObserved, IsGiven}
-use Rattle.hlc_world.specs.Due.{IsLegal}
+use Rattle.hlc_world.specs.Expected.{core_refusal, on_link, on_node, deliver_refusal, IsReceived, IsObserved, MayReply}
+use Rattle.hlc_world.specs.Expected.{IsLegal}
 use Rattle.hlc_world.proofs.Lists.{some-injective, get-append_left, get-push}
 use Rattle.hlc_world.proofs.Nodes.{with_item-same, with_item-other, stamp_or-other}
 
--- an item of a node is what it should be: by the node's last stamp, its count and its head
+-- an item of a node fits the node's last stamp, its count and its head
 pub record FitsItsNode (nodes last next top n k : ℕ) (item : Item) : Type 0 where
   pub inside : n < nodes
   pub node : item.node ≡ n
@@ -53,7 +53,7 @@ pub record FitsItsNode (nodes last next top n k : ℕ) (item : Item) : Type 0 wh
   pub low : item.stamp ≤ last
   pub ahead : next ≤ k → top < item.stamp
 
--- and goes on being so where these still hold
+-- and it still fits where these conditions are still true
 refit : {nodes last next top nodes' last' next' top' n k : ℕ} {item : Item}
     → FitsItsNode nodes last next top n k item → n < nodes' → item.stamp ≤ last' → (next' ≤ k → top' < item.stamp)
     → FitsItsNode nodes' last' next' top' n k item
@@ -243,7 +243,7 @@ orderly-join many items lasts counts past node start h is =
       fresh = λ n out. (before n (λ e. omega (arith, e, is, out))).0 ∙ h.fresh n (omega (arith, out));
     }
 
--- a link that nothing refused is there
+-- a node whose link is not refused exists
 pub on_link-none : (nodes : ℕ) (s : List (Event × Reply)) (p : ℕ) (rest : Option Refusal)
     → on_link nodes s p rest ≡ None → (p < numbered nodes (core_past s)) × (rest ≡ None)
 on_link-none nodes s p rest h =
@@ -254,13 +254,14 @@ on_link-none nodes s p rest h =
           sym (cond-true _ _ _ (le-leb (numbered nodes (core_past s)) p outside)) ∙ h in cc)
     ]
 
--- a node that nothing refused is there and has not retired
+-- a node at which nothing is refused exists and has not retired
 pub on_node-none : (nodes : ℕ) (s : List (Event × Reply)) (p : ℕ) (rest : Option Refusal)
-    → on_node nodes s p rest ≡ None → (p < numbered nodes (core_past s)) × (gone p s ≡ false) × (rest ≡ None)
+    → on_node nodes s p rest ≡ None → (p < numbered nodes (core_past s)) × (has_retired p s ≡ false) × (rest ≡ None)
 on_node-none nodes s p rest h =
     let there = on_link-none nodes s p _ h in
-    elim (cases_Bool (gone p s)) [
-      | inl over ↦ absurd (let e : Some (at_node retired_node) ≡ None = sym (cond-true _ _ _ over) ∙ there.1 in cc)
+    elim (cases_Bool (has_retired p s)) [
+      | inl was_last ↦ absurd
+          (let e : Some (at_node retired_node) ≡ None = sym (cond-true _ _ _ was_last) ∙ there.1 in cc)
       | inr here ↦ (there.0, here, sym (cond-false _ _ _ here) ∙ there.1)
     ]
 
@@ -268,9 +269,10 @@ clocked-ok : (r : Result ℕ ClockFault) (st : ℕ) → clocked r ≡ Ok st → 
 clocked-ok (Ok x) st h = ap Ok (cc)
 clocked-ok (Err fault) st h = absurd (cc)
 
--- a stamp that is due is the next stamp
-due-next : (earlier : List ℕ) (reading st : ℕ) → stamp_due earlier reading ≡ Ok st → next_stamp earlier reading ≡ st
-due-next earlier reading st h =
+-- an expected stamp is the next stamp
+expected-next : (earlier : List ℕ) (reading st : ℕ) → expected_stamp earlier reading ≡ Ok st
+    → next_stamp earlier reading ≡ st
+expected-next earlier reading st h =
     elim (cases_Bool (nat_le 281474976710656 reading)) [
       | inl large ↦ absurd (let e : ◌≡◌ {A = Result ℕ ClockFault} (Err clock_fault.ReadingTooLarge) (Ok st) =
           sym (cond-true _ _ _ large) ∙ h in cc)
@@ -286,15 +288,16 @@ due-next earlier reading st h =
     ]
 
 -- it lies above the last one
-pub stamp-rises : (last reading st : ℕ) → stamp_due (last ∷ []) reading ≡ Ok st → last < st
+pub stamp-rises : (last reading st : ℕ) → expected_stamp (last ∷ []) reading ≡ Ok st → last < st
 stamp-rises last reading st h =
-    (let is : max (max (last + 1) 0) (65536 * reading) ≡ st = due-next (last ∷ []) reading st h in omega arith)
+    (let is : max (max (last + 1) 0) (65536 * reading) ≡ st = expected-next (last ∷ []) reading st h in omega arith)
 
 -- and above one that was seen
-pub sight-rises : (last seen reading st : ℕ) → stamp_due (last ∷ seen ∷ []) reading ≡ Ok st → (last < st) × (seen < st)
+pub sight-rises : (last seen reading st : ℕ) → expected_stamp (last ∷ seen ∷ []) reading ≡ Ok st → (last < st)
+    × (seen < st)
 sight-rises last seen reading st h =
     let is : max (max (last + 1) (max (seen + 1) 0)) (65536 * reading) ≡ st =
-    due-next (last ∷ seen ∷ []) reading st h in
+    expected-next (last ∷ seen ∷ []) reading st h in
     (omega arith, omega arith)
 
 pub received-rises : (o : Option Message) (last reading st : ℕ) → IsReceived o last reading st → last < st
@@ -305,10 +308,10 @@ pub observed-rises : (o : Option ℕ) (last reading st : ℕ) → IsObserved o l
 observed-rises None last reading st h = absurd h
 observed-rises (Some seen) last reading st h = (sight-rises last seen reading st h).0
 
--- what it says of an item that a stamp is due to it
-issue-by : (over : Bool) (body : Option BodyFault) (last next reading st : ℕ)
-    → unless_retired over (unless_bad body
-    (if next == NUMBER_BOUND then Err NumbersSpent else clocked (stamp_due (last ∷ []) reading))) ≡ Ok st
+-- what follows for an item that has an expected stamp
+issue-by : (was_last : Bool) (body : Option BodyFault) (last next reading st : ℕ)
+    → unless_retired was_last (unless_bad body
+    (if next == NUMBER_BOUND then Err NumbersSpent else clocked (expected_stamp (last ∷ []) reading))) ≡ Ok st
     → (body ≡ None) × (next ≡ NUMBER_BOUND → ⊥) × (last < st)
 issue-by true body last next reading st h = absurd (cc)
 issue-by false (Some fault) last next reading st h = absurd (cc)
@@ -320,16 +323,16 @@ issue-by false None last next reading st h =
           (refl, left, stamp-rises last reading st (clocked-ok _ st (sym (cond-false _ _ _ (ne_eqb _ _ left)) ∙ h)))
     ]
 
-pub issue-ok : (node : Node) (body : Body) (reading st : ℕ) → issue_due node body reading ≡ Ok st
+pub issue-ok : (node : Node) (body : Body) (reading st : ℕ) → expected_issue node body reading ≡ Ok st
     → (body_refusal body ≡ None) × (node.next ≡ NUMBER_BOUND → ⊥) × (node.last < st)
 issue-ok node body reading st h = issue-by node.retired (body_refusal body) node.last node.next reading st h
 
--- where the world refuses nothing for the core, the core does not refuse
+-- where a fault of the core is no refusal, the core has no fault
 pub no-core : (o : Option CoreFault) → core_refusal o ≡ None → o ≡ None
 no-core None h = refl
 no-core (Some fault) h = absurd (cc)
 
--- an item that nothing refuses to deliver is the next one
+-- an item whose delivery is not refused is the next one
 pub delivered : (nodes : ℕ) (past : List Step) (p k : ℕ) (item : Item) → item.node ≡ p → item.number ≡ k
     → deliver_refusal nodes past (Some item) ≡ None → k ≡ count p past
 delivered nodes past p k item own number none =
@@ -343,22 +346,22 @@ delivered nodes past p k item own number none =
 abbrev pub past_taken : ℕ → ℕ → Option Item → List (CoreEvent × CoreReply) → List Step
 past_taken p st o history = past_of (with_entry (paired (accepted p st o) (accepting o)) history)
 
--- the items fit together in a schedule, after which the core's past is this
+-- the items of a schedule fit together, where the core's past after it is this one
 abbrev IsOrderlyAt : ℕ → List (Event × Reply) → List Step → Type 0
 IsOrderlyAt nodes s past =
     Orderly (numbered nodes past) (λ n. issued n s) (λ n. last_stamp n s) (λ n. count n past) (λ n. head n past)
 
--- and so they do after each event of it
+-- and where it is the core's past of this schedule
 abbrev pub IsOrderly : ℕ → List (Event × Reply) → Type 0
 IsOrderly nodes s = IsOrderlyAt nodes s (core_past s)
 
 orderly-issued : (nodes : ℕ) (s : List (Event × Reply)) (p reading st num : ℕ) (body : Body) (rest : Option Refusal)
-    → on_node nodes s p rest ≡ None → issue_due (node_of p s) body reading ≡ Ok st → num ≡ length (issued p s)
+    → on_node nodes s p rest ≡ None → expected_issue (node_of p s) body reading ≡ Ok st → num ≡ length (issued p s)
     → IsOrderly nodes s → Orderly (numbered nodes (core_past s))
     (λ n. with_item n (Some (an_item p num st body)) (issued n s)) (λ n. stamp_or n (Some (p, st)) (last_stamp n s))
     (λ n. count n (core_past s)) (λ n. head n (core_past s))
-orderly-issued nodes s p reading st num body rest none due is h =
-    let f = issue-ok (node_of p s) body reading st due in
+orderly-issued nodes s p reading st num body rest none expected is h =
+    let f = issue-ok (node_of p s) body reading st expected in
     orderly-issue (numbered nodes (core_past s)) (λ n. issued n s) (λ n. last_stamp n s) (λ n. count n (core_past s))
     (λ n. head n (core_past s)) p st num body h (on_node-none nodes s p rest none).0 is f.1 f.0 f.2
 
@@ -379,34 +382,34 @@ orderly-taken nodes s p k st (Some item) at none h =
     orderly-took (numbered nodes (core_past s)) (λ n. issued n s) (λ n. last_stamp n s) (core_past s) p k item h at
     (delivered nodes (core_past s) p k item is.node is.number none)
 
-orderly-entry : (nodes : ℕ) (s : List (Event × Reply)) (event : Event) (reply : Reply) → IsGiven nodes s event reply
+orderly-entry : (nodes : ℕ) (s : List (Event × Reply)) (event : Event) (reply : Reply) → MayReply nodes s event reply
     → IsOrderly nodes s → IsOrderly nodes ((event, reply) ∷ s)
-orderly-entry nodes s (Write p reading key value) (Stamped st num) given h =
-    orderly-issued nodes s p reading st num (a_write key (Some value)) _ given.0 given.1.0 given.1.1 h
-orderly-entry nodes s (Delete p reading key) (Stamped st num) given h =
-    orderly-issued nodes s p reading st num (a_write key None) _ given.0 given.1.0 given.1.1 h
-orderly-entry nodes s (Report p reading) (Stamped st num) given h =
-    orderly-issued nodes s p reading st num a_report _ given.0 given.1.0 given.1.1 h
-orderly-entry nodes s (Retire p reading) (Stamped st num) given h =
-    orderly-issued nodes s p reading st num a_retire _ given.0 given.1.0 given.1.1 h
-orderly-entry nodes s Join (Joined node start) given h =
+orderly-entry nodes s (Write p reading key value) (Stamped st num) allowed h =
+    orderly-issued nodes s p reading st num (a_write key (Some value)) _ allowed.0 allowed.1.0 allowed.1.1 h
+orderly-entry nodes s (Delete p reading key) (Stamped st num) allowed h =
+    orderly-issued nodes s p reading st num (a_write key None) _ allowed.0 allowed.1.0 allowed.1.1 h
+orderly-entry nodes s (Report p reading) (Stamped st num) allowed h =
+    orderly-issued nodes s p reading st num a_report _ allowed.0 allowed.1.0 allowed.1.1 h
+orderly-entry nodes s (Retire p reading) (Stamped st num) allowed h =
+    orderly-issued nodes s p reading st num a_retire _ allowed.0 allowed.1.0 allowed.1.1 h
+orderly-entry nodes s Join (Joined node start) allowed h =
     orderly-join (numbered nodes (core_past s)) (λ n. issued n s) (λ n. last_stamp n s) (λ n. count n (core_past s))
-    (core_past s) node start h given.1.0
-orderly-entry nodes s (Send p reading) (Sent st num) given h =
-    orderly-stamped nodes s p st _ given.0 (stamp-rises _ reading st given.1.0) h
-orderly-entry nodes s (Receive p reading number) (Received st) given h =
-    orderly-stamped nodes s p st _ given.0 (received-rises _ _ reading st given.1) h
-orderly-entry nodes s (Observe p reading id) (Observed st) given h =
-    orderly-stamped nodes s p st _ given.0 (observed-rises _ _ reading st given.1) h
-orderly-entry nodes s (Deliver p k) (Accepted st) given h =
-    orderly-taken nodes s p k st (slice_get (issued p s) k) refl (on_link-none nodes s p _ given.0).1 h
-orderly-entry nodes s (OpenAt at) (Snapshot id st) given h = h
-orderly-entry nodes s OpenFloor (Snapshot id st) given h = h
-orderly-entry nodes s (Read id key) (Answer value) given h = h
-orderly-entry nodes s (ListAll id) (Listing pairs) given h = h
-orderly-entry nodes s (Close id) (Closed st) given h = h
-orderly-entry nodes s Vacuum (Vacuumed report) given h = h
-orderly-entry nodes s _ _ given h = h
+    (core_past s) node start h allowed.1.0
+orderly-entry nodes s (Send p reading) (Sent st num) allowed h =
+    orderly-stamped nodes s p st _ allowed.0 (stamp-rises _ reading st allowed.1.0) h
+orderly-entry nodes s (Receive p reading number) (Received st) allowed h =
+    orderly-stamped nodes s p st _ allowed.0 (received-rises _ _ reading st allowed.1) h
+orderly-entry nodes s (Observe p reading id) (Observed st) allowed h =
+    orderly-stamped nodes s p st _ allowed.0 (observed-rises _ _ reading st allowed.1) h
+orderly-entry nodes s (Deliver p k) (Accepted st) allowed h =
+    orderly-taken nodes s p k st (slice_get (issued p s) k) refl (on_link-none nodes s p _ allowed.0).1 h
+orderly-entry nodes s (OpenAt at) (Snapshot id st) allowed h = h
+orderly-entry nodes s OpenFloor (Snapshot id st) allowed h = h
+orderly-entry nodes s (Read id key) (Answer value) allowed h = h
+orderly-entry nodes s (ListAll id) (Listing pairs) allowed h = h
+orderly-entry nodes s (Close id) (Closed st) allowed h = h
+orderly-entry nodes s Vacuum (Vacuumed report) allowed h = h
+orderly-entry nodes s _ _ allowed h = h
 
 -- every legal schedule is orderly
 pub orderly : (nodes : ℕ) (s : List (Event × Reply)) → IsLegal nodes s → IsOrderly nodes s

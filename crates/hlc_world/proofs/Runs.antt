@@ -1,4 +1,4 @@
--- One more event of a run comes after all that came before.
+-- One more event of a run comes after all earlier ones.
 use Rattle.std.proofs.Common.{◌≡◌, List, [], ◌∷◌, ◌++◌, length, refl, arith}
 use Rattle.hlc_world.specs.declared.reply.Reply.{Reply}
 use Rattle.hlc_world.specs.Schedule.{Event, after}

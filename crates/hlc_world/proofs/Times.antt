@@ -1,5 +1,5 @@
--- Stamps follow events: each stamp of a node lies above its last one, each receipt above its message's, which is its
--- sending's, and each observation above its snapshot's, which is that of its opening.
+-- Stamps follow events: each stamp of a node lies above its last one, each receipt above its message's stamp, which is
+-- that of its send, and each observation above its snapshot's stamp, which is that of its opening.
 use Rattle.std.proofs.Common.{◌≡◌, ℕ, ◌<◌, ◌≤◌, ◌⊎◌, List, [], ◌∷◌, ◌++◌, length, Some, None, Option, refl, ap, sym}
 use Rattle.std.proofs.Common.{◌∙◌, subst, inl, inr, arith}
 use Rattle.std.specs.Prelude.{slice_get}
@@ -13,7 +13,7 @@ use Rattle.hlc_world.specs.declared.reply.Reply.{Reply}
 use Rattle.hlc_world.specs.declared.reply.Reply.TheVariants.{Stamped, Joined, Sent, Received, Observed}
 use Rattle.hlc_world.specs.Schedule.{stamping_of, mark_of, stamp_or, message_made, with_message, last_stamp, sent}
 use Rattle.hlc_world.specs.Schedule.{Event, message_at, node_of}
-use Rattle.hlc_world.specs.Due.{IsReceived, IsGiven, IsLegal}
+use Rattle.hlc_world.specs.Expected.{IsReceived, MayReply, IsLegal}
 use Rattle.hlc_world.specs.Before.{entry_at, write_stamp, IsStamped, HappenedBefore, on_node, on_message}
 use Rattle.hlc_world.specs.Before.{on_observation, through}
 use Rattle.hlc_world.proofs.Lists.{some-injective, get-append_left, get-push}
@@ -25,22 +25,22 @@ use Rattle.hlc_world.proofs.Openings.{opened-found, observed-above}
 
 -- a new stamp of a node lies above its last one
 stamp-new : (nodes : ℕ) (s : List (Event × Reply)) (event : Event) (reply : Reply) (p : ℕ × ℕ)
-    → IsGiven nodes s event reply → stamping_of event reply ≡ Some p → last_stamp p.0 s < p.1
-stamp-new nodes s (Write n reading key value) (Stamped st num) p given h = subst (λ q. last_stamp q.0 s < q.1)
-    (some-injective (n, st) p h) (issue-ok (node_of n s) (a_write key (Some value)) reading st given.1.0).2
-stamp-new nodes s (Delete n reading key) (Stamped st num) p given h = subst (λ q. last_stamp q.0 s < q.1)
-    (some-injective (n, st) p h) (issue-ok (node_of n s) (a_write key None) reading st given.1.0).2
-stamp-new nodes s (Report n reading) (Stamped st num) p given h = subst (λ q. last_stamp q.0 s < q.1)
-    (some-injective (n, st) p h) (issue-ok (node_of n s) a_report reading st given.1.0).2
-stamp-new nodes s (Retire n reading) (Stamped st num) p given h = subst (λ q. last_stamp q.0 s < q.1)
-    (some-injective (n, st) p h) (issue-ok (node_of n s) a_retire reading st given.1.0).2
-stamp-new nodes s (Send n reading) (Sent st num) p given h =
-    subst (λ q. last_stamp q.0 s < q.1) (some-injective (n, st) p h) (stamp-rises _ reading st given.1.0)
-stamp-new nodes s (Receive n reading k) (Received st) p given h =
-    subst (λ q. last_stamp q.0 s < q.1) (some-injective (n, st) p h) (received-rises _ _ reading st given.1)
-stamp-new nodes s (Observe n reading id) (Observed st) p given h =
-    subst (λ q. last_stamp q.0 s < q.1) (some-injective (n, st) p h) (observed-rises _ _ reading st given.1)
-stamp-new nodes s _ _ p given h = absurd (cc)
+    → MayReply nodes s event reply → stamping_of event reply ≡ Some p → last_stamp p.0 s < p.1
+stamp-new nodes s (Write n reading key value) (Stamped st num) p allowed h = subst (λ q. last_stamp q.0 s < q.1)
+    (some-injective (n, st) p h) (issue-ok (node_of n s) (a_write key (Some value)) reading st allowed.1.0).2
+stamp-new nodes s (Delete n reading key) (Stamped st num) p allowed h = subst (λ q. last_stamp q.0 s < q.1)
+    (some-injective (n, st) p h) (issue-ok (node_of n s) (a_write key None) reading st allowed.1.0).2
+stamp-new nodes s (Report n reading) (Stamped st num) p allowed h = subst (λ q. last_stamp q.0 s < q.1)
+    (some-injective (n, st) p h) (issue-ok (node_of n s) a_report reading st allowed.1.0).2
+stamp-new nodes s (Retire n reading) (Stamped st num) p allowed h = subst (λ q. last_stamp q.0 s < q.1)
+    (some-injective (n, st) p h) (issue-ok (node_of n s) a_retire reading st allowed.1.0).2
+stamp-new nodes s (Send n reading) (Sent st num) p allowed h =
+    subst (λ q. last_stamp q.0 s < q.1) (some-injective (n, st) p h) (stamp-rises _ reading st allowed.1.0)
+stamp-new nodes s (Receive n reading k) (Received st) p allowed h =
+    subst (λ q. last_stamp q.0 s < q.1) (some-injective (n, st) p h) (received-rises _ _ reading st allowed.1)
+stamp-new nodes s (Observe n reading id) (Observed st) p allowed h =
+    subst (λ q. last_stamp q.0 s < q.1) (some-injective (n, st) p h) (observed-rises _ _ reading st allowed.1)
+stamp-new nodes s _ _ p allowed h = absurd (cc)
 
 -- a stamp sets the clock
 mark-stamped : (event : Event) (reply : Reply) (p : ℕ × ℕ) → stamping_of event reply ≡ Some p
@@ -58,12 +58,12 @@ mark-is _ _ p h = inl h
 
 -- a clock is never set back: that of a node that joins was 0
 mark-new : (nodes : ℕ) (s : List (Event × Reply)) (event : Event) (reply : Reply) (p : ℕ × ℕ)
-    → IsGiven nodes s event reply → IsOrderly nodes s → mark_of event reply ≡ Some p → last_stamp p.0 s ≤ p.1
-mark-new nodes s event reply p given ordered h =
+    → MayReply nodes s event reply → IsOrderly nodes s → mark_of event reply ≡ Some p → last_stamp p.0 s ≤ p.1
+mark-new nodes s event reply p allowed ordered h =
     elim (mark-is event reply p h) [
-      | inl stamped ↦ (let up = stamp-new nodes s event reply p given stamped in omega (arith, up))
+      | inl stamped ↦ (let up = stamp-new nodes s event reply p allowed stamped in omega (arith, up))
       | inr joins ↦
-          (let is : IsGiven nodes s Join (Joined p.0 p.1) = subst (λ y. IsGiven nodes s y.0 y.1) joins given in
+          (let is : MayReply nodes s Join (Joined p.0 p.1) = subst (λ y. MayReply nodes s y.0 y.1) joins allowed in
           let next = is.1.0 in
           let e : last_stamp p.0 s ≡ 0 = ordered.fresh p.0 (omega (arith, next)) in omega (arith, e))
     ]
@@ -78,11 +78,11 @@ last-grows n last (Some p) up =
       | inr other ↦ (let e : stamp_or n (Some p) last ≡ last = stamp_or-other n p.0 p.1 last other in omega arith)
     ]
 
-step-grows : (nodes : ℕ) (s : List (Event × Reply)) (entry : Event × Reply) (n : ℕ) → IsGiven nodes s entry.0 entry.1
+step-grows : (nodes : ℕ) (s : List (Event × Reply)) (entry : Event × Reply) (n : ℕ) → MayReply nodes s entry.0 entry.1
     → IsOrderly nodes s → last_stamp n s ≤ last_stamp n (entry ∷ s)
-step-grows nodes s entry n given ordered =
+step-grows nodes s entry n allowed ordered =
     last-grows n (last_stamp n s) (mark_of entry.0 entry.1)
-    (λ p e own. subst (λ k. last_stamp k s ≤ p.1) own (mark-new nodes s entry.0 entry.1 p given ordered e))
+    (λ p e own. subst (λ k. last_stamp k s ≤ p.1) own (mark-new nodes s entry.0 entry.1 p allowed ordered e))
 
 -- no stamp of a node lies above its last one
 stamp-low : (nodes : ℕ) (s : List (Event × Reply)) (i n a : ℕ) (x : Event × Reply) → IsLegal nodes s
@@ -117,14 +117,14 @@ on_node-less nodes (entry ∷ s) i j n a b x y legal lt at_i m at_j k =
           ]
     ]
 
--- a message that was sent stays where it is
+-- a message that was sent keeps its number
 with_message-keeps : (o : Option Message) (messages : List Message) (k : ℕ) (message : Message)
     → slice_get messages k ≡ Some message → slice_get (with_message o messages) k ≡ Some message
 with_message-keeps None messages k message h = h
 with_message-keeps (Some m) messages k message h =
     get-append_left messages (m ∷ []) k (slice_get_within messages k message h) ∙ h
 
--- a message bears its sending's stamp
+-- a message has the stamp of its send
 sent-found : (nodes : ℕ) (s : List (Event × Reply)) (i n r st k : ℕ) → IsLegal nodes s
     → entry_at s i ≡ Some (Send n r, Sent st k) → message_at k s ≡ Some (record { from = n; stamp = st })
 sent-found nodes [] i n r st k legal at = absurd (cc)
@@ -133,11 +133,12 @@ sent-found nodes (entry ∷ s) i n r st k legal at =
       | inr there ↦
           with_message-keeps (message_made entry.0 entry.1) (sent s) k _ (sent-found nodes s i n r st k legal.1 there.1)
       | inl here ↦
-          let given : IsGiven nodes s (Send n r) (Sent st k) = subst (λ y. IsGiven nodes s y.0 y.1) here.1 legal.0 in
+          let allowed : MayReply nodes s (Send n r) (Sent st k) = subst (λ y. MayReply nodes s y.0 y.1) here.1 legal.0
+          in
           subst
           (λ y. slice_get (with_message (message_made y.0 y.1) (sent s)) k ≡ Some (record { from = n; stamp = st }))
           (sym here.1)
-          (ap (λ j. slice_get (sent s ++ record { from = n; stamp = st } ∷ []) j) given.1.1
+          (ap (λ j. slice_get (sent s ++ record { from = n; stamp = st } ∷ []) j) allowed.1.1
           ∙ get-push (sent s) (record { from = n; stamp = st }))
     ]
 
@@ -157,9 +158,9 @@ received-above nodes (entry ∷ s) j m q k t legal at =
           let r = received-above nodes s j m q k t legal.1 there.1 in
           (r.0, with_message-keeps (message_made entry.0 entry.1) (sent s) k r.0 r.1, r.2)
       | inl here ↦
-          let given : IsGiven nodes s (Receive m q k) (Received t) =
-          subst (λ y. IsGiven nodes s y.0 y.1) here.1 legal.0 in
-          let r = seen-below _ _ q t given.1 in
+          let allowed : MayReply nodes s (Receive m q k) (Received t) =
+          subst (λ y. MayReply nodes s y.0 y.1) here.1 legal.0 in
+          let r = seen-below _ _ q t allowed.1 in
           (r.0, with_message-keeps (message_made entry.0 entry.1) (sent s) k r.0 r.1, r.2)
     ]
 

@@ -5,12 +5,12 @@ use Rattle.hlc_world.specs.declared.reply.Reply.{Reply}
 use Rattle.hlc_world.specs.declared.reply.Reply.TheVariants.{Stamped, Sent, Received, Observed, Snapshot}
 use Rattle.hlc_world.specs.Schedule.{Event, stamping_of}
 
--- the event that took its turn so many events after the first, with its reply
+-- the event that comes after this many events, with its reply
 abbrev pub entry_at : List (Event × Reply) → ℕ → Option (Event × Reply)
 entry_at [] turn = None
 entry_at (entry ∷ schedule) turn = if turn == length schedule then Some entry else entry_at schedule turn
 
--- the event of this turn took place on this node, and was stamped so
+-- the event of this turn took place at this node, and has this stamp
 pub record IsStamped (schedule : List (Event × Reply)) (turn node stamp : ℕ) : Type 0 where
   pub entry : Event × Reply
   pub at : entry_at schedule turn ≡ Some entry
@@ -22,7 +22,7 @@ write_stamp (Write node reading key value) (Stamped stamp number) = Some stamp
 write_stamp (Delete node reading key) (Stamped stamp number) = Some stamp
 write_stamp _ _ = None
 
--- the event of this turn is a write or a deletion, and was stamped so
+-- the event of this turn is a write or a deletion, and has this stamp
 pub record IsWritten (schedule : List (Event × Reply)) (turn stamp : ℕ) : Type 0 where
   pub entry : Event × Reply
   pub at : entry_at schedule turn ≡ Some entry
@@ -34,9 +34,8 @@ pub record IsOpenedAt (schedule : List (Event × Reply)) (id stamp : ℕ) : Type
   pub event : Event
   pub at : entry_at schedule turn ≡ Some (event, Snapshot id stamp)
 
--- the least transitive relation that holds from an event of a node to each later one of that node, from a send to each
--- receipt of its message, and from a write or deletion at or below a stamp to each observation of a snapshot at that
--- stamp
+-- the least transitive relation from an event of a node to each later event of that node, from a send to each receipt
+-- of its message, and from a write or deletion at or below a stamp to each observation of a snapshot at that stamp
 pub data HappenedBefore (schedule : List (Event × Reply)) : ℕ → ℕ → Type 0 where
   on_node : {first later : ℕ} (n a b : ℕ) → first < later → IsStamped schedule first n a → IsStamped schedule later n b
       → HappenedBefore schedule first later

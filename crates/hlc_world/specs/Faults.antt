@@ -1,4 +1,4 @@
--- What a refusal is called: its number, the word that comes with it, and its text.
+-- The number of a refusal, the word that comes with it, and its text.
 use Rattle.std.specs.Prelude.{ℕ, List, codes}
 use Rattle.hlc_node.specs.Faults.{node_code, node_word, node_text}
 use Rattle.hlc_core.specs.Faults.{core_code, core_word, core_text}

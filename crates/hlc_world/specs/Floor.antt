@@ -1,4 +1,4 @@
--- What the floor promises of a schedule, and what an open snapshot holds.
+-- What the floor promises about a schedule, and what an open snapshot contains.
 use Rattle.std.specs.Prelude.{◌≡◌, ℕ, ◌<◌, ◌≤◌, List, Contains, Some, false}
 use Rattle.hlc_node.specs.declared.item.Item.{Item}
 use Rattle.hlc_core.specs.Past.{Took, numbered, retired, floor, stamp_of}

@@ -1,5 +1,5 @@
--- What is promised of a whole schedule, to be read aloud: the store is faithful to its history, in which each event
--- stands that asked something of it; and at each moment what can be read is closed.
+-- What is promised about a whole schedule. The store is faithful to its history, which contains each event that asked
+-- something of it; and at each moment what can be read is closed under happened-before.
 use Rattle.std.specs.Prelude.{◌≡◌, ℕ, List, ◌++◌}
 use Rattle.hlc_node.specs.declared.row.Row.{Row}
 use Rattle.hlc_core.specs.Headline.{IsMoment as IsStoreMoment, IsFaithful as IsStoreFaithful}
@@ -8,14 +8,14 @@ use Rattle.hlc_world.specs.declared.reply.Reply.{Reply}
 use Rattle.hlc_world.specs.Store.{store_history}
 use Rattle.hlc_world.specs.Floor.{IsClosed}
 
--- at some moment of the schedule just these events had taken their turn
+-- at some moment of the schedule exactly these events had taken their turn
 pub record IsMoment (schedule before : List (Event × Reply)) : Type 0 where
   pub later : List (Event × Reply)
   pub order : schedule ≡ later ++ before
 
 -- each moment of the schedule is one of the store's history, so that history leaves out no read and no vacuum
-abbrev pub MomentsAreTold : List (Event × Reply) → Type 0
-MomentsAreTold schedule =
+abbrev pub MomentsAreReported : List (Event × Reply) → Type 0
+MomentsAreReported schedule =
     (before : List (Event × Reply)) → IsMoment schedule before
     → IsStoreMoment (store_history schedule) (store_history before)
 
@@ -23,9 +23,9 @@ MomentsAreTold schedule =
 abbrev pub ReadsAreClosed : List (Event × Reply) → Type 0
 ReadsAreClosed schedule = (before : List (Event × Reply)) → IsMoment schedule before → IsClosed before
 
--- All of this is true of a schedule of so many nodes, after which these rows are stored. The store's reads gave the
+-- All of this is true of a schedule of so many nodes, after which these rows are stored. The store's reads returned the
 -- newest accepted values, its vacuums were the least and the cheapest, and left the fewest rows.
 pub record IsFaithful (nodes : ℕ) (schedule : List (Event × Reply)) (rows : List Row) : Type 0 where
   pub store : IsStoreFaithful nodes (store_history schedule) rows
-  pub moments : MomentsAreTold schedule
+  pub moments : MomentsAreReported schedule
   pub closed : ReadsAreClosed schedule

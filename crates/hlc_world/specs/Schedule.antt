@@ -1,4 +1,4 @@
--- A schedule, and what it says of nodes, items and messages.
+-- A schedule, and what it says about nodes, items and messages.
 use Rattle.std.specs.Prelude.{ℕ, Bool, false, List, [], ◌∷◌, ◌++◌, length, Option, Some, None, ◌==◌, if◌then◌else◌}
 use Rattle.std.specs.Prelude.{slice_get}
 use Rattle.hlc_node.specs.declared.item.Item.{Item}
@@ -17,7 +17,7 @@ use Rattle.hlc_world.specs.declared.reply.Reply.TheVariants.{Stamped, Joined, Se
 abbrev pub Event : Type 0
 Event = EventOf (List ℕ)
 
--- the event by which a node issues an item that says this
+-- the event by which a node issues an item with this body
 abbrev pub issuing : ℕ → ℕ → Body → Event
 issuing node reading (a_write key (Some value)) = Write node reading key value
 issuing node reading (a_write key None) = Delete node reading key
@@ -57,7 +57,7 @@ abbrev pub mark_of : Event → Reply → Option (ℕ × ℕ)
 mark_of Join (Joined node start) = Some (node, start)
 mark_of event reply = stamping_of event reply
 
--- the items of a node, and this one behind them, if it is of that node
+-- the items of a node, followed by this one if it is of that node
 abbrev pub with_item : ℕ → Option Item → List Item → List Item
 with_item n None items = items
 with_item n (Some item) items = if item.node == n then items ++ item ∷ [] else items
@@ -67,31 +67,31 @@ abbrev pub issued : ℕ → List (Event × Reply) → List Item
 issued n [] = []
 issued n (entry ∷ schedule) = with_item n (item_made entry.0 entry.1) (issued n schedule)
 
--- whether this item, if it is of that node, is its last one, or else so
+-- whether this item is the last one of its node if it is of this node; otherwise the answer before it
 abbrev pub ends : ℕ → Option Item → Bool → Bool
 ends n None before = before
 ends n (Some item) before = if item.node == n then retires item.body else before
 
--- a node issued its last item: it retired
-abbrev pub gone : ℕ → List (Event × Reply) → Bool
-gone n [] = false
-gone n (entry ∷ schedule) = ends n (item_made entry.0 entry.1) (gone n schedule)
+-- whether a node issued its last item, which retires it
+abbrev pub has_retired : ℕ → List (Event × Reply) → Bool
+has_retired n [] = false
+has_retired n (entry ∷ schedule) = ends n (item_made entry.0 entry.1) (has_retired n schedule)
 
 -- the issued item of a node that has this number
 abbrev pub item_at : ℕ → ℕ → List (Event × Reply) → Option Item
 item_at n number schedule = slice_get (issued n schedule) number
 
--- the stamp of a mark of this node, or else this stamp
+-- the stamp of a mark if it is of this node, otherwise the last stamp
 abbrev pub stamp_or : ℕ → Option (ℕ × ℕ) → ℕ → ℕ
 stamp_or n None last = last
 stamp_or n (Some mark) last = if mark.0 == n then mark.1 else last
 
--- the stamp of a node's last event, or else of its start; 0 at a node of the start
+-- the stamp of a node's last event; before its first event the stamp at which it started, 0 for a node of the start
 abbrev pub last_stamp : ℕ → List (Event × Reply) → ℕ
 last_stamp n [] = 0
 last_stamp n (entry ∷ schedule) = stamp_or n (mark_of entry.0 entry.1) (last_stamp n schedule)
 
--- the messages, and this one behind them
+-- the messages, followed by this one
 abbrev pub with_message : Option Message → List Message → List Message
 with_message None messages = messages
 with_message (Some message) messages = messages ++ message ∷ []
@@ -105,12 +105,12 @@ sent (entry ∷ schedule) = with_message (message_made entry.0 entry.1) (sent sc
 abbrev pub message_at : ℕ → List (Event × Reply) → Option Message
 message_at number schedule = slice_get (sent schedule) number
 
--- what a node has come to
+-- what a node is after a schedule
 abbrev pub node_of : ℕ → List (Event × Reply) → Node
 node_of n schedule =
-    record { id = n; last = last_stamp n schedule; next = length (issued n schedule); retired = gone n schedule }
+    record { id = n; last = last_stamp n schedule; next = length (issued n schedule); retired = has_retired n schedule }
 
--- a schedule, and then these events with their replies, the first of them first
+-- the schedule after these further events with their replies, the first of which comes first
 abbrev pub after : List Event → List Reply → List (Event × Reply) → List (Event × Reply)
 after [] replies schedule = schedule
 after (event ∷ events) [] schedule = schedule

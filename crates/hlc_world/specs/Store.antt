@@ -1,4 +1,4 @@
--- The store's share of a schedule: what its events asked of the store, and what the store answered.
+-- The store's part of a schedule: what its events asked of the store, and what the store answered.
 use Rattle.std.specs.Prelude.{ℕ, List, [], ◌∷◌, Option, Some, None}
 use Rattle.hlc_node.specs.declared.item.Item.{Item}
 use Rattle.hlc_node.specs.Items.{retires}
@@ -15,7 +15,7 @@ use Rattle.hlc_world.specs.declared.reply.Reply.TheVariants.{Accepted, Joined, S
 use Rattle.hlc_world.specs.declared.reply.Reply.TheVariants.{Vacuumed}
 use Rattle.hlc_world.specs.Schedule.{Event, item_at}
 
--- an item that is found is to be accepted
+-- the request to accept an item, if the item was found
 abbrev pub accepting : Option Item → Option CoreEvent
 accepting None = None
 accepting (Some item) = Some (core_event.Accept item)
@@ -33,23 +33,23 @@ asked schedule (Close id) = Some (core_event.Close id)
 asked schedule Vacuum = Some core_event.Vacuum
 asked schedule _ = None
 
--- the word that the item, where there is one, was accepted: it is of this node and has this stamp
+-- the reply that the item, if there is one, was accepted: it has this node and this stamp
 abbrev pub accepted : ℕ → ℕ → Option Item → Option CoreReply
 accepted node stamp None = None
 accepted node stamp (Some item) =
     Some (core_reply.Accepted (record { node = node; stamp = stamp; retires = retires item.body }))
 
--- what the store answered to it, by the event's reply; nothing, where the event did not take place
-abbrev pub told : List (Event × Reply) → Event → Reply → Option CoreReply
-told schedule (Deliver node number) (Accepted stamp) = accepted node stamp (item_at node number schedule)
-told schedule Join (Joined node start) = Some (core_reply.Joined node start)
-told schedule (OpenAt at) (Snapshot id stamp) = Some (core_reply.Opened id stamp)
-told schedule OpenFloor (Snapshot id stamp) = Some (core_reply.Opened id stamp)
-told schedule (Read id key) (Answer value) = Some (core_reply.Answer value)
-told schedule (ListAll id) (Listing pairs) = Some (core_reply.Listing pairs)
-told schedule (Close id) (Closed stamp) = Some (core_reply.Closed stamp)
-told schedule Vacuum (Vacuumed report) = Some (core_reply.Vacuumed report)
-told schedule _ _ = None
+-- what the store answered to it, according to the event's reply; nothing where the event did not take place
+abbrev pub returned : List (Event × Reply) → Event → Reply → Option CoreReply
+returned schedule (Deliver node number) (Accepted stamp) = accepted node stamp (item_at node number schedule)
+returned schedule Join (Joined node start) = Some (core_reply.Joined node start)
+returned schedule (OpenAt at) (Snapshot id stamp) = Some (core_reply.Opened id stamp)
+returned schedule OpenFloor (Snapshot id stamp) = Some (core_reply.Opened id stamp)
+returned schedule (Read id key) (Answer value) = Some (core_reply.Answer value)
+returned schedule (ListAll id) (Listing pairs) = Some (core_reply.Listing pairs)
+returned schedule (Close id) (Closed stamp) = Some (core_reply.Closed stamp)
+returned schedule Vacuum (Vacuumed report) = Some (core_reply.Vacuumed report)
+returned schedule _ _ = None
 
 -- the reply and the event, if there are both
 abbrev pub paired : Option CoreReply → Option CoreEvent → Option (CoreEvent × CoreReply)
@@ -57,11 +57,11 @@ paired None event = None
 paired (Some reply) None = None
 paired (Some reply) (Some event) = Some (event, reply)
 
--- what the store is asked by an event that takes place, with its answer
+-- what an event that takes place asks of the store, with the store's answer
 abbrev pub share : List (Event × Reply) → Event → Reply → Option (CoreEvent × CoreReply)
-share schedule event reply = paired (told schedule event reply) (asked schedule event)
+share schedule event reply = paired (returned schedule event reply) (asked schedule event)
 
--- the history, and this entry after it
+-- the history, followed by this entry
 abbrev pub with_entry : Option (CoreEvent × CoreReply) → List (CoreEvent × CoreReply) → List (CoreEvent × CoreReply)
 with_entry None history = history
 with_entry (Some entry) history = entry ∷ history

@@ -1,13 +1,11 @@
-//! What may happen in a world.
-ghost use Rattle.std.specs.Prelude.{◌≡◌, IsTrue};
-ghost use Rattle.std.proofs.Common.{rules, subst};
-ghost use Rattle.std.proofs.lemmas.Grind.{common_steps};
+//! The events of a world.
+ghost use Rattle.std.specs.Prelude.{◌≡◌};
 
 use hlc_clock::Stamp;
 use hlc_node::Bytes;
-use hlc_values::{Exact, NoMemory};
+use hlc_values::NoMemory;
 
-/// What may happen in a world. Its keys and values are bytes, or what stands for bytes.
+/// An event of a world. Its keys and values are bytes, or values that represent bytes.
 #[derive(PartialEq, Eq, Debug, Drop)]
 pub enum Event<B = Bytes> {
     /// A node writes a value to a key, at this reading of its physical clock.
@@ -17,25 +15,25 @@ pub enum Event<B = Bytes> {
         key: B,
         value: B,
     },
-    /// A node deletes a key: its write is a deletion mark.
+    /// A node deletes a key: it writes a deletion mark (tombstone).
     Delete {
         node: u16,
         reading: u64,
         key: B,
     },
-    /// A node reports how far its stamps have come.
+    /// A node issues a report, an item that only says how far the node's stamps have come.
     Report {
         node: u16,
         reading: u64,
     },
-    /// A node issues its last item. After it each event of the node is refused.
+    /// A node issues its last item. Every later event at this node is refused.
     Retire {
         node: u16,
         reading: u64,
     },
-    /// A node joins: it is given the next number, and starts at the floor.
+    /// A node joins: it is assigned the next number, and its clock starts at the floor.
     Join,
-    /// A node sends a message. Messages are numbered from 0 over the whole world.
+    /// A node sends a message. Messages are numbered from 0 across the whole world.
     Send {
         node: u16,
         reading: u64,
@@ -52,8 +50,7 @@ pub enum Event<B = Bytes> {
         reading: u64,
         id: u64,
     },
-    /// The item of this number on a node's link comes to the store. It may come early, late, or
-    /// many times.
+    /// The item of this number on a node's link arrives at the store. It may arrive early, late or many times.
     Deliver {
         node: u16,
         number: u64,
@@ -62,7 +59,7 @@ pub enum Event<B = Bytes> {
     OpenAt {
         stamp: Stamp,
     },
-    /// A snapshot is opened at the floor.
+    /// A snapshot is opened at the floor (closed timestamp).
     OpenFloor,
     /// A key is read in an open snapshot.
     Read {
@@ -77,9 +74,9 @@ pub enum Event<B = Bytes> {
     Close {
         id: u64,
     },
-    /// The floor is asked for: the stamp that no later item falls below.
+    /// The floor is asked for. Each item that is accepted later has a stamp above it.
     Floor,
-    /// Rows that no reader needs any more are dropped, at the floor.
+    /// The store is vacuumed at the floor: rows that no reader needs any more are dropped.
     Vacuum,
     /// The number of stored rows is asked for.
     Rows,
@@ -92,7 +89,7 @@ impl Clone for Event<Bytes> {
 
     ghost is_infallible = { λ event. IsPlainEvent event };
 
-    /// Only a key and a value take memory.
+    /// Returns a copy. Only a key and a value take memory.
     fn clone(&self) -> Result<Event, NoMemory> {
         match self {
             Event::Write {
@@ -155,14 +152,4 @@ impl Clone for Event<Bytes> {
             Event::Rows => Ok(Event::Rows),
         }
     }
-}
-
-impl Exact for Event<Bytes> {
-    // Equal events are one event, so that way only asks whether each is equal to itself.
-    ghost equal = { λ x y. (
-      Prim.search (rules, common_steps),
-      λ same. subst (λ z. IsTrue (⟦<Event<Bytes> as PartialEq>⟧.eq x z)) same (Prim.search (rules, common_steps)),
-    ) };
-
-    ghost copied = { λ value copy same. same };
 }

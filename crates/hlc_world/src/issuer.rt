@@ -1,6 +1,6 @@
-//! What a world keeps of a node: the node itself, and the items that it issued.
+//! What a world stores for each node: the node itself, and the items that it issued.
 ghost use Rattle.std.specs.Prelude.{◌≡◌, false, [], slice_get, option_copied};
-ghost use Rattle.hlc_world.specs.State.{Issues, Keeps, Sees};
+ghost use Rattle.hlc_world.specs.WorldView.{Issues, Keeps, Sees};
 
 use crate::refusal::Refusal;
 use hlc_clock::Stamp;
@@ -16,15 +16,15 @@ pub struct Issuer {
 }
 
 impl Model for Issuer {
-    ghost use Rattle.hlc_world.specs.State.{KeptIssuer};
+    ghost use Rattle.hlc_world.specs.WorldView.{IssuerView};
 
-    ghost Value = { KeptIssuer };
+    ghost Value = { IssuerView };
 
     ghost view = { λ issuer. record { node = issuer.node; issued = issuer.issued.items } };
 }
 
 impl Issuer {
-    /// A node of this number, whose clock starts at a stamp and on which nothing took place.
+    /// Returns a node of this number, whose clock starts at `start` and at which no event has taken place.
     pub fn new(alloc: Global, id: u16, start: Stamp) -> Issuer
         ensures { result ≡ record
             { node = record { id = id; last = start; next = 0; retired = false }; issued = [] } }
@@ -35,35 +35,35 @@ impl Issuer {
         }
     }
 
-    /// The node, as a copy to try an event on.
+    /// Returns a copy of the node, to try an event on.
     pub fn node(&self) -> NodeCore
         ensures { result ≡ self.now.node }
     {
         self.node
     }
 
-    /// Whether the node retired.
+    /// Returns whether the node retired.
     pub fn is_retired(&self) -> bool
         ensures { result ≡ self.now.node.retired }
     {
         self.node.is_retired()
     }
 
-    /// The node came to be this one, by an event without an item.
+    /// Replaces the node by what it is after an event that issued no item.
     pub fn go_on(&mut self, node: NodeCore)
         ensures { self.new ≡ record { node = node; issued = self.old.issued } }
     {
         self.node = node;
     }
 
-    /// The issued item of this number.
+    /// Returns the issued item of this number, or none.
     pub fn item(&self, number: u64) -> Option<&Item>
         ensures { option_copied result ≡ slice_get self.now.issued number }
     {
         self.issued.as_slice().get(number as usize)
     }
 
-    /// Issues the item that says this, and gives its stamp and its number.
+    /// Issues an item with this body, and returns its stamp and its number.
     pub fn issue(&mut self, reading: u64, body: Body) -> Result<(Stamp, u64), Refusal>
         ensures { Issues self.old self.new body reading result }
     {
@@ -79,7 +79,8 @@ impl Issuer {
         self.keep(node, item)
     }
 
-    /// Sees a stamp, that of a snapshot or of a message that it receives, and gives the stamp of that event.
+    /// Lets the node see a stamp, that of a snapshot or of a message that it receives, and returns the stamp of this
+    /// event.
     pub fn see(&mut self, seen: Stamp, reading: u64) -> Result<Stamp, Refusal>
         ensures { Sees self.old self.new seen reading result }
     {
@@ -89,7 +90,7 @@ impl Issuer {
         }
     }
 
-    /// Keeps an issued item and the node as it is then, if there is memory.
+    /// Stores an issued item, and the node as it is after it; refused where it runs out of memory.
     fn keep(&mut self, node: NodeCore, item: Item) -> Result<(Stamp, u64), Refusal>
         ensures { Keeps self.old self.new node item result }
     {

@@ -1,15 +1,15 @@
-//! What holds of every schedule that a world can stand for.
+//! What is true of every schedule that a world can represent.
 ghost use Rattle.std.specs.Prelude.{◌<◌, ℕ, List};
 ghost use Rattle.hlc_world.specs.Schedule.{Event as AnEvent};
 ghost use Rattle.hlc_world.specs.declared.reply.Reply.{Reply as AReply};
-ghost use Rattle.hlc_world.specs.Due.{IsLegal, GoesByNumber};
+ghost use Rattle.hlc_world.specs.Expected.{IsLegal, GoesByNumber};
 ghost use Rattle.hlc_world.specs.Before.{HappenedBefore, IsStamped};
 ghost use Rattle.hlc_world.specs.Floor.{IsComplete, IsBelowClocks, IsClosed};
 ghost use Rattle.hlc_world.specs.Headline.{IsFaithful};
-ghost use Rattle.hlc_world.specs.State.{State, StandsFor, world_nodes};
+ghost use Rattle.hlc_world.specs.WorldView.{WorldView, Represents, world_nodes};
 
-/// In a schedule whose events were each given their due, as in each that a world stands for, if an
-/// event happened before another (Lamport 1978), its stamp is the lesser.
+/// In a legal schedule, which is one where each reply was allowed and so each one that a world represents: if an event
+/// happened before another (Lamport 1978), its stamp is the lesser.
 pub fn stamps_follow_events()
     ensures { (nodes : ℕ) (schedule : List (AnEvent × AReply)) (first later : ℕ) (n a m b : ℕ)
         → IsLegal nodes schedule
@@ -17,37 +17,36 @@ pub fn stamps_follow_events()
         → IsStamped schedule later m b → a < b }
 {}
 
-/// In such a schedule an issued item is refused for its number alone, memory aside, or since its
-/// node's last item was accepted: its stamp is never too low, its key and value never bad.
+/// In a legal schedule, apart from out of memory, an issued item is refused only because of its number, or because its
+/// node's last item was accepted: never because its stamp is too low, or because its key or value is bad.
 pub fn items_go_by_number()
     ensures { (nodes : ℕ) (schedule : List (AnEvent × AReply)) → IsLegal nodes schedule
         → GoesByNumber nodes schedule }
 {}
 
-/// In such a schedule every issued item at or below the floor was accepted, so what is read there
-/// is final.
+/// In a legal schedule every issued item at or below the floor was accepted, so what is read there is final.
 pub fn the_floor_is_complete()
     ensures { (nodes : ℕ) (schedule : List (AnEvent × AReply)) → IsLegal nodes schedule
         → IsComplete nodes schedule }
 {}
 
-/// In such a schedule no clock of a node whose last item was not yet accepted is below the floor.
+/// In a legal schedule no clock of a node whose last item was not yet accepted is below the floor.
 pub fn no_clock_is_below_the_floor()
     ensures { (nodes : ℕ) (schedule : List (AnEvent × AReply)) → IsLegal nodes schedule
         → IsBelowClocks nodes schedule }
 {}
 
-/// In such a schedule the past of each open snapshot is whole: what happened before an item that is
-/// read there is read there too.
+/// In a legal schedule the past of each open snapshot is whole: what happened before an item that is read there is read
+/// there too.
 pub fn open_snapshots_are_closed()
     ensures { (nodes : ℕ) (schedule : List (AnEvent × AReply)) → IsLegal nodes schedule
         → IsClosed schedule }
 {}
 
-/// A world is faithful to each schedule that it stands for: its store is faithful to its history, so
-/// reads gave the newest accepted values, vacuums were the least and the cheapest, and left the
-/// fewest rows; that history has each moment of the schedule; and what can be read is closed.
+/// A world is faithful to each schedule that it represents. Its store is faithful to its history: reads returned the
+/// newest accepted values, vacuums were the least and the cheapest, and left the fewest rows. That history has each
+/// moment of the schedule, and what can be read is closed under happened-before.
 pub fn worlds_are_faithful()
-    ensures { (state : State) (schedule : List (AnEvent × AReply)) → StandsFor state schedule
+    ensures { (state : WorldView) (schedule : List (AnEvent × AReply)) → Represents state schedule
         → IsFaithful (world_nodes state) schedule state.core.rows }
 {}

@@ -1,8 +1,8 @@
-//! The world: nodes with their clocks, items and messages, and the one store that they feed, event
-//! by event.
+//! The world: nodes with their clocks, items and messages, and the one store that they feed, event by event.
 #![tactic(auto)]
 
 mod event;
+mod exact;
 mod issuer;
 mod laws;
 mod refusal;

@@ -1,42 +1,34 @@
 //! Why an event does not take place.
 ghost use Rattle.std.specs.Prelude.{◌≡◌};
-ghost use Rattle.std.proofs.Common.{rules};
-ghost use Rattle.std.proofs.lemmas.Grind.{common_steps};
 ghost use Rattle.hlc_world.specs.Faults.{refusal_code, refusal_word};
 
 use hlc_core::CoreFault;
 use hlc_node::NodeFault;
-use hlc_values::{Exact, NoMemory};
+use hlc_values::NoMemory;
 use std::error::Error;
 use std::fmt;
 
 /// Why an event does not take place. Out of memory is `NoMemory`, and an unknown node is `NoNode`, whether the world or
-/// its store met it.
+/// its store found it.
 #[derive(Clone, Copy, PartialEq, Eq, Debug)]
 pub enum Refusal {
     /// No node has that number, or a new world is not of 1 to 64 nodes.
     NoNode,
-    /// The node has no such event.
+    /// The node refuses the event, for this reason.
     Node(NodeFault),
     /// No message of that number was sent.
     NoMessage,
     /// The node has issued no item of that number.
     NoItem,
-    /// The store refuses what the event asks of it. It never says that a stamp does not rise, since the stamps of a
-    /// world's nodes rise.
+    /// The store refuses what the event asks of it, for this reason. The reason is never that a stamp does not rise,
+    /// since the stamps of a world's nodes rise.
     Store(CoreFault),
     /// Out of memory.
     NoMemory,
 }
 
-impl Exact for Refusal {
-    ghost equal = { Prim.search (rules, common_steps) };
-
-    ghost copied = { Prim.search rules };
-}
-
 impl Refusal {
-    /// Its number in outputs: 1 to 15, 26 or 27.
+    /// Returns its number in outputs: 1 to 15, 26 or 27.
     pub fn code(self) -> u32
         ensures { result ≡ refusal_code self }
     {
@@ -50,7 +42,7 @@ impl Refusal {
         }
     }
 
-    /// The number or the word of the stamp that comes with it, or 0.
+    /// Returns the number, or the stamp as a word, that comes with the refusal, or 0.
     pub fn word(self) -> u64
         ensures { result ≡ refusal_word self }
     {
@@ -93,7 +85,7 @@ impl From<NodeFault> for Refusal {
 }
 
 impl From<CoreFault> for Refusal {
-    ghost use Rattle.hlc_world.specs.Due.{of_core};
+    ghost use Rattle.hlc_world.specs.Expected.{of_core};
 
     ghost from_gives = { λ fault refusal. refusal ≡ of_core fault };
 

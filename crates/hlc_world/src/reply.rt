@@ -1,25 +1,18 @@
-//! What a world answers to an event.
-ghost use Rattle.std.specs.Prelude.{◌≡◌, ◌↔◌, IsTrue, List};
-ghost use Rattle.std.specs.Cmp.Lexicographic.{pointwise_decides};
-ghost use Rattle.std.proofs.Common.{rules, subst};
-ghost use Rattle.std.proofs.lemmas.Grind.{common_steps};
-ghost use Rattle.hlc_vacuum.specs.declared.report.Report.{Report as AReport};
-ghost use Rattle.hlc_vacuum.specs.contracts.report.ReportExact.TheImpl.Laws.{equal-law as report_equal};
-ghost use Rattle.hlc_core.specs.declared.listing.Pair.{Pair as APair};
-ghost use Rattle.hlc_core.specs.contracts.listing.PairExact.TheImpl.Laws.{equal-law as pair_equal};
+//! The replies of a world to its events.
+ghost use Rattle.std.specs.Prelude.{◌≡◌};
 
 use crate::refusal::Refusal;
 use hlc_clock::Stamp;
 use hlc_core::{Listing, Report};
 use hlc_node::Bytes;
-use hlc_values::{Exact, NoMemory};
+use hlc_values::NoMemory;
 
-/// What a world answers to an event.
+/// The reply of a world to an event.
 #[derive(PartialEq, Eq, Debug, Drop)]
 pub enum Reply {
     /// The node issued the item of this number, with this stamp.
     Stamped { stamp: Stamp, item: u64 },
-    /// A node of this number joined, and starts at this stamp.
+    /// A node of this number joined, and its clock starts at this stamp.
     Joined { node: u16, start: Stamp },
     /// The message of this number was sent, with this stamp.
     Sent { stamp: Stamp, message: u64 },
@@ -39,7 +32,7 @@ pub enum Reply {
     Closed { stamp: Stamp },
     /// The floor is at this stamp.
     Floor { stamp: Stamp },
-    /// The vacuum took place, and did this.
+    /// The vacuum took place; this is its report.
     Vacuumed { report: Report },
     /// So many rows are stored.
     Rows { count: u128 },
@@ -54,7 +47,7 @@ impl Clone for Reply {
 
     ghost is_infallible = { λ reply. IsPlainReply reply };
 
-    /// Only a value, a listing and a report take memory.
+    /// Returns a copy. Only a value, a listing and a report take memory.
     fn clone(&self) -> Result<Reply, NoMemory> {
         match self {
             Reply::Stamped { stamp, item } => Ok(Reply::Stamped {
@@ -92,19 +85,4 @@ impl Clone for Reply {
             Reply::Refused(refusal) => Ok(Reply::Refused(*refusal)),
         }
     }
-}
-
-impl Exact for Reply {
-    // Equal replies are one reply, so that way only asks whether each is equal to itself.
-    ghost equal = { let listings : (x y : List APair) → IsTrue (⟦<Listing as PartialEq>⟧.eq x y) ↔ (x ≡ y)
-        = pointwise_decides pair_equal in
-        let reports : (x y : AReport) → IsTrue (⟦<Report as PartialEq>⟧.eq x y) ↔ (x ≡ y)
-        = report_equal in
-        λ x y. (
-          Prim.search (rules, common_steps, listings, reports),
-          λ same. subst (λ z. IsTrue (⟦<Reply as PartialEq>⟧.eq x z)) same
-              (Prim.search (rules, common_steps, listings, reports)),
-        ) };
-
-    ghost copied = { λ value copy same. same };
 }

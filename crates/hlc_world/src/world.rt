@@ -3,14 +3,14 @@ ghost use Rattle.std.specs.Prelude.{◌≡◌, ◌≢◌, ◌<◌, ℕ, [], ◌�
 ghost use Rattle.std.specs.Prelude.{length, option_copied};
 ghost use Rattle.hlc_intake.specs.declared.intake.LinkFault.TheVariants.{StampNotRising};
 ghost use Rattle.hlc_core.specs.Past.{Step, Took, item_refusal};
-ghost use Rattle.hlc_core.specs.Kept.{nodes, StandsFor as CoreStandsFor};
+ghost use Rattle.hlc_core.specs.StoreView.{nodes, Represents as CoreRepresents};
 ghost use Rattle.hlc_core.specs.Calls.{IsRefusal, IsWrite};
 ghost use Rattle.hlc_world.specs.Schedule.{Event as AnEvent, issuing, after};
 ghost use Rattle.hlc_world.specs.Before.{HappenedBefore, IsStamped};
-ghost use Rattle.hlc_world.specs.Due.{IsGiven, IsQuestion, IsRefused, GoesByNumber};
+ghost use Rattle.hlc_world.specs.Expected.{MayReply, IsQuestion, IsRefused, GoesByNumber};
 ghost use Rattle.hlc_world.specs.Floor.{IsComplete, IsBelowClocks, IsClosed};
 ghost use Rattle.hlc_world.specs.Headline.{IsFaithful};
-ghost use Rattle.hlc_world.specs.State.{StandsFor, Makes, world_nodes, fresh_issuers};
+ghost use Rattle.hlc_world.specs.WorldView.{Represents, Makes, world_nodes, fresh_issuers};
 ghost use Rattle.hlc_world.specs.declared.reply.Reply.{Reply as AReply};
 
 use crate::event::Event;
@@ -26,9 +26,9 @@ use std::marker::Model;
 
 /// Nodes with their clocks, items and messages, and the one store that they feed.
 ///
-/// Contracts see what it keeps, and relate that to a schedule: a world stands for the events that
-/// it was handed, with its replies, in order. A refused event did not take place: it leaves the
-/// world unchanged, and it is spent, so its caller copies it first where it wants it again.
+/// Contracts describe what a world stores, and relate that to a schedule: a world represents the events that were
+/// passed to it, with its replies, in order. A refused event did not take place and leaves the world unchanged. Each
+/// event is consumed, so a caller that needs it again copies it first.
 #[derive(Debug, Drop)]
 pub struct World {
     alloc: Global,
@@ -38,17 +38,17 @@ pub struct World {
 }
 
 impl Model for World {
-    ghost use Rattle.hlc_world.specs.State.{State};
+    ghost use Rattle.hlc_world.specs.WorldView.{WorldView};
 
-    ghost Value = { State };
+    ghost Value = { WorldView };
 
     ghost view = { λ world. record
         { core = world.core; nodes = world.nodes.items; sent_stamps = world.sent_stamps.items } };
 }
 
 impl World {
-    /// A world of so many nodes, 1 to 64, in which nothing took place. Nodes are numbered from 0,
-    /// and each clock starts at 0.0. Nodes that join have the numbers after them, up to 1,023.
+    /// Returns a world of so many nodes, 1 to 64, at which no event has taken place. Nodes are numbered from 0, and
+    /// each clock starts at 0.0. Nodes that join get the numbers after these, up to 1,023.
     pub fn new(alloc: Global, nodes: u16) -> Result<World, Refusal>
         ensures { Makes nodes result }
     {
@@ -62,41 +62,40 @@ impl World {
         })
     }
 
-    /// One event takes place, or is refused.
+    /// Performs one event, or refuses it.
     ///
-    /// Refusals come in this order. Write, Delete: no such node; retired; bad key; value too long;
-    /// numbers spent; reading too large; counter full. Report, Retire: no such node; retired;
-    /// numbers spent; reading too large; counter full. Join: too many nodes. Send: no such node;
-    /// retired; reading too large; counter full. Receive: no such node; retired; no such message;
-    /// reading too large; counter full. Observe: no such node; retired; no such snapshot; reading
-    /// too large; counter full. Deliver: no such node; no such item; retired, where the node's last
-    /// item was accepted; not the next number. OpenAt: above the floor; below the horizon; too many
-    /// snapshots; numbers spent. OpenFloor: the last two. Read, List, Close: no such snapshot. Last,
-    /// where the event makes an item, a node, a message, a snapshot or a listing, stores a row,
-    /// gives a value or is a Vacuum, want of memory. A Vacuum is refused for nothing else, and Floor
-    /// and Rows are never refused. Read, List, Floor and Rows change nothing, whatever the reply.
+    /// Refusals come in this order. Write, Delete: no such node; retired; bad key; value too long; numbers spent;
+    /// reading too large; counter full. Report, Retire: no such node; retired; numbers spent; reading too large;
+    /// counter full. Join: too many nodes. Send: no such node; retired; reading too large; counter full. Receive: no
+    /// such node; retired; no such message; reading too large; counter full. Observe: no such node; retired; no such
+    /// snapshot; reading too large; counter full. Deliver: no such node; no such item; retired, where the node's last
+    /// item was accepted; not the next number. OpenAt: above the floor; below the horizon (GC threshold); too many
+    /// snapshots; numbers spent. OpenFloor: the last two. Read, List, Close: no such snapshot. The last one is out of
+    /// memory, where the event makes an item, a node, a message, a snapshot or a listing, stores a row, returns a value
+    /// or is a Vacuum. A Vacuum is refused for nothing else, and Floor and Rows are never refused. Read, List, Floor
+    /// and Rows change nothing, whatever the reply.
     #[inline(always)]
     pub fn step(&mut self, event: Event) -> Reply
-        ensures stands { (schedule : List (AnEvent × AReply)) → StandsFor self.old schedule
-            → StandsFor self.new ((event, result) ∷ schedule) }
-        ensures given { (schedule : List (AnEvent × AReply)) → StandsFor self.old schedule
-            → IsGiven (world_nodes self.old) schedule event result }
+        ensures represents { (schedule : List (AnEvent × AReply)) → Represents self.old schedule
+            → Represents self.new ((event, result) ∷ schedule) }
+        ensures allowed { (schedule : List (AnEvent × AReply)) → Represents self.old schedule
+            → MayReply (world_nodes self.old) schedule event result }
         ensures ordered { (schedule : List (AnEvent × AReply)) (first later : ℕ) (n a m b : ℕ)
-            → StandsFor self.old schedule → HappenedBefore ((event, result) ∷ schedule) first later
+            → Represents self.old schedule → HappenedBefore ((event, result) ∷ schedule) first later
             → IsStamped ((event, result) ∷ schedule) first n a
             → IsStamped ((event, result) ∷ schedule) later m b → a < b }
-        ensures complete { (schedule : List (AnEvent × AReply)) → StandsFor self.old schedule
+        ensures complete { (schedule : List (AnEvent × AReply)) → Represents self.old schedule
             → IsComplete (world_nodes self.old) ((event, result) ∷ schedule) }
-        ensures clocks { (schedule : List (AnEvent × AReply)) → StandsFor self.old schedule
+        ensures clocks { (schedule : List (AnEvent × AReply)) → Represents self.old schedule
             → IsBelowClocks (world_nodes self.old) ((event, result) ∷ schedule) }
-        ensures closed { (schedule : List (AnEvent × AReply)) → StandsFor self.old schedule
+        ensures closed { (schedule : List (AnEvent × AReply)) → Represents self.old schedule
             → IsClosed ((event, result) ∷ schedule) }
-        ensures faithful { (schedule : List (AnEvent × AReply)) → StandsFor self.old schedule
+        ensures faithful { (schedule : List (AnEvent × AReply)) → Represents self.old schedule
             → IsFaithful (world_nodes self.old) ((event, result) ∷ schedule) self.new.core.rows }
         ensures rising { (schedule : List (AnEvent × AReply)) (head : ℕ)
-            → StandsFor self.old schedule
+            → Represents self.old schedule
             → result ≢ Reply.Refused (Refusal.Store (CoreFault.Link (StampNotRising head))) }
-        ensures numbered { (schedule : List (AnEvent × AReply)) → StandsFor self.old schedule
+        ensures numbered { (schedule : List (AnEvent × AReply)) → Represents self.old schedule
             → GoesByNumber (world_nodes self.old) schedule }
         ensures asked { IsQuestion event → self.new ≡ self.old }
         ensures unchanged { IsRefused result → self.new ≡ self.old }
@@ -105,15 +104,15 @@ impl World {
         self.take_place(event)
     }
 
-    /// The value that a key has in an open snapshot, or none: what a Read answers, but where it stands and not as a
-    /// copy, so that it takes no memory.
+    /// Returns the value that a key has in an open snapshot, or none: what a Read answers, but as a reference to the
+    /// stored value and not as a copy, so that it takes no memory.
     #[inline]
     pub fn look(&self, id: u64, key: &[u8]) -> Result<Option<&[u8]>, Refusal>
-        ensures { (schedule : List (AnEvent × AReply)) → StandsFor self.now schedule
+        ensures { (schedule : List (AnEvent × AReply)) → Represents self.now schedule
             → MatchResult result
-            (λ value. StandsFor self.now
+            (λ value. Represents self.now
             ((Event.Read id key.now, Reply.Answer (option_copied value)) ∷ schedule))
-            (λ refusal. StandsFor self.now
+            (λ refusal. Represents self.now
             ((Event.Read id key.now, Reply.Refused refusal) ∷ schedule)) }
     {
         let found = self.core.read(id, key);
@@ -123,16 +122,16 @@ impl World {
         }
     }
 
-    /// The events in turn. Room for all replies is made first: where that is refused, no event took
-    /// place and the events come back.
+    /// Performs the events in turn, and returns their replies. Room for all replies is allocated first: where that runs
+    /// out of memory, no event took place and the events are returned.
     pub fn run(&mut self, events: Vec<Event>) -> Result<Vec<Reply>, (NoMemory, Vec<Event>)>
         ensures ok { IfOk result
             (λ replies. (length replies.items ≡ length events.items)
             × ((schedule : List (AnEvent × AReply))
-            → StandsFor self.old schedule
-            → StandsFor self.new (after events.items replies.items schedule))) }
+            → Represents self.old schedule
+            → Represents self.new (after events.items replies.items schedule))) }
         ensures faithful { IfOk result
-            (λ replies. (schedule : List (AnEvent × AReply)) → StandsFor self.old schedule
+            (λ replies. (schedule : List (AnEvent × AReply)) → Represents self.old schedule
             → IsFaithful (world_nodes self.old)
             (after events.items replies.items schedule) self.new.core.rows) }
         ensures err { IfErr result
@@ -150,10 +149,10 @@ impl World {
         Ok(replies)
     }
 
-    /// The reply to the opening of a snapshot at a stamp.
+    /// Opens a snapshot at a stamp, and returns the reply.
     fn open_at(&mut self, stamp: Stamp) -> Reply
-        ensures stands { (schedule : List (AnEvent × AReply)) → StandsFor self.old schedule
-            → StandsFor self.new ((Event.OpenAt stamp, result) ∷ schedule) }
+        ensures represents { (schedule : List (AnEvent × AReply)) → Represents self.old schedule
+            → Represents self.new ((Event.OpenAt stamp, result) ∷ schedule) }
         ensures unchanged { IsRefused result → self.new ≡ self.old }
         ensures nodes { world_nodes self.new ≡ world_nodes self.old }
     {
@@ -163,10 +162,10 @@ impl World {
         }
     }
 
-    /// The reply to the opening of a snapshot at the floor.
+    /// Opens a snapshot at the floor, and returns the reply.
     fn open_floor(&mut self) -> Reply
-        ensures stands { (schedule : List (AnEvent × AReply)) → StandsFor self.old schedule
-            → StandsFor self.new ((Event.OpenFloor, result) ∷ schedule) }
+        ensures represents { (schedule : List (AnEvent × AReply)) → Represents self.old schedule
+            → Represents self.new ((Event.OpenFloor, result) ∷ schedule) }
         ensures unchanged { IsRefused result → self.new ≡ self.old }
         ensures nodes { world_nodes self.new ≡ world_nodes self.old }
     {
@@ -176,10 +175,10 @@ impl World {
         }
     }
 
-    /// The reply to a listing.
+    /// Returns the reply to a List.
     fn list(&self, id: u64) -> Reply
-        ensures { (schedule : List (AnEvent × AReply)) → StandsFor self.now schedule
-            → StandsFor self.now ((Event.List id, result) ∷ schedule) }
+        ensures { (schedule : List (AnEvent × AReply)) → Represents self.now schedule
+            → Represents self.now ((Event.List id, result) ∷ schedule) }
     {
         match self.core.list(id) {
             Ok(pairs) => Reply::Listing { pairs },
@@ -187,10 +186,10 @@ impl World {
         }
     }
 
-    /// The reply to the closing of a snapshot.
+    /// Closes a snapshot, and returns the reply.
     fn close(&mut self, id: u64) -> Reply
-        ensures stands { (schedule : List (AnEvent × AReply)) → StandsFor self.old schedule
-            → StandsFor self.new ((Event.Close id, result) ∷ schedule) }
+        ensures represents { (schedule : List (AnEvent × AReply)) → Represents self.old schedule
+            → Represents self.new ((Event.Close id, result) ∷ schedule) }
         ensures unchanged { IsRefused result → self.new ≡ self.old }
         ensures nodes { world_nodes self.new ≡ world_nodes self.old }
     {
@@ -200,10 +199,10 @@ impl World {
         }
     }
 
-    /// The reply to a vacuum.
+    /// Vacuums the store, and returns the reply.
     fn vacuum(&mut self) -> Reply
-        ensures stands { (schedule : List (AnEvent × AReply)) → StandsFor self.old schedule
-            → StandsFor self.new ((Event.Vacuum, result) ∷ schedule) }
+        ensures represents { (schedule : List (AnEvent × AReply)) → Represents self.old schedule
+            → Represents self.new ((Event.Vacuum, result) ∷ schedule) }
         ensures unchanged { IsRefused result → self.new ≡ self.old }
         ensures nodes { world_nodes self.new ≡ world_nodes self.old }
     {
@@ -213,10 +212,10 @@ impl World {
         }
     }
 
-    /// The reply to a read, with a copy of the value.
+    /// Returns the reply to a Read, with a copy of the value.
     fn read(&self, id: u64, key: &[u8]) -> Reply
-        ensures { (schedule : List (AnEvent × AReply)) → StandsFor self.now schedule
-            → StandsFor self.now ((Event.Read id key.now, result) ∷ schedule) }
+        ensures { (schedule : List (AnEvent × AReply)) → Represents self.now schedule
+            → Represents self.now ((Event.Read id key.now, result) ∷ schedule) }
     {
         match self.core.read(id, key) {
             Err(_) => Reply::Refused(Refusal::Store(CoreFault::NoSnapshot)),
@@ -230,8 +229,8 @@ impl World {
 
     #[inline(always)]
     fn take_place(&mut self, event: Event) -> Reply
-        ensures stands { (schedule : List (AnEvent × AReply)) → StandsFor self.old schedule
-            → StandsFor self.new ((event, result) ∷ schedule) }
+        ensures represents { (schedule : List (AnEvent × AReply)) → Represents self.old schedule
+            → Represents self.new ((event, result) ∷ schedule) }
         ensures asked { IsQuestion event → self.new ≡ self.old }
         ensures unchanged { IsRefused result → self.new ≡ self.old }
         ensures nodes { world_nodes self.new ≡ world_nodes self.old }
@@ -272,11 +271,11 @@ impl World {
         }
     }
 
-    /// The reply to a Write, as `step` gives it.
+    /// Performs a Write, and returns the reply as `step` does.
     #[inline(always)]
     pub fn write(&mut self, node: u16, reading: u64, key: Bytes, value: Bytes) -> Reply
-        ensures stands { (schedule : List (AnEvent × AReply)) → StandsFor self.old schedule
-            → StandsFor self.new ((Event.Write node reading key value, result) ∷ schedule) }
+        ensures represents { (schedule : List (AnEvent × AReply)) → Represents self.old schedule
+            → Represents self.new ((Event.Write node reading key value, result) ∷ schedule) }
         ensures unchanged { IsRefused result → self.new ≡ self.old }
         ensures nodes { world_nodes self.new ≡ world_nodes self.old }
     {
@@ -284,21 +283,21 @@ impl World {
         self.issue(node, reading, Body::Write { key, value })
     }
 
-    /// The reply to a Report, as `step` gives it.
+    /// Performs a Report, and returns the reply as `step` does.
     #[inline(always)]
     pub fn report(&mut self, node: u16, reading: u64) -> Reply
-        ensures stands { (schedule : List (AnEvent × AReply)) → StandsFor self.old schedule
-            → StandsFor self.new ((Event.Report node reading, result) ∷ schedule) }
+        ensures represents { (schedule : List (AnEvent × AReply)) → Represents self.old schedule
+            → Represents self.new ((Event.Report node reading, result) ∷ schedule) }
         ensures unchanged { IsRefused result → self.new ≡ self.old }
         ensures nodes { world_nodes self.new ≡ world_nodes self.old }
     {
         self.issue(node, reading, Body::Report)
     }
 
-    /// A node issues the item that says this.
+    /// Lets a node issue an item with this body, and returns the reply.
     fn issue(&mut self, node: u16, reading: u64, body: Body) -> Reply
-        ensures stands { (schedule : List (AnEvent × AReply)) → StandsFor self.old schedule
-            → StandsFor self.new ((issuing node reading body, result) ∷ schedule) }
+        ensures represents { (schedule : List (AnEvent × AReply)) → Represents self.old schedule
+            → Represents self.new ((issuing node reading body, result) ∷ schedule) }
         ensures unchanged { IsRefused result → self.new ≡ self.old }
         ensures nodes { world_nodes self.new ≡ world_nodes self.old }
     {
@@ -312,8 +311,8 @@ impl World {
     }
 
     fn join(&mut self) -> Reply
-        ensures stands { (schedule : List (AnEvent × AReply)) → StandsFor self.old schedule
-            → StandsFor self.new ((Event.Join, result) ∷ schedule) }
+        ensures represents { (schedule : List (AnEvent × AReply)) → Represents self.old schedule
+            → Represents self.new ((Event.Join, result) ∷ schedule) }
         ensures unchanged { IsRefused result → self.new ≡ self.old }
         ensures nodes { world_nodes self.new ≡ world_nodes self.old }
     {
@@ -336,11 +335,11 @@ impl World {
         }
     }
 
-    /// The reply to a Send, as `step` gives it.
+    /// Performs a Send, and returns the reply as `step` does.
     #[inline(always)]
     pub fn send(&mut self, node: u16, reading: u64) -> Reply
-        ensures stands { (schedule : List (AnEvent × AReply)) → StandsFor self.old schedule
-            → StandsFor self.new ((Event.Send node reading, result) ∷ schedule) }
+        ensures represents { (schedule : List (AnEvent × AReply)) → Represents self.old schedule
+            → Represents self.new ((Event.Send node reading, result) ∷ schedule) }
         ensures unchanged { IsRefused result → self.new ≡ self.old }
         ensures nodes { world_nodes self.new ≡ world_nodes self.old }
     {
@@ -362,11 +361,11 @@ impl World {
         }
     }
 
-    /// The reply to a Receive, as `step` gives it.
+    /// Performs a Receive, and returns the reply as `step` does.
     #[inline(always)]
     pub fn receive(&mut self, node: u16, reading: u64, message: u64) -> Reply
-        ensures stands { (schedule : List (AnEvent × AReply)) → StandsFor self.old schedule
-            → StandsFor self.new ((Event.Receive node reading message, result) ∷ schedule) }
+        ensures represents { (schedule : List (AnEvent × AReply)) → Represents self.old schedule
+            → Represents self.new ((Event.Receive node reading message, result) ∷ schedule) }
         ensures unchanged { IsRefused result → self.new ≡ self.old }
         ensures nodes { world_nodes self.new ≡ world_nodes self.old }
     {
@@ -386,8 +385,8 @@ impl World {
     }
 
     fn observe(&mut self, node: u16, reading: u64, id: u64) -> Reply
-        ensures stands { (schedule : List (AnEvent × AReply)) → StandsFor self.old schedule
-            → StandsFor self.new ((Event.Observe node reading id, result) ∷ schedule) }
+        ensures represents { (schedule : List (AnEvent × AReply)) → Represents self.old schedule
+            → Represents self.new ((Event.Observe node reading id, result) ∷ schedule) }
         ensures unchanged { IsRefused result → self.new ≡ self.old }
         ensures nodes { world_nodes self.new ≡ world_nodes self.old }
     {
@@ -406,11 +405,11 @@ impl World {
         }
     }
 
-    /// The reply to a Deliver, as `step` gives it.
+    /// Performs a Deliver, and returns the reply as `step` does.
     #[inline(always)]
     pub fn deliver(&mut self, node: u16, number: u64) -> Reply
-        ensures stands { (schedule : List (AnEvent × AReply)) → StandsFor self.old schedule
-            → StandsFor self.new ((Event.Deliver node number, result) ∷ schedule) }
+        ensures represents { (schedule : List (AnEvent × AReply)) → Represents self.old schedule
+            → Represents self.new ((Event.Deliver node number, result) ∷ schedule) }
         ensures unchanged { IsRefused result → self.new ≡ self.old }
         ensures nodes { world_nodes self.new ≡ world_nodes self.old }
     {
@@ -427,7 +426,7 @@ impl World {
     }
 }
 
-/// So many nodes, on which nothing took place.
+/// Returns so many nodes, at which no event has taken place.
 fn fresh_nodes(alloc: Global, count: u16) -> Result<Vec<Issuer>, NoMemory>
     ensures { IfOk result (λ made. made.items ≡ fresh_issuers count) }
 {
@@ -438,7 +437,7 @@ fn fresh_nodes(alloc: Global, count: u16) -> Result<Vec<Issuer>, NoMemory>
     Ok(made)
 }
 
-/// Adds the stamp of a message to those of the messages before it, if there is memory.
+/// Appends the stamp of a message to those of the earlier messages. Returns false where it runs out of memory.
 fn post(stamps: &mut Vec<Stamp>, stamp: Stamp) -> bool
     ensures { MatchBool result (stamps.new.items ≡ stamps.old.items ++ stamp ∷ [])
         (stamps.new.items ≡ stamps.old.items) }
@@ -446,12 +445,12 @@ fn post(stamps: &mut Vec<Stamp>, stamp: Stamp) -> bool
     stamps.push(stamp).is_ok()
 }
 
-/// Hands an item to the store, which takes a copy, and gives its stamp.
+/// Passes an item to the store, which makes a copy of it, and returns the item's stamp.
 fn accept(core: &mut Core, item: &Item) -> Result<Stamp, CoreFault>
-    ensures stands { (past : List Step) → CoreStandsFor core.old past
+    ensures represents { (past : List Step) → CoreRepresents core.old past
         → MatchResult result
         (λ stamp. (stamp ≡ item.now.stamp) × (item_refusal (nodes core.old) past item.now ≡ None)
-        × CoreStandsFor core.new (Took item.now ∷ past)) (λ fault.
+        × CoreRepresents core.new (Took item.now ∷ past)) (λ fault.
         IsRefusal (item_refusal (nodes core.old) past item.now) (IsWrite item.now.body) fault
         × (core.new ≡ core.old)) }
     ensures err { OnErr result (core.new ≡ core.old) }

@@ -1,5 +1,5 @@
-//! The program: `hlcstore run` answers a script from standard input on standard output, `hlcstore check`
-//! a certificate, and `hlcstore storm` lets threads write, read and vacuum one store beside each other.
+//! The program: `hlcstore run` answers a script from standard input on standard output, `hlcstore check` a certificate,
+//! and `hlcstore storm` runs threads that write, read and vacuum one store concurrently.
 #![tactic(auto)]
 
 use crate::program::run_program;
@@ -9,7 +9,7 @@ use std::process::ExitCode;
 
 mod program;
 
-/// The words after the program's name, or none where they can't be held.
+/// Returns the words after the program's name, or none where it runs out of memory.
 fn words(rt: &HostRuntime) -> Option<Vec<String>> {
     let words = env::args(rt).ok()?;
     words.skip(1).collect(rt.alloc()).ok()

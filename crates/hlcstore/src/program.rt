@@ -1,4 +1,4 @@
-//! The program: what is done for the words behind its name.
+//! The program: what it does for the words after its name.
 ghost use Rattle.std.specs.Prelude.{◌≡◌, false, codes, Option};
 ghost use Rattle.std.specs.Option.{option_map};
 ghost use Rattle.hlc_text.specs.Watched.{has_failed};
@@ -18,12 +18,12 @@ use std::io::{Read, Write};
 use std::sync::Wait;
 use std::thread::Threads;
 
-/// Does what the words ask for, and gives the exit status. The words are none where they could not
-/// be held.
+/// Does what the words ask for, and returns the exit status. The words are none where the program ran out of memory for
+/// them.
 ///
-/// For `run` it answers the script that the reader has left, for `check` the certificate. For `storm`
-/// and its sizes it starts threads, joins them all and prints what they came to; nothing is read. Any
-/// other words are refused with status 1, before anything is read.
+/// For `run` it answers the script that the reader has left, for `check` the certificate. For `storm` and its sizes it
+/// starts threads, joins them all and prints what came of it; nothing is read. Any other words are refused with status
+/// 1, before anything is read.
 pub fn run_program<H: Threads + Wait + Sync, R: Read, W: Write>(
     rt: &H,
     alloc: Global,
@@ -45,14 +45,14 @@ pub fn run_program<H: Threads + Wait + Sync, R: Read, W: Write>(
     }
 }
 
-/// What the words ask for, or none where that is nothing that the program does.
+/// Returns what the words ask for, or none where that is nothing that the program does.
 fn words_asked(words: Option<&[String]>) -> Option<Words>
     ensures { Asks (option_map (λ words. bytes_of words.now) words.entry) result }
 {
     read_words(words?).ok()
 }
 
-/// Writes that the words are refused, and gives the status of that, also where the writer fails.
+/// Writes that the words are refused, and returns the status for that, even where the writer fails.
 fn refuse_words<W: Write>(writer: &mut Watched<W>) -> u8
     ensures written { Writes W.contents writer.old writer.new (printed (codes "refused 25")) }
     ensures status { result ≡ 1 }

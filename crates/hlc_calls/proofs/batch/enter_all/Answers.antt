@@ -6,9 +6,9 @@ use Rattle.hlc_calls.proofs.batch.enter_all.Goals as goal
 pub loop-index-preserved : goal.loop-index-preserved
 loop-index-preserved c = record {
   within = search rules;
-  stands = λ past stands.
+  represents = λ past represents.
       entered_next c.loop-index.core c.enter-code.new.core c.args.entries.now c.args.bytes.now c.loop-index.index _
-      past c.enter-code.result c.enter-code.new.told (search rules) (search rules) (search rules)
-      (c.enter-code.ensures.answer _ (c.loop-index.invariant.stands past stands));
+      past c.enter-code.result c.enter-code.new.returned (search rules) (search rules) (search rules)
+      (c.enter-code.ensures.answer _ (c.loop-index.invariant.represents past represents));
   nodes = c.enter-code.ensures.nodes ∙ c.loop-index.invariant.nodes;
 }

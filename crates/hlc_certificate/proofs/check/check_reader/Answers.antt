@@ -1,16 +1,16 @@
--- An input that is held was taken whole; of one that is not held, the reading tells why.
+-- An input that was loaded was taken whole; for one that was not loaded, the contract of the read says why.
 use Rattle.hlc_certificate.proofs.Taken.{check_takes_all}
 use Rattle.hlc_certificate.proofs.check.check_reader.Goals as goal
 
 pub returns-in-Ok-clause-answer : goal.returns-in-Ok-clause-answer
 returns-in-Ok-clause-answer g c =
-    let held = c.in-Ok.ensures.ok in
+    let loaded = c.in-Ok.ensures.ok in
     let same = c.as_slice.ensures.value in (
       c.as_slice.result.now,
       c.as_slice.result.now,
-      rw same held.0,
-      rw same held.1,
-      check_takes_all _ c.check_input.result c.check_input.ensures.held,
+      rw same loaded.0,
+      rw same loaded.1,
+      check_takes_all _ c.check_input.result c.check_input.ensures.loaded,
       c.check_input.ensures.answer,
     )
 

@@ -1,4 +1,4 @@
--- The two numbers are printed behind their words, and then the line feed.
+-- The two numbers are printed after their words, and then the line feed.
 use Rattle.hlc_text.proofs.PrintLemmas.{printed_then}
 use Rattle.hlc_certificate.proofs.check.put_fewest.Goals as goal
 

@@ -1,4 +1,4 @@
--- Where the words behind the first do not fit, nothing has the words.
+-- Where the words after the first do not fit, nothing has these words.
 use Rattle.std.proofs.Common.{◌≡◌, ◌∷◌, rules}
 use Rattle.std.specs.Prelude.{codes}
 use Rattle.hlc_certificate.proofs.CheckLines.{no_row, no_witness}

@@ -1,4 +1,4 @@
--- The lines say one certificate, which has one first reason or is one.
+-- The lines say one certificate, which is valid or has one first reason.
 use Rattle.hlc_certificate.proofs.OneAnswer.{one_answer}
 use Rattle.hlc_certificate.proofs.laws.one_answer_for_an_input.Goals as goal
 

@@ -1,4 +1,4 @@
--- Each line says one thing, and what the lines say is parted into points, rows and witnesses.
+-- Each line says one thing, and what the lines say is split into points, rows and witnesses.
 use Rattle.hlc_certificate.proofs.OneCertificate.{one_certificate}
 use Rattle.hlc_certificate.proofs.laws.one_certificate_for_lines.Goals as goal
 

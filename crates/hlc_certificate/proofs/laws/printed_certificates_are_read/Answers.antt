@@ -1,4 +1,4 @@
--- No line holds a line feed, so the text is parted into the lines that were printed.
+-- No line contains a line feed, so the text is split into the lines that were printed.
 use Rattle.hlc_certificate.proofs.ReadBackLemmas.{printed_is_read}
 use Rattle.hlc_certificate.proofs.laws.printed_certificates_are_read.Goals as goal
 

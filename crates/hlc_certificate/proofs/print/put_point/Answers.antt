@@ -3,4 +3,4 @@ use Rattle.hlc_text.proofs.PrintLemmas.{printed_then}
 use Rattle.hlc_certificate.proofs.print.put_point.Goals as goal
 
 pub returns-clause-text : goal.returns-clause-text
-returns-clause-text g c = printed_then c.put_stamp_behind.ensures.text c.put.ensures
+returns-clause-text g c = printed_then c.put_stamp_after.ensures.text c.put.ensures

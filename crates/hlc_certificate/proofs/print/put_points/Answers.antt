@@ -1,4 +1,4 @@
--- One line more is printed, of what has one.
+-- One more line is printed, whose content can be written as a line.
 use Rattle.hlc_certificate.specs.CheckLine.{says_point}
 use Rattle.hlc_certificate.specs.CertificateText.{point_line}
 use Rattle.hlc_certificate.proofs.PrintedLines.{printed_next, fits_next}

@@ -1,4 +1,4 @@
--- The lines so far are printed, and what they say has lines.
+-- The lines so far are printed, and what they say can be written as lines.
 use Rattle.std.proofs.Common.{take}
 use Rattle.hlc_text.specs.Printing.{Prints}
 use Rattle.hlc_certificate.specs.CheckLine.{says_row}

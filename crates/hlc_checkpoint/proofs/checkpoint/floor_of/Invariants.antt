@@ -2,7 +2,7 @@
 use Rattle.std.proofs.Common.{◌≡◌}
 use Rattle.hlc_heads.specs.Low.{least_left}
 use Rattle.hlc_heads.specs.Heads.{head_at}
-use Rattle.hlc_checkpoint.specs.Kept.{marks_of}
+use Rattle.hlc_checkpoint.specs.StoreView.{marks_of}
 use Rattle.hlc_checkpoint.proofs.checkpoint.floor_of.Given as goal
 
 abbrev pub invariant-loop-link : goal.invariant-loop-link

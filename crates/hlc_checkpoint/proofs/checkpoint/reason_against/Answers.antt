@@ -1,4 +1,4 @@
--- The floor of the links is that of what is kept.
+-- The floor of the links is that of the state.
 use Rattle.std.proofs.Common.{◌≡◌, ◌≤◌, All, List, true≢false, sym, subst, rules}
 use Rattle.std.proofs.lemmas.Grind.{common_steps}
 use Rattle.hlc_snapshot.specs.declared.snapshot.Snapshot.{Snapshot}

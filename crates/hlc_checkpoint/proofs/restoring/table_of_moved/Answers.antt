@@ -1,4 +1,4 @@
--- One row more is stored, which is of a new version.
+-- One more row is stored, which is of a new version.
 use Rattle.std.proofs.Common.{◌∙◌, ◌++◌, ◌∷◌, [], sym, ap, append_assoc}
 use Rattle.std.proofs.lemmas.List.Sorted.{IsPermutation-trans, IsPermutation-append_left}
 use Rattle.hlc_checkpoint.proofs.Restored.{fresh-next}

@@ -1,4 +1,4 @@
--- The parts are written into an empty text in place, one behind the other.
+-- The parts are written into an empty text in place, one after the other.
 use Rattle.hlc_clock.proofs.InPlace.{only_written}
 use Rattle.hlc_clock.proofs.stamp.text_of.Goals as goal
 

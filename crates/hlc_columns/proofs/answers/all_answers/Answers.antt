@@ -1,4 +1,4 @@
--- The walk has all columns left, whose keys ascend.
+-- All columns remain for the walk, and their keys ascend.
 use Rattle.std.proofs.Common.{None, subst, sym}
 use Rattle.hlc_columns.specs.Answers.{AreAnswers, answers_in}
 use Rattle.hlc_columns.specs.Table.{indexed_rows}

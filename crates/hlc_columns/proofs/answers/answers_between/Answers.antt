@@ -1,4 +1,4 @@
--- The walk begins at the place where the keys part.
+-- The walk begins at the position that divides the keys.
 use Rattle.std.proofs.Common.{subst, sym}
 use Rattle.std.specs.Prelude.{option_copied}
 use Rattle.std.specs.List.Sorted.{IsStrictlySortedBy}

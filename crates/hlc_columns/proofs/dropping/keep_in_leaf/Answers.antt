@@ -1,4 +1,4 @@
--- One column more.
+-- One more column.
 use Rattle.std.proofs.Common.{◌<◌, ◌∙◌, ap, sym, arith, drop, set, length, get_or, []}
 use Rattle.std.proofs.lemmas.List.{set-get_or}
 use Rattle.hlc_columns.proofs.WalkLemmas.{whole}

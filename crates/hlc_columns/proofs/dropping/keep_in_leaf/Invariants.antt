@@ -1,4 +1,4 @@
--- The first columns of the leaf have their flagged rows alone, and the flags of the others are left.
+-- The first columns of the leaf have only their flagged rows, and the flags of the others are left.
 use Rattle.std.proofs.Common.{◌≡◌, ◌++◌, take, drop, set, get_or, []}
 use Rattle.hlc_columns.proofs.Kept.{run, total, kept_one, many}
 use Rattle.hlc_columns.proofs.dropping.keep_in_leaf.Given as goal

@@ -1,4 +1,4 @@
--- One leaf more; and then the columns that were left without rows go.
+-- One more leaf; and then the columns without rows are removed.
 use Rattle.std.proofs.Common.{◌<◌, ◌∙◌, ap, sym, subst, arith, length, All}
 use Rattle.hlc_index.specs.Entries.{entries_in}
 use Rattle.hlc_columns.specs.Table.{kept_in, table_rows}

@@ -1,4 +1,4 @@
--- The columns of the first leaves have their flagged rows alone, and the flags of the others are left.
+-- The columns of the first leaves have only their flagged rows, and the flags of the others are left.
 use Rattle.std.proofs.Common.{◌≡◌, ◌++◌, take, drop}
 use Rattle.hlc_columns.specs.Table.{kept_in}
 use Rattle.hlc_columns.proofs.Kept.{run, total, leaf_rows}

@@ -1,4 +1,4 @@
--- The row goes to the end of the column of the key at that place; all others stay.
+-- The row goes to the end of the column of the key at that position; all others stay.
 use Rattle.std.proofs.Common.{◌<◌, ◌≤◌, refl, sym, subst, length, arith, All, List, ℕ, [], get_or}
 use Rattle.std.proofs.lemmas.Result.{on_ok_weaker, on_err_weaker}
 use Rattle.hlc_index.specs.Entries.{entries_in, keys_in, with_value_in, IsEntryAt}
@@ -8,7 +8,7 @@ use Rattle.hlc_columns.proofs.Found.{test}
 use Rattle.hlc_columns.proofs.Inserted.{all_set, found_some, pushed_as, kept_as}
 use Rattle.hlc_columns.proofs.putting.push_at.Goals as goal
 
--- the key at the place
+-- the key at the position
 abbrev own : goal.After-columns-1 → List ℕ
 own c = get_or (keys_in (get_or c.args.columns.now c.args.at [])) c.args.slot []
 

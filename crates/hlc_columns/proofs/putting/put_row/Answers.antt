@@ -1,4 +1,4 @@
--- A row goes to the column at the place that was found, which is that of its key. There is one row more.
+-- A row goes to the column at the position that was found, which is that of its key. There is one more row.
 use Rattle.std.proofs.Common.{arith, subst}
 use Rattle.hlc_index.specs.Entries.{IsPlace}
 use Rattle.hlc_columns.specs.Parts.{new_row}

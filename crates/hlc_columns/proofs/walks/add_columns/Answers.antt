@@ -1,4 +1,4 @@
--- One entry more.
+-- One more entry.
 use Rattle.std.proofs.Common.{◌∙◌, ◌++◌, ap, ap₂, sym}
 use Rattle.std.proofs.lemmas.List.{append-nil}
 use Rattle.hlc_columns.specs.Table.{keyed}

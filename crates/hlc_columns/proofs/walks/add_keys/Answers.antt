@@ -1,4 +1,4 @@
--- One key more.
+-- One more key.
 use Rattle.std.proofs.Common.{◌∙◌, ◌++◌, ap, sym, map, Bor, List, ℕ}
 use Rattle.std.proofs.lemmas.List.{append-nil}
 use Rattle.hlc_index.specs.Entries.{keys_in}

@@ -1,4 +1,4 @@
--- One entry more.
+-- One more entry.
 use Rattle.std.proofs.Common.{◌≡◌, ◌+◌, ◌∙◌, ap, arith, take, length, filter}
 use Rattle.hlc_columns.specs.Rows.{rows_of}
 use Rattle.hlc_columns.specs.Table.{table_rows}

@@ -1,4 +1,4 @@
--- One leaf more.
+-- One more leaf.
 use Rattle.std.proofs.Common.{◌≡◌, ◌+◌, ◌∙◌, ap, arith, take, length, filter}
 use Rattle.hlc_columns.specs.Table.{indexed_rows}
 use Rattle.hlc_columns.proofs.WalkLemmas.{within, few_leaves, leaf_few, count_leaf, whole}

@@ -1,4 +1,4 @@
--- One leaf more.
+-- One more leaf.
 use Rattle.std.proofs.Common.{◌∙◌, ap, arith}
 use Rattle.hlc_index.specs.Entries.{entries_in}
 use Rattle.hlc_columns.specs.Table.{keyed}

@@ -1,4 +1,4 @@
--- Stamps rise on a link, so no two writes of a node have one stamp.
+-- Stamps ascend on a link, so no two writes of a node have one stamp.
 use Rattle.hlc_core.proofs.PastLemmas.{writes-row_set}
 use Rattle.hlc_core.proofs.laws.accepted_writes_are_a_row_set.Goals as goal
 

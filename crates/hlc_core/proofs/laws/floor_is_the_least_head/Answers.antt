@@ -1,4 +1,4 @@
--- The floor is defined as the least of the heads of the nodes that are left, or else the greatest stamp.
+-- The floor is defined as the least of the heads of the nodes that have not retired, or else the greatest stamp.
 use Rattle.hlc_core.proofs.PastLemmas.{floor-some, floor-le}
 use Rattle.hlc_core.proofs.laws.floor_is_the_least_head.Goals as goal
 

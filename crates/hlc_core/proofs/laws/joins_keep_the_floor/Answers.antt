@@ -1,4 +1,4 @@
--- The least head stays where another comes to it that is not below it.
+-- The least head does not change when another is added that is not below it.
 use Rattle.hlc_core.proofs.PastLemmas.{floor-stays}
 use Rattle.hlc_core.proofs.laws.joins_keep_the_floor.Goals as goal
 

@@ -1,4 +1,4 @@
--- The head of each node that retired is the stamp of its last item.
+-- The head of each node that has retired is the stamp of its last item.
 use Rattle.hlc_core.proofs.Checkpoints.{floor-retired}
 use Rattle.hlc_core.proofs.laws.retired_nodes_leave_the_greatest_stamp.Goals as goal
 

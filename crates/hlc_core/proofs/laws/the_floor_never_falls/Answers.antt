@@ -1,4 +1,4 @@
--- An item only lifts its own node's head, or takes it away, and a node joins at the floor itself.
+-- An item only raises its own node's head, or retires the node, and a node joins at or above the floor.
 use Rattle.hlc_core.proofs.PastLemmas.{floor-grows, floor-joins}
 use Rattle.hlc_core.proofs.laws.the_floor_never_falls.Goals as goal
 

@@ -1,4 +1,4 @@
--- What the report counts is what was left.
+-- The report counts the remaining rows.
 use Rattle.hlc_core.proofs.Vacuums.{leaves-fewest}
 use Rattle.hlc_core.proofs.laws.vacuums_leave_the_fewest.Goals as goal
 

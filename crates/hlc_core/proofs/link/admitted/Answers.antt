@@ -1,4 +1,4 @@
--- The intake is asked for the item's own number and stamp.
+-- The intake is called with the item's own number and stamp.
 use Rattle.std.proofs.Common.{◌≡◌, ◌∙◌, ap, subst, sym, rules, slice_get, Some, None}
 use Rattle.std.specs.Prelude.{Ok, Err}
 use Rattle.std.proofs.lemmas.Option.{slice_get-get_or}
@@ -7,7 +7,7 @@ use Rattle.hlc_node.specs.Items.{body_refusal}
 use Rattle.hlc_core.specs.declared.fault.CoreFault.TheVariants.{Link, Body}
 use Rattle.hlc_core.specs.Past.{of_body}
 use Rattle.hlc_core.proofs.Admits.{refused_first, next_admitted}
-use Rattle.hlc_core.proofs.Standing.{LooksUp}
+use Rattle.hlc_core.proofs.Links.{LooksUp}
 use Rattle.hlc_core.proofs.link.admitted.Goals as goal
 
 pub returns-in_err-admit : goal.returns-in_err-admit

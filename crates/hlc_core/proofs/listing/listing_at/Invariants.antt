@@ -1,4 +1,4 @@
--- The pairs so far and those that are left are the answers of all keys.
+-- The pairs so far and the remaining ones are the answers of all keys.
 use Rattle.std.proofs.Common.{◌++◌, map}
 use Rattle.hlc_columns.specs.Answers.{AreAnswers}
 use Rattle.hlc_core.proofs.Listed.{of_pair}

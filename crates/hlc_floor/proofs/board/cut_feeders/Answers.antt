@@ -1,5 +1,5 @@
--- A cut keeps the rule: the first seat still holds the number that is cut off,
--- since the loop has not come to the last node.
+-- A split preserves the rule: the first seat still owns the number that is split off, since the loop has not come to
+-- the last node.
 use Rattle.std.proofs.Common.{◌≡◌, ◌<◌, arith, ap}
 use Rattle.hlc_floor.proofs.Fresh.{cuts_feeder}
 use Rattle.hlc_floor.proofs.board.cut_feeders.Goals as goal

@@ -1,4 +1,4 @@
--- So many numbers were cut off the first seat, and each has its feeder.
+-- This many numbers were split off the first seat, and each has its feeder.
 use Rattle.std.proofs.Common.{◌≡◌, []}
 use Rattle.hlc_floor.specs.Views.{posts}
 use Rattle.hlc_floor.specs.Board.{uncut}

@@ -1,4 +1,4 @@
--- A cut keeps the rule: a pass holds no number, and saw what the first seat saw.
+-- A split preserves the rule: a pass owns no number, and saw what the first seat saw.
 use Rattle.std.proofs.Common.{arith}
 use Rattle.hlc_floor.proofs.Fresh.{cuts_pass}
 use Rattle.hlc_floor.proofs.board.cut_passes.Goals as goal

@@ -1,4 +1,4 @@
--- The first seat holds no number, and so many passes were cut off it.
+-- The first seat owns no number, and this many passes were split off it.
 use Rattle.std.proofs.Common.{◌≡◌, [], replicate}
 use Rattle.hlc_floor.specs.Views.{blind}
 use Rattle.hlc_floor.specs.Board.{uncut}

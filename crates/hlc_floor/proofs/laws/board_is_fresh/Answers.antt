@@ -1,4 +1,4 @@
--- Each clause of the rule, at the seats of feeders and passes: a feeder's seat holds its own number.
+-- Each clause of the rule, at the seats of feeders and passes: a feeder's seat owns its own number.
 use Rattle.std.proofs.Common.{arith}
 use Rattle.hlc_floor.proofs.laws.board_is_fresh.Goals as goal
 

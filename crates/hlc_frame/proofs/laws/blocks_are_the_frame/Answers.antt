@@ -1,4 +1,4 @@
--- Opening all that was fed says both.
+-- Both follow from opening all that was fed.
 use Rattle.hlc_frame.proofs.FrameLemmas.{word_read, frame_read}
 use Rattle.hlc_frame.proofs.laws.blocks_are_the_frame.Goals as goal
 

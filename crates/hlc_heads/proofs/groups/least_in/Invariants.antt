@@ -1,5 +1,5 @@
--- What was looked at is nowhere below the least so far, which is one of the heads; where there is none, all that was
--- looked at retired.
+-- No head that was looked at is below the least so far, which is one of them; if there is none, all nodes that were
+-- looked at have retired.
 use Rattle.hlc_heads.specs.Groups.{IsLeastIn}
 use Rattle.hlc_heads.proofs.groups.least_in.Given as goal
 

@@ -1,5 +1,4 @@
--- No group that was looked at is below the least so far, which is one of them; where there is none, none of them has
--- one.
+-- No group that was looked at is below the least so far, which is one of them; if there is none, no group has one.
 use Rattle.hlc_heads.specs.Groups.{IsLeastOf}
 use Rattle.hlc_heads.proofs.groups.least_of.Given as goal
 

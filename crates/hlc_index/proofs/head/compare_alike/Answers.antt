@@ -1,4 +1,4 @@
--- Bytes behind the end of a key count as zeros in its head.
+-- Bytes after the end of a key count as zeros in its head.
 use Rattle.std.proofs.Common.{◌∙◌, sym}
 use Rattle.hlc_index.proofs.Heads.{alike_short}
 use Rattle.hlc_index.proofs.head.compare_alike.Goals as goal

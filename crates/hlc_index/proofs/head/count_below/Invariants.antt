@@ -1,4 +1,4 @@
--- First the heads behind the place are not below, and then none in front of it is passed over.
+-- First no head at or after the position is below, and then none before it is skipped.
 use Rattle.std.proofs.Common.{◌-◌, ◌≤◌, ◌<◌, length, slice_index}
 use Rattle.hlc_index.proofs.head.count_below.Given as goal
 

@@ -1,4 +1,4 @@
--- Eight bytes in front of eight others.
+-- Eight bytes, and eight others after them.
 use Rattle.std.proofs.Common.{◌∙◌, ◌-◌, ap, arith, length, drop}
 use Rattle.std.proofs.lemmas.List.{take_all, length-drop}
 use Rattle.hlc_index.specs.Head.{head_upto}

@@ -1,4 +1,4 @@
--- What is left gets smaller.
+-- The remaining range gets smaller.
 use Rattle.std.proofs.Common.{◌-◌, ◌≤◌, length}
 use Rattle.hlc_index.proofs.head.narrowed.Given as goal
 

@@ -1,4 +1,4 @@
--- One byte more, which fits.
+-- One more byte, which fits.
 use Rattle.std.proofs.Common.{◌+◌, ◌*◌, ◌<◌, ◌^◌, ◌∙◌, sym, ap, arith, get_or}
 use Rattle.hlc_index.specs.Head.{head_upto}
 use Rattle.hlc_index.proofs.Heads.{head_more, head_fits, head_none}

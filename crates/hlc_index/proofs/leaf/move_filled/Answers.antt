@@ -1,4 +1,4 @@
--- One entry more: it is filled and moved to the front with its head, or it is not and stays.
+-- One more entry: it is filled and moves to the front with its head, or it is not and stays.
 use Rattle.std.proofs.Common.{◌≡◌, ◌<◌, ◌≤◌, ◌∙◌, ap, arith, length, sym}
 use Rattle.std.proofs.lemmas.List.Filters.{FiltersInPlace-more_no, FiltersInPlace-more_swap}
 use Rattle.hlc_index.proofs.Kept.{heads_swap}

@@ -1,4 +1,4 @@
--- The filled entries so far stand in front, those to come are as they were, and each head is that of its key.
+-- The filled entries so far are at the front, the later ones are as they were, and each head is that of its key.
 use Rattle.std.proofs.Common.{◌≡◌, map}
 use Rattle.std.proofs.lemmas.List.Filters.{FiltersInPlace}
 use Rattle.hlc_index.specs.Head.{head_of}

@@ -1,4 +1,4 @@
--- One leaf more: it still has an entry and is moved to the front, or it has none.
+-- One more leaf: it still has an entry and moves to the front, or it has none.
 use Rattle.std.proofs.Common.{◌≡◌, ◌<◌, ◌∙◌, All, arith, length, subst, ap, sym, refl, filter}
 use Rattle.std.proofs.lemmas.List.{get_or-set_same}
 use Rattle.hlc_index.specs.Head.{head_of, AreBytes}

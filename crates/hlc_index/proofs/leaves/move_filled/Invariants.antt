@@ -1,4 +1,5 @@
--- The leaves that are kept so far stand in front, with the heads of their first keys, and those to come are as before.
+-- The leaves that are kept so far are at the front, with the heads of their first keys, and the later ones are as
+-- before.
 use Rattle.hlc_index.proofs.Kept.{KeepsInPlace}
 use Rattle.hlc_index.proofs.leaves.move_filled.Given as goal
 

@@ -1,4 +1,4 @@
--- The stamps before the place are counted.
+-- The stamps before the position are counted.
 use Rattle.std.proofs.Common.{◌≡◌, ◌-◌, ◌≤◌, length, take, leb}
 use Rattle.std.specs.Prelude.{count_by}
 use Rattle.hlc_lanes.proofs.count.count_at.Given as goal

@@ -1,4 +1,4 @@
--- The ones of a mask are the lanes that pass the test.
+-- The 1 bits of a mask are the lanes that pass the test.
 use Rattle.std.proofs.Common.{leb, ap, ◌∙◌, arith, w64}
 use lib.Count.{ones}
 use lib.Lanes.{chunk}

@@ -1,4 +1,4 @@
--- One value more.
+-- One more value.
 use Rattle.std.proofs.Common.{◌∙◌, ap, sym, max, get_or}
 use Rattle.hlc_lanes.proofs.Lanes.{greatest_next}
 use Rattle.hlc_lanes.proofs.newest.greatest_of.Goals as goal

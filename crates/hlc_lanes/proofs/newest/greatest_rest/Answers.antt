@@ -1,4 +1,4 @@
--- One stamp more.
+-- One more stamp.
 use Rattle.std.proofs.Common.{◌∙◌, ap, sym, max, get_or}
 use Rattle.hlc_lanes.specs.Greatest.{within}
 use Rattle.hlc_lanes.proofs.Lanes.{greatest_one}

@@ -1,4 +1,4 @@
--- The best is the greatest of the stamps so far, each above the bound taken as 0.
+-- The best is the greatest of the stamps so far, where each above the bound counts as 0.
 use Rattle.std.proofs.Common.{◌≡◌, take, map}
 use Rattle.hlc_lanes.specs.Greatest.{within, greatest}
 use Rattle.hlc_lanes.proofs.newest.greatest_rest.Given as goal

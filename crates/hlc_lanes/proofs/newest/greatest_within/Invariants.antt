@@ -1,4 +1,4 @@
--- The greatest lane is the greatest of the stamps before the place, each above the bound taken as 0.
+-- The greatest lane is the greatest of the stamps before the position, where each above the bound counts as 0.
 use Rattle.std.proofs.Common.{◌≡◌, ◌-◌, ◌≤◌, length, take, map}
 use Rattle.hlc_lanes.specs.Greatest.{within, greatest}
 use Rattle.hlc_lanes.proofs.newest.greatest_within.Given as goal

@@ -1,5 +1,5 @@
--- The greatest, each stamp above the bound taken as 0, is the newest where it is not 0. Where it is 0, no stamp but 0
--- is at or below the bound, and 0 is the newest if it is there.
+-- The greatest, where each stamp above the bound counts as 0, is the newest if it is not 0. If it is 0, no stamp except
+-- 0 is at or below the bound, and 0 is the newest if it is there.
 use Rattle.std.proofs.Common.{sym, arith}
 use Rattle.hlc_lanes.proofs.Lanes.{newest_found, newest_zero, newest_none}
 use Rattle.hlc_lanes.proofs.newest.newest_at.Goals as goal

@@ -1,4 +1,4 @@
--- The best is the greatest node beside the stamp at the places so far.
+-- The best is the greatest node with the stamp at the positions so far.
 use Rattle.std.proofs.Common.{◌-◌, ◌≤◌, length}
 use Rattle.hlc_lanes.specs.Places.{IsGreatestNodeBelow}
 use Rattle.hlc_lanes.proofs.nodes.greatest_node.Given as goal

@@ -1,4 +1,4 @@
--- One place more: it holds the stamp or it does not.
+-- One more position: it has the stamp or it does not.
 use Rattle.std.proofs.Common.{◌∙◌}
 use Rattle.hlc_lanes.proofs.GreaterNode.{node_yes, node_no}
 use Rattle.hlc_lanes.proofs.nodes.greatest_node_in.Goals as goal

@@ -1,4 +1,4 @@
--- The cut keeps the rule: the first pass is the sender's and the receiver's, and each part is one of them.
+-- The split preserves the rule: the first pass is the sender's and the receiver's, and each part is one of them.
 use Rattle.std.proofs.Common.{rules}
 use Rattle.hlc_link.proofs.Keeps.{cuts_as}
 use Rattle.hlc_link.proofs.ends.link.Goals as goal

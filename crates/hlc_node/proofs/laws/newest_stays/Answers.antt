@@ -1,4 +1,4 @@
--- A row that is a candidate at the one stamp is one at the other.
+-- A row that is a candidate at one stamp is a candidate at the other.
 use Rattle.hlc_node.proofs.NewestLemmas.{newest_stays}
 use Rattle.hlc_node.proofs.laws.newest_stays.Goals as goal
 

@@ -3,4 +3,4 @@ use Rattle.hlc_node.proofs.NewestLemmas.{newest_after_others, newest_before_othe
 use Rattle.hlc_node.proofs.laws.other_keys_do_not_count.Goals as goal
 
 pub returns : goal.returns
-returns c = record { before = newest_after_others; behind = newest_before_others }
+returns c = record { before = newest_after_others; after = newest_before_others }

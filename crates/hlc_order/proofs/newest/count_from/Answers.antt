@@ -1,4 +1,4 @@
--- At the first row above the bound the count stands, or at the end.
+-- The count is found at the first row above the bound, or at the end.
 use Rattle.std.proofs.Common.{◌≤◌, ◌<◌, arith, length, subst}
 use Rattle.hlc_order.proofs.Places.{point_after, within_more}
 use Rattle.hlc_order.proofs.newest.count_from.Goals as goal

@@ -1,4 +1,4 @@
--- The rows at or below the bound stand in front of the index.
+-- The rows at or below the bound are at the front of the index.
 use Rattle.std.proofs.Common.{◌≡◌, ℕ, get_or, rules, leb, true, false, length, arith}
 use Rattle.std.specs.List.Sorted.{IsPartitionPoint}
 use Rattle.std.proofs.lemmas.List.Sorted.{IsPartitionPoint-from_clause}

@@ -1,4 +1,4 @@
--- The best is the newest of the places so far.
+-- The best is the newest of the positions so far.
 use Rattle.hlc_order.specs.Newest.{IsNewestBelow}
 use Rattle.hlc_order.proofs.newest.newest_of_few.Given as goal
 

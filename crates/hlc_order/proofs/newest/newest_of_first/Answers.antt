@@ -1,5 +1,5 @@
--- Stamps rise along the index, so the rows at or below the bound stand in front,
--- and the last of them is above all others.
+-- Stamps ascend along the index, so the rows at or below the bound come first, and the last of them is above all
+-- others.
 use Rattle.std.proofs.Common.{arith}
 use Rattle.hlc_order.proofs.Places.{none_indexed, last_indexed}
 use Rattle.hlc_order.proofs.newest.newest_of_first.Goals as goal

@@ -1,4 +1,4 @@
--- One place more is numbered.
+-- One more position is numbered.
 use Rattle.std.proofs.Common.{◌+◌, List, ℕ, subst, sym, arith}
 use Rattle.hlc_order.specs.Order.{IsNumbered}
 use Rattle.hlc_order.proofs.Places.{numbered_more}

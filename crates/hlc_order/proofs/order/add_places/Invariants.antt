@@ -1,4 +1,4 @@
--- The places so far were added, and there is room for the others.
+-- The positions so far were added, and there is room for the others.
 use Rattle.std.proofs.Common.{◌≤◌}
 use Rattle.hlc_order.specs.Order.{IsNumbered}
 use Rattle.hlc_order.proofs.order.add_places.Given as goal

@@ -1,4 +1,4 @@
--- The stamps rise along the index, so those below a stamp stand in front.
+-- The stamps ascend along the index, so those below a stamp come first.
 use Rattle.std.proofs.Common.{◌≡◌, ℕ, get_or, rules, arith, ltb, true, false}
 use Rattle.std.proofs.lemmas.Bool.Decides.{nat_tests}
 use Rattle.std.specs.List.Sorted.{IsPartitionPoint}

@@ -1,4 +1,4 @@
--- The first places, each once, sorted, and as many as were left of the list that was cut.
+-- The first positions, each once, sorted, and as many as remain after the list is cut.
 use Rattle.std.proofs.Common.{rules, ◌≡◌, ◌∙◌, ◌<◌, ℕ, List, [], length, take, min, nat_le, ap, arith}
 use Rattle.std.specs.Prelude.{if◌then◌else◌}
 use Rattle.std.specs.Ordering.{is_lt}
@@ -27,7 +27,7 @@ returns-clause-index c =
     (ranks_by (place_order ss ns) (λ (p : ℕ). p)) (always_returns_same _
     (λ a r. is_lt r ≡ is_lt (place_cmp ss ns a.0.now a.1.0.now)) _ (λ a r f k. search rules)))
 
--- as many places are left of a list that is cut
+-- the number of positions that remain after a list is cut
 many_left : (n m : ℕ) (xs : List ℕ) → 64 < n → m ≡ min n 4294967295
     → length (take m xs) ≡ (if nat_le n 64 then 0 else min (length xs) (min n 4294967295))
 many_left n m xs above is = rw (lt-leb n 64 above) (omega (arith, length-take m xs, is))

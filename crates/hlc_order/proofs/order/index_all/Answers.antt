@@ -1,5 +1,5 @@
--- The front is below the least new stamp and stays; the end is not, and is sorted. Where memory lacks,
--- what was added is cut off.
+-- The front is below the least new stamp and does not change; the end is not below it, and is sorted. If memory runs
+-- out, the positions that were added are cut off.
 use Rattle.std.proofs.Common.{◌≡◌, ◌≤◌, ◌<◌, ◌∙◌, ℕ, List, length, get_or, subst, sym, ap, take, drop, arith}
 use Rattle.std.proofs.lemmas.List.{length-drop}
 use Rattle.std.proofs.lemmas.List.Sorted.{length_permutation}

@@ -1,4 +1,4 @@
--- The places so far hold their own number.
+-- The positions so far contain their own number.
 use Rattle.std.proofs.Common.{◌≡◌, ◌<◌, ℕ, length, slice_index}
 use Rattle.hlc_order.proofs.order.number.Given as goal
 

@@ -1,4 +1,4 @@
--- What is sorted by stamp, node and the later place rises.
+-- A list that is sorted by stamp, node and the later position ascends.
 use Rattle.std.proofs.Common.{rules, ◌≡◌, ℕ}
 use Rattle.std.specs.Ordering.{is_lt}
 use Rattle.std.proofs.lemmas.Fn.{always_returns_same}

@@ -1,4 +1,4 @@
--- All parts but the rows, one after the other.
+-- All parts except the rows, one after the other.
 use Rattle.hlc_saved.proofs.Pieces.{preamble_spelled}
 use Rattle.hlc_saved.proofs.preamble.put_preamble.Goals as goal
 

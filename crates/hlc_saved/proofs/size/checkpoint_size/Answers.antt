@@ -1,4 +1,4 @@
--- The parts make the whole.
+-- The parts add up to the whole.
 use Rattle.std.proofs.Common.{ap, ◌∙◌, ◌+◌, ◌*◌, length}
 use Rattle.std.specs.List.{flat_map}
 use Rattle.hlc_saved.specs.Spelling.{row_bytes}

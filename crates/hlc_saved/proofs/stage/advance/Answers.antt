@@ -1,4 +1,4 @@
--- What stands before the rows is read, or is not; then the rows are.
+-- The part before the rows is read, or is not; then the rows are.
 use Rattle.std.proofs.Common.{◌++◌, arith, ap, sym, ◌∙◌}
 use Rattle.hlc_saved.specs.Blocks.{rows_after, rest_of}
 use Rattle.hlc_saved.proofs.Steady.{checkpoint_steady}

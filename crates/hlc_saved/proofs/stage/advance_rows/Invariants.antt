@@ -1,4 +1,4 @@
--- The rows so far, and those that are left, make what was to be read; the bytes that are left are the last ones.
+-- The rows so far, and the remaining ones, make what was to be read; the remaining bytes are the last ones.
 use Rattle.std.proofs.Common.{◌≡◌, ℕ, ◌-◌, ◌++◌, List, length}
 use Rattle.hlc_saved.specs.Blocks.{rows_after}
 use Rattle.hlc_saved.proofs.stage.advance_rows.Given as goal

@@ -1,6 +1,6 @@
 -- All rows were read: bytes follow, or none do.
 use Rattle.std.proofs.Common.{ap, ◌∙◌, sym, arith, ◌≤◌, length}
-use Rattle.hlc_core.specs.Kept.{Kept}
+use Rattle.hlc_core.specs.StoreView.{StoreView}
 use Rattle.hlc_wire.specs.Reading.{whole}
 use Rattle.hlc_wire.proofs.FieldLemmas.{done}
 use Rattle.hlc_saved.specs.Blocks.{rest_of}
@@ -20,4 +20,4 @@ returns-else-not-is_empty c =
     ap (λ s. whole (rest_of s c.args.rest.now)) c.in-Rows.is
     ∙ ended_all c.in-Rows.preamble c.in-Rows.rows.items c.args.rest.now le (sym c.is_empty.ensures
     ∙ c.if-not-is_empty.false)
-    ∙ ap (done {A = Kept}) (sym c.with_rows.ensures)
+    ∙ ap (done {A = StoreView}) (sym c.with_rows.ensures)

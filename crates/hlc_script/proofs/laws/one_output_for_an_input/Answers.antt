@@ -1,4 +1,4 @@
--- The header, each line's event and each event's reply are one, unless memory was wanting.
+-- The header, each line's event and each event's reply are determined, unless memory runs out.
 use Rattle.hlc_script.proofs.Outputs.{one_output}
 use Rattle.hlc_script.proofs.laws.one_output_for_an_input.Goals as goal
 

@@ -1,4 +1,4 @@
--- The first line is printed, and then the lines behind it.
+-- The first line is printed, and then the lines after it.
 use Rattle.hlc_text.proofs.PrintLemmas.{printed_then}
 use Rattle.hlc_script.proofs.reply.put_reply.Goals as goal
 

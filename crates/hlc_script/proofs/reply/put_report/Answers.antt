@@ -1,4 +1,4 @@
--- The floor is printed, and then the counts, one behind another.
+-- The floor is printed, and then the counts, one after another.
 use Rattle.hlc_text.proofs.PrintLemmas.{printed_then}
 use Rattle.hlc_script.proofs.reply.put_report.Goals as goal
 

@@ -1,6 +1,6 @@
--- The header is printed, and then the answers to the lines behind it.
+-- The header is printed, and then the answers to the lines after it.
 use Rattle.std.proofs.Common.{Some, None}
-use Rattle.hlc_world.specs.State.{world_nodes}
+use Rattle.hlc_world.specs.WorldView.{world_nodes}
 use Rattle.hlc_script.proofs.Going.{script_answered}
 use Rattle.hlc_script.proofs.run.answer_input.Goals as goal
 

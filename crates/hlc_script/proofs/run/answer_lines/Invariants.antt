@@ -1,6 +1,6 @@
--- The lines so far are answered, and the world stands for a schedule of them.
+-- The lines so far are answered, and the world represents a schedule of them.
 use Rattle.std.proofs.Common.{◌≡◌, ◌+◌, ◌≤◌, length}
-use Rattle.hlc_world.specs.State.{world_nodes}
+use Rattle.hlc_world.specs.WorldView.{world_nodes}
 use Rattle.hlc_script.proofs.Going.{Going}
 use Rattle.hlc_script.proofs.run.answer_lines.Given as goal
 

@@ -11,11 +11,11 @@ returns-in-Ok g c = (
   ap Vacuumed (c.with.ensures ∙ c.in-Ok.ensures.alike ∙ sym c.with-in-Ok.ensures),
   record {
     form = tt;
-    step = λ history stands.
-        let made = c.in-Ok.ensures.stands (past_of history) stands.core in
+    step = λ history represents.
+        let made = c.in-Ok.ensures.represents (past_of history) represents.core in
         subst (λ r. IsStep c.args.core.now c.vacuum_pair_to_parallel.new.self (VacuumTo c.args.at) history (Vacuumed r))
         (sym c.with.ensures)
         (vacuum_is_step c.args.core.now c.vacuum_pair_to_parallel.new.self c.args.at history c.in-Ok.report
-        c.in-Ok.ensures.nodes stands made.0 made.2);
+        c.in-Ok.ensures.nodes represents made.0 made.2);
   },
 )

@@ -1,4 +1,4 @@
--- A list with a bad claim is bad behind those before it; where none has one, all claims are good.
+-- A list with a bad claim is bad after those before it; where no list has one, all claims are good.
 use Rattle.std.proofs.Common.{arith, sym, ◌∙◌}
 use Rattle.hlc_server.proofs.Settlings.{list_good, list_bad}
 use Rattle.hlc_server.proofs.settle.first_bad.Goals as goal

@@ -1,11 +1,11 @@
--- Where no receipt is bad and as many as entries were handed in, all settles: the invariant of what was under the lock
--- says that the trail is a legal history for which the core stands.
+-- Where no receipt is bad and there are as many as entries, all settles: the invariant of what was under the lock says
+-- that the trail is a legal history which the core represents.
 use Rattle.std.proofs.Common.{◌≡◌, List, Some, sym, ap, ◌∙◌, subst}
 use Rattle.hlc_core.proofs.FaithfulLemmas.{histories_are_faithful}
 use Rattle.hlc_server.specs.declared.entry.Entry.{Entry}
 use Rattle.hlc_server.specs.Trails.{entries_of, history_of}
 use Rattle.hlc_server.specs.Settling.{claims_of, IsSettled}
-use Rattle.hlc_server.proofs.Callers.{each_is_told}
+use Rattle.hlc_server.proofs.Callers.{each_is_claimed}
 use Rattle.hlc_server.proofs.settle.settle_guarded.Goals as goal
 
 pub returns : goal.returns
@@ -22,10 +22,10 @@ returns g c =
       trail = trail;
       kept = is;
       all = settled;
-      told = each_is_told trail (claims_of c.args.lists.items) settled;
+      returned = each_is_claimed trail (claims_of c.args.lists.items) settled;
       legal = audited.legal;
-      stands = audited.stands;
-      faithful = histories_are_faithful c.guarded.inside.core (history_of trail) audited.stands;
+      represents = audited.represents;
+      faithful = histories_are_faithful c.guarded.inside.core (history_of trail) audited.represents;
       core = ap (λ v. v.core) c.guarded.view_is;
       entries = c.len-entries.ensures ∙ c.in-Some.trail.entries.ok.0;
     }

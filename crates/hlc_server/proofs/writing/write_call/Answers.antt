@@ -1,4 +1,4 @@
--- A reply whose copy was refused is no plain one, so the call left the core as it was.
+-- A reply that could not be copied is no plain one, so the call left the core unchanged.
 use Rattle.std.proofs.Common.{ap, Some}
 use Rattle.hlc_server.proofs.writing.write_call.Goals as goal
 

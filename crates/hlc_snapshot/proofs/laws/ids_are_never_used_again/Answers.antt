@@ -1,4 +1,4 @@
--- Each opening takes an id above all before it, and no closing adds one: step by step back.
+-- Each opening uses an id above all earlier ones, and no closing adds one: step by step back.
 use Rattle.hlc_snapshot.proofs.RegisterLemmas.{open_before}
 use Rattle.hlc_snapshot.proofs.laws.ids_are_never_used_again.Goals as goal
 

@@ -1,4 +1,4 @@
--- The new id is above all others, so its look-up finds the new snapshot, and the others find what they found.
+-- The new id is above all others, so its look-up finds the new snapshot, and the look-ups of the others do not change.
 use Rattle.hlc_snapshot.proofs.RegisterLemmas.{next_id-fresh, opened-here, opened-other}
 use Rattle.hlc_snapshot.proofs.laws.opening_adds_one_snapshot.Goals as goal
 

@@ -1,4 +1,4 @@
--- A closing leaves fewer snapshots, and they are a register still.
+-- A register with fewer snapshots is a register.
 use Rattle.hlc_snapshot.proofs.RegisterLemmas.{closed-is_register}
 use Rattle.hlc_snapshot.proofs.laws.registers_stay_registers.Goals as goal
 

@@ -1,4 +1,4 @@
--- The ids rise, so the lower ones stand in front.
+-- The ids ascend, so the lower ones come first.
 use Rattle.std.proofs.Common.{rules, ltb}
 use Rattle.std.proofs.lemmas.List.Sorted.{IsPartitionPoint-from_clause, IsPartitionedBy-ltb}
 use Rattle.hlc_snapshot.specs.declared.snapshot.Snapshot.{Snapshot}

@@ -1,4 +1,4 @@
--- Ids rise, so the snapshot at the place is the only one of its id.
+-- Ids ascend, so the snapshot at the position is the only one with its id.
 use Rattle.std.proofs.Common.{sym}
 use borrow.Author.Tests.{ltb-true}
 use Rattle.hlc_snapshot.proofs.Found.{stamp_in-found}

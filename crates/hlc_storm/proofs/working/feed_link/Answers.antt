@@ -1,4 +1,4 @@
--- The end of the link and what was left stand in the answer of the worker.
+-- The end of the link and what was left are in the result of the worker.
 use Rattle.hlc_storm.proofs.working.feed_link.Goals as goal
 
 pub returns-clause-items : goal.returns-clause-items

@@ -1,4 +1,4 @@
--- The key of the next number is put behind those before it.
+-- The key of the next number is appended to the earlier ones.
 use Rattle.std.proofs.Common.{List, ℕ, ◌∙◌, ap, sym, arith, ◌++◌, ◌∷◌, [], map}
 use Rattle.std.specs.List.{range_with_len}
 use Rattle.std.proofs.lemmas.List.FromFn.{map-range_with_len_more}

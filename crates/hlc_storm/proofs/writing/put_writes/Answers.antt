@@ -1,4 +1,4 @@
--- The write of the next number is put behind those before it.
+-- The write of the next number is put after the earlier ones.
 use Rattle.std.proofs.Common.{List, ◌∙◌, ap, sym, arith, ◌++◌, ◌∷◌, []}
 use Rattle.std.proofs.lemmas.List.FromFn.{map-range_with_len_more}
 use Rattle.hlc_node.specs.declared.item.Item.{Item}

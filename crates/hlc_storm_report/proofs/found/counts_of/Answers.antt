@@ -6,9 +6,9 @@ use Rattle.hlc_core.specs.Past.{count}
 use Rattle.hlc_storm_report.proofs.found.counts_of.Goals as goal
 
 pub loop-node-preserved : goal.loop-node-preserved
-loop-node-preserved c past stands =
-    let number = (c.in-Ok.ensures past stands).1 in
+loop-node-preserved c past represents =
+    let number = (c.in-Ok.ensures past represents).1 in
     c.push_reserved.ensures.items ∙ ap (λ l. l ++ c.in-Ok.number ∷ []) c.reserve.ensures.items
-    ∙ ap (λ l. l ++ c.in-Ok.number ∷ []) (c.loop-node.invariant past stands)
+    ∙ ap (λ l. l ++ c.in-Ok.number ∷ []) (c.loop-node.invariant past represents)
     ∙ ap (λ n. map (λ node. count node past) (range_with_len 0 c.loop-node.node) ++ n ∷ []) number
     ∙ sym (map-range_with_len_more (λ node. count node past) 0 c.loop-node.node c.loop-node.node (omega arith))

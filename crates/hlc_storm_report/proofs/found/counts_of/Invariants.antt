@@ -2,10 +2,10 @@
 use Rattle.std.proofs.Common.{◌≡◌, List, map}
 use Rattle.std.specs.List.{range_with_len}
 use Rattle.hlc_core.specs.Past.{Step, count}
-use Rattle.hlc_core.specs.Kept.{StandsFor}
+use Rattle.hlc_core.specs.StoreView.{Represents}
 use Rattle.hlc_storm_report.proofs.found.counts_of.Given as goal
 
 abbrev pub invariant-loop-node : goal.invariant-loop-node
 invariant-loop-node l =
-    (past : List Step) → StandsFor l.core past
+    (past : List Step) → Represents l.core past
     → l.counts.items ≡ map (λ node. count node past) (range_with_len 0 l.node)

@@ -1,4 +1,4 @@
--- One node's line more is printed.
+-- The line of one more node is printed.
 use Rattle.hlc_storm_report.proofs.Counts.{counted_more}
 use Rattle.hlc_storm_report.proofs.printing.put_counts.Goals as goal
 

@@ -1,4 +1,4 @@
--- One pair's line more is printed.
+-- The line of one more pair is printed.
 use Rattle.hlc_text.proofs.PrintLemmas.{printed_line}
 use Rattle.hlc_text.specs.Text.{printed}
 use Rattle.hlc_storm_report.specs.Printed.{storm_pair_line}

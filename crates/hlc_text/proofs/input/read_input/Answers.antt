@@ -1,5 +1,5 @@
--- What was taken is what is held and the bytes of the last read, whose number was looked at before memory was asked for
--- them. It is the beginning of an input.
+-- What was taken is what is stored and the bytes of the last read, whose number was checked before memory was requested
+-- for them. It is the beginning of an input.
 use Rattle.std.specs.Io.KnownBytes.{Consumes}
 use Rattle.hlc_text.specs.Watched.{inner_of}
 use Rattle.std.proofs.Common.{rules, arith, ◌<◌, ◌≤◌, ◌++◌, take, length, length-append}

@@ -1,4 +1,4 @@
--- What was read is held, and no more than may be; each round holds more.
+-- What was read is stored, and is no more than allowed; each round stores more.
 use Rattle.std.proofs.Common.{◌≡◌, ◌+◌, ◌-◌, ◌≤◌, false, vec_len}
 use Rattle.std.specs.Io.KnownBytes.{Consumes}
 use Rattle.hlc_text.specs.declared.input.TheConstants.{INPUT_LIMIT}

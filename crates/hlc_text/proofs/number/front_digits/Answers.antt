@@ -1,5 +1,5 @@
--- One byte more is a digit, and ten times the value and that digit is the value of both.
--- A value of eighteen digits and one more digit fit.
+-- One more byte is a digit, and ten times the value plus that digit is the value of both. A value of eighteen digits
+-- and one more digit fit.
 use Rattle.std.proofs.Common.{arith, inl, inr, ◌≡◌}
 use Rattle.std.proofs.lemmas.Bool.{cases_lt}
 use Rattle.hlc_text.proofs.Numbers.{front_smaller, value_more}

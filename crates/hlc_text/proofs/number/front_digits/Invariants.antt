@@ -1,4 +1,4 @@
--- The bytes so far are digits, and the value is theirs, which has as many digits at most.
+-- The bytes so far are digits and the value is theirs, so it has at most as many digits.
 use Rattle.std.proofs.Common.{◌≡◌, ◌<◌, ◌≤◌, ◌-◌, ℕ, get_or, take, length}
 use Rattle.std.specs.Str.Parse.{digits_value}
 use Rattle.std.specs.Int.{IsInRange}

@@ -1,4 +1,4 @@
--- The digits spell their value where none of them is a zero in front of others.
+-- The digits spell their value where no zero comes before others.
 use Rattle.std.proofs.Common.{◌≡◌, ◌<◌, ◌^◌, ◌∙◌, sym, ap, get_or, take, arith, inl, inr}
 use Rattle.std.specs.Prelude.{decimal}
 use Rattle.std.specs.Str.Parse.{digits_value}

@@ -1,5 +1,5 @@
--- One byte more is a digit, and ten times the value and that digit is the value of both.
--- What is too large so far stays so.
+-- One more byte is a digit, and ten times the value plus that digit is the value of both. What is too large so far
+-- stays so.
 use Rattle.std.proofs.Common.{◌≡◌, arith, inl, inr}
 use Rattle.std.proofs.lemmas.Bool.{cases_lt}
 use Rattle.std.proofs.lemmas.List.{take_all}

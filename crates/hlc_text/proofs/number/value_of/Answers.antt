@@ -1,4 +1,5 @@
--- Where all are digits at the front, the value is theirs; where fewer than nineteen are, the next is none.
+-- Where all bytes are digits at the front, the value is theirs; where fewer than nineteen are, the next byte is no
+-- digit.
 use Rattle.std.proofs.Common.{◌≡◌, ◌<◌, ◌∙◌, ap, subst, length, take, List, ℕ, arith}
 use Rattle.std.specs.Str.Parse.{AllDigits, digits_value}
 use Rattle.std.proofs.lemmas.List.{take_all}

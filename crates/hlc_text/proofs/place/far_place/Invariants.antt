@@ -1,4 +1,4 @@
--- No byte so far is the one that is looked for.
+-- No byte so far is the one that is searched for.
 use Rattle.std.proofs.Common.{◌≡◌, ℕ, ◌<◌, ◌≤◌, ◌-◌, get_or, length}
 use Rattle.hlc_text.proofs.place.far_place.Given as goal
 

@@ -1,4 +1,4 @@
--- The bytes before the next 8 are none, and so are those of the 8 that come before the first.
+-- None of the bytes before the next 8 is the one, and neither are those of the 8 that come before the first hit.
 use Rattle.std.proofs.Common.{◌≤◌, ◌+◌, length, arith}
 use Rattle.hlc_text.proofs.Places.{place_found, none_found}
 use Rattle.hlc_text.proofs.place.near_place.Goals as goal

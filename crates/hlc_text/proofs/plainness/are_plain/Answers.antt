@@ -1,7 +1,7 @@
 -- The first eight pass, and the last eight are all that is left.
 use Rattle.std.proofs.Common.{◌-◌, length, sym, ap, ◌∙◌, arith}
 use Rattle.std.specs.List.{list_all}
-use Rattle.hlc_text.specs.Text.{stands_as_itself}
+use Rattle.hlc_text.specs.Text.{is_literal}
 use Rattle.hlc_text.proofs.PlainBlocks.{rest_decides, last_chunk}
 use Rattle.hlc_text.proofs.plainness.are_plain.Goals as goal
 
@@ -9,6 +9,6 @@ pub returns-then-are_plain_8 : goal.returns-then-are_plain_8
 returns-then-are_plain_8 c =
     let xs = c.args.bytes.now in
     c.are_plain_8-then-are_plain_8.ensures
-    ∙ ap (list_all stands_as_itself) (last_chunk xs 8 (omega (arith, c.if-count-ge8.true)))
-    ∙ rest_decides stands_as_itself xs 8 (length xs - 8) (omega (arith, c.if-count-ge16.false))
+    ∙ ap (list_all is_literal) (last_chunk xs 8 (omega (arith, c.if-count-ge8.true)))
+    ∙ rest_decides is_literal xs 8 (length xs - 8) (omega (arith, c.if-count-ge16.false))
     (sym c.if-are_plain_8.ensures)

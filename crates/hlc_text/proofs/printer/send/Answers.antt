@@ -1,4 +1,4 @@
--- One write more takes a front of the rest.
+-- One more write takes a front of the rest.
 use Rattle.std.proofs.Common.{◌≡◌, false, arith}
 use Rattle.std.proofs.lemmas.Grind.{common_steps}
 use Rattle.hlc_text.proofs.Sending.{going_on}

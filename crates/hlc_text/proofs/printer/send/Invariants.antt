@@ -1,4 +1,4 @@
--- A front of the text is taken and the rest is left. Each write takes a byte, or is the last.
+-- A front of the text is taken and the rest is left. Each write takes a byte, or is the last one.
 use Rattle.std.proofs.Common.{◌+◌, length}
 use Rattle.std.specs.Prelude.{if◌then◌else◌}
 use Rattle.hlc_text.specs.Watched.{inner_of, has_failed}

@@ -1,4 +1,4 @@
--- The split at the first such byte is the part before it, and the split of what stands behind.
+-- The split at the first such byte is the part before it, and the split of what comes after it.
 use Rattle.hlc_text.proofs.Cuts.{at_first_range, at_none}
 use Rattle.hlc_text.proofs.words.cut_near.Goals as goal
 

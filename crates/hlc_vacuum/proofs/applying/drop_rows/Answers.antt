@@ -1,4 +1,4 @@
--- Where no flag is unset the flagged rows are all rows.
+-- If no flag is unset, the flagged rows are all rows.
 use Rattle.std.proofs.Common.{◌≡◌, count_by, not, sym, arith}
 use Rattle.hlc_vacuum.proofs.Chosen.{all_chosen}
 use Rattle.hlc_vacuum.proofs.applying.drop_rows.Goals as goal

@@ -1,4 +1,4 @@
--- What keeps the newest row at each change answers alike, and has a row for each change.
+-- Rows that include the newest at each change answer alike, and there is one for each change.
 use Rattle.hlc_vacuum.proofs.VacuumLemmas.{newest_rows_suffice}
 use Rattle.hlc_vacuum.proofs.laws.newest_rows_suffice.Goals as goal
 

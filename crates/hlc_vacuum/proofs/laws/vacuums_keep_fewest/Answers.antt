@@ -1,4 +1,4 @@
--- What is kept at or below the last point is as many as the changes, and answers alike at the points.
+-- The rows kept at or below the last point are as many as the changes, and answer alike at the points.
 use Rattle.hlc_vacuum.proofs.VacuumLemmas.{vacuums_keep_fewest}
 use Rattle.hlc_vacuum.proofs.laws.vacuums_keep_fewest.Goals as goal
 

@@ -1,4 +1,4 @@
--- What each call of the closure says, of each piece in turn.
+-- The contract of each call of the closure, for each piece in turn.
 use Rattle.std.proofs.Common.{◌≡◌, ◌∙◌, ap, sym, subst, max, arith}
 use Rattle.std.specs.List.{AllZip}
 use Rattle.rayon.specs.Lists.{chunks_of}

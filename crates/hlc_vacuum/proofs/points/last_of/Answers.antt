@@ -1,4 +1,4 @@
--- The last place has the last point.
+-- The last position has the last point.
 use Rattle.hlc_witness.proofs.PlaceLemmas.{last_point-is}
 use Rattle.hlc_vacuum.proofs.points.last_of.Goals as goal
 

@@ -1,4 +1,4 @@
--- The kind stands after the node, the number and the stamp.
+-- The kind comes after the node, the number and the stamp.
 use Rattle.std.proofs.Common.{◌≡◌, slice_get, Some, rules}
 use Rattle.std.specs.Int.{w16, w64}
 use Rattle.hlc_wire.proofs.KindLemmas.{after_number}

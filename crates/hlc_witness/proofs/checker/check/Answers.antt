@@ -1,4 +1,4 @@
--- Where there is no reason against them, the witnesses are a certificate.
+-- If there is no reason against them, the witnesses are a certificate.
 use Rattle.hlc_witness.proofs.CertificateLemmas.{certificates_show_fewest, certificates_show_cheapest}
 use Rattle.hlc_witness.proofs.checker.check.Goals as goal
 

@@ -1,4 +1,4 @@
--- Ascending points are found by binary search, and the point before one stands just before it.
+-- Ascending points are found by binary search, and the point before another is just before it.
 use Rattle.std.proofs.Common.{true≢false, sym, ◌∙◌, subst, arith, Ok, Err}
 use Rattle.std.proofs.lemmas.Bool.{eqb-true, eq-eqb, ltb-true, lt-ltb}
 use Rattle.std.proofs.lemmas.List.Sorted.{searched}

@@ -1,5 +1,5 @@
--- Where a witness has a fault, it is the first reason, since those before it are changes and ascend;
--- and a certificate has no fault.
+-- If a witness has a fault, it is the first reason, since those before it are changes and ascend; and a certificate has
+-- no fault.
 use Rattle.std.proofs.Common.{refl, arith, take}
 use Rattle.hlc_witness.proofs.Ascending.{ascend_more, none_ascend}
 use Rattle.hlc_witness.proofs.Faults.{certificate_no_fault, first_fault, first_reason, each_more}

@@ -1,4 +1,4 @@
--- What is known of the witnesses that were looked at.
+-- What is known of the witnesses that were checked.
 use Rattle.std.proofs.Common.{take, All}
 use Rattle.hlc_witness.specs.Changes.{ChangesAscend, IsChange}
 use Rattle.hlc_witness.proofs.checker.reason_against.Given as goal

@@ -1,4 +1,4 @@
--- The changes key by key and point by point are all changes, in order, and an ordered list of all is that list.
+-- The changes key by key and point by point are all changes, in order, and an ordered list of all changes is that list.
 use Rattle.hlc_witness.proofs.ChangeLemmas.{changes_are_computed, changes_are_one}
 use Rattle.hlc_witness.proofs.laws.changes_are_computed.Goals as goal
 

@@ -1,4 +1,4 @@
--- What is known of the points that were looked at.
+-- What is known of the points that were checked.
 use Rattle.std.proofs.Common.{ℕ, ◌<◌, ◌+◌, get_or}
 use Rattle.hlc_witness.proofs.order.do_points_ascend.Given as goal
 

@@ -1,4 +1,4 @@
--- Neighbours in order are rows in order.
+-- If neighbours are in order, the rows are in order.
 use Rattle.std.proofs.Common.{true≢false, sym, ap, ◌∙◌, refl, arith, is_lt}
 use Rattle.hlc_witness.proofs.Ascending.{rows_from_neighbours, neighbours}
 use Rattle.hlc_witness.proofs.order.do_rows_ascend.Goals as goal

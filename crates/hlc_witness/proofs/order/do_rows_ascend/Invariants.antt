@@ -1,4 +1,4 @@
--- What is known of the rows that were looked at.
+-- What is known of the rows that were checked.
 use Rattle.std.proofs.Common.{◌≡◌, ℕ, ◌<◌, ◌+◌, get_or, Less}
 use Rattle.hlc_node.specs.declared.row.Row.{Row}
 use Rattle.hlc_witness.specs.Certificate.{row_cmp}

@@ -1,4 +1,4 @@
--- The last place has the last point.
+-- The last position has the last point.
 use Rattle.std.proofs.Common.{◌≡◌, ◌<◌, ◌≤◌, true≢false, sym, ap, refl, arith, get_or}
 use Rattle.hlc_node.specs.declared.row.Row.{Row}
 use Rattle.hlc_clock.specs.Points.{last_point}

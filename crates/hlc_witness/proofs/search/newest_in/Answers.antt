@@ -1,4 +1,4 @@
--- The search ends behind the last row that does not come after the key and the stamp.
+-- The search ends after the last row that does not come after the key and the stamp.
 use Rattle.std.proofs.Common.{rules, arith, sym, ◌∙◌, true≢false}
 use Rattle.std.proofs.lemmas.Slice.Eq.{bytes_eq-Decides}
 use Rattle.std.proofs.lemmas.List.Sorted.{IsPartitionPoint-from_clause}

@@ -1,4 +1,4 @@
--- One item more was taken and handed in.
+-- One more item was taken and passed to the store.
 use Rattle.std.proofs.Common.{[], ◌∷◌, ◌∙◌}
 use Rattle.hlc_workers.proofs.Works.{paid_all, passed_all, took_more, raised_more}
 use Rattle.hlc_workers.proofs.feeding.feed.Goals as goal

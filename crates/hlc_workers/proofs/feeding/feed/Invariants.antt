@@ -1,5 +1,5 @@
--- All items taken so far were handed in, and the board is raised with those that were accepted, where there is a
--- feeder.
+-- All items taken so far were passed to the store, and the board is raised with those that were accepted, where there
+-- is a feeder.
 use Rattle.std.proofs.Common.{◌≡◌, None}
 use Rattle.std.specs.Option.{option_map}
 use Rattle.hlc_workers.specs.Paid.{IsPaid, Passed}

@@ -1,4 +1,4 @@
--- The core stands for the store's history.
+-- The core represents the store's history.
 use Rattle.hlc_world.proofs.Faithful.{faithful}
 use Rattle.hlc_world.proofs.laws.worlds_are_faithful.Goals as goal
 

@@ -1,4 +1,4 @@
--- What was printed from nothing on is written when all is finished.
+-- What was printed from the start on is written when all is finished.
 use Rattle.std.proofs.Common.{rules}
 use Rattle.hlc_text.proofs.PrintLemmas.{printed_finished}
 use Rattle.hlcstore.proofs.program.refuse_words.Goals as goal

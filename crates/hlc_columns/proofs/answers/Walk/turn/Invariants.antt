@@ -1,4 +1,4 @@
--- What is left stays, and each turn has one leaf fewer behind it.
+-- The remaining entries do not change, and each turn leaves one leaf fewer.
 use Rattle.std.proofs.Common.{◌≡◌, ◌-◌, length}
 use Rattle.hlc_columns.specs.Answers.{entries_left}
 use Rattle.hlc_columns.proofs.answers.Walk.turn.Given as goal

@@ -1,11 +1,11 @@
--- Looking the key up finds its rows, and a column has one at least.
+-- The look-up of the key finds its rows, and a column has at least one.
 use Rattle.std.proofs.Common.{◌≡◌, ◌<◌, ◌∙◌, List, Some, None, ap, sym, subst, length}
 use Rattle.std.specs.Prelude.{option_copied, IfSome}
 use Rattle.std.proofs.lemmas.Map.Entries.{All-lookup}
 use Rattle.hlc_index.specs.Entries.{entries_in, is_key}
 use Rattle.hlc_columns.specs.Cells.{Cell}
 use Rattle.hlc_columns.specs.Rows.{rows_of, rows_with}
-use Rattle.hlc_columns.proofs.Found.{cells_in, rows_in_table, told_absent}
+use Rattle.hlc_columns.proofs.Found.{cells_in, rows_in_table, found_absent}
 use Rattle.hlc_columns.proofs.table.Table.column.Goals as goal
 use Rattle.hlc_columns.proofs.table.Table.column.Goals.{After-get}
 
@@ -32,13 +32,13 @@ returns-in-Some-clause-rows c =
 pub returns-in-Some-clause-absent : goal.returns-in-Some-clause-absent
 returns-in-Some-clause-absent c =
     let at = (goal.at.returns-in-Some-clause-absent c).After-get in
-    told_absent (Some c.in-Some.column) c.args.key.now (rows_with c.args.key.now c.args.self.now)
+    found_absent (Some c.in-Some.column) c.args.key.now (rows_with c.args.key.now c.args.self.now)
     (rows_are at ∙ ap (λ o. rows_of c.args.key.now (cells_in (option_copied o))) c.in-Some.is)
     (subst (λ o. IfSome (option_copied o) (λ (cells : List Cell). 0 < length cells)) c.in-Some.is (some_rows at))
 
 pub returns-in-None-clause-absent : goal.returns-in-None-clause-absent
 returns-in-None-clause-absent c =
     let at = (goal.at.returns-in-None-clause-absent c).After-get in
-    told_absent None c.args.key.now (rows_with c.args.key.now c.args.self.now)
+    found_absent None c.args.key.now (rows_with c.args.key.now c.args.self.now)
     (rows_are at ∙ ap (λ o. rows_of c.args.key.now (cells_in (option_copied o))) c.in-None.is)
     (subst (λ o. IfSome (option_copied o) (λ (cells : List Cell). 0 < length cells)) c.in-None.is (some_rows at))

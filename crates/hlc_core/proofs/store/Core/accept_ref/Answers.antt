@@ -1,28 +1,29 @@
--- As of `accept`: the copy of an item that nothing refuses is the row of its past.
+-- The copy of an item that is not refused is the row of its past.
 use Rattle.std.proofs.Common.{◌≡◌, ◌<◌, arith, length, false, inl, inr, refl}
 use Rattle.std.proofs.lemmas.Result.{err_from_is_err_and}
 use Rattle.hlc_node.specs.Items.{retires}
 use Rattle.hlc_heads.specs.Heads.{head_at}
 use Rattle.hlc_checkpoint.proofs.CheckpointLemmas.{head-of, heads-length}
-use Rattle.hlc_core.proofs.Standing.{fault-due, admitted, admitted-due, heads-set, took}
-use Rattle.hlc_core.proofs.Held.{held-accept}
+use Rattle.hlc_core.proofs.Links.{fault-expected, admitted, admitted-expected, heads-set}
+use Rattle.hlc_core.proofs.Taking.{took}
+use Rattle.hlc_core.proofs.Consistent.{consistent-accept}
 use Rattle.hlc_core.proofs.Sound.{sound-accept, sound-moved}
-use Rattle.hlc_core.proofs.Moved.{fresh, held-moved, stands-moved}
+use Rattle.hlc_core.proofs.Moved.{fresh, consistent-moved, represents-moved}
 use Rattle.hlc_core.proofs.store.Core.accept_ref.Goals as goal
 
-pub returns-in-Err-clause-stands : goal.returns-in-Err-clause-stands
-returns-in-Err-clause-stands c = λ past h.
+pub returns-in-Err-clause-represents : goal.returns-in-Err-clause-represents
+returns-in-Err-clause-represents c = λ past h.
     let h' = rw (← c.self.view_is) at h in
     let looked = rw c.as_slice.ensures.value at c.in-Err.ensures in
-    rw (← c.self.view_is) (inl (fault-due _ past c.args.item.now c.in-Err.fault h' looked))
+    rw (← c.self.view_is) (inl (fault-expected _ past c.args.item.now c.in-Err.fault h' looked))
 
-pub returns-in_err-store_copy-clause-stands : goal.returns-in_err-store_copy-clause-stands
-returns-in_err-store_copy-clause-stands c = λ past h.
+pub returns-in_err-store_copy-clause-represents : goal.returns-in_err-store_copy-clause-represents
+returns-in_err-store_copy-clause-represents c = λ past h.
     let h' = rw (← c.self.view_is) at h in
     let looked = rw c.as_slice.ensures.value at c.in-Ok.ensures in
     let p = err_from_is_err_and c.from_residual.result c.from_residual.ensures.1 in
     rw (← c.self.view_is, p.1, p.2) (inr (
-      admitted-due _ past c.args.item.now c.in-Ok.intake h' looked,
+      admitted-expected _ past c.args.item.now c.in-Ok.intake h' looked,
       refl,
       c.in_err-store_copy.ensures.err.0,
     ))
@@ -78,8 +79,8 @@ invariant_of-self-2 c =
     rw (head-of _ _ c.args.item.now.node c.self.invariant.0 is.within) is.rising in
     rw (c.rise.ensures.marked, c.node.ensures, c.node-2.ensures, c.stamp.ensures, c.retires.ensures, is.is) (
       heads-set _ _ c.args.item.now.node _ c.self.invariant.0,
-      held-moved _ _ _ _
-          (held-accept _ _ _ c.args.item.now.node c.args.item.now.stamp c.args.item.now.body
+      consistent-moved _ _ _ _
+          (consistent-accept _ _ _ c.args.item.now.node c.args.item.now.stamp c.args.item.now.body
           (retires c.args.item.now.body) c.self.invariant.1 within here up)
           c.in_ok-store_copy.ensures.ok,
       sound-moved _ _ _ _ _ _
@@ -89,13 +90,13 @@ invariant_of-self-2 c =
           c.in_ok-store_copy.ensures.ok,
     )
 
-pub returns-clause-stands : goal.returns-clause-stands
-returns-clause-stands c = λ past h.
+pub returns-clause-represents : goal.returns-clause-represents
+returns-clause-represents c = λ past h.
     let h' = rw (← c.self.view_is) at h in
     let looked = rw c.as_slice.ensures.value at c.in-Ok.ensures in
     let is = admitted _ c.args.item.now c.in-Ok.intake looked in
-    let none = admitted-due _ past c.args.item.now c.in-Ok.intake h' looked in
+    let none = admitted-expected _ past c.args.item.now c.in-Ok.intake h' looked in
     rw (← c.self.view_is, c.rise.ensures.marked, c.node.ensures, c.stamp.ensures, is.is) (
       none,
-      stands-moved _ _ _ (took _ past c.args.item.now h' none) c.in_ok-store_copy.ensures.ok,
+      represents-moved _ _ _ (took _ past c.args.item.now h' none) c.in_ok-store_copy.ensures.ok,
     )

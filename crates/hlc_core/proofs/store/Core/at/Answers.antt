@@ -3,8 +3,8 @@ use Rattle.std.proofs.Common.{◌≡◌, Some, sym, ap, ◌∙◌, subst, ℕ, L
 use Rattle.hlc_node.specs.Rows.{answer}
 use Rattle.hlc_columns.specs.View.{Seen}
 use Rattle.hlc_core.specs.Past.{stamp_of, writes}
-use Rattle.hlc_snapshot.specs.Register.{stamp_in}
-use Rattle.hlc_core.proofs.Standing.{told-alike}
+use Rattle.hlc_snapshot.specs.RegistryView.{stamp_in}
+use Rattle.hlc_core.proofs.Answering.{answer-alike}
 use Rattle.hlc_core.proofs.store.Core.at.Goals as goal
 
 pub returns : goal.returns
@@ -14,4 +14,4 @@ returns c = λ past h.
     ∙ sym c.in_ok-stamp.ensures.value in
     subst (λ (seen : Seen). (stamp_of c.args.id past ≡ Some seen.stamp)
     × ((key : List ℕ) → answer seen.rows key seen.stamp ≡ answer (writes past) key seen.stamp)) (sym c.new.ensures)
-    (at, told-alike _ past c.args.id c.in_ok-stamp.stamp h' (sym c.in_ok-stamp.ensures.value))
+    (at, answer-alike _ past c.args.id c.in_ok-stamp.stamp h' (sym c.in_ok-stamp.ensures.value))

@@ -1,13 +1,13 @@
--- The kept heads are those of the past, so their floor is its floor.
+-- The stored heads are those of the past, so their floor is its floor.
 use Rattle.std.proofs.Common.{◌≤◌, refl, sym, subst, arith}
-use Rattle.hlc_heads.specs.Heads.{Marks, IsFloor, floor_of}
+use Rattle.hlc_heads.specs.Heads.{HeadsView, IsFloor, floor_of}
 use Rattle.hlc_heads.proofs.LowLemmas.{floor-is}
-use Rattle.hlc_core.specs.Kept.{marks_of}
-use Rattle.hlc_core.proofs.Standing.{floor-from}
+use Rattle.hlc_core.specs.StoreView.{marks_of}
+use Rattle.hlc_core.proofs.Links.{floor-from}
 use Rattle.hlc_core.proofs.store.Core.floor.Goals as goal
 
-pub returns-clause-stands : goal.returns-clause-stands
-returns-clause-stands c = λ past h.
+pub returns-clause-represents : goal.returns-clause-represents
+returns-clause-represents c = λ past h.
     let h' = rw (← c.self.view_is) at h in
     rw (← c.self.view_is) (floor-from _ past _ _ c.self.invariant.0 refl h' c.floor.ensures)
 
@@ -17,7 +17,7 @@ returns-clause-least c =
 
 pub returns-clause-value : goal.returns-clause-value
 returns-clause-value c =
-    let marks : Marks = marks_of c.self.inside.intakes.items c.self.inside.heads.top in
+    let marks : HeadsView = marks_of c.self.inside.intakes.items c.self.inside.heads.top in
     rw (← c.self.view_is)
     (floor-is marks c.floor.result (subst (λ m. IsFloor m c.floor.result) c.self.invariant.0.same c.floor.ensures))
 

@@ -1,6 +1,6 @@
--- As of `restore`: what was made keeps what the checkpoint says, with its rows in another order.
+-- As for `restore`: the new core has the state of the checkpoint, with its rows in another order.
 use Rattle.std.proofs.Common.{refl, IsPermutation}
-use Rattle.hlc_core.proofs.Checkpoints.{copy-stands}
+use Rattle.hlc_core.proofs.Checkpoints.{copy-represents}
 use Rattle.hlc_checkpoint.proofs.CheckpointLemmas.{restored}
 use Rattle.hlc_core.proofs.store.Core.from_checkpoint.Goals as goal
 
@@ -20,9 +20,9 @@ invariant_of-result c =
     )
     (restored c.args.checkpoint c.in_ok-table.table c.in_default.ensures.first moved)
 
-pub returns-clause-stands : goal.returns-clause-stands
-returns-clause-stands c = λ past h.
-    copy-stands c.args.checkpoint _ past h (record {
+pub returns-clause-represents : goal.returns-clause-represents
+returns-clause-represents c = λ past h.
+    copy-represents c.args.checkpoint _ past h (record {
       same = rw (
         c.in_ok-heads.ensures,
         c.top.ensures.value,

@@ -1,11 +1,12 @@
--- The node's link and head are one more each, at the floor, so the core stands for the joining too.
+-- There is one more link and one more head, at the floor, so the core represents the join too.
 use Rattle.std.proofs.Common.{◌<◌, ◌≤◌, ◌∙◌, length, arith, refl}
 use Rattle.hlc_heads.specs.declared.heads.TheConstants.{MOST_NUMBERS}
 use Rattle.hlc_heads.specs.Heads.{floor_of}
 use Rattle.hlc_heads.proofs.LowLemmas.{floor-is}
 use Rattle.hlc_checkpoint.proofs.CheckpointLemmas.{heads-length}
-use Rattle.hlc_core.proofs.Standing.{heads-joined, floor-from, joins, joins-none, both}
-use Rattle.hlc_core.proofs.Held.{held-joined}
+use Rattle.hlc_core.proofs.Links.{heads-joined, floor-from}
+use Rattle.hlc_core.proofs.Joining.{joins, joins-none, both}
+use Rattle.hlc_core.proofs.Consistent.{consistent-joined}
 use Rattle.hlc_core.proofs.Sound.{sound-joined}
 use Rattle.hlc_core.proofs.store.Core.join.Goals as goal
 
@@ -23,12 +24,12 @@ invariant_of-self-2 c =
       c.in_ok-made.ensures.3,
     ) (
       heads-joined _ _ c.in_ok-made.made.1 c.self.invariant.0 few,
-      held-joined _ _ _ _ c.self.invariant.1 up,
+      consistent-joined _ _ _ _ c.self.invariant.1 up,
       sound-joined _ _ c.self.inside.heads _ _ _ c.self.invariant.2 c.self.invariant.0 few up,
     )
 
-pub returns-clause-stands : goal.returns-clause-stands
-returns-clause-stands c = λ past h.
+pub returns-clause-represents : goal.returns-clause-represents
+returns-clause-represents c = λ past h.
     let h' = rw (← c.self.view_is) at h in
     let len = heads-length _ _ c.self.invariant.0 ∙ h'.many in
     let is = c.in_ok-made.ensures.1 ∙ len in

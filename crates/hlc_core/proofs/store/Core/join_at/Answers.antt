@@ -1,11 +1,12 @@
--- The node's link and head are one more each, at the start, so the core stands for the joining too.
+-- There is one more link and one more head, at the start, so the core represents the join too.
 use Rattle.std.proofs.Common.{◌<◌, ◌≤◌, ◌∙◌, length, subst, arith}
 use Rattle.hlc_heads.specs.declared.heads.TheConstants.{MOST_NUMBERS}
 use Rattle.hlc_heads.specs.Heads.{floor_of}
 use Rattle.hlc_core.specs.Past.{floor}
 use Rattle.hlc_checkpoint.proofs.CheckpointLemmas.{heads-length}
-use Rattle.hlc_core.proofs.Standing.{heads-joined, joins, joins-none, joins-at_none}
-use Rattle.hlc_core.proofs.Held.{held-joined}
+use Rattle.hlc_core.proofs.Links.{heads-joined}
+use Rattle.hlc_core.proofs.Joining.{joins, joins-none, joins-at_none}
+use Rattle.hlc_core.proofs.Consistent.{consistent-joined}
 use Rattle.hlc_core.proofs.Sound.{sound-joined, floor-in}
 use Rattle.hlc_core.proofs.store.Core.join_at.Goals as goal
 
@@ -21,12 +22,12 @@ invariant_of-self-2 c =
       c.in_ok-node.ensures.3,
     ) (
       heads-joined _ _ c.args.start c.self.invariant.0 few,
-      held-joined _ _ _ _ c.self.invariant.1 c.in_ok-node.ensures.1,
+      consistent-joined _ _ _ _ c.self.invariant.1 c.in_ok-node.ensures.1,
       sound-joined _ _ c.self.inside.heads _ _ _ c.self.invariant.2 c.self.invariant.0 few c.in_ok-node.ensures.1,
     )
 
-pub returns-clause-stands : goal.returns-clause-stands
-returns-clause-stands c = λ past h.
+pub returns-clause-represents : goal.returns-clause-represents
+returns-clause-represents c = λ past h.
     let h' = rw (← c.self.view_is) at h in
     let len = heads-length _ _ c.self.invariant.0 ∙ h'.many in
     let is = c.in_ok-node.ensures.2 ∙ len in

@@ -1,4 +1,4 @@
--- One look more: the least is now that of one node more.
+-- One more load: the least is now that of one more node.
 use Rattle.std.proofs.Common.{◌≡◌, ℕ, ◌+◌, min, sym, ap, subst, ◌∙◌}
 use Rattle.hlc_floor.proofs.Looks.{HasLooked, looks_next}
 use Rattle.hlc_floor.proofs.board.Board.floor.Goals as goal

@@ -1,4 +1,4 @@
--- The nodes below this one were looked at once, and the least is theirs.
+-- The nodes below this one were loaded once, and the least is theirs.
 use Rattle.hlc_floor.proofs.Looks.{HasLooked}
 use Rattle.hlc_floor.proofs.board.Board.floor.Given as goal
 

@@ -1,4 +1,4 @@
--- A look keeps the rule: what is seen is the word. The pass is of this board, and the board has that word.
+-- A load preserves the rule: what is seen is the word. The pass is of this board, and the board has that word.
 use Rattle.std.proofs.Common.{sym, ap, ◌∙◌, subst, ◌<◌}
 use Rattle.atomic_table.specs.Seated.{TableId}
 use Rattle.hlc_floor.proofs.Fresh.{looks_as}

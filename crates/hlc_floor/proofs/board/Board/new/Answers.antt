@@ -1,4 +1,4 @@
--- The words are 0 and the first seat holds all numbers, so the rule holds at the start.
+-- The words are 0 and the first seat owns all numbers, so the rule is true at the start.
 use Rattle.std.proofs.Common.{arith}
 use Rattle.hlc_heads.specs.declared.heads.TheConstants.{MOST_NODES}
 use Rattle.hlc_floor.proofs.Fresh.{begins_as}

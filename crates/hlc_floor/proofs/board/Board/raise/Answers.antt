@@ -1,5 +1,5 @@
--- A raise keeps the rule: the feeder holds the node's number, and what it stores is above the
--- word, which is what it raised last.
+-- A raise preserves the rule: the feeder owns the node's number, and what it stores is above the word, which is what it
+-- raised last.
 use Rattle.std.proofs.Common.{◌≡◌, sym, ap, ◌∙◌, subst, ◌<◌, arith}
 use mathlib.Core.Option.{none}
 use Rattle.atomic_table.specs.Table.{step}

@@ -1,4 +1,4 @@
--- The front takes what it has room for, and what follows it takes the rest.
+-- The front gets as much as it has room for, and the rest goes after it.
 use Rattle.std.proofs.Common.{◌≡◌, ℕ, ◌++◌, not, List, take, drop, Option, Some, None, ap, sym, subst, ◌∙◌}
 use Rattle.hlc_frame.specs.declared.reader.FrameReader.{FrameReader}
 use Rattle.hlc_frame.specs.declared.rest.RestReader.{RestReader}
@@ -20,7 +20,7 @@ returns-in-None-clause-body c = λ fed has.
           subst (λ (r : Option RestReader). Ready (front_at (take 20 all')) r (take 20 all') so_far tail (drop 20 all'))
           (sym (ap (λ (m : FrameReader). m.rest) w.self-is))
           (first_block c.args.self.now fed c.args.block.now tail w.as_slice.result.now w.rest_after-self.result has
-          (c.is_none.ensures ∙ ap not w.if-is_none.true) (w.as_slice.ensures.value ∙ c.fill-rest.ensures.held)
+          (c.is_none.ensures ∙ ap not w.if-is_none.true) (w.as_slice.ensures.value ∙ c.fill-rest.ensures.buffer)
           c.fill-rest.ensures.rest w.rest_after-self.ensures)
       | else-is_none w ↦
           subst (λ (r : Option RestReader). Ready (front_at (take 20 all')) r (take 20 all') so_far tail (drop 20 all'))
@@ -44,7 +44,7 @@ returns-in-Some-clause-read c = λ fed has.
           subst (λ (r : Option RestReader). Ready (front_at (take 20 all')) r (take 20 all') so_far tail (drop 20 all'))
           (sym (ap (λ (m : FrameReader). m.rest) w.self-is))
           (first_block c.args.self.now fed c.args.block.now tail w.as_slice.result.now w.rest_after-self.result has
-          (c.is_none.ensures ∙ ap not w.if-is_none.true) (w.as_slice.ensures.value ∙ c.fill-rest.ensures.held)
+          (c.is_none.ensures ∙ ap not w.if-is_none.true) (w.as_slice.ensures.value ∙ c.fill-rest.ensures.buffer)
           c.fill-rest.ensures.rest w.rest_after-self.ensures)
       | else-is_none w ↦
           subst (λ (r : Option RestReader). Ready (front_at (take 20 all')) r (take 20 all') so_far tail (drop 20 all'))
@@ -55,13 +55,13 @@ returns-in-Some-clause-read c = λ fed has.
     let some : Ready (front_at (take 20 all')) (Some c.in-Some.reader) (take 20 all') so_far tail (drop 20 all') =
     subst (λ (r : Option RestReader). Ready (front_at (take 20 all')) r (take 20 all') so_far tail (drop 20 all'))
     c.in-Some.is ready in
-    let held : c.if-is_none.self.front.items ≡ c.fill-rest.new.held.items =
+    let buffer : c.if-is_none.self.front.items ≡ c.fill-rest.new.buffer.items =
     elim c.if-is_none.branch [
       | then-is_none w ↦ ap (λ (m : FrameReader). m.front.items) w.self-is
       | else-is_none w ↦ ap (λ (m : FrameReader). m.front.items) w.self-is
     ] in
     record {
-      front = held ∙ c.fill-rest.ensures.held ∙ ap (λ (l : List ℕ). take 20 (l ++ c.args.block.now)) has.front
+      front = buffer ∙ c.fill-rest.ensures.buffer ∙ ap (λ (l : List ℕ). take 20 (l ++ c.args.block.now)) has.front
           ∙ take_again 20 fed c.args.block.now;
       rest = some_goes (front_at (take 20 all')) c.in-Some.reader c.feed.new.self (take 20 all') so_far tail
           (drop 20 all')
@@ -79,7 +79,7 @@ returns-in-Some-clause-body c = λ fed has.
           subst (λ (r : Option RestReader). Ready (front_at (take 20 all')) r (take 20 all') so_far tail (drop 20 all'))
           (sym (ap (λ (m : FrameReader). m.rest) w.self-is))
           (first_block c.args.self.now fed c.args.block.now tail w.as_slice.result.now w.rest_after-self.result has
-          (c.is_none.ensures ∙ ap not w.if-is_none.true) (w.as_slice.ensures.value ∙ c.fill-rest.ensures.held)
+          (c.is_none.ensures ∙ ap not w.if-is_none.true) (w.as_slice.ensures.value ∙ c.fill-rest.ensures.buffer)
           c.fill-rest.ensures.rest w.rest_after-self.ensures)
       | else-is_none w ↦
           subst (λ (r : Option RestReader). Ready (front_at (take 20 all')) r (take 20 all') so_far tail (drop 20 all'))

@@ -1,4 +1,4 @@
--- The front says its fault, or its word; what follows says the rest.
+-- The front has a fault, or its word; the bytes after it decide the rest.
 use Rattle.std.proofs.Common.{◌≡◌, take, drop, Ok, Err, ap, sym, ◌∙◌}
 use Rattle.std.proofs.lemmas.Result.{err_from_is_err_and}
 use Rattle.hlc_frame.specs.Opening.{front_at}

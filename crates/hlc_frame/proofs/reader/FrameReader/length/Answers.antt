@@ -1,4 +1,4 @@
--- The twenty bytes that are held say the same length as all that was fed.
+-- The twenty stored bytes have the same length in them as all that was fed.
 use Rattle.std.proofs.Common.{List, ℕ, ap, sym, ◌∙◌}
 use Rattle.hlc_frame.specs.Opening.{front_at}
 use Rattle.hlc_frame.specs.Reading.{promised}

@@ -1,4 +1,4 @@
--- The body, the digest and what follows are cut from the block in turn.
+-- The body, the digest and the remaining bytes are split off the block in turn.
 use Rattle.std.proofs.Common.{◌≡◌, Bool, ◌-◌, List, length, take, drop, ◌++◌, ℕ, ap, sym, subst, ◌∙◌, not}
 use Rattle.sha2.specs.Hashers.{Holds256}
 use Rattle.hlc_frame.proofs.RestLemmas.{more_after, not_empty, fed_body, fed_rest}
@@ -19,7 +19,7 @@ returns-clause-read c =
       hashed = λ text h. subst (λ (l : List ℕ). Holds256 c.update.new.self (text ++ l)) c.cut.ensures.front
           (c.update.ensures text h);
       left = ap (λ (l : List ℕ). c.args.self.now.left - length l) c.cut.ensures.front;
-      digest = c.fill-rest.ensures.held
+      digest = c.fill-rest.ensures.buffer
           ∙ ap (λ (l : List ℕ). take 32 (c.args.self.now.digest.items ++ l)) c.cut.ensures.back;
       more = more ∙ ap (λ (l : List ℕ). more_after c.args.self.now.more l)
           (c.fill-rest.ensures.rest ∙ ap (λ (l : List ℕ). drop

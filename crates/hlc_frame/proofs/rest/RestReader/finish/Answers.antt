@@ -1,4 +1,4 @@
--- Each exit is what reading all of the bytes says.
+-- Each exit is the result of reading all of the bytes.
 use Rattle.std.proofs.Common.{◌++◌, ℕ, Bool, List, length, take, ap, sym, ◌∙◌, true, false, arith}
 use Rattle.std.specs.Prelude.{bytes_eq}
 use Rattle.sha2.specs.Sha256.{sha256}

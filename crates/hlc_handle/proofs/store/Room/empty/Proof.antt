@@ -1,4 +1,4 @@
--- `empty` keeps nothing at null. Assumes `Logic`.
+-- `empty` stores nothing, at null. Assumes `Logic`.
 use Rattle.std.proofs.Common.{◌≡◌, [], ◌∷◌, refl, lit<, w64}
 use Rattle.std.specs.Prelude.{Option, None}
 use mir.Val.{Val, vint}

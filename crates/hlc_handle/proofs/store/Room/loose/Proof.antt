@@ -1,4 +1,4 @@
--- `loose` has the box at the room's pointer again. Assumes `Logic`.
+-- `loose` returns the box at the room's pointer. Assumes `Logic`.
 use Rattle.std.proofs.Common.{◌≡◌, List, [], ◌∷◌, ◌++◌, refl, sym, ap, ◌∙◌, subst}
 use Rattle.std.specs.Prelude.{Option, Some, IsSome}
 use mir.Syntax.{impl, tnil, dnil}
@@ -61,10 +61,10 @@ loose_spec 𝓤 𝓛 𝓜 𝓡 wired =
     rewrite ! 0 (λ (y : Option (core.the_row).Denot). ‵ (room_owns core.the_row d.at y)) found.1 refl $
     in_a_block ! d.at (λ p. box_owns (ghosts.dealloc_token a) core.the_row p x)
     (fst∗ 𝓤 (never 𝓤) (sem 𝓛 (ghosts.dealloc_token a (bare (lone (core.the_row).mir)) null_ptr))) (λ b o e.
-    let told : z.0.4.0 ≡ one (vptr b o) ∷ [] = ws ∙ ap (λ (p : Ptr). one (ptr_val p) ∷ []) e in
+    let returned : z.0.4.0 ≡ one (vptr b o) ∷ [] = ws ∙ ap (λ (p : Ptr). one (ptr_val p) ∷ []) e in
     let w : Val = both (vptr b o) h in let typed = loose_good R Z LZ ghosts b o h fits in
     suffices ! (Run (one (vptr b o) ∷ h ∷ [])) (subst (λ (us : List Val).
-    ent 𝓤 (Run (one (vptr b o) ∷ h ∷ [])) (Run us)) (sym (λ i. told i ++ (eh i ++ [])))
+    ent 𝓤 (Run (one (vptr b o) ∷ h ∷ [])) (Run us)) (sym (λ i. returned i ++ (eh i ++ [])))
     (id⊢ 𝓤 (Run (one (vptr b o) ∷ h ∷ [])))) $
     enter ! 𝓣.C 𝓣.Λ fn (one (vptr b o) ∷ h ∷ []) Post $ alloc_all ! (λ l. pass_all ! refl ((tt, (tt, tt)), (fits, tt)) $
     sets ! (of_opd ! (get_in ! (fld ! refl (stop !)) (sub ! 0 refl (whole !)))) refl (tt, tt) $

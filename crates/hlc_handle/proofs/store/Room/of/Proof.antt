@@ -1,4 +1,4 @@
--- `of` keeps the box's pointer. Assumes `Logic`.
+-- `of` stores the box's pointer. Assumes `Logic`.
 use Rattle.std.proofs.Common.{◌≡◌, List, [], ◌∷◌, ◌++◌, refl, sym, subst}
 use Rattle.std.specs.Prelude.{Option, Some}
 use mir.Val.{Val, vptr}

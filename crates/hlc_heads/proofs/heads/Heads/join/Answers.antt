@@ -3,11 +3,12 @@ use Rattle.std.proofs.Common.{◌≡◌, ℕ, Err, subst, arith}
 use Rattle.std.proofs.lemmas.Result.{err_from_is_err_and}
 use Rattle.hlc_heads.specs.declared.heads.JoinFault.{JoinFault}
 use Rattle.hlc_heads.specs.declared.heads.JoinFault.TheVariants.{TooManyNodes, BelowFloor, NoMemory}
-use Rattle.hlc_heads.specs.Heads.{Marks, Joins, JoinsAt, IsFloor, floor_of}
+use Rattle.hlc_heads.specs.Heads.{HeadsView, Joins, JoinsAt, IsFloor, floor_of}
 use Rattle.hlc_heads.proofs.LowLemmas.{floor-is}
 use Rattle.hlc_heads.proofs.heads.Heads.join.Goals as goal
 
-refused : (old new : Marks) (start : ℕ) (fault : JoinFault) → start ≡ floor_of old → JoinsAt old new start (Err fault)
+refused : (old new : HeadsView) (start : ℕ) (fault : JoinFault) → start ≡ floor_of old
+    → JoinsAt old new start (Err fault)
     → Joins old new (Err fault)
 refused old new start TooManyNodes at h = h
 refused old new start (BelowFloor floor) at h = absurd (omega (arith, at, h.1, h.2))

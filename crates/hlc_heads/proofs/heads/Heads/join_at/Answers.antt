@@ -1,4 +1,5 @@
--- The node's group has the lower of its least head and the start, and the least of all groups is the floor.
+-- The least head of the node's group is the lower of the earlier one and the start, and the least of all groups is the
+-- floor.
 use Rattle.std.proofs.Common.{rules, ◌≡◌, ◌<◌, ◌≤◌, ◌/◌, ℕ, List, [], ◌∷◌, ◌++◌, length, Some, None, Option}
 use Rattle.std.proofs.Common.{false, refl, sym, subst, slice_set, ap, ◌∙◌, arith}
 use Rattle.std.proofs.lemmas.Grind.{common_steps}
@@ -6,7 +7,7 @@ use Rattle.std.proofs.lemmas.List.{get_or_default}
 use Rattle.std.specs.Option.{unwrap_or}
 use Rattle.hlc_heads.specs.declared.heads.TheConstants.{MOST_NUMBERS}
 use Rattle.hlc_heads.specs.declared.groups.TheConstants.{GROUP}
-use Rattle.hlc_heads.specs.Heads.{Marks, IsSized, IsFloor, a_head, joined}
+use Rattle.hlc_heads.specs.Heads.{HeadsView, IsSized, IsFloor, a_head, joined}
 use Rattle.hlc_heads.specs.Groups.{AreGroups, group_at}
 use Rattle.hlc_heads.proofs.LowLemmas.{floor-is}
 use Rattle.hlc_heads.proofs.LeastGroups.{IsLower, groups_join, found_floor, joined-sized}
@@ -15,8 +16,8 @@ use Rattle.hlc_heads.proofs.heads.Heads.join_at.Goals as goal
 pub invariant_of-self-2 : goal.invariant_of-self-2
 invariant_of-self-2 c =
     let inside = c.self.inside in
-    let marks : Marks = record { heads = inside.heads.items; top = inside.top } in
-    let grown : Marks = joined marks c.args.start in
+    let marks : HeadsView = record { heads = inside.heads.items; top = inside.top } in
+    let grown : HeadsView = joined marks c.args.start in
     let place : c.len-place.result ≡ length inside.heads.items = search rules in
     let few : length inside.heads.items < MOST_NUMBERS = search (rules, common_steps) in
     let size : length inside.groups ≡ GROUP = search (rules, common_steps) in
@@ -33,7 +34,7 @@ invariant_of-self-2 c =
     (groups_join marks inside.groups c.args.start c.lower.result size few
     (subst (λ (n : ℕ). IsLower (group_at inside.groups (n / GROUP)) c.args.start c.lower.result) place lowest)
     c.self.invariant.2) in
-    subst (λ (m : Marks). IsSized m × IsFloor m c.unwrap_or-self-inside.result × AreGroups m.heads groups)
+    subst (λ (m : HeadsView). IsSized m × IsFloor m c.unwrap_or-self-inside.result × AreGroups m.heads groups)
     (ap (λ items. record { heads = items; top = grown.top }) (sym pushed)
     ∙ ap (λ top. record { heads = c.push.new.self.items; top = top }) (sym top)) (
       sized,
@@ -75,5 +76,5 @@ returns c =
             heads = c.self.inside.heads.items ++ a_head c.args.start false ∷ [];
             top = top;
           }) c.greater-self-inside.ensures
-          ∙ ap (λ (marks : Marks). joined marks c.args.start) c.self.view_is,
+          ∙ ap (λ (marks : HeadsView). joined marks c.args.start) c.self.view_is,
     )

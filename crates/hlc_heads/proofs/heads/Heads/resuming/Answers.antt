@@ -1,14 +1,14 @@
 -- The least of all groups is the floor.
 use Rattle.std.proofs.Common.{List, subst, sym}
 use Rattle.hlc_heads.specs.declared.heads.Head.{Head}
-use Rattle.hlc_heads.specs.Heads.{Marks, IsFloor}
+use Rattle.hlc_heads.specs.Heads.{HeadsView, IsFloor}
 use Rattle.hlc_heads.specs.Groups.{AreGroups}
 use Rattle.hlc_heads.proofs.LeastGroups.{found_floor}
 use Rattle.hlc_heads.proofs.heads.Heads.resuming.Goals as goal
 
 pub invariant_of-result : goal.invariant_of-result
 invariant_of-result c =
-    let marks : Marks = record { heads = c.args.heads.items; top = c.args.top } in
+    let marks : HeadsView = record { heads = c.args.heads.items; top = c.args.top } in
     let grouped : AreGroups marks.heads c.groups_of-groups.result =
     subst (λ (heads : List Head). AreGroups heads c.groups_of-groups.result) c.deref.ensures.value
     c.groups_of-groups.ensures in (

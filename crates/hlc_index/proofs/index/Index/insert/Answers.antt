@@ -1,4 +1,4 @@
--- The new entry goes to its place among all entries, whichever leaf takes it.
+-- The new entry goes to its position among all entries, in whatever leaf it is stored.
 use Rattle.std.proofs.Common.{◌≡◌, ◌-◌, ◌+◌, ◌<◌, ◌≤◌, ◌∙◌, ap, arith, refl, sym, subst, [], false, length, get_or}
 use Rattle.std.proofs.Common.{take, List, ℕ}
 use Rattle.std.proofs.lemmas.Result.{on_ok_weaker, on_err_weaker}
@@ -20,7 +20,7 @@ invariant_of-self g c =
     c.push.ensures.ok)
     (on_err_weaker c.push.result (ap entries_in) c.push.ensures.err)
 
--- in front of all leaves
+-- before all leaves
 above_all : (g : Over) (c : After-put g) → IsSlot (keys_in (entries_in c.self.inside.leaves)) c.args.key 0 false
 above_all g c =
     slot_first c.self.inside.leaves c.args.key c.count_upto-count.ensures.filled
@@ -90,10 +90,10 @@ module _ (g : Over) (c : After-find-slot g) where
       let le = c.count_upto-count.ensures.inside in
       omega (arith, some, le)
 
-  behind : length leaves ≡ c.count_upto-count.result - 1 + 1 → c.find-slot.result.0 ≡ length (get_or leaves
+  beyond : length leaves ≡ c.count_upto-count.result - 1 + 1 → c.find-slot.result.0 ≡ length (get_or leaves
       (c.count_upto-count.result - 1) [])
       → where_to ≡ length (entries_in leaves)
-  behind last end =
+  beyond last end =
       end_place leaves c.count_upto-count.result c.find-slot.result.0 (get_or leaves (c.count_upto-count.result - 1) [])
       c.if-count-eq0.false (let some = c.if-count-eq0.false in omega (arith, last, some)) refl end
 
@@ -120,7 +120,7 @@ returns-clause-ok g c =
     (e ∙ with_is c.self.inside.leaves (c.count_upto-count.result - 1) c.find-slot.result.0 (c.args.key, c.args.value)
     (leaf_inside g at) (inside_leaf g at))) c.put-2.ensures.ok
 
--- behind all others
+-- after all others
 pub invariant_of-self-then-is_full_end : goal.invariant_of-self-then-is_full_end
 invariant_of-self-then-is_full_end g c =
     let at = (goal.at.invariant_of-self-then-is_full_end g c).After-find-slot in
@@ -128,7 +128,7 @@ invariant_of-self-then-is_full_end g c =
     c.self.inside.leaves))
     c.push-then-is_full_end.result c.self.invariant
     (slot_end c.self.inside.leaves c.args.key (where_to g at) (length (entries_in c.self.inside.leaves))
-    (behind g at (c.is_full_end.ensures.last c.if-is_full_end.true) (c.is_full_end.ensures.end c.if-is_full_end.true))
+    (beyond g at (c.is_full_end.ensures.last c.if-is_full_end.true) (c.is_full_end.ensures.end c.if-is_full_end.true))
     (whole g at))
     (on_ok_weaker c.push-then-is_full_end.result
     (pushed c.self.inside.leaves c.push-then-is_full_end.new.self (c.args.key, c.args.value))
@@ -144,7 +144,7 @@ returns-then-is_full_end-clause-ok g c =
     (entries_in c.self.inside.leaves))
     c.self.invariant (ap entries_in c.self.view_is)
     (slot_end c.self.inside.leaves c.args.key (where_to g at) (length (entries_in c.self.inside.leaves))
-    (behind g at (c.is_full_end.ensures.last c.if-is_full_end.true) (c.is_full_end.ensures.end c.if-is_full_end.true))
+    (beyond g at (c.is_full_end.ensures.last c.if-is_full_end.true) (c.is_full_end.ensures.end c.if-is_full_end.true))
     (whole g at))
     (pushed c.self.inside.leaves c.push-then-is_full_end.new.self (c.args.key, c.args.value) e))
     c.push-then-is_full_end.ensures.ok

@@ -1,4 +1,4 @@
--- Some of the keys that ascend still do.
+-- Some of the ascending keys still ascend.
 use Rattle.std.specs.List.Sorted.{IsStrictlySortedBy}
 use Rattle.std.proofs.Common.{subst, sym}
 use Rattle.hlc_index.specs.Entries.{key_cmp, keys_in, entries_in}

@@ -1,4 +1,4 @@
--- The entries part at the slot that the last leaf with a key at or below the wanted one names.
+-- The entries divide at the slot that is found in the last leaf that begins at or below the wanted key.
 use Rattle.std.proofs.Common.{◌≡◌, ◌≢◌, ◌-◌, ◌++◌, All, Less, subst}
 use Rattle.hlc_index.specs.Entries.{key_cmp, entries_in, entries_before, entries_from}
 use Rattle.hlc_index.proofs.Sought.{first_back, leaf_parted, leaf_front, leaf_back}

@@ -1,4 +1,4 @@
--- Another value at a slot leaves all keys.
+-- Another value at a slot changes no key.
 use Rattle.std.proofs.Common.{ap, arith, [], length, get_or}
 use Rattle.hlc_index.proofs.Values.{valued_ascend}
 use Rattle.hlc_index.proofs.index.Index.value_mut.Goals as goal

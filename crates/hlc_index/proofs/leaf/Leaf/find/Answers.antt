@@ -1,8 +1,8 @@
--- The heads tell the keys apart, and where they are alike, whole keys do.
+-- The heads decide between the keys, and if they are equal, whole keys do.
 use Rattle.std.proofs.Common.{sym, ◌∙◌, ◌≡◌, ◌<◌, arith, subst, length, true}
 use Rattle.std.proofs.Common.{Greater}
 use Rattle.hlc_index.specs.Entries.{keys_in, key_cmp, IsBelowAt}
-use Rattle.hlc_index.proofs.Heads.{same_key, as_many, told_below, told_above}
+use Rattle.hlc_index.proofs.Heads.{same_key, as_many, headed_below, headed_above}
 use Rattle.hlc_index.proofs.leaf.Leaf.find.Given.{Over}
 use Rattle.hlc_index.proofs.leaf.Leaf.find.Goals as goal
 use Rattle.hlc_index.proofs.leaf.Leaf.find.Goals.{After-place_of_head-first}
@@ -16,7 +16,7 @@ many g c =
 below : (g : Over) (c : After-place_of_head-first g) → IsBelowAt (keys_in c.args.self.now)
     c.place_of_head-first.result.0 c.args.key.now
 below g c =
-    told_below c.self.inside.entries.items c.args.self.now c.self.view_is c.self.inside.heads.items
+    headed_below c.self.inside.entries.items c.args.self.now c.self.view_is c.self.inside.heads.items
     c.as_slice.result.now
     c.as_slice.ensures.value c.self.invariant c.args.key.now c.requires.bytes c.args.head c.requires.head
     c.place_of_head-first.result.0 c.place_of_head-first.ensures.inside c.place_of_head-first.ensures.below
@@ -27,7 +27,7 @@ returns-then-not-is_alike g c =
     let inside = c.place_of_head-first.ensures.inside in (
       omega (arith, inside, long),
       below g (goal.at.returns-then-not-is_alike g c).After-place_of_head-first,
-      told_above c.self.inside.entries.items c.args.self.now c.self.view_is c.self.inside.heads.items
+      headed_above c.self.inside.entries.items c.args.self.now c.self.view_is c.self.inside.heads.items
           c.as_slice.result.now
           c.as_slice.ensures.value c.self.invariant c.args.key.now c.requires.bytes c.args.head c.requires.head
           c.place_of_head-first.result.0 (c.place_of_head-first.ensures.apart c.if-not-is_alike.true),

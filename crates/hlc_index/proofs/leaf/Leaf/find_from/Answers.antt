@@ -1,4 +1,4 @@
--- A key that compares alike is the key.
+-- A key that compares as equal is the key.
 use Rattle.std.proofs.Common.{sym, ◌∙◌, arith}
 use Rattle.hlc_index.proofs.Heads.{same_key, length_keys}
 use Rattle.hlc_index.proofs.leaf.Leaf.find_from.Goals as goal

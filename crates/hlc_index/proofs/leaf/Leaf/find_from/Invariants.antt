@@ -1,4 +1,4 @@
--- The keys below are in front of the part that is left, and those above behind it.
+-- The keys below are before the remaining part, and those above are after it.
 use Rattle.std.proofs.Common.{◌-◌, ◌≤◌, length}
 use Rattle.hlc_index.specs.Entries.{keys_in, IsBelowAt, IsAboveAt}
 use Rattle.hlc_index.proofs.leaf.Leaf.find_from.Given as goal

@@ -1,4 +1,4 @@
--- One head and one key more, at the same slot.
+-- One more head and one more key, at the same slot.
 use Rattle.std.proofs.Common.{◌∙◌, ap, List, ℕ}
 use Rattle.std.specs.List.{insert}
 use Rattle.hlc_index.proofs.LeafLemmas.{leaf_insert}

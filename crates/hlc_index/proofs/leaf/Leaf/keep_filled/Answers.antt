@@ -1,4 +1,4 @@
--- What is kept has its heads.
+-- The entries that are kept have their heads.
 use Rattle.std.proofs.Common.{◌≡◌, ◌∙◌, take, filter, ap, arith}
 use Rattle.std.proofs.lemmas.Grind.{common_steps}
 use Rattle.hlc_index.proofs.Kept.{leaf_kept}

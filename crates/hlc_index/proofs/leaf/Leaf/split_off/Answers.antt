@@ -1,4 +1,4 @@
--- Heads and keys are cut at the same slot.
+-- Heads and keys are split at the same slot.
 use Rattle.std.proofs.Common.{◌∙◌, ◌++◌, ◌-◌, ap, drop, take, length, List, ℕ}
 use Rattle.std.proofs.lemmas.List.{take_rest}
 use Rattle.hlc_index.proofs.LeafLemmas.{leaf_take, leaf_drop}

@@ -1,4 +1,4 @@
--- Another value at a slot leaves the keys, and so the heads.
+-- Another value at a slot changes no key, and so no head.
 use Rattle.std.proofs.Common.{ap₂, refl, set}
 use Rattle.hlc_index.proofs.LeafLemmas.{leaf_valued, key_read, entry_read}
 use Rattle.hlc_index.proofs.leaf.Leaf.value_mut.Goals as goal

@@ -1,4 +1,4 @@
--- The leaves that begin at or below the key are in front of the part that is left, and the others behind it.
+-- The leaves that begin at or below the key are before the remaining part, and the others are after it.
 use Rattle.std.proofs.Common.{◌-◌, ◌≤◌, length}
 use Rattle.hlc_index.specs.Entries.{first_keys, IsUptoAt, IsAboveAt}
 use Rattle.hlc_index.proofs.leaves.Leaves.count_from.Given as goal

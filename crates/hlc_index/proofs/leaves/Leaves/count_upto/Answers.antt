@@ -1,6 +1,6 @@
--- The heads of the first keys tell them apart.
+-- The heads of the first keys decide between them.
 use Rattle.hlc_index.specs.Entries.{first_keys, IsUptoAt}
-use Rattle.hlc_index.proofs.Tops.{told_upto, told_above}
+use Rattle.hlc_index.proofs.Tops.{headed_upto, headed_above}
 use Rattle.hlc_index.proofs.leaves.Leaves.count_upto.Given.{Over}
 use Rattle.hlc_index.proofs.leaves.Leaves.count_upto.Goals as goal
 use Rattle.hlc_index.proofs.leaves.Leaves.count_upto.Goals.{After-place_of_head-place}
@@ -8,7 +8,7 @@ use Rattle.hlc_index.proofs.leaves.Leaves.count_upto.Goals.{After-place_of_head-
 upto : (g : Over) (c : After-place_of_head-place g) → IsUptoAt (first_keys c.args.self.now)
     c.place_of_head-place.result.0 c.args.key.now
 upto g c =
-    told_upto c.self.inside.tops.items c.self.inside.leaves.items c.args.self.now c.as_slice.result.now c.args.key.now
+    headed_upto c.self.inside.tops.items c.self.inside.leaves.items c.args.self.now c.as_slice.result.now c.args.key.now
     c.args.head
     c.place_of_head-place.result.0 c.self.invariant c.self.view_is c.as_slice.ensures.value c.requires.bytes
     c.requires.head
@@ -20,7 +20,8 @@ returns-then-not-is_alike-clause-upto g c =
 
 pub returns-then-not-is_alike-clause-above : goal.returns-then-not-is_alike-clause-above
 returns-then-not-is_alike-clause-above g c =
-    told_above c.self.inside.tops.items c.self.inside.leaves.items c.args.self.now c.as_slice.result.now c.args.key.now
+    headed_above c.self.inside.tops.items c.self.inside.leaves.items c.args.self.now c.as_slice.result.now
+    c.args.key.now
     c.args.head
     c.place_of_head-place.result.0 c.self.invariant c.self.view_is c.as_slice.ensures.value c.requires.bytes
     c.requires.head

@@ -1,4 +1,4 @@
--- The first key of a leaf is one of the first keys of all, and those are made of bytes.
+-- The first key of a leaf is one of the first keys of all, and those consist of bytes.
 use Rattle.std.proofs.Common.{sym, subst}
 use Rattle.hlc_index.specs.Head.{AreBytes}
 use Rattle.hlc_index.proofs.Tops.{first_bytes, first_read}

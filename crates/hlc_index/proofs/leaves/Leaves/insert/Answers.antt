@@ -1,7 +1,7 @@
--- The first key of the leaf changes only where the entry is put in front of all others.
+-- The first key of the leaf changes only if the entry is inserted before all others.
 use Rattle.std.proofs.Common.{◌∙◌, ◌<◌, ap, refl, subst, arith, length}
 use Rattle.hlc_index.specs.Head.{head_of, AreBytes}
-use Rattle.hlc_index.proofs.Tops.{leaves_set, leaves_kept, put_front, put_behind, put_filled}
+use Rattle.hlc_index.proofs.Tops.{leaves_set, leaves_kept, put_front, put_after, put_filled}
 use Rattle.hlc_index.proofs.leaves.Leaves.insert.Goals as goal
 
 pub invariant_of-self-then-slot-eq0 : goal.invariant_of-self-then-slot-eq0
@@ -20,5 +20,5 @@ invariant_of-self-else-slot-eq0 g c =
     let inside : c.args.at < length c.self.inside.leaves.items = omega (arith, lt, long) in
     leaves_kept c.self.inside.tops.items c.self.inside.leaves.items _ c.args.at c.insert.new.self c.self.invariant
     inside (put_filled c.index_mut.result.now c.insert.new.self c.args.slot c.args.entry c.in_ok-insert.ensures.ok)
-    (put_behind c.self.inside.leaves.items c.args.at c.index_mut.result.now c.insert.new.self c.args.slot c.args.entry
+    (put_after c.self.inside.leaves.items c.args.at c.index_mut.result.now c.insert.new.self c.args.slot c.args.entry
     c.self.invariant.2 inside c.index_mut.ensures.value c.in_ok-insert.ensures.ok c.if-slot-eq0.false) refl

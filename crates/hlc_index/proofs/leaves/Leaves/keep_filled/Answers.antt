@@ -1,4 +1,4 @@
--- What is kept has the heads of its first keys.
+-- The leaves that are kept have the heads of their first keys.
 use Rattle.std.proofs.Common.{◌≡◌, take, arith}
 use Rattle.std.proofs.lemmas.Grind.{common_steps}
 use Rattle.hlc_index.proofs.leaves.Leaves.keep_filled.Goals as goal

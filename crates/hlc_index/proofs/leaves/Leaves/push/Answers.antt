@@ -1,4 +1,4 @@
--- One leaf more, of one entry.
+-- One more leaf, of one entry.
 use Rattle.std.proofs.Common.{◌∙◌, ◌++◌, ◌∷◌, [], ap, refl, subst, List, ℕ}
 use Rattle.hlc_index.specs.Head.{head_of, AreBytes}
 use Rattle.hlc_index.proofs.Tops.{leaves_push, put_front, put_filled}

@@ -1,4 +1,4 @@
--- The entry goes into the leaf, or into one of the two parts of it.
+-- The entry goes into the leaf, or into one of its two parts.
 use Rattle.std.proofs.Common.{◌∙◌, ap, arith, [], length, get_or}
 use Rattle.std.specs.List.{insert}
 use Rattle.std.proofs.lemmas.List.{length-take, length-drop}

@@ -1,4 +1,4 @@
--- Another value in a leaf leaves its first key.
+-- Another value in a leaf does not change its first key.
 use Rattle.std.proofs.Common.{ap, arith, length}
 use Rattle.hlc_index.proofs.Tops.{leaves_valued}
 use Rattle.hlc_index.proofs.leaves.Leaves.value_mut.Goals as goal

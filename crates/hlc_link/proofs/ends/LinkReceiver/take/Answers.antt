@@ -1,4 +1,4 @@
--- A take keeps the rule: the pass is the receiver's, and it has not taken the end.
+-- A take preserves the rule: the pass is the receiver's, and it has not taken the end.
 use Rattle.std.proofs.Common.{◌∙◌, ap}
 use Rattle.crossbeam_channel.specs.Claims.{view}
 use Rattle.hlc_link.specs.Link.{receiver}

@@ -1,4 +1,4 @@
--- A put keeps the rule: the pass is the sender's, and it has not put the end.
+-- A put preserves the rule: the pass is the sender's, and it has not put the end.
 use Rattle.std.proofs.Common.{◌∙◌, ap}
 use Rattle.crossbeam_channel.specs.Claims.{view}
 use Rattle.hlc_link.specs.Link.{sender}

@@ -1,4 +1,4 @@
--- The end that is put keeps the rule: the pass is the sender's, and it has not put the end.
+-- Putting the end preserves the rule: the pass is the sender's, and it has not put the end.
 use Rattle.std.proofs.Common.{◌∙◌, ap}
 use Rattle.crossbeam_channel.specs.Claims.{view}
 use Rattle.hlc_link.specs.Link.{sender}

@@ -1,4 +1,4 @@
--- What was read is no longer pending.
+-- The bytes that were read are no longer pending.
 use Rattle.std.proofs.Common.{◌++◌, ◌-◌, arith, ℕ, List, drop, length, ap, sym, subst, ◌∙◌, ◌≡◌}
 use Rattle.std.specs.Prelude.{OnOk}
 use Rattle.hlc_saved.specs.Blocks.{rest_of, IsStuck}

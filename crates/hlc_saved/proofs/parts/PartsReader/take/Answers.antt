@@ -1,4 +1,4 @@
--- What is pending goes on.
+-- The pending bytes are continued.
 use Rattle.hlc_saved.proofs.Blocks.{taken}
 use Rattle.hlc_saved.proofs.parts.PartsReader.take.Goals as goal
 

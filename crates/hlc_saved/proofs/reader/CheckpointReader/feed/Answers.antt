@@ -1,4 +1,4 @@
--- The body goes on with the piece; where it is not taken, there was no room for it.
+-- The body continues with the piece; if that is not added, there was no room for it.
 use Rattle.std.proofs.Common.{arith, ◌∙◌, refl}
 use Rattle.hlc_saved.proofs.Blocks.{fed_on, fed_not}
 use Rattle.hlc_saved.proofs.reader.CheckpointReader.feed.Goals as goal

@@ -1,4 +1,4 @@
--- The front and what stands before the rows are written, and the latter is noted.
+-- The front and the part before the rows are written, and the latter is hashed.
 use Rattle.std.proofs.Common.{[], drop, ap, ◌∙◌}
 use Rattle.hlc_frame.specs.Frame.{front_bytes}
 use Rattle.hlc_saved.proofs.Pieces.{noted, after_front}

@@ -1,4 +1,4 @@
--- One row more is written.
+-- One more row is written.
 use Rattle.std.proofs.Common.{[], take, subst}
 use Rattle.std.proofs.lemmas.List.{take_all}
 use Rattle.hlc_saved.specs.Spelling.{row_bytes}
@@ -14,9 +14,9 @@ loop-row-preserved c = record {
       (row_more c.args.rows.now c.loop-row.row-index c.row-item.result c.loop-row-test.true c.row-item.is)
       (c.in_ok-row.ensures.written word kept (take c.loop-row.row-index c.args.rows.now)
       (c.loop-row.invariant.written word kept has));
-  told = list_on row_bytes c.args.rows.now c.loop-row.row-index c.row-item.result c.args.out.now.items []
+  returned = list_on row_bytes c.args.rows.now c.loop-row.row-index c.row-item.result c.args.out.now.items []
       c.loop-row.out.items
-      c.row.new.out.items c.loop-row-test.true c.row-item.is c.loop-row.invariant.told c.in_ok-row.ensures.ok;
+      c.row.new.out.items c.loop-row-test.true c.row-item.is c.loop-row.invariant.returned c.in_ok-row.ensures.ok;
 }
 
 pub returns-clause-written : goal.returns-clause-written

@@ -1,14 +1,14 @@
 -- Those so far are written.
 use Rattle.std.proofs.Common.{◌≡◌, ◌++◌, ℕ, take, []}
 use Rattle.std.specs.List.{flat_map}
-use Rattle.hlc_core.specs.Kept.{Kept}
+use Rattle.hlc_core.specs.StoreView.{StoreView}
 use Rattle.hlc_saved.specs.Spelling.{row_bytes}
 use Rattle.hlc_saved.specs.Writing.{HasWritten}
 use Rattle.hlc_saved.proofs.writer.CheckpointWriter.rows.Given as goal
 
 abbrev pub invariant-loop-row : goal.invariant-loop-row
 invariant-loop-row l = record {
-  written : (word : ℕ) (kept : Kept) → HasWritten l.fn.self word kept []
+  written : (word : ℕ) (kept : StoreView) → HasWritten l.fn.self word kept []
       → HasWritten l.self word kept (take l.row-index l.rows);
-  told : l.out.items ≡ l.fn.out.items ++ flat_map row_bytes (take l.row-index l.rows);
+  returned : l.out.items ≡ l.fn.out.items ++ flat_map row_bytes (take l.row-index l.rows);
 }

@@ -1,5 +1,5 @@
--- The invariant holds again after a call: the call's entry is the last event of the history,
--- and book and number count it; so with a trail or without.
+-- The invariant is true again after a call: the call's entry is the last event of the history, and book and number
+-- count it; with a trail or without.
 use Rattle.std.proofs.Common.{◌≡◌, ◌+◌, arith}
 use Rattle.hlc_server.specs.Trails.{entries_of}
 use Rattle.hlc_server.proofs.Histories.{audited_more, history_more}

@@ -1,5 +1,5 @@
--- The invariant of what is made: an empty trail is a legal history,
--- and a new core stands for the past in which nothing took place.
+-- The invariant of what is made: an empty trail is a legal history, and a new core represents the past in which nothing
+-- took place.
 use Rattle.std.proofs.Common.{[], sym}
 use Rattle.hlc_server.proofs.Histories.{audited_first}
 use Rattle.hlc_server.proofs.guarded.Guarded.new.Goals as goal
@@ -11,7 +11,7 @@ invariant_of-guarded g c = (
       c.new_trail.ensures c.open-book.ensures.total,
   record {
     history = [];
-    stands = record { legal = tt; core = c.in_ok-core.ensures.2 };
+    represents = record { legal = tt; core = c.in_ok-core.ensures.2 };
     counted = sym c.open-book.ensures.total;
   },
 )

@@ -1,4 +1,4 @@
--- What is pushed is the snapshot of the next id, so the map after it is that of an opening.
+-- The snapshot of the next id is pushed, so the map after it is that of an opening.
 use Rattle.std.proofs.Common.{◌∙◌}
 use Rattle.std.proofs.lemmas.Bool.{cond-true}
 use Rattle.hlc_snapshot.proofs.RegisterLemmas.{next_id-fresh, opened-map}

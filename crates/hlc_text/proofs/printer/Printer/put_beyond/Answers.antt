@@ -1,4 +1,4 @@
--- A front of the text fills what waits, that is written, and the rest is printed.
+-- A front of the text fills the buffer, which is written, and the rest is printed.
 use Rattle.std.proofs.Common.{◌≡◌, ◌++◌, rules, refl, sym, take-append-drop}
 use Rattle.hlc_text.proofs.PrintLemmas.{printed_then, printed_waits, printed_at_once}
 use Rattle.hlc_text.proofs.printer.Printer.put_beyond.Goals as goal
@@ -11,5 +11,5 @@ returns g c =
     rw (c.split_at.ensures.front, c.split_at.ensures.back)
     (sym (take-append-drop c.remaining_capacity.result c.args.text.now)) in
     let added : c.try_extend_from_slice.new.self.items ≡ c.args.self.now.waiting.items ++ front = search rules in
-    let behind = printed_then (printed_at_once c.finish.ensures) c.put_first.ensures in
-    rw whole (printed_then (printed_waits refl added) behind)
+    let beyond = printed_then (printed_at_once c.finish.ensures) c.put_first.ensures in
+    rw whole (printed_then (printed_waits refl added) beyond)

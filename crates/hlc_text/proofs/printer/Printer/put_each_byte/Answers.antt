@@ -1,5 +1,5 @@
--- At first nothing is printed and all is left, which spells the bytes. A piece moves from what is left to what is
--- printed.
+-- At first nothing is printed and all pieces are left, which spell the bytes. Each step moves a piece from what is left
+-- to what is printed.
 use Rattle.std.proofs.Common.{[], ◌++◌, sym, ap, ◌∙◌, append_assoc, arith}
 use Rattle.percent_encoding.specs.Iter.{encoded_text}
 use Rattle.hlc_text.proofs.PrintLemmas.{printed_none, printed_then}

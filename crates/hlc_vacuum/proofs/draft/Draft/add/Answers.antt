@@ -1,4 +1,4 @@
--- At each point either nothing is noted, or a change is and the newest row is marked.
+-- At each point either nothing is recorded, or a change is and the newest row is marked.
 use Rattle.std.proofs.Common.{◌≡◌, ◌<◌, ◌+◌, ◌++◌, ◌∷◌, [], ℕ, List, length, map, sym, ap, ◌∙◌, refl, subst, ltb}
 use Rattle.std.proofs.Common.{get_or, option_copied, Option, Some, None, Bool, true, set, ap₂, true≢false, rules, arith}
 use Rattle.std.specs.Prelude.{IfSome, MatchOption}
@@ -11,7 +11,7 @@ use Rattle.hlc_columns.specs.Cells.{Cell}
 use Rattle.hlc_columns.specs.Rows.{row_of, rows_of}
 use Rattle.hlc_node.specs.declared.row.Row.{Row}
 use Rattle.hlc_vacuum.specs.declared.draft.Draft.{Draft}
-use Rattle.hlc_vacuum.specs.KeyPlan.{point_before, AddedSoFar}
+use Rattle.hlc_vacuum.proofs.SoFar.{point_before, AddedSoFar}
 use Rattle.hlc_vacuum.proofs.Costs.{cost-none}
 use Rattle.hlc_vacuum.proofs.Drafts.{draft-above}
 use Rattle.hlc_vacuum.proofs.Steps.{same_added, change_added, added_done, added_all, next_before}
@@ -19,17 +19,17 @@ use Rattle.hlc_vacuum.proofs.Quiet.{IsQuiet, quiet_answer, quiet_on, quiet_from,
 use Rattle.hlc_vacuum.proofs.draft.Draft.add.Goals as goal
 use Rattle.hlc_vacuum.proofs.draft.Draft.add.Goals.{then-not-are_equal+in_ok-note_change, else-not-are_equal}
 
--- marking a row leaves as many flags
+-- marking a row does not change the number of flags
 marked_length : (flags more : List Bool) (from : ℕ) (place : Option ℕ)
     → MatchOption place (more ≡ flags) (λ j. more ≡ set flags (from + j) true) → length more ≡ length flags
 marked_length flags more from None e = ap length e
 marked_length flags more from (Some j) e = ap length e ∙ length-set flags (from + j) true
 
 abbrev Kept : List Row → List ℕ → List ℕ → ℕ → ℕ → Draft → Draft → Option ℕ → Option (List ℕ) → ℕ → Type 0
-Kept rows key points i many old new before told next = record {
+Kept rows key points i many old new before value_here next = record {
   long : length new.keep.items ≡ many;
   before : before ≡ point_before points i;
-  told : told ≡ answer_at rows key (point_before points i);
+  value_here : value_here ≡ answer_at rows key (point_before points i);
   quiet : IsQuiet rows (point_before points i) next;
   added : AddedSoFar rows key points i old.witnesses.items new.witnesses.items old.keep.items new.keep.items
       old.bytes new.bytes;
@@ -56,7 +56,7 @@ loop-point-init c =
       long = ap length flags ∙ length-append c.args.self.now.keep.items above
           ∙ ap₂ (λ m n. m + n) (sym (from_is c)) long;
       before = refl;
-      told = refl;
+      value_here = refl;
       quiet = quiet_first c.args.key.now column c.stamps-stamps.result.now c.gap_end-next.result
           c.stamps-stamps.ensures c.gap_end-next.ensures;
       added = record {
@@ -89,14 +89,14 @@ loop-point-preserved-then-bits-next c =
     record {
       long = inv.long;
       before = ap Some at ∙ sym (next_before points i);
-      told = inv.told ∙ sym same ∙ ap (answer_at rows key) (sym (next_before points i));
+      value_here = inv.value_here ∙ sym same ∙ ap (answer_at rows key) (sym (next_before points i));
       quiet = subst (λ b. IsQuiet rows b c.loop-point.next) (sym (next_before points i))
           (quiet_on rows (point_before points i) c.loop-point.next (get_or points i 0) inv.quiet before);
       added = same_added rows key points i c.loop-point-test.true old.witnesses.items on.witnesses.items
           old.keep.items on.keep.items old.bytes on.bytes same inv.added;
     }
 
--- no point is left beyond the gap
+-- no point is left after the gap
 pub returns-then-last-next : goal.returns-then-last-next
 returns-then-last-next c =
     let key = c.args.key.now in
@@ -127,8 +127,8 @@ loop-point-preserved c =
     let place = c.newest_on-place.result.0 in
     let from = c.len-from.result in
     let at : p ≡ get_or points i 0 = c.point-item.is ∙ get_or_default points i p 0 c.loop-point-test.true in
-    let told : option_copied c.value_of-told.result ≡ answer rows key (get_or points i 0) =
-    c.value_of-told.ensures key p c.newest_on-place.ensures.within (c.newest_on-place.ensures.newest key)
+    let value_here : option_copied c.value_of-value_here.result ≡ answer rows key (get_or points i 0) =
+    c.value_of-value_here.ensures key p c.newest_on-place.ensures.within (c.newest_on-place.ensures.newest key)
     ∙ ap (answer rows key) at in
     let quiet : IsQuiet rows (point_before points (i + 1)) c.gap_end-next-in-loop-point.result =
     subst (λ before. IsQuiet rows before c.gap_end-next-in-loop-point.result) (sym (next_before points i))
@@ -138,12 +138,12 @@ loop-point-preserved c =
     c.gap_end-next-in-loop-point.ensures) in
     let fields : AddedSoFar rows key points (i + 1) old.witnesses.items now.witnesses.items old.keep.items
     now.keep.items old.bytes now.bytes → length now.keep.items ≡ length on.keep.items
-    → Kept rows key points (i + 1) (from + length column) old now (Some p) (option_copied c.value_of-told.result)
+    → Kept rows key points (i + 1) (from + length column) old now (Some p) (option_copied c.value_of-value_here.result)
     c.gap_end-next-in-loop-point.result =
     λ added long. record {
       long = long ∙ inv.long;
       before = ap Some at ∙ sym (next_before points i);
-      told = told ∙ ap (answer_at rows key) (sym (next_before points i));
+      value_here = value_here ∙ ap (answer_at rows key) (sym (next_before points i));
       quiet = quiet;
       added = added;
     } in
@@ -160,7 +160,8 @@ loop-point-preserved c =
           fields
           (change_added rows key points i c.loop-point-test.true old.witnesses.items on.witnesses.items
           now.witnesses.items old.keep.items on.keep.items now.keep.items old.bytes on.bytes now.bytes place
-          (λ e. true≢false (sym (c.are_equal.ensures.1 (told ∙ e ∙ sym inv.told)) ∙ w.if-not-are_equal.true))
+          (λ e. true≢false (sym (c.are_equal.ensures.1 (value_here ∙ e ∙ sym inv.value_here))
+          ∙ w.if-not-are_equal.true))
           (subst (λ n. IfSome place (λ j. j < n)) (sym (length-map column (row_of key)))
           c.newest_on-place.ensures.within)
           (c.newest_on-place.ensures.newest key ∙ ap (newest rows key) at)
@@ -169,7 +170,7 @@ loop-point-preserved c =
           inv.before at)
           (subst (λ n. MatchOption place (now.keep.items ≡ on.keep.items)
           (λ j. now.keep.items ≡ set on.keep.items (n + j) true)) (from_here c) marks)
-          (ap (λ (draft : Draft). draft.bytes) w.self-is ∙ noted.bytes ∙ ap (λ v. on.bytes + cost_of key v) told)
+          (ap (λ (draft : Draft). draft.bytes) w.self-is ∙ noted.bytes ∙ ap (λ v. on.bytes + cost_of key v) value_here)
           inv.added)
           (marked_length on.keep.items now.keep.items from place marks)
       | else-not-are_equal w ↦
@@ -178,7 +179,7 @@ loop-point-preserved c =
           old.keep.items draft.keep.items old.bytes draft.bytes) (sym w.self-is)
           (same_added rows key points i c.loop-point-test.true old.witnesses.items on.witnesses.items
           old.keep.items on.keep.items old.bytes on.bytes
-          (sym told ∙ c.are_equal.ensures.0 w.if-not-are_equal.false ∙ inv.told) inv.added))
+          (sym value_here ∙ c.are_equal.ensures.0 w.if-not-are_equal.false ∙ inv.value_here) inv.added))
           (ap (λ (draft : Draft). length draft.keep.items) w.self-is)
     ]
 

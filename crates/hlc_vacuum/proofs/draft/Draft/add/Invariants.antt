@@ -1,9 +1,9 @@
 -- The changes at the points so far and their flags were added, the answer at the point before is known, and no row is
--- in the gap behind it.
+-- in the gap after it.
 use Rattle.std.proofs.Common.{◌≡◌, ◌+◌, length, option_copied}
 use Rattle.hlc_witness.specs.Changes.{answer_at}
 use Rattle.hlc_columns.specs.Rows.{rows_of}
-use Rattle.hlc_vacuum.specs.KeyPlan.{point_before, AddedSoFar}
+use Rattle.hlc_vacuum.proofs.SoFar.{point_before, AddedSoFar}
 use Rattle.hlc_vacuum.proofs.Quiet.{IsQuiet}
 use Rattle.hlc_vacuum.proofs.draft.Draft.add.Given as goal
 
@@ -11,7 +11,7 @@ abbrev pub invariant-loop-point : goal.invariant-loop-point
 invariant-loop-point l = record {
   long : length l.self.keep.items ≡ l.from + length l.column;
   before : l.before ≡ point_before l.points l.point-index;
-  told : option_copied l.told_before
+  value_here : option_copied l.value_before
       ≡ answer_at (rows_of l.key l.column) l.key (point_before l.points l.point-index);
   quiet : IsQuiet (rows_of l.key l.column) (point_before l.points l.point-index) l.next;
   added : AddedSoFar (rows_of l.key l.column) l.key l.points l.point-index l.fn.self.witnesses.items

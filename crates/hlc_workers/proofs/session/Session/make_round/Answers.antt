@@ -1,4 +1,5 @@
--- A round is its opening, and then the reads or a second opening: the receipts of both stand one behind the other.
+-- A round is its opening, and then the reads or a second opening: the receipts of the second part come after those of
+-- the first.
 use Rattle.std.proofs.Common.{[]}
 use Rattle.std.proofs.lemmas.Result.{err_from_is_err_and}
 use Rattle.hlc_core.specs.declared.event.CoreEvent.TheVariants.{OpenAt}

@@ -1,4 +1,4 @@
--- One round more: its look is the pass's, and its receipts stand behind those before.
+-- One more round: its look is the pass's, and its receipts come after the earlier ones.
 use Rattle.std.proofs.Common.{[], ◌∷◌, ◌++◌, ◌∙◌, refl, ap, arith, length-append}
 use Rattle.std.proofs.lemmas.Result.{err_from_is_err_and}
 use Rattle.hlc_workers.proofs.Works.{called-first, called_on, stopped_on, rounds-append}

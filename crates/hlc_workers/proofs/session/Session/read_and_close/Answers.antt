@@ -1,4 +1,4 @@
--- The close stands behind the reads.
+-- The close comes after the reads.
 use Rattle.std.proofs.Common.{[], ◌∷◌, ◌++◌, ◌∙◌, ap, map}
 use Rattle.std.proofs.lemmas.List.{map-append}
 use Rattle.hlc_core.specs.declared.event.CoreEvent.TheVariants.{Read}

@@ -1,4 +1,4 @@
--- An opening at the floor, and then the reads: the receipts of both stand one behind the other.
+-- An opening at the floor, and then the reads: the receipts of the reads come after that of the opening.
 use Rattle.std.proofs.Common.{[]}
 use Rattle.std.proofs.lemmas.Result.{err_from_is_err_and}
 use Rattle.hlc_core.specs.declared.event.CoreEvent.TheVariants.{OpenFloor}

@@ -1,4 +1,4 @@
--- One key more was read: its receipt stands behind those before.
+-- One more key was read: its receipt comes after the earlier ones.
 use Rattle.std.proofs.Common.{[], ◌∷◌, ◌++◌, ◌∙◌}
 use Rattle.hlc_workers.proofs.Works.{called_on, read_more}
 use Rattle.hlc_workers.proofs.session.Session.read_each.Goals as goal

@@ -1,4 +1,4 @@
--- One vacuum more was made: its receipt stands behind those before.
+-- One more vacuum was made: its receipt comes after the earlier ones.
 use Rattle.std.proofs.Common.{[], ◌∷◌, ◌++◌, ◌∙◌}
 use Rattle.hlc_workers.proofs.Works.{called_on, vacuums_more}
 use Rattle.hlc_workers.proofs.session.Session.vacuum_often.Goals as goal

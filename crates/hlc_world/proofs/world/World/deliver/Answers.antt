@@ -8,8 +8,8 @@ use Rattle.hlc_world.proofs.Delivery.{found, answered, reply_of}
 use Rattle.hlc_world.proofs.world.World.deliver.Goals as goal
 use Rattle.hlc_world.proofs.world.World.deliver.Goals.{in-Ok, in-Err}
 
-pub returns-clause-stands : goal.returns-clause-stands
-returns-clause-stands c = λ s h.
+pub returns-clause-represents : goal.returns-clause-represents
+returns-clause-represents c = λ s h.
     let h' = rw (← c.self.view_is) at h in
     let l = c.in-Some.ensures.lookup in
     let node = ap (λ xs. slice_get xs c.args.node) (sym c.as_slice.ensures.value)
@@ -19,7 +19,7 @@ returns-clause-stands c = λ s h.
     c.in-Some-item.ensures in
     let all' = answered _ s c.args.node c.args.number c.in-Some-item.item.now c.accept.new.core c.accept.result
     c.accept.ensures.nodes h' at
-    (c.accept.ensures.stands (core_past s) h'.core) in
+    (c.accept.ensures.represents (core_past s) h'.core) in
     elim c.match-accept.branch [
       | in-Ok w ↦ rw (w.result-is ∙ sym (ap reply_of w.in-Ok.is)) all'
       | in-Err w ↦ rw (w.result-is ∙ ap Refused w.from.ensures ∙ sym (ap reply_of w.in-Err.is)) all'

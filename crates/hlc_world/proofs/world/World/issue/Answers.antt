@@ -1,12 +1,12 @@
--- The node issues the item, or refuses as is due, and the other nodes stay.
+-- The node issues the item, or returns the expected refusal, and the other nodes do not change.
 use Rattle.std.proofs.Common.{refl}
 use Rattle.std.proofs.lemmas.Option.{slice_get_read}
 use Rattle.hlc_world.proofs.Nodes.{issues, issues_not}
 use Rattle.hlc_world.proofs.world.World.issue.Goals as goal
 use Rattle.hlc_world.proofs.world.World.issue.Goals.{in-Ok, in-Err}
 
-pub returns-clause-stands : goal.returns-clause-stands
-returns-clause-stands c = λ s h.
+pub returns-clause-represents : goal.returns-clause-represents
+returns-clause-represents c = λ s h.
     let h' = rw (← c.self.view_is) at h in
     let lent = c.in-Some.ensures.item in
     let at = slice_get_read c.self.inside.nodes.items _ c.args.node c.in-Some.issuer.now refl lent.3.0 lent.1 in

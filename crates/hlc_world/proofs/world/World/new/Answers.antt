@@ -1,4 +1,4 @@
--- A new core and nodes that issued nothing stand for the empty schedule.
+-- A new core and nodes that issued nothing represent the empty schedule.
 use Rattle.hlc_world.proofs.Nodes.{starts}
 use Rattle.hlc_world.proofs.world.World.new.Goals as goal
 

@@ -8,8 +8,8 @@ use Rattle.hlc_world.proofs.Nodes.{observe-is, sees, sees_not}
 use Rattle.hlc_world.proofs.world.World.observe.Goals as goal
 use Rattle.hlc_world.proofs.world.World.observe.Goals.{in-Ok, in-Err}
 
-pub returns-clause-stands : goal.returns-clause-stands
-returns-clause-stands c = λ s h.
+pub returns-clause-represents : goal.returns-clause-represents
+returns-clause-represents c = λ s h.
     let h' = rw (← c.self.view_is) at h in
     let lent = c.in-Some.ensures.item in
     let at = slice_get_read c.self.inside.nodes.items _ c.args.node c.in-Some.issuer.now refl lent.3.0 lent.1 in

@@ -1,4 +1,4 @@
--- The node sees the stamp of the message, which is kept under the message's number.
+-- The node sees the stamp of the message, which is stored under the message's number.
 use Rattle.std.proofs.Common.{◌≡◌, refl, sym, ◌∙◌, ap, Some}
 use Rattle.std.proofs.lemmas.Option.{slice_get_read}
 use Rattle.std.specs.Prelude.{slice_get}
@@ -7,8 +7,8 @@ use Rattle.hlc_world.proofs.Nodes.{message-there, receive-is, sees, sees_not}
 use Rattle.hlc_world.proofs.world.World.receive.Goals as goal
 use Rattle.hlc_world.proofs.world.World.receive.Goals.{in-Ok, in-Err}
 
-pub returns-clause-stands : goal.returns-clause-stands
-returns-clause-stands c = λ s h.
+pub returns-clause-represents : goal.returns-clause-represents
+returns-clause-represents c = λ s h.
     let h' = rw (← c.self.view_is) at h in
     let lent = c.in-Some.ensures.item in
     let at = slice_get_read c.self.inside.nodes.items _ c.args.node c.in-Some.issuer.now refl lent.3.0 lent.1 in

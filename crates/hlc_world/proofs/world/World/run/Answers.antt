@@ -2,7 +2,7 @@
 use Rattle.std.proofs.Common.{◌≡◌, ◌∙◌, ◌∷◌, subst, ◌++◌, refl, sym, ap, length, length-append, ◌+◌, append_assoc}
 use Rattle.std.proofs.Common.{arith, rules}
 use Rattle.hlc_world.specs.Schedule.{after}
-use Rattle.hlc_world.specs.State.{world_nodes}
+use Rattle.hlc_world.specs.WorldView.{world_nodes}
 use Rattle.hlc_world.specs.Headline.{IsFaithful}
 use Rattle.std.proofs.lemmas.Grind.{common_steps}
 use Rattle.hlc_world.proofs.Faithful.{faithful}
@@ -15,7 +15,7 @@ loop-event-init c = record {
   all' = search rules;
   same = refl;
   room = search rules;
-  stands = λ s h. h;
+  represents = λ s h. h;
   faithful = faithful c.args.self.now;
 }
 
@@ -27,13 +27,13 @@ loop-event-preserved c = record {
       (ap (λ xs. c.loop-event.yielded ++ xs) (sym c.in-Some.ensures.steps.0) ∙ c.loop-event.invariant.all');
   same = c.step-reply.ensures.nodes ∙ c.loop-event.invariant.same;
   room = c.push_reserved.ensures.capacity ∙ c.loop-event.invariant.room;
-  stands = λ s h.
+  represents = λ s h.
       rw (
         c.push_reserved.ensures.items,
         after-push c.loop-event.yielded c.loop-event.replies.items s c.in-Some.event c.step-reply.result
             (sym c.loop-event.invariant.counted),
       )
-      (c.step-reply.ensures.stands _ (c.loop-event.invariant.stands s h));
+      (c.step-reply.ensures.represents _ (c.loop-event.invariant.represents s h));
   faithful = λ s h.
       rw (
         c.push_reserved.ensures.items,
@@ -43,7 +43,7 @@ loop-event-preserved c = record {
       (subst (λ n. IsFaithful n
       ((c.in-Some.event, c.step-reply.result) ∷ after c.loop-event.yielded c.loop-event.replies.items s)
       c.step-reply.new.self.core.rows) c.loop-event.invariant.same
-      (c.step-reply.ensures.faithful _ (c.loop-event.invariant.stands s h)));
+      (c.step-reply.ensures.faithful _ (c.loop-event.invariant.represents s h)));
 }
 
 pub returns-clause-faithful : goal.returns-clause-faithful

@@ -1,0 +1,10 @@
+//! Items, messages and checkpoints as bytes.
+
+pub use hlc_saved::{
+    CheckpointReader, CheckpointWriter, Decoded, ResumeError, Resumed, copy_by_bytes,
+    decode_checkpoint, encode_checkpoint, resume, save,
+};
+pub use hlc_wire::{
+    DecodeError, EncodeError, MESSAGE_BYTES, MOST_ITEM_BYTES, WireFault, decode_item,
+    decode_message, encode_item, encode_message,
+};

@@ -1,0 +1,19 @@
+//! hlcstore for programs that embed a store. This crate re-exports the names that such a program needs, with their
+//! contracts, so that the program lists no other crate.
+//!
+//! Here are the store (`Core`), what it takes and returns, and the nodes that write to it (`NodeCore`). `certificate`
+//! prints and checks what a vacuum left, `bytes` has items and checkpoints as bytes, and `threads` has a store that
+//! several threads share.
+#![tactic(auto)]
+
+pub mod bytes;
+pub mod certificate;
+pub mod threads;
+
+pub use hlc_clock::{ClockFault, ReadingTooLarge};
+pub use hlc_core::{
+    Accepted, Answers, Body, BodyFault, Bytes, Checkpoint, Core, CoreEvent, CoreFault, CoreReply,
+    Item, ItemRef, JoinFault, LinkFault, Listing, NoMemory, NoNode, NoSnapshot, Pair, Points,
+    Report, RestoreFault, Row, Snapshot, SnapshotFault, Stamp, View, Witness, Witnesses,
+};
+pub use hlc_node::{Message, NodeCore, NodeFault, RefusedWrite, Written};

@@ -1,9 +1,0 @@
--- The feeders that are made with a board are of that board.
-use Rattle.std.proofs.Common.{List, subst, sym}
-use Rattle.hlc_floor.specs.Views.{Post, FeedersOf}
-use Rattle.hlc_floor.proofs.PlaceLemmas.{feeders_new}
-use Rattle.hlc_bench.proofs.desk.run_on_board.Goals as goal
-
-pub raising_all-raising-requires : goal.raising_all-raising-requires
-raising_all-raising-requires g c =
-    subst (λ (l : List Post). FeedersOf c.in-Ok.board l) (sym c.in-Ok.ensures.feeders) (feeders_new c.in-Ok.board 64)

@@ -1,6 +1,0 @@
--- The pass stays one of this board.
-use Rattle.std.proofs.Common.{◌≡◌}
-use Rattle.hlc_bench.proofs.posts.look_often.Given as goal
-
-abbrev pub invariant-loop : goal.invariant-loop
-invariant-loop l = l.pass.board ≡ l.board

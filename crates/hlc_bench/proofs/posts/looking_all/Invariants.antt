@@ -1,6 +1,0 @@
--- The passes that are left are the board's.
-use Rattle.hlc_floor.specs.Views.{PassesOf}
-use Rattle.hlc_bench.proofs.posts.looking_all.Given as goal
-
-abbrev pub invariant-loop : goal.invariant-loop
-invariant-loop l = PassesOf l.board l.passes.items

@@ -1,5 +1,0 @@
--- The ledger is the one that the blank was made for.
-use Rattle.hlc_bench.proofs.time_threads.Given as goal
-
-abbrev pub ghosts-time_in_store : goal.ghosts-time_in_store
-ghosts-time_in_store g a = record { name = a.blank.name; parts = a.blank.parts }

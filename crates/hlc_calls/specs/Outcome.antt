@@ -1,0 +1,10 @@
+-- What C gets from a call.
+use Rattle.std.specs.Prelude.{◌≡◌, ◌⊎◌, ℕ, Option, Some, None}
+use Rattle.hlc_core.specs.declared.fault.CoreFault.{CoreFault}
+use Rattle.hlc_core.specs.Faults.{core_code, core_word}
+
+-- Where a refusal is expected, C gets its number and its word. Where none is, the call was made; or, if it may need
+-- memory, it was refused because it ran out of memory.
+abbrev pub IsAnswered : Option CoreFault → Type 0 → Type 0 → ℕ → ℕ → Type 0
+IsAnswered (Some fault) MayGrow Made code returned = (code ≡ core_code fault) × (returned ≡ core_word fault)
+IsAnswered None MayGrow Made code returned = ((code ≡ 0) × Made) ⊎ ((code ≡ 15) × (returned ≡ 0) × MayGrow)

@@ -1,0 +1,79 @@
+-- The state of a core, and the properties that a checkpoint and a core share.
+use Rattle.std.specs.Prelude.{◌≡◌, ℕ, ◌<◌, ◌≤◌, List, [], ◌∷◌, length, map, max, true, All}
+use Rattle.hlc_node.specs.declared.row.Row.{Row}
+use Rattle.hlc_intake.specs.IntakeView.{IntakeView}
+use Rattle.hlc_heads.specs.declared.heads.TheConstants.{MOST_NODES, MOST_NUMBERS}
+use Rattle.hlc_heads.specs.Heads.{HeadsView, a_head, head_at, floor_of}
+use Rattle.hlc_snapshot.specs.declared.snapshot.Snapshot.{Snapshot}
+use Rattle.hlc_node.specs.Rows.{IsRowSet}
+use Rattle.hlc_witness.specs.Cost.{AreInLimits}
+
+-- the state of a core: the number of nodes at the start; by node the progress of its link; the greatest head; the open
+-- snapshots; the number ever opened; the horizon; the stored rows
+pub record StoreView : Type 0 where
+  pub start : ℕ
+  pub links : List IntakeView
+  pub top : ℕ
+  pub snapshots : List Snapshot
+  pub opened : ℕ
+  pub horizon : ℕ
+  pub rows : List Row
+
+-- the number of nodes at the start
+abbrev pub nodes : StoreView → ℕ
+nodes kept = kept.start
+
+-- the heads of links, and this greatest stamp
+abbrev pub marks_of : List IntakeView → ℕ → HeadsView
+marks_of links top = record { heads = map (λ link. a_head link.head link.retired) links; top = top }
+
+-- the state with these rows, at this horizon
+abbrev pub with_rows_left : StoreView → List Row → ℕ → StoreView
+with_rows_left kept rows horizon = record kept { horizon = horizon; rows = rows }
+
+-- the state with no snapshot open
+abbrev pub without_snapshots : StoreView → StoreView
+without_snapshots kept = record kept { snapshots = [] }
+
+-- there is a link, there are no more links than node numbers, and the heads are theirs
+pub record HaveHeads (links : List IntakeView) (marks : HeadsView) : Type 0 where
+  pub some : 0 < length links
+  pub few : length links ≤ MOST_NUMBERS
+  pub same : marks ≡ marks_of links marks.top
+
+-- there were 1 to 64 nodes at the start, and there is a link of each of them and of each that joined, no more in all
+-- than node numbers
+pub record HasNodes (start : ℕ) (links : List IntakeView) : Type 0 where
+  pub some : 0 < start
+  pub few : start ≤ MOST_NODES
+  pub linked : start ≤ length links
+  pub bounded : length links ≤ MOST_NUMBERS
+
+-- each item has a stamp of its own above 0.0, so there are no more items than the word of the head
+abbrev pub HasStamps : IntakeView → Type 0
+HasStamps link = link.next ≤ link.head
+
+-- if the node has retired, it has an accepted item: its last
+abbrev pub HasLastItem : IntakeView → Type 0
+HasLastItem link = link.retired ≡ true → 0 < link.next
+
+-- the greatest head of some links, 0 if there are none
+abbrev pub greatest_head : List IntakeView → ℕ
+greatest_head [] = 0
+greatest_head (link ∷ links) = max link.head (greatest_head links)
+
+-- there are nodes, and links of them with possible progress; the top is the greatest head; the horizon is not above the
+-- floor; an item may write each row
+pub record IsSound (start : ℕ) (links : List IntakeView) (most low : ℕ) (rows : List Row) : Type 0 where
+  pub nodes : HasNodes start links
+  pub stamps : All HasStamps links
+  pub last : All HasLastItem links
+  pub top : most ≡ greatest_head links
+  pub horizon : low ≤ floor_of (marks_of links most)
+  pub limits : AreInLimits rows
+
+-- no open snapshot is above the floor, no two rows are one version, and none is above the head of its node
+pub record IsConsistent (marks : HeadsView) (snapshots : List Snapshot) (rows : List Row) : Type 0 where
+  pub opened : All (λ snapshot. snapshot.stamp ≤ floor_of marks) snapshots
+  pub row_set : IsRowSet rows
+  pub stored : All (λ row. (row.node < length marks.heads) × (row.stamp ≤ (head_at marks.heads row.node).stamp)) rows

@@ -1,0 +1,37 @@
+-- The stored rows answer at an open snapshot as all accepted writes do.
+use Rattle.std.proofs.Common.{◌≡◌, ℕ, List}
+use Rattle.std.proofs.Common.{Some, ap, sym, ◌∙◌}
+use Rattle.std.specs.Prelude.{Contains}
+use Rattle.std.proofs.lemmas.List.Elements.{All-weaker, All-contains_itself}
+use Rattle.hlc_values.proofs.MemberLemmas.{Contains-map}
+use Rattle.hlc_node.specs.declared.row.Row.{Row}
+use Rattle.hlc_node.specs.Rows.{answer}
+use Rattle.hlc_core.specs.Past.{Step}
+use Rattle.hlc_core.specs.Past.{writes, open_snapshots}
+use Rattle.hlc_core.specs.StoreView.{StoreView, Represents}
+use Rattle.hlc_snapshot.specs.declared.snapshot.Snapshot.{Snapshot}
+use Rattle.hlc_snapshot.proofs.RegisterLemmas.{stamp_in-all}
+use Rattle.hlc_core.specs.declared.listing.Pair.{Pair}
+use Rattle.hlc_snapshot.specs.RegistryView.{stamps, stamp_in}
+use Rattle.hlc_core.specs.Listing.{IsListing}
+
+-- an open snapshot is at one of the open stamps, so the rows answer there as all accepted writes do
+pub answer-alike : (kept : StoreView) (past : List Step) (id stamp : ℕ)
+    → Represents kept past → stamp_in id kept.snapshots ≡ Some stamp → (key : List ℕ)
+    → answer kept.rows key stamp ≡ answer (writes past) key stamp
+answer-alike kept past id stamp h there key =
+    h.rows.at_open key stamp
+    (stamp_in-all (λ stamp. Contains (stamps (open_snapshots past)) stamp) id stamp (open_snapshots past)
+    (All-weaker (Contains (open_snapshots past)) (λ snapshot. Contains (stamps (open_snapshots past)) snapshot.stamp)
+    (λ snapshot m. Contains-map (λ (x : Snapshot). x.stamp) (open_snapshots past) snapshot m) (open_snapshots past)
+    (All-contains_itself (open_snapshots past)))
+    (ap (stamp_in id) (sym h.snapshots) ∙ there))
+
+-- and the listings are the same
+pub lists-alike : (rows others : List Row) (stamp : ℕ) (listing : List Pair)
+    → ((key : List ℕ) → answer rows key stamp ≡ answer others key stamp) → IsListing rows stamp listing
+    → IsListing others stamp listing
+lists-alike rows others stamp listing alike is = record {
+  ascending = is.ascending;
+  exact = λ key value. (λ m. sym (alike key) ∙ (is.exact key value).0 m, λ e. (is.exact key value).1 (alike key ∙ e));
+}

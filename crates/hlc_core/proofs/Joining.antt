@@ -1,0 +1,85 @@
+-- A node whose join is not refused joins: the core represents one more join.
+use Rattle.std.proofs.Common.{◌≡◌, ℕ, ◌+◌, ◌<◌, ◌≤◌, List, [], ◌∷◌, ◌++◌, length, max}
+use Rattle.std.proofs.Common.{false, Some, None, ap, sym, ◌∙◌, inl, inr}
+use Rattle.std.proofs.Common.{arith, length-append}
+use Rattle.std.specs.Prelude.{not, slice_get}
+use Rattle.std.proofs.lemmas.Bool.{cond-true, cond-false, le-leb, lt-leb, le-ltb, cases_lt}
+use Rattle.std.proofs.lemmas.Bool.{cases_eq}
+use Rattle.hlc_intake.specs.IntakeView.{IntakeView}
+use Rattle.hlc_heads.specs.declared.heads.TheConstants.{MOST_NUMBERS}
+use Rattle.hlc_core.specs.declared.fault.CoreFault.TheVariants.{Join}
+use Rattle.hlc_heads.specs.declared.heads.JoinFault.TheVariants.{TooManyNodes}
+use Rattle.hlc_core.specs.Past.{Step, Joined, numbered, count, head, retired, top, floor, horizon}
+use Rattle.hlc_core.specs.Past.{opened}
+use Rattle.hlc_core.specs.Past.{join_refusal, join_at_refusal}
+use Rattle.hlc_core.specs.StoreView.{StoreView, nodes, Represents}
+use Rattle.hlc_core.proofs.PastLemmas.{fresh, head-joined}
+use Rattle.hlc_core.proofs.PastLemmas.{head-joined_other}
+use Rattle.hlc_core.proofs.Links.{a_link, get-append_left, get-push}
+
+abbrev pub with_link : StoreView → ℕ → StoreView
+with_link kept start = record {
+  start = kept.start;
+  links = kept.links ++ a_link 0 start false ∷ [];
+  top = max kept.top start;
+  snapshots = kept.snapshots;
+  opened = kept.opened;
+  horizon = kept.horizon;
+  rows = kept.rows;
+}
+
+-- a node whose join is not refused joins
+pub joins : (kept : StoreView) (past : List Step) (node start : ℕ) → Represents kept past
+    → join_refusal (nodes kept) past ≡ None → node ≡ numbered (nodes kept) past → floor (nodes kept) past ≤ start
+    → Represents (with_link kept start) (Joined node start ∷ past)
+joins kept past node start h none is up =
+    let link : IntakeView = a_link 0 start false in
+    let l : length (kept.links ++ link ∷ []) ≡ length kept.links + 1 = length-append kept.links (link ∷ []) in
+    record {
+      legal = (none, is, up, h.legal);
+      many = l ∙ ap (λ n. n + 1) h.many;
+      links = λ n lt.
+          elim (cases_eq n (length kept.links)) [
+            | inl last ↦
+                let own : node ≡ n = is ∙ sym h.many ∙ sym last in
+                let none' = fresh (nodes kept) past n h.legal (let m = h.many in omega (arith, m)) in
+                ap (λ k. slice_get (kept.links ++ link ∷ []) k) last
+                ∙ get-push kept.links link
+                ∙ sym (ap (λ k. Some (a_link k (head n (Joined node start ∷ past)) (retired n past))) none'.0
+                ∙ ap (λ k. Some (a_link 0 k (retired n past))) (head-joined n node start past own)
+                ∙ ap (λ k. Some (a_link 0 start k)) none'.1)
+            | inr earlier ↦
+                let within : n < length kept.links = omega (arith, lt, l) in
+                let other : node ≡ n → ⊥ = λ e. (let m = h.many in omega (arith, is, m)) in
+                get-append_left kept.links (link ∷ []) n within
+                ∙ h.links n within
+                ∙ sym (ap (λ k. Some (a_link (count n past) k (retired n past)))
+                (head-joined_other n node start past other))
+          ];
+      top = ap (λ t. max t start) h.top;
+      snapshots = h.snapshots;
+      opened = h.opened;
+      rows = h.rows;
+      stored = h.stored;
+      horizon = h.horizon;
+    }
+
+-- a join is not refused if a number is left
+pub joins-none : (nodes : ℕ) (past : List Step) (many : ℕ) → many < MOST_NUMBERS → many ≡ numbered nodes past
+    → join_refusal nodes past ≡ None
+joins-none nodes past many few is = cond-false _ _ _ (lt-leb MOST_NUMBERS (numbered nodes past) (omega (arith, is)))
+
+-- nor if its start is not below the floor
+pub joins-at_none : (nodes : ℕ) (past : List Step) (start : ℕ) → join_refusal nodes past ≡ None
+    → floor nodes past ≤ start → join_at_refusal nodes past start ≡ None
+joins-at_none nodes past start none up =
+    elim (cases_lt (numbered nodes past) MOST_NUMBERS) [
+      | inl few ↦ cond-false _ _ _ (lt-leb MOST_NUMBERS (numbered nodes past) few)
+          ∙ cond-false _ _ _ (le-ltb start (floor nodes past) up)
+      | inr full ↦ absurd (let e : Some (Join TooManyNodes) ≡ None =
+          sym (cond-true _ _ _ (le-leb MOST_NUMBERS (numbered nodes past) full)) ∙ none in cc)
+    ]
+
+-- a pair is its parts
+pub both : (made : ℕ × ℕ) (x y : ℕ) → made.0 ≡ x → made.1 ≡ y → made ≡ (x, y)
+both made x y p q = ap (λ a. (a, made.1)) p ∙ ap (λ b. (x, b)) q

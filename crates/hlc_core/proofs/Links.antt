@@ -1,0 +1,249 @@
+-- Each link of a core follows the items that it accepted, and the heads follow the links.
+use Rattle.std.proofs.Common.{◌≡◌, ℕ, ◌+◌, ◌<◌, ◌≤◌, List, [], ◌∷◌, ◌++◌, length, max, get_or, Bool}
+use Rattle.std.proofs.Common.{true, false, Some, None, Option, Ok, Err, Result, refl, ap, sym, ◌∙◌, subst, inl, inr}
+use Rattle.std.proofs.Common.{arith, length-set, length-append, get_or-set_other}
+use Rattle.std.proofs.lemmas.Grind.{get_or-set_at}
+use Rattle.std.specs.Prelude.{◌==◌, not, slice_get, slice_set, MatchOption, MatchResult}
+use Rattle.std.proofs.lemmas.Option.{slice_get-get_or, slice_get_past}
+use Rattle.std.proofs.lemmas.Bool.{cond-true, cond-false, eq-eqb, ne_eqb, le-leb, cases_lt}
+use Rattle.std.proofs.lemmas.Bool.{cases_eq}
+use Rattle.std.proofs.lemmas.List.{map-set, map-append, get_or_append_left}
+use Rattle.std.proofs.Math.Seq.{get_or-append_seam}
+use Rattle.hlc_node.specs.declared.item.Item.{Item}
+use Rattle.hlc_node.specs.Items.{body_refusal, retires}
+use Rattle.hlc_heads.proofs.LowLemmas.{low-is, low-one, floor-is}
+use Rattle.hlc_intake.specs.IntakeView.{IntakeView}
+use Rattle.hlc_heads.specs.Heads.{HeadsView, IsFloor, a_head, head_at, marked as raised, joined as grown, floor_of}
+use Rattle.hlc_heads.specs.declared.heads.TheConstants.{MOST_NUMBERS}
+use Rattle.hlc_heads.specs.declared.heads.Head.{Head}
+use Rattle.hlc_core.specs.declared.fault.CoreFault.{CoreFault}
+use Rattle.hlc_core.specs.declared.fault.CoreFault.TheVariants.{NoNode}
+use Rattle.hlc_core.specs.Past.{Step, Took, numbered, count, head, retired, top, floor, horizon}
+use Rattle.hlc_core.specs.Past.{opened, item_rows, link_refusal, item_refusal}
+use Rattle.hlc_core.specs.StoreView.{StoreView, nodes, HaveHeads, Represents}
+use Rattle.hlc_checkpoint.proofs.CheckpointLemmas.{heads-length, head-of}
+use Rattle.hlc_core.proofs.PastLemmas.{admissible, on_link, retired-same, retired-other}
+
+abbrev pub a_link : ℕ → ℕ → Bool → IntakeView
+a_link next head has_retired = record { next = next; head = head; retired = has_retired }
+
+-- the default where there is no link
+abbrev no_link : IntakeView
+no_link = a_link 0 0 true
+
+-- the link of a node, from the past
+abbrev link_of : ℕ → List Step → IntakeView
+link_of n past = a_link (count n past) (head n past) (retired n past)
+
+-- a link's head
+abbrev pub head_of : IntakeView → Head
+head_of link = a_head link.head link.retired
+
+pub get-append_left : (xs ys : List IntakeView) (i : ℕ) → i < length xs → slice_get (xs ++ ys) i ≡ slice_get xs i
+get-append_left xs ys i h =
+    slice_get-get_or (xs ++ ys) i no_link
+    (let l : length (xs ++ ys) ≡ length xs + length ys = length-append xs ys in omega arith)
+    ∙ ap Some (get_or_append_left xs ys no_link i h)
+    ∙ sym (slice_get-get_or xs i no_link h)
+
+pub get-push : (xs : List IntakeView) (x : IntakeView) → slice_get (xs ++ x ∷ []) (length xs) ≡ Some x
+get-push xs x =
+    slice_get-get_or (xs ++ x ∷ []) (length xs) no_link
+    (let l : length (xs ++ x ∷ []) ≡ length xs + 1 = length-append xs (x ∷ []) in omega arith)
+    ∙ ap Some (get_or-append_seam xs x [] no_link)
+
+get-set_at : (links : List IntakeView) (i : ℕ) (link : IntakeView) → i < length links
+    → slice_get (slice_set links i link) i ≡ Some link
+get-set_at links i link h =
+    slice_get-get_or (slice_set links i link) i link
+    (let l : length (slice_set links i link) ≡ length links = length-set links i link in omega arith)
+    ∙ ap Some (get_or-set_at links i i link link refl h)
+
+get-set_other : (links : List IntakeView) (i k : ℕ) (link : IntakeView) → (k ≡ i → ⊥)
+    → slice_get (slice_set links i link) k ≡ slice_get links k
+get-set_other links i k link other =
+    let l : length (slice_set links i link) ≡ length links = length-set links i link in
+    elim (cases_lt k (length links)) [
+      | inl within ↦
+          slice_get-get_or (slice_set links i link) k link (omega arith)
+          ∙ ap Some (get_or-set_other links i k link link other) ∙ sym (slice_get-get_or links k link within)
+      | inr outside ↦ slice_get_past (slice_set links i link) k (omega arith) ∙ sym (slice_get_past links k outside)
+    ]
+
+-- the result of a look-up of an item's link
+abbrev pub LooksUp : Option IntakeView → Item → Result IntakeView CoreFault → Type 0
+LooksUp found item result =
+    MatchOption found (result ≡ Err NoNode)
+    (λ link. MatchResult result
+    (λ new. (link_refusal link.retired link.next link.head item ≡ None)
+    × (new ≡ a_link (item.number + 1) item.stamp (retires item.body)))
+    (λ fault. link_refusal link.retired link.next link.head item ≡ Some fault))
+
+-- what is true of an item that its link admits, whatever took place
+pub record IsAdmitted (links : List IntakeView) (item : Item) (new : IntakeView) : Type 0 where
+  pub within : item.node < length links
+  pub here : (get_or links item.node no_link).retired ≡ false
+  pub number : item.number ≡ (get_or links item.node no_link).next
+  pub rising : (get_or links item.node no_link).head < item.stamp
+  pub limits : body_refusal item.body ≡ None
+  pub is : new ≡ a_link (item.number + 1) item.stamp (retires item.body)
+
+pub admitted : (links : List IntakeView) (item : Item) (new : IntakeView)
+    → LooksUp (slice_get links item.node) item (Ok new) → IsAdmitted links item new
+admitted links item new looked =
+    elim (cases_lt item.node (length links)) [
+      | inl below ↦
+          let found : LooksUp (Some (get_or links item.node no_link)) item (Ok new) =
+          subst (λ o. LooksUp o item (Ok new)) (slice_get-get_or links item.node no_link below) looked in
+          record {
+            within = below;
+            here = (admissible _ _ _ item found.0).here;
+            number = (admissible _ _ _ item found.0).number;
+            rising = (admissible _ _ _ item found.0).stamp;
+            limits = (admissible _ _ _ item found.0).limits;
+            is = found.1;
+          }
+      | inr outside ↦
+          absurd (let missed : ◌≡◌ {A = Result IntakeView CoreFault} (Ok new) (Err NoNode) =
+          subst (λ o. LooksUp o item (Ok new)) (slice_get_past links item.node outside) looked in cc)
+    ]
+
+-- if the core represents a past, such an item is not refused there
+pub admitted-expected : (kept : StoreView) (past : List Step) (item : Item) (new : IntakeView) → Represents kept past
+    → LooksUp (slice_get kept.links item.node) item (Ok new) → item_refusal (nodes kept) past item ≡ None
+admitted-expected kept past item new h looked =
+    let within : item.node < length kept.links = (admitted kept.links item new looked).within in
+    let found : LooksUp (Some (link_of item.node past)) item (Ok new) =
+    subst (λ o. LooksUp o item (Ok new)) (h.links item.node within) looked in
+    on_link (nodes kept) past item (let m = h.many in omega (arith, m)) ∙ found.0
+
+-- and the fault is the expected refusal there
+pub fault-expected : (kept : StoreView) (past : List Step) (item : Item) (fault : CoreFault) → Represents kept past
+    → LooksUp (slice_get kept.links item.node) item (Err fault) → item_refusal (nodes kept) past item ≡ Some fault
+fault-expected kept past item fault h looked =
+    elim (cases_lt item.node (length kept.links)) [
+      | inl below ↦
+          let found : LooksUp (Some (link_of item.node past)) item (Err fault) =
+          subst (λ o. LooksUp o item (Err fault)) (h.links item.node below) looked in
+          on_link (nodes kept) past item (let m = h.many in omega (arith, m)) ∙ found
+      | inr outside ↦
+          let missed : ◌≡◌ {A = Result IntakeView CoreFault} (Err fault) (Err NoNode) =
+          subst (λ o. LooksUp o item (Err fault)) (slice_get_past kept.links item.node outside) looked in
+          cond-true _ _ _ (le-leb (numbered (nodes kept) past) item.node (let m = h.many in omega (arith, m)))
+          ∙ (let same : NoNode ≡ fault = cc in ap Some same)
+    ]
+
+-- the heads rise with the link
+pub heads-set : (links : List IntakeView) (marks : HeadsView) (n : ℕ) (link : IntakeView) → HaveHeads links marks
+    → HaveHeads (slice_set links n link) (raised marks n link.head link.retired)
+heads-set links marks n link h =
+    let l : length (slice_set links n link) ≡ length links = length-set links n link in
+    let some : 0 < length links = h.some in
+    let few : length links ≤ MOST_NUMBERS = h.few in
+    record {
+      some = omega arith;
+      few = omega arith;
+      same = ap (λ (xs : List Head). record { heads = xs; top = max marks.top link.head })
+          (ap (λ (m : HeadsView). slice_set m.heads n (head_of link)) h.same ∙ sym (map-set head_of links n link));
+    }
+
+-- one more link has one more head
+pub heads-joined : (links : List IntakeView) (marks : HeadsView) (start : ℕ) → HaveHeads links marks
+    → length links < MOST_NUMBERS → HaveHeads (links ++ a_link 0 start false ∷ []) (grown marks start)
+heads-joined links marks start h few =
+    let l : length (links ++ a_link 0 start false ∷ []) ≡ length links + 1 =
+    length-append links (a_link 0 start false ∷ []) in
+    record {
+      some = omega arith;
+      few = omega arith;
+      same = ap (λ (xs : List Head). record { heads = xs; top = max marks.top start })
+          (ap (λ (m : HeadsView). m.heads ++ a_head start false ∷ []) h.same
+          ∙ sym (map-append head_of links (a_link 0 start false ∷ [])));
+    }
+
+pub links-took : (links : List IntakeView) (past : List Step) (item : Item) (number : ℕ)
+    → number ≡ count item.node past → item.node < length links
+    → ((n : ℕ) → n < length links → slice_get links n ≡ Some (link_of n past))
+    → (n : ℕ) → n < length links
+    → slice_get (slice_set links item.node (a_link (number + 1) item.stamp (retires item.body))) n
+    ≡ Some (link_of n (Took item ∷ past))
+links-took links past item number next within h n lt =
+    elim (cases_eq item.node n) [
+      | inl same ↦
+          let hit = eq-eqb item.node n same in
+          ap (λ k. slice_get (slice_set links item.node (a_link (number + 1) item.stamp (retires item.body))) k)
+          (sym same)
+          ∙ get-set_at links item.node (a_link (number + 1) item.stamp (retires item.body)) within
+          ∙ ap (λ k. Some (a_link (k + 1) item.stamp (retires item.body))) (next ∙ ap (λ k. count k past) same)
+          ∙ sym (ap (λ k. Some (a_link k (head n (Took item ∷ past)) (retired n (Took item ∷ past))))
+          (cond-true (item.node == n) (count n past + 1) (count n past) hit)
+          ∙ ap (λ k. Some (a_link (count n past + 1) k (retired n (Took item ∷ past))))
+          (cond-true (item.node == n) item.stamp (head n past) hit)
+          ∙ ap (λ k. Some (a_link (count n past + 1) item.stamp k)) (retired-same n item past same))
+      | inr other ↦
+          let miss = ne_eqb item.node n other in
+          get-set_other links item.node n (a_link (number + 1) item.stamp (retires item.body)) (λ e. other (sym e))
+          ∙ h n lt
+          ∙ sym (ap (λ k. Some (a_link k (head n (Took item ∷ past)) (retired n (Took item ∷ past))))
+          (cond-false (item.node == n) (count n past + 1) (count n past) miss)
+          ∙ ap (λ k. Some (a_link (count n past) k (retired n (Took item ∷ past))))
+          (cond-false (item.node == n) item.stamp (head n past) miss)
+          ∙ ap (λ k. Some (a_link (count n past) (head n past) k)) (retired-other n item past other))
+    ]
+
+abbrev pub after_item : StoreView → Item → StoreView
+after_item kept item = record {
+  start = kept.start;
+  links = slice_set kept.links item.node (a_link (item.number + 1) item.stamp (retires item.body));
+  top = max kept.top item.stamp;
+  snapshots = kept.snapshots;
+  opened = kept.opened;
+  horizon = kept.horizon;
+  rows = kept.rows ++ item_rows item;
+}
+
+-- the floor of the stored heads is the floor of the past
+pub floor-from : (kept : StoreView) (past : List Step) (marks : HeadsView) (value : ℕ) → HaveHeads kept.links marks
+    → marks.top ≡ kept.top → Represents kept past → IsFloor marks value → value ≡ floor (nodes kept) past
+floor-from kept past marks value have topmost h is =
+    let len : length marks.heads ≡ numbered (nodes kept) past = heads-length kept.links marks have ∙ h.many in
+    let each : (n : ℕ) → n < numbered (nodes kept) past
+    → head_at marks.heads n ≡ a_head (head n past) (retired n past) =
+    λ n within.
+    let inside' : n < length kept.links = (let m = h.many in omega (arith, m)) in
+    let e : Some (get_or kept.links n no_link) ≡ Some (link_of n past) =
+    sym (slice_get-get_or kept.links n no_link inside') ∙ h.links n inside' in
+    let f : get_or kept.links n no_link ≡ link_of n past = cc in
+    head-of kept.links marks n have inside' ∙ ap head_of f in
+    let at : value ≡ floor_of marks = floor-is marks value is in
+    let low' = low-is (λ k. (head_at marks.heads k).stamp) (λ k. (head_at marks.heads k).retired)
+    (length marks.heads) marks.top in
+    low-one (λ n. head n past) (λ n. retired n past) (numbered (nodes kept) past) (top past) value
+    (floor (nodes kept) past)
+    (record {
+      least = λ k lt here.
+          (let e = each k lt in
+          let s : (head_at marks.heads k).stamp ≡ head k past = ap (λ (x : Head). x.stamp) e in
+          let r : (head_at marks.heads k).retired ≡ false = ap (λ (x : Head). x.retired) e ∙ here in
+          let g : floor_of marks ≤ (head_at marks.heads k).stamp = low'.least k (omega (arith, len, lt)) r in
+          omega arith);
+      is =
+          elim low'.is [
+            | inl one ↦
+                let lt : one.0 < numbered (nodes kept) past =
+                (let l : one.0 < length marks.heads = one.1 in omega arith) in
+                let e = each one.0 lt in
+                inl (
+                  one.0,
+                  lt,
+                  sym (ap (λ (x : Head). x.retired) e) ∙ one.2,
+                  sym (ap (λ (x : Head). x.stamp) e) ∙ one.3 ∙ sym at,
+                )
+            | inr none ↦
+                inr (
+                  λ k lt. sym (ap (λ (x : Head). x.retired) (each k lt)) ∙ none.0 k (omega (arith, len, lt)),
+                  at ∙ none.1 ∙ topmost ∙ h.top,
+                )
+          ];
+    })
+    (low-is (λ n. head n past) (λ n. retired n past) (numbered (nodes kept) past) (top past))

@@ -1,6 +1,0 @@
--- What is left of the stored rows is a vacuum of all accepted ones.
-use Rattle.hlc_core.proofs.Vacuums.{vacuums}
-use Rattle.hlc_core.proofs.laws.vacuums_keep_standing.Goals as goal
-
-pub returns : goal.returns
-returns c = vacuums

@@ -1,0 +1,24 @@
+-- The past that the state of a core represents.
+use Rattle.std.specs.Prelude.{◌≡◌, ℕ, ◌<◌, List, length, Some, slice_get}
+use Rattle.hlc_snapshot.specs.RegistryView.{stamps}
+use Rattle.hlc_vacuum.specs.Representing.{RowsRepresent}
+use Rattle.hlc_core.specs.Past.{Step, numbered, count, head, retired, top, horizon, opened, open_snapshots, writes}
+use Rattle.hlc_core.specs.Past.{IsLegal}
+use Rattle.hlc_core.specs.Stored.{IsStoredCount}
+pub use Rattle.hlc_checkpoint.specs.StoreView.{StoreView, nodes, marks_of, with_rows_left, without_snapshots}
+pub use Rattle.hlc_checkpoint.specs.StoreView.{greatest_head}
+pub use Rattle.hlc_checkpoint.specs.StoreView.{HaveHeads, HasNodes, HasStamps, HasLastItem, IsSound, IsConsistent}
+
+-- The core represents the past: whatever vacuums dropped, its rows answer as all accepted writes do at each open
+-- snapshot and from the horizon on, and their number is the expected one.
+pub record Represents (kept : StoreView) (past : List Step) : Type 0 where
+  pub legal : IsLegal (nodes kept) past
+  pub many : length kept.links ≡ numbered (nodes kept) past
+  pub links : (n : ℕ) → n < length kept.links
+      → slice_get kept.links n ≡ Some (record { next = count n past; head = head n past; retired = retired n past })
+  pub top : kept.top ≡ top past
+  pub snapshots : kept.snapshots ≡ open_snapshots past
+  pub opened : kept.opened ≡ opened past
+  pub rows : RowsRepresent kept.rows (writes past) (horizon past) (stamps (open_snapshots past))
+  pub stored : IsStoredCount past (length kept.rows)
+  pub horizon : kept.horizon ≡ horizon past

@@ -1,0 +1,23 @@
+-- What a handle contains before and after a call.
+use Rattle.std.specs.Prelude.{◌≡◌, ℕ, [], Option, Some, None, MatchOption, ⊤}
+use Rattle.hlc_core.specs.StoreView.{StoreView, Represents, nodes}
+use Rattle.hlc_core.specs.Calls.{new_refusal}
+use Rattle.hlc_calls.specs.Outcome.{IsAnswered}
+
+-- the answer is about an open store, which stays open; a closed one stays closed, and its answer is this
+abbrev pub OnStore : Option StoreView → Option StoreView → Type 0 → (StoreView → StoreView → Type 0) → Type 0
+OnStore old new Closed Open =
+    MatchOption old (Closed × (new ≡ None)) (λ before. MatchOption new ⊥ (λ after. Open before after))
+
+-- A closed store was opened, and nothing took place in it; or it stays closed, for the expected reason or because it
+-- ran out of memory. An open one is unchanged.
+abbrev pub IsOpening : Option StoreView → Option StoreView → ℕ → ℕ → Type 0
+IsOpening (Some before) new count code = (code ≡ 101) × (new ≡ Some before)
+IsOpening None new count code =
+    MatchOption new (IsAnswered (new_refusal count) ⊤ ⊥ code 0) (λ core. (code ≡ 0) × (nodes core ≡ count)
+    × (new_refusal count ≡ None) × Represents core [])
+
+-- how many nodes there were at the start, 0 where the store is closed
+abbrev pub nodes_in_handle : Option StoreView → ℕ
+nodes_in_handle None = 0
+nodes_in_handle (Some kept) = nodes kept

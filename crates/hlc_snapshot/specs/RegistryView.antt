@@ -1,0 +1,71 @@
+-- The open snapshots: the state of a registry, and how openings and closings change it.
+use Rattle.std.specs.Prelude.{◌≡◌, ℕ, ◌+◌, ◌<◌, ◌≤◌, ◌==◌, ◌⊎◌, List, [], ◌∷◌, ◌++◌, length, map, filter, find, All}
+use Rattle.std.specs.Prelude.{not, nat_le, nat_lt, ◌&&◌, Bool, Option, Some, None, if◌then◌else◌}
+use Rattle.std.specs.List.{AllPairs}
+use Rattle.std.specs.Option.{option_map}
+use Rattle.hlc_snapshot.specs.declared.snapshot.Snapshot.{Snapshot}
+use Rattle.hlc_snapshot.specs.declared.registry.TheConstants.{MOST_OPEN}
+use Rattle.hlc_snapshot.specs.declared.fault.SnapshotFault.{SnapshotFault}
+use Rattle.hlc_snapshot.specs.declared.fault.SnapshotFault.TheVariants.{TooManySnapshots, NumbersSpent, NoMemory}
+
+-- the state of a registry: the open snapshots, the oldest first; and the number ever opened
+pub record RegistryView : Type 0 where
+  pub snapshots : List Snapshot
+  pub opened : ℕ
+
+-- the stamp of the snapshot with this id
+abbrev pub stamp_in : ℕ → List Snapshot → Option ℕ
+stamp_in id snapshots = option_map (λ snapshot. snapshot.stamp) (find (λ snapshot. snapshot.id == id) snapshots)
+
+-- the stamps of some snapshots
+abbrev pub stamps : List Snapshot → List ℕ
+stamps snapshots = map (λ snapshot. snapshot.stamp) snapshots
+
+-- the stamps that are at or below a bound
+abbrev pub stamps_to : ℕ → List Snapshot → List ℕ
+stamps_to bound snapshots = filter (λ stamp. nat_le stamp bound) (stamps snapshots)
+
+-- the snapshots without the one with this id
+abbrev pub without : ℕ → List Snapshot → List Snapshot
+without id snapshots = filter (λ snapshot. not (snapshot.id == id)) snapshots
+
+-- the first reason to refuse an opening, except memory, from the number of open snapshots and the number ever opened
+abbrev pub room_refusal : (open_now opened : ℕ) → Option SnapshotFault
+room_refusal open_now opened =
+    if nat_le MOST_OPEN open_now then Some TooManySnapshots
+    else if nat_le 18446744073709551614 opened then Some NumbersSpent
+    else None
+
+-- the fault of a refused call is the expected one, or, if none is expected, that memory runs out
+abbrev pub IsRefusal : Option SnapshotFault → SnapshotFault → Type 0
+IsRefusal expected fault = (expected ≡ Some fault) ⊎ ((expected ≡ None) × (fault ≡ NoMemory))
+
+-- the register after one more snapshot was opened at this stamp; its id is one above the number of those opened before
+abbrev pub opened_at : RegistryView → ℕ → RegistryView
+opened_at register stamp = record {
+  snapshots = register.snapshots ++ record { id = register.opened + 1; stamp = stamp } ∷ [];
+  opened = register.opened + 1;
+}
+
+-- the register after the snapshot with this id was closed
+abbrev pub closed : ℕ → RegistryView → RegistryView
+closed id register = record { snapshots = without id register.snapshots; opened = register.opened }
+
+-- the ids of the open snapshots ascend, from the oldest to the newest, and are between 1 and the number ever opened; no
+-- more are open than may be, and no more were ever opened than there are ids
+pub record IsRegister (register : RegistryView) : Type 0 where
+  pub rising : AllPairs (λ older newer. older.id < newer.id) register.snapshots
+  pub bounded : All (λ snapshot. (0 < snapshot.id) × (snapshot.id ≤ register.opened)) register.snapshots
+  pub few : length register.snapshots ≤ MOST_OPEN
+  pub in_range : register.opened ≤ 18446744073709551614
+
+-- the newer register is the older one after some openings and closings
+pub data Follows : RegistryView → RegistryView → Type 0 where
+  at_once : {register : RegistryView} → Follows register register
+  opening : {older newer : RegistryView} (stamp : ℕ) → Follows older newer → Follows older (opened_at newer stamp)
+  closing : {older newer : RegistryView} (id : ℕ) → Follows older newer → Follows older (closed id newer)
+
+-- A test of ids: they ascend and are above this one, and the last of them is not above the number ever opened.
+abbrev pub ids_rise : (last opened : ℕ) → List Snapshot → Bool
+ids_rise last opened [] = nat_le last opened
+ids_rise last opened (snapshot ∷ snapshots) = nat_lt last snapshot.id && ids_rise snapshot.id opened snapshots

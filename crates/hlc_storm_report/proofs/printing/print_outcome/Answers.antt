@@ -1,0 +1,8 @@
+-- What was printed from the start on is written when all is finished.
+use Rattle.std.proofs.Common.{rules}
+use Rattle.hlc_text.proofs.PrintLemmas.{printed_finished}
+use Rattle.hlc_storm_report.proofs.printing.print_outcome.Goals as goal
+
+pub returns : goal.returns
+returns g c =
+    printed_finished c.new-printer.ensures.start c.put_outcome.ensures c.finish.ensures (search rules)

@@ -1,8 +1,0 @@
--- What was printed from nothing on is written when all is finished.
-use Rattle.std.proofs.Common.{rules}
-use Rattle.hlc_text.proofs.PrintLemmas.{printed_finished}
-use Rattle.hlc_storm_report.proofs.printing.print_told.Goals as goal
-
-pub returns : goal.returns
-returns g c =
-    printed_finished c.new-printer.ensures.start c.put_told.ensures c.finish.ensures (search rules)

@@ -1,5 +1,0 @@
--- The ledger is the one that the blank was made for.
-use Rattle.hlc_worker_tests.proofs.storms.is_joined.Given as goal
-
-abbrev pub ghosts-join_new : goal.ghosts-join_new
-ghosts-join_new g a = record { name = a.blank.name; parts = a.blank.parts }

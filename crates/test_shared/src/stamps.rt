@@ -1,0 +1,210 @@
+//! Vacuums to a stamp and joins at a stamp, on a shared store.
+ghost use Rattle.std.specs.Prelude.{◌≡◌};
+
+use crate::clients::{Client, lists_of, settled_calls};
+use crate::expected::must_be;
+use crate::makers::{at_second, write};
+use crate::threads::shows;
+use hlc_core::{CoreEvent, CoreFault, CoreReply, JoinFault, LinkFault, Stamp};
+use hlc_server::{Caller, SettleFault, Shared};
+use std::alloc::Global;
+use std::marker::Brand;
+use std::process::Abort;
+use std::sync::Wait;
+use std::sync::ledger::{Blank, Ledger};
+use std::test::*;
+use std::thread::Threads;
+
+/// Checks that a call gets this reply.
+fn replies<L: Ledger, R: Wait + Threads + Abort + Sync>(
+    rt: &R,
+    shared: &Shared<L>,
+    client: Client<L>,
+    event: CoreEvent,
+    expected: CoreReply,
+) -> Client<L> {
+    let client = client.asks(rt, shared, event);
+    client.got(rt, expected);
+    client
+}
+
+/// Checks that a call gets this refusal.
+fn refuses<L: Ledger, R: Wait + Threads + Abort + Sync>(
+    rt: &R,
+    shared: &Shared<L>,
+    client: Client<L>,
+    event: CoreEvent,
+    fault: CoreFault,
+) -> Client<L> {
+    replies(rt, shared, client, event, CoreReply::Refused(fault))
+}
+
+/// Asks the store to accept an item of this node, which writes its number to the key `k` at this stamp.
+fn writes<L: Ledger, R: Wait + Threads + Abort + Sync>(
+    rt: &R,
+    alloc: Global,
+    shared: &Shared<L>,
+    client: Client<L>,
+    item: (u16, u8, Stamp),
+) -> Client<L> {
+    let (node, number, stamp) = item;
+    let mut item = write(alloc, node, number, b'k', number).expect(rt, "memory");
+    item.stamp = stamp;
+    client.asks(rt, shared, CoreEvent::Accept(item))
+}
+
+/// Lets the one node write at 1.0, 2.0 and 3.0, so that the floor is 3.0.
+fn fills<L: Ledger, R: Wait + Threads + Abort + Sync>(
+    rt: &R,
+    alloc: Global,
+    shared: &Shared<L>,
+    client: Client<L>,
+) -> Client<L> {
+    let client = writes(rt, alloc, shared, client, (0, 0, at_second(1)));
+    let client = writes(rt, alloc, shared, client, (0, 1, at_second(2)));
+    writes(rt, alloc, shared, client, (0, 2, at_second(3)))
+}
+
+/// Checks that the last reply is the report of a vacuum to 2.0: the write at 2.0 is kept, and that at 1.0 dropped.
+fn has_vacuumed<L: Ledger, R: Abort>(rt: &R, client: &Client<L>) {
+    let receipt = client.receipts.last().expect(rt, "a call that was made");
+    match &receipt.reply {
+        CoreReply::Vacuumed(boxed) => {
+            let report = boxed.get();
+            let counts = (report.floor, report.kept, report.dropped);
+            must_be(rt, counts, (at_second(2), 1, 1))
+        }
+        _ => panic!(rt; "there is no vacuum"),
+    }
+}
+
+/// A vacuum to 4.0 is refused, since that is above the floor; one to 2.0 is made; and then one to 1.0 is refused.
+fn vacuums<L: Ledger, R: Wait + Threads + Abort + Sync>(
+    rt: &R,
+    shared: &Shared<L>,
+    client: Client<L>,
+) -> Client<L> {
+    let above = CoreFault::AboveFloor {
+        floor: at_second(3),
+    };
+    let client = refuses(rt, shared, client, CoreEvent::VacuumTo(at_second(4)), above);
+    let client = client.asks(rt, shared, CoreEvent::VacuumTo(at_second(2)));
+    has_vacuumed(rt, &client);
+    let below = CoreFault::BelowHorizon {
+        horizon: at_second(2),
+    };
+    refuses(rt, shared, client, CoreEvent::VacuumTo(at_second(1)), below)
+}
+
+/// Opens a snapshot at a second, and checks that it has this id, and reads this number.
+fn opens<L: Ledger, R: Wait + Threads + Abort + Sync>(
+    rt: &R,
+    alloc: Global,
+    shared: &Shared<L>,
+    client: Client<L>,
+    second: u8,
+    id: u64,
+    number: u8,
+) -> Client<L> {
+    let stamp = at_second(second);
+    let opened = CoreReply::Opened { id, stamp };
+    let event = CoreEvent::OpenAt(at_second(second));
+    let client = replies(rt, shared, client, event, opened);
+    shows(rt, alloc, shared, client, id, number)
+}
+
+/// Checks that after a vacuum to 2.0 no snapshot opens at 1.0, and that those at 2.0 and 3.0 read what was written
+/// there.
+fn reads<L: Ledger, R: Wait + Threads + Abort + Sync>(
+    rt: &R,
+    alloc: Global,
+    shared: &Shared<L>,
+    client: Client<L>,
+) -> Client<L> {
+    let below = CoreFault::BelowHorizon {
+        horizon: at_second(2),
+    };
+    let client = refuses(rt, shared, client, CoreEvent::OpenAt(at_second(1)), below);
+    let client = opens(rt, alloc, shared, client, 2, 1, 1);
+    opens(rt, alloc, shared, client, 3, 2, 2)
+}
+
+/// Checks that a join at 2.0 is refused, that a node then joins at 5.0, and that the floor is 3.0 as before.
+fn joins<L: Ledger, R: Wait + Threads + Abort + Sync>(
+    rt: &R,
+    shared: &Shared<L>,
+    client: Client<L>,
+) -> Client<L> {
+    let below = CoreFault::Join(JoinFault::BelowFloor {
+        floor: at_second(3),
+    });
+    let client = refuses(rt, shared, client, CoreEvent::JoinAt(at_second(2)), below);
+    let joined = CoreReply::Joined {
+        node: 1,
+        start: at_second(5),
+    };
+    let event = CoreEvent::JoinAt(at_second(5));
+    let client = replies(rt, shared, client, event, joined);
+    let stamp = at_second(3);
+    let opened = CoreReply::Opened { id: 3, stamp };
+    replies(rt, shared, client, CoreEvent::OpenFloor, opened)
+}
+
+/// The node that joined writes at its start, which is refused, and then above it.
+fn starts<L: Ledger, R: Wait + Threads + Abort + Sync>(
+    rt: &R,
+    alloc: Global,
+    shared: &Shared<L>,
+    client: Client<L>,
+) -> Client<L> {
+    let client = writes(rt, alloc, shared, client, (1, 0, at_second(5)));
+    let head = at_second(5);
+    client.got(
+        rt,
+        CoreReply::Refused(CoreFault::Link(LinkFault::StampNotRising { head })),
+    );
+    writes(rt, alloc, shared, client, (1, 0, at_second(6)))
+}
+
+/// Lets the one caller make its calls.
+fn called<L: Ledger, R: Wait + Threads + Abort + Sync>(
+    rt: &R,
+    alloc: Global,
+    shared: &Shared<L>,
+    callers: Vec<Caller<L>>,
+) -> Client<L> {
+    let mut callers = callers;
+    let client = Client::new(alloc, callers.pop().expect(rt, "a caller"));
+    let client = fills(rt, alloc, shared, client);
+    let client = vacuums(rt, shared, client);
+    let client = reads(rt, alloc, shared, client);
+    let client = joins(rt, shared, client);
+    starts(rt, alloc, shared, client)
+}
+
+/// Makes the calls of one caller to a store of one node, and checks that with a trail all sixteen settle.
+fn by_one<L: Ledger, R: Wait + Threads + Abort + Sync>(
+    rt: &R,
+    alloc: Global,
+    blank: Blank,
+    audit: bool,
+    expected: Result<u64, SettleFault>,
+)
+    requires { (blank.name ≡ L.name) × (blank.parts ≡ L.parts) × (blank.parts ≡ 1) }
+{
+    let (shared, callers) = Shared::<L>::new(alloc, blank, 1, 1, audit).expect(rt, "a store");
+    let clients = vec![in alloc; called(rt, alloc, &shared, callers)];
+    let lists = lists_of(rt, alloc, clients.ok().expect(rt, "memory"));
+    must_be(rt, settled_calls(shared, lists), expected);
+}
+
+#[test]
+fn stamps_of_vacuums_and_joins(rt: HostRuntime) {
+    by_one::<Brand, _>(&rt, rt.alloc(), Blank::new(1), true, Ok(16));
+}
+
+#[test]
+fn stamps_without_a_trail(rt: HostRuntime) {
+    let none = Err(SettleFault::NoTrail);
+    by_one::<Brand, _>(&rt, rt.alloc(), Blank::new(1), false, none);
+}
