@@ -1,9 +1,7 @@
 -- The number of a refusal is that of the first reason, or 15.
 use Rattle.std.proofs.Common.{◌≡◌, ap, inl, inr, refl, subst, sym}
 use Rattle.std.specs.Prelude.{Option, Some, None}
-use Rattle.hlc_core.specs.Calls.{IsRefusal}
-use Rattle.hlc_core.specs.Faults.{core_code}
-use Rattle.hlc_core.specs.declared.fault.CoreFault.{CoreFault}
+use Rattle.hlc.specs.Store.{IsRefusal, core_code, CoreFault}
 use Rattle.example_embed.specs.Fed.{IsCodeOf}
 
 pub code_of_refusal : (expected : Option CoreFault) (MayGrow : Type 0) (fault : CoreFault)

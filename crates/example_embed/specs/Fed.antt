@@ -1,13 +1,7 @@
 -- How the items of a node reach the store, or why they do not.
 use Rattle.std.specs.Prelude.{◌≡◌, ℕ, List, ◌∷◌, Option, Some, None, Result, Ok, Err}
-use Rattle.hlc_node.specs.declared.item.Body.{Body}
-use Rattle.hlc_node.specs.declared.node.NodeFault.{NodeFault}
-use Rattle.hlc_node.specs.Node.{Node, next_item, expected_issue}
-use Rattle.hlc_core.specs.Past.{Step, Took, item_refusal}
-use Rattle.hlc_core.specs.StoreView.{StoreView, nodes, Represents}
-use Rattle.hlc_core.specs.Calls.{IsWrite}
-use Rattle.hlc_core.specs.Faults.{core_code}
-use Rattle.hlc_core.specs.declared.fault.CoreFault.{CoreFault}
+use Rattle.hlc.specs.Node.{Body, NodeFault, Node, next_item, expected_issue}
+use Rattle.hlc.specs.Store.{Step, Took, item_refusal, StoreView, nodes, Represents, IsWrite, core_code, CoreFault}
 use Rattle.example_embed.specs.declared.stopped.Stopped.{Stopped}
 use Rattle.example_embed.specs.declared.stopped.Stopped.TheVariants.{NotIssued, Refused, NotShown}
 

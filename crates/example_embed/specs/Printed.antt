@@ -1,20 +1,9 @@
 -- What the program prints about a store that represents what took place.
 use Rattle.std.specs.Prelude.{◌≡◌, ℕ, List, ◌∷◌, ◌++◌, codes, Option, Some, None}
-use Rattle.hlc_clock.specs.Stamp.{stamp_text}
-use Rattle.hlc_text.specs.declared.watched.Watched.{Watched}
-use Rattle.hlc_text.specs.Text.{bytes_token, printed}
-use Rattle.hlc_text.specs.Printing.{Writes}
-use Rattle.hlc_node.specs.declared.row.Row.{Row}
-use Rattle.hlc_node.specs.Rows.{answer}
-use Rattle.hlc_witness.specs.declared.witness.Witness.{Witness}
-use Rattle.hlc_witness.specs.Changes.{AreChanges}
-use Rattle.hlc_witness.specs.Shown.{ShownView}
-use Rattle.hlc_core.specs.Past.{Step, Vacuumed, floor, writes}
-use Rattle.hlc_core.specs.StoreView.{StoreView, Represents, nodes}
-use Rattle.hlc_core.specs.Stored.{AreVacuumPoints}
-use Rattle.hlc_core.specs.Calls.{AreRowsTo}
-use Rattle.hlc_certificate.specs.CertificateText.{certificate_text}
-use Rattle.hlc_certificate.specs.ReadBack.{IsAnsweredFewest}
+use Rattle.hlc.specs.Certificate.{Witness, AreChanges, ShownView, certificate_text, IsAnsweredFewest}
+use Rattle.hlc.specs.Node.{Row, answer}
+use Rattle.hlc.specs.Store.{Step, Vacuumed, floor, writes, StoreView, Represents, nodes, AreVacuumPoints, AreRowsTo}
+use Rattle.hlc.specs.Text.{stamp_text, Watched, bytes_token, printed, Writes}
 
 -- a value, or that there is none, after a space
 abbrev pub value_text : Option (List ℕ) → List ℕ

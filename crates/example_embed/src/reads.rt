@@ -1,9 +1,7 @@
 //! What a reader sees in its snapshot, as a line.
 ghost use Rattle.std.specs.Prelude.{◌≡◌, List, IfOk, OnErr, Some, None, option_copied};
-ghost use Rattle.hlc_text.specs.Printing.{Prints};
-ghost use Rattle.hlc_text.specs.Text.{printed};
-ghost use Rattle.hlc_core.specs.Past.{Step, stamp_of};
-ghost use Rattle.hlc_core.specs.StoreView.{Represents};
+ghost use Rattle.hlc.specs.Store.{Step, stamp_of, Represents};
+ghost use Rattle.hlc.specs.Text.{Prints, printed};
 ghost use Rattle.example_embed.specs.Printed.{read_line, read_text, value_text};
 
 use hlc::certificate::Printer;

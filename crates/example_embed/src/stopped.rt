@@ -1,6 +1,6 @@
 //! Why the program stopped before its end.
 ghost use Rattle.std.specs.Prelude.{◌≡◌};
-ghost use Rattle.hlc_core.specs.Faults.{core_code};
+ghost use Rattle.hlc.specs.Store.{core_code};
 ghost use Rattle.example_embed.specs.declared.stopped.Stopped.TheVariants.{NotIssued, Refused, NotShown};
 
 use hlc::certificate::NotShown;

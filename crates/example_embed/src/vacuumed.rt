@@ -1,11 +1,8 @@
 //! A vacuum whose certificate is printed, so that anybody can check that it left the fewest rows.
 ghost use Rattle.std.specs.Prelude.{◌≡◌, ◌∷◌, ℕ, List, IfOk, IfErr, IsOk};
-ghost use Rattle.hlc_text.specs.Printing.{Prints};
-ghost use Rattle.hlc_witness.specs.Certificate.{IsCertificate};
-ghost use Rattle.hlc_core.specs.Past.{Step, Vacuumed, floor};
-ghost use Rattle.hlc_core.specs.StoreView.{Represents, nodes};
-ghost use Rattle.hlc_certificate.specs.CertificateText.{certificate_text};
-ghost use Rattle.hlc_certificate.specs.ReadBack.{IsAnsweredFewest};
+ghost use Rattle.hlc.specs.Certificate.{IsCertificate, certificate_text, IsAnsweredFewest};
+ghost use Rattle.hlc.specs.Store.{Step, Vacuumed, floor, Represents, nodes};
+ghost use Rattle.hlc.specs.Text.{Prints};
 ghost use Rattle.example_embed.specs.Printed.{Certifies};
 
 use crate::stopped::Stopped;

@@ -83,8 +83,7 @@ pub fn retired_nodes_leave_the_greatest_stamp()
         → floor nodes past ≡ greatest_accepted past }
 {}
 
-/// A join without a start is a join at the floor: it is refused in the same cases, and the floor
-/// does not move.
+/// A join without a start is a join at the floor: it is refused in the same cases, and the floor does not move.
 pub fn a_join_is_one_at_the_floor()
     ensures refusal { (nodes : ℕ) (past : List Step)
         → join_at_refusal nodes past (floor nodes past) ≡ join_refusal nodes past }

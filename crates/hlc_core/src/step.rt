@@ -98,8 +98,7 @@ impl Core {
         BoxedReport::blank(self.alloc)
     }
 
-    /// Returns the reply to a vacuum to a stamp. The block of its report is allocated before
-    /// anything changes.
+    /// Returns the reply to a vacuum to a stamp. The block of its report is allocated before anything changes.
     fn vacuum_to_boxed(&mut self, at: Stamp) -> Result<CoreReply, NoMemory>
         ensures represents { (history : List (AnEvent × AReply)) → RepresentsHistory self.old history
             → Steps self.old self.new (CoreEvent.VacuumTo at) history result }

@@ -1,5 +1,4 @@
-//! The small callers in the READMEs of values, clock, node, link, floor, snapshot, witness, lanes, columns, vacuum and
-//! world, each with what it may rely on.
+//! The small callers in the READMEs of the libraries below the store and of `hlc_world`.
 ghost use Rattle.std.specs.Prelude.{ℕ, ◌≡◌, ◌<◌, ◌≤◌, ◌↔◌, ◌+◌, ◌++◌, ◌∷◌, []};
 ghost use Rattle.std.specs.Prelude.{List, None, Some, true};
 ghost use Rattle.std.specs.Prelude.{length, false, IsTrue, IfOk, IfSome, IsErr, OnOk, count_by, nat_le};

@@ -1,6 +1,5 @@
 //! Tests of what is below the store, by public calls: clocks, nodes, links, heads and the floor, snapshots,
-//! certificates, kernels and columns; and the small callers in the READMEs of those libraries and of `hlc_world`. There
-//! is nothing else here.
+//! certificates, kernels and columns; and the small callers in the READMEs of those libraries and of `hlc_world`.
 #![tactic(auto)]
 
 #[cfg(test)]

@@ -44,8 +44,7 @@ pub(crate) fn last_client<'a, L: Ledger, R: Abort>(
     }
 }
 
-/// Passes the seats of a scene to the callers there: the first caller writes, and the second reads. The list of the
-/// others is in reverse order, so the first of them is last.
+/// Passes the seats of a scene to the callers: the first writes, the second reads, the others are in reverse order.
 pub(crate) fn take_seats<'a, L: Ledger, R: Abort>(
     rt: &R,
     alloc: Global,

@@ -7,8 +7,7 @@ use std::process::Abort;
 use std::test::*;
 use test_shared::makers::bytes;
 
-/// Checks that the value is the expected one. It is a function of its own, so that this is proved once, and not
-/// wherever it is used.
+/// Checks that the value is the expected one. A function of its own is proved once.
 pub(crate) fn must_be<T: PartialEq + Debug + Drop, R: Abort>(rt: &R, ended: T, expected: T) {
     assert_eq!(rt; ended, expected);
 }

@@ -60,8 +60,7 @@ fn call_by_three<'a, L: Ledger + Send + Sync, R: Threads + Wait + Abort + Sync>(
     pays(rt, lists, third);
 }
 
-/// The write of x is fed in; then a reader reads its key twice, and between the two reads the store is vacuumed and
-/// accepts the write of y. Both reads answer x.
+/// A reader reads x's key twice; between the reads the store is vacuumed and accepts y. Both reads answer x.
 fn by_three<L: Ledger + Send + Sync, R: Threads + Wait + Abort + Sync>(
     rt: &R,
     alloc: Global,

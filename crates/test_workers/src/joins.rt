@@ -36,8 +36,7 @@ fn vacuum_twice<'a, L: Ledger, R: Wait + Threads + Abort + Sync>(
     client_after(rt, scene, receipts, vacuum.caller, vacuum.receipts)
 }
 
-/// Lets a node join, and feeds its writes of y and z in second 2 and its last item at 3.0, concurrently with two
-/// vacuums.
+/// Lets a node join, and feeds its writes of y and z in second 2 and its last item at 3.0, while two vacuums run.
 fn join_beside_vacuums<'a, L: Ledger + Send + Sync, R: Threads + Wait + Abort + Sync>(
     rt: &R,
     alloc: Global,
@@ -73,8 +72,7 @@ fn has_joined_and_retired<R: Abort>(rt: &R, receipts: &[Receipt]) {
     assert!(rt; retired_at(&receipts[3].reply, at_second(3)));
 }
 
-/// Makes the calls of four callers: the write of x, the reads, and between these those of a node that joins, and the
-/// vacuums.
+/// Makes the calls of four callers: the write of x, the reads, and between these a node that joins, and vacuums.
 fn call_by_four<'a, L: Ledger + Send + Sync, R: Threads + Wait + Abort + Sync>(
     rt: &R,
     alloc: Global,
@@ -102,8 +100,7 @@ fn call_by_four<'a, L: Ledger + Send + Sync, R: Threads + Wait + Abort + Sync>(
     pays(rt, lists, vacuum);
 }
 
-/// Checks what was settled: the calls, the items of each node, and the floor (closed timestamp), which the first node
-/// keeps back.
+/// Checks what was settled: the calls, the items of each node, and the floor, which the first node keeps back.
 fn has_settled<R: Abort>(rt: &R, settled: &Settled) {
     must_be(rt, settled.entries, 11);
     must_be(rt, settled.core.count(0), Ok(1));

@@ -41,8 +41,7 @@ impl<'a> Gate for Meets<'a> {
     }
 }
 
-/// Runs a storm of one node and a reader. The reader's first read waits for the second vacuum, and the first vacuum for
-/// the reader's first read.
+/// Runs a storm whose reader's first read waits for the second vacuum, and the first vacuum for that read.
 fn meeting<R: Threads + Wait + Sync>(rt: &R, alloc: Global) -> Result<StormReport, StormFault> {
     let (reads, vacuums) = (AtomicBool::new(false), AtomicBool::new(false));
     let gates = StormGates {
@@ -152,8 +151,7 @@ fn last_opening<L: Ledger>(lists: &Lists<L>) -> Option<Stamp> {
     last
 }
 
-/// Returns the last opening of the one reader, whose gate waits before its first call until the feeder's gate is asked
-/// for the report of its node: both writes are raised then.
+/// Returns the last opening of the reader, whose gate waits until the feeder reports: both writes are raised then.
 fn opens_last<L: Ledger + Send + Sync, R: Threads + Wait + Abort + Sync>(
     rt: &R,
     alloc: Global,
@@ -194,8 +192,7 @@ fn a_reader_sees_what_was_raised(rt: HostRuntime) {
     assert!(rt; last.is_some_and(|stamp| stamp >= at_second(2)));
 }
 
-/// Checks why a storm of two nodes and a reader has no report, where gates stop feeders, reader and vacuum at these
-/// turns.
+/// Checks why a storm of two nodes and a reader has no report, where gates stop its workers at these turns.
 fn is_stopped<R: Threads + Wait + Abort + Sync>(
     rt: &R,
     alloc: Global,

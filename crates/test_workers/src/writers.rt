@@ -18,8 +18,7 @@ use std::sync::ledger::Ledger;
 use std::test::*;
 use test_shared::makers::{at_second, write};
 
-/// Returns the receiving end of a link that carries these items, at most eight, and after them the end if it is to have
-/// one. If not, the sending end was dropped.
+/// Returns the receiving end of a link that carries these items, at most eight, and then an end or a dropped sender.
 pub fn full_link<R: Wait + Abort>(
     rt: &R,
     alloc: Global,

@@ -1,5 +1,5 @@
 -- The parts of the line are printed one after another.
-use Rattle.hlc_text.proofs.PrintLemmas.{printed_then}
+use Rattle.hlc.proofs.PrintLemmas.{printed_then}
 use Rattle.example_embed.proofs.reads.put_answer.Goals as goal
 
 pub returns : goal.returns

@@ -1,7 +1,7 @@
 -- The two reads and the certificate are printed one after another, and written at the end. Their store represents one
 -- past throughout: a read changes nothing, and the vacuum comes last.
 use Rattle.std.proofs.Common.{rules}
-use Rattle.hlc_text.proofs.PrintLemmas.{printed_then, printed_finished}
+use Rattle.hlc.proofs.PrintLemmas.{printed_then, printed_finished}
 use Rattle.example_embed.proofs.story.run_on.Goals as goal
 
 pub returns : goal.returns

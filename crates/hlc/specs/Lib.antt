@@ -1,0 +1,4 @@
+pub mod Certificate
+pub mod Node
+pub mod Store
+pub mod Text
