@@ -14,6 +14,8 @@ mod items;
 #[cfg(test)]
 mod joins;
 #[cfg(test)]
+mod ranges;
+#[cfg(test)]
 mod vacuums;
 #[cfg(test)]
 mod vacuums_to;
