@@ -3,13 +3,13 @@ ghost use Rattle.std.specs.Prelude.{◌≡◌, ◌<◌, false, true};
 ghost use Rattle.hlc_floor.specs.Views.{posts};
 
 use crate::expected::must_be;
-use crate::makers::at_second;
 use hlc_clock::Stamp;
 use hlc_floor::{Board, Feeder, FloorPass};
 use hlc_heads::{Accepted, Heads};
 use std::alloc::Global;
 use std::process::Abort;
 use std::test::*;
+use test_support::makers::at_second;
 
 /// Checks that a board shows this floor.
 fn shows<R: Abort>(rt: &R, board: &Board, pass: &mut FloorPass, floor: Stamp)

@@ -1,12 +1,12 @@
 //! The calls of a core as events, as a shared store makes them, with memory for each.
 use crate::expected::must_be;
-use crate::makers::{at_second, bytes, write};
 use hlc_core::{
     Core, CoreEvent, CoreReply, Listing, Pair, Points, Report, Row, Witness, Witnesses,
 };
 use std::alloc::Global;
 use std::process::Abort;
 use std::test::*;
+use test_support::makers::{at_second, bytes, write};
 
 /// Returns the reply to an event.
 fn reply<R: Abort>(rt: &R, core: &mut Core, event: CoreEvent) -> CoreReply {

@@ -3,7 +3,6 @@ ghost use Rattle.std.specs.Prelude.{◌≡◌};
 
 use crate::clients::{Client, Paid, lists_of, settled_calls};
 use crate::expected::must_be;
-use crate::makers::write;
 use hlc_core::{CoreEvent, CoreReply};
 use hlc_server::{Caller, Receipt, SettleFault, Shared};
 use std::alloc::Global;
@@ -13,6 +12,7 @@ use std::sync::Wait;
 use std::sync::ledger::{Blank, Ledger};
 use std::test::*;
 use std::thread::Threads;
+use test_support::makers::write;
 
 /// How the receipts of two callers with one call each are changed.
 #[derive(Clone, Copy, PartialEq, Eq, Debug)]

@@ -3,7 +3,6 @@ ghost use Rattle.std.specs.Prelude.{◌≡◌};
 
 use crate::clients::{Client, Paid, lists_of};
 use crate::expected::must_be;
-use crate::makers::write;
 use hlc_core::{CoreEvent, CoreFault, CoreReply, NoNode, Stamp};
 use hlc_server::{Caller, Core, Settled, Shared};
 use std::alloc::Global;
@@ -13,6 +12,7 @@ use std::sync::Wait;
 use std::sync::ledger::{Blank, Ledger};
 use std::test::*;
 use std::thread::Threads;
+use test_support::makers::write;
 
 /// Lets a node join, and checks its number and the stamp at which its clock starts.
 fn joins<L: Ledger, R: Wait + Threads + Abort + Sync>(

@@ -1,6 +1,6 @@
 //! Tests of links, of the board, of a core's calls as events, of vacuums that several threads plan and of the shared
-//! store, by their public calls, with the items that the tests of the workers use too, and the small callers in the
-//! READMEs of `hlc_link`, `hlc_floor`, `hlc_server` and `hlc_workers`. There is nothing else here.
+//! store, by their public calls, and the small callers in the READMEs of `hlc_link`, `hlc_floor`, `hlc_server` and
+//! `hlc_workers`. There is nothing else here.
 #![tactic(auto)]
 
 #[cfg(test)]
@@ -19,7 +19,6 @@ mod forged;
 mod joins;
 #[cfg(test)]
 mod links;
-pub mod makers;
 #[cfg(test)]
 mod stamps;
 #[cfg(test)]

@@ -2,13 +2,13 @@
 ghost use Rattle.std.specs.Prelude.{◌≡◌, true};
 
 use crate::expected::must_be;
-use crate::makers::said;
 use hlc_link::{LinkClosed, LinkReceiver, LinkSender, Parcel, PutFault, link};
 use hlc_node::{Body, Item};
 use std::process::Abort;
 use std::sync::Wait;
 use std::test::*;
 use std::thread;
+use test_support::makers::said;
 
 /// Returns the report of node 0 with this number.
 fn report(number: u8) -> Item {

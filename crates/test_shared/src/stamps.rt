@@ -3,7 +3,6 @@ ghost use Rattle.std.specs.Prelude.{◌≡◌};
 
 use crate::clients::{Client, lists_of, settled_calls};
 use crate::expected::must_be;
-use crate::makers::{at_second, write};
 use crate::threads::shows;
 use hlc_core::{CoreEvent, CoreFault, CoreReply, JoinFault, LinkFault, Stamp};
 use hlc_server::{Caller, SettleFault, Shared};
@@ -14,6 +13,7 @@ use std::sync::Wait;
 use std::sync::ledger::{Blank, Ledger};
 use std::test::*;
 use std::thread::Threads;
+use test_support::makers::{at_second, write};
 
 /// Checks that a call gets this reply.
 fn replies<L: Ledger, R: Wait + Threads + Abort + Sync>(

@@ -3,7 +3,6 @@ ghost use Rattle.std.specs.Prelude.{◌≡◌};
 
 use crate::clients::{Client, lists_of, settled_calls};
 use crate::expected::must_be;
-use crate::makers::{bytes, write};
 use hlc_core::{Bytes, Core, CoreEvent, CoreReply, Stamp};
 use hlc_server::{Caller, Receipt, Shared};
 use std::alloc::Global;
@@ -14,6 +13,7 @@ use std::sync::ledger::{Blank, Ledger};
 use std::test::*;
 use std::thread;
 use std::thread::Threads;
+use test_support::makers::{bytes, write};
 
 /// Lists a snapshot and closes it.
 fn lists_and_closes<L: Ledger, R: Wait + Threads + Abort + Sync>(

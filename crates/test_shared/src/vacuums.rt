@@ -1,10 +1,10 @@
 //! Vacuums of a store by one thread and by several.
-use crate::makers::bytes;
 use hlc_core::{Body, Bytes, Core, Item, Report, Stamp};
 use std::alloc::Global;
 use std::process::Abort;
 use std::test::*;
 use std::thread::Threads;
+use test_support::makers::bytes;
 
 /// Returns the item of a node's own write: the turns below 3,000 write a key each, and those from 3,000 on write these
 /// keys again, with the same value.

@@ -5,7 +5,7 @@ use std::alloc::Global;
 use std::fmt::Debug;
 use std::process::Abort;
 use std::test::*;
-use test_shared::makers::bytes;
+use test_support::makers::bytes;
 
 /// Checks that the value is the expected one. A function of its own is proved once.
 pub(crate) fn must_be<T: PartialEq + Debug + Drop, R: Abort>(rt: &R, ended: T, expected: T) {

@@ -15,7 +15,7 @@ use std::process::Abort;
 use std::sync::Wait;
 use std::sync::ledger::{Blank, Ledger};
 use std::test::*;
-use test_shared::makers::{at_second, said};
+use test_support::makers::{at_second, said};
 
 /// How the feeding of a link went, and the stamp that was raised.
 #[derive(Drop)]

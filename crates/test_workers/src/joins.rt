@@ -19,7 +19,7 @@ use std::sync::ledger::{Blank, Ledger};
 use std::test::*;
 use std::thread;
 use std::thread::Threads;
-use test_shared::makers::at_second;
+use test_support::makers::at_second;
 
 /// Vacuums twice.
 fn vacuum_twice<'a, L: Ledger, R: Wait + Threads + Abort + Sync>(

@@ -9,7 +9,7 @@ use std::process::Abort;
 use std::sync::Wait;
 use std::sync::ledger::Ledger;
 use std::test::*;
-use test_shared::makers::bytes;
+use test_support::makers::bytes;
 
 /// A node that joined: its caller, and its side.
 #[derive(Drop)]

@@ -13,7 +13,7 @@ use std::process::Abort;
 use std::sync::Wait;
 use std::sync::ledger::Ledger;
 use std::test::*;
-use test_shared::makers::bytes;
+use test_support::makers::bytes;
 
 /// A reader of a scene, between two rounds.
 #[derive(Drop)]

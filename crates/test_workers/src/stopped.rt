@@ -12,7 +12,7 @@ use std::sync::ledger::Ledger;
 use std::test::*;
 use std::thread;
 use std::thread::Threads;
-use test_shared::makers::at_second;
+use test_support::makers::at_second;
 
 /// The number of looks after which a wait gives up. Each is one load.
 const LOOKS: u64 = 4_000_000_000;

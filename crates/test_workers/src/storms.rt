@@ -19,7 +19,7 @@ use std::sync::ledger::{Blank, Ledger};
 use std::test::*;
 use std::thread;
 use std::thread::{JoinHandle, Scope, Threads};
-use test_shared::makers::at_second;
+use test_support::makers::at_second;
 
 /// At one turn it sets a flag; at another it waits until another gate has set its own.
 #[derive(Drop)]

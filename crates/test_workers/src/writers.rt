@@ -16,7 +16,7 @@ use std::process::Abort;
 use std::sync::Wait;
 use std::sync::ledger::Ledger;
 use std::test::*;
-use test_shared::makers::{at_second, write};
+use test_support::makers::{at_second, write};
 
 /// Returns the receiving end of a link that carries these items, at most eight, and then an end or a dropped sender.
 pub fn full_link<R: Wait + Abort>(
