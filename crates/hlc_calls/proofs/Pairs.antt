@@ -1,6 +1,6 @@
 -- There is one list of the answers at a stamp, and a snapshot's are those of all accepted writes.
-use Rattle.std.proofs.Common.{◌≡◌, ◌∙◌, ℕ, ◌<◌, ◌≤◌, List, [], ◌∷◌, ◌++◌, map, refl, sym, ap, subst, Contains}
-use Rattle.std.proofs.Common.{arith, length, drop, Option, Some}
+use Rattle.std.proofs.Common.{◌≡◌, ◌∙◌, ℕ, ◌<◌, ◌≤◌, List, [], ◌∷◌, ◌++◌, map, refl, sym, ap, subst}
+use Rattle.std.proofs.Common.{arith, length, drop, Contains, Option, Some}
 use Rattle.std.specs.Cmp.Lexicographic.{slice_cmp}
 use Rattle.std.specs.Ordering.{nat_cmp}
 use Rattle.std.specs.List.Sorted.{IsStrictlySortedBy}
@@ -83,5 +83,6 @@ put_whole pairs others total old new same is low fits put =
 
 -- they do not fit
 pub put_none : (pairs : List (List ℕ × List ℕ)) (total : ℕ) (old : List ℕ)
-    → total ≡ narrowed (length (listing_bytes pairs)) → length old < length (listing_bytes pairs) → ReturnsPairs pairs total old old
+    → total ≡ narrowed (length (listing_bytes pairs)) → length old < length (listing_bytes pairs)
+    → ReturnsPairs pairs total old old
 put_none pairs total old is short = (is, (λ fits. absurd (omega (arith, fits, short)), λ _. refl))
