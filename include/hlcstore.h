@@ -7,8 +7,8 @@
  *
  * Answers. A call returns HLC_OK, the number of the first expected refusal, or HLC_CLOSED for a closed store. Every
  * call is total: it checks lengths and numbers itself, and is proved to answer as described here, whatever is passed to
- * it. After any answer but HLC_OK the store, and the node, is unchanged; hlc_accept_all, hlc_vacuum_certified and
- * hlc_vacuum_to_certified describe exceptions.
+ * it. After any answer but HLC_OK the store, and the node, is unchanged; hlc_accept_all, hlc_items_accept,
+ * hlc_node_restore, hlc_vacuum_certified and hlc_vacuum_to_certified describe exceptions.
  * Every answer writes to every pointer, with 0 where there is nothing to return. A buffer that an answer does not fill
  * keeps its bytes.
  *
@@ -27,6 +27,46 @@
  *
  * Costs. Where a call says "no memory" it makes no allocation, and cannot return HLC_NO_MEMORY. docs/performance.md has
  * measurements.
+ *
+ * All calls. Each call on a store also returns HLC_CLOSED, except hlc_open, hlc_restore and hlc_close. The last column
+ * says what may run beside a call: calls on other stores, calls on other nodes, or all.
+ *
+ *   call                                refusals, in this order           memory  beside
+ *   hlc_open                            1 15 101                          yes     other stores
+ *   hlc_close                                                                     other stores
+ *   hlc_accept_write, _delete           1 27 6 14 7 12 13 15              yes     other stores
+ *   hlc_accept_report, _retire          1 27 6 14 7                               other stores
+ *   hlc_accept_all                      103, those of hlc_accept_write    yes     other stores
+ *   hlc_check_write, _delete, _report   those of hlc_accept but 15                other stores
+ *   hlc_join                            26 15                             yes     other stores
+ *   hlc_join_at                         26 9 15                           yes     other stores
+ *   hlc_open_snapshot                   8 9 11 14 15                      yes     other stores
+ *   hlc_open_snapshot_at_floor          11 14 15                          yes     other stores
+ *   hlc_close_snapshot, hlc_close_all   10; none                                  other stores
+ *   hlc_read                            10 102                                    other stores
+ *   hlc_read_all                        10 103 104                                other stores
+ *   hlc_list                            10                                        other stores
+ *   hlc_scan                            10 104                                    other stores
+ *   hlc_scan_keys                       10 104                                    other stores
+ *   hlc_count, hlc_digest               10                                        other stores
+ *   hlc_floor, _rows, _horizon, _nodes  none                                      other stores
+ *   hlc_link, hlc_floor_node            1                                         other stores
+ *   hlc_snapshot                        10                                        other stores
+ *   hlc_vacuum, hlc_vacuum_certified    15                                yes     other stores
+ *   hlc_vacuum_to, _to_certified        8 9 15                            yes     other stores
+ *   hlc_check_vacuum                    8 9                                       other stores
+ *   hlc_item_write, _delete             12 13 15                          yes     all
+ *   hlc_item_report, _retire            15                                yes     all
+ *   hlc_items_accept                    106 1 27 6 14 7 15                yes     other stores
+ *   hlc_checkpoint                      15                                yes     other stores
+ *   hlc_restore                         101 106 107 15                    yes     other stores
+ *   hlc_node_open, _raise                                                         other nodes
+ *   hlc_node_restore                    105                                       other nodes
+ *   hlc_node_write, _delete             27 12 13 14 2 3                           other nodes
+ *   hlc_node_report, _retire            27 14 2 3                                 other nodes
+ *   hlc_node_send, _receive             27 2 3                                    other nodes
+ *   hlc_check                           20 16 15 22                       yes     all
+ *   hlc_version, hlc_error_name, _text                                            all
  */
 #ifndef HLCSTORE_H
 #define HLCSTORE_H
@@ -71,13 +111,35 @@ enum {
     HLC_VALUE_TOO_LONG = 13,    /* the value has more than 65,535 bytes */
     HLC_NUMBERS_SPENT = 14,     /* no link number, or id of a snapshot, is left */
     HLC_NO_MEMORY = 15,         /* out of memory, and no other refusal is expected */
+    HLC_BAD_LINE = 16,          /* of hlc_check; word: the number of the first bad line */
+    HLC_TOO_LONG = 20,          /* of hlc_check: the text has more than 16,777,216 bytes */
+    HLC_NOT_SHOWN = 22,         /* of hlc_check; word: the number of the first reason of docs/formats.md, 1 to 8 */
     HLC_TOO_MANY_NODES = 26,    /* 1,024 node numbers are assigned */
     HLC_RETIRED = 27,           /* the node retired */
     HLC_CLOSED = 100,           /* the store is closed */
     HLC_IS_OPEN = 101,          /* of hlc_open: the store is open, and is unchanged */
     HLC_NO_VALUE = 102,         /* of hlc_read: the key has no value in the snapshot */
-    HLC_OUTSIDE = 103           /* of hlc_accept_all: an entry's key or value lies outside the bytes */
+    HLC_OUTSIDE = 103,          /* of hlc_accept_all, hlc_read_all: a key or a value lies outside the bytes */
+    HLC_MORE = 104,             /* of hlc_scan, hlc_scan_keys, hlc_read_all: a part is left, which did not fit */
+    HLC_NO_SUCH_NODE = 105,     /* of hlc_node_restore: no node has issued so many items up to this stamp */
+    HLC_BAD_BYTES = 106,        /* of hlc_restore, hlc_items_accept; word: the number of the first fault, 1 to 7 */
+    HLC_NO_CHECKPOINT = 107     /* of hlc_restore; word: the number of the first reason of docs/formats.md, 1 to 9 */
 };
+
+/* ---- The library ---- */
+
+#define HLC_VERSION "0.1.0"
+#define HLC_VERSION_NUMBER 100
+
+/* Returns the version of the library: 10,000 times its first number, 100 times the second, and the third. It is
+ * HLC_VERSION_NUMBER if the library is that of this header. */
+uint32_t hlc_version(void);
+
+/* Writes the name of an answer, as above, or what it says, in English. len: how many bytes that has, without a 0 after
+ * them, also where it is greater than out_len: then out keeps its bytes. It is 0 for a number that is no answer. No
+ * memory. */
+void hlc_error_name(uint32_t answer, uint8_t *out, size_t out_len, size_t *len);
+void hlc_error_text(uint32_t answer, uint8_t *out, size_t out_len, size_t *len);
 
 /* ---- The store ---- */
 
@@ -143,16 +205,56 @@ uint32_t hlc_open_snapshot_at_floor(hlc_store *store, uint64_t *id, uint64_t *st
 /* Closes a snapshot. stamp: the stamp at which it was opened. Refusal: 10. No memory. */
 uint32_t hlc_close_snapshot(hlc_store *store, uint64_t id, uint64_t *stamp);
 
+/* Closes all open snapshots. Their ids are not used again. No memory. */
+uint32_t hlc_close_all(hlc_store *store);
+
 /* Reads a key in a snapshot. len: the length of the value, also where it is greater than out_len: then out keeps its
  * bytes, and a call with a larger buffer reads the value. Refusals: 10, 102. No memory. Looks the key up and searches
  * its rows. */
 uint32_t hlc_read(hlc_store *store, uint64_t id, const uint8_t *key, size_t key_len,
                   uint8_t *out, size_t out_len, size_t *len);
 
+/* The place of a key: this many bytes from `at` on. */
+typedef struct {
+    size_t at;
+    size_t len;
+} hlc_place;
+
+/* Reads keys in a snapshot in turn, each at a place among the bytes. An answer is a byte 0 where the key has no
+ * value, or 1, the value's length in eight bytes, the low one first, and the value. len: how many bytes were
+ * written; many: how many keys were answered. Returns HLC_OK where these are all; or HLC_MORE where the next answer
+ * does not fit, or HLC_OUTSIDE where the bytes do not contain the next key: a call with the places from there on
+ * continues. Refusal: 10. No memory. For callers for which a call is expensive. */
+uint32_t hlc_read_all(hlc_store *store, uint64_t id, const hlc_place *places, size_t places_len, const uint8_t *bytes,
+                      size_t bytes_len, uint8_t *out, size_t out_len, size_t *len, size_t *many);
+
 /* Lists all keys with a value in a snapshot, in byte order: for each the key's length, the key, the value's length, and
  * the value. A length has eight bytes, the low one first. len: how many bytes that takes, as in hlc_read, or 2^64 - 1
  * where it would be greater. Refusal: 10. No memory. */
 uint32_t hlc_list(hlc_store *store, uint64_t id, uint8_t *out, size_t out_len, size_t *len);
+
+/* Lists a part of what hlc_list lists: the keys from `from` on and below `to`, or all keys from `from` on if `to`
+ * has no bytes; of these, as many whole pairs as out has room for. len: how many bytes were written; many: how many
+ * pairs. Returns HLC_OK where these are all pairs of the range, or HLC_MORE where a pair is left. The next call goes
+ * on from the last key with a byte 0 after it. A pair has at most 65,806 bytes, so a buffer of that size always gets
+ * one. Refusal: 10. No memory. Looks up the first key, and each key that is returned costs a look at its rows. */
+uint32_t hlc_scan(hlc_store *store, uint64_t id, const uint8_t *from, size_t from_len, const uint8_t *to, size_t to_len,
+                  uint8_t *out, size_t out_len, size_t *len, size_t *many);
+
+/* Lists such a range as hlc_scan does, but the keys alone: for each its length, and the key. So a key has at most 263
+ * bytes. Refusal: 10. No memory. */
+uint32_t hlc_scan_keys(hlc_store *store, uint64_t id, const uint8_t *from, size_t from_len, const uint8_t *to,
+                       size_t to_len, uint8_t *out, size_t out_len, size_t *len, size_t *many);
+
+/* Counts the keys of such a range that have a value in a snapshot. many: how many, or 2^64 - 1 where there are more.
+ * Refusal: 10. No memory. */
+uint32_t hlc_count(hlc_store *store, uint64_t id, const uint8_t *from, size_t from_len,
+                   const uint8_t *to, size_t to_len, uint64_t *many);
+
+/* Digests such a range of a snapshot, so that replicas compare without listing. len: 32; out: the SHA-256 of the bytes
+ * that hlc_list would write for these keys, where it has room. Refusal: 10. No memory. */
+uint32_t hlc_digest(hlc_store *store, uint64_t id, const uint8_t *from, size_t from_len,
+                    const uint8_t *to, size_t to_len, uint8_t *out, size_t out_len, size_t *len);
 
 /* Returns the floor: every item that is accepted later has a greater stamp. No memory. */
 uint32_t hlc_floor(hlc_store *store, uint64_t *stamp);
@@ -169,7 +271,8 @@ uint32_t hlc_vacuum(hlc_store *store, uint64_t *floor, uint64_t *kept, uint64_t 
 /* Does the same, with the certificate of the rows that are left up to the floor, which `hlcstore check` reads. len: how
  * many bytes it has, as in hlc_read; a further call makes a further vacuum, which finds nothing to drop, and returns
  * its certificate. Refusal: 15, where the vacuum may have taken place. */
-uint32_t hlc_vacuum_certified(hlc_store *store, uint8_t *out, size_t out_len, size_t *len);
+uint32_t hlc_vacuum_certified(hlc_store *store, uint64_t *floor, uint64_t *kept, uint64_t *bytes, uint64_t *dropped,
+                              uint8_t *out, size_t out_len, size_t *len);
 
 /* Drops all rows at or below a stamp except the fewest, and the cheapest, that give the same answers as all accepted
  * writes at each snapshot that is open at or below the stamp, and at the stamp. All rows above it stay. No snapshot
@@ -181,18 +284,81 @@ uint32_t hlc_vacuum_to(hlc_store *store, uint64_t stamp, uint64_t *word, uint64_
 
 /* Does the same, with the certificate of the rows that are left up to the stamp. len: as in hlc_vacuum_certified; a
  * further call with the same stamp makes a further vacuum, which finds nothing to drop, and returns its certificate.
- * word: 0, or the refusal's word. Refusals: 8, 9, 15. With 15 the vacuum may have taken place. */
-uint32_t hlc_vacuum_to_certified(hlc_store *store, uint64_t stamp, uint8_t *out, size_t out_len, size_t *len,
-                                 uint64_t *word);
+ * Refusals: 8, 9, 15. With 15 the vacuum may have taken place. */
+uint32_t hlc_vacuum_to_certified(hlc_store *store, uint64_t stamp, uint64_t *word, uint64_t *kept, uint64_t *bytes,
+                                 uint64_t *dropped, uint8_t *out, size_t out_len, size_t *len);
 
 /* Returns what hlc_vacuum_to would return for this stamp, except 15. word: 0, or the refusal's word. No memory. */
 uint32_t hlc_check_vacuum(hlc_store *store, uint64_t stamp, uint64_t *word);
+
+/* Checks the text of a certificate, whoever made it: no row set that gives the same answers at its points has fewer
+ * rows, or costs fewer bytes. rows, bytes: how many rows, and what they cost. word: 0, or the refusal's word.
+ * Refusals: 20, 16, 15, 22. */
+uint32_t hlc_check(const uint8_t *text, size_t text_len, uint64_t *rows, uint64_t *bytes, uint64_t *word);
+
+/* ---- Restart and replicas ---- */
+
+/* Writes an item that a node issued as bytes, for a log. len: how many bytes it has, as in hlc_read; an item has at
+ * most 65,814 bytes. docs/formats.md describes them. Refusals: 12, 13, 15. Takes memory for a copy. */
+uint32_t hlc_item_write(uint16_t node, uint64_t number, uint64_t stamp, const uint8_t *key, size_t key_len,
+                        const uint8_t *value, size_t value_len, uint8_t *out, size_t out_len, size_t *len);
+uint32_t hlc_item_delete(uint16_t node, uint64_t number, uint64_t stamp, const uint8_t *key, size_t key_len,
+                         uint8_t *out, size_t out_len, size_t *len);
+uint32_t hlc_item_report(uint16_t node, uint64_t number, uint64_t stamp, uint8_t *out, size_t out_len, size_t *len);
+uint32_t hlc_item_retire(uint16_t node, uint64_t number, uint64_t stamp, uint8_t *out, size_t out_len, size_t *len);
+
+/* Accepts the items of a log, one after another as such bytes, until one is refused. Items whose numbers were
+ * accepted before are passed over, so that a log can be read again from any place. many: how many items were
+ * accepted or passed over, also at a refusal; used: how many bytes these have: the next call goes on from there.
+ * Bytes that end within an item are refused with 106 and word 1. word: 0, or the refusal's word. Refusals, of each
+ * item in this order: 106, 1, 27, 6, 14, 7, 15. Only a write can get 15: in place of another refusal, where there is no
+ * memory for a copy of its key and its value. */
+uint32_t hlc_items_accept(hlc_store *store, const uint8_t *bytes, size_t bytes_len, size_t *used, size_t *many,
+                          uint64_t *word);
+
+/* Saves the whole state of a store, with a word of the caller's: for example the place in a log up to which the store
+ * applied it. len: how many bytes that takes, as in hlc_read; a call with a larger buffer saves again. docs/formats.md
+ * describes the bytes, which end with a digest. Refusal: 15. Copies each row, and takes memory for twice that. */
+uint32_t hlc_checkpoint(hlc_store *store, uint64_t word, uint8_t *out, size_t out_len, size_t *len);
+
+/* Opens a closed store from the bytes of hlc_checkpoint, whoever wrote them. It continues as the saved store would
+ * have: the same next items, open snapshots, horizon and answers. word: the word that was saved, or the refusal's.
+ * Refusals: 101, 106, 107, 15. Bytes that hlc_checkpoint returned are refused with 101 and 15 alone. */
+uint32_t hlc_restore(hlc_store *store, const uint8_t *bytes, size_t bytes_len, uint64_t *word);
+
+/* ---- What a store has ---- No memory in any call. */
+
+/* Returns the horizon (GC threshold): the stamp of the last vacuum, or 0 before the first. In constant time. */
+uint32_t hlc_horizon(hlc_store *store, uint64_t *stamp);
+
+/* Returns how many node numbers are assigned, those of retired nodes too. In constant time. */
+uint32_t hlc_nodes(hlc_store *store, uint64_t *many);
+
+/* Returns what was accepted from a node. next: the number of its next item; head: the stamp of its last accepted
+ * item, or of its start; retired: whether its retirement was accepted. Refusal: 1. In constant time. */
+uint32_t hlc_link(hlc_store *store, uint16_t node, uint64_t *next, uint64_t *head, bool *retired);
+
+/* Returns the first node that holds the floor back: it has not retired, and its head is the floor. Refusal: 1, where
+ * all nodes have retired. Looks at each node up to that one. */
+uint32_t hlc_floor_node(hlc_store *store, uint64_t *node);
+
+/* Returns the open snapshot at a place, from 0 on, by rising ids. Refusal: 10 after the last. In constant time. */
+uint32_t hlc_snapshot(hlc_store *store, uint64_t place, uint64_t *id, uint64_t *stamp);
 
 /* ---- A node ---- No memory in any call. */
 
 /* Returns a node of this number whose clock starts at a stamp: 0 for a node that is there when the store is opened,
  * otherwise the start that hlc_join or hlc_join_at returned. */
 hlc_node hlc_node_open(uint16_t id, uint64_t start);
+
+/* Writes a node as it was before a restart, from its number, the stamp of its last event and the number of its next
+ * item. Returns HLC_OK; or HLC_NO_SUCH_NODE where next is above last, which no node reaches, and writes what
+ * hlc_node_open(id, last) returns. A node that retired has no further event, so it is not restored. */
+uint32_t hlc_node_restore(uint16_t id, uint64_t last, uint64_t next, hlc_node *node);
+
+/* Raises the node's clock to a stamp, without an event: the node's next stamps are above it. So the nodes of one
+ * machine can share one clock. A stamp at or below the node's last one changes nothing. */
+void hlc_node_raise(hlc_node *node, uint64_t stamp);
 
 /* Issues an item at this reading of a physical clock. number, word: the number and the stamp of the item, with which
  * the store accepts the same key and value; or 0 and the refusal's word. Refusals, in this order: 27, 12, 13, 14, 2, 3.

@@ -59,8 +59,9 @@ static void feed(hlc_store *store)
  * "witness a none 1.0". */
 static void read_back(hlc_store *store)
 {
-    uint64_t id, word;
-    size_t len;
+    hlc_store copy = HLC_CLOSED_STORE;
+    uint64_t id, word, kept, cost, dropped;
+    size_t len, many;
     uint32_t code = hlc_open_snapshot_at_floor(store, &id, &word);
     expect("snapshot", code, word, HLC_OK, AT(1));
     code = hlc_read(store, 1, BYTES("a"), NONE, &len);
@@ -69,10 +70,10 @@ static void read_back(hlc_store *store)
     expect("read, no key", code, len, HLC_NO_VALUE, 0);
     code = hlc_list(store, 1, NONE, &len);
     expect("list", code, len, HLC_OK, 17);
-    code = hlc_vacuum_certified(store, NONE, &len);
-    expect("certificate", code, len, HLC_OK, 49);
-    code = hlc_vacuum_to_certified(store, AT(1), NONE, &len, &word);
-    expect("certificate to a stamp", code, len + word, HLC_OK, 49);
+    code = hlc_vacuum_certified(store, &word, &kept, &cost, &dropped, NONE, &len);
+    expect("certificate", code, len + kept + dropped, HLC_OK, 50);
+    code = hlc_vacuum_to_certified(store, AT(1), &word, &kept, &cost, &dropped, NONE, &len);
+    expect("certificate to a stamp", code, len + kept + dropped, HLC_OK, 50);
     code = hlc_accept_write(store, 0, 1, AT(2), BYTES("b"), BYTES("red"), &word);
     expect("accept", code, word, HLC_OK, AT(2));
     code = hlc_open_snapshot_at_floor(store, &id, &word);
@@ -81,6 +82,20 @@ static void read_back(hlc_store *store)
     expect("read, no room", code, len, HLC_OK, 3);
     code = hlc_list(store, 2, NONE, &len);
     expect("list, no room", code, len, HLC_OK, 37);
+    code = hlc_scan(store, 2, NONE, NONE, NONE, &len, &many);
+    expect("scan, no room", code, len + many, HLC_MORE, 0);
+    code = hlc_scan_keys(store, 2, NONE, NONE, NONE, &len, &many);
+    expect("keys, no room", code, len + many, HLC_MORE, 0);
+    code = hlc_read_all(store, 2, NONE, NONE, NONE, &len, &many);
+    expect("read all, no keys", code, len + many, HLC_OK, 0);
+    code = hlc_items_accept(store, NONE, &len, &many, &word);
+    expect("items, no bytes", code, len + many + word, HLC_OK, 0);
+    code = hlc_count(store, 2, NONE, NONE, &word);
+    expect("count", code, word, HLC_OK, 2);
+    code = hlc_checkpoint(store, 0, NONE, &len);
+    expect("checkpoint, no room", code, len, HLC_OK, 164);
+    code = hlc_restore(&copy, NONE, &word);
+    expect("restore, no bytes", code, word, HLC_BAD_BYTES, 1);
 }
 
 int main(void)

@@ -6,7 +6,7 @@
 
 #define BYTES(s) (const uint8_t *)(s), sizeof(s) - 1
 #define AT(l) ((uint64_t)(l) << 16)
-#define STEPS 15
+#define STEPS 17
 
 static long left = -1;
 static int wrong;
@@ -31,9 +31,21 @@ void *__wrap_realloc(void *at, size_t size)
     return refuse() ? NULL : __real_realloc(at, size);
 }
 
+/* Makes another store of the bytes, and closes it. */
+static uint32_t restore(const uint8_t *bytes, size_t len)
+{
+    hlc_store copy = HLC_CLOSED_STORE;
+    uint64_t word;
+    uint32_t code = hlc_restore(&copy, bytes, len, &word);
+    if (code == HLC_OK && word != 7) wrong++;
+    hlc_close(&copy);
+    return code;
+}
+
 static uint32_t call(int step, hlc_store *store)
 {
-    static uint8_t out[1024];
+    static uint8_t out[1024], saved[1024];
+    static size_t saved_len;
     uint64_t v, w, x, y;
     uint16_t node;
     size_t len;
@@ -50,9 +62,11 @@ static uint32_t call(int step, hlc_store *store)
     case 9: return hlc_join(store, &node, &w);
     case 10: return hlc_join_at(store, AT(30), &node, &w);
     case 11: return hlc_vacuum_to(store, AT(12), &v, &w, &x, &y);
-    case 12: return hlc_vacuum_to_certified(store, AT(12), out, sizeof out, &len, &w);
+    case 12: return hlc_vacuum_to_certified(store, AT(12), &v, &w, &x, &y, out, sizeof out, &len);
     case 13: return hlc_vacuum(store, &v, &w, &x, &y);
-    default: return hlc_vacuum_certified(store, out, sizeof out, &len);
+    case 14: return hlc_vacuum_certified(store, &v, &w, &x, &y, out, sizeof out, &len);
+    case 15: return hlc_checkpoint(store, 7, saved, sizeof saved, &saved_len);
+    default: return restore(saved, saved_len);
     }
 }
 

@@ -76,10 +76,11 @@ static void join_and_vacuum(hlc_store *store, uint64_t floor)
  * returns their length. */
 static size_t answers(hlc_store *store, uint8_t *out, size_t room)
 {
-    uint64_t id, word;
+    uint64_t id, word, kept, cost, dropped;
     size_t len, all;
-    uint32_t code = hlc_vacuum_to_certified(store, THRESHOLD, out, room, &len, &word);
-    expect("certificate", code, word, HLC_OK, 0);
+    uint32_t code = hlc_vacuum_to_certified(store, THRESHOLD, &word, &kept, &cost, &dropped, out, room, &len);
+    expect("certificate", code, word, HLC_OK, THRESHOLD);
+    expect("dropped again", code, dropped, HLC_OK, 0);
     all = len;
     for (uint64_t at = 20; at < 22; at++) {
         code = hlc_open_snapshot(store, AT(at), &id);

@@ -21,7 +21,7 @@ static void print_answer(const char *what, uint32_t code, uint64_t value)
     printf("%s %" PRIu32 " %" PRIu64 "\n", what, code, value);
 }
 
-static void told_two(const char *what, uint32_t code, uint64_t first, uint64_t second)
+static void print_two(const char *what, uint32_t code, uint64_t first, uint64_t second)
 {
     printf("%s %" PRIu32 " %" PRIu64 " %" PRIu64 "\n", what, code, first, second);
 }
@@ -38,7 +38,7 @@ static void write_item(hlc_node *node, uint64_t reading, const uint8_t *key, siz
                        const uint8_t *value, size_t value_len)
 {
     uint32_t code = hlc_node_write(node, reading, key, key_len, value, value_len, &number, &word);
-    told_two("write", code, number, word);
+    print_two("write", code, number, word);
     if (code != HLC_OK) return;
     code = hlc_accept_write(&store, node->id, number, word, key, key_len, value, value_len, &word);
     print_answer("accept", code, word);
@@ -47,7 +47,7 @@ static void write_item(hlc_node *node, uint64_t reading, const uint8_t *key, siz
 static void report(hlc_node *node, uint64_t reading)
 {
     uint32_t code = hlc_node_report(node, reading, &number, &word);
-    told_two("report", code, number, word);
+    print_two("report", code, number, word);
     code = hlc_accept_report(&store, node->id, number, word, &word);
     print_answer("accept", code, word);
 }
@@ -68,6 +68,195 @@ static void list(uint64_t id)
     bytes("list", code, out, len);
 }
 
+static void print_part(uint32_t code, const uint8_t *out, size_t len, size_t many)
+{
+    printf("scan %" PRIu32 " %zu %zu ", code, len, many);
+    for (size_t i = 0; i < len; i++) printf("%02x", out[i]);
+    printf("\n");
+}
+
+/* Prints the pairs of a range, as many as fit in so many bytes. */
+static void scan(uint64_t id, const uint8_t *from, size_t from_len, const uint8_t *to, size_t to_len, size_t room)
+{
+    uint8_t out[64];
+    size_t len, many;
+    uint32_t code = hlc_scan(&store, id, from, from_len, to, to_len, out, room, &len, &many);
+    print_part(code, out, len, many);
+}
+
+/* Prints the keys of a snapshot, as many as fit in so many bytes. */
+static void scan_keys(uint64_t id, size_t room)
+{
+    uint8_t out[64];
+    size_t len, many;
+    uint32_t code = hlc_scan_keys(&store, id, BYTES(""), BYTES(""), out, room, &len, &many);
+    print_part(code, out, len, many);
+}
+
+static void digest(uint64_t id, const uint8_t *from, size_t from_len)
+{
+    uint8_t out[32];
+    size_t len;
+    uint32_t code = hlc_digest(&store, id, from, from_len, BYTES(""), out, sizeof out, &len);
+    bytes("digest", code, out, len);
+}
+
+static void check(const uint8_t *text, size_t text_len)
+{
+    uint64_t rows, cost;
+    uint32_t code = hlc_check(text, text_len, &rows, &cost, &word);
+    printf("checked %" PRIu32 " %" PRIu64 " %" PRIu64 " %" PRIu64 "\n", code, rows, cost, word);
+}
+
+static void link_of(uint16_t node)
+{
+    uint64_t next, head;
+    bool retired;
+    uint32_t code = hlc_link(&store, node, &next, &head, &retired);
+    printf("link %" PRIu32 " %" PRIu64 " %" PRIu64 " %d\n", code, next, head, retired);
+}
+
+static void snapshot_at(uint64_t place)
+{
+    uint64_t id, stamp;
+    uint32_t code = hlc_snapshot(&store, place, &id, &stamp);
+    print_two("opened", code, id, stamp);
+}
+
+/* Reads some of three keys, of which the bytes do not contain the last. */
+static void read_all(uint64_t id, size_t many_keys, size_t room)
+{
+    static const hlc_place places[3] = { { 0, 4 }, { 4, 4 }, { 8, 1 } };
+    uint8_t out[64];
+    size_t len, many;
+    uint32_t code = hlc_read_all(&store, id, places, many_keys, BYTES("citytown"), out, room, &len, &many);
+    printf("read all %" PRIu32 " %zu %zu ", code, len, many);
+    for (size_t i = 0; i < len; i++) printf("%02x", out[i]);
+    printf("\n");
+}
+
+/* Prints an answer's name, and what it says. */
+static void say(uint32_t answer)
+{
+    uint8_t name[64], text[128];
+    size_t name_len, text_len;
+    hlc_error_name(answer, name, sizeof name, &name_len);
+    hlc_error_text(answer, text, sizeof text, &text_len);
+    printf("answer %" PRIu32 " %.*s: %.*s\n", answer, (int)name_len, name, (int)text_len, text);
+}
+
+/* Lists parts of snapshots, and asks what the store has. */
+static void look_round(void)
+{
+    uint64_t many;
+    uint32_t code;
+    scan(2, BYTES(""), BYTES(""), 64);
+    scan(1, BYTES("a"), BYTES("d"), 64);
+    scan(1, BYTES("a"), BYTES(""), 24);
+    scan(1, BYTES("d"), BYTES(""), 64);
+    scan(3, BYTES(""), BYTES(""), 64);
+    scan_keys(1, 12);
+    scan_keys(1, 11);
+    scan_keys(3, 64);
+    digest(1, BYTES(""));
+    digest(1, BYTES("d"));
+    digest(3, BYTES(""));
+    read_all(1, 2, 64);
+    read_all(1, 2, 14);
+    read_all(1, 3, 64);
+    read_all(3, 3, 64);
+    code = hlc_count(&store, 1, BYTES("a"), BYTES("d"), &many);
+    print_answer("count", code, many);
+    code = hlc_count(&store, 3, BYTES("a"), BYTES("d"), &many);
+    print_answer("count", code, many);
+    code = hlc_horizon(&store, &word);
+    print_answer("horizon", code, word);
+    code = hlc_nodes(&store, &many);
+    print_answer("nodes", code, many);
+    for (uint16_t node = 0; node < 3; node++) link_of(node);
+    code = hlc_floor_node(&store, &many);
+    print_answer("floor node", code, many);
+    for (uint64_t place = 0; place < 3; place++) snapshot_at(place);
+}
+
+/* Saves the store, makes another one of the bytes, and reads it. Bytes that were cut or changed are refused. */
+static void save(void)
+{
+    hlc_store copy = HLC_CLOSED_STORE;
+    uint8_t saved[256], out[16];
+    uint64_t rows;
+    size_t len, value_len;
+    uint32_t code = hlc_checkpoint(&store, 77, saved, 200, &len);
+    print_answer("checkpoint", code, len);
+    code = hlc_checkpoint(&store, 77, saved, sizeof saved, &len);
+    print_answer("checkpoint", code, len);
+    code = hlc_restore(&copy, saved, len - 1, &word);
+    print_answer("restore", code, word);
+    saved[0] ^= 1;
+    code = hlc_restore(&copy, saved, len, &word);
+    print_answer("restore", code, word);
+    saved[0] ^= 1;
+    for (int i = 0; i < 2; i++) {
+        code = hlc_restore(&copy, saved, len, &word);
+        print_answer("restore", code, word);
+    }
+    code = hlc_rows(&copy, &rows);
+    print_answer("rows", code, rows);
+    code = hlc_read(&copy, 1, BYTES("city"), out, sizeof out, &value_len);
+    bytes("read", code, out, value_len);
+    hlc_close(&copy);
+}
+
+static void items(hlc_store *replica, const uint8_t *log, size_t log_len)
+{
+    size_t used, many;
+    uint32_t code = hlc_items_accept(replica, log, log_len, &used, &many, &word);
+    printf("items %" PRIu32 " %zu %zu %" PRIu64 "\n", code, used, many, word);
+}
+
+/* Writes three items to a log, and lets another store take them from there, some of them again. */
+static void replicate(void)
+{
+    hlc_store replica = HLC_CLOSED_STORE;
+    uint8_t log[128];
+    uint64_t rows;
+    size_t len, end = 0;
+    uint32_t code = hlc_item_write(0, 0, AT(10), BYTES("city"), BYTES("Lyon"), log, sizeof log, &len);
+    print_answer("item", code, len);
+    end += len;
+    code = hlc_item_report(0, 1, AT(11), log + end, sizeof log - end, &len);
+    print_answer("item", code, len);
+    end += len;
+    code = hlc_item_retire(0, 2, AT(12), log + end, sizeof log - end, &len);
+    print_answer("item", code, len);
+    end += len;
+    code = hlc_item_delete(0, 3, AT(13), BYTES(""), log + end, sizeof log - end, &len);
+    print_answer("item", code, len);
+    line("open", hlc_open(&replica, 1));
+    items(&replica, log, 32);
+    items(&replica, log + 52, 20);
+    items(&replica, log, 40);
+    items(&replica, log, end);
+    code = hlc_rows(&replica, &rows);
+    print_answer("rows", code, rows);
+    hlc_close(&replica);
+    items(&replica, log, end);
+}
+
+/* Makes a node as it was before a restart, and raises its clock. */
+static void restart(void)
+{
+    hlc_node node;
+    uint32_t code = hlc_node_restore(7, 2, 3, &node);
+    print_two("restore", code, node.next, node.last);
+    code = hlc_node_restore(7, AT(10), 3, &node);
+    print_two("restore", code, node.next, node.last);
+    hlc_node_raise(&node, AT(12) + 5);
+    hlc_node_raise(&node, AT(11));
+    code = hlc_node_report(&node, 1, &number, &word);
+    print_two("report", code, number, word);
+}
+
 /* Lets a node issue a write and a deletion, and passes them to the store in one call, with an entry whose key is not
  * there. */
 static void accept_three(hlc_node *node)
@@ -75,18 +264,18 @@ static void accept_three(hlc_node *node)
     hlc_entry entries[3] = { { 0 } };
     size_t many;
     uint32_t code = hlc_node_write(node, 40, BYTES("lake"), BYTES("Como"), &number, &word);
-    told_two("write", code, number, word);
+    print_two("write", code, number, word);
     entries[0] = (hlc_entry){ .node = node->id, .number = number, .stamp = word, .key_len = 4, .value_at = 4,
                               .value_len = 4 };
     code = hlc_node_delete(node, 41, BYTES("town"), &number, &word);
-    told_two("delete", code, number, word);
+    print_two("delete", code, number, word);
     entries[1] = (hlc_entry){ .node = node->id, .deletes = true, .number = number, .stamp = word, .key_at = 8,
                               .key_len = 4 };
     entries[2] = (hlc_entry){ .node = node->id, .key_at = 12, .key_len = 1 };
     code = hlc_accept_all(&store, entries, 3, BYTES("lakeComotown"), &many, &word);
-    told_two("all", code, many, word);
+    print_two("all", code, many, word);
     code = hlc_accept_all(&store, entries + 1, 1, BYTES("lakeComotown"), &many, &word);
-    told_two("all", code, many, word);
+    print_two("all", code, many, word);
 }
 
 /* Lets a node join at a start that the caller names, and vacuums to a stamp below the floor (closed timestamp), which
@@ -101,21 +290,23 @@ static void keep_above(hlc_node *node)
     write_item(node, 39, BYTES("city"), BYTES("Bern"));
     report(node, 45);
     code = hlc_join_at(&store, AT(40), &joined, &word);
-    told_two("join at", code, joined, word);
+    print_two("join at", code, joined, word);
     code = hlc_join_at(&store, AT(50), &joined, &word);
-    told_two("join at", code, joined, word);
+    print_two("join at", code, joined, word);
     code = hlc_check_vacuum(&store, AT(42), &word);
     print_answer("check", code, word);
     code = hlc_check_vacuum(&store, AT(40), &word);
     print_answer("check", code, word);
     code = hlc_vacuum_to(&store, AT(40), &word, &kept, &cost, &dropped);
     print_answer("vacuum to", code, word);
-    told_two("kept", code, kept, cost);
+    print_two("kept", code, kept, cost);
     print_answer("dropped", code, dropped);
     code = hlc_vacuum_to(&store, AT(39), &word, &kept, &cost, &dropped);
     print_answer("vacuum to", code, word);
-    code = hlc_vacuum_to_certified(&store, AT(40), out, sizeof out, &len, &word);
-    told_two("certificate", code, len, word);
+    code = hlc_vacuum_to_certified(&store, AT(40), &word, &kept, &cost, &dropped, out, sizeof out, &len);
+    print_two("certificate", code, len, word);
+    print_two("kept", code, kept, cost);
+    print_answer("dropped", code, dropped);
     code = hlc_rows(&store, &word);
     print_answer("rows", code, word);
 }
@@ -130,6 +321,11 @@ int main(void)
     uint32_t code;
     size_t len;
 
+    printf("version %" PRIu32 "\n", hlc_version() - HLC_VERSION_NUMBER);
+    say(HLC_OK);
+    say(HLC_NOT_NEXT);
+    say(4);
+    say(HLC_NO_CHECKPOINT);
     code = hlc_rows(&store, &word);
     print_answer("rows", code, word);
     line("open", hlc_open(&store, 0));
@@ -151,51 +347,61 @@ int main(void)
     code = hlc_open_snapshot(&store, at + 1, &id);
     print_answer("snapshot", code, id);
     code = hlc_open_snapshot_at_floor(&store, &id, &at);
-    told_two("snapshot", code, id, at);
+    print_two("snapshot", code, id, at);
     read_key(1, BYTES("city"));
     memset(out, 'x', sizeof out);
     code = hlc_read(&store, 1, BYTES("city"), out, 4, &len);
-    told_two("short", code, len, memcmp(out, "xxxxx", 5) == 0);
+    print_two("short", code, len, memcmp(out, "xxxxx", 5) == 0);
     read_key(1, BYTES("town"));
     read_key(2, BYTES("city"));
     write_item(&b, 20, BYTES("town"), BYTES(""));
     code = hlc_node_delete(&a, 21, BYTES("city"), &number, &word);
-    told_two("delete", code, number, word);
+    print_two("delete", code, number, word);
     code = hlc_accept_delete(&store, 0, number, word, BYTES("city"), &word);
     print_answer("accept", code, word);
     report(&b, 22);
     code = hlc_open_snapshot_at_floor(&store, &id, &at);
-    told_two("snapshot", code, id, at);
+    print_two("snapshot", code, id, at);
     list(1);
     list(2);
     list(3);
+    look_round();
+    save();
+    replicate();
+    restart();
     code = hlc_rows(&store, &word);
     print_answer("rows", code, word);
     code = hlc_vacuum(&store, &at, &kept, &cost, &dropped);
     print_answer("vacuum", code, at);
-    told_two("kept", code, kept, cost);
+    print_two("kept", code, kept, cost);
     print_answer("dropped", code, dropped);
     read_key(1, BYTES("city"));
     code = hlc_close_snapshot(&store, 1, &at);
     print_answer("close", code, at);
     code = hlc_close_snapshot(&store, 1, &at);
     print_answer("close", code, at);
-    code = hlc_vacuum_certified(&store, out, 8, &len);
-    print_answer("certificate", code, len);
-    code = hlc_vacuum_certified(&store, out, sizeof out, &len);
-    print_answer("certificate", code, len);
+    for (int i = 0; i < 2; i++) {
+        size_t room = i == 0 ? 8 : sizeof out;
+        code = hlc_vacuum_certified(&store, &at, &kept, &cost, &dropped, out, room, &len);
+        print_two("certificate", code, len, at);
+        print_two("kept", code, kept, cost);
+        print_answer("dropped", code, dropped);
+    }
     fwrite(out, 1, len, stdout);
+    check(out, len);
+    check(out, 35);
+    check(out, 4);
     code = hlc_rows(&store, &word);
     print_answer("rows", code, word);
     code = hlc_open_snapshot(&store, 1, &id);
     print_answer("snapshot", code, id);
     code = hlc_join(&store, &joined, &start);
-    told_two("join", code, joined, start);
+    print_two("join", code, joined, start);
     c = hlc_node_open(joined, start);
     write_item(&c, 1, BYTES("city"), BYTES("Rome"));
     accept_three(&b);
     code = hlc_node_retire(&a, 30, &number, &word);
-    told_two("retire", code, number, word);
+    print_two("retire", code, number, word);
     code = hlc_accept_retire(&store, 0, number, word, &word);
     print_answer("accept", code, word);
     write_item(&a, 31, BYTES("city"), BYTES("Nice"));
@@ -205,7 +411,10 @@ int main(void)
     write_item(&b, 31, large, 256, BYTES("Nice"));
     write_item(&b, 31, BYTES("city"), large, sizeof large);
     keep_above(&c);
+    line("close all", hlc_close_all(&store));
+    snapshot_at(0);
     hlc_close(&store);
+    line("close all", hlc_close_all(&store));
     code = hlc_floor(&store, &at);
     print_answer("floor", code, at);
     return 0;

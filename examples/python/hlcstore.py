@@ -15,8 +15,9 @@ class RawNode(c.Structure):
     _fields_ = [("id", U16), ("last", U64), ("next", U64), ("retired", c.c_bool)]
 
 
-# An entry of hlc_accept_all, packed in the layout of C.
+# An entry of hlc_accept_all and a place of hlc_read_all, packed in the layout of C.
 ENTRY = struct.Struct("@H?QQNNNN")
+PLACE = struct.Struct("@NN")
 S, N = c.POINTER(RawStore), c.POINTER(RawNode)
 ITEM, KEY = [S, U16, U64, U64], [BYTES, SIZE]
 CALLS = {
@@ -36,13 +37,33 @@ CALLS = {
     "close_snapshot": [S, U64, WORD],
     "read": [S, U64] + KEY + [OUT, SIZE, LEN],
     "list": [S, U64, OUT, SIZE, LEN],
+    "read_all": [S, U64, BYTES, SIZE, BYTES, SIZE, OUT, SIZE, LEN, LEN],
+    "scan": [S, U64] + KEY + KEY + [OUT, SIZE, LEN, LEN],
+    "scan_keys": [S, U64] + KEY + KEY + [OUT, SIZE, LEN, LEN],
+    "count": [S, U64] + KEY + KEY + [WORD],
+    "digest": [S, U64] + KEY + KEY + [OUT, SIZE, LEN],
+    "check": [BYTES, SIZE, WORD, WORD, WORD],
+    "close_all": [S],
+    "item_write": [U16, U64, U64] + KEY + KEY + [OUT, SIZE, LEN],
+    "item_delete": [U16, U64, U64] + KEY + [OUT, SIZE, LEN],
+    "item_report": [U16, U64, U64, OUT, SIZE, LEN],
+    "item_retire": [U16, U64, U64, OUT, SIZE, LEN],
+    "items_accept": [S, BYTES, SIZE, LEN, LEN, WORD],
+    "checkpoint": [S, U64, OUT, SIZE, LEN],
+    "restore": [S, BYTES, SIZE, WORD],
+    "horizon": [S, WORD],
+    "nodes": [S, WORD],
+    "link": [S, U16, WORD, WORD, c.POINTER(c.c_bool)],
+    "floor_node": [S, WORD],
+    "snapshot": [S, U64, WORD, WORD],
     "floor": [S, WORD],
     "rows": [S, WORD],
     "vacuum": [S, WORD, WORD, WORD, WORD],
-    "vacuum_certified": [S, OUT, SIZE, LEN],
+    "vacuum_certified": [S, WORD, WORD, WORD, WORD, OUT, SIZE, LEN],
     "vacuum_to": [S, U64, WORD, WORD, WORD, WORD],
-    "vacuum_to_certified": [S, U64, OUT, SIZE, LEN, WORD],
+    "vacuum_to_certified": [S, U64, WORD, WORD, WORD, WORD, OUT, SIZE, LEN],
     "check_vacuum": [S, U64, WORD],
+    "node_restore": [U16, U64, U64, N],
     "node_write": [N, U64] + KEY + KEY + [WORD, WORD],
     "node_delete": [N, U64] + KEY + [WORD, WORD],
     "node_report": [N, U64, WORD, WORD],
@@ -61,6 +82,33 @@ def load(path):
         call.argtypes, call.restype = args, c.c_uint32
     lib.hlc_close.argtypes, lib.hlc_close.restype = [S], None
     lib.hlc_node_open.argtypes, lib.hlc_node_open.restype = [U16, U64], RawNode
+    for call in lib.hlc_error_name, lib.hlc_error_text:
+        call.argtypes, call.restype = [c.c_uint32, OUT, SIZE, LEN], None
+    lib.hlc_version.argtypes, lib.hlc_version.restype = [], c.c_uint32
+    lib.hlc_node_raise.argtypes, lib.hlc_node_raise.restype = [N, U64], None
+
+
+def _words_of(call, answer):
+    out, length = c.create_string_buffer(128), SIZE()
+    call(answer, out, len(out), length)
+    return out.raw[: length.value].decode()
+
+
+def error_name(answer):
+    """Returns the name of an answer in the header."""
+    return _words_of(lib.hlc_error_name, answer)
+
+
+def error_text(answer):
+    """Returns what an answer says."""
+    return _words_of(lib.hlc_error_text, answer)
+
+
+def check(text):
+    """Checks the text of a certificate: returns how many rows it shows to be the fewest, and their cost in bytes."""
+    rows, cost, word = U64(), U64(), U64()
+    checked(lib.hlc_check(text, len(text), rows, cost, word), word.value)
+    return rows.value, cost.value
 
 
 class Refused(Exception):
@@ -70,10 +118,22 @@ class Refused(Exception):
         super().__init__(code, word)
         self.code, self.word = code, word
 
+    def __str__(self):
+        return f"{error_text(self.code)} ({self.code}, {self.word})"
+
 
 def checked(code, word=0):
     if code:
         raise Refused(code, word)
+
+
+def item_bytes(kind, node, item, *parts):
+    """Returns an item (number, stamp) as bytes, for a log: its kind is "write", "delete", "report" or "retire", and the
+    parts are its key and its value, where it has them."""
+    out, length = c.create_string_buffer(65814), SIZE()
+    words = [word for part in parts for word in (part, len(part))]
+    checked(getattr(lib, "hlc_item_" + kind)(node, *item, *words, out, len(out), length))
+    return out.raw[: length.value]
 
 
 class Node:
@@ -82,9 +142,21 @@ class Node:
     def __init__(self, id, start):
         self.raw, self.lock = lib.hlc_node_open(id, start), threading.Lock()
 
+    @classmethod
+    def restored(cls, id, last, next):
+        """Returns the node as it was before a restart: its number, its last stamp, and its next item's number."""
+        node = cls(id, last)
+        checked(lib.hlc_node_restore(id, last, next, node.raw))
+        return node
+
     @property
     def id(self):
         return self.raw.id
+
+    def raise_to(self, stamp):
+        """Raises the clock to a stamp, without an event."""
+        with self.lock:
+            lib.hlc_node_raise(self.raw, stamp)
 
     def _issued(self, call, *args):
         number, word = U64(), U64()
@@ -231,9 +303,91 @@ class Store:
                 return None
             raise
 
+    def read_packed(self, id, places, data, room):
+        """Returns the bytes of the answers of keys at packed places, as many as fit; how many they are; and 0, or why
+        the next key is left out."""
+        out, length, many = c.create_string_buffer(room), SIZE(), SIZE()
+        count = len(places) // PLACE.size
+        with self.lock:
+            code = lib.hlc_read_all(self.raw, id, places, count, data, len(data), out, room, length, many)
+        checked(0 if code in (103, 104) else code)
+        return out.raw[: length.value], many.value, code
+
     def list(self, id):
         """Returns the bytes of the listing, as `hlc_list` does."""
         return self._bytes(lib.hlc_list, id)
+
+    def _scan(self, call, id, start, end, room):
+        out, length, many = c.create_string_buffer(room), SIZE(), SIZE()
+        with self.lock:
+            code = call(self.raw, id, start, len(start), end, len(end), out, room, length, many)
+        checked(0 if code == 104 else code)
+        return out.raw[: length.value], many.value, code == 104
+
+    def scan(self, id, start=b"", end=b"", room=65806):
+        """Returns the bytes of the pairs of a range, as many as fit in so many bytes; how many pairs they are; and
+        whether a pair is left. No end means all keys from the first on."""
+        return self._scan(lib.hlc_scan, id, start, end, room)
+
+    def scan_keys(self, id, start=b"", end=b"", room=65806):
+        """Returns the same of the keys alone."""
+        return self._scan(lib.hlc_scan_keys, id, start, end, room)
+
+    def count(self, id, start, end=b""):
+        return self._word(lib.hlc_count, id, start, len(start), end, len(end))
+
+    def digest(self, id, start=b"", end=b""):
+        """Returns the SHA-256 of what `list` returns of such a range."""
+        return self._bytes(lib.hlc_digest, id, start, len(start), end, len(end))
+
+    def close_all(self):
+        with self.lock:
+            checked(lib.hlc_close_all(self.raw))
+
+    def accept_items(self, log):
+        """Accepts the items of a log, and passes over those that came before. Returns how many bytes and items it took;
+        a refusal has these and its word."""
+        used, many, word = SIZE(), SIZE(), U64()
+        with self.lock:
+            code = lib.hlc_items_accept(self.raw, log, len(log), used, many, word)
+        checked(code, (used.value, many.value, word.value))
+        return used.value, many.value
+
+    def checkpoint(self, word):
+        """Returns the bytes of the store's whole state, with a word of the caller's."""
+        return self._bytes(lib.hlc_checkpoint, word)
+
+    def restore(self, saved):
+        """Opens this closed store from such bytes, and returns their word."""
+        return self._word(lib.hlc_restore, saved, len(saved))
+
+    def horizon(self):
+        return self._word(lib.hlc_horizon)
+
+    def nodes(self):
+        return self._word(lib.hlc_nodes)
+
+    def link(self, node):
+        """Returns the number of a node's next item, its head, and whether its retirement was accepted."""
+        next, head, retired = U64(), U64(), c.c_bool()
+        with self.lock:
+            checked(lib.hlc_link(self.raw, node, next, head, retired))
+        return next.value, head.value, retired.value
+
+    def floor_node(self):
+        """Returns the first node that holds the floor back."""
+        return self._word(lib.hlc_floor_node)
+
+    def snapshots(self):
+        """Returns the ids and the stamps of the open snapshots."""
+        found = []
+        while True:
+            try:
+                found.append(tuple(self._words(lib.hlc_snapshot, U64(len(found)), U64(), U64())[1:]))
+            except Refused as refused:
+                if refused.code != 10:
+                    raise
+                return found
 
     def floor(self):
         return self._word(lib.hlc_floor)
@@ -244,21 +398,31 @@ class Store:
     def vacuum(self):
         return tuple(self._words(lib.hlc_vacuum, U64(), U64(), U64(), U64()))
 
+    def _certified(self, call, *args):
+        """Calls again until the certificate fits, and returns the numbers of the first call, and the text."""
+        numbers = []
+
+        def once(raw, *rest):
+            numbers.append([U64() for _ in range(4)])
+            return call(raw, *args, *numbers[-1], *rest)
+
+        try:
+            text = self._bytes(once)
+        except Refused as refused:
+            raise Refused(refused.code, numbers[-1][0].value) from None
+        return tuple(number.value for number in numbers[0]), text
+
     def vacuum_certified(self):
-        """Vacuums, and returns the text of the certificate."""
-        return self._bytes(lib.hlc_vacuum_certified)
+        """Vacuums, and returns what `vacuum` returns, and the text of the certificate."""
+        return self._certified(lib.hlc_vacuum_certified)
 
     def vacuum_to(self, stamp):
         """Vacuums up to a stamp, and returns the stamp, and what `vacuum` returns for the rows at or below it."""
         return tuple(self._words(lib.hlc_vacuum_to, stamp, U64(), U64(), U64(), U64()))
 
     def vacuum_to_certified(self, stamp):
-        """Vacuums up to a stamp, and returns the text of the certificate."""
-        word = U64()
-        try:
-            return self._bytes(lambda *args: lib.hlc_vacuum_to_certified(*args, word), stamp)
-        except Refused as refused:
-            raise Refused(refused.code, word.value) from None
+        """Vacuums up to a stamp, and returns what `vacuum_to` returns, and the text of the certificate."""
+        return self._certified(lib.hlc_vacuum_to_certified, stamp)
 
     def check_vacuum(self, stamp):
         """Returns why `vacuum_to` would be refused, apart from out of memory."""

@@ -31,6 +31,13 @@ struct Entry {
     value_len: usize,
 }
 
+/// The place of a key among some bytes.
+#[repr(C)]
+pub struct Place {
+    pub at: usize,
+    pub len: usize,
+}
+
 #[rustfmt::skip]
 #[link(name = "hlc_ffi", kind = "static")]
 #[link(name = "libc_c", kind = "static")]
@@ -56,16 +63,49 @@ unsafe extern "C" {
     fn hlc_read(s: *mut Raw, id: u64, key: *const u8, key_len: usize, out: *mut u8, out_len: usize,
         len: *mut usize) -> u32;
     fn hlc_list(s: *mut Raw, id: u64, out: *mut u8, out_len: usize, len: *mut usize) -> u32;
+    safe fn hlc_version() -> u32;
+    fn hlc_error_name(answer: u32, out: *mut u8, out_len: usize, len: *mut usize);
+    fn hlc_error_text(answer: u32, out: *mut u8, out_len: usize, len: *mut usize);
+    fn hlc_read_all(s: *mut Raw, id: u64, places: *const Place, places_len: usize, bytes: *const u8,
+        bytes_len: usize, out: *mut u8, out_len: usize, len: *mut usize, many: *mut usize) -> u32;
+    fn hlc_scan(s: *mut Raw, id: u64, from: *const u8, from_len: usize, to: *const u8, to_len: usize, out: *mut u8,
+        out_len: usize, len: *mut usize, many: *mut usize) -> u32;
+    fn hlc_scan_keys(s: *mut Raw, id: u64, from: *const u8, from_len: usize, to: *const u8, to_len: usize,
+        out: *mut u8, out_len: usize, len: *mut usize, many: *mut usize) -> u32;
+    fn hlc_count(s: *mut Raw, id: u64, from: *const u8, from_len: usize, to: *const u8, to_len: usize,
+        many: *mut u64) -> u32;
+    fn hlc_digest(s: *mut Raw, id: u64, from: *const u8, from_len: usize, to: *const u8, to_len: usize, out: *mut u8,
+        out_len: usize, len: *mut usize) -> u32;
+    fn hlc_check(text: *const u8, text_len: usize, rows: *mut u64, bytes: *mut u64, word: *mut u64) -> u32;
+    fn hlc_close_all(s: *mut Raw) -> u32;
+    fn hlc_item_write(node: u16, number: u64, stamp: u64, key: *const u8, key_len: usize, value: *const u8,
+        value_len: usize, out: *mut u8, out_len: usize, len: *mut usize) -> u32;
+    fn hlc_item_delete(node: u16, number: u64, stamp: u64, key: *const u8, key_len: usize, out: *mut u8,
+        out_len: usize, len: *mut usize) -> u32;
+    fn hlc_item_report(node: u16, number: u64, stamp: u64, out: *mut u8, out_len: usize, len: *mut usize) -> u32;
+    fn hlc_item_retire(node: u16, number: u64, stamp: u64, out: *mut u8, out_len: usize, len: *mut usize) -> u32;
+    fn hlc_items_accept(s: *mut Raw, bytes: *const u8, bytes_len: usize, used: *mut usize, many: *mut usize,
+        word: *mut u64) -> u32;
+    fn hlc_checkpoint(s: *mut Raw, word: u64, out: *mut u8, out_len: usize, len: *mut usize) -> u32;
+    fn hlc_restore(s: *mut Raw, bytes: *const u8, bytes_len: usize, word: *mut u64) -> u32;
+    fn hlc_horizon(s: *mut Raw, stamp: *mut u64) -> u32;
+    fn hlc_nodes(s: *mut Raw, many: *mut u64) -> u32;
+    fn hlc_link(s: *mut Raw, node: u16, next: *mut u64, head: *mut u64, retired: *mut bool) -> u32;
+    fn hlc_floor_node(s: *mut Raw, node: *mut u64) -> u32;
+    fn hlc_snapshot(s: *mut Raw, place: u64, id: *mut u64, stamp: *mut u64) -> u32;
     fn hlc_floor(s: *mut Raw, stamp: *mut u64) -> u32;
     fn hlc_rows(s: *mut Raw, rows: *mut u64) -> u32;
     fn hlc_vacuum(s: *mut Raw, floor: *mut u64, kept: *mut u64, bytes: *mut u64, dropped: *mut u64) -> u32;
-    fn hlc_vacuum_certified(s: *mut Raw, out: *mut u8, out_len: usize, len: *mut usize) -> u32;
+    fn hlc_vacuum_certified(s: *mut Raw, floor: *mut u64, kept: *mut u64, bytes: *mut u64, dropped: *mut u64,
+        out: *mut u8, out_len: usize, len: *mut usize) -> u32;
     fn hlc_vacuum_to(s: *mut Raw, stamp: u64, word: *mut u64, kept: *mut u64, bytes: *mut u64,
         dropped: *mut u64) -> u32;
-    fn hlc_vacuum_to_certified(s: *mut Raw, stamp: u64, out: *mut u8, out_len: usize, len: *mut usize,
-        word: *mut u64) -> u32;
+    fn hlc_vacuum_to_certified(s: *mut Raw, stamp: u64, word: *mut u64, kept: *mut u64, bytes: *mut u64,
+        dropped: *mut u64, out: *mut u8, out_len: usize, len: *mut usize) -> u32;
     fn hlc_check_vacuum(s: *mut Raw, stamp: u64, word: *mut u64) -> u32;
     safe fn hlc_node_open(id: u16, start: u64) -> Node;
+    fn hlc_node_restore(id: u16, last: u64, next: u64, node: *mut Node) -> u32;
+    fn hlc_node_raise(n: *mut Node, stamp: u64);
     fn hlc_node_write(n: *mut Node, reading: u64, key: *const u8, key_len: usize, value: *const u8,
         value_len: usize, number: *mut u64, word: *mut u64) -> u32;
     fn hlc_node_delete(n: *mut Node, reading: u64, key: *const u8, key_len: usize, number: *mut u64,
@@ -80,6 +120,43 @@ unsafe extern "C" {
 #[derive(Debug, PartialEq)]
 pub struct Refused(pub u32, pub u64);
 
+/// Returns the version of the library.
+pub fn version() -> u32 {
+    hlc_version()
+}
+
+fn in_words(call: unsafe extern "C" fn(u32, *mut u8, usize, *mut usize), answer: u32) -> String {
+    let (mut out, mut len) = (vec![0u8; 128], 0);
+    unsafe { call(answer, out.as_mut_ptr(), out.len(), &mut len) };
+    out.truncate(len);
+    String::from_utf8(out).unwrap()
+}
+
+/// Returns the name of an answer in the header.
+pub fn error_name(answer: u32) -> String {
+    in_words(hlc_error_name, answer)
+}
+
+/// Returns what an answer says.
+pub fn error_text(answer: u32) -> String {
+    in_words(hlc_error_text, answer)
+}
+
+/// Checks the text of a certificate, and returns how many rows it shows to be the fewest, and their cost in bytes.
+pub fn check(text: &[u8]) -> Result<(u64, u64), Refused> {
+    let (mut rows, mut cost, mut word) = (0, 0, 0);
+    let code = unsafe { hlc_check(text.as_ptr(), text.len(), &mut rows, &mut cost, &mut word) };
+    answered(code, (rows, cost), word)
+}
+
+impl std::fmt::Display for Refused {
+    fn fmt(&self, f: &mut std::fmt::Formatter<'_>) -> std::fmt::Result {
+        write!(f, "{} ({}, {})", error_text(self.0), self.0, self.1)
+    }
+}
+
+impl std::error::Error for Refused {}
+
 fn answered<T>(code: u32, value: T, word: u64) -> Result<T, Refused> {
     if code == 0 { Ok(value) } else { Err(Refused(code, word)) }
 }
@@ -92,8 +169,28 @@ impl Node {
         hlc_node_open(id, start)
     }
 
+    /// Returns the node as it was before a restart: its number, its last stamp, and its next item's number.
+    pub fn restored(id: u16, last: u64, next: u64) -> Result<Node, Refused> {
+        let mut node = Node::new(id, last);
+        let code = unsafe { hlc_node_restore(id, last, next, &mut node) };
+        answered(code, node, 0)
+    }
+
     pub fn id(&self) -> u16 {
         self.id
+    }
+
+    pub fn last(&self) -> u64 {
+        self.last
+    }
+
+    pub fn next(&self) -> u64 {
+        self.next
+    }
+
+    /// Raises the clock to a stamp, without an event.
+    pub fn raise_to(&mut self, stamp: u64) {
+        unsafe { hlc_node_raise(self, stamp) }
     }
 
     fn issued(&mut self, call: impl FnOnce(*mut Node, *mut u64, *mut u64) -> u32) -> Issued {
@@ -133,6 +230,43 @@ impl Node {
     }
 }
 
+/// An item of a log: its node, its number, its stamp, and what it says.
+pub struct Item<'a> {
+    pub node: u16,
+    pub number: u64,
+    pub stamp: u64,
+    pub body: Body<'a>,
+}
+
+pub enum Body<'a> {
+    Write(&'a [u8], &'a [u8]),
+    Delete(&'a [u8]),
+    Report,
+    Retire,
+}
+
+impl Item<'_> {
+    /// Returns the item as bytes.
+    pub fn encode(&self) -> Result<Vec<u8>, Refused> {
+        let (mut out, mut len) = (vec![0u8; 65_814], 0);
+        let (node, number, stamp) = (self.node, self.number, self.stamp);
+        let (o, on) = (out.as_mut_ptr(), out.len());
+        let code = unsafe {
+            match self.body {
+                Body::Write(key, value) => {
+                    let (k, kn, v, vn) = (key.as_ptr(), key.len(), value.as_ptr(), value.len());
+                    hlc_item_write(node, number, stamp, k, kn, v, vn, o, on, &mut len)
+                }
+                Body::Delete(key) => hlc_item_delete(node, number, stamp, key.as_ptr(), key.len(), o, on, &mut len),
+                Body::Report => hlc_item_report(node, number, stamp, o, on, &mut len),
+                Body::Retire => hlc_item_retire(node, number, stamp, o, on, &mut len),
+            }
+        };
+        out.truncate(len);
+        answered(code, out, 0)
+    }
+}
+
 /// Writes and deletions to pass to the store in one call.
 #[derive(Default)]
 pub struct Batch {
@@ -166,13 +300,20 @@ impl Batch {
     }
 }
 
+/// The pairs of a range that fit, as bytes; how many they are; and whether a pair is left.
+pub struct Scan {
+    pub bytes: Vec<u8>,
+    pub many: usize,
+    pub more: bool,
+}
+
 /// A store. `PhantomData<*mut u8>` confines it to one thread.
 pub struct Store {
     raw: Raw,
     _one_thread: PhantomData<*mut u8>,
 }
 
-#[derive(Debug)]
+#[derive(Clone, Copy, Debug, Default)]
 pub struct Vacuumed {
     pub floor: u64,
     pub kept: u64,
@@ -294,6 +435,110 @@ impl Store {
         self.bytes(|s, out, n, len| unsafe { hlc_list(s, id, out, n, len) })
     }
 
+    /// Returns the bytes of the answers of keys at some places, as many as fit in so many bytes; how many they are; and
+    /// 0, or why the next key is left out.
+    pub fn read_all(
+        &mut self,
+        id: u64,
+        places: &[Place],
+        bytes: &[u8],
+        room: usize,
+    ) -> Result<(Vec<u8>, usize, u32), Refused> {
+        let (p, pn, b, bn) = (places.as_ptr(), places.len(), bytes.as_ptr(), bytes.len());
+        let (mut out, mut len, mut many) = (vec![0u8; room], 0, 0);
+        let code = unsafe {
+            hlc_read_all(&mut self.raw, id, p, pn, b, bn, out.as_mut_ptr(), room, &mut len, &mut many)
+        };
+        out.truncate(len);
+        answered(if code == 103 || code == 104 { 0 } else { code }, (out, many, code), 0)
+    }
+
+    fn part(
+        &mut self,
+        room: usize,
+        call: impl Fn(*mut Raw, *mut u8, usize, &mut usize, &mut usize) -> u32,
+    ) -> Result<Scan, Refused> {
+        let (mut out, mut len, mut many) = (vec![0u8; room], 0, 0);
+        let code = call(&mut self.raw, out.as_mut_ptr(), room, &mut len, &mut many);
+        out.truncate(len);
+        let more = code == 104;
+        answered(if more { 0 } else { code }, Scan { bytes: out, many, more }, 0)
+    }
+
+    /// Returns the pairs from a key on, and below another if that has bytes, as many as fit in so many bytes.
+    pub fn scan(&mut self, id: u64, from: &[u8], to: &[u8], room: usize) -> Result<Scan, Refused> {
+        let (f, fn_, t, tn) = (from.as_ptr(), from.len(), to.as_ptr(), to.len());
+        self.part(room, |s, out, n, len, many| unsafe { hlc_scan(s, id, f, fn_, t, tn, out, n, len, many) })
+    }
+
+    /// Returns the same of the keys alone.
+    pub fn scan_keys(&mut self, id: u64, from: &[u8], to: &[u8], room: usize) -> Result<Scan, Refused> {
+        let (f, fn_, t, tn) = (from.as_ptr(), from.len(), to.as_ptr(), to.len());
+        self.part(room, |s, out, n, len, many| unsafe { hlc_scan_keys(s, id, f, fn_, t, tn, out, n, len, many) })
+    }
+
+    pub fn count(&mut self, id: u64, from: &[u8], to: &[u8]) -> Result<u64, Refused> {
+        let (f, fn_, t, tn) = (from.as_ptr(), from.len(), to.as_ptr(), to.len());
+        self.word(|s, many| unsafe { hlc_count(s, id, f, fn_, t, tn, many) })
+    }
+
+    /// Returns the SHA-256 of what `list` returns of such a range.
+    pub fn digest(&mut self, id: u64, from: &[u8], to: &[u8]) -> Result<Vec<u8>, Refused> {
+        let (f, fn_, t, tn) = (from.as_ptr(), from.len(), to.as_ptr(), to.len());
+        self.bytes(|s, out, n, len| unsafe { hlc_digest(s, id, f, fn_, t, tn, out, n, len) })
+    }
+
+    pub fn close_all(&mut self) -> Result<(), Refused> {
+        answered(unsafe { hlc_close_all(&mut self.raw) }, (), 0)
+    }
+
+    /// Accepts the items of a log, and passes over those that came before. Returns how many bytes and items it took,
+    /// and why the next one was refused.
+    pub fn accept_items(&mut self, log: &[u8]) -> (usize, usize, Result<(), Refused>) {
+        let (mut used, mut many, mut word) = (0, 0, 0);
+        let code =
+            unsafe { hlc_items_accept(&mut self.raw, log.as_ptr(), log.len(), &mut used, &mut many, &mut word) };
+        (used, many, answered(code, (), word))
+    }
+
+    /// Returns the bytes of the store's whole state, with a word of the caller's.
+    pub fn checkpoint(&mut self, word: u64) -> Result<Vec<u8>, Refused> {
+        self.bytes(|s, out, n, len| unsafe { hlc_checkpoint(s, word, out, n, len) })
+    }
+
+    /// Opens this closed store from such bytes, and returns their word.
+    pub fn restore(&mut self, saved: &[u8]) -> Result<u64, Refused> {
+        let (b, bn) = (saved.as_ptr(), saved.len());
+        self.word(|s, word| unsafe { hlc_restore(s, b, bn, word) })
+    }
+
+    pub fn horizon(&mut self) -> Result<u64, Refused> {
+        self.word(|s, stamp| unsafe { hlc_horizon(s, stamp) })
+    }
+
+    pub fn nodes(&mut self) -> Result<u64, Refused> {
+        self.word(|s, many| unsafe { hlc_nodes(s, many) })
+    }
+
+    /// Returns the number of a node's next item, its head, and whether its retirement was accepted.
+    pub fn link(&mut self, node: u16) -> Result<(u64, u64, bool), Refused> {
+        let (mut next, mut head, mut retired) = (0, 0, false);
+        let code = unsafe { hlc_link(&mut self.raw, node, &mut next, &mut head, &mut retired) };
+        answered(code, (next, head, retired), 0)
+    }
+
+    /// Returns the first node that holds the floor back.
+    pub fn floor_node(&mut self) -> Result<u64, Refused> {
+        self.word(|s, node| unsafe { hlc_floor_node(s, node) })
+    }
+
+    /// Returns the id and the stamp of the open snapshot at a place, by rising ids.
+    pub fn snapshot_at(&mut self, place: u64) -> Result<(u64, u64), Refused> {
+        let (mut id, mut stamp) = (0, 0);
+        let code = unsafe { hlc_snapshot(&mut self.raw, place, &mut id, &mut stamp) };
+        answered(code, (id, stamp), 0)
+    }
+
     pub fn floor(&mut self) -> Result<u64, Refused> {
         self.word(|s, stamp| unsafe { hlc_floor(s, stamp) })
     }
@@ -308,9 +553,31 @@ impl Store {
         answered(code, Vacuumed { floor, kept, bytes, dropped }, 0)
     }
 
-    /// Vacuums, and returns the text of the certificate.
-    pub fn vacuum_certified(&mut self) -> Result<Vec<u8>, Refused> {
-        self.bytes(|s, out, n, len| unsafe { hlc_vacuum_certified(s, out, n, len) })
+    // Calls again until the certificate fits, and returns the numbers of the first call, and the text.
+    fn certified(
+        &mut self,
+        call: impl Fn(*mut Raw, &mut Vacuumed, *mut u8, usize, *mut usize) -> u32,
+    ) -> Result<(Vacuumed, Vec<u8>), Refused> {
+        let (first, last) = (Cell::new(None), Cell::new(Vacuumed::default()));
+        let made = self.bytes(|s, out, n, len| {
+            let mut numbers = Vacuumed::default();
+            let code = call(s, &mut numbers, out, n, len);
+            first.set(first.get().or(Some(numbers)));
+            last.set(numbers);
+            code
+        });
+        match made {
+            Ok(text) => Ok((first.get().unwrap_or_default(), text)),
+            Err(Refused(code, _)) => Err(Refused(code, last.get().floor)),
+        }
+    }
+
+    /// Vacuums, and returns the text of the certificate with the numbers.
+    pub fn vacuum_certified(&mut self) -> Result<(Vacuumed, Vec<u8>), Refused> {
+        self.certified(|s, made, out, n, len| {
+            let Vacuumed { floor, kept, bytes, dropped } = made;
+            unsafe { hlc_vacuum_certified(s, floor, kept, bytes, dropped, out, n, len) }
+        })
     }
 
     /// Vacuums up to a stamp, which is the `floor` of what is returned.
@@ -321,13 +588,12 @@ impl Store {
         answered(code, Vacuumed { floor, kept, bytes, dropped }, floor)
     }
 
-    /// Vacuums up to a stamp, and returns the text of the certificate.
-    pub fn vacuum_to_certified(&mut self, stamp: u64) -> Result<Vec<u8>, Refused> {
-        let word = Cell::new(0);
-        let made = self.bytes(|s, out, n, len| unsafe {
-            hlc_vacuum_to_certified(s, stamp, out, n, len, word.as_ptr())
-        });
-        made.map_err(|refused| Refused(refused.0, word.get()))
+    /// Vacuums up to a stamp, and returns the text of the certificate with the numbers.
+    pub fn vacuum_to_certified(&mut self, stamp: u64) -> Result<(Vacuumed, Vec<u8>), Refused> {
+        self.certified(|s, made, out, n, len| {
+            let Vacuumed { floor, kept, bytes, dropped } = made;
+            unsafe { hlc_vacuum_to_certified(s, stamp, floor, kept, bytes, dropped, out, n, len) }
+        })
     }
 
     /// Returns why `vacuum_to` would be refused, apart from out of memory.

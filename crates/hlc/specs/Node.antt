@@ -1,5 +1,5 @@
 -- The words in which the contracts of nodes and of rows speak.
-pub use Rattle.hlc_node.specs.Node.{Node, next_item, expected_issue, expected_event}
+pub use Rattle.hlc_node.specs.Node.{NodeView, next_item, expected_issue, expected_event}
 pub use Rattle.hlc_node.specs.Items.{body_refusal, retires}
 pub use Rattle.hlc_node.specs.Rows.{answer, newest, IsRowSet}
 pub use Rattle.hlc_node.specs.declared.item.Item.{Item}

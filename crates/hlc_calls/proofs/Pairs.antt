@@ -1,5 +1,6 @@
 -- There is one list of the answers at a stamp, and a snapshot's are those of all accepted writes.
-use Rattle.std.proofs.Common.{◌≡◌, ◌∙◌, ℕ, ◌<◌, ◌≤◌, List, [], ◌∷◌, ◌++◌, map, refl, sym, ap, subst}
+use Rattle.std.proofs.Common.{◌≡◌, ◌∙◌, ℕ, ◌<◌, ◌≤◌, List, [], ◌∷◌, ◌++◌, map}
+use Rattle.std.proofs.Common.{refl, sym, ap, subst}
 use Rattle.std.proofs.Common.{arith, length, drop, Contains, Option, Some}
 use Rattle.std.specs.Cmp.Lexicographic.{slice_cmp}
 use Rattle.std.specs.Ordering.{nat_cmp}
@@ -50,15 +51,14 @@ one_list rows stamp pairs others are also =
     ∙ back others
 
 -- rows that answer alike have the same answers
-pub same_answers : (rows others : List Row) (stamp : ℕ) (pairs : List (List ℕ × List ℕ))
-    → AreAnswers rows stamp (λ key. Unit {0}) pairs
-    → ((key : List ℕ) → answer rows key stamp ≡ answer others key stamp)
-    → AreAnswers others stamp (λ key. Unit {0}) pairs
-same_answers rows others stamp pairs are alike = record {
+pub same_answers : (rows others : List Row) (stamp : ℕ) (IsWanted : List ℕ → Type 0)
+    (pairs : List (List ℕ × List ℕ)) → AreAnswers rows stamp IsWanted pairs
+    → ((key : List ℕ) → answer rows key stamp ≡ answer others key stamp) → AreAnswers others stamp IsWanted pairs
+same_answers rows others stamp IsWanted pairs are alike = record {
   ascending = are.ascending;
   exact = λ key value. (
-    λ m. (tt, sym (alike key) ∙ ((are.exact key value).0 m).1),
-    λ is. (are.exact key value).1 (tt, alike key ∙ is.1),
+    λ m. let has = (are.exact key value).0 m in (has.0, sym (alike key) ∙ has.1),
+    λ is. (are.exact key value).1 (is.0, alike key ∙ is.1),
   );
 }
 
@@ -69,7 +69,7 @@ pub listed_at : (rows others : List Row) (at : Option ℕ) (stamp : ℕ) (pairs 
     → ReturnsListing at others 0 len old new
 listed_at rows others at stamp pairs len old new is alike are returned =
     subst (λ o. ReturnsListing o others 0 len old new) (sym is)
-    (refl, (pairs, same_answers rows others stamp pairs are alike, returned))
+    (refl, (pairs, same_answers rows others stamp (λ key. Unit {0}) pairs are alike, returned))
 
 -- the pairs fit, and their bytes are put
 pub put_whole : (pairs others : List (List ℕ × List ℕ)) (total : ℕ) (old new : List ℕ) → pairs ≡ others

@@ -75,13 +75,18 @@ ReturnsRead (Some stamp) rows key code len old new = ReturnsAnswer (answer rows 
 abbrev pub narrowed : ℕ → ℕ
 narrowed number = min number 18446744073709551615
 
--- a vacuum to the stamp took place, and these parts of its report are returned; its floor is the stamp
+-- the numbers of a report: its floor, how many rows were kept, what they cost, and how many were dropped
+abbrev pub AreNumbers : Report → ℕ → ℕ → ℕ → ℕ → Type 0
+AreNumbers report floor kept bytes dropped =
+    (floor ≡ report.floor) × (kept ≡ report.kept) × (bytes ≡ narrowed report.bytes)
+    × (dropped ≡ narrowed report.dropped)
+
+-- a vacuum to the stamp took place, and the numbers of its report are returned; its floor is the stamp
 abbrev pub ReturnsVacuumed : StoreView → StoreView → ℕ → List Step → ℕ → ℕ → ℕ → ℕ → Type 0
 ReturnsVacuumed old new at past floor kept bytes dropped =
-    (report : Report) × Vacuums old new at past report × (floor ≡ report.floor) × (kept ≡ report.kept)
-    × (bytes ≡ narrowed report.bytes) × (dropped ≡ narrowed report.dropped)
+    (report : Report) × Vacuums old new at past report × AreNumbers report floor kept bytes dropped
 
--- a vacuum to the floor took place, and these parts of its report are returned
+-- a vacuum to the floor took place, and the numbers of its report are returned
 abbrev pub ReturnsVacuumedAtFloor : StoreView → StoreView → List Step → ℕ → ℕ → ℕ → ℕ → Type 0
 ReturnsVacuumedAtFloor old new past stamp kept bytes dropped =
     ReturnsVacuumed old new (floor (nodes old) past) past stamp kept bytes dropped

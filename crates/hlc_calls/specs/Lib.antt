@@ -4,3 +4,11 @@ pub mod Certified
 pub mod Listing
 pub mod Nodes
 pub mod Outcome
+pub mod Scan
+pub mod Status
+pub mod Saved
+pub mod Log
+pub mod Texts
+pub mod ReadAll
+pub mod Digest
+pub mod Check

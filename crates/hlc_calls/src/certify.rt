@@ -1,11 +1,11 @@
 //! The certificate of a vacuum, as text.
 ghost use Rattle.std.specs.Prelude.{◌≡◌, ◌≢◌, List, IfSome};
 ghost use Rattle.hlc_node.specs.declared.row.Row.{Row as ARow};
-ghost use Rattle.hlc_core.specs.Past.{Step, floor};
+ghost use Rattle.hlc_core.specs.Past.{Step};
 ghost use Rattle.hlc_core.specs.StoreView.{nodes, Represents};
 ghost use Rattle.hlc_core.specs.Calls.{AreRowsTo};
 ghost use Rattle.hlc_certificate.specs.CertificateText.{certificate_text};
-ghost use Rattle.hlc_calls.specs.Certified.{IsCertified, IsCertifiedTo, IsHalf};
+ghost use Rattle.hlc_calls.specs.Certified.{IsCertifiedAtFloor, IsCertifiedTo, IsHalfAtFloor};
 
 use crate::{codes, open_store};
 use hlc_certificate::put_certificate;
@@ -40,23 +40,38 @@ fn certificate_of(alloc: Global, core: &Core, report: &Report) -> Option<Vec<u8>
     text_of(alloc, points, rows.as_slice(), report.witnesses.as_slice())
 }
 
-/// Vacuums. Returns 0, the length of the certificate in bytes and, where they fit, the bytes; or 15, where the vacuum
-/// may have taken place.
-pub fn certify(alloc: Global, core: &mut Core, out: &mut [u8], len: &mut usize) -> u32
+/// Vacuums. Returns 0, the numbers of the report, the length of the certificate and, where they fit, the bytes; or 15,
+/// where the vacuum may have taken place.
+pub fn certify(
+    alloc: Global,
+    core: &mut Core,
+    floor: &mut u64,
+    kept: &mut u64,
+    bytes: &mut u64,
+    dropped: &mut u64,
+    out: &mut [u8],
+    len: &mut usize,
+) -> u32
     ensures certified { result ≡ 0 → (past : List Step) → Represents core.old past
-        → IsCertified core.old core.new (floor (nodes core.old) past) past
-        len.new out.old out.new }
-    ensures shortage { result ≢ 0 → (result ≡ 15) × (len.new ≡ 0) × (out.new ≡ out.old) }
+        → IsCertifiedAtFloor core.old core.new past
+        floor.new kept.new bytes.new dropped.new len.new out.old out.new }
+    ensures nothing { result ≢ 0 → (result ≡ 15) × (floor.new ≡ 0) × (kept.new ≡ 0)
+        × (bytes.new ≡ 0) × (dropped.new ≡ 0) × (len.new ≡ 0) × (out.new ≡ out.old) }
     ensures half { result ≢ 0 → (past : List Step) → Represents core.old past
-        → IsHalf core.old core.new (floor (nodes core.old) past) past }
+        → IsHalfAtFloor core.old core.new past }
     ensures nodes { nodes core.new ≡ nodes core.old }
 {
+    *floor = 0;
+    *kept = 0;
+    *bytes = 0;
+    *dropped = 0;
     *len = 0;
     let Ok(report) = core.vacuum() else {
         return 15;
     };
     match certificate_of(alloc, core, &report) {
         Some(text) => {
+            open_store::put_report(&report, floor, kept, bytes, dropped);
             open_store::fill(text.as_slice(), out, len);
             0
         }
@@ -64,23 +79,31 @@ pub fn certify(alloc: Global, core: &mut Core, out: &mut [u8], len: &mut usize) 
     }
 }
 
-/// Vacuums to a stamp. Returns 0, the length of the certificate in bytes and, where they fit, the bytes; or a refusal
-/// and its word; or 15, where the vacuum may have taken place.
+/// Vacuums to a stamp. Returns 0, the numbers of the report, the length of the certificate and, where they fit, the
+/// bytes; or a refusal and its word; or 15, where the vacuum may have taken place.
 #[tactic(auto, using(crate::proofs::Refusals::made_returns, crate::proofs::Refusals::lack_returns))]
 pub fn certify_to(
     alloc: Global,
     core: &mut Core,
     at: Stamp,
+    returned: &mut u64,
+    kept: &mut u64,
+    bytes: &mut u64,
+    dropped: &mut u64,
     out: &mut [u8],
     len: &mut usize,
-    returned: &mut u64,
 ) -> u32
     ensures answer { (past : List Step) → Represents core.old past
-        → IsCertifiedTo core.old core.new at past result returned.new len.new out.old out.new }
+        → IsCertifiedTo core.old core.new at past result returned.new
+        kept.new bytes.new dropped.new len.new out.old out.new }
     ensures same { result ≢ 0 → result ≢ 15 → core.new ≡ core.old }
-    ensures nothing { result ≢ 0 → (len.new ≡ 0) × (out.new ≡ out.old) }
+    ensures nothing { result ≢ 0 → (kept.new ≡ 0) × (bytes.new ≡ 0) × (dropped.new ≡ 0)
+        × (len.new ≡ 0) × (out.new ≡ out.old) }
     ensures nodes { nodes core.new ≡ nodes core.old }
 {
+    *kept = 0;
+    *bytes = 0;
+    *dropped = 0;
     *len = 0;
     let report = match core.vacuum_to(at) {
         Ok(report) => report,
@@ -89,6 +112,7 @@ pub fn certify_to(
     *returned = 0;
     match certificate_of(alloc, core, &report) {
         Some(text) => {
+            open_store::put_report(&report, returned, kept, bytes, dropped);
             open_store::fill(text.as_slice(), out, len);
             0
         }

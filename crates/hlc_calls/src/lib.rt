@@ -4,10 +4,18 @@
 
 pub mod batch;
 pub mod certify;
+pub mod check;
 pub mod codes;
+pub mod digest;
 pub mod items;
 pub mod list;
+pub mod log;
 pub mod node;
 pub mod open_store;
+pub mod read_all;
+pub mod saved;
+pub mod scan;
+pub mod status;
+pub mod texts;
 
 pub use hlc_core::Stamp;

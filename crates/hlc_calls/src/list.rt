@@ -23,7 +23,7 @@ fn listing_len(answers: Answers<'_>) -> Option<usize>
 }
 
 /// Writes bytes to a place of a buffer, and returns the place after them.
-fn put(out: &mut [u8], at: usize, bytes: &[u8]) -> usize
+pub(crate) fn put(out: &mut [u8], at: usize, bytes: &[u8]) -> usize
     requires { at + length bytes.now ≤ length out.now }
     ensures end { result ≡ at + length bytes.now }
     ensures put { out.new ≡ with_bytes at bytes.now out.old }
@@ -34,7 +34,7 @@ fn put(out: &mut [u8], at: usize, bytes: &[u8]) -> usize
 }
 
 /// Writes bytes, preceded by their number, in the same way.
-fn put_sized(out: &mut [u8], at: usize, bytes: &[u8]) -> usize
+pub(crate) fn put_sized(out: &mut [u8], at: usize, bytes: &[u8]) -> usize
     requires { at + length (sized bytes.now) ≤ length out.now }
     ensures end { result ≡ at + length (sized bytes.now) }
     ensures put { out.new ≡ with_bytes at (sized bytes.now) out.old }
@@ -44,7 +44,7 @@ fn put_sized(out: &mut [u8], at: usize, bytes: &[u8]) -> usize
 }
 
 /// Writes a key and its value in the same way.
-fn put_pair(out: &mut [u8], at: usize, key: &[u8], value: &[u8]) -> usize
+pub(crate) fn put_pair(out: &mut [u8], at: usize, key: &[u8], value: &[u8]) -> usize
     requires { at + length (pair_bytes (key.now, value.now)) ≤ length out.now }
     ensures end { result ≡ at + length (pair_bytes (key.now, value.now)) }
     ensures put { out.new ≡ with_bytes at (pair_bytes (key.now, value.now)) out.old }

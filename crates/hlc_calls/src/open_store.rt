@@ -1,11 +1,10 @@
 //! The calls of an open store, with their answers as the numbers that C gets.
-ghost use Rattle.std.specs.Prelude.{◌≡◌, ◌≢◌, List, ◌∷◌, length, None, OnErr, IfOk, MatchResult};
+ghost use Rattle.std.specs.Prelude.{◌≡◌, ◌≢◌, List, length};
 ghost use Rattle.hlc_core.specs.Past.{Step, stamp_of, writes};
 ghost use Rattle.hlc_core.specs.StoreView.{nodes, Represents};
 ghost use Rattle.hlc_calls.specs.Answers.{ReturnsJoined, ReturnsJoinedAt, ReturnsOpened, ReturnsOpenedAtFloor};
 ghost use Rattle.hlc_calls.specs.Answers.{ReturnsClosed, IsCopied, ReturnsRead, ReturnsVacuumedAtFloor};
-ghost use Rattle.hlc_calls.specs.Answers.{ReturnsVacuumedTo};
-ghost use Rattle.hlc_calls.specs.Answers.{ReturnsVacuumChecked, narrowed};
+ghost use Rattle.hlc_calls.specs.Answers.{ReturnsVacuumedTo, ReturnsVacuumChecked, AreNumbers, narrowed};
 
 use crate::codes::{answer, refuse};
 use hlc_core::{Core, Report, Stamp};
@@ -135,7 +134,7 @@ pub fn read(core: &Core, id: u64, key: &[u8], out: &mut [u8], len: &mut usize) -
 }
 
 /// Returns the number, or the greatest one of 64 bits where it is greater.
-fn narrow(number: u128) -> u64
+pub(crate) fn narrow(number: u128) -> u64
     ensures { result ≡ narrowed number }
 {
     if number < 18_446_744_073_709_551_615 {
@@ -153,10 +152,14 @@ pub fn rows(core: &Core) -> u64
 
 /// Writes the content of a report: its floor, how many rows were kept, what they cost in bytes, and how many were
 /// dropped.
-fn put_report(report: &Report, floor: &mut u64, kept: &mut u64, bytes: &mut u64, dropped: &mut u64)
-    ensures counts { (floor.new ≡ report.now.floor) × (kept.new ≡ report.now.kept) }
-    ensures sizes { (bytes.new ≡ narrowed report.now.bytes)
-        × (dropped.new ≡ narrowed report.now.dropped) }
+pub(crate) fn put_report(
+    report: &Report,
+    floor: &mut u64,
+    kept: &mut u64,
+    bytes: &mut u64,
+    dropped: &mut u64,
+)
+    ensures { AreNumbers report.now floor.new kept.new bytes.new dropped.new }
 {
     *floor = report.floor.bits();
     *kept = report.kept;

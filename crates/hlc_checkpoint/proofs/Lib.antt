@@ -1,3 +1,4 @@
 pub mod AscendLemmas
 pub mod CheckpointLemmas
 mod Restored
+mod Copied

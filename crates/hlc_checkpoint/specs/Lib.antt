@@ -1,3 +1,4 @@
 pub mod StoreView
 pub mod Checkpoint
 pub mod RestoreFaults
+pub mod Sorted

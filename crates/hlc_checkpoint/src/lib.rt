@@ -1,10 +1,11 @@
 //! A checkpoint: the whole state of a store, as plain values; the first reason why some values are not a checkpoint;
-//! and the heads and the table from which a store is restored.
+//! the heads and the table from which a store is restored; and a table's rows in order.
 #![tactic(auto)]
 
 mod checkpoint;
 mod exact;
 mod restoring;
+mod sorted;
 
 pub use checkpoint::{Checkpoint, RestoreFault};
 pub use hlc_clock::Stamp;
@@ -13,3 +14,4 @@ pub use hlc_node::{Bytes, Row};
 pub use hlc_snapshot::Snapshot;
 pub use hlc_values::NoMemory;
 pub use restoring::{heads_of, table_of, table_of_moved};
+pub use sorted::{sorted_rows, sorted_rows_to};

@@ -20,7 +20,7 @@ use Rattle.hlc_node.proofs.NewestLemmas.{newest_is_greatest}
 use Rattle.hlc_index.specs.Entries.{key_cmp}
 use Rattle.hlc_columns.specs.Rows.{rows_of}
 use Rattle.hlc_columns.specs.Table.{table_rows}
-use Rattle.hlc_columns.specs.Answers.{answers_in, value_here, is_below, IsBetween, AreAnswers}
+use Rattle.hlc_columns.specs.Answers.{answers_in, pair_of, is_below, IsBetween, AreAnswers}
 use Rattle.hlc_columns.proofs.Found.{newest_alone}
 use Rattle.hlc_columns.proofs.Keys.{names, name_of_row}
 use Rattle.hlc_columns.proofs.WalkLemmas.{Entry, one_of}
@@ -94,7 +94,7 @@ answered es key value bound is =
     entry_of es key (subst (Contains (names es)) at.of_key (name_of_row es top.0 at.member))
 
 -- ---- each pair is a key with its answer
-pair_is : (key : List ℕ) (o : Option (List ℕ)) (k v : List ℕ) → Contains (value_here key o) (k, v)
+pair_is : (key : List ℕ) (o : Option (List ℕ)) (k v : List ℕ) → Contains (pair_of key o) (k, v)
     → (key ≡ k) × (o ≡ Some v)
 pair_is key None k v m = absurd (Contains-none {X = Pair} (k, v) m)
 pair_is key (Some value) k v m = elim (Contains-cons_cases {X = Pair} (key, value) (k, v) [] m) [
@@ -107,10 +107,10 @@ value_of : (es : List Entry) (bound : ℕ) (to : Option (List ℕ)) (k v : List 
     → (e : Entry) × Contains es e × (e.0 ≡ k) × (is_below to k ≡ true) × (own e bound ≡ Some v)
 value_of [] bound to k v m = absurd (Contains-none {X = Pair} (k, v) m)
 value_of (e ∷ es) bound to k v m =
-    let some : List Pair = value_here e.0 (own e bound) ++ answers_in es bound to in
+    let some : List Pair = pair_of e.0 (own e bound) ++ answers_in es bound to in
     let P : Bool → Type 0 = λ b. Contains (cond b some []) (k, v) in
     elim (cases_Bool (is_below to e.0)) [
-      | inl t ↦ elim (Contains-append_cases {X = Pair} (value_here e.0 (own e bound)) (answers_in es bound to) (k, v)
+      | inl t ↦ elim (Contains-append_cases {X = Pair} (pair_of e.0 (own e bound)) (answers_in es bound to) (k, v)
           (subst P t m)) [
             | inl here ↦
                 let is = pair_is e.0 (own e bound) k v here in
@@ -129,7 +129,7 @@ listed : (es : List Entry) (bound : ℕ) (to : Option (List ℕ)) (k v : List �
     → Contains (answers_in es bound to) (k, v)
 listed [] bound to k v e up m is under value = absurd (Contains-none e m)
 listed (x ∷ es) bound to k v e up m is under value =
-    let first : List Pair = value_here x.0 (own x bound) in
+    let first : List Pair = pair_of x.0 (own x bound) in
     let rest : List Pair = answers_in es bound to in
     let P : Bool → Type 0 = λ b. Contains (cond b (first ++ rest) []) (k, v) in
     elim (Contains-cons_cases x e es m) [
@@ -138,8 +138,8 @@ listed (x ∷ es) bound to k v e up m is under value =
           let value_too : own x bound ≡ Some v = ap (λ (z : Entry). own z bound) same ∙ value in
           subst P (sym (ap (is_below to) key ∙ under))
           (Contains-append_left {X = Pair} first rest (k, v)
-          (subst (λ o. Contains (value_here x.0 o) (k, v)) (sym value_too)
-          (subst (λ y. Contains (value_here y (Some v)) (k, v)) (sym key) (Contains-first {X = Pair} (k, v) []))))
+          (subst (λ o. Contains (pair_of x.0 o) (k, v)) (sym value_too)
+          (subst (λ y. Contains (pair_of y (Some v)) (k, v)) (sym key) (Contains-first {X = Pair} (k, v) []))))
       | inr there ↦
           let lt : key_cmp x.0 k ≡ Less =
           subst (λ y. key_cmp x.0 y ≡ Less) is (later x.0 es e (sorted_head key_cmp x.0 (names es) up) there) in
@@ -150,7 +150,7 @@ listed (x ∷ es) bound to k v e up m is under value =
 
 -- ---- in the order of the keys
 all_claimed : (P : List ℕ → Type 0) (key : List ℕ) (o : Option (List ℕ)) (pairs : List Pair)
-    → P key → AllByRecursion P (firsts pairs) → AllByRecursion P (firsts (value_here key o ++ pairs))
+    → P key → AllByRecursion P (firsts pairs) → AllByRecursion P (firsts (pair_of key o ++ pairs))
 all_claimed P key None pairs at rest = rest
 all_claimed P key (Some value) pairs at rest = (at, rest)
 
@@ -159,7 +159,7 @@ all_answers : (P : List ℕ → Type 0) (es : List Entry) (bound : ℕ) (to : Op
 all_answers P [] bound to all = tt
 all_answers P (e ∷ es) bound to all =
     elim (is_below to e.0) as
-    (λ b. AllByRecursion P (firsts (cond b (value_here e.0 (own e bound) ++ answers_in es bound to)
+    (λ b. AllByRecursion P (firsts (cond b (pair_of e.0 (own e bound) ++ answers_in es bound to)
     []))) [
       | true ↦ all_claimed P e.0 (own e bound) (answers_in es bound to) all.0 (all_answers P es bound to all.1)
       | false ↦ tt
@@ -167,7 +167,7 @@ all_answers P (e ∷ es) bound to all =
 
 sorted_pair : (key : List ℕ) (o : Option (List ℕ)) (pairs : List Pair)
     → AllByRecursion (λ k. key_cmp key k ≡ Less) (firsts pairs) → IsStrictlySortedBy key_cmp (firsts pairs)
-    → IsStrictlySortedBy key_cmp (firsts (value_here key o ++ pairs))
+    → IsStrictlySortedBy key_cmp (firsts (pair_of key o ++ pairs))
 unfolding IsStrictlySortedBy
 sorted_pair key None pairs below rest = rest
 sorted_pair key (Some value) pairs below rest = (below, rest)
@@ -178,7 +178,7 @@ unfolding IsStrictlySortedBy
 sorted_answers [] bound to up = tt
 sorted_answers (e ∷ es) bound to up =
     elim (is_below to e.0) as
-    (λ b. IsStrictlySortedBy key_cmp (firsts (cond b (value_here e.0 (own e bound) ++ answers_in es
+    (λ b. IsStrictlySortedBy key_cmp (firsts (cond b (pair_of e.0 (own e bound) ++ answers_in es
     bound to) []))) [
       | true ↦ sorted_pair e.0 (own e bound) (answers_in es bound to)
           (all_answers (λ k. key_cmp e.0 k ≡ Less) es bound to up.0) (sorted_answers es bound to up.1)

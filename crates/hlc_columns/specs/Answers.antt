@@ -30,15 +30,15 @@ pub record AreAnswers (rows : List Row) (bound : ℕ) (IsWanted : List ℕ → T
       → Contains pairs (key, value) ↔ (IsWanted key × (answer rows key bound ≡ Some value))
 
 -- a key with its value, if it has one
-abbrev pub value_here : List ℕ → Option (List ℕ) → List (List ℕ × List ℕ)
-value_here key None = []
-value_here key (Some value) = (key, value) ∷ []
+abbrev pub pair_of : List ℕ → Option (List ℕ) → List (List ℕ × List ℕ)
+pair_of key None = []
+pair_of key (Some value) = (key, value) ∷ []
 
 -- for some columns in turn, up to the first whose key is not below the end, the keys that have a value at a bound
 abbrev pub answers_in : List (List ℕ × List Cell) → ℕ → Option (List ℕ) → List (List ℕ × List ℕ)
 answers_in [] bound to = []
 answers_in (e ∷ es) bound to =
-    if is_below to e.0 then value_here e.0 (answer (rows_of e.0 e.1) e.0 bound) ++ answers_in es bound to else []
+    if is_below to e.0 then pair_of e.0 (answer (rows_of e.0 e.1) e.0 bound) ++ answers_in es bound to else []
 
 -- the entries that a walk has left
 abbrev pub entries_left : Walk → List (List ℕ × List Cell)

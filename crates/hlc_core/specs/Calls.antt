@@ -1,7 +1,6 @@
 -- The effect of each call of a core, for one past that the core represented.
 use Rattle.std.specs.Prelude.{◌≡◌, ℕ, ◌<◌, ◌≤◌, ◌+◌, ◌⊎◌, List, [], ◌∷◌, ◌==◌, ◌||◌, nat_lt, Option}
 use Rattle.std.specs.Prelude.{Some, None, if◌then◌else◌, Result, Ok, Err, MatchResult, ⊤}
-use Rattle.std.specs.List.Sorted.{IsPermutation}
 use Rattle.hlc_node.specs.declared.row.Row.{Row}
 use Rattle.hlc_node.specs.declared.item.Item.{Item}
 use Rattle.hlc_node.specs.declared.item.Body.{Body}
@@ -13,13 +12,12 @@ use Rattle.hlc_snapshot.specs.declared.fault.NoSnapshot.{NoSnapshot as NoSuchSna
 use Rattle.hlc_core.specs.declared.listing.Pair.{Pair}
 use Rattle.hlc_heads.specs.Heads.{AcceptedView}
 use Rattle.hlc_heads.specs.declared.heads.TheConstants.{MOST_NODES}
-use Rattle.hlc_vacuum.specs.Vacuumed.{rows_to}
-use Rattle.hlc_witness.specs.Certificate.{RowsAscend}
 use Rattle.hlc_vacuum.specs.declared.report.Report.{Report as AReport}
 use Rattle.hlc_core.specs.Listing.{IsListing}
 use Rattle.hlc_core.specs.Past.{Step, Took, Opened, Closed, Vacuumed, Joined, numbered, count, floor, opened, stamp_of}
 use Rattle.hlc_core.specs.Past.{writes, item_refusal, join_refusal, join_at_refusal, room_refusal, open_refusal}
 use Rattle.hlc_core.specs.Past.{vacuum_refusal}
+pub use Rattle.hlc_checkpoint.specs.Sorted.{AreRowsTo}
 use Rattle.hlc_core.specs.Stored.{IsReport, LeavesFewest}
 use Rattle.hlc_core.specs.StoreView.{StoreView, nodes, Represents}
 
@@ -114,11 +112,6 @@ list_refusal (Some stamp) = None
 abbrev pub Lists : ℕ → List Step → Result (List Pair) CoreFault → Type 0
 Lists id past (Ok listing) = IsListed (stamp_of id past) (writes past) listing
 Lists id past (Err fault) = IsRefusal (list_refusal (stamp_of id past)) ⊤ fault
-
--- the rows at or below a stamp, by key, stamp and node
-pub record AreRowsTo (rows : List Row) (bound : ℕ) (listed : List Row) : Type 0 where
-  pub same : IsPermutation (rows_to bound rows) listed
-  pub ascend : RowsAscend listed
 
 -- a vacuum to a stamp took place: the core represents it, the report is the expected one, and the remaining rows are
 -- the fewest against all accepted writes

@@ -11,7 +11,6 @@ mod link;
 mod listing;
 mod reply;
 mod rows;
-mod sorted;
 mod step;
 mod store;
 

@@ -1,12 +1,14 @@
-//! Several items in one call, for callers for which a call is expensive.
+//! Several items, or keys, in one call, for callers for which a call is expensive.
 ghost use Rattle.std.specs.Prelude.{◌≡◌, List};
-ghost use Rattle.hlc_core.specs.Past.{Step};
+ghost use Rattle.hlc_core.specs.Past.{Step, stamp_of, writes};
 ghost use Rattle.hlc_core.specs.StoreView.{Represents};
 ghost use Rattle.hlc_calls.specs.Batch.{AreEntered};
+ghost use Rattle.hlc_calls.specs.ReadAll.{ReturnsAll};
 ghost use Rattle.hlc_ffi.specs.Handle.{OnStore, nodes_in_handle};
 
 use crate::handle::on_core;
 use hlc_calls::batch::{Entry, enter_all};
+use hlc_calls::read_all::{Place, read_all};
 use hlc_handle::Store;
 use std::alloc::Global;
 
@@ -33,5 +35,35 @@ pub extern "C" fn hlc_accept_all(
         alloc,
         store,
         |core| enter_all(core, entries, bytes, many, word)
+    )
+}
+
+/// Reads keys in a snapshot in turn, each at a place among the bytes. For each the answer is a byte 0, or 1 and the
+/// value after its length of eight bytes, the low one first. Returns 0; or 103 where the bytes do not contain the next
+/// key, or 104 where its answer does not fit; with the length of the answers before it, and how many they are. Or
+/// returns 10. It takes no memory.
+#[unsafe(no_mangle)]
+pub extern "C" fn hlc_read_all(
+    alloc: Global,
+    store: &mut Store,
+    id: u64,
+    places: &[Place],
+    bytes: &[u8],
+    out: &mut [u8],
+    len: &mut usize,
+    many: &mut usize,
+) -> u32
+    ensures answer { OnStore store.old.room.value store.new.room.value
+        ((result ≡ 100) × (len.new ≡ 0) × (many.new ≡ 0) × (out.new ≡ out.old))
+        (λ old new. (past : List Step) → Represents old past → ReturnsAll (stamp_of id past)
+        (writes past) places.now bytes.now result len.new many.new out.old out.new) }
+    ensures same { store.new.room.value ≡ store.old.room.value }
+{
+    *len = 0;
+    *many = 0;
+    on_core!(
+        alloc,
+        store,
+        |core| read_all(core, id, places, bytes, out, len, many)
     )
 }

@@ -8,8 +8,12 @@ ghost use Rattle.hlc_ffi.specs.Handle.{IsOpening};
 pub mod accept;
 pub mod batch;
 mod handle;
+pub mod log;
 pub mod node;
 pub mod read;
+pub mod saved;
+pub mod status;
+pub mod texts;
 pub mod vacuum;
 
 use hlc_core::Core;

@@ -1,6 +1,6 @@
 //! A node, for C, which stores it by value: a call needs no memory and no store.
-ghost use Rattle.std.specs.Prelude.{◌≡◌, [], ◌∷◌, Some, None, false};
-ghost use Rattle.hlc_node.specs.Node.{expected_event};
+ghost use Rattle.std.specs.Prelude.{◌≡◌, ◌<◌, ◌≤◌, [], ◌∷◌, Some, None, false, max};
+ghost use Rattle.hlc_node.specs.Node.{expected_event, stamped};
 ghost use Rattle.hlc_node.specs.declared.item.Body.TheVariants.{Write as a_write, Report as a_report};
 ghost use Rattle.hlc_node.specs.declared.item.Body.TheVariants.{Retire as a_retire};
 ghost use Rattle.hlc_calls.specs.Nodes.{ReturnsStamped, ReturnsIssued};
@@ -15,6 +15,36 @@ pub extern "C" fn hlc_node_open(id: u16, start: u64) -> NodeCore
     ensures { result ≡ record { id = id; last = start; next = 0; retired = false } }
 {
     NodeCore::new(id, Stamp::from_bits(start))
+}
+
+/// Returns 0 and the node after a restart, from its number, the stamp of its last event, and the number of its next
+/// item; or 105, where no node has issued so many items up to that stamp, and a node as `hlc_node_open` makes it.
+#[unsafe(no_mangle)]
+pub extern "C" fn hlc_node_restore(id: u16, last: u64, next: u64, node: &mut NodeCore) -> u32
+    ensures restored { next ≤ last → (result ≡ 0)
+        × (node.new ≡ record { id = id; last = last; next = next; retired = false }) }
+    ensures refused { last < next → (result ≡ 105)
+        × (node.new ≡ record { id = id; last = last; next = 0; retired = false }) }
+{
+    let last = Stamp::from_bits(last);
+    match NodeCore::restore(id, last, next) {
+        Some(restored) => {
+            *node = restored;
+            0
+        }
+        None => {
+            *node = NodeCore::new(id, last);
+            105
+        }
+    }
+}
+
+/// Raises the node's clock to a stamp, without an event. A stamp at or below its last one changes nothing.
+#[unsafe(no_mangle)]
+pub extern "C" fn hlc_node_raise(node: &mut NodeCore, stamp: u64)
+    ensures { node.new ≡ stamped node.old (max node.old.last stamp) }
+{
+    node.raise_to(Stamp::from_bits(stamp));
 }
 
 /// Issues the item of a write. Returns 0, its number and its stamp, or a refusal and its word.

@@ -1,14 +1,18 @@
 //! The calls that read a store.
-ghost use Rattle.std.specs.Prelude.{◌≡◌, ◌≢◌, List, length};
-ghost use Rattle.hlc_core.specs.Past.{Step, floor, stamp_of, writes};
+ghost use Rattle.std.specs.Prelude.{◌≡◌, ◌≢◌, List, length, true, false};
+ghost use Rattle.hlc_core.specs.Past.{Step, closed_all, floor, stamp_of, writes};
 ghost use Rattle.hlc_core.specs.StoreView.{Represents, nodes};
 ghost use Rattle.hlc_calls.specs.Answers.{ReturnsOpened, ReturnsOpenedAtFloor, ReturnsClosed, ReturnsRead, narrowed};
 ghost use Rattle.hlc_calls.specs.Listing.{ReturnsListing};
+ghost use Rattle.hlc_calls.specs.Digest.{ReturnsDigest};
+ghost use Rattle.hlc_calls.specs.Scan.{ReturnsScan, ReturnsCount};
 ghost use Rattle.hlc_ffi.specs.Handle.{OnStore, nodes_in_handle};
 
 use crate::handle::on_core;
+use hlc_calls::digest::digest;
 use hlc_calls::list::list;
 use hlc_calls::open_store;
+use hlc_calls::scan::{count, scan};
 use hlc_core::{Core, Stamp};
 use hlc_handle::Store;
 use std::alloc::Global;
@@ -99,6 +103,20 @@ pub extern "C" fn hlc_close_snapshot(
     on_core!(alloc, store, |core| open_store::close(core, id, stamp))
 }
 
+/// Closes all open snapshots. Returns 0. It takes no memory.
+#[unsafe(no_mangle)]
+pub extern "C" fn hlc_close_all(alloc: Global, store: &mut Store) -> u32
+    ensures answer { OnStore store.old.room.value store.new.room.value (result ≡ 100)
+        (λ old new. (past : List Step) → Represents old past
+        → (result ≡ 0) × Represents new (closed_all old.snapshots past)) }
+    ensures nodes { nodes_in_handle store.new.room.value ≡ nodes_in_handle store.old.room.value }
+{
+    on_core!(alloc, store, |core| {
+        core.close_all();
+        0
+    })
+}
+
 /// Returns 0 and the floor. It takes no memory.
 #[unsafe(no_mangle)]
 pub extern "C" fn hlc_floor(alloc: Global, store: &mut Store, stamp: &mut u64) -> u32
@@ -149,4 +167,102 @@ pub extern "C" fn hlc_list(
 {
     *len = 0;
     on_core!(alloc, store, |core| list(core, id, out, len))
+}
+
+/// Lists the keys with a value in a snapshot, from one key on and below another, if that has bytes, as `hlc_list` does,
+/// but only as many whole pairs as fit. Returns 0, or 104 where a pair is left; with the length of the bytes, and how
+/// many pairs they are. Or returns 10. It takes no memory.
+#[unsafe(no_mangle)]
+pub extern "C" fn hlc_scan(
+    alloc: Global,
+    store: &mut Store,
+    id: u64,
+    from: &[u8],
+    to: &[u8],
+    out: &mut [u8],
+    len: &mut usize,
+    many: &mut usize,
+) -> u32
+    ensures answer { OnStore store.old.room.value store.new.room.value
+        ((result ≡ 100) × (len.new ≡ 0) × (many.new ≡ 0) × (out.new ≡ out.old))
+        (λ old new. (past : List Step) → Represents old past → ReturnsScan false (stamp_of id past) (writes past)
+        from.now to.now result len.new many.new out.old out.new) }
+    ensures same { store.new.room.value ≡ store.old.room.value }
+{
+    *len = 0;
+    *many = 0;
+    on_core!(
+        alloc,
+        store,
+        |core| scan(core, id, from, to, false, out, len, many)
+    )
+}
+
+/// Lists such a range as `hlc_scan` does, but the keys alone: for each its length, and the key.
+#[unsafe(no_mangle)]
+pub extern "C" fn hlc_scan_keys(
+    alloc: Global,
+    store: &mut Store,
+    id: u64,
+    from: &[u8],
+    to: &[u8],
+    out: &mut [u8],
+    len: &mut usize,
+    many: &mut usize,
+) -> u32
+    ensures answer { OnStore store.old.room.value store.new.room.value
+        ((result ≡ 100) × (len.new ≡ 0) × (many.new ≡ 0) × (out.new ≡ out.old))
+        (λ old new. (past : List Step) → Represents old past → ReturnsScan true (stamp_of id past) (writes past)
+        from.now to.now result len.new many.new out.old out.new) }
+    ensures same { store.new.room.value ≡ store.old.room.value }
+{
+    *len = 0;
+    *many = 0;
+    on_core!(
+        alloc,
+        store,
+        |core| scan(core, id, from, to, true, out, len, many)
+    )
+}
+
+/// Returns 0 and how many keys of such a range have a value in a snapshot, or 2^64 - 1 where there are more; or 10. It
+/// takes no memory.
+#[unsafe(no_mangle)]
+pub extern "C" fn hlc_count(
+    alloc: Global,
+    store: &mut Store,
+    id: u64,
+    from: &[u8],
+    to: &[u8],
+    many: &mut u64,
+) -> u32
+    ensures answer { OnStore store.old.room.value store.new.room.value
+        ((result ≡ 100) × (many.new ≡ 0)) (λ old new. (past : List Step) → Represents old past
+        → ReturnsCount (stamp_of id past) (writes past) from.now to.now result many.new) }
+    ensures same { store.new.room.value ≡ store.old.room.value }
+{
+    *many = 0;
+    on_core!(alloc, store, |core| count(core, id, from, to, many))
+}
+
+/// Digests such a range of a snapshot: returns 0, 32 and, where they fit, the bytes of the SHA-256 of what `hlc_list`
+/// would return for it; or 10. It takes no memory.
+#[unsafe(no_mangle)]
+pub extern "C" fn hlc_digest(
+    alloc: Global,
+    store: &mut Store,
+    id: u64,
+    from: &[u8],
+    to: &[u8],
+    out: &mut [u8],
+    len: &mut usize,
+) -> u32
+    ensures answer { OnStore store.old.room.value store.new.room.value
+        ((result ≡ 100) × (len.new ≡ 0) × (out.new ≡ out.old))
+        (λ old new. (past : List Step) → Represents old past → ReturnsDigest (stamp_of id past)
+        (writes past) from.now to.now result len.new out.old out.new) }
+    ensures same { store.new.room.value ≡ store.old.room.value }
+{
+    *len = 0;
+    on_core!(alloc, store, |core| digest(core, id, from, to, out, len))
 }

@@ -1,13 +1,15 @@
 //! The calls that drop what no reader needs.
 ghost use Rattle.std.specs.Prelude.{◌≡◌, ◌≢◌, List};
-ghost use Rattle.hlc_core.specs.Past.{Step, floor};
-ghost use Rattle.hlc_core.specs.StoreView.{nodes, Represents};
+ghost use Rattle.hlc_core.specs.Past.{Step};
+ghost use Rattle.hlc_core.specs.StoreView.{Represents};
 ghost use Rattle.hlc_calls.specs.Answers.{ReturnsVacuumedAtFloor, ReturnsVacuumedTo, ReturnsVacuumChecked};
-ghost use Rattle.hlc_calls.specs.Certified.{IsCertified, IsCertifiedTo, IsHalf};
+ghost use Rattle.hlc_calls.specs.Check.{ReturnsCheck};
+ghost use Rattle.hlc_calls.specs.Certified.{IsCertifiedAtFloor, IsCertifiedTo, IsHalfAtFloor};
 ghost use Rattle.hlc_ffi.specs.Handle.{OnStore, nodes_in_handle};
 
 use crate::handle::on_core;
 use hlc_calls::certify::{certify, certify_to};
+use hlc_calls::check::check;
 use hlc_calls::open_store;
 use hlc_core::Stamp;
 use hlc_handle::Store;
@@ -45,27 +47,41 @@ pub extern "C" fn hlc_vacuum(
     )
 }
 
-/// Does the same, with the certificate of the rows that are left up to the floor. Returns 0, its length in bytes and,
-/// where they fit, the bytes; or 15, where the vacuum may have taken place all the same. Where they do not fit, a
-/// further call certifies a further vacuum, which finds nothing to drop.
+/// Does the same, with the certificate of the rows that are left up to the floor. Returns 0, these numbers, the length
+/// of the certificate in bytes and, where they fit, the bytes; or 15, where the vacuum may have taken place. Where
+/// they do not fit, a further call certifies a further vacuum, which finds nothing to drop.
 #[unsafe(no_mangle)]
 pub extern "C" fn hlc_vacuum_certified(
     alloc: Global,
     store: &mut Store,
+    floor: &mut u64,
+    kept: &mut u64,
+    bytes: &mut u64,
+    dropped: &mut u64,
     out: &mut [u8],
     len: &mut usize,
 ) -> u32
     ensures answer { OnStore store.old.room.value store.new.room.value (result ≡ 100)
         (λ old new. result ≡ 0 → (past : List Step) → Represents old past
-        → IsCertified old new (floor (nodes old) past) past len.new out.old out.new) }
+        → IsCertifiedAtFloor old new past floor.new kept.new bytes.new dropped.new
+        len.new out.old out.new) }
     ensures half { OnStore store.old.room.value store.new.room.value (result ≡ 100)
         (λ old new. result ≢ 0 → (result ≡ 15) × ((past : List Step) → Represents old past
-        → IsHalf old new (floor (nodes old) past) past)) }
-    ensures nothing { result ≢ 0 → (len.new ≡ 0) × (out.new ≡ out.old) }
+        → IsHalfAtFloor old new past)) }
+    ensures nothing { result ≢ 0 → (floor.new ≡ 0) × (kept.new ≡ 0) × (bytes.new ≡ 0)
+        × (dropped.new ≡ 0) × (len.new ≡ 0) × (out.new ≡ out.old) }
     ensures nodes { nodes_in_handle store.new.room.value ≡ nodes_in_handle store.old.room.value }
 {
+    *floor = 0;
+    *kept = 0;
+    *bytes = 0;
+    *dropped = 0;
     *len = 0;
-    on_core!(alloc, store, |core| certify(alloc, core, out, len))
+    on_core!(
+        alloc,
+        store,
+        |core| certify(alloc, core, floor, kept, bytes, dropped, out, len)
+    )
 }
 
 /// Returns why `hlc_vacuum_to` would refuse a stamp, apart from out of memory: 0, or 8 and the floor, or 9 and the
@@ -118,32 +134,57 @@ pub extern "C" fn hlc_vacuum_to(
     )
 }
 
-/// Does the same, with the certificate of the rows that are left up to the stamp. Returns 0, its length in bytes and,
-/// where they fit, the bytes; or a refusal and its word; or 15, where the vacuum may have taken place all the same.
-/// Where they do not fit, a further call to the same stamp certifies a further vacuum, which finds nothing to drop.
+/// Does the same, with the certificate of the rows that are left up to the stamp. Returns 0, these numbers, the length
+/// of the certificate in bytes and, where they fit, the bytes; or a refusal and its word; or 15, where the vacuum may
+/// have taken place all the same. Where they do not fit, a further call to the same stamp certifies a further vacuum,
+/// which finds nothing to drop.
 #[unsafe(no_mangle)]
 pub extern "C" fn hlc_vacuum_to_certified(
     alloc: Global,
     store: &mut Store,
     at: u64,
+    word: &mut u64,
+    kept: &mut u64,
+    bytes: &mut u64,
+    dropped: &mut u64,
     out: &mut [u8],
     len: &mut usize,
-    word: &mut u64,
 ) -> u32
     ensures answer { OnStore store.old.room.value store.new.room.value
         ((result ≡ 100) × (word.new ≡ 0)) (λ old new. (past : List Step) → Represents old past
-        → IsCertifiedTo old new at past result word.new len.new out.old out.new) }
-    ensures nothing { result ≢ 0 → (len.new ≡ 0) × (out.new ≡ out.old) }
+        → IsCertifiedTo old new at past result word.new kept.new bytes.new dropped.new
+        len.new out.old out.new) }
+    ensures nothing { result ≢ 0 → (kept.new ≡ 0) × (bytes.new ≡ 0) × (dropped.new ≡ 0)
+        × (len.new ≡ 0) × (out.new ≡ out.old) }
     ensures same { result ≢ 0 → result ≢ 15
         → store.new.room.value ≡ store.old.room.value }
     ensures nodes { nodes_in_handle store.new.room.value ≡ nodes_in_handle store.old.room.value }
 {
-    *len = 0;
     *word = 0;
+    *kept = 0;
+    *bytes = 0;
+    *dropped = 0;
+    *len = 0;
     let at = Stamp::from_bits(at);
     on_core!(
         alloc,
         store,
-        |core| certify_to(alloc, core, at, out, len, word)
+        |core| certify_to(alloc, core, at, word, kept, bytes, dropped, out, len)
     )
+}
+
+/// Checks the text of a certificate, whoever made it. Returns 0, how many rows it shows to be the fewest, and what they
+/// cost in bytes, or 2^64 - 1 where that is greater; or 22 and the number of the first reason against it, 16 and the
+/// number of the first bad line, 15, or 20 where the text has more than 16,777,216 bytes.
+#[unsafe(no_mangle)]
+pub extern "C" fn hlc_check(
+    alloc: Global,
+    text: &[u8],
+    rows: &mut u64,
+    bytes: &mut u64,
+    word: &mut u64,
+) -> u32
+    ensures { ReturnsCheck text.now result rows.new bytes.new word.new }
+{
+    check(alloc, text, rows, bytes, word)
 }

@@ -3,3 +3,4 @@ pub mod Going
 pub mod Taken
 pub mod Outputs
 pub mod LineParts
+mod Verbs

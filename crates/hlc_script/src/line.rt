@@ -10,6 +10,7 @@ use hlc_text::words::LineWords;
 use hlc_values::NoMemory;
 use hlc_world::{Bytes, Event};
 use std::alloc::Global;
+use std::str;
 
 /// Returns the event of a line, with its bytes still in their spelling, or none where no event has this line.
 #[inline(always)]
@@ -96,70 +97,29 @@ pub(crate) fn owned(alloc: Global, spelled: &Spelled<'_>) -> Result<Bytes, NoMem
 }
 
 /// Returns the event of the words, or none.
+#[tactic(auto, using(crate::proofs::Verbs::verb_is_text))]
 fn event_of_words<'a>(words: &mut LineWords<'a>) -> Option<Event<Spelled<'a>>>
     ensures { Reads event_words HasLine words.old result }
 {
-    let verb = words.next()?;
-    if verb == b"write".as_slice() {
-        return write(words);
+    match str::from_utf8(words.next()?).ok()? {
+        "write" => write(words),
+        "delete" => delete(words),
+        "report" => report(words),
+        "retire" => retire(words),
+        "join" => join(words),
+        "send" => send(words),
+        "receive" => receive(words),
+        "observe" => observe(words),
+        "deliver" => deliver(words),
+        "open" => open(words),
+        "read" => read(words),
+        "list" => list(words),
+        "close" => close(words),
+        "floor" => floor(words),
+        "vacuum" => vacuum(words),
+        "rows" => rows(words),
+        _ => None,
     }
-    if verb == b"delete".as_slice() {
-        return delete(words);
-    }
-    if verb == b"report".as_slice() {
-        return report(words);
-    }
-    if verb == b"retire".as_slice() {
-        return retire(words);
-    }
-    if verb == b"join".as_slice() {
-        return join(words);
-    }
-    if verb == b"send".as_slice() {
-        return send(words);
-    }
-    if verb == b"receive".as_slice() {
-        return receive(words);
-    }
-    if verb == b"observe".as_slice() {
-        return observe(words);
-    }
-    if verb == b"deliver".as_slice() {
-        return deliver(words);
-    }
-    store_event(verb, words)
-}
-
-/// Returns the event of a verb that is not a verb of nodes, and of the words after it.
-fn store_event<'a>(verb: &[u8], words: &mut LineWords<'a>) -> Option<Event<Spelled<'a>>>
-    requires no_node { (verb.now ≢ codes "write") × (verb.now ≢ codes "delete")
-        × (verb.now ≢ codes "report") × (verb.now ≢ codes "retire") × (verb.now ≢ codes "join")
-        × (verb.now ≢ codes "send") × (verb.now ≢ codes "receive")
-        × (verb.now ≢ codes "observe") × (verb.now ≢ codes "deliver") }
-    ensures { Reads event_words HasLine (verb.now ∷ words.old) result }
-{
-    if verb == b"open".as_slice() {
-        return open(words);
-    }
-    if verb == b"read".as_slice() {
-        return read(words);
-    }
-    if verb == b"list".as_slice() {
-        return list(words);
-    }
-    if verb == b"close".as_slice() {
-        return close(words);
-    }
-    if verb == b"floor".as_slice() {
-        return floor(words);
-    }
-    if verb == b"vacuum".as_slice() {
-        return vacuum(words);
-    }
-    if verb == b"rows".as_slice() {
-        return rows(words);
-    }
-    None
 }
 
 // The event of each verb, from the words after it.

@@ -5,7 +5,7 @@ use Rattle.hlc_clock.specs.declared.stamp.TheConstants.{COUNTER_BOUND}
 use Rattle.hlc_node.specs.declared.item.Item.{Item}
 use Rattle.hlc_node.specs.declared.item.Body.TheVariants.{Write, Report}
 use Rattle.hlc_node.specs.Items.{an_item}
-use Rattle.hlc_node.specs.Node.{Node}
+use Rattle.hlc_node.specs.Node.{NodeView}
 use Rattle.hlc_words.specs.declared.plan.StormPlan.{StormPlan}
 
 -- the key of this number
@@ -38,5 +38,5 @@ abbrev pub items_of : StormPlan → ℕ → List Item
 items_of plan node = write_items plan.keys node plan.writes ++ report_item node plan.writes ∷ []
 
 -- a node that made so many writes
-abbrev pub after_writes : ℕ → ℕ → Node
+abbrev pub after_writes : ℕ → ℕ → NodeView
 after_writes node count = record { id = node; last = stamp_at count; next = count; retired = false }

@@ -1,15 +1,12 @@
 -- The rows that a vacuum keeps.
-use Rattle.std.specs.Prelude.{◌≡◌, ℕ, ◌<◌, ◌⊎◌, List, Some, length, Contains, filter, nat_le}
+use Rattle.std.specs.Prelude.{◌≡◌, ℕ, ◌<◌, ◌⊎◌, List, Some, length, Contains}
 use Rattle.hlc_node.specs.declared.row.Row.{Row}
 use Rattle.hlc_node.specs.Rows.{newest, IsRowSet}
 use Rattle.hlc_witness.specs.declared.witness.Witness.{Witness}
 use Rattle.hlc_clock.specs.Points.{last_point}
 use Rattle.hlc_witness.specs.Fewest.{Alike}
 use Rattle.hlc_witness.specs.Changes.{AreChanges}
-
--- the rows at or below a stamp
-abbrev pub rows_to : ℕ → List Row → List Row
-rows_to bound rows = filter (λ row. nat_le row.stamp bound) rows
+pub use Rattle.hlc_columns.specs.Rows.{rows_to}
 
 -- The kept rows are among these rows and are a row set, with all rows above the last point. They answer alike at the
 -- points, and at or below the last point they are as many as the changes.

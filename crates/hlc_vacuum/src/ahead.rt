@@ -9,7 +9,7 @@ const AHEAD: usize = 64;
 
 /// Returns the number of rows of the next 64 columns at every 64th position, and 0 at the others. None of these reads
 /// waits for the one before it, so a walk through those columns does not wait for memory at each.
-pub fn rows_ahead(columns: &[Keyed], from: usize) -> usize
+pub(crate) fn rows_ahead(columns: &[Keyed], from: usize) -> usize
     requires { from < length columns.now }
     ensures { result ≤ length (rows_in columns.now) }
 {

@@ -1,6 +1,6 @@
 -- The number and the text of each fault.
 use Rattle.std.specs.Prelude.{ℕ, List, codes}
-use Rattle.hlc_node.specs.declared.item.BodyFault.TheVariants.{BadKey, ValueTooLong}
+use Rattle.hlc_node.specs.Faults.{body_text}
 use Rattle.hlc_wire.specs.declared.fault.WireFault.{WireFault}
 use Rattle.hlc_wire.specs.declared.fault.WireFault.TheVariants.{Short, Version, Kind, EmptyKey, Flag, Trailing, Damaged}
 use Rattle.hlc_wire.specs.declared.fault.DecodeError.{DecodeError}
@@ -33,6 +33,5 @@ decode_text decoding.NoMemory = codes "out of memory"
 decode_text (decoding.Fault fault) = fault_text fault
 
 abbrev pub encode_text : EncodeError → List ℕ
-encode_text (encoding.BadBody BadKey) = codes "a key has 1 to 255 bytes"
-encode_text (encoding.BadBody ValueTooLong) = codes "a value has at most 65,535 bytes"
+encode_text (encoding.BadBody fault) = body_text fault
 encode_text encoding.NoMemory = codes "out of memory"

@@ -92,11 +92,10 @@ impl fmt::Display for EncodeError {
     ghost output = { λ error. Some (encode_text error) };
 
     fn fmt<W: fmt::Write>(&self, f: &mut fmt::Formatter<W>) -> fmt::Result {
-        f.write_str(match self {
-            EncodeError::BadBody(BodyFault::BadKey) => "a key has 1 to 255 bytes",
-            EncodeError::BadBody(BodyFault::ValueTooLong) => "a value has at most 65,535 bytes",
-            EncodeError::NoMemory => "out of memory",
-        })
+        match self {
+            EncodeError::BadBody(fault) => write!(f, "{fault}"),
+            EncodeError::NoMemory => f.write_str("out of memory"),
+        }
     }
 }
 

@@ -12,7 +12,7 @@ use Rattle.hlc_node.specs.declared.item.Body.{Body}
 use Rattle.hlc_node.specs.declared.item.Body.TheVariants.{Write as a_write, Report as a_report, Retire as a_retire}
 use Rattle.hlc_node.specs.declared.node.NodeFault.{NodeFault}
 use Rattle.hlc_node.specs.Items.{an_item, retires}
-use Rattle.hlc_node.specs.Node.{Node, clocked, unless_retired, expected_event, expected_issue, next_item, stamped}
+use Rattle.hlc_node.specs.Node.{NodeView, clocked, unless_retired, expected_event, expected_issue, next_item, stamped}
 use Rattle.hlc_node.specs.Node.{after_issue}
 use Rattle.hlc_core.specs.declared.reply.CoreReply.{CoreReply}
 use Rattle.hlc_core.specs.Past.{Step, numbered, stamp_of}
@@ -287,7 +287,7 @@ issues_not state s p reading body before after refusal h inside at left =
     (put-back state _ p before at (stays state s e refusal (is.left refusal) allowed h))
 
 -- a message that a node sent
-pub sends : (state : WorldView) (s : List (Event × Reply)) (p reading : ℕ) (before : IssuerView) (node : Node)
+pub sends : (state : WorldView) (s : List (Event × Reply)) (p reading : ℕ) (before : IssuerView) (node : NodeView)
     (st : ℕ) (stamps : List ℕ) → Represents state s → p < length state.nodes
     → slice_get state.nodes p ≡ Some before
     → expected_event before.node (before.node.last ∷ []) reading ≡ Ok st

@@ -19,7 +19,7 @@ use Rattle.hlc_node.specs.declared.item.Message.{Message}
 use Rattle.hlc_node.specs.declared.node.NodeFault.{NodeFault}
 use Rattle.hlc_node.specs.declared.node.NodeFault.TheVariants.{NumbersSpent}
 use Rattle.hlc_node.specs.Items.{an_item, body_refusal}
-use Rattle.hlc_node.specs.Node.{Node, clocked, unless_retired, unless_bad, expected_issue}
+use Rattle.hlc_node.specs.Node.{NodeView, clocked, unless_retired, unless_bad, expected_issue}
 use Rattle.hlc_core.specs.declared.fault.CoreFault.{CoreFault}
 use Rattle.hlc_core.specs.declared.event.CoreEvent.{CoreEvent}
 use Rattle.hlc_core.specs.declared.reply.CoreReply.{CoreReply}
@@ -323,7 +323,7 @@ issue-by false None last next reading st h =
           (refl, left, stamp-rises last reading st (clocked-ok _ st (sym (cond-false _ _ _ (ne_eqb _ _ left)) ∙ h)))
     ]
 
-pub issue-ok : (node : Node) (body : Body) (reading st : ℕ) → expected_issue node body reading ≡ Ok st
+pub issue-ok : (node : NodeView) (body : Body) (reading st : ℕ) → expected_issue node body reading ≡ Ok st
     → (body_refusal body ≡ None) × (node.next ≡ NUMBER_BOUND → ⊥) × (node.last < st)
 issue-ok node body reading st h = issue-by node.retired (body_refusal body) node.last node.next reading st h
 

@@ -6,7 +6,7 @@ use Rattle.hlc_node.specs.declared.item.Body.{Body}
 use Rattle.hlc_node.specs.declared.item.Body.TheVariants.{Write as a_write, Report as a_report, Retire as a_retire}
 use Rattle.hlc_node.specs.Items.{an_item, retires}
 use Rattle.hlc_node.specs.declared.item.Message.{Message}
-use Rattle.hlc_node.specs.Node.{Node}
+use Rattle.hlc_node.specs.Node.{NodeView}
 use Rattle.hlc_world.specs.declared.event.Event.{Event as EventOf}
 use Rattle.hlc_world.specs.declared.event.Event.TheVariants.{Write, Delete, Report, Retire, Join, Send, Receive}
 use Rattle.hlc_world.specs.declared.event.Event.TheVariants.{Observe}
@@ -106,7 +106,7 @@ abbrev pub message_at : ℕ → List (Event × Reply) → Option Message
 message_at number schedule = slice_get (sent schedule) number
 
 -- what a node is after a schedule
-abbrev pub node_of : ℕ → List (Event × Reply) → Node
+abbrev pub node_of : ℕ → List (Event × Reply) → NodeView
 node_of n schedule =
     record { id = n; last = last_stamp n schedule; next = length (issued n schedule); retired = has_retired n schedule }
 

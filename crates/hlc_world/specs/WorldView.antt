@@ -4,7 +4,7 @@ use Rattle.std.specs.Prelude.{MatchOption, Result, Ok, Err, map}
 use Rattle.hlc_node.specs.declared.item.Item.{Item}
 use Rattle.hlc_node.specs.declared.item.Body.{Body}
 use Rattle.hlc_node.specs.declared.item.Message.{Message}
-use Rattle.hlc_node.specs.Node.{Node, stamped, expected_event, expected_issue, next_item, after_issue}
+use Rattle.hlc_node.specs.Node.{NodeView, stamped, expected_event, expected_issue, next_item, after_issue}
 use Rattle.hlc_core.specs.StoreView.{StoreView, nodes as core_nodes, Represents as CoreRepresents}
 use Rattle.hlc_core.specs.Past.{numbered}
 use Rattle.hlc_core.specs.Calls.{new_refusal}
@@ -17,7 +17,7 @@ use Rattle.hlc_world.specs.Expected.{issue_refusal, of_core, IsLegal}
 
 -- what is stored for a node: the node itself, and the items that it issued
 pub record IssuerView : Type 0 where
-  pub node : Node
+  pub node : NodeView
   pub issued : List Item
 
 -- the stamps of some messages, which are all that a receipt depends on
@@ -71,7 +71,7 @@ Issues old new body reading (Err refusal) =
     × (new ≡ old)
 
 -- an item is stored, and its node becomes this one; or it is out of memory, and nothing changes
-abbrev pub Keeps : IssuerView → IssuerView → Node → Item → Result (ℕ × ℕ) Refusal → Type 0
+abbrev pub Keeps : IssuerView → IssuerView → NodeView → Item → Result (ℕ × ℕ) Refusal → Type 0
 Keeps old new node item (Ok made) =
     (made ≡ (item.stamp, item.number)) × (new ≡ record { node = node; issued = old.issued ++ item ∷ [] })
 Keeps old new node item (Err refusal) = (refusal ≡ NoMemory) × (new ≡ old)

@@ -1,0 +1,119 @@
+-- The items of a log, read one after another.
+use Rattle.std.proofs.Common.{◌≡◌, ℕ, ◌+◌, ◌-◌, ◌<◌, ◌∙◌, sym, ap, subst, List, [], ◌∷◌, ◌++◌}
+use Rattle.std.proofs.Common.{length, true, false, cond}
+use Rattle.std.proofs.Common.{refl, arith, length-append, Ok, inl, inr}
+use Rattle.std.proofs.lemmas.List.{append-nil, append_assoc}
+use Rattle.std.proofs.lemmas.Grind.{flat_map-append}
+use Rattle.hlc_node.specs.declared.item.Item.{Item}
+use Rattle.hlc_wire.specs.Spelling.{item_bytes}
+use Rattle.hlc_wire.specs.Reading.{item_at}
+use Rattle.hlc_wire.proofs.FieldLemmas.{IsBytes}
+use Rattle.hlc_wire.proofs.ItemLemmas.{item_reader}
+use Rattle.hlc_node.specs.declared.item.Body.{Body}
+use Rattle.hlc_node.specs.declared.item.Body.TheVariants.{Write, Report, Retire}
+use Rattle.hlc_node.specs.Items.{an_item}
+use Rattle.hlc_core.specs.declared.fault.CoreFault.{CoreFault}
+use Rattle.hlc_core.specs.Faults.{core_code, core_word}
+use Rattle.hlc_core.specs.Calls.{IsRefusal, IsWrite}
+use Rattle.hlc_core.specs.Past.{Step, Took, item_refusal}
+use Rattle.hlc_core.specs.StoreView.{StoreView, Represents}
+use Rattle.hlc_calls.specs.Log.{came_before, log_bytes, with_item, with_items, IsStopped, IsLogEnd, AreTaken}
+use Rattle.hlc_calls.specs.Log.{StartsWithWrite}
+
+pub front_is : (bytes : List ℕ) (item : Item) (rest : List ℕ) → IsBytes bytes → item_at bytes ≡ Ok (item, rest)
+    → bytes ≡ item_bytes item ++ rest
+front_is bytes item rest fits is = (item_reader.takes bytes (item, rest) fits is).0.parts
+
+pub front_shortens : (bytes : List ℕ) (item : Item) (rest : List ℕ) → IsBytes bytes → item_at bytes ≡ Ok (item, rest)
+    → length rest < length bytes
+front_shortens bytes item rest fits is =
+    let long : length bytes ≡ length (item_bytes item) + length rest =
+    ap length (front_is bytes item rest fits is) ∙ length-append (item_bytes item) rest in
+    omega (arith, long)
+
+-- an item that came before leaves the past, and another one is taken
+pub passed_over : (core : StoreView) (nodes : ℕ) (past : List Step) (item : Item) → came_before nodes past item ≡ true
+    → Represents core past → Represents core (with_item nodes item past)
+passed_over core nodes past item came h =
+    subst (λ b. Represents core (cond b past (Took item ∷ past))) (sym came) h
+
+pub taken : (core : StoreView) (nodes : ℕ) (past : List Step) (item : Item) → came_before nodes past item ≡ false
+    → Represents core (Took item ∷ past) → Represents core (with_item nodes item past)
+taken core nodes past item new h =
+    subst (λ b. Represents core (cond b past (Took item ∷ past))) (sym new) h
+
+-- the bytes of a write start as those of a write
+write_starts : (node number stamp : ℕ) (body : Body) (rest : List ℕ) → IsWrite body
+    → StartsWithWrite (item_bytes (an_item node number stamp body) ++ rest)
+write_starts node number stamp (Write key value) rest is = refl
+write_starts node number stamp Report rest is = absurd is
+write_starts node number stamp Retire rest is = absurd is
+
+-- an item that did not come before was refused, or a write had no memory
+pub refused_here : (nodes : ℕ) (bytes rest : List ℕ) (past : List Step) (item : Item) (fault : CoreFault)
+    → IsBytes bytes → item_at bytes ≡ Ok (item, rest) → came_before nodes past item ≡ false
+    → IsRefusal (item_refusal nodes past item) (IsWrite item.body) fault
+    → IsStopped nodes bytes past (core_code fault) (core_word fault)
+refused_here nodes bytes rest past item fault fits read new (inl is) =
+    inr (inr (item, rest, fault, read, new, is, refl, refl))
+refused_here nodes bytes rest past item fault fits read new (inr (none, is, write)) =
+    inl (
+      ap core_code is,
+      ap core_word is,
+      subst StartsWithWrite (sym (front_is bytes item rest fits read))
+          (write_starts item.node item.number item.stamp item.body rest write),
+    )
+
+-- the items before the rest of the bytes were taken
+abbrev pub TakenSoFar : ℕ → StoreView → List ℕ → List ℕ → List Step → ℕ → Type 0
+TakenSoFar nodes core bytes rest past count =
+    (items : List Item) × (bytes ≡ log_bytes items ++ rest) × (count ≡ length items)
+    × Represents core (with_items nodes items past)
+
+with_last : (nodes : ℕ) (items : List Item) (item : Item) (past : List Step)
+    → with_items nodes (items ++ item ∷ []) past ≡ with_item nodes item (with_items nodes items past)
+with_last nodes [] item past = refl
+with_last nodes (first ∷ items) item past = with_last nodes items item (with_item nodes first past)
+
+log_last : (items : List Item) (item : Item) → log_bytes (items ++ item ∷ []) ≡ log_bytes items ++ item_bytes item
+log_last items item =
+    flat_map-append item_bytes items (item ∷ []) ∙ ap (λ xs. log_bytes items ++ xs) (append-nil (item_bytes item))
+
+-- one more item
+pub one_more : (nodes : ℕ) (core : StoreView) (bytes rest after : List ℕ) (past : List Step) (count : ℕ)
+    (before : StoreView)
+    → (so : TakenSoFar nodes before bytes rest past count)
+    → (item : Item) × (rest ≡ item_bytes item ++ after)
+    × Represents core (with_item nodes item (with_items nodes so.0 past))
+    → TakenSoFar nodes core bytes after past (count + 1)
+one_more nodes core bytes rest after past count before so next = (
+  so.0 ++ next.0 ∷ [],
+  so.1 ∙ ap (λ (xs : List ℕ). log_bytes so.0 ++ xs) next.1
+      ∙ sym (append_assoc (log_bytes so.0) (item_bytes next.0) after)
+      ∙ ap (λ (xs : List ℕ). xs ++ after) (sym (log_last so.0 next.0)),
+  (let n = length-append so.0 (next.0 ∷ []) in omega (arith, n, so.2)),
+  subst (λ (p : List Step). Represents core p) (sym (with_last nodes so.0 next.0 past)) next.2,
+)
+
+-- bytes are left, and the item at their front was not taken
+pub stopped_end : (nodes : ℕ) (rest : List ℕ) (past : List Step) (code word : ℕ) → 0 < length rest
+    → IsStopped nodes rest past code word → IsLogEnd nodes rest past code word
+stopped_end nodes [] past code word some is = absurd (omega (arith, some))
+stopped_end nodes (byte ∷ bytes) past code word some is = is
+
+pub stopped_here : (nodes : ℕ) (core before : StoreView) (bytes rest : List ℕ) (past : List Step)
+    (code count word : ℕ) → (so : TakenSoFar nodes before bytes rest past count) → core ≡ before → 0 < length rest
+    → IsStopped nodes rest (with_items nodes so.0 past) code word
+    → AreTaken nodes core bytes past code (length bytes - length rest) count word
+stopped_here nodes core before bytes rest past code count word so same some is = record {
+  items = so.0;
+  rest = rest;
+  bytes_are = so.1;
+  used_is =
+      let long : length bytes ≡ length (log_bytes so.0) + length rest =
+      ap length so.1 ∙ length-append (log_bytes so.0) rest in
+      omega (arith, long);
+  many_is = so.2;
+  represents = subst (λ (c : StoreView). Represents c (with_items nodes so.0 past)) (sym same) so.3;
+  end = stopped_end nodes rest (with_items nodes so.0 past) code word some is;
+}

@@ -1,0 +1,44 @@
+-- The item at the front was read, and came before or was accepted.
+use Rattle.std.proofs.Common.{◌∙◌, ℕ, sym, subst, arith}
+use Rattle.hlc_core.specs.StoreView.{nodes}
+use Rattle.hlc_core.specs.Faults.{core_code}
+use Rattle.hlc_calls.specs.Log.{IsStopped}
+use Rattle.hlc_calls.proofs.Logs.{front_is, front_shortens, passed_over, taken, refused_here}
+use Rattle.hlc_calls.proofs.log.take_front.Goals as goal
+
+pub returns-then-came-clause-answer : goal.returns-then-came-clause-answer
+returns-then-came-clause-answer c = λ past h. (
+  c.in-Ok.found.0,
+  front_is c.args.bytes.now c.in-Ok.found.0 c.in-Ok.found.1.now
+      (λ i. omega (arith, c.type_inv.bytes i)) c.in-Ok.ensures.read,
+  passed_over c.args.core.now _ past c.in-Ok.found.0 (sym (c.came.ensures past h) ∙ c.if-came.true) h,
+)
+
+pub returns-then-came-clause-shorter : goal.returns-then-came-clause-shorter
+returns-then-came-clause-shorter c =
+    front_shortens c.args.bytes.now c.in-Ok.found.0 c.in-Ok.found.1.now
+    (λ i. omega (arith, c.type_inv.bytes i)) c.in-Ok.ensures.read
+
+pub returns-in-Ok-accept_copy-clause-answer : goal.returns-in-Ok-accept_copy-clause-answer
+returns-in-Ok-accept_copy-clause-answer c = λ past h. (
+  c.in-Ok.found.0,
+  front_is c.args.bytes.now c.in-Ok.found.0 c.in-Ok.found.1.now
+      (λ i. omega (arith, c.type_inv.bytes i)) c.in-Ok.ensures.read,
+  taken c.accept_copy.new.self _ past c.in-Ok.found.0 (sym (c.came.ensures past h) ∙ c.if-came.false)
+      (c.in-Ok-accept_copy.ensures.represents past h).1,
+)
+
+pub returns-in-Ok-accept_copy-clause-shorter : goal.returns-in-Ok-accept_copy-clause-shorter
+returns-in-Ok-accept_copy-clause-shorter c =
+    front_shortens c.args.bytes.now c.in-Ok.found.0 c.in-Ok.found.1.now
+    (λ i. omega (arith, c.type_inv.bytes i)) c.in-Ok.ensures.read
+
+pub returns-clause-answer : goal.returns-clause-answer
+returns-clause-answer c = λ past h.
+    let here = refused_here (nodes c.args.core.now) c.args.bytes.now c.in-Ok.found.1.now past c.in-Ok.found.0
+    c.in-Err.fault (λ i. omega (arith, c.type_inv.bytes i)) c.in-Ok.ensures.read
+    (sym (c.came.ensures past h) ∙ c.if-came.false) (c.in-Err.ensures.represents past h) in
+    subst (λ (code : ℕ). IsStopped (nodes c.args.core.now) c.args.bytes.now past code c.refuse.new.word)
+    (sym c.refuse.ensures.0)
+    (subst (λ (word : ℕ). IsStopped (nodes c.args.core.now) c.args.bytes.now past (core_code c.in-Err.fault) word)
+    (sym c.refuse.ensures.1) here)

@@ -1,0 +1,83 @@
+-- The items of a log as bytes, one after another, and what a store takes of them.
+use Rattle.std.specs.Prelude.{◌≡◌, ◌⊎◌, ◌&&◌, ℕ, List, [], ◌∷◌, ◌++◌, Bool, true}
+use Rattle.std.specs.Prelude.{false, nat_lt, length}
+use Rattle.std.specs.Prelude.{Some, None, Ok, Err, slice_get}
+use Rattle.std.specs.Prelude.{if◌then◌else◌}
+use Rattle.std.specs.List.{flat_map}
+use Rattle.hlc_node.specs.declared.item.Item.{Item}
+use Rattle.hlc_node.specs.declared.item.Body.{Body}
+use Rattle.hlc_node.specs.declared.item.Body.TheVariants.{Report, Retire}
+use Rattle.hlc_node.specs.declared.item.BodyFault.{BodyFault}
+use Rattle.hlc_node.specs.Faults.{body_code}
+use Rattle.hlc_node.specs.Items.{body_refusal}
+use Rattle.hlc_wire.specs.declared.fault.WireFault.{WireFault}
+use Rattle.hlc_wire.specs.Faults.{fault_code}
+use Rattle.hlc_wire.specs.Spelling.{item_bytes}
+use Rattle.hlc_wire.specs.Reading.{item_at}
+use Rattle.hlc_core.specs.declared.fault.CoreFault.{CoreFault}
+use Rattle.hlc_core.specs.Faults.{core_code, core_word}
+use Rattle.hlc_core.specs.Past.{Step, Took, numbered, count, item_refusal}
+use Rattle.hlc_core.specs.StoreView.{StoreView, Represents}
+use Rattle.hlc_calls.specs.Answers.{IsCopied}
+
+-- the bytes of some items, one after another
+abbrev pub log_bytes : List Item → List ℕ
+log_bytes items = flat_map item_bytes items
+
+-- an item of this number was accepted before
+abbrev pub came_before : ℕ → List Step → Item → Bool
+came_before nodes past item = nat_lt item.node (numbered nodes past) && nat_lt item.number (count item.node past)
+
+-- the past after an item: unchanged if it came before
+abbrev pub with_item : ℕ → Item → List Step → List Step
+with_item nodes item past = if came_before nodes past item then past else Took item ∷ past
+
+-- the past after some items, one after another
+abbrev pub with_items : ℕ → List Item → List Step → List Step
+with_items nodes [] past = past
+with_items nodes (item ∷ items) past = with_items nodes items (with_item nodes item past)
+
+-- a write or a deletion is at the front of some bytes: byte 19 is the kind of an item, and 0 for these
+abbrev pub StartsWithWrite : List ℕ → Type 0
+StartsWithWrite bytes = slice_get bytes 19 ≡ Some 0
+
+-- why the item at the front of some bytes was not taken: out of memory, which only a write needs; the first fault of the
+-- bytes; or the expected refusal of an item that did not come before
+abbrev pub IsStopped : ℕ → List ℕ → List Step → ℕ → ℕ → Type 0
+IsStopped nodes bytes past code word =
+    ((code ≡ 15) × (word ≡ 0) × StartsWithWrite bytes)
+    ⊎ (((fault : WireFault) × (item_at bytes ≡ Err fault) × (code ≡ 106) × (word ≡ fault_code fault))
+    ⊎ ((item : Item) × (rest : List ℕ) × (fault : CoreFault) × (item_at bytes ≡ Ok (item, rest))
+    × (came_before nodes past item ≡ false) × (item_refusal nodes past item ≡ Some fault)
+    × (code ≡ core_code fault) × (word ≡ core_word fault)))
+
+-- no bytes are left, and the answer is 0; or the item at their front was not taken
+abbrev pub IsLogEnd : ℕ → List ℕ → List Step → ℕ → ℕ → Type 0
+IsLogEnd nodes [] past code word = (code ≡ 0) × (word ≡ 0)
+IsLogEnd nodes (byte ∷ bytes) past code word = IsStopped nodes (byte ∷ bytes) past code word
+
+-- The first items of the bytes were taken, as far as possible: so many items, of so many bytes.
+pub record AreTaken (nodes : ℕ) (new : StoreView) (bytes : List ℕ) (past : List Step) (code used many word : ℕ)
+    : Type 0 where
+  pub items : List Item
+  pub rest : List ℕ
+  pub bytes_are : bytes ≡ log_bytes items ++ rest
+  pub used_is : used ≡ length (log_bytes items)
+  pub many_is : many ≡ length items
+  pub represents : Represents new (with_items nodes items past)
+  pub end : IsLogEnd nodes rest (with_items nodes items past) code word
+
+-- the body of a report, or of a retirement
+abbrev pub plain_body : Bool → Body
+plain_body false = Report
+plain_body true = Retire
+
+-- The bytes of an item are returned: how many there are, and the bytes, if they fit; or why no item has this body, or
+-- out of memory where one has it.
+abbrev pub ReturnsItem : Item → ℕ → ℕ → List ℕ → List ℕ → Type 0
+ReturnsItem item code len old new =
+    ((code ≡ 0) × (body_refusal item.body ≡ None) × (len ≡ length (item_bytes item))
+    × IsCopied (item_bytes item) old new)
+    ⊎ (((fault : BodyFault) × (body_refusal item.body ≡ Some fault) × (code ≡ body_code fault) × (len ≡ 0)
+    × (new ≡ old))
+    ⊎ ((code ≡ 15) × (body_refusal item.body ≡ None) × (len ≡ 0) × (new ≡ old)))

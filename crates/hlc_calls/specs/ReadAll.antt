@@ -1,0 +1,47 @@
+-- How the answers of many keys are returned: each as a byte 0 for none, or 1 and the value after its length.
+use Rattle.std.specs.Prelude.{◌≡◌, ◌≢◌, ◌⊎◌, ℕ, ◌+◌, ◌<◌, ◌≤◌, List, []}
+use Rattle.std.specs.Prelude.{◌∷◌, true, false, length, take, get_or}
+use Rattle.std.specs.Prelude.{Option, Some, None}
+use Rattle.std.specs.List.{flat_map}
+use Rattle.hlc_node.specs.declared.row.Row.{Row}
+use Rattle.hlc_node.specs.Rows.{answer}
+use Rattle.hlc_calls.specs.declared.read_all.Place.{Place}
+use Rattle.hlc_calls.specs.Batch.{piece, lies}
+use Rattle.hlc_calls.specs.Listing.{sized, with_bytes}
+
+abbrev pub answer_bytes : Option (List ℕ) → List ℕ
+answer_bytes None = 0 ∷ []
+answer_bytes (Some value) = 1 ∷ sized value
+
+-- the answer of the key at a place, as bytes
+abbrev pub answer_at : List Row → ℕ → List ℕ → Place → List ℕ
+answer_at rows stamp bytes place = answer_bytes (answer rows (piece place.at place.len bytes) stamp)
+
+-- the answers of the keys at some places, one after another
+abbrev pub answers_at : List Row → ℕ → List ℕ → List Place → List ℕ
+answers_at rows stamp bytes places = flat_map (answer_at rows stamp bytes) places
+
+-- why a key was not answered: the bytes do not contain it, or its answer does not fit
+abbrev pub IsLeftOut : List Row → ℕ → List ℕ → Place → ℕ → ℕ → ℕ → Type 0
+IsLeftOut rows stamp bytes place len room code =
+    ((code ≡ 103) × (lies place.at place.len bytes ≡ false))
+    ⊎ ((code ≡ 104) × (lies place.at place.len bytes ≡ true)
+    × (room < len + length (answer_at rows stamp bytes place)))
+
+-- The first keys were answered in their order, so many of them. These are all; or the next one was left out.
+pub record ReturnsAnswers (rows : List Row) (stamp : ℕ) (places : List Place) (bytes : List ℕ)
+    (code len many : ℕ) (old new : List ℕ) : Type 0 where
+  pub most : many ≤ length places
+  pub len_is : len ≡ length (answers_at rows stamp bytes (take many places))
+  pub fits : len ≤ length old
+  pub answers : new ≡ with_bytes 0 (answers_at rows stamp bytes (take many places)) old
+  pub all : code ≡ 0 → many ≡ length places
+  pub next : code ≢ 0 → (place : Place) × (many < length places) × (place ≡ get_or places many place)
+      × IsLeftOut rows stamp bytes place len (length old) code
+
+-- the answers at the stamp of the snapshot are returned; or 10, where there is no such snapshot
+abbrev pub ReturnsAll
+    : Option ℕ → List Row → List Place → List ℕ → ℕ → ℕ → ℕ → List ℕ → List ℕ → Type 0
+ReturnsAll None rows places bytes code len many old new = (code ≡ 10) × (len ≡ 0) × (many ≡ 0) × (new ≡ old)
+ReturnsAll (Some stamp) rows places bytes code len many old new =
+    ReturnsAnswers rows stamp places bytes code len many old new

@@ -1,0 +1,29 @@
+-- How a store's bytes are returned, and how one is made of bytes.
+use Rattle.std.specs.Prelude.{◌≡◌, ◌⊎◌, ℕ, List, length, Err}
+use Rattle.hlc_wire.specs.declared.fault.WireFault.{WireFault}
+use Rattle.hlc_wire.specs.Faults.{fault_code}
+use Rattle.hlc_checkpoint.specs.Checkpoint.{IsCopyOf}
+use Rattle.hlc_checkpoint.specs.RestoreFaults.{fault_code as reason_code}
+use Rattle.hlc_checkpoint.specs.declared.checkpoint.RestoreFault.{RestoreFault}
+use Rattle.hlc_core.specs.StoreView.{StoreView}
+use Rattle.hlc_saved.specs.Saved.{AreOf, SpellNone}
+use Rattle.hlc_saved.specs.Reading.{saved}
+use Rattle.hlc_saved.specs.declared.fault.ResumeError.TheVariants.{Parts}
+use Rattle.hlc_calls.specs.Answers.{IsCopied}
+
+-- bytes of this kind are returned: how many there are, and the bytes, if they fit
+abbrev pub ReturnsBytes : (List ℕ → Type 0) → ℕ → List ℕ → List ℕ → Type 0
+ReturnsBytes IsWanted len old new =
+    (bytes : List ℕ) × IsWanted bytes × (len ≡ length bytes) × IsCopied bytes old new
+
+-- the bytes are those of a checkpoint with this word, and the store has exactly its state
+abbrev pub IsMade : List ℕ → ℕ → StoreView → Type 0
+IsMade bytes word core = (kept : StoreView) × AreOf bytes word kept × IsCopyOf kept core
+
+-- no store was made: out of memory; or the first fault of the bytes is returned, or the first reason why their content
+-- is no checkpoint
+abbrev pub IsNotMade : List ℕ → ℕ → ℕ → Type 0
+IsNotMade bytes code word =
+    ((code ≡ 15) × (word ≡ 0))
+    ⊎ (((fault : WireFault) × (saved bytes ≡ Err fault) × (code ≡ 106) × (word ≡ fault_code fault))
+    ⊎ ((fault : RestoreFault) × SpellNone bytes (Parts fault) × (code ≡ 107) × (word ≡ reason_code fault)))

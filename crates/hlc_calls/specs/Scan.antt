@@ -1,0 +1,57 @@
+-- How a part of a listing is returned: as many whole pairs as the buffer has room for.
+use Rattle.std.specs.Prelude.{◌≡◌, ℕ, ◌+◌, ◌<◌, ◌≤◌, List, [], ◌∷◌, ◌++◌, length}
+use Rattle.std.specs.Prelude.{Option, Some, None}
+use Rattle.std.specs.Prelude.{Bool, true, false}
+use Rattle.std.specs.List.{flat_map}
+use Rattle.hlc_node.specs.declared.row.Row.{Row}
+use Rattle.hlc_columns.specs.Answers.{AreAnswers, IsBetween}
+use Rattle.hlc_calls.specs.Answers.{narrowed}
+use Rattle.hlc_calls.specs.Listing.{sized, pair_bytes, with_bytes}
+
+-- the end of a range: no bytes represent none
+abbrev pub end_of : List ℕ → Option (List ℕ)
+end_of [] = None
+end_of (byte ∷ bytes) = Some (byte ∷ bytes)
+
+-- what is written of a pair: its key alone, or all of it
+abbrev pub part_bytes : Bool → List ℕ × List ℕ → List ℕ
+part_bytes true pair = sized pair.0
+part_bytes false pair = pair_bytes pair
+
+-- the bytes that are written of all pairs, in their order
+abbrev pub parts_bytes : Bool → List (List ℕ × List ℕ) → List ℕ
+parts_bytes alone pairs = flat_map (part_bytes alone) pairs
+
+-- after so many bytes: no pair is left, and the answer is 0; or the next one does not fit, and it is 104
+abbrev pub IsEnd : Bool → List (List ℕ × List ℕ) → ℕ → ℕ → ℕ → Type 0
+IsEnd alone [] len room code = code ≡ 0
+IsEnd alone (pair ∷ pairs) len room code = (code ≡ 104) × (room < len + length (part_bytes alone pair))
+
+-- the bytes of the first pairs are returned, of as many as fit
+pub record ReturnsFitting
+    (alone : Bool) (pairs : List (List ℕ × List ℕ)) (code len many : ℕ) (old new : List ℕ) : Type 0 where
+  pub first : List (List ℕ × List ℕ)
+  pub rest : List (List ℕ × List ℕ)
+  pub pairs_are : pairs ≡ first ++ rest
+  pub many_is : many ≡ length first
+  pub len_is : len ≡ length (parts_bytes alone first)
+  pub fits : len ≤ length old
+  pub bytes : new ≡ with_bytes 0 (parts_bytes alone first) old
+  pub end : IsEnd alone rest len (length old) code
+
+-- the keys of a range that have a value at the stamp of the snapshot are returned, alone or with it, as many as fit; or
+-- 10, where there is no such snapshot
+abbrev pub ReturnsScan
+    : Bool → Option ℕ → List Row → List ℕ → List ℕ → ℕ → ℕ → ℕ → List ℕ → List ℕ → Type 0
+ReturnsScan alone None rows from to code len many old new = (code ≡ 10) × (len ≡ 0) × (many ≡ 0) × (new ≡ old)
+ReturnsScan alone (Some stamp) rows from to code len many old new =
+    (pairs : List (List ℕ × List ℕ)) × AreAnswers rows stamp (IsBetween from (end_of to)) pairs
+    × ReturnsFitting alone pairs code len many old new
+
+-- the number of keys of a range that have a value at the stamp of the snapshot is returned; or 10, where there is no
+-- such snapshot
+abbrev pub ReturnsCount : Option ℕ → List Row → List ℕ → List ℕ → ℕ → ℕ → Type 0
+ReturnsCount None rows from to code many = (code ≡ 10) × (many ≡ 0)
+ReturnsCount (Some stamp) rows from to code many =
+    (code ≡ 0) × ((pairs : List (List ℕ × List ℕ)) × AreAnswers rows stamp (IsBetween from (end_of to)) pairs
+    × (many ≡ narrowed (length pairs)))

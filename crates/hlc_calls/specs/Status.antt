@@ -1,0 +1,40 @@
+-- What a store has, as it is returned.
+use Rattle.std.specs.Prelude.{◌≡◌, ℕ, ◌<◌, ◌≤◌, List, Bool, false, Option, Some, None}
+use Rattle.std.specs.Prelude.{slice_get, ◌⊎◌}
+use Rattle.hlc_intake.specs.IntakeView.{IntakeView}
+use Rattle.hlc_snapshot.specs.declared.snapshot.Snapshot.{Snapshot}
+use Rattle.hlc_core.specs.Past.{Step, numbered, count, head, retired, floor}
+
+-- the number of a node's next item, its head and whether it has retired; or 1, where no node has this number
+abbrev pub ReturnsLink : ℕ → ℕ → List Step → ℕ → ℕ → ℕ → Bool → Type 0
+ReturnsLink nodes node past code next at is_retired =
+    (node < numbered nodes past
+    → (code ≡ 0) × (next ≡ count node past) × (at ≡ head node past) × (is_retired ≡ retired node past))
+    × (numbered nodes past ≤ node → (code ≡ 1) × (next ≡ 0) × (at ≡ 0) × (is_retired ≡ false))
+
+-- the node at this place has not retired, and its head is this stamp
+abbrev pub IsHolder : List IntakeView → ℕ → ℕ → Type 0
+IsHolder links floor place =
+    (link : IntakeView) × (slice_get links place ≡ Some link) × (link.retired ≡ false) × (link.head ≡ floor)
+
+-- the first such place, if there is one
+abbrev pub IsFirstHolder : List IntakeView → ℕ → Option ℕ → Type 0
+IsFirstHolder links floor None = (place : ℕ) → IsHolder links floor place → ⊥
+IsFirstHolder links floor (Some place) =
+    IsHolder links floor place × ((other : ℕ) → other < place → IsHolder links floor other → ⊥)
+
+-- a node whose number is assigned holds the floor back: it has not retired, and its head is the floor
+abbrev pub HoldsFloor : ℕ → List Step → ℕ → Type 0
+HoldsFloor nodes past node =
+    (node < numbered nodes past) × (retired node past ≡ false) × (head node past ≡ floor nodes past)
+
+-- the first node that holds the floor back is returned; or 1, where none does
+abbrev pub ReturnsHolder : ℕ → List Step → ℕ → ℕ → Type 0
+ReturnsHolder nodes past code node =
+    ((code ≡ 0) × HoldsFloor nodes past node × ((other : ℕ) → other < node → HoldsFloor nodes past other → ⊥))
+    ⊎ ((code ≡ 1) × (node ≡ 0) × ((other : ℕ) → HoldsFloor nodes past other → ⊥))
+
+-- an open snapshot's id and stamp are returned; or 10
+abbrev pub ReturnsSnapshot : Option Snapshot → ℕ → ℕ → ℕ → Type 0
+ReturnsSnapshot None code id stamp = (code ≡ 10) × (id ≡ 0) × (stamp ≡ 0)
+ReturnsSnapshot (Some snapshot) code id stamp = (code ≡ 0) × (id ≡ snapshot.id) × (stamp ≡ snapshot.stamp)

@@ -1,0 +1,121 @@
+//! Many keys in one call, for callers for which a call is expensive.
+ghost use Rattle.std.specs.Prelude.{◌≡◌, ◌≤◌, ◌<◌, ◌+◌, List, length};
+ghost use Rattle.std.specs.Prelude.{option_copied, MatchOption, MatchResult};
+ghost use Rattle.hlc_core.specs.Past.{Step, stamp_of, writes};
+ghost use Rattle.hlc_core.specs.StoreView.{Represents};
+ghost use Rattle.hlc_calls.specs.Listing.{with_bytes};
+ghost use Rattle.hlc_calls.specs.ReadAll.{answer_at, answer_bytes, IsLeftOut, ReturnsAll, ReturnsAnswers};
+
+use crate::batch::piece_of;
+use crate::list::{put, put_sized};
+use hlc_core::{Core, View};
+
+/// The place of a key among some bytes.
+#[repr(C)]
+#[derive(Clone, Copy)]
+pub struct Place {
+    pub at: usize,
+    pub len: usize,
+}
+
+/// Writes an answer to a place of a buffer, and returns the place after it; or none, where it does not fit.
+fn put_answer(out: &mut [u8], at: usize, value: Option<&[u8]>) -> Option<usize>
+    requires { at ≤ length out.now }
+    ensures { MatchOption result
+        ((length out.old < at + length (answer_bytes (option_copied value.entry))) × (out.new ≡ out.old))
+        (λ end. (end ≡ at + length (answer_bytes (option_copied value.entry))) × (end ≤ length out.old)
+        × (out.new ≡ with_bytes at (answer_bytes (option_copied value.entry)) out.old)) }
+{
+    let room = out.len() - at;
+    match value {
+        None => {
+            if room == 0 {
+                return None;
+            }
+            Some(put(out, at, &[0]))
+        }
+        Some(value) => {
+            if room < 9 || room - 9 < value.len() {
+                return None;
+            }
+            let start = put(out, at, &[1]);
+            Some(put_sized(out, start, value))
+        }
+    }
+}
+
+/// Writes the answer of the key at a place among the bytes. Returns the place after it; or 103 where the bytes do not
+/// contain the key, or 104 where the answer does not fit.
+fn put_key(
+    view: &View<'_>,
+    place: &Place,
+    bytes: &[u8],
+    out: &mut [u8],
+    at: usize,
+) -> Result<usize, u32>
+    requires { at ≤ length out.now }
+    ensures { MatchResult result
+        (λ end. (end ≡ at + length (answer_at view.now.rows view.now.stamp bytes.now place.now))
+        × (end ≤ length out.old)
+        × (out.new
+        ≡ with_bytes at (answer_at view.now.rows view.now.stamp bytes.now place.now) out.old))
+        (λ code. IsLeftOut view.now.rows view.now.stamp bytes.now place.now at (length out.old) code
+        × (out.new ≡ out.old)) }
+{
+    let Some(key) = piece_of(bytes, place.at, place.len) else {
+        return Err(103);
+    };
+    put_answer(out, at, view.get(key)).ok_or(104)
+}
+
+/// Writes the answers of keys in turn to the start of a buffer, and how many bytes and answers it wrote. Returns 0, or
+/// why the next key is left out.
+fn put_answers(
+    view: &View<'_>,
+    places: &[Place],
+    bytes: &[u8],
+    out: &mut [u8],
+    len: &mut usize,
+    many: &mut usize,
+) -> u32
+    ensures { ReturnsAnswers view.now.rows view.now.stamp places.now bytes.now
+        result len.new many.new out.old out.new }
+{
+    let mut at = 0usize;
+    let mut index = 0usize;
+    while index < places.len() {
+        match put_key(view, &places[index], bytes, out, at) {
+            Ok(end) => at = end,
+            Err(code) => {
+                *len = at;
+                *many = index;
+                return code;
+            }
+        }
+        index += 1;
+    }
+    *len = at;
+    *many = index;
+    0
+}
+
+/// Reads keys in a snapshot, at some places among bytes. Returns what `put_answers` returns; or 10.
+pub fn read_all(
+    core: &Core,
+    id: u64,
+    places: &[Place],
+    bytes: &[u8],
+    out: &mut [u8],
+    len: &mut usize,
+    many: &mut usize,
+) -> u32
+    ensures { (past : List Step) → Represents core.now past → ReturnsAll (stamp_of id past)
+        (writes past) places.now bytes.now result len.new many.new out.old out.new }
+{
+    *len = 0;
+    *many = 0;
+    match core.at(id) {
+        None => 10,
+        Some(view) => put_answers(&view, places, bytes, out, len, many),
+    }
+}

@@ -1,0 +1,56 @@
+//! A store to bytes and back.
+ghost use Rattle.std.specs.Prelude.{◌≡◌, ◌≢◌, List, ℕ, MatchResult};
+ghost use Rattle.hlc_core.specs.Past.{Step};
+ghost use Rattle.hlc_core.specs.StoreView.{Represents};
+ghost use Rattle.hlc_saved.specs.Saved.{AreOfStore, BytesRepresent};
+ghost use Rattle.hlc_calls.specs.Saved.{ReturnsBytes, IsMade, IsNotMade};
+
+use crate::open_store::fill;
+use hlc_core::Core;
+use hlc_saved::{ResumeError, resume, save};
+use std::alloc::Global;
+
+/// Saves a store with a word of the caller's. Returns 0, the length of the bytes and, where they fit, the bytes; or 15.
+pub fn checkpoint(alloc: Global, core: &Core, word: u64, out: &mut [u8], len: &mut usize) -> u32
+    ensures saved { result ≡ 0
+        → ReturnsBytes (λ bytes. AreOfStore bytes word core.now) len.new out.old out.new }
+    ensures represents { result ≡ 0 → (past : List Step) → Represents core.now past
+        → ReturnsBytes (λ bytes. BytesRepresent bytes word past) len.new out.old out.new }
+    ensures nothing { result ≢ 0 → (result ≡ 15) × (len.new ≡ 0) × (out.new ≡ out.old) }
+{
+    *len = 0;
+    match save(alloc, core, word) {
+        Ok(bytes) => {
+            fill(bytes.as_slice(), out, len);
+            0
+        }
+        Err(_) => 15,
+    }
+}
+
+/// Makes a store from bytes, and writes the word with which they were saved. Returns the store; or 15; or 106 and the
+/// number of the first fault of the bytes, or 107 and the number of the first reason why they are no checkpoint.
+pub fn restore(alloc: Global, bytes: &[u8], word: &mut u64) -> Result<Core, u32>
+    ensures made { MatchResult result (λ core. IsMade bytes.now word.new core)
+        (λ code. IsNotMade bytes.now code word.new) }
+    ensures represents { (saved : ℕ) (past : List Step) → BytesRepresent bytes.now saved past
+        → MatchResult result (λ core. (word.new ≡ saved) × Represents core past)
+        (λ code. code ≡ 15) }
+{
+    *word = 0;
+    match resume(alloc, bytes) {
+        Ok(made) => {
+            *word = made.word;
+            Ok(made.core)
+        }
+        Err(ResumeError::NoMemory) => Err(15),
+        Err(ResumeError::Bytes(fault)) => {
+            *word = fault.code() as u64;
+            Err(106)
+        }
+        Err(ResumeError::Parts(fault)) => {
+            *word = fault.code() as u64;
+            Err(107)
+        }
+    }
+}

@@ -1,0 +1,116 @@
+//! The calls that write items as bytes, for a log, and take them from there.
+ghost use Rattle.std.specs.Prelude.{◌≡◌, List, Some, None};
+ghost use Rattle.hlc_node.specs.declared.item.Body.TheVariants.{Write as a_write, Report as a_report};
+ghost use Rattle.hlc_node.specs.declared.item.Body.TheVariants.{Retire as a_retire};
+ghost use Rattle.hlc_node.specs.Items.{an_item};
+ghost use Rattle.hlc_core.specs.Past.{Step};
+ghost use Rattle.hlc_core.specs.StoreView.{nodes, Represents};
+ghost use Rattle.hlc_calls.specs.Log.{AreTaken, ReturnsItem};
+ghost use Rattle.hlc_ffi.specs.Handle.{OnStore, nodes_in_handle};
+
+use crate::handle::on_core;
+use hlc_calls::log;
+use hlc_core::Stamp;
+use hlc_handle::Store;
+use std::alloc::Global;
+
+/// Writes the write that a node issued as bytes. Returns 0, the length of the bytes and, where they fit, the bytes; or
+/// 12, 13 or 15.
+#[unsafe(no_mangle)]
+pub extern "C" fn hlc_item_write(
+    alloc: Global,
+    node: u16,
+    number: u64,
+    stamp: u64,
+    key: &[u8],
+    value: &[u8],
+    out: &mut [u8],
+    len: &mut usize,
+) -> u32
+    ensures { ReturnsItem (an_item node number stamp (a_write key.now (Some value.now)))
+        result len.new out.old out.new }
+{
+    let stamp = Stamp::from_bits(stamp);
+    log::put_write(alloc, node, number, stamp, key, Some(value), out, len)
+}
+
+/// Writes the deletion that a node issued as bytes. Returns 0, the length of the bytes and, where they fit, the bytes;
+/// or 12 or 15.
+#[unsafe(no_mangle)]
+pub extern "C" fn hlc_item_delete(
+    alloc: Global,
+    node: u16,
+    number: u64,
+    stamp: u64,
+    key: &[u8],
+    out: &mut [u8],
+    len: &mut usize,
+) -> u32
+    ensures { ReturnsItem (an_item node number stamp (a_write key.now None))
+        result len.new out.old out.new }
+{
+    let stamp = Stamp::from_bits(stamp);
+    log::put_write(alloc, node, number, stamp, key, None, out, len)
+}
+
+/// Writes the report that a node issued as bytes. Returns 0, the length of the bytes and, where they fit, the bytes; or
+/// 15.
+#[unsafe(no_mangle)]
+pub extern "C" fn hlc_item_report(
+    alloc: Global,
+    node: u16,
+    number: u64,
+    stamp: u64,
+    out: &mut [u8],
+    len: &mut usize,
+) -> u32
+    ensures { ReturnsItem (an_item node number stamp a_report) result len.new out.old out.new }
+{
+    let stamp = Stamp::from_bits(stamp);
+    log::put_plain(alloc, node, number, stamp, false, out, len)
+}
+
+/// Writes the retirement that a node issued as bytes. Returns 0, the length of the bytes and, where they fit, the
+/// bytes; or 15.
+#[unsafe(no_mangle)]
+pub extern "C" fn hlc_item_retire(
+    alloc: Global,
+    node: u16,
+    number: u64,
+    stamp: u64,
+    out: &mut [u8],
+    len: &mut usize,
+) -> u32
+    ensures { ReturnsItem (an_item node number stamp a_retire) result len.new out.old out.new }
+{
+    let stamp = Stamp::from_bits(stamp);
+    log::put_plain(alloc, node, number, stamp, true, out, len)
+}
+
+/// Accepts the items of a log in turn, and passes over those whose numbers were accepted before, until one is refused.
+/// Returns 0, or the answer for that one and its word: its refusal, or 106 and the number of the first fault of the
+/// bytes, or 15. With each answer it returns how many items were accepted or passed over, and how many bytes they have.
+#[unsafe(no_mangle)]
+pub extern "C" fn hlc_items_accept(
+    alloc: Global,
+    store: &mut Store,
+    bytes: &[u8],
+    used: &mut usize,
+    many: &mut usize,
+    word: &mut u64,
+) -> u32
+    ensures answer { OnStore store.old.room.value store.new.room.value
+        ((result ≡ 100) × (used.new ≡ 0) × (many.new ≡ 0) × (word.new ≡ 0))
+        (λ old new. (past : List Step) → Represents old past
+        → AreTaken (nodes old) new bytes.now past result used.new many.new word.new) }
+    ensures nodes { nodes_in_handle store.new.room.value ≡ nodes_in_handle store.old.room.value }
+{
+    *used = 0;
+    *many = 0;
+    *word = 0;
+    on_core!(
+        alloc,
+        store,
+        |core| log::take_all(alloc, core, bytes, used, many, word)
+    )
+}

@@ -1,0 +1,37 @@
+//! The version of the library, and its answers in words.
+ghost use Rattle.std.specs.Prelude.{◌≡◌, length};
+ghost use Rattle.hlc_calls.specs.Answers.{IsCopied};
+ghost use Rattle.hlc_calls.specs.Texts.{answer_name, answer_text};
+
+use hlc_calls::open_store::fill;
+use hlc_calls::texts::{name, text};
+
+/// The version, as 10,000 times the first number, 100 times the second, and the third.
+const VERSION: u32 = 100;
+
+/// Returns the version of the library.
+#[unsafe(no_mangle)]
+pub extern "C" fn hlc_version() -> u32
+    ensures { result ≡ 100 }
+{
+    VERSION
+}
+
+/// Writes the name of an answer in the header: its length and, where they fit, its bytes. The length is 0 for a number
+/// that is no answer.
+#[unsafe(no_mangle)]
+pub extern "C" fn hlc_error_name(answer: u32, out: &mut [u8], len: &mut usize)
+    ensures len { len.new ≡ length (answer_name answer) }
+    ensures copied { IsCopied (answer_name answer) out.old out.new }
+{
+    fill(name(answer).as_bytes(), out, len);
+}
+
+/// Writes what an answer says, in the same way.
+#[unsafe(no_mangle)]
+pub extern "C" fn hlc_error_text(answer: u32, out: &mut [u8], len: &mut usize)
+    ensures len { len.new ≡ length (answer_text answer) }
+    ensures copied { IsCopied (answer_text answer) out.old out.new }
+{
+    fill(text(answer).as_bytes(), out, len);
+}
