@@ -17,9 +17,15 @@
  * caller's and are not used after the call.
  *
  * What the caller must ensure, and nothing checks:
- *   - a store is HLC_CLOSED_STORE at first, only these functions change it, and no copy of it is used besides;
- *   - one call at a time on a store, also for reads: where several threads call, a lock orders their calls. No call
- *     comes from a signal handler. Calls on different stores and nodes may run concurrently;
+ *   - a store is HLC_CLOSED_STORE at first, and only these functions change it;
+ *   - one call at a time with a store: where several threads call, a lock orders their calls. No call comes from a
+ *     signal handler. Calls with different stores and nodes may run concurrently;
+ *   - calls that only read a store (those that may run beside "reads" in the table) may run concurrently, as under the
+ *     reading side of a read-write lock, if each gets a copy of the store of its own, which it has alone:
+ *         hlc_store mine = *store;
+ *         hlc_read(&mine, ...);
+ *     The copy is made after the last call that changed the store, and no call changes the store while a call uses a
+ *     copy. A copy is passed to no other calls, and is not closed;
  *   - a pointer is not NULL, unless its length is 0: (NULL, 0) represents no bytes, and no entries. It is aligned, and
  *     what it points to is live and does not overlap what another argument points to; a node's `retired` and an entry's
  *     `deletes` are false or true;
@@ -29,7 +35,8 @@
  * measurements.
  *
  * All calls. Each call on a store also returns HLC_CLOSED, except hlc_open, hlc_restore and hlc_close. The last column
- * says what may run beside a call: calls on other stores, calls on other nodes, or all.
+ * says what may run beside a call: calls with other stores; these and reads of the same store, with copies; calls with
+ * other nodes; or all.
  *
  *   call                                refusals, in this order           memory  beside
  *   hlc_open                            1 15 101                          yes     other stores
@@ -37,28 +44,28 @@
  *   hlc_accept_write, _delete           1 27 6 14 7 12 13 15              yes     other stores
  *   hlc_accept_report, _retire          1 27 6 14 7                               other stores
  *   hlc_accept_all                      103, those of hlc_accept_write    yes     other stores
- *   hlc_check_write, _delete, _report   those of hlc_accept but 15                other stores
+ *   hlc_check_write, _delete, _report   those of hlc_accept but 15                reads
  *   hlc_join                            26 15                             yes     other stores
  *   hlc_join_at                         26 9 15                           yes     other stores
  *   hlc_open_snapshot                   8 9 11 14 15                      yes     other stores
  *   hlc_open_snapshot_at_floor          11 14 15                          yes     other stores
  *   hlc_close_snapshot, hlc_close_all   10; none                                  other stores
- *   hlc_read                            10 102                                    other stores
- *   hlc_read_all                        10 103 104                                other stores
- *   hlc_list                            10                                        other stores
- *   hlc_scan                            10 104                                    other stores
- *   hlc_scan_keys                       10 104                                    other stores
- *   hlc_count, hlc_digest               10                                        other stores
- *   hlc_floor, _rows, _horizon, _nodes  none                                      other stores
- *   hlc_link, hlc_floor_node            1                                         other stores
- *   hlc_snapshot                        10                                        other stores
+ *   hlc_read                            10 102                                    reads
+ *   hlc_read_all                        10 103 104                                reads
+ *   hlc_list                            10                                        reads
+ *   hlc_scan                            10 104                                    reads
+ *   hlc_scan_keys                       10 104                                    reads
+ *   hlc_count, hlc_digest               10                                        reads
+ *   hlc_floor, _rows, _horizon, _nodes  none                                      reads
+ *   hlc_link, hlc_floor_node            1                                         reads
+ *   hlc_snapshot                        10                                        reads
  *   hlc_vacuum, hlc_vacuum_certified    15                                yes     other stores
  *   hlc_vacuum_to, _to_certified        8 9 15                            yes     other stores
- *   hlc_check_vacuum                    8 9                                       other stores
+ *   hlc_check_vacuum                    8 9                                       reads
  *   hlc_item_write, _delete             12 13 15                          yes     all
  *   hlc_item_report, _retire            15                                yes     all
  *   hlc_items_accept                    106 1 27 6 14 7 15                yes     other stores
- *   hlc_checkpoint                      15                                yes     other stores
+ *   hlc_checkpoint                      15                                yes     reads
  *   hlc_restore                         101 106 107 15                    yes     other stores
  *   hlc_node_open, _raise                                                         other nodes
  *   hlc_node_restore                    105                                       other nodes

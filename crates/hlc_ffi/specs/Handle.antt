@@ -11,6 +11,10 @@ abbrev pub OnStore : Option StoreView → Option StoreView → Type 0 → (Store
 OnStore old new Closed Open =
     MatchOption old (Closed × (new ≡ None)) (λ before. MatchOption new ⊥ (λ after. Open before after))
 
+-- the answer is about the store that is read; of a closed one it is this
+abbrev pub OnReader : Option StoreView → Type 0 → (StoreView → Type 0) → Type 0
+OnReader kept Closed Open = MatchOption kept Closed Open
+
 -- A closed store was opened, and nothing took place in it; or it stays closed, for the expected reason or because it
 -- ran out of memory. An open one is unchanged.
 abbrev pub IsOpening : Option StoreView → Option StoreView → ℕ → ℕ → Type 0

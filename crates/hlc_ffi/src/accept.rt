@@ -6,12 +6,12 @@ ghost use Rattle.hlc_node.specs.Items.{an_item};
 ghost use Rattle.hlc_core.specs.Past.{Step};
 ghost use Rattle.hlc_core.specs.StoreView.{Represents};
 ghost use Rattle.hlc_calls.specs.Answers.{ReturnsAccepted, ReturnsChecked, ReturnsJoined, ReturnsJoinedAt};
-ghost use Rattle.hlc_ffi.specs.Handle.{OnStore, nodes_in_handle};
+ghost use Rattle.hlc_ffi.specs.Handle.{OnStore, nodes_in_handle, OnReader};
 
-use crate::handle::on_core;
+use crate::handle::{of_core, on_core};
 use hlc_calls::{items, open_store};
 use hlc_core::{Core, ItemRef, Stamp};
-use hlc_handle::Store;
+use hlc_handle::{Reader, Store};
 use std::alloc::Global;
 
 /// Accepts the write that a node issued under this number. Returns 0 and its stamp, or a refusal and its word.
@@ -110,8 +110,7 @@ pub extern "C" fn hlc_accept_retire(
 /// Returns why `hlc_accept_write` would refuse a write, apart from out of memory: 0, or the refusal and its word.
 #[unsafe(no_mangle)]
 pub extern "C" fn hlc_check_write(
-    alloc: Global,
-    store: &mut Store,
+    store: &mut Reader,
     node: u16,
     number: u64,
     stamp: u64,
@@ -119,61 +118,58 @@ pub extern "C" fn hlc_check_write(
     value: &[u8],
     word: &mut u64,
 ) -> u32
-    ensures answer { OnStore store.old.room.value store.new.room.value
-        ((result ≡ 100) × (word.new ≡ 0)) (λ old new. (past : List Step) → Represents old past
-        → ReturnsChecked old (an_item node number stamp (a_write key.now (Some value.now)))
+    ensures answer { OnReader store.old.room.value
+        ((result ≡ 100) × (word.new ≡ 0)) (λ core. (past : List Step) → Represents core past
+        → ReturnsChecked core (an_item node number stamp (a_write key.now (Some value.now)))
         past result word.new) }
     ensures same { store.new.room.value ≡ store.old.room.value }
 {
     *word = 0;
     let item = ItemRef::write(node, number, Stamp::from_bits(stamp), key, Some(value));
-    on_core!(alloc, store, |core| items::check(core, &item, word))
+    of_core!(store, |core| items::check(core, &item, word))
 }
 
 /// Returns why `hlc_accept_delete` would refuse a deletion, apart from out of memory: 0, or the refusal and its word.
 #[unsafe(no_mangle)]
 pub extern "C" fn hlc_check_delete(
-    alloc: Global,
-    store: &mut Store,
+    store: &mut Reader,
     node: u16,
     number: u64,
     stamp: u64,
     key: &[u8],
     word: &mut u64,
 ) -> u32
-    ensures answer { OnStore store.old.room.value store.new.room.value
-        ((result ≡ 100) × (word.new ≡ 0)) (λ old new. (past : List Step) → Represents old past
-        → ReturnsChecked old (an_item node number stamp (a_write key.now None))
+    ensures answer { OnReader store.old.room.value
+        ((result ≡ 100) × (word.new ≡ 0)) (λ core. (past : List Step) → Represents core past
+        → ReturnsChecked core (an_item node number stamp (a_write key.now None))
         past result word.new) }
     ensures same { store.new.room.value ≡ store.old.room.value }
 {
     *word = 0;
     let item = ItemRef::write(node, number, Stamp::from_bits(stamp), key, None);
-    on_core!(alloc, store, |core| items::check(core, &item, word))
+    of_core!(store, |core| items::check(core, &item, word))
 }
 
 /// Returns why `hlc_accept_report`, or `hlc_accept_retire`, would refuse an item: 0, or the refusal and its word.
 #[unsafe(no_mangle)]
 pub extern "C" fn hlc_check_report(
-    alloc: Global,
-    store: &mut Store,
+    store: &mut Reader,
     node: u16,
     number: u64,
     stamp: u64,
     word: &mut u64,
 ) -> u32
-    ensures answer { OnStore store.old.room.value store.new.room.value
-        ((result ≡ 100) × (word.new ≡ 0)) (λ old new. (past : List Step) → Represents old past
-        → ReturnsChecked old (an_item node number stamp a_report) past result word.new) }
-    ensures retire { OnStore store.old.room.value store.new.room.value
-        ((result ≡ 100) × (word.new ≡ 0)) (λ old new. (past : List Step) → Represents old past
-        → ReturnsChecked old (an_item node number stamp a_retire) past result word.new) }
+    ensures answer { OnReader store.old.room.value
+        ((result ≡ 100) × (word.new ≡ 0)) (λ core. (past : List Step) → Represents core past
+        → ReturnsChecked core (an_item node number stamp a_report) past result word.new) }
+    ensures retire { OnReader store.old.room.value
+        ((result ≡ 100) × (word.new ≡ 0)) (λ core. (past : List Step) → Represents core past
+        → ReturnsChecked core (an_item node number stamp a_retire) past result word.new) }
     ensures same { store.new.room.value ≡ store.old.room.value }
 {
     *word = 0;
     let stamp = Stamp::from_bits(stamp);
-    on_core!(
-        alloc,
+    of_core!(
         store,
         |core| items::check_plain(core, node, number, stamp, word)
     )

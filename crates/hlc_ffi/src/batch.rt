@@ -4,12 +4,12 @@ ghost use Rattle.hlc_core.specs.Past.{Step, stamp_of, writes};
 ghost use Rattle.hlc_core.specs.StoreView.{Represents};
 ghost use Rattle.hlc_calls.specs.Batch.{AreEntered};
 ghost use Rattle.hlc_calls.specs.ReadAll.{ReturnsAll};
-ghost use Rattle.hlc_ffi.specs.Handle.{OnStore, nodes_in_handle};
+ghost use Rattle.hlc_ffi.specs.Handle.{OnStore, nodes_in_handle, OnReader};
 
-use crate::handle::on_core;
+use crate::handle::{of_core, on_core};
 use hlc_calls::batch::{Entry, enter_all};
 use hlc_calls::read_all::{Place, read_all};
-use hlc_handle::Store;
+use hlc_handle::{Reader, Store};
 use std::alloc::Global;
 
 /// Accepts writes and deletions in turn, until one is refused. Returns 0, or the answer for the refused one, its word,
@@ -44,8 +44,7 @@ pub extern "C" fn hlc_accept_all(
 /// returns 10. It takes no memory.
 #[unsafe(no_mangle)]
 pub extern "C" fn hlc_read_all(
-    alloc: Global,
-    store: &mut Store,
+    store: &mut Reader,
     id: u64,
     places: &[Place],
     bytes: &[u8],
@@ -53,16 +52,15 @@ pub extern "C" fn hlc_read_all(
     len: &mut usize,
     many: &mut usize,
 ) -> u32
-    ensures answer { OnStore store.old.room.value store.new.room.value
+    ensures answer { OnReader store.old.room.value
         ((result ≡ 100) × (len.new ≡ 0) × (many.new ≡ 0) × (out.new ≡ out.old))
-        (λ old new. (past : List Step) → Represents old past → ReturnsAll (stamp_of id past)
+        (λ core. (past : List Step) → Represents core past → ReturnsAll (stamp_of id past)
         (writes past) places.now bytes.now result len.new many.new out.old out.new) }
     ensures same { store.new.room.value ≡ store.old.room.value }
 {
     *len = 0;
     *many = 0;
-    on_core!(
-        alloc,
+    of_core!(
         store,
         |core| read_all(core, id, places, bytes, out, len, many)
     )

@@ -16,4 +16,20 @@ macro_rules! on_core {
     };
 }
 
+/// Makes a call that only reads the core of an open store. Returns 100 for a closed store.
+macro_rules! of_core {
+    ($reader:expr, |$core:ident| $call:expr) => {
+        match $reader.take() {
+            None => 100,
+            Some(lent) => {
+                let $core: &hlc_core::Core = lent.core();
+                let code = $call;
+                $reader.put(lent);
+                code
+            }
+        }
+    };
+}
+
+pub(crate) use of_core;
 pub(crate) use on_core;

@@ -17,7 +17,7 @@ pub mod texts;
 pub mod vacuum;
 
 use hlc_core::Core;
-pub use hlc_handle::Store;
+pub use hlc_handle::{Reader, Store};
 use std::alloc::Global;
 
 /// Opens a closed store of so many nodes, 1 to 64, in which nothing took place. Returns 0, 1, 15, or 101 for an open

@@ -6,15 +6,15 @@ ghost use Rattle.hlc_calls.specs.Answers.{ReturnsOpened, ReturnsOpenedAtFloor, R
 ghost use Rattle.hlc_calls.specs.Listing.{ReturnsListing};
 ghost use Rattle.hlc_calls.specs.Digest.{ReturnsDigest};
 ghost use Rattle.hlc_calls.specs.Scan.{ReturnsScan, ReturnsCount};
-ghost use Rattle.hlc_ffi.specs.Handle.{OnStore, nodes_in_handle};
+ghost use Rattle.hlc_ffi.specs.Handle.{OnStore, nodes_in_handle, OnReader};
 
-use crate::handle::on_core;
+use crate::handle::{of_core, on_core};
 use hlc_calls::digest::digest;
 use hlc_calls::list::list;
 use hlc_calls::open_store;
 use hlc_calls::scan::{count, scan};
 use hlc_core::{Core, Stamp};
-use hlc_handle::Store;
+use hlc_handle::{Reader, Store};
 use std::alloc::Global;
 
 /// Opens a snapshot at a stamp. Returns 0 and its id, or a refusal and its word.
@@ -64,25 +64,20 @@ pub extern "C" fn hlc_open_snapshot_at_floor(
 /// 10. It takes no memory.
 #[unsafe(no_mangle)]
 pub extern "C" fn hlc_read(
-    alloc: Global,
-    store: &mut Store,
+    store: &mut Reader,
     id: u64,
     key: &[u8],
     out: &mut [u8],
     len: &mut usize,
 ) -> u32
-    ensures answer { OnStore store.old.room.value store.new.room.value
+    ensures answer { OnReader store.old.room.value
         ((result ≡ 100) × (len.new ≡ 0) × (out.new ≡ out.old))
-        (λ old new. (past : List Step) → Represents old past → ReturnsRead
+        (λ core. (past : List Step) → Represents core past → ReturnsRead
         (stamp_of id past) (writes past) key.now result len.new out.old out.new) }
     ensures same { store.new.room.value ≡ store.old.room.value }
 {
     *len = 0;
-    on_core!(
-        alloc,
-        store,
-        |core| open_store::read(core, id, key, out, len)
-    )
+    of_core!(store, |core| open_store::read(core, id, key, out, len))
 }
 
 /// Closes a snapshot. Returns 0 and its stamp, or 10. It takes no memory.
@@ -119,14 +114,14 @@ pub extern "C" fn hlc_close_all(alloc: Global, store: &mut Store) -> u32
 
 /// Returns 0 and the floor. It takes no memory.
 #[unsafe(no_mangle)]
-pub extern "C" fn hlc_floor(alloc: Global, store: &mut Store, stamp: &mut u64) -> u32
-    ensures answer { OnStore store.old.room.value store.new.room.value
-        ((result ≡ 100) × (stamp.new ≡ 0)) (λ old new. (past : List Step) → Represents old past
-        → (result ≡ 0) × (stamp.new ≡ floor (nodes old) past)) }
+pub extern "C" fn hlc_floor(store: &mut Reader, stamp: &mut u64) -> u32
+    ensures answer { OnReader store.old.room.value
+        ((result ≡ 100) × (stamp.new ≡ 0)) (λ core. (past : List Step) → Represents core past
+        → (result ≡ 0) × (stamp.new ≡ floor (nodes core) past)) }
     ensures same { store.new.room.value ≡ store.old.room.value }
 {
     *stamp = 0;
-    on_core!(alloc, store, |core| {
+    of_core!(store, |core| {
         *stamp = core.floor().bits();
         0
     })
@@ -134,14 +129,14 @@ pub extern "C" fn hlc_floor(alloc: Global, store: &mut Store, stamp: &mut u64) -
 
 /// Returns 0 and the number of stored rows, or 2^64 - 1 where that is greater. It takes no memory.
 #[unsafe(no_mangle)]
-pub extern "C" fn hlc_rows(alloc: Global, store: &mut Store, rows: &mut u64) -> u32
-    ensures answer { OnStore store.old.room.value store.new.room.value
+pub extern "C" fn hlc_rows(store: &mut Reader, rows: &mut u64) -> u32
+    ensures answer { OnReader store.old.room.value
         ((result ≡ 100) × (rows.new ≡ 0))
-        (λ old new. (result ≡ 0) × (rows.new ≡ narrowed (length old.rows))) }
+        (λ core. (result ≡ 0) × (rows.new ≡ narrowed (length core.rows))) }
     ensures same { store.new.room.value ≡ store.old.room.value }
 {
     *rows = 0;
-    on_core!(alloc, store, |core| {
+    of_core!(store, |core| {
         *rows = open_store::rows(core);
         0
     })
@@ -151,22 +146,16 @@ pub extern "C" fn hlc_rows(alloc: Global, store: &mut Store, rows: &mut u64) -> 
 /// they fit, the bytes: for each key its length, the key, its value's length and the value; or 10. A length has eight
 /// bytes, the low one first. The length of the listing is 2^64 - 1 where it would be greater. It takes no memory.
 #[unsafe(no_mangle)]
-pub extern "C" fn hlc_list(
-    alloc: Global,
-    store: &mut Store,
-    id: u64,
-    out: &mut [u8],
-    len: &mut usize,
-) -> u32
-    ensures answer { OnStore store.old.room.value store.new.room.value
-        ((result ≡ 100) × (len.new ≡ 0) × (out.new ≡ out.old)) (λ old new. (past : List Step)
-        → Represents old past
+pub extern "C" fn hlc_list(store: &mut Reader, id: u64, out: &mut [u8], len: &mut usize) -> u32
+    ensures answer { OnReader store.old.room.value
+        ((result ≡ 100) × (len.new ≡ 0) × (out.new ≡ out.old)) (λ core. (past : List Step)
+        → Represents core past
         → ReturnsListing (stamp_of id past) (writes past) result len.new out.old out.new) }
     ensures nothing { result ≢ 0 → (len.new ≡ 0) × (out.new ≡ out.old) }
     ensures same { store.new.room.value ≡ store.old.room.value }
 {
     *len = 0;
-    on_core!(alloc, store, |core| list(core, id, out, len))
+    of_core!(store, |core| list(core, id, out, len))
 }
 
 /// Lists the keys with a value in a snapshot, from one key on and below another, if that has bytes, as `hlc_list` does,
@@ -174,8 +163,7 @@ pub extern "C" fn hlc_list(
 /// many pairs they are. Or returns 10. It takes no memory.
 #[unsafe(no_mangle)]
 pub extern "C" fn hlc_scan(
-    alloc: Global,
-    store: &mut Store,
+    store: &mut Reader,
     id: u64,
     from: &[u8],
     to: &[u8],
@@ -183,16 +171,15 @@ pub extern "C" fn hlc_scan(
     len: &mut usize,
     many: &mut usize,
 ) -> u32
-    ensures answer { OnStore store.old.room.value store.new.room.value
+    ensures answer { OnReader store.old.room.value
         ((result ≡ 100) × (len.new ≡ 0) × (many.new ≡ 0) × (out.new ≡ out.old))
-        (λ old new. (past : List Step) → Represents old past → ReturnsScan false (stamp_of id past) (writes past)
+        (λ core. (past : List Step) → Represents core past → ReturnsScan false (stamp_of id past) (writes past)
         from.now to.now result len.new many.new out.old out.new) }
     ensures same { store.new.room.value ≡ store.old.room.value }
 {
     *len = 0;
     *many = 0;
-    on_core!(
-        alloc,
+    of_core!(
         store,
         |core| scan(core, id, from, to, false, out, len, many)
     )
@@ -201,8 +188,7 @@ pub extern "C" fn hlc_scan(
 /// Lists such a range as `hlc_scan` does, but the keys alone: for each its length, and the key.
 #[unsafe(no_mangle)]
 pub extern "C" fn hlc_scan_keys(
-    alloc: Global,
-    store: &mut Store,
+    store: &mut Reader,
     id: u64,
     from: &[u8],
     to: &[u8],
@@ -210,59 +196,53 @@ pub extern "C" fn hlc_scan_keys(
     len: &mut usize,
     many: &mut usize,
 ) -> u32
-    ensures answer { OnStore store.old.room.value store.new.room.value
+    ensures answer { OnReader store.old.room.value
         ((result ≡ 100) × (len.new ≡ 0) × (many.new ≡ 0) × (out.new ≡ out.old))
-        (λ old new. (past : List Step) → Represents old past → ReturnsScan true (stamp_of id past) (writes past)
+        (λ core. (past : List Step) → Represents core past → ReturnsScan true (stamp_of id past) (writes past)
         from.now to.now result len.new many.new out.old out.new) }
     ensures same { store.new.room.value ≡ store.old.room.value }
 {
     *len = 0;
     *many = 0;
-    on_core!(
-        alloc,
-        store,
-        |core| scan(core, id, from, to, true, out, len, many)
-    )
+    of_core!(store, |core| scan(core, id, from, to, true, out, len, many))
 }
 
 /// Returns 0 and how many keys of such a range have a value in a snapshot, or 2^64 - 1 where there are more; or 10. It
 /// takes no memory.
 #[unsafe(no_mangle)]
 pub extern "C" fn hlc_count(
-    alloc: Global,
-    store: &mut Store,
+    store: &mut Reader,
     id: u64,
     from: &[u8],
     to: &[u8],
     many: &mut u64,
 ) -> u32
-    ensures answer { OnStore store.old.room.value store.new.room.value
-        ((result ≡ 100) × (many.new ≡ 0)) (λ old new. (past : List Step) → Represents old past
+    ensures answer { OnReader store.old.room.value
+        ((result ≡ 100) × (many.new ≡ 0)) (λ core. (past : List Step) → Represents core past
         → ReturnsCount (stamp_of id past) (writes past) from.now to.now result many.new) }
     ensures same { store.new.room.value ≡ store.old.room.value }
 {
     *many = 0;
-    on_core!(alloc, store, |core| count(core, id, from, to, many))
+    of_core!(store, |core| count(core, id, from, to, many))
 }
 
 /// Digests such a range of a snapshot: returns 0, 32 and, where they fit, the bytes of the SHA-256 of what `hlc_list`
 /// would return for it; or 10. It takes no memory.
 #[unsafe(no_mangle)]
 pub extern "C" fn hlc_digest(
-    alloc: Global,
-    store: &mut Store,
+    store: &mut Reader,
     id: u64,
     from: &[u8],
     to: &[u8],
     out: &mut [u8],
     len: &mut usize,
 ) -> u32
-    ensures answer { OnStore store.old.room.value store.new.room.value
+    ensures answer { OnReader store.old.room.value
         ((result ≡ 100) × (len.new ≡ 0) × (out.new ≡ out.old))
-        (λ old new. (past : List Step) → Represents old past → ReturnsDigest (stamp_of id past)
+        (λ core. (past : List Step) → Represents core past → ReturnsDigest (stamp_of id past)
         (writes past) from.now to.now result len.new out.old out.new) }
     ensures same { store.new.room.value ≡ store.old.room.value }
 {
     *len = 0;
-    on_core!(alloc, store, |core| digest(core, id, from, to, out, len))
+    of_core!(store, |core| digest(core, id, from, to, out, len))
 }

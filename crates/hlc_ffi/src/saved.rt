@@ -4,11 +4,11 @@ ghost use Rattle.hlc_core.specs.Past.{Step};
 ghost use Rattle.hlc_core.specs.StoreView.{Represents};
 ghost use Rattle.hlc_saved.specs.Saved.{AreOfStore, BytesRepresent};
 ghost use Rattle.hlc_calls.specs.Saved.{ReturnsBytes};
-ghost use Rattle.hlc_ffi.specs.Handle.{OnStore, IsRestoring, RestoresPast};
+ghost use Rattle.hlc_ffi.specs.Handle.{IsRestoring, RestoresPast, OnReader};
 
-use crate::handle::on_core;
+use crate::handle::of_core;
 use hlc_calls::saved;
-use hlc_handle::Store;
+use hlc_handle::{Reader, Store};
 use std::alloc::Global;
 
 /// Saves the whole state of a store, with a word of the caller's. Returns 0, the length of the bytes and, where they
@@ -16,28 +16,24 @@ use std::alloc::Global;
 #[unsafe(no_mangle)]
 pub extern "C" fn hlc_checkpoint(
     alloc: Global,
-    store: &mut Store,
+    store: &mut Reader,
     word: u64,
     out: &mut [u8],
     len: &mut usize,
 ) -> u32
-    ensures saved { OnStore store.old.room.value store.new.room.value (result ≡ 100)
-        (λ old new. result ≡ 0
-        → ReturnsBytes (λ bytes. AreOfStore bytes word old) len.new out.old out.new) }
-    ensures represents { OnStore store.old.room.value store.new.room.value (result ≡ 100)
-        (λ old new. result ≡ 0 → (past : List Step) → Represents old past
+    ensures saved { OnReader store.old.room.value (result ≡ 100)
+        (λ core. result ≡ 0
+        → ReturnsBytes (λ bytes. AreOfStore bytes word core) len.new out.old out.new) }
+    ensures represents { OnReader store.old.room.value (result ≡ 100)
+        (λ core. result ≡ 0 → (past : List Step) → Represents core past
         → ReturnsBytes (λ bytes. BytesRepresent bytes word past) len.new out.old out.new) }
-    ensures shortage { OnStore store.old.room.value store.new.room.value (result ≡ 100)
-        (λ old new. result ≢ 0 → result ≡ 15) }
+    ensures shortage { OnReader store.old.room.value (result ≡ 100)
+        (λ core. result ≢ 0 → result ≡ 15) }
     ensures nothing { result ≢ 0 → (len.new ≡ 0) × (out.new ≡ out.old) }
     ensures same { store.new.room.value ≡ store.old.room.value }
 {
     *len = 0;
-    on_core!(
-        alloc,
-        store,
-        |core| saved::checkpoint(alloc, core, word, out, len)
-    )
+    of_core!(store, |core| saved::checkpoint(alloc, core, word, out, len))
 }
 
 /// Opens a closed store from the bytes of `hlc_checkpoint`. Returns 0 and the word that they were saved with; or 101

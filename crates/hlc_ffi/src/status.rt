@@ -3,23 +3,22 @@ ghost use Rattle.std.specs.Prelude.{◌≡◌, List, false, slice_get};
 ghost use Rattle.hlc_core.specs.Past.{Step, horizon, numbered, open_snapshots};
 ghost use Rattle.hlc_core.specs.StoreView.{Represents, nodes};
 ghost use Rattle.hlc_calls.specs.Status.{ReturnsLink, ReturnsHolder, ReturnsSnapshot};
-ghost use Rattle.hlc_ffi.specs.Handle.{OnStore};
+ghost use Rattle.hlc_ffi.specs.Handle.{OnReader};
 
-use crate::handle::on_core;
+use crate::handle::of_core;
 use hlc_calls::status;
-use hlc_handle::Store;
-use std::alloc::Global;
+use hlc_handle::Reader;
 
 /// Returns 0 and the horizon (GC threshold): the stamp of the last vacuum, or 0 before the first.
 #[unsafe(no_mangle)]
-pub extern "C" fn hlc_horizon(alloc: Global, store: &mut Store, stamp: &mut u64) -> u32
-    ensures answer { OnStore store.old.room.value store.new.room.value
-        ((result ≡ 100) × (stamp.new ≡ 0)) (λ old new. (past : List Step) → Represents old past
+pub extern "C" fn hlc_horizon(store: &mut Reader, stamp: &mut u64) -> u32
+    ensures answer { OnReader store.old.room.value
+        ((result ≡ 100) × (stamp.new ≡ 0)) (λ core. (past : List Step) → Represents core past
         → (result ≡ 0) × (stamp.new ≡ horizon past)) }
     ensures same { store.new.room.value ≡ store.old.room.value }
 {
     *stamp = 0;
-    on_core!(alloc, store, |core| {
+    of_core!(store, |core| {
         *stamp = core.horizon().bits();
         0
     })
@@ -27,14 +26,14 @@ pub extern "C" fn hlc_horizon(alloc: Global, store: &mut Store, stamp: &mut u64)
 
 /// Returns 0 and how many node numbers are assigned, those of retired nodes too.
 #[unsafe(no_mangle)]
-pub extern "C" fn hlc_nodes(alloc: Global, store: &mut Store, many: &mut u64) -> u32
-    ensures answer { OnStore store.old.room.value store.new.room.value
-        ((result ≡ 100) × (many.new ≡ 0)) (λ old new. (past : List Step) → Represents old past
-        → (result ≡ 0) × (many.new ≡ numbered (nodes old) past)) }
+pub extern "C" fn hlc_nodes(store: &mut Reader, many: &mut u64) -> u32
+    ensures answer { OnReader store.old.room.value
+        ((result ≡ 100) × (many.new ≡ 0)) (λ core. (past : List Step) → Represents core past
+        → (result ≡ 0) × (many.new ≡ numbered (nodes core) past)) }
     ensures same { store.new.room.value ≡ store.old.room.value }
 {
     *many = 0;
-    on_core!(alloc, store, |core| {
+    of_core!(store, |core| {
         *many = status::nodes(core);
         0
     })
@@ -43,62 +42,47 @@ pub extern "C" fn hlc_nodes(alloc: Global, store: &mut Store, many: &mut u64) ->
 /// Returns 0, the number of a node's next item, its head, and whether its retirement was accepted; or 1.
 #[unsafe(no_mangle)]
 pub extern "C" fn hlc_link(
-    alloc: Global,
-    store: &mut Store,
+    store: &mut Reader,
     node: u16,
     next: &mut u64,
     head: &mut u64,
     retired: &mut bool,
 ) -> u32
-    ensures answer { OnStore store.old.room.value store.new.room.value
+    ensures answer { OnReader store.old.room.value
         ((result ≡ 100) × (next.new ≡ 0) × (head.new ≡ 0) × (retired.new ≡ false))
-        (λ old new. (past : List Step) → Represents old past → ReturnsLink (nodes old) node past
+        (λ core. (past : List Step) → Represents core past → ReturnsLink (nodes core) node past
         result next.new head.new retired.new) }
     ensures same { store.new.room.value ≡ store.old.room.value }
 {
     *next = 0;
     *head = 0;
     *retired = false;
-    on_core!(
-        alloc,
-        store,
-        |core| status::link(core, node, next, head, retired)
-    )
+    of_core!(store, |core| status::link(core, node, next, head, retired))
 }
 
 /// Returns 0 and the first node that holds the floor back: it has not retired, and its head is the floor. Or returns 1,
 /// where all nodes have retired.
 #[unsafe(no_mangle)]
-pub extern "C" fn hlc_floor_node(alloc: Global, store: &mut Store, node: &mut u64) -> u32
-    ensures answer { OnStore store.old.room.value store.new.room.value
-        ((result ≡ 100) × (node.new ≡ 0)) (λ old new. (past : List Step) → Represents old past
-        → ReturnsHolder (nodes old) past result node.new) }
+pub extern "C" fn hlc_floor_node(store: &mut Reader, node: &mut u64) -> u32
+    ensures answer { OnReader store.old.room.value
+        ((result ≡ 100) × (node.new ≡ 0)) (λ core. (past : List Step) → Represents core past
+        → ReturnsHolder (nodes core) past result node.new) }
     ensures same { store.new.room.value ≡ store.old.room.value }
 {
     *node = 0;
-    on_core!(alloc, store, |core| status::floor_node(core, node))
+    of_core!(store, |core| status::floor_node(core, node))
 }
 
 /// Returns 0, the id and the stamp of the open snapshot at a place, by rising ids; or 10 after the last.
 #[unsafe(no_mangle)]
-pub extern "C" fn hlc_snapshot(
-    alloc: Global,
-    store: &mut Store,
-    place: u64,
-    id: &mut u64,
-    stamp: &mut u64,
-) -> u32
-    ensures answer { OnStore store.old.room.value store.new.room.value
-        ((result ≡ 100) × (id.new ≡ 0) × (stamp.new ≡ 0)) (λ old new. (past : List Step)
-        → Represents old past
+pub extern "C" fn hlc_snapshot(store: &mut Reader, place: u64, id: &mut u64, stamp: &mut u64) -> u32
+    ensures answer { OnReader store.old.room.value
+        ((result ≡ 100) × (id.new ≡ 0) × (stamp.new ≡ 0)) (λ core. (past : List Step)
+        → Represents core past
         → ReturnsSnapshot (slice_get (open_snapshots past) place) result id.new stamp.new) }
     ensures same { store.new.room.value ≡ store.old.room.value }
 {
     *id = 0;
     *stamp = 0;
-    on_core!(
-        alloc,
-        store,
-        |core| status::snapshot(core, place, id, stamp)
-    )
+    of_core!(store, |core| status::snapshot(core, place, id, stamp))
 }

@@ -5,14 +5,14 @@ ghost use Rattle.hlc_core.specs.StoreView.{Represents};
 ghost use Rattle.hlc_calls.specs.Answers.{ReturnsVacuumedAtFloor, ReturnsVacuumedTo, ReturnsVacuumChecked};
 ghost use Rattle.hlc_calls.specs.Check.{ReturnsCheck};
 ghost use Rattle.hlc_calls.specs.Certified.{IsCertifiedAtFloor, IsCertifiedTo, IsHalfAtFloor};
-ghost use Rattle.hlc_ffi.specs.Handle.{OnStore, nodes_in_handle};
+ghost use Rattle.hlc_ffi.specs.Handle.{OnStore, nodes_in_handle, OnReader};
 
-use crate::handle::on_core;
+use crate::handle::{of_core, on_core};
 use hlc_calls::certify::{certify, certify_to};
 use hlc_calls::check::check;
 use hlc_calls::open_store;
 use hlc_core::Stamp;
-use hlc_handle::Store;
+use hlc_handle::{Reader, Store};
 use std::alloc::Global;
 
 /// Drops the rows that no reader needs. Returns 0, the floor, how many rows at or below it were kept, what they cost in
@@ -87,19 +87,15 @@ pub extern "C" fn hlc_vacuum_certified(
 /// Returns why `hlc_vacuum_to` would refuse a stamp, apart from out of memory: 0, or 8 and the floor, or 9 and the
 /// horizon (GC threshold). It takes no memory.
 #[unsafe(no_mangle)]
-pub extern "C" fn hlc_check_vacuum(alloc: Global, store: &mut Store, at: u64, word: &mut u64) -> u32
-    ensures answer { OnStore store.old.room.value store.new.room.value
-        ((result ≡ 100) × (word.new ≡ 0)) (λ old new. (past : List Step) → Represents old past
-        → ReturnsVacuumChecked old at past result word.new) }
+pub extern "C" fn hlc_check_vacuum(store: &mut Reader, at: u64, word: &mut u64) -> u32
+    ensures answer { OnReader store.old.room.value
+        ((result ≡ 100) × (word.new ≡ 0)) (λ core. (past : List Step) → Represents core past
+        → ReturnsVacuumChecked core at past result word.new) }
     ensures same { store.new.room.value ≡ store.old.room.value }
 {
     *word = 0;
     let at = Stamp::from_bits(at);
-    on_core!(
-        alloc,
-        store,
-        |core| open_store::check_vacuum(core, at, word)
-    )
+    of_core!(store, |core| open_store::check_vacuum(core, at, word))
 }
 
 /// Drops the rows at or below a stamp that no reader needs. Returns 0, the stamp, how many rows at or below it were

@@ -1,2 +1,4 @@
+pub mod Lending
+pub mod LentValues
 pub mod Rooms
 pub mod Values
