@@ -1,8 +1,6 @@
-//! What a call of the C library costs from Rust, in ns: the least of nine runs.
-#[path = "../examples/rust/hlcstore.rs"]
-mod hlcstore;
+//! What a call of the C library costs from Rust, with the crate of bindings/rust, in ns: the least of nine runs.
 
-use hlcstore::Store;
+use hlcstore::{Item, Stamp, Store};
 use std::time::Instant;
 
 const WRITES: u64 = 100_000;
@@ -17,17 +15,17 @@ fn main() {
     let keys: Vec<[u8; 8]> = (0..1_000).map(key).collect();
     let (mut accept, mut read) = (f64::MAX, f64::MAX);
     for _ in 0..9 {
-        let mut store = Store::closed();
-        store.open(1).unwrap();
+        let store = Store::open(1).unwrap();
         let start = Instant::now();
         for i in 0..WRITES {
-            store.write(0, (i, (i + 1) << 16), &keys[(i % 1_000) as usize], b"value000").unwrap();
+            let key = &keys[(i % 1_000) as usize];
+            store.accept(Item::write(0, i, Stamp::new(i + 1, 0), key, b"value000")).unwrap();
         }
         accept = accept.min(start.elapsed().as_nanos() as f64 / WRITES as f64);
-        let (id, _) = store.snapshot_at_floor().unwrap();
+        let snapshot = store.snapshot().unwrap();
         let start = Instant::now();
         for i in 0..WRITES {
-            store.read(id, &keys[(i * 7 % 1_000) as usize]).unwrap().unwrap();
+            snapshot.get(&keys[(i * 7 % 1_000) as usize]).unwrap().unwrap();
         }
         read = read.min(start.elapsed().as_nanos() as f64 / WRITES as f64);
     }

@@ -1,7 +1,7 @@
 /* hlcstore for C: a multi-version store that several nodes feed, and the nodes' clocks.
  *
- * Make the library:  (cd crates/hlc_ffi && rt lib)
- * Link with it:      cc main.c crates/hlc_ffi/out/libhlc_ffi.a KIT/c/liblibc_c.a   (KIT: the folder of the toolchain)
+ * Install it:     make -C bindings install PREFIX=/usr/local
+ * Link with it:   cc main.c $(pkg-config --cflags --libs hlcstore)
  *
  * A stamp is one word, l * 65536 + c, with a physical part l below 2^48 and a counter c below 2^16.
  *
@@ -27,8 +27,8 @@
  *     The copy is made after the last call that changed the store, and no call changes the store while a call uses a
  *     copy. A copy is passed to no other calls, and is not closed;
  *   - a pointer is not NULL, unless its length is 0: (NULL, 0) represents no bytes, and no entries. It is aligned, and
- *     what it points to is live and does not overlap what another argument points to; a node's `retired` and an entry's
- *     `deletes` are false or true;
+ *     what it points to is live; what a call writes does not overlap what another argument points to; a node's
+ *     `retired` and an entry's `deletes` are false or true;
  *   - malloc, realloc and free belong together, and align to 16.
  *
  * Costs. Where a call says "no memory" it makes no allocation, and cannot return HLC_NO_MEMORY. docs/performance.md has
@@ -139,7 +139,8 @@ enum {
 #define HLC_VERSION_NUMBER 100
 
 /* Returns the version of the library: 10,000 times its first number, 100 times the second, and the third. It is
- * HLC_VERSION_NUMBER if the library is that of this header. */
+ * HLC_VERSION_NUMBER if the library is that of this header. PREFIX/share/hlcstore/verdict.txt, which is installed with
+ * the library, has what the toolchain proved of it. */
 uint32_t hlc_version(void);
 
 /* Writes the name of an answer, as above, or what it says, in English. len: how many bytes that has, without a 0 after

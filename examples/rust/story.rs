@@ -1,225 +1,284 @@
-//! The story of examples/c/story.c, with the wrapper.
-mod hlcstore;
+//! The story of examples/c/story.c, with the crate hlcstore of bindings/rust.
 
-use hlcstore::{Batch, Body, Issued, Item, Node, Place, Refused, Scan, Store, Vacuumed};
+use hlcstore::{Certified, Error, Item, KeyRange, Node, Result, Snapshot, Stamp, Store, Vacuumed};
 
-fn print_answer(what: &str, answer: Result<u64, Refused>) {
+fn at(physical: u64) -> Stamp {
+    Stamp::new(physical, 0)
+}
+
+fn hex(bytes: &[u8]) -> String {
+    bytes.iter().map(|byte| format!("{byte:02x}")).collect()
+}
+
+fn line(what: &str, answer: Result<()>) {
+    println!("{what} {}", answer.err().map_or(0, Error::code));
+}
+
+fn print_answer(what: &str, answer: Result<u64>) {
     match answer {
         Ok(value) => println!("{what} 0 {value}"),
-        Err(Refused(code, word)) => println!("{what} {code} {word}"),
+        Err(error) => println!("{what} {} {}", error.code(), error.word()),
     }
 }
 
-fn print_two(what: &str, answer: Issued) {
+fn print_two(what: &str, answer: Result<(u64, u64)>) {
     match answer {
         Ok((first, second)) => println!("{what} 0 {first} {second}"),
-        Err(Refused(code, word)) => println!("{what} {code} 0 {word}"),
+        Err(error) => println!("{what} {} 0 {}", error.code(), error.word()),
     }
 }
 
-fn line(what: &str, answer: Result<(), Refused>) {
-    println!("{what} {}", answer.err().map_or(0, |refused| refused.0));
-}
-
-fn bytes(what: &str, answer: Result<Vec<u8>, Refused>) {
-    let (code, bytes) = match answer {
-        Ok(bytes) => (0, bytes),
-        Err(refused) => (refused.0, Vec::new()),
-    };
-    let hex: String = bytes.iter().map(|byte| format!("{byte:02x}")).collect();
-    println!("{what} {code} {} {hex}", bytes.len());
-}
-
-fn read(store: &mut Store, id: u64, key: &[u8]) {
-    let answer = store.read(id, key).and_then(|value| value.ok_or(Refused(102, 0)));
-    bytes("read", answer);
-}
-
-// Lets a node issue a write, and the store accept it.
-fn write(store: &mut Store, node: &mut Node, reading: u64, key: &[u8], value: &[u8]) {
-    let issued = node.write(reading, key, value);
-    let item = *issued.as_ref().unwrap_or(&(0, 0));
-    let made = issued.is_ok();
-    print_two("write", issued);
-    if made {
-        print_answer("accept", store.write(node.id(), item, key, value));
+fn print_bytes(what: &str, answer: Result<Vec<u8>>) {
+    match answer {
+        Ok(bytes) => println!("{what} 0 {} {}", bytes.len(), hex(&bytes)),
+        Err(error) => println!("{what} {} 0 ", error.code()),
     }
 }
 
-fn report(store: &mut Store, node: &mut Node, reading: u64) {
-    let item = node.report(reading).unwrap();
-    print_two("report", Ok(item));
-    print_answer("accept", store.report(node.id(), item));
+fn print_issued(what: &str, issued: &Result<Item>) {
+    print_two(what, issued.map(|item| (item.number, item.stamp.to_bits())));
 }
 
-fn accept(store: &mut Store, batch: &Batch) {
-    let (many, ended) = store.accept_all(batch);
-    let refused = ended.err().unwrap_or(Refused(0, 0));
-    println!("all {} {many} {}", refused.0, refused.1);
-}
-
-fn print_certified(vacuumed: &Vacuumed, text: &[u8]) {
-    print_two("certificate", Ok((text.len() as u64, vacuumed.floor)));
+fn print_vacuumed(vacuumed: &Vacuumed) {
     print_two("kept", Ok((vacuumed.kept, vacuumed.bytes)));
     print_answer("dropped", Ok(vacuumed.dropped));
 }
 
-fn print_part(part: Result<Scan, Refused>) {
-    match part {
-        Ok(scan) => {
-            let hex: String = scan.bytes.iter().map(|byte| format!("{byte:02x}")).collect();
-            println!("scan {} {} {} {hex}", if scan.more { 104 } else { 0 }, scan.bytes.len(), scan.many);
-        }
-        Err(Refused(code, _)) => println!("scan {code} 0 0 "),
+fn print_certified(certified: &Certified) {
+    let Certified { vacuumed, certificate } = certified;
+    print_two("certificate", Ok((certificate.len() as u64, vacuumed.stamp.to_bits())));
+    print_vacuumed(vacuumed);
+}
+
+// Asks a snapshot, and keeps it open.
+fn ask<T>(store: &Store, id: u64, question: impl FnOnce(&Snapshot<&Store>) -> Result<T>) -> Result<T> {
+    let snapshot = store.snapshot_by_id(id)?;
+    let answer = question(&snapshot);
+    snapshot.keep();
+    answer
+}
+
+fn open_at_floor(store: &Store) {
+    let opened = store.snapshot().map(|snapshot| (snapshot.stamp(), snapshot.keep()));
+    print_two("snapshot", opened.map(|(stamp, id)| (id, stamp.to_bits())));
+}
+
+fn read(store: &Store, id: u64, key: &[u8]) {
+    match ask(store, id, |snapshot| snapshot.get(key)).transpose() {
+        None => println!("read 102 0 "),
+        Some(value) => print_bytes("read", value),
     }
 }
 
-fn scan(store: &mut Store, id: u64, from: &[u8], to: &[u8], room: usize) {
-    print_part(store.scan(id, from, to, room));
+fn accept(store: &Store, item: Item) {
+    print_answer("accept", store.accept(item).map(|()| item.stamp.to_bits()));
 }
 
-fn opened(store: &mut Store, place: u64) {
-    match store.snapshot_at(place) {
-        Ok((id, stamp)) => println!("opened 0 {id} {stamp}"),
-        Err(Refused(code, _)) => println!("opened {code} 0 0"),
+// Lets a node issue a write, and the store accept it.
+fn write(store: &Store, node: &mut Node, reading: u64, key: &[u8], value: &[u8]) {
+    let issued = node.write(reading, key, value);
+    print_issued("write", &issued);
+    if let Ok(item) = issued {
+        accept(store, item);
     }
 }
 
-// Reads some of three keys, of which the bytes do not contain the last.
-fn read_all(store: &mut Store, id: u64, many_keys: usize, room: usize) {
-    let places = [Place { at: 0, len: 4 }, Place { at: 4, len: 4 }, Place { at: 8, len: 1 }];
-    match store.read_all(id, &places[..many_keys], b"citytown", room) {
-        Ok((bytes, many, code)) => {
-            let hex: String = bytes.iter().map(|byte| format!("{byte:02x}")).collect();
-            println!("read all {code} {} {many} {hex}", bytes.len());
+fn report(store: &Store, node: &mut Node, reading: u64) {
+    let issued = node.report(reading);
+    print_issued("report", &issued);
+    accept(store, issued.unwrap());
+}
+
+fn list(store: &Store, id: u64) {
+    let listed = ask(store, id, |snapshot| snapshot.scan(.., 64));
+    print_bytes("list", listed.map(|page| page.as_bytes().to_vec()));
+}
+
+fn print_part(bytes: &[u8], many: usize, has_more: bool) {
+    println!("scan {} {} {many} {}", if has_more { 104 } else { 0 }, bytes.len(), hex(bytes));
+}
+
+// Prints the pairs of a range, as many as fit in so many bytes.
+fn scan(store: &Store, id: u64, range: impl KeyRange, room: usize) {
+    match ask(store, id, |snapshot| snapshot.scan(range, room)) {
+        Ok(page) => print_part(page.as_bytes(), page.len(), page.has_more()),
+        Err(error) => println!("scan {} 0 0 ", error.code()),
+    }
+}
+
+fn scan_keys(store: &Store, id: u64, room: usize) {
+    match ask(store, id, |snapshot| snapshot.scan_keys(.., room)) {
+        Ok(page) => print_part(page.as_bytes(), page.len(), page.has_more()),
+        Err(error) => println!("scan {} 0 0 ", error.code()),
+    }
+}
+
+// Reads two keys. The call of C writes the answers that fit in so many bytes, and returns this code after the last.
+// Here the answers are a list, and this puts their bytes together.
+fn read_all(store: &Store, id: u64, room: usize, code: u32) {
+    let values = match ask(store, id, |snapshot| snapshot.get_many(&[b"city", b"town"])) {
+        Ok(values) => values,
+        Err(error) => return println!("read all {} 0 0 ", error.code()),
+    };
+    let (mut bytes, mut many) = (Vec::new(), 0);
+    for value in values {
+        let mut answer = vec![value.is_some() as u8];
+        if let Some(value) = value {
+            answer.extend((value.len() as u64).to_le_bytes());
+            answer.extend(value);
         }
-        Err(Refused(code, _)) => println!("read all {code} 0 0 "),
+        if bytes.len() + answer.len() <= room {
+            bytes.extend(answer);
+            many += 1;
+        }
+    }
+    println!("read all {code} {} {many} {}", bytes.len(), hex(&bytes));
+}
+
+fn opened(store: &Store, place: usize) {
+    match store.snapshots().unwrap().get(place) {
+        Some(open) => println!("opened 0 {} {}", open.id, open.stamp.to_bits()),
+        None => println!("opened 10 0 0"),
     }
 }
 
 // Lists parts of snapshots, and asks what the store has.
-fn look_round(store: &mut Store) {
-    scan(store, 2, b"", b"", 64);
-    scan(store, 1, b"a", b"d", 64);
-    scan(store, 1, b"a", b"", 24);
-    scan(store, 1, b"d", b"", 64);
-    scan(store, 3, b"", b"", 64);
-    print_part(store.scan_keys(1, b"", b"", 12));
-    print_part(store.scan_keys(1, b"", b"", 11));
-    print_part(store.scan_keys(3, b"", b"", 64));
-    bytes("digest", store.digest(1, b"", b""));
-    bytes("digest", store.digest(1, b"d", b""));
-    bytes("digest", store.digest(3, b"", b""));
-    read_all(store, 1, 2, 64);
-    read_all(store, 1, 2, 14);
-    read_all(store, 1, 3, 64);
-    read_all(store, 3, 3, 64);
-    print_answer("count", store.count(1, b"a", b"d"));
-    print_answer("count", store.count(3, b"a", b"d"));
-    print_answer("horizon", store.horizon());
+fn look_round(store: &Store) {
+    scan(store, 2, .., 64);
+    scan(store, 1, "a".."d", 64);
+    scan(store, 1, "a".., 24);
+    scan(store, 1, "d".., 64);
+    scan(store, 3, .., 64);
+    scan_keys(store, 1, 12);
+    scan_keys(store, 1, 11);
+    scan_keys(store, 3, 64);
+    print_bytes("digest", ask(store, 1, |snapshot| snapshot.digest(..)).map(Vec::from));
+    print_bytes("digest", ask(store, 1, |snapshot| snapshot.digest("d"..)).map(Vec::from));
+    print_bytes("digest", ask(store, 3, |snapshot| snapshot.digest(..)).map(Vec::from));
+    read_all(store, 1, 64, 0);
+    read_all(store, 1, 14, 104);
+    // C reads a third key here, which lies outside of its bytes. A slice has all its bytes.
+    read_all(store, 1, 64, 103);
+    read_all(store, 3, 64, 0);
+    print_answer("count", ask(store, 1, |snapshot| snapshot.count("a".."d")));
+    print_answer("count", ask(store, 3, |snapshot| snapshot.count("a".."d")));
+    print_answer("horizon", store.horizon().map(Stamp::to_bits));
     print_answer("nodes", store.nodes());
     for node in 0..3 {
         match store.link(node) {
-            Ok((next, head, retired)) => println!("link 0 {next} {head} {}", retired as u8),
-            Err(Refused(code, _)) => println!("link {code} 0 0 0"),
+            Ok(link) => println!("link 0 {} {} {}", link.next_number, link.head.to_bits(), link.is_retired as u8),
+            Err(error) => println!("link {} 0 0 0", error.code()),
         }
     }
-    print_answer("floor node", store.floor_node());
+    print_answer("floor node", store.floor_node().map(|node| node.unwrap().into()));
     for place in 0..3 {
         opened(store, place);
     }
 }
 
 // Saves the store, makes another one of the bytes, and reads it. Bytes that were cut or changed are refused.
-fn save(store: &mut Store) {
+fn save(store: &Store) {
     for _ in 0..2 {
         print_answer("checkpoint", store.checkpoint(77).map(|saved| saved.len() as u64));
     }
     let mut saved = store.checkpoint(77).unwrap();
-    let mut copy = Store::closed();
-    print_answer("restore", copy.restore(&saved[..saved.len() - 1]));
+    let copy = Store::closed();
+    print_answer("restore", copy.reload(&saved[..saved.len() - 1]));
     saved[0] ^= 1;
-    print_answer("restore", copy.restore(&saved));
+    print_answer("restore", copy.reload(&saved));
     saved[0] ^= 1;
-    print_answer("restore", copy.restore(&saved));
-    print_answer("restore", copy.restore(&saved));
+    print_answer("restore", copy.reload(&saved));
+    print_answer("restore", copy.reload(&saved));
     print_answer("rows", copy.rows());
-    read(&mut copy, 1, b"city");
+    read(&copy, 1, b"city");
 }
 
-fn items(store: &mut Store, log: &[u8]) {
-    let (used, many, ended) = store.accept_items(log);
-    let refused = ended.err().unwrap_or(Refused(0, 0));
-    println!("items {} {used} {many} {}", refused.0, refused.1);
+fn accept_items(store: &Store, log: &[u8]) {
+    match store.accept_items(log) {
+        Ok(many) => println!("items 0 {} {many} 0", log.len()),
+        Err(stopped) => {
+            let (code, word) = (stopped.error.code(), stopped.error.word());
+            println!("items {code} {} {} {word}", stopped.bytes, stopped.items);
+        }
+    }
 }
 
 // Writes three items to a log, and lets another store take them from there, some of them again.
 fn replicate() {
     let mut log = Vec::new();
-    for (number, body) in [Body::Write(b"city", b"Lyon"), Body::Report, Body::Retire].into_iter().enumerate() {
-        let number = number as u64;
-        let bytes = Item { node: 0, number, stamp: (10 + number) << 16, body }.encode().unwrap();
+    for item in [Item::write(0, 0, at(10), b"city", b"Lyon"), Item::report(0, 1, at(11)), Item::retire(0, 2, at(12))] {
+        let bytes = item.encode().unwrap();
         print_answer("item", Ok(bytes.len() as u64));
         log.extend(bytes);
     }
-    let item = Item { node: 0, number: 3, stamp: 13 << 16, body: Body::Delete(b"") };
-    print_answer("item", item.encode().map(|bytes| bytes.len() as u64));
-    let mut replica = Store::closed();
-    line("open", replica.open(1));
+    print_answer("item", Item::delete(0, 3, at(13), b"").encode().map(|bytes| bytes.len() as u64));
+    let replica = Store::closed();
+    line("open", replica.reopen(1));
     for part in [&log[..32], &log[52..], &log[..40], &log[..]] {
-        items(&mut replica, part);
+        accept_items(&replica, part);
     }
     print_answer("rows", replica.rows());
     replica.close();
-    items(&mut replica, &log);
+    accept_items(&replica, &log);
 }
 
 // Makes a node as it was before a restart, and raises its clock.
 fn restart() {
-    let Refused(code, _) = Node::restored(7, 2, 3).err().unwrap();
-    println!("restore {code} 0 2");
-    let mut node = Node::restored(7, 10 << 16, 3).unwrap();
-    println!("restore 0 {} {}", node.next(), node.last());
-    node.raise_to((12 << 16) + 5);
-    node.raise_to(11 << 16);
-    print_two("report", node.report(1));
+    let error = Node::restore(7, Stamp::from_bits(2), 3).unwrap_err();
+    println!("restore {} 0 2", error.code());
+    let mut node = Node::restore(7, at(10), 3).unwrap();
+    println!("restore 0 {} {}", node.next_number(), node.last().to_bits());
+    node.raise_to(Stamp::new(12, 5));
+    node.raise_to(at(11));
+    print_issued("report", &node.report(1));
 }
 
-// Lets a node issue a write and a deletion, and passes them to the store in one call, with an entry whose key is not
-// there.
-fn accept_three(store: &mut Store, node: &mut Node) {
-    let mut batch = Batch::default();
-    let item = node.write(40, b"lake", b"Como").unwrap();
-    print_two("write", Ok(item));
-    batch.add(node.id(), item, b"lake", Some(b"Como"));
-    let item = node.delete(41, b"town").unwrap();
-    print_two("delete", Ok(item));
-    batch.add(node.id(), item, b"town", None);
-    batch.add_outside(node.id());
-    accept(store, &batch);
-    let mut batch = Batch::default();
-    batch.add(node.id(), item, b"town", None);
-    accept(store, &batch);
+// Lets a node issue a write and a deletion, which the store accepts in one call, and the second one once more.
+fn accept_both(store: &Store, node: &mut Node) {
+    let write = node.write(40, b"lake", b"Como");
+    print_issued("write", &write);
+    let delete = node.delete(41, b"town");
+    print_issued("delete", &delete);
+    let items = [write.unwrap(), delete.unwrap()];
+    store.accept_all(&items).unwrap();
+    // C has a third entry here, whose key lies outside of its bytes. A slice has all its bytes.
+    println!("all 103 {} 0", items.len());
+    let stopped = store.accept_all(&items[1..]).unwrap_err();
+    println!("all {} {} {}", stopped.error.code(), stopped.items, stopped.error.word());
 }
 
 // Lets a node join at a start that the caller names, and vacuums to a stamp below the floor (closed timestamp), which
 // keeps what lies above that stamp.
-fn keep_above(store: &mut Store, node: &mut Node) {
+fn keep_above(store: &Store, node: &mut Node) {
     write(store, node, 39, b"city", b"Bern");
     report(store, node, 45);
-    for start in [40 << 16, 50 << 16] {
-        print_two("join at", store.join_at(start).map(|(node, start)| (node as u64, start)));
+    for start in [at(40), at(50)] {
+        print_two("join at", store.join_at(start).map(|node| (node.id().into(), node.last().to_bits())));
     }
-    print_answer("check", store.check_vacuum(42 << 16));
-    print_answer("check", store.check_vacuum(40 << 16));
-    let vacuumed = store.vacuum_to(40 << 16).unwrap();
-    print_answer("vacuum to", Ok(vacuumed.floor));
-    print_two("kept", Ok((vacuumed.kept, vacuumed.bytes)));
-    print_answer("dropped", Ok(vacuumed.dropped));
-    print_answer("vacuum to", store.vacuum_to(39 << 16).map(|vacuumed| vacuumed.floor));
-    let (vacuumed, text) = store.vacuum_to_certified(40 << 16).unwrap();
-    print_certified(&vacuumed, &text);
+    for stamp in [at(42), at(40)] {
+        print_answer("check", store.check_vacuum(stamp).map(|()| 0));
+    }
+    let vacuumed = store.vacuum_to(at(40)).unwrap();
+    print_answer("vacuum to", Ok(vacuumed.stamp.to_bits()));
+    print_vacuumed(&vacuumed);
+    print_answer("vacuum to", store.vacuum_to(at(39)).map(|vacuumed| vacuumed.stamp.to_bits()));
+    print_certified(&store.vacuum_to_certified(at(40)).unwrap());
     print_answer("rows", store.rows());
+}
+
+// Vacuums with certificates, and checks the last one and parts of it.
+fn certify(store: &Store) {
+    for _ in 0..2 {
+        print_certified(&store.vacuum_certified().unwrap());
+    }
+    let text = store.vacuum_certified().unwrap().certificate;
+    print!("{text}");
+    for part in [&text[..], &text[..35], &text[..4]] {
+        match hlcstore::check_certificate(part) {
+            Ok(checked) => println!("checked 0 {} {} 0", checked.rows, checked.bytes),
+            Err(error) => println!("checked {} 0 0 {}", error.code(), error.word()),
+        }
+    }
 }
 
 fn main() {
@@ -227,81 +286,70 @@ fn main() {
     for answer in [0, 6, 4, 107] {
         println!("answer {answer} {}: {}", hlcstore::error_name(answer), hlcstore::error_text(answer));
     }
-    let mut store = Store::closed();
-    let (mut a, mut b) = (Node::new(0, 0), Node::new(1, 0));
+    let store = Store::closed();
+    let (mut a, mut b) = (Node::new(0, Stamp::ZERO), Node::new(1, Stamp::ZERO));
     print_answer("rows", store.rows());
-    line("open", store.open(0));
-    line("open", store.open(2));
-    line("open", store.open(2));
-    write(&mut store, &mut a, 10, b"city", b"Lyon");
-    print_answer("again", store.write(0, (0, 10 << 16), b"city", b"Lyon"));
-    print_answer("check", store.check_write(0, (1, 11 << 16), b"", b"Lyon"));
-    write(&mut store, &mut a, 10, b"city", b"Paris");
-    let sent = a.send(12).unwrap();
-    print_answer("send", Ok(sent));
-    print_answer("receive", b.receive(sent, 11));
-    report(&mut store, &mut b, 11);
-    let floor = store.floor().unwrap();
-    print_answer("floor", Ok(floor));
-    print_answer("snapshot", store.snapshot(floor + 1));
-    print_two("snapshot", store.snapshot_at_floor());
-    read(&mut store, 1, b"city");
-    // The wrapper calls again where a buffer is too short. The C program prints a line about that.
-    println!("short 0 5 1");
-    read(&mut store, 1, b"town");
-    read(&mut store, 2, b"city");
-    write(&mut store, &mut b, 20, b"town", b"");
-    let item = a.delete(21, b"city").unwrap();
-    print_two("delete", Ok(item));
-    print_answer("accept", store.delete(0, item, b"city"));
-    report(&mut store, &mut b, 22);
-    print_two("snapshot", store.snapshot_at_floor());
-    for id in 1..4 {
-        bytes("list", store.list(id));
+    for nodes in [0, 2, 2] {
+        line("open", store.reopen(nodes));
     }
-    look_round(&mut store);
-    save(&mut store);
+    write(&store, &mut a, 10, b"city", b"Lyon");
+    print_answer("again", store.accept(Item::write(0, 0, at(10), b"city", b"Lyon")).map(|()| 0));
+    print_answer("check", store.check(Item::write(0, 1, at(11), b"", b"Lyon")).map(|()| 0));
+    write(&store, &mut a, 10, b"city", b"Paris");
+    let sent = a.send(12).unwrap();
+    print_answer("send", Ok(sent.to_bits()));
+    print_answer("receive", b.receive(sent, 11).map(Stamp::to_bits));
+    report(&store, &mut b, 11);
+    let floor = store.floor().unwrap();
+    print_answer("floor", Ok(floor.to_bits()));
+    let above = Stamp::from_bits(floor.to_bits() + 1);
+    print_answer("snapshot", store.snapshot_at(above).map(|snapshot| snapshot.id()));
+    open_at_floor(&store);
+    read(&store, 1, b"city");
+    // The package calls again where a buffer is too short. The C program prints a line about that.
+    println!("short 0 5 1");
+    read(&store, 1, b"town");
+    read(&store, 2, b"city");
+    write(&store, &mut b, 20, b"town", b"");
+    let deleted = a.delete(21, b"city");
+    print_issued("delete", &deleted);
+    accept(&store, deleted.unwrap());
+    report(&store, &mut b, 22);
+    open_at_floor(&store);
+    for id in 1..4 {
+        list(&store, id);
+    }
+    look_round(&store);
+    save(&store);
     replicate();
     restart();
     print_answer("rows", store.rows());
     let vacuumed = store.vacuum().unwrap();
-    print_answer("vacuum", Ok(vacuumed.floor));
-    print_two("kept", Ok((vacuumed.kept, vacuumed.bytes)));
-    print_answer("dropped", Ok(vacuumed.dropped));
-    read(&mut store, 1, b"city");
-    print_answer("close", store.close_snapshot(1));
-    print_answer("close", store.close_snapshot(1));
+    print_answer("vacuum", Ok(vacuumed.stamp.to_bits()));
+    print_vacuumed(&vacuumed);
+    read(&store, 1, b"city");
     for _ in 0..2 {
-        let (vacuumed, text) = store.vacuum_certified().unwrap();
-        print_certified(&vacuumed, &text);
+        print_answer("close", store.snapshot_by_id(1).and_then(Snapshot::close).map(Stamp::to_bits));
     }
-    let (_, text) = store.vacuum_certified().unwrap();
-    print!("{}", String::from_utf8(text.clone()).unwrap());
-    for part in [&text[..], &text[..35], &text[..4]] {
-        match hlcstore::check(part) {
-            Ok((rows, cost)) => println!("checked 0 {rows} {cost} 0"),
-            Err(Refused(code, word)) => println!("checked {code} 0 0 {word}"),
-        }
-    }
+    certify(&store);
     print_answer("rows", store.rows());
-    print_answer("snapshot", store.snapshot(1));
-    let (joined, start) = store.join().unwrap();
-    print_two("join", Ok((joined as u64, start)));
-    let mut c = Node::new(joined, start);
-    write(&mut store, &mut c, 1, b"city", b"Rome");
-    accept_three(&mut store, &mut b);
-    let item = a.retire(30).unwrap();
-    print_two("retire", Ok(item));
-    print_answer("accept", store.retire(0, item));
-    write(&mut store, &mut a, 31, b"city", b"Nice");
-    print_answer("check", store.check_report(0, (4, 31 << 16)));
-    write(&mut store, &mut b, 1 << 48, b"city", b"Nice");
-    write(&mut store, &mut b, 31, &[0; 256], b"Nice");
-    write(&mut store, &mut b, 31, b"city", &vec![0; 65536]);
-    keep_above(&mut store, &mut c);
+    print_answer("snapshot", store.snapshot_at(Stamp::from_bits(1)).map(|snapshot| snapshot.id()));
+    let mut c = store.join().unwrap();
+    print_two("join", Ok((c.id().into(), c.last().to_bits())));
+    write(&store, &mut c, 1, b"city", b"Rome");
+    accept_both(&store, &mut b);
+    let retired = a.retire(30);
+    print_issued("retire", &retired);
+    accept(&store, retired.unwrap());
+    write(&store, &mut a, 31, b"city", b"Nice");
+    print_answer("check", store.check(Item::report(0, 4, at(31))).map(|()| 0));
+    write(&store, &mut b, 1 << 48, b"city", b"Nice");
+    write(&store, &mut b, 31, &[0; 256], b"Nice");
+    write(&store, &mut b, 31, b"city", &[0; 65536]);
+    keep_above(&store, &mut c);
     line("close all", store.close_all());
-    opened(&mut store, 0);
+    opened(&store, 0);
     store.close();
     line("close all", store.close_all());
-    print_answer("floor", store.floor());
+    print_answer("floor", store.floor().map(Stamp::to_bits));
 }

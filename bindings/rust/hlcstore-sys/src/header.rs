@@ -1,0 +1,306 @@
+// Made from include/hlcstore.h by bindings/rust/declare. Change the header, and run that again.
+
+use core::ffi::c_void;
+
+pub const HLC_VERSION: &str = "0.1.0";
+pub const HLC_VERSION_NUMBER: u32 = 100;
+
+pub const HLC_OK: u32 = 0;
+pub const HLC_NO_NODE: u32 = 1;
+pub const HLC_READING_TOO_LARGE: u32 = 2;
+pub const HLC_COUNTER_FULL: u32 = 3;
+pub const HLC_NOT_NEXT: u32 = 6;
+pub const HLC_STAMP_NOT_RISING: u32 = 7;
+pub const HLC_ABOVE_FLOOR: u32 = 8;
+pub const HLC_BELOW_HORIZON: u32 = 9;
+pub const HLC_NO_SNAPSHOT: u32 = 10;
+pub const HLC_TOO_MANY_SNAPSHOTS: u32 = 11;
+pub const HLC_BAD_KEY: u32 = 12;
+pub const HLC_VALUE_TOO_LONG: u32 = 13;
+pub const HLC_NUMBERS_SPENT: u32 = 14;
+pub const HLC_NO_MEMORY: u32 = 15;
+pub const HLC_BAD_LINE: u32 = 16;
+pub const HLC_TOO_LONG: u32 = 20;
+pub const HLC_NOT_SHOWN: u32 = 22;
+pub const HLC_TOO_MANY_NODES: u32 = 26;
+pub const HLC_RETIRED: u32 = 27;
+pub const HLC_CLOSED: u32 = 100;
+pub const HLC_IS_OPEN: u32 = 101;
+pub const HLC_NO_VALUE: u32 = 102;
+pub const HLC_OUTSIDE: u32 = 103;
+pub const HLC_MORE: u32 = 104;
+pub const HLC_NO_SUCH_NODE: u32 = 105;
+pub const HLC_BAD_BYTES: u32 = 106;
+pub const HLC_NO_CHECKPOINT: u32 = 107;
+
+#[repr(C)]
+#[derive(Clone, Copy, Debug, PartialEq, Eq)]
+pub struct hlc_store {
+    pub at: *mut c_void,
+    pub live: bool,
+}
+
+#[repr(C)]
+#[derive(Clone, Copy, Debug, PartialEq, Eq)]
+pub struct hlc_node {
+    pub id: u16,
+    pub last: u64,
+    pub next: u64,
+    pub retired: bool,
+}
+
+#[repr(C)]
+#[derive(Clone, Copy, Debug, PartialEq, Eq)]
+pub struct hlc_entry {
+    pub node: u16,
+    pub deletes: bool,
+    pub number: u64,
+    pub stamp: u64,
+    pub key_at: usize,
+    pub key_len: usize,
+    pub value_at: usize,
+    pub value_len: usize,
+}
+
+#[repr(C)]
+#[derive(Clone, Copy, Debug, PartialEq, Eq)]
+pub struct hlc_place {
+    pub at: usize,
+    pub len: usize,
+}
+
+unsafe extern "C" {
+    pub safe fn hlc_version() -> u32;
+    pub fn hlc_error_name(answer: u32, out: *mut u8, out_len: usize, len: *mut usize);
+    pub fn hlc_error_text(answer: u32, out: *mut u8, out_len: usize, len: *mut usize);
+    pub fn hlc_open(store: *mut hlc_store, nodes: u16) -> u32;
+    pub fn hlc_close(store: *mut hlc_store);
+    pub fn hlc_accept_write(
+        store: *mut hlc_store,
+        node: u16,
+        number: u64,
+        stamp: u64,
+        key: *const u8,
+        key_len: usize,
+        value: *const u8,
+        value_len: usize,
+        word: *mut u64,
+    ) -> u32;
+    pub fn hlc_accept_delete(
+        store: *mut hlc_store,
+        node: u16,
+        number: u64,
+        stamp: u64,
+        key: *const u8,
+        key_len: usize,
+        word: *mut u64,
+    ) -> u32;
+    pub fn hlc_accept_report(store: *mut hlc_store, node: u16, number: u64, stamp: u64, word: *mut u64) -> u32;
+    pub fn hlc_accept_retire(store: *mut hlc_store, node: u16, number: u64, stamp: u64, word: *mut u64) -> u32;
+    pub fn hlc_accept_all(
+        store: *mut hlc_store,
+        entries: *const hlc_entry,
+        entries_len: usize,
+        bytes: *const u8,
+        bytes_len: usize,
+        many: *mut usize,
+        word: *mut u64,
+    ) -> u32;
+    pub fn hlc_check_write(
+        store: *mut hlc_store,
+        node: u16,
+        number: u64,
+        stamp: u64,
+        key: *const u8,
+        key_len: usize,
+        value: *const u8,
+        value_len: usize,
+        word: *mut u64,
+    ) -> u32;
+    pub fn hlc_check_delete(
+        store: *mut hlc_store,
+        node: u16,
+        number: u64,
+        stamp: u64,
+        key: *const u8,
+        key_len: usize,
+        word: *mut u64,
+    ) -> u32;
+    pub fn hlc_check_report(store: *mut hlc_store, node: u16, number: u64, stamp: u64, word: *mut u64) -> u32;
+    pub fn hlc_join(store: *mut hlc_store, node: *mut u16, start: *mut u64) -> u32;
+    pub fn hlc_join_at(store: *mut hlc_store, start: u64, node: *mut u16, word: *mut u64) -> u32;
+    pub fn hlc_open_snapshot(store: *mut hlc_store, stamp: u64, id: *mut u64) -> u32;
+    pub fn hlc_open_snapshot_at_floor(store: *mut hlc_store, id: *mut u64, stamp: *mut u64) -> u32;
+    pub fn hlc_close_snapshot(store: *mut hlc_store, id: u64, stamp: *mut u64) -> u32;
+    pub fn hlc_close_all(store: *mut hlc_store) -> u32;
+    pub fn hlc_read(
+        store: *mut hlc_store,
+        id: u64,
+        key: *const u8,
+        key_len: usize,
+        out: *mut u8,
+        out_len: usize,
+        len: *mut usize,
+    ) -> u32;
+    pub fn hlc_read_all(
+        store: *mut hlc_store,
+        id: u64,
+        places: *const hlc_place,
+        places_len: usize,
+        bytes: *const u8,
+        bytes_len: usize,
+        out: *mut u8,
+        out_len: usize,
+        len: *mut usize,
+        many: *mut usize,
+    ) -> u32;
+    pub fn hlc_list(store: *mut hlc_store, id: u64, out: *mut u8, out_len: usize, len: *mut usize) -> u32;
+    pub fn hlc_scan(
+        store: *mut hlc_store,
+        id: u64,
+        from: *const u8,
+        from_len: usize,
+        to: *const u8,
+        to_len: usize,
+        out: *mut u8,
+        out_len: usize,
+        len: *mut usize,
+        many: *mut usize,
+    ) -> u32;
+    pub fn hlc_scan_keys(
+        store: *mut hlc_store,
+        id: u64,
+        from: *const u8,
+        from_len: usize,
+        to: *const u8,
+        to_len: usize,
+        out: *mut u8,
+        out_len: usize,
+        len: *mut usize,
+        many: *mut usize,
+    ) -> u32;
+    pub fn hlc_count(
+        store: *mut hlc_store,
+        id: u64,
+        from: *const u8,
+        from_len: usize,
+        to: *const u8,
+        to_len: usize,
+        many: *mut u64,
+    ) -> u32;
+    pub fn hlc_digest(
+        store: *mut hlc_store,
+        id: u64,
+        from: *const u8,
+        from_len: usize,
+        to: *const u8,
+        to_len: usize,
+        out: *mut u8,
+        out_len: usize,
+        len: *mut usize,
+    ) -> u32;
+    pub fn hlc_floor(store: *mut hlc_store, stamp: *mut u64) -> u32;
+    pub fn hlc_rows(store: *mut hlc_store, rows: *mut u64) -> u32;
+    pub fn hlc_vacuum(
+        store: *mut hlc_store,
+        floor: *mut u64,
+        kept: *mut u64,
+        bytes: *mut u64,
+        dropped: *mut u64,
+    ) -> u32;
+    pub fn hlc_vacuum_certified(
+        store: *mut hlc_store,
+        floor: *mut u64,
+        kept: *mut u64,
+        bytes: *mut u64,
+        dropped: *mut u64,
+        out: *mut u8,
+        out_len: usize,
+        len: *mut usize,
+    ) -> u32;
+    pub fn hlc_vacuum_to(
+        store: *mut hlc_store,
+        stamp: u64,
+        word: *mut u64,
+        kept: *mut u64,
+        bytes: *mut u64,
+        dropped: *mut u64,
+    ) -> u32;
+    pub fn hlc_vacuum_to_certified(
+        store: *mut hlc_store,
+        stamp: u64,
+        word: *mut u64,
+        kept: *mut u64,
+        bytes: *mut u64,
+        dropped: *mut u64,
+        out: *mut u8,
+        out_len: usize,
+        len: *mut usize,
+    ) -> u32;
+    pub fn hlc_check_vacuum(store: *mut hlc_store, stamp: u64, word: *mut u64) -> u32;
+    pub fn hlc_check(text: *const u8, text_len: usize, rows: *mut u64, bytes: *mut u64, word: *mut u64) -> u32;
+    pub fn hlc_item_write(
+        node: u16,
+        number: u64,
+        stamp: u64,
+        key: *const u8,
+        key_len: usize,
+        value: *const u8,
+        value_len: usize,
+        out: *mut u8,
+        out_len: usize,
+        len: *mut usize,
+    ) -> u32;
+    pub fn hlc_item_delete(
+        node: u16,
+        number: u64,
+        stamp: u64,
+        key: *const u8,
+        key_len: usize,
+        out: *mut u8,
+        out_len: usize,
+        len: *mut usize,
+    ) -> u32;
+    pub fn hlc_item_report(node: u16, number: u64, stamp: u64, out: *mut u8, out_len: usize, len: *mut usize) -> u32;
+    pub fn hlc_item_retire(node: u16, number: u64, stamp: u64, out: *mut u8, out_len: usize, len: *mut usize) -> u32;
+    pub fn hlc_items_accept(
+        store: *mut hlc_store,
+        bytes: *const u8,
+        bytes_len: usize,
+        used: *mut usize,
+        many: *mut usize,
+        word: *mut u64,
+    ) -> u32;
+    pub fn hlc_checkpoint(store: *mut hlc_store, word: u64, out: *mut u8, out_len: usize, len: *mut usize) -> u32;
+    pub fn hlc_restore(store: *mut hlc_store, bytes: *const u8, bytes_len: usize, word: *mut u64) -> u32;
+    pub fn hlc_horizon(store: *mut hlc_store, stamp: *mut u64) -> u32;
+    pub fn hlc_nodes(store: *mut hlc_store, many: *mut u64) -> u32;
+    pub fn hlc_link(store: *mut hlc_store, node: u16, next: *mut u64, head: *mut u64, retired: *mut bool) -> u32;
+    pub fn hlc_floor_node(store: *mut hlc_store, node: *mut u64) -> u32;
+    pub fn hlc_snapshot(store: *mut hlc_store, place: u64, id: *mut u64, stamp: *mut u64) -> u32;
+    pub safe fn hlc_node_open(id: u16, start: u64) -> hlc_node;
+    pub fn hlc_node_restore(id: u16, last: u64, next: u64, node: *mut hlc_node) -> u32;
+    pub fn hlc_node_raise(node: *mut hlc_node, stamp: u64);
+    pub fn hlc_node_write(
+        node: *mut hlc_node,
+        reading: u64,
+        key: *const u8,
+        key_len: usize,
+        value: *const u8,
+        value_len: usize,
+        number: *mut u64,
+        word: *mut u64,
+    ) -> u32;
+    pub fn hlc_node_delete(
+        node: *mut hlc_node,
+        reading: u64,
+        key: *const u8,
+        key_len: usize,
+        number: *mut u64,
+        word: *mut u64,
+    ) -> u32;
+    pub fn hlc_node_report(node: *mut hlc_node, reading: u64, number: *mut u64, word: *mut u64) -> u32;
+    pub fn hlc_node_retire(node: *mut hlc_node, reading: u64, number: *mut u64, word: *mut u64) -> u32;
+    pub fn hlc_node_send(node: *mut hlc_node, reading: u64, word: *mut u64) -> u32;
+    pub fn hlc_node_receive(node: *mut hlc_node, seen: u64, reading: u64, word: *mut u64) -> u32;
+}

@@ -1,0 +1,13 @@
+//! The C library of hlcstore as its header, `include/hlcstore.h`, has it. The header describes each call, and what the
+//! caller must ensure. The crate `hlcstore` has safe types for the same calls.
+//!
+//! `build.rs` says where the library is looked for.
+#![no_std]
+#![allow(non_camel_case_types)]
+
+mod header;
+
+pub use header::*;
+
+/// A store before it is opened.
+pub const HLC_CLOSED_STORE: hlc_store = hlc_store { at: core::ptr::null_mut(), live: false };

@@ -1,0 +1,379 @@
+//! The calls of a store in the C library, with the types of this crate.
+//!
+//! A call that only asks goes to a copy of the handle, which is this call's own, and takes `&self`: such calls may run
+//! beside each other. A call that changes the store takes `&mut self`, so that nothing else runs beside it.
+
+use crate::buffer::{append, reserve};
+use crate::error::answer;
+use crate::range::Bounds;
+use crate::vacuum::{Certified, Vacuumed};
+use crate::{Content, Error, Item, Link, Node, OpenSnapshot, Result, Stamp, Stopped};
+use hlcstore_sys as sys;
+
+/// How many bytes are made room for at first: of a value, and of a certificate or a checkpoint.
+const VALUE_ROOM: usize = 64;
+const TEXT_ROOM: usize = 4096;
+
+/// A store of the C library, closed or open. It closes itself.
+#[derive(Debug)]
+pub struct Handle {
+    raw: sys::hlc_store,
+    /// How often it was opened. Ids of snapshots begin anew each time.
+    openings: u64,
+}
+
+// SAFETY: the library has no state of a thread. What changes a store takes `&mut self`; all else passes a copy of the
+// handle to the library, which then allows calls to run beside each other.
+unsafe impl Send for Handle {}
+// SAFETY: the same.
+unsafe impl Sync for Handle {}
+
+/// What a scan lists.
+#[derive(Clone, Copy, Debug)]
+pub(crate) enum Listed {
+    Pairs,
+    Keys,
+}
+
+// The blocks that are unsafe here call the library. Pointers come from references and slices, are passed with the
+// lengths of these, and live until the call returns; what a call writes to is not used otherwise during it. `raw` is
+// `HLC_CLOSED_STORE` at first, and only calls of the library change it.
+impl Handle {
+    pub(crate) fn closed() -> Handle {
+        Handle { raw: sys::HLC_CLOSED_STORE, openings: 0 }
+    }
+
+    pub(crate) fn open(&mut self, nodes: u16) -> Result<()> {
+        self.change(|store, _| unsafe { sys::hlc_open(store, nodes) })?;
+        self.openings += 1;
+        Ok(())
+    }
+
+    pub(crate) fn restore(&mut self, bytes: &[u8]) -> Result<u64> {
+        let word = self.change(|store, word| unsafe { sys::hlc_restore(store, bytes.as_ptr(), bytes.len(), word) })?;
+        self.openings += 1;
+        Ok(word)
+    }
+
+    pub(crate) fn openings(&self) -> u64 {
+        self.openings
+    }
+
+    pub(crate) fn close(&mut self) {
+        unsafe { sys::hlc_close(&mut self.raw) }
+    }
+
+    /// Makes a call that only asks. It gets pointers to a copy of the handle, and to where a word goes.
+    fn ask(&self, call: impl FnOnce(*mut sys::hlc_store, *mut u64) -> u32) -> Result<u64> {
+        let (mut copy, mut word) = (self.raw, 0);
+        let code = call(&mut copy, &mut word);
+        answer(code, word)
+    }
+
+    /// Makes a call that changes the store. It gets pointers to the handle, and to where a word goes.
+    fn change(&mut self, call: impl FnOnce(*mut sys::hlc_store, *mut u64) -> u32) -> Result<u64> {
+        let mut word = 0;
+        let code = call(&mut self.raw, &mut word);
+        answer(code, word)
+    }
+
+    // ---- Items ----
+
+    pub(crate) fn accept(&mut self, item: Item<'_>) -> Result<()> {
+        let Item { node, number, stamp, content } = item;
+        let stamp = stamp.to_bits();
+        let accepted = self.change(|store, word| unsafe {
+            match content {
+                Content::Write { key, value } => {
+                    let (key, key_len, value, value_len) = (key.as_ptr(), key.len(), value.as_ptr(), value.len());
+                    sys::hlc_accept_write(store, node, number, stamp, key, key_len, value, value_len, word)
+                }
+                Content::Delete { key } => {
+                    sys::hlc_accept_delete(store, node, number, stamp, key.as_ptr(), key.len(), word)
+                }
+                Content::Report => sys::hlc_accept_report(store, node, number, stamp, word),
+                Content::Retire => sys::hlc_accept_retire(store, node, number, stamp, word),
+            }
+        });
+        accepted.map(drop)
+    }
+
+    pub(crate) fn check(&self, item: Item<'_>) -> Result<()> {
+        let Item { node, number, stamp, content } = item;
+        let stamp = stamp.to_bits();
+        let checked = self.ask(|store, word| unsafe {
+            match content {
+                Content::Write { key, value } => {
+                    let (key, key_len, value, value_len) = (key.as_ptr(), key.len(), value.as_ptr(), value.len());
+                    sys::hlc_check_write(store, node, number, stamp, key, key_len, value, value_len, word)
+                }
+                Content::Delete { key } => {
+                    sys::hlc_check_delete(store, node, number, stamp, key.as_ptr(), key.len(), word)
+                }
+                Content::Report | Content::Retire => sys::hlc_check_report(store, node, number, stamp, word),
+            }
+        });
+        checked.map(drop)
+    }
+
+    pub(crate) fn accept_all(&mut self, items: &[Item<'_>]) -> std::result::Result<(), Stopped> {
+        for (accepted, item) in items.iter().enumerate() {
+            self.accept(*item).map_err(|error| Stopped { items: accepted, bytes: 0, error })?;
+        }
+        Ok(())
+    }
+
+    pub(crate) fn accept_items(&mut self, log: &[u8]) -> std::result::Result<usize, Stopped> {
+        let (mut bytes, mut items) = (0, 0);
+        let accepted = self.change(|store, word| unsafe {
+            sys::hlc_items_accept(store, log.as_ptr(), log.len(), &mut bytes, &mut items, word)
+        });
+        accepted.map(|_| items).map_err(|error| Stopped { items, bytes, error })
+    }
+
+    pub(crate) fn join(&mut self) -> Result<Node> {
+        let mut node = 0;
+        let start = self.change(|store, start| unsafe { sys::hlc_join(store, &mut node, start) })?;
+        Ok(Node::new(node, Stamp::from_bits(start)))
+    }
+
+    pub(crate) fn join_at(&mut self, start: Stamp) -> Result<Node> {
+        let mut node = 0;
+        self.change(|store, word| unsafe { sys::hlc_join_at(store, start.to_bits(), &mut node, word) })?;
+        Ok(Node::new(node, start))
+    }
+
+    // ---- Snapshots ----
+
+    pub(crate) fn open_snapshot(&mut self) -> Result<OpenSnapshot> {
+        let mut stamp = 0;
+        let id = self.change(|store, id| unsafe { sys::hlc_open_snapshot_at_floor(store, id, &mut stamp) })?;
+        Ok(OpenSnapshot { id, stamp: Stamp::from_bits(stamp) })
+    }
+
+    pub(crate) fn open_snapshot_at(&mut self, stamp: Stamp) -> Result<OpenSnapshot> {
+        let id = self.change(|store, id| unsafe { sys::hlc_open_snapshot(store, stamp.to_bits(), id) })?;
+        Ok(OpenSnapshot { id, stamp })
+    }
+
+    pub(crate) fn close_snapshot(&mut self, id: u64) -> Result<Stamp> {
+        self.change(|store, stamp| unsafe { sys::hlc_close_snapshot(store, id, stamp) }).map(Stamp::from_bits)
+    }
+
+    pub(crate) fn close_all(&mut self) -> Result<()> {
+        self.change(|store, _| unsafe { sys::hlc_close_all(store) }).map(drop)
+    }
+
+    /// The open snapshot at a place, by rising ids; or none after the last.
+    fn snapshot_at_place(&self, place: u64) -> Result<Option<OpenSnapshot>> {
+        let mut stamp = 0;
+        match self.ask(|store, id| unsafe { sys::hlc_snapshot(store, place, id, &mut stamp) }) {
+            Ok(id) => Ok(Some(OpenSnapshot { id, stamp: Stamp::from_bits(stamp) })),
+            Err(error) if error.code() == sys::HLC_NO_SNAPSHOT => Ok(None),
+            Err(error) => Err(error),
+        }
+    }
+
+    pub(crate) fn snapshots(&self) -> Result<Vec<OpenSnapshot>> {
+        let mut open = Vec::new();
+        while let Some(snapshot) = self.snapshot_at_place(open.len() as u64)? {
+            open.try_reserve(1).map_err(|_| Error::NO_MEMORY)?;
+            open.push(snapshot);
+        }
+        Ok(open)
+    }
+
+    pub(crate) fn snapshot_by_id(&self, id: u64) -> Result<OpenSnapshot> {
+        let mut place = 0;
+        while let Some(snapshot) = self.snapshot_at_place(place)? {
+            if snapshot.id == id {
+                return Ok(snapshot);
+            }
+            place += 1;
+        }
+        Err(Error::NO_SNAPSHOT)
+    }
+
+    // ---- Reads in a snapshot ----
+
+    /// Appends the value of a key, and returns whether it has one.
+    pub(crate) fn read(&self, id: u64, key: &[u8], out: &mut Vec<u8>) -> Result<bool> {
+        if out.spare_capacity_mut().len() < VALUE_ROOM {
+            reserve(out, VALUE_ROOM)?;
+        }
+        let mut copy = self.raw;
+        let read = unsafe {
+            append(out, |out, room, len| sys::hlc_read(&mut copy, id, key.as_ptr(), key.len(), out, room, len))
+        };
+        match read {
+            Ok(()) => Ok(true),
+            Err(error) if error.code() == sys::HLC_NO_VALUE => Ok(false),
+            Err(error) => Err(error),
+        }
+    }
+
+    /// Lists the pairs, or the keys, of a range that fit in so many bytes. Returns how many these are, and whether more
+    /// are left.
+    pub(crate) fn scan(
+        &self,
+        listed: Listed,
+        id: u64,
+        range: &Bounds,
+        room: usize,
+        out: &mut Vec<u8>,
+    ) -> Result<(usize, bool)> {
+        out.clear();
+        reserve(out, room)?;
+        let call = match listed {
+            Listed::Pairs => sys::hlc_scan,
+            Listed::Keys => sys::hlc_scan_keys,
+        };
+        let (from, from_len, to, to_len) = range.pointers();
+        let (mut copy, mut len, mut entries) = (self.raw, 0, 0);
+        let code =
+            unsafe { call(&mut copy, id, from, from_len, to, to_len, out.as_mut_ptr(), room, &mut len, &mut entries) };
+        if code != sys::HLC_OK && code != sys::HLC_MORE {
+            return Err(Error::new(code, 0));
+        }
+        // The call has written these bytes.
+        unsafe { out.set_len(len) };
+        Ok((entries, code == sys::HLC_MORE))
+    }
+
+    pub(crate) fn count(&self, id: u64, range: &Bounds) -> Result<u64> {
+        let (from, from_len, to, to_len) = range.pointers();
+        self.ask(|store, many| unsafe { sys::hlc_count(store, id, from, from_len, to, to_len, many) })
+    }
+
+    pub(crate) fn digest(&self, id: u64, range: &Bounds) -> Result<[u8; 32]> {
+        let (from, from_len, to, to_len) = range.pointers();
+        let (mut digest, mut len) = ([0; 32], 0);
+        self.ask(|store, _| unsafe {
+            let (out, room) = (digest.as_mut_ptr(), digest.len());
+            sys::hlc_digest(store, id, from, from_len, to, to_len, out, room, &mut len)
+        })?;
+        Ok(digest)
+    }
+
+    // ---- What the store has ----
+
+    pub(crate) fn floor(&self) -> Result<Stamp> {
+        self.ask(|store, stamp| unsafe { sys::hlc_floor(store, stamp) }).map(Stamp::from_bits)
+    }
+
+    pub(crate) fn horizon(&self) -> Result<Stamp> {
+        self.ask(|store, stamp| unsafe { sys::hlc_horizon(store, stamp) }).map(Stamp::from_bits)
+    }
+
+    pub(crate) fn rows(&self) -> Result<u64> {
+        self.ask(|store, rows| unsafe { sys::hlc_rows(store, rows) })
+    }
+
+    pub(crate) fn nodes(&self) -> Result<u64> {
+        self.ask(|store, many| unsafe { sys::hlc_nodes(store, many) })
+    }
+
+    pub(crate) fn link(&self, node: u16) -> Result<Link> {
+        let (mut head, mut is_retired) = (0, false);
+        let next_number =
+            self.ask(|store, next| unsafe { sys::hlc_link(store, node, next, &mut head, &mut is_retired) })?;
+        Ok(Link { next_number, head: Stamp::from_bits(head), is_retired })
+    }
+
+    pub(crate) fn floor_node(&self) -> Result<Option<u16>> {
+        match self.ask(|store, node| unsafe { sys::hlc_floor_node(store, node) }) {
+            // A node's number is below 1,024.
+            Ok(node) => Ok(Some(node as u16)),
+            Err(error) if error.code() == sys::HLC_NO_NODE => Ok(None),
+            Err(error) => Err(error),
+        }
+    }
+
+    pub(crate) fn checkpoint(&self, word: u64) -> Result<Vec<u8>> {
+        let (mut copy, mut bytes) = (self.raw, Vec::new());
+        reserve(&mut bytes, TEXT_ROOM)?;
+        unsafe { append(&mut bytes, |out, room, len| sys::hlc_checkpoint(&mut copy, word, out, room, len))? };
+        Ok(bytes)
+    }
+
+    // ---- Vacuums ----
+
+    pub(crate) fn vacuum(&mut self) -> Result<Vacuumed> {
+        let mut made = Numbers::default();
+        let Numbers { stamp, kept, bytes, dropped } = &mut made;
+        self.change(|store, _| unsafe { sys::hlc_vacuum(store, stamp, kept, bytes, dropped) })?;
+        Ok(made.vacuumed())
+    }
+
+    pub(crate) fn vacuum_to(&mut self, to: Stamp) -> Result<Vacuumed> {
+        let mut made = Numbers::default();
+        let Numbers { kept, bytes, dropped, .. } = &mut made;
+        made.stamp =
+            self.change(|store, word| unsafe { sys::hlc_vacuum_to(store, to.to_bits(), word, kept, bytes, dropped) })?;
+        Ok(made.vacuumed())
+    }
+
+    pub(crate) fn check_vacuum(&self, to: Stamp) -> Result<()> {
+        self.ask(|store, word| unsafe { sys::hlc_check_vacuum(store, to.to_bits(), word) }).map(drop)
+    }
+
+    pub(crate) fn vacuum_certified(&mut self) -> Result<Certified> {
+        self.certified(|store, made, out, room, len| {
+            let Numbers { stamp, kept, bytes, dropped } = made;
+            unsafe { sys::hlc_vacuum_certified(store, stamp, kept, bytes, dropped, out, room, len) }
+        })
+    }
+
+    pub(crate) fn vacuum_to_certified(&mut self, to: Stamp) -> Result<Certified> {
+        let to = to.to_bits();
+        self.certified(|store, made, out, room, len| {
+            let Numbers { stamp, kept, bytes, dropped } = made;
+            unsafe { sys::hlc_vacuum_to_certified(store, to, stamp, kept, bytes, dropped, out, room, len) }
+        })
+    }
+
+    /// Makes a call that vacuums and writes a certificate, again where there was too little room. The numbers are those
+    /// of the first call, since a further one finds nothing to drop.
+    fn certified(
+        &mut self,
+        mut call: impl FnMut(*mut sys::hlc_store, &mut Numbers, *mut u8, usize, *mut usize) -> u32,
+    ) -> Result<Certified> {
+        let (mut first, mut word, mut text) = (None, 0, Vec::new());
+        reserve(&mut text, TEXT_ROOM)?;
+        let called = unsafe {
+            append(&mut text, |out, room, len| {
+                let mut made = Numbers::default();
+                let code = call(&mut self.raw, &mut made, out, room, len);
+                first.get_or_insert(made);
+                word = made.stamp;
+                code
+            })
+        };
+        called.map_err(|error| Error::new(error.code(), word))?;
+        let vacuumed = first.unwrap_or_default().vacuumed();
+        let certificate = String::from_utf8(text).expect("a certificate is ASCII");
+        Ok(Certified { vacuumed, certificate })
+    }
+}
+
+impl Drop for Handle {
+    fn drop(&mut self) {
+        self.close();
+    }
+}
+
+/// What a vacuum writes: the stamp up to which it went, or the word of a refusal, and the numbers of rows and bytes.
+#[derive(Clone, Copy, Default)]
+struct Numbers {
+    stamp: u64,
+    kept: u64,
+    bytes: u64,
+    dropped: u64,
+}
+
+impl Numbers {
+    fn vacuumed(self) -> Vacuumed {
+        let Numbers { stamp, kept, bytes, dropped } = self;
+        Vacuumed { stamp: Stamp::from_bits(stamp), kept, bytes, dropped }
+    }
+}

@@ -1,0 +1,67 @@
+//! A proved in-memory multi-version store that several nodes feed, and the nodes' clocks.
+//!
+//! Nodes issue [`Item`]s: writes, deletions and reports, each with a [`Stamp`] of a hybrid logical clock. A store
+//! accepts them in any order of the nodes. Its floor (closed timestamp) is the stamp up to which all items are there. A
+//! [`Snapshot`] reads the store as it was at a stamp, and returns the same answers whatever is accepted later. A vacuum
+//! drops the rows that no snapshot needs, and can certify that those which are left are the fewest and cheapest.
+//!
+//! ```
+//! use hlcstore::{Node, Stamp, Store};
+//!
+//! let store = Store::open(2)?;
+//! let (mut lyon, mut rome) = (Node::new(0, Stamp::ZERO), Node::new(1, Stamp::ZERO));
+//! store.accept(lyon.write(10, b"river", b"Rhone")?)?;
+//! store.accept(rome.report(12)?)?;
+//! assert_eq!(store.floor()?, Stamp::new(10, 0));
+//!
+//! let snapshot = store.snapshot()?;
+//! store.accept(rome.write(15, b"river", b"Tiber")?)?;
+//! store.accept(lyon.report(20)?)?;
+//! assert_eq!(snapshot.get(b"river")?.as_deref(), Some(&b"Rhone"[..]));
+//! assert_eq!(store.snapshot()?.get(b"river")?.as_deref(), Some(&b"Tiber"[..]));
+//! # Ok::<(), hlcstore::Error>(())
+//! ```
+//!
+//! # Threads
+//!
+//! A [`Store`] is for one thread at a time: it is `Send`, and not `Sync`. A [`SharedStore`] is `Send` and `Sync`, and
+//! its clones are the same store: a call that changes it runs alone, and calls that only ask run beside each other.
+//!
+//! # Memory
+//!
+//! Keys and values are copied into the store. A call for which there is no memory returns an [`Error`] of the kind
+//! `NoMemory`, and the store is as it was before.
+//!
+//! # The library
+//!
+//! The crate links with the C library; `hlcstore-sys` says how it is found. `docs/` of its repository describes what is
+//! proved, and the formats of items, checkpoints and certificates.
+
+mod buffer;
+mod error;
+mod handle;
+mod item;
+mod listing;
+mod node;
+mod range;
+mod shared;
+mod snapshot;
+mod stamp;
+mod store;
+mod vacuum;
+
+pub use error::{Error, ErrorKind, Result, Stopped, error_name, error_text};
+pub use item::{Content, Item};
+pub use listing::{KeyPage, Keys, Page, Pairs};
+pub use node::Node;
+pub use range::{KeyRange, Prefix};
+pub use shared::SharedStore;
+pub use snapshot::{Access, OpenSnapshot, Snapshot};
+pub use stamp::Stamp;
+pub use store::{Link, Store};
+pub use vacuum::{Certified, Checked, Vacuumed, check_certificate};
+
+/// Returns the version of the C library: 10,000 times its first number, 100 times the second, and the third.
+pub fn version() -> u32 {
+    hlcstore_sys::hlc_version()
+}

@@ -1,0 +1,238 @@
+//! Listings of snapshots: pages, and iterators that go from page to page.
+
+use crate::buffer::copied;
+use crate::handle::Listed;
+use crate::range::Bounds;
+use crate::{Access, Result, Snapshot};
+use std::fmt;
+use std::iter::FusedIterator;
+
+/// How many bytes an iterator asks for: at first so many, and then twice as many each time, since a listing may be
+/// long, or its next pair longer than the page. The greatest room is more than any pair takes.
+const FIRST_ROOM: usize = 4096;
+const GREATEST_ROOM: usize = 1 << 17;
+
+/// A part of a listing, as the library writes it: for each entry its key, and in a listing of pairs its value, each
+/// with its length before it.
+#[derive(Clone, Default)]
+pub(crate) struct Part {
+    bytes: Vec<u8>,
+    len: usize,
+    has_more: bool,
+}
+
+impl Part {
+    /// Fills the part with the entries of a range that fit in so many bytes, in place of what it contains.
+    pub(crate) fn fill<S: Access>(
+        &mut self,
+        snapshot: &Snapshot<S>,
+        listed: Listed,
+        range: &Bounds,
+        room: usize,
+    ) -> Result<()> {
+        (self.len, self.has_more) = snapshot.handle()?.scan(listed, snapshot.id(), range, room, &mut self.bytes)?;
+        Ok(())
+    }
+}
+
+/// The byte strings of a part, each with its length before it.
+#[derive(Clone, Debug)]
+struct Strings<'a> {
+    rest: &'a [u8],
+}
+
+impl<'a> Iterator for Strings<'a> {
+    type Item = &'a [u8];
+
+    fn next(&mut self) -> Option<&'a [u8]> {
+        let (len, rest) = self.rest.split_first_chunk()?;
+        let (string, rest) = rest.split_at_checked(u64::from_le_bytes(*len) as usize)?;
+        self.rest = rest;
+        Some(string)
+    }
+}
+
+/// Pairs of a key and its value, which [`Snapshot::scan`] returns.
+#[derive(Clone)]
+pub struct Page(pub(crate) Part);
+
+impl Page {
+    /// Returns how many pairs there are.
+    pub fn len(&self) -> usize {
+        self.0.len
+    }
+
+    /// Returns whether there is no pair.
+    pub fn is_empty(&self) -> bool {
+        self.0.len == 0
+    }
+
+    /// Returns whether the range has more pairs, which did not fit. They have keys above the last one here.
+    pub fn has_more(&self) -> bool {
+        self.0.has_more
+    }
+
+    /// Returns the pairs, in the byte order of the keys.
+    pub fn iter(&self) -> impl Iterator<Item = (&[u8], &[u8])> {
+        let mut strings = Strings { rest: &self.0.bytes };
+        std::iter::from_fn(move || Some((strings.next()?, strings.next()?)))
+    }
+
+    /// Returns the pairs as the C library writes them: for each the length of the key, the key, the length of the
+    /// value, and the value. A length has eight bytes, the low one first.
+    pub fn as_bytes(&self) -> &[u8] {
+        &self.0.bytes
+    }
+}
+
+impl fmt::Debug for Page {
+    fn fmt(&self, f: &mut fmt::Formatter<'_>) -> fmt::Result {
+        f.debug_map().entries(self.iter()).finish()
+    }
+}
+
+/// Keys, which [`Snapshot::scan_keys`] returns.
+#[derive(Clone)]
+pub struct KeyPage(pub(crate) Part);
+
+impl KeyPage {
+    /// Returns how many keys there are.
+    pub fn len(&self) -> usize {
+        self.0.len
+    }
+
+    /// Returns whether there is no key.
+    pub fn is_empty(&self) -> bool {
+        self.0.len == 0
+    }
+
+    /// Returns whether the range has more keys, which did not fit. They are above the last one here.
+    pub fn has_more(&self) -> bool {
+        self.0.has_more
+    }
+
+    /// Returns the keys, in byte order.
+    pub fn iter(&self) -> impl Iterator<Item = &[u8]> {
+        Strings { rest: &self.0.bytes }
+    }
+
+    /// Returns the keys as the C library writes them: for each its length in eight bytes, the low one first, and the
+    /// key.
+    pub fn as_bytes(&self) -> &[u8] {
+        &self.0.bytes
+    }
+}
+
+impl fmt::Debug for KeyPage {
+    fn fmt(&self, f: &mut fmt::Formatter<'_>) -> fmt::Result {
+        f.debug_list().entries(self.iter()).finish()
+    }
+}
+
+/// Goes through a range of a snapshot, page by page.
+struct Listing<'a, S: Access> {
+    snapshot: &'a Snapshot<S>,
+    listed: Listed,
+    /// What is left of the range behind the page; or an error, until it is returned.
+    range: Result<Bounds>,
+    room: usize,
+    page: Part,
+    /// Where the last entry that was returned, and the next one, begin in the page.
+    last: usize,
+    next: usize,
+}
+
+impl<'a, S: Access> Listing<'a, S> {
+    fn new(snapshot: &'a Snapshot<S>, listed: Listed, range: Result<Bounds>) -> Listing<'a, S> {
+        let page = Part { has_more: true, ..Part::default() };
+        Listing { snapshot, listed, range, room: FIRST_ROOM, page, last: 0, next: 0 }
+    }
+
+    /// Returns the next entry, which is copied from the page; or an error, after which no entry comes.
+    fn next_entry<T>(&mut self, copy: impl FnOnce(&mut Strings<'_>) -> Option<Result<T>>) -> Option<Result<T>> {
+        let entry = self.find_next().and_then(|()| {
+            let mut strings = Strings { rest: &self.page.bytes[self.next..] };
+            let entry = copy(&mut strings).transpose();
+            self.last = self.next;
+            self.next = self.page.bytes.len() - strings.rest.len();
+            entry
+        });
+        if entry.is_err() {
+            self.page = Part::default();
+            (self.last, self.next) = (0, 0);
+        }
+        entry.transpose()
+    }
+
+    /// Loads pages until one has a next entry, or the range is at its end.
+    fn find_next(&mut self) -> Result<()> {
+        while self.next == self.page.bytes.len() && self.page.has_more {
+            let range = self.range.as_mut().map_err(|error| *error)?;
+            let last_key = Strings { rest: &self.page.bytes[self.last..] }.next();
+            if let Some(key) = last_key {
+                range.move_behind(key)?;
+            }
+            (self.last, self.next) = (0, 0);
+            self.page.fill(self.snapshot, self.listed, range, self.room)?;
+            self.room = (2 * self.room).min(GREATEST_ROOM);
+        }
+        Ok(())
+    }
+}
+
+/// Iterates over the pairs of a key and its value in a range of a snapshot, in the byte order of the keys.
+///
+/// It reads some pairs at a time, so that a shared store is not locked between.
+pub struct Pairs<'a, S: Access>(Listing<'a, S>);
+
+impl<'a, S: Access> Pairs<'a, S> {
+    pub(crate) fn new(snapshot: &'a Snapshot<S>, range: Result<Bounds>) -> Pairs<'a, S> {
+        Pairs(Listing::new(snapshot, Listed::Pairs, range))
+    }
+}
+
+impl<S: Access> Iterator for Pairs<'_, S> {
+    type Item = Result<(Vec<u8>, Vec<u8>)>;
+
+    fn next(&mut self) -> Option<Self::Item> {
+        self.0.next_entry(|strings| {
+            let (key, value) = (strings.next()?, strings.next()?);
+            Some(copied(key).and_then(|key| Ok((key, copied(value)?))))
+        })
+    }
+}
+
+impl<S: Access> FusedIterator for Pairs<'_, S> {}
+
+impl<S: Access> fmt::Debug for Pairs<'_, S> {
+    fn fmt(&self, f: &mut fmt::Formatter<'_>) -> fmt::Result {
+        f.debug_tuple("Pairs").field(self.0.snapshot).finish()
+    }
+}
+
+/// Iterates over the keys with a value in a range of a snapshot, in byte order.
+///
+/// It reads some keys at a time, so that a shared store is not locked between.
+pub struct Keys<'a, S: Access>(Listing<'a, S>);
+
+impl<'a, S: Access> Keys<'a, S> {
+    pub(crate) fn new(snapshot: &'a Snapshot<S>, range: Result<Bounds>) -> Keys<'a, S> {
+        Keys(Listing::new(snapshot, Listed::Keys, range))
+    }
+}
+
+impl<S: Access> Iterator for Keys<'_, S> {
+    type Item = Result<Vec<u8>>;
+
+    fn next(&mut self) -> Option<Self::Item> {
+        self.0.next_entry(|strings| strings.next().map(copied))
+    }
+}
+
+impl<S: Access> FusedIterator for Keys<'_, S> {}
+
+impl<S: Access> fmt::Debug for Keys<'_, S> {
+    fn fmt(&self, f: &mut fmt::Formatter<'_>) -> fmt::Result {
+        f.debug_tuple("Keys").field(self.0.snapshot).finish()
+    }
+}

@@ -1,0 +1,202 @@
+use crate::handle::Handle;
+use crate::{Certified, Item, Link, Node, OpenSnapshot, Result, Snapshot, Stamp, Stopped, Store, Vacuumed};
+use std::fmt;
+use std::sync::{Arc, PoisonError, RwLock, RwLockReadGuard, RwLockWriteGuard};
+
+/// A store that threads share. Its clones are the same store, which is closed with the last of them.
+///
+/// It has the calls of a [`Store`]. Those that only ask, as reads in snapshots, run beside each other; one that changes
+/// the store, as an accepted item, a snapshot that opens or closes, or a vacuum, waits until it is alone.
+///
+/// ```
+/// use hlcstore::{Node, SharedStore, Stamp};
+/// use std::thread;
+///
+/// let store = SharedStore::open(2)?;
+/// let writers: Vec<_> = (0..2)
+///     .map(|id| {
+///         let store = store.clone();
+///         thread::spawn(move || store.accept(Node::new(id, Stamp::ZERO).write(5, b"city", b"Lyon")?))
+///     })
+///     .collect();
+/// for writer in writers {
+///     writer.join().unwrap()?;
+/// }
+/// let snapshot = store.snapshot()?;
+/// let reader = thread::spawn(move || snapshot.get(b"city"));
+/// assert_eq!(reader.join().unwrap()?.as_deref(), Some(&b"Lyon"[..]));
+/// # Ok::<(), hlcstore::Error>(())
+/// ```
+#[derive(Clone)]
+pub struct SharedStore {
+    handle: Arc<RwLock<Handle>>,
+}
+
+impl SharedStore {
+    pub(crate) fn new(handle: Handle) -> SharedStore {
+        SharedStore { handle: Arc::new(RwLock::new(handle)) }
+    }
+
+    /// Opens a store of so many nodes, as [`Store::open`] does.
+    pub fn open(nodes: u16) -> Result<SharedStore> {
+        Store::open(nodes).map(Store::into_shared)
+    }
+
+    /// Opens a store from the bytes of a checkpoint, as [`Store::restore`] does.
+    pub fn restore(checkpoint: &[u8]) -> Result<(SharedStore, u64)> {
+        let (store, word) = Store::restore(checkpoint)?;
+        Ok((store.into_shared(), word))
+    }
+
+    /// Opens this closed store, for all clones, as [`Store::reopen`] does.
+    pub fn reopen(&self, nodes: u16) -> Result<()> {
+        self.write().open(nodes)
+    }
+
+    /// Opens this closed store from the bytes of a checkpoint, for all clones, as [`Store::reload`] does.
+    pub fn reload(&self, checkpoint: &[u8]) -> Result<u64> {
+        self.write().restore(checkpoint)
+    }
+
+    /// Closes the store for all clones, and frees what it contains.
+    pub fn close(&self) {
+        self.write().close();
+    }
+
+    /// Accepts an item, as [`Store::accept`] does.
+    pub fn accept(&self, item: Item<'_>) -> Result<()> {
+        self.write().accept(item)
+    }
+
+    /// Checks an item, as [`Store::check`] does.
+    pub fn check(&self, item: Item<'_>) -> Result<()> {
+        self.read().check(item)
+    }
+
+    /// Accepts a batch of items, as [`Store::accept_all`] does. The store is locked once for all of them.
+    pub fn accept_all(&self, items: &[Item<'_>]) -> std::result::Result<(), Stopped> {
+        self.write().accept_all(items)
+    }
+
+    /// Accepts the items of a log, as [`Store::accept_items`] does. The store is locked once for all of them.
+    pub fn accept_items(&self, log: &[u8]) -> std::result::Result<usize, Stopped> {
+        self.write().accept_items(log)
+    }
+
+    /// Lets a node join at the floor, as [`Store::join`] does.
+    pub fn join(&self) -> Result<Node> {
+        self.write().join()
+    }
+
+    /// Lets a node join at a stamp, as [`Store::join_at`] does.
+    pub fn join_at(&self, start: Stamp) -> Result<Node> {
+        self.write().join_at(start)
+    }
+
+    /// Opens a snapshot at the floor, as [`Store::snapshot`] does.
+    pub fn snapshot(&self) -> Result<Snapshot<SharedStore>> {
+        Snapshot::open(self.clone(), Handle::open_snapshot)
+    }
+
+    /// Opens a snapshot at a stamp, as [`Store::snapshot_at`] does.
+    pub fn snapshot_at(&self, stamp: Stamp) -> Result<Snapshot<SharedStore>> {
+        Snapshot::open(self.clone(), |handle| handle.open_snapshot_at(stamp))
+    }
+
+    /// Returns the open snapshot with this id, as [`Store::snapshot_by_id`] does.
+    pub fn snapshot_by_id(&self, id: u64) -> Result<Snapshot<SharedStore>> {
+        Snapshot::open(self.clone(), |handle| handle.snapshot_by_id(id))
+    }
+
+    /// Returns the open snapshots, as [`Store::snapshots`] does.
+    pub fn snapshots(&self) -> Result<Vec<OpenSnapshot>> {
+        self.read().snapshots()
+    }
+
+    /// Closes all open snapshots, as [`Store::close_all`] does.
+    pub fn close_all(&self) -> Result<()> {
+        self.write().close_all()
+    }
+
+    /// Returns the floor, as [`Store::floor`] does.
+    pub fn floor(&self) -> Result<Stamp> {
+        self.read().floor()
+    }
+
+    /// Returns the first node for which the floor waits, as [`Store::floor_node`] does.
+    pub fn floor_node(&self) -> Result<Option<u16>> {
+        self.read().floor_node()
+    }
+
+    /// Returns the horizon, as [`Store::horizon`] does.
+    pub fn horizon(&self) -> Result<Stamp> {
+        self.read().horizon()
+    }
+
+    /// Returns how many rows are stored.
+    pub fn rows(&self) -> Result<u64> {
+        self.read().rows()
+    }
+
+    /// Returns how many node numbers are assigned, as [`Store::nodes`] does.
+    pub fn nodes(&self) -> Result<u64> {
+        self.read().nodes()
+    }
+
+    /// Returns what was accepted from a node, as [`Store::link`] does.
+    pub fn link(&self, node: u16) -> Result<Link> {
+        self.read().link(node)
+    }
+
+    /// Vacuums to the floor, as [`Store::vacuum`] does.
+    pub fn vacuum(&self) -> Result<Vacuumed> {
+        self.write().vacuum()
+    }
+
+    /// Vacuums to the floor with a certificate, as [`Store::vacuum_certified`] does.
+    pub fn vacuum_certified(&self) -> Result<Certified> {
+        self.write().vacuum_certified()
+    }
+
+    /// Vacuums to a stamp, as [`Store::vacuum_to`] does.
+    pub fn vacuum_to(&self, stamp: Stamp) -> Result<Vacuumed> {
+        self.write().vacuum_to(stamp)
+    }
+
+    /// Vacuums to a stamp with a certificate, as [`Store::vacuum_to_certified`] does.
+    pub fn vacuum_to_certified(&self, stamp: Stamp) -> Result<Certified> {
+        self.write().vacuum_to_certified(stamp)
+    }
+
+    /// Returns why a vacuum to a stamp would be refused, as [`Store::check_vacuum`] does.
+    pub fn check_vacuum(&self, stamp: Stamp) -> Result<()> {
+        self.read().check_vacuum(stamp)
+    }
+
+    /// Returns the whole state of the store as bytes, as [`Store::checkpoint`] does. Reads run beside it.
+    pub fn checkpoint(&self, word: u64) -> Result<Vec<u8>> {
+        self.read().checkpoint(word)
+    }
+
+    // A thread that panicked while it had the lock was in no call of the library, which does not panic. So the store is
+    // whole, and the poison of the lock says nothing.
+    pub(crate) fn read(&self) -> RwLockReadGuard<'_, Handle> {
+        self.handle.read().unwrap_or_else(PoisonError::into_inner)
+    }
+
+    pub(crate) fn write(&self) -> RwLockWriteGuard<'_, Handle> {
+        self.handle.write().unwrap_or_else(PoisonError::into_inner)
+    }
+}
+
+impl From<Store> for SharedStore {
+    fn from(store: Store) -> SharedStore {
+        store.into_shared()
+    }
+}
+
+impl fmt::Debug for SharedStore {
+    fn fmt(&self, f: &mut fmt::Formatter<'_>) -> fmt::Result {
+        f.debug_struct("SharedStore").finish_non_exhaustive()
+    }
+}

@@ -1,0 +1,287 @@
+use crate::handle::Handle;
+use crate::snapshot::{OpenSnapshot, Snapshot};
+use crate::{Certified, Item, Node, Result, SharedStore, Stamp, Stopped, Vacuumed};
+use std::cell::{Ref, RefCell, RefMut};
+use std::fmt;
+
+/// A multi-version store, for one thread at a time. It closes itself.
+///
+/// All calls take `&self`, so that snapshots stay open while items come in. Each call returns `Closed` after
+/// [`close`](Store::close). [`SharedStore`] is for many threads.
+///
+/// ```
+/// use hlcstore::{Node, Stamp, Store};
+///
+/// let store = Store::open(1)?;
+/// let mut node = Node::new(0, Stamp::ZERO);
+/// store.accept(node.write(5, b"city", b"Lyon")?)?;
+/// let snapshot = store.snapshot()?;
+/// store.accept(node.delete(6, b"city")?)?;
+/// assert_eq!(snapshot.get(b"city")?.as_deref(), Some(&b"Lyon"[..]));
+/// # Ok::<(), hlcstore::Error>(())
+/// ```
+///
+/// It moves to another thread, but is not shared:
+///
+/// ```compile_fail,E0277
+/// fn is_shared<T: Sync>() {}
+/// is_shared::<hlcstore::Store>();
+/// ```
+pub struct Store {
+    handle: RefCell<Handle>,
+}
+
+/// What a store accepted from a node.
+#[derive(Clone, Copy, Debug, PartialEq, Eq, Hash)]
+pub struct Link {
+    /// The number of the node's next item.
+    pub next_number: u64,
+    /// The stamp of its last accepted item, or the stamp at which it started.
+    pub head: Stamp,
+    /// Whether its retirement was accepted.
+    pub is_retired: bool,
+}
+
+impl Store {
+    /// Opens a store of so many nodes, 1 to 64, numbered from 0, in which nothing took place.
+    ///
+    /// Refusals: `NoNode`, `NoMemory`.
+    pub fn open(nodes: u16) -> Result<Store> {
+        let store = Store::closed();
+        store.reopen(nodes)?;
+        Ok(store)
+    }
+
+    /// Opens a store from the bytes of a [`checkpoint`](Store::checkpoint), whoever wrote them. Returns it with the
+    /// word that was saved. It continues as the saved store would have: the same next items, open snapshots, horizon
+    /// and answers. [`snapshot_by_id`](Store::snapshot_by_id) returns its snapshots.
+    ///
+    /// Refusals, in this order: `BadBytes`, `NoCheckpoint`, `NoMemory`.
+    pub fn restore(checkpoint: &[u8]) -> Result<(Store, u64)> {
+        let store = Store::closed();
+        let word = store.reload(checkpoint)?;
+        Ok((store, word))
+    }
+
+    /// Returns a closed store, for [`reopen`](Store::reopen) or [`reload`](Store::reload).
+    pub fn closed() -> Store {
+        Store { handle: RefCell::new(Handle::closed()) }
+    }
+
+    /// Opens this closed store as [`open`](Store::open) does.
+    ///
+    /// Refusals: `IsOpen`, `NoNode`, `NoMemory`.
+    pub fn reopen(&self, nodes: u16) -> Result<()> {
+        self.write().open(nodes)
+    }
+
+    /// Opens this closed store as [`restore`](Store::restore) does, and returns the word.
+    ///
+    /// Refusals, in this order: `IsOpen`, `BadBytes`, `NoCheckpoint`, `NoMemory`.
+    pub fn reload(&self, checkpoint: &[u8]) -> Result<u64> {
+        self.write().restore(checkpoint)
+    }
+
+    /// Closes the store, and frees what it contains.
+    pub fn close(&self) {
+        self.write().close();
+    }
+
+    /// Accepts an item, if it is the next one of its node.
+    ///
+    /// Refusals, in this order: `NoNode`, `Retired`, `NotNext`, `NumbersSpent`, `StampNotRising`, `BadKey`,
+    /// `ValueTooLong`, `NoMemory`.
+    pub fn accept(&self, item: Item<'_>) -> Result<()> {
+        self.write().accept(item)
+    }
+
+    /// Returns what [`accept`](Store::accept) would return for this item, except `NoMemory`.
+    pub fn check(&self, item: Item<'_>) -> Result<()> {
+        self.read().check(item)
+    }
+
+    /// Accepts a batch of items in turn, as [`accept`](Store::accept) does, until one is refused. Those before it stay
+    /// accepted.
+    pub fn accept_all(&self, items: &[Item<'_>]) -> std::result::Result<(), Stopped> {
+        self.write().accept_all(items)
+    }
+
+    /// Accepts the items of a log, one after another as bytes ([`Item::encode`]), until one is refused. Items whose
+    /// numbers were accepted before are passed over, so that a log can be read again from any place. Returns how many
+    /// items were accepted or passed over.
+    ///
+    /// Refusals, of each item in this order: `BadBytes`, where 1 is the word if the bytes end within the item;
+    /// `NoNode`, `Retired`, `NotNext`, `NumbersSpent`, `StampNotRising`, `NoMemory`.
+    pub fn accept_items(&self, log: &[u8]) -> std::result::Result<usize, Stopped> {
+        self.write().accept_items(log)
+    }
+
+    /// Lets a node join, and returns it. Its clock starts at the floor.
+    ///
+    /// Refusals, in this order: `TooManyNodes`, `NoMemory`.
+    pub fn join(&self) -> Result<Node> {
+        self.write().join()
+    }
+
+    /// Lets a node join that starts at this stamp, at or above the floor, and returns it. Stores that accept the same
+    /// items agree on a join if each gets the same start, whatever their floors are then.
+    ///
+    /// Refusals, in this order: `TooManyNodes`; `BelowHorizon`, with the floor; `NoMemory`.
+    pub fn join_at(&self, start: Stamp) -> Result<Node> {
+        self.write().join_at(start)
+    }
+
+    /// Opens a snapshot at the floor.
+    ///
+    /// Refusals, in this order: `TooManySnapshots`, `NumbersSpent`, `NoMemory`.
+    pub fn snapshot(&self) -> Result<Snapshot<&Store>> {
+        Snapshot::open(self, Handle::open_snapshot)
+    }
+
+    /// Opens a snapshot at a stamp, from the horizon to the floor.
+    ///
+    /// Refusals, in this order: `AboveFloor`, `BelowHorizon`, `TooManySnapshots`, `NumbersSpent`, `NoMemory`.
+    pub fn snapshot_at(&self, stamp: Stamp) -> Result<Snapshot<&Store>> {
+        Snapshot::open(self, |handle| handle.open_snapshot_at(stamp))
+    }
+
+    /// Returns the open snapshot with this id, for example after a restart. As any other it closes itself, unless
+    /// [`Snapshot::keep`] keeps it open.
+    ///
+    /// Refusal: `NoSnapshot`.
+    pub fn snapshot_by_id(&self, id: u64) -> Result<Snapshot<&Store>> {
+        Snapshot::open(self, |handle| handle.snapshot_by_id(id))
+    }
+
+    /// Returns the open snapshots, by rising ids.
+    pub fn snapshots(&self) -> Result<Vec<OpenSnapshot>> {
+        self.read().snapshots()
+    }
+
+    /// Closes all open snapshots. Their calls return `NoSnapshot` from then on.
+    pub fn close_all(&self) -> Result<()> {
+        self.write().close_all()
+    }
+
+    /// Returns the floor (closed timestamp): every item that is accepted later has a greater stamp.
+    pub fn floor(&self) -> Result<Stamp> {
+        self.read().floor()
+    }
+
+    /// Returns the first node for which the floor waits, or none if all have retired.
+    pub fn floor_node(&self) -> Result<Option<u16>> {
+        self.read().floor_node()
+    }
+
+    /// Returns the horizon (GC threshold): the stamp of the last vacuum, or [`Stamp::ZERO`] before the first.
+    pub fn horizon(&self) -> Result<Stamp> {
+        self.read().horizon()
+    }
+
+    /// Returns how many rows are stored.
+    pub fn rows(&self) -> Result<u64> {
+        self.read().rows()
+    }
+
+    /// Returns how many node numbers are assigned, those of retired nodes too.
+    pub fn nodes(&self) -> Result<u64> {
+        self.read().nodes()
+    }
+
+    /// Returns what was accepted from a node.
+    ///
+    /// Refusal: `NoNode`.
+    pub fn link(&self, node: u16) -> Result<Link> {
+        self.read().link(node)
+    }
+
+    /// Drops all rows at or below the floor except the fewest, and the cheapest, that give the same answers as all
+    /// accepted writes at each open snapshot and at the floor.
+    ///
+    /// Refusal: `NoMemory`.
+    pub fn vacuum(&self) -> Result<Vacuumed> {
+        self.write().vacuum()
+    }
+
+    /// Vacuums, and returns the certificate of the rows that are left up to the floor.
+    ///
+    /// Refusal: `NoMemory`, where the vacuum may have taken place.
+    pub fn vacuum_certified(&self) -> Result<Certified> {
+        self.write().vacuum_certified()
+    }
+
+    /// Drops all rows at or below a stamp except the fewest, and the cheapest, that give the same answers as all
+    /// accepted writes at each snapshot that is open at or below the stamp, and at the stamp. All rows above it stay.
+    ///
+    /// Refusals, in this order: `AboveFloor`, `BelowHorizon`, `NoMemory`.
+    ///
+    /// ```
+    /// use hlcstore::{Node, Stamp, Store};
+    ///
+    /// let store = Store::open(1)?;
+    /// let mut node = Node::new(0, Stamp::ZERO);
+    /// for reading in 1..=9 {
+    ///     store.accept(node.write(reading, b"city", b"Lyon")?)?;
+    /// }
+    /// let vacuumed = store.vacuum_to(Stamp::new(6, 0))?;
+    /// assert_eq!((vacuumed.kept, vacuumed.dropped), (1, 5));
+    /// assert_eq!(store.rows()?, 4);
+    /// # Ok::<(), hlcstore::Error>(())
+    /// ```
+    pub fn vacuum_to(&self, stamp: Stamp) -> Result<Vacuumed> {
+        self.write().vacuum_to(stamp)
+    }
+
+    /// Does the same, and returns the certificate of the rows that are left up to the stamp.
+    ///
+    /// Refusals: those of [`vacuum_to`](Store::vacuum_to). With `NoMemory` the vacuum may have taken place.
+    pub fn vacuum_to_certified(&self, stamp: Stamp) -> Result<Certified> {
+        self.write().vacuum_to_certified(stamp)
+    }
+
+    /// Returns why [`vacuum_to`](Store::vacuum_to) would be refused, except `NoMemory`.
+    pub fn check_vacuum(&self, stamp: Stamp) -> Result<()> {
+        self.read().check_vacuum(stamp)
+    }
+
+    /// Returns the whole state of the store as bytes, with a word of the caller's: for example the place in a log up to
+    /// which the store applied it. `docs/formats.md` describes them.
+    ///
+    /// Refusal: `NoMemory`.
+    ///
+    /// ```
+    /// use hlcstore::{Node, Stamp, Store};
+    ///
+    /// let store = Store::open(1)?;
+    /// let mut node = Node::new(0, Stamp::ZERO);
+    /// store.accept(node.write(5, b"city", b"Lyon")?)?;
+    ///
+    /// let (copy, word) = Store::restore(&store.checkpoint(77)?)?;
+    /// assert_eq!(word, 77);
+    /// copy.accept(node.write(6, b"city", b"Rome")?)?;
+    /// # Ok::<(), hlcstore::Error>(())
+    /// ```
+    pub fn checkpoint(&self, word: u64) -> Result<Vec<u8>> {
+        self.read().checkpoint(word)
+    }
+
+    /// Shares the store among threads.
+    pub fn into_shared(self) -> SharedStore {
+        SharedStore::new(self.handle.into_inner())
+    }
+
+    // No call of a caller's function takes place while the handle is borrowed, so these never fail.
+    pub(crate) fn read(&self) -> Ref<'_, Handle> {
+        self.handle.borrow()
+    }
+
+    pub(crate) fn write(&self) -> RefMut<'_, Handle> {
+        self.handle.borrow_mut()
+    }
+}
+
+impl fmt::Debug for Store {
+    fn fmt(&self, f: &mut fmt::Formatter<'_>) -> fmt::Result {
+        f.debug_struct("Store").finish_non_exhaustive()
+    }
+}

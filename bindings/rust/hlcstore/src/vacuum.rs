@@ -1,0 +1,60 @@
+use crate::error::answer;
+use crate::{Result, Stamp};
+use hlcstore_sys as sys;
+
+/// What a vacuum did.
+#[derive(Clone, Copy, Debug, PartialEq, Eq, Hash)]
+pub struct Vacuumed {
+    /// The stamp up to which rows were dropped: the floor, or that of [`Store::vacuum_to`](crate::Store::vacuum_to). It
+    /// is the horizon now.
+    pub stamp: Stamp,
+    /// How many rows at or below the stamp were kept.
+    pub kept: u64,
+    /// What these cost: for each the length of its key and of its value, and 10.
+    pub bytes: u64,
+    /// How many rows at or below the stamp were dropped.
+    pub dropped: u64,
+}
+
+/// What a vacuum did, and the certificate of the rows that it kept.
+#[derive(Clone, Debug, PartialEq, Eq, Hash)]
+pub struct Certified {
+    /// What the vacuum did.
+    pub vacuumed: Vacuumed,
+    /// The text of the certificate, which [`check_certificate`] and `hlcstore check` read. `docs/formats.md` describes
+    /// it.
+    pub certificate: String,
+}
+
+/// How many rows a certificate has, and what they cost.
+#[derive(Clone, Copy, Debug, PartialEq, Eq, Hash)]
+pub struct Checked {
+    /// How many rows.
+    pub rows: u64,
+    /// What they cost in bytes: for each the length of its key and of its value, and 10.
+    pub bytes: u64,
+}
+
+/// Checks the text of a certificate, whoever made it: no row set that gives the same answers at its points has fewer
+/// rows, or costs fewer bytes.
+///
+/// Refusals: `TooLong`, `BadLine`, `NoMemory`, `NotShown`.
+///
+/// ```
+/// use hlcstore::{Node, Stamp, Store, check_certificate};
+///
+/// let store = Store::open(1)?;
+/// let mut node = Node::new(0, Stamp::ZERO);
+/// store.accept(node.write(5, b"city", b"Lyon")?)?;
+/// let certified = store.vacuum_certified()?;
+/// assert_eq!(check_certificate(&certified.certificate)?.rows, certified.vacuumed.kept);
+/// # Ok::<(), hlcstore::Error>(())
+/// ```
+pub fn check_certificate(text: impl AsRef<[u8]>) -> Result<Checked> {
+    let text = text.as_ref();
+    let (mut rows, mut bytes, mut word) = (0, 0, 0);
+    // SAFETY: the text has this length, and the other pointers are live and not used otherwise during the call.
+    let code = unsafe { sys::hlc_check(text.as_ptr(), text.len(), &mut rows, &mut bytes, &mut word) };
+    answer(code, word)?;
+    Ok(Checked { rows, bytes })
+}

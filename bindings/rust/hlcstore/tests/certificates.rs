@@ -1,0 +1,45 @@
+//! Vacuums with certificates that are longer than the first buffer.
+
+use hlcstore::{Certified, Node, Stamp, Store, check_certificate};
+
+const KEYS: u64 = 500;
+
+/// A store with two writes of each key, at the readings 1 and 2.
+fn store() -> Store {
+    let store = Store::open(1).unwrap();
+    let mut node = Node::new(0, Stamp::ZERO);
+    for reading in 1..=2 {
+        for number in 0..KEYS {
+            store.accept(node.write(reading, &number.to_be_bytes(), &reading.to_be_bytes()).unwrap()).unwrap();
+        }
+    }
+    store
+}
+
+/// Checks that a vacuum kept one row of each key, and dropped the other.
+fn assert_certified(certified: &Certified, stamp: Stamp) {
+    let Certified { vacuumed, certificate } = certified;
+    assert_eq!((vacuumed.stamp, vacuumed.kept, vacuumed.dropped), (stamp, KEYS, KEYS));
+    assert_eq!(vacuumed.bytes, KEYS * (8 + 8 + 10));
+    assert!(certificate.len() > 4096);
+    let checked = check_certificate(certificate).unwrap();
+    assert_eq!((checked.rows, checked.bytes), (vacuumed.kept, vacuumed.bytes));
+}
+
+#[test]
+fn vacuum_returns_its_own_numbers_with_a_long_certificate() {
+    let store = store();
+    let floor = store.floor().unwrap();
+    assert_certified(&store.vacuum_certified().unwrap(), floor);
+    assert_eq!(store.rows(), Ok(KEYS));
+}
+
+#[test]
+fn vacuum_to_a_stamp_returns_its_own_numbers_with_a_long_certificate() {
+    let store = store();
+    let stamp = Stamp::new(2, KEYS as u16 - 1);
+    assert_certified(&store.vacuum_to_certified(stamp).unwrap(), stamp);
+    assert_eq!(store.horizon(), Ok(stamp));
+    let again = store.vacuum_to_certified(stamp).unwrap().vacuumed;
+    assert_eq!((again.kept, again.dropped), (KEYS, 0));
+}

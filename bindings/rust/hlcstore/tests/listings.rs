@@ -1,0 +1,160 @@
+//! What snapshots list: ranges, pages, and pairs that are longer than a page.
+
+use hlcstore::{ErrorKind, Node, Prefix, Snapshot, Stamp, Store};
+use std::collections::BTreeMap;
+use std::ops::Bound::{Excluded, Included, Unbounded};
+
+type Pairs = BTreeMap<Vec<u8>, Vec<u8>>;
+
+/// Writes these pairs to a store.
+fn store_of(pairs: &Pairs) -> Store {
+    let store = Store::open(1).unwrap();
+    let mut node = Node::new(0, Stamp::ZERO);
+    for (key, value) in pairs {
+        store.accept(node.write(1, key, value).unwrap()).unwrap();
+    }
+    store
+}
+
+fn pairs_of(keys: &[&[u8]]) -> Pairs {
+    keys.iter().map(|key| (key.to_vec(), key.repeat(2))).collect()
+}
+
+/// The keys of a range of a snapshot, from each call that lists them.
+macro_rules! keys_of {
+    ($snapshot:expr, $range:expr) => {{
+        let keys: Vec<Vec<u8>> = $snapshot.keys($range).map(Result::unwrap).collect();
+        let of_pairs: Vec<Vec<u8>> = $snapshot.range($range).map(|pair| pair.unwrap().0).collect();
+        assert_eq!(keys, of_pairs);
+        assert_eq!($snapshot.count($range).unwrap(), keys.len() as u64);
+        let page = $snapshot.scan($range, 1000).unwrap();
+        assert_eq!(page.iter().map(|(key, _)| key.to_vec()).collect::<Vec<_>>(), keys);
+        let page = $snapshot.scan_keys($range, 1000).unwrap();
+        assert_eq!(page.iter().map(<[u8]>::to_vec).collect::<Vec<_>>(), keys);
+        assert_eq!((page.len(), page.is_empty(), page.has_more()), (keys.len(), keys.is_empty(), false));
+        keys.iter().map(|key| String::from_utf8_lossy(key).into_owned()).collect::<Vec<_>>().join(" ")
+    }};
+}
+
+#[test]
+fn ranges_have_their_keys() {
+    let store = store_of(&pairs_of(&[b"a", b"a\0", b"ab", b"b", b"c"]));
+    let snapshot = store.snapshot().unwrap();
+    assert_eq!(keys_of!(snapshot, ..), "a a\0 ab b c");
+    assert_eq!(keys_of!(snapshot, "ab"..), "ab b c");
+    assert_eq!(keys_of!(snapshot, .."b"), "a a\0 ab");
+    assert_eq!(keys_of!(snapshot, ..="b"), "a a\0 ab b");
+    assert_eq!(keys_of!(snapshot, b"a"..b"b"), "a a\0 ab");
+    assert_eq!(keys_of!(snapshot, "a"..="a"), "a");
+    assert_eq!(keys_of!(snapshot, (Excluded("a"), Included("b"))), "a\0 ab b");
+    assert_eq!(keys_of!(snapshot, (Excluded("ab"), Unbounded)), "b c");
+    assert_eq!(keys_of!(snapshot, "d"..), "");
+    assert_eq!(keys_of!(snapshot, "c".."a"), "");
+    assert_eq!(keys_of!(snapshot, "a".."a"), "");
+    assert_eq!(keys_of!(snapshot, ..""), "");
+    assert_eq!(keys_of!(snapshot, ""..), "a a\0 ab b c");
+    assert_eq!(keys_of!(snapshot, vec![b'b']..), "b c");
+}
+
+#[test]
+fn prefixes_have_their_keys() {
+    let store = store_of(&pairs_of(&[b"a", b"a\xff", b"a\xff\xffz", b"b", b"\xff", b"\xff\xff"]));
+    let snapshot = store.snapshot().unwrap();
+    assert_eq!(snapshot.count(Prefix("a")), Ok(3));
+    assert_eq!(snapshot.count(Prefix(b"a\xff")), Ok(2));
+    assert_eq!(snapshot.count(Prefix(b"a\xff\xff")), Ok(1));
+    assert_eq!(snapshot.count(Prefix(b"\xff")), Ok(2));
+    assert_eq!(snapshot.count(Prefix("")), Ok(6));
+    assert_eq!(snapshot.count(Prefix("c")), Ok(0));
+}
+
+/// Pairs of some pages, a few of which are longer than a page.
+fn many_pairs() -> Pairs {
+    let mut pairs: Pairs = (0..3000).map(|n| (format!("key {n:05}").into_bytes(), vec![b'v'; n % 200])).collect();
+    for n in [0, 1500, 2999] {
+        let mut key = format!("key {n:05}").into_bytes();
+        key.resize(255, b'k');
+        pairs.insert(key, vec![n as u8; 65_535]);
+    }
+    pairs
+}
+
+#[test]
+fn iterators_go_from_page_to_page() {
+    let pairs = many_pairs();
+    let store = store_of(&pairs);
+    let snapshot = store.snapshot().unwrap();
+    let listed: Pairs = snapshot.iter().map(Result::unwrap).collect();
+    assert!(listed == pairs);
+    let mut count = 0;
+    for pair in &snapshot {
+        pair.unwrap();
+        count += 1;
+    }
+    assert_eq!(count, pairs.len());
+    assert!(snapshot.keys(..).map(Result::unwrap).eq(pairs.keys().cloned()));
+    let part: Vec<_> = snapshot.range("key 01000".."key 02000").map(Result::unwrap).collect();
+    let range = b"key 01000".to_vec()..b"key 02000".to_vec();
+    assert!(part.into_iter().eq(pairs.range(range).map(|(key, value)| (key.clone(), value.clone()))));
+}
+
+#[test]
+fn pages_have_what_fits() {
+    let store = store_of(&pairs_of(&[b"a", b"b", b"c"]));
+    let snapshot = store.snapshot().unwrap();
+    // Each pair takes 19 bytes.
+    for (room, len) in [(0, 0), (18, 0), (19, 1), (37, 1), (38, 2), (56, 2), (57, 3), (1000, 3)] {
+        let page = snapshot.scan(.., room).unwrap();
+        assert_eq!((page.len(), page.is_empty(), page.has_more()), (len, len == 0, len < 3));
+        assert_eq!((page.iter().count(), page.as_bytes().len()), (len, 19 * len));
+    }
+    let page = snapshot.scan_keys(.., 20).unwrap();
+    assert_eq!(page.as_bytes(), b"\x01\0\0\0\0\0\0\0a\x01\0\0\0\0\0\0\0b");
+    assert!(page.has_more());
+    assert_eq!(format!("{page:?} {:?}", snapshot.scan("c".., 100).unwrap()), "[[97], [98]] {[99]: [99, 99]}");
+}
+
+#[test]
+fn iterator_ends_after_an_error() {
+    let store = store_of(&many_pairs());
+    let snapshot = store.snapshot().unwrap();
+    let mut pairs = snapshot.iter();
+    assert!(pairs.next().unwrap().is_ok());
+    store.close_all().unwrap();
+    let errors: Vec<_> = pairs.by_ref().filter_map(Result::err).collect();
+    assert_eq!(errors.len(), 1);
+    assert_eq!(errors[0].kind(), ErrorKind::NoSnapshot);
+    assert!(pairs.next().is_none());
+    let mut keys = snapshot.keys(..);
+    assert!(keys.next().unwrap().is_err());
+    assert!(keys.next().is_none());
+}
+
+#[test]
+fn values_of_all_lengths_are_read() {
+    let lengths = [0, 1, 22, 23, 63, 64, 65, 4096, 65_535];
+    let pairs: Pairs = lengths.iter().map(|len| (format!("{len}").into_bytes(), vec![b'v'; *len])).collect();
+    let store = store_of(&pairs);
+    let snapshot = store.snapshot().unwrap();
+    let mut value = b"from before".to_vec();
+    for (key, expected) in &pairs {
+        assert_eq!(snapshot.get(key).unwrap().as_ref(), Some(expected));
+        assert!(snapshot.get_into(key, &mut value).unwrap());
+        assert_eq!(&value, expected);
+    }
+    assert!(!snapshot.get_into(b"none", &mut value).unwrap());
+    assert_eq!(value, b"");
+    assert_eq!(snapshot.get(b""), Ok(None));
+    let many = snapshot.get_many(&[b"1", b"none", b"23"]).unwrap();
+    assert_eq!(many, [Some(vec![b'v'; 1]), None, Some(vec![b'v'; 23])]);
+}
+
+#[test]
+fn digests_differ_where_pairs_do() {
+    let (one, other) = (store_of(&pairs_of(&[b"a", b"b"])), store_of(&pairs_of(&[b"a", b"c"])));
+    let (one, other) = (one.snapshot().unwrap(), other.snapshot().unwrap());
+    let digests = |snapshot: &Snapshot<&Store>| (snapshot.digest(..).unwrap(), snapshot.digest(.."b").unwrap());
+    assert_ne!(digests(&one).0, digests(&other).0);
+    assert_eq!(digests(&one).1, digests(&other).1);
+    assert_ne!(digests(&one).0, digests(&one).1);
+}

@@ -1,0 +1,130 @@
+//! Replicas: a log of items as bytes, checkpoints, and nodes after a restart.
+
+use hlcstore::{Item, Node, Result, Stamp, Store};
+
+/// Appends the items of two nodes to a log: writes, deletions, reports and, at the end, a retirement.
+fn make_log() -> Result<Vec<u8>> {
+    let mut log = Vec::new();
+    let (mut one, mut two) = (Node::new(0, Stamp::ZERO), Node::new(1, Stamp::ZERO));
+    for reading in 1..=300 {
+        let (key, value) = (format!("key {}", reading % 17), format!("value {reading}"));
+        one.write(reading, key.as_bytes(), value.as_bytes())?.encode_into(&mut log)?;
+        match reading % 3 {
+            0 => two.delete(reading, key.as_bytes())?.encode_into(&mut log)?,
+            1 => two.report(reading)?.encode_into(&mut log)?,
+            _ => two.write(reading, b"key of two", value.as_bytes())?.encode_into(&mut log)?,
+        }
+    }
+    two.retire(400)?.encode_into(&mut log)?;
+    Ok(log)
+}
+
+/// The places between the items of a log, from its start to its end.
+fn places(log: &[u8]) -> Vec<usize> {
+    let store = Store::open(2).unwrap();
+    let mut places = vec![0];
+    for end in 1..=log.len() {
+        let start = places[places.len() - 1];
+        if store.accept_items(&log[start..end]).is_ok() {
+            places.push(end);
+        }
+    }
+    places
+}
+
+fn assert_alike(one: &Store, other: &Store) {
+    assert_eq!(one.floor(), other.floor());
+    assert_eq!(one.horizon(), other.horizon());
+    assert_eq!(one.rows(), other.rows());
+    assert_eq!(one.snapshots(), other.snapshots());
+    assert_eq!(one.floor_node(), other.floor_node());
+    for node in 0..2 {
+        assert_eq!(one.link(node), other.link(node));
+    }
+    let (mine, theirs) = (one.snapshot().unwrap(), other.snapshot().unwrap());
+    assert_eq!(mine.digest(..), theirs.digest(..));
+    assert!(mine.iter().eq(theirs.iter()));
+}
+
+#[test]
+fn replica_goes_on_from_a_checkpoint() {
+    let log = make_log().unwrap();
+    let places = places(&log);
+    assert_eq!(places.len(), 602);
+    let middle = places[400];
+    let store = Store::open(2).unwrap();
+    assert_eq!(store.accept_items(&log[..places[200]]), Ok(200));
+    let protected = store.snapshot().unwrap();
+    assert_eq!(store.accept_items(&log[places[200]..middle]), Ok(200));
+    store.vacuum_to(Stamp::new(150, 0)).unwrap();
+    let saved = store.checkpoint(middle as u64).unwrap();
+
+    let (replica, word) = Store::restore(&saved).unwrap();
+    assert_eq!(word, middle as u64);
+    assert_alike(&store, &replica);
+    assert_eq!(store.accept_items(&log[middle..]), Ok(201));
+    assert_eq!(replica.accept_items(&log[word as usize..]), Ok(201));
+    assert_alike(&store, &replica);
+    let same = replica.snapshot_by_id(protected.id()).unwrap();
+    assert_eq!(same.stamp(), protected.stamp());
+    assert_eq!(same.digest(..), protected.digest(..));
+    assert_eq!(same.keep(), protected.id());
+    assert_alike(&store, &replica);
+
+    // Reading the log again changes nothing.
+    assert_eq!(replica.accept_items(&log), Ok(601));
+    assert_alike(&store, &replica);
+    assert!(replica.link(1).unwrap().is_retired);
+    assert_eq!(store.vacuum(), replica.vacuum());
+    assert_eq!(store.vacuum_certified(), replica.vacuum_certified());
+}
+
+#[test]
+fn replicas_agree_on_joins_and_vacuums_at_stamps_of_a_log() {
+    let stores = [Store::open(1).unwrap(), Store::open(1).unwrap()];
+    let mut one = Node::new(0, Stamp::ZERO);
+    let items: Vec<Item<'_>> = (1..=9).map(|reading| one.write(reading, b"city", b"Lyon").unwrap()).collect();
+    let start = Stamp::new(9, 0);
+    stores[0].accept_all(&items[..4]).unwrap();
+    stores[1].accept_all(&items).unwrap();
+    let joined = stores.each_ref().map(|store| store.join_at(start).unwrap());
+    assert_eq!(joined[0], joined[1]);
+    assert_eq!((joined[0].id(), joined[0].last()), (1, start));
+    stores[0].accept_all(&items[4..]).unwrap();
+    let mut two = joined[0].clone();
+    let item = two.write(1, b"city", b"Rome").unwrap();
+    assert_eq!(item.stamp, Stamp::new(9, 1));
+    for store in &stores {
+        store.accept(item).unwrap();
+        let vacuumed = store.vacuum_to(Stamp::new(6, 0)).unwrap();
+        assert_eq!((vacuumed.stamp, vacuumed.kept, vacuumed.dropped), (Stamp::new(6, 0), 1, 5));
+    }
+    assert_alike(&stores[0], &stores[1]);
+}
+
+#[test]
+fn node_goes_on_after_a_restart() {
+    let store = Store::open(1).unwrap();
+    let mut node = Node::new(0, Stamp::ZERO);
+    store.accept(node.write(5, b"city", b"Lyon").unwrap()).unwrap();
+    node.send(7).unwrap();
+    let mut restored = Node::restore(node.id(), node.last(), node.next_number()).unwrap();
+    assert_eq!(restored, node);
+    restored.raise_to(Stamp::new(9, 3));
+    let item = restored.write(8, b"city", b"Rome").unwrap();
+    assert_eq!((item.number, item.stamp), (1, Stamp::new(9, 4)));
+    store.accept(item).unwrap();
+}
+
+#[test]
+fn shared_store_takes_a_newer_checkpoint_in_its_place() {
+    let log = make_log().unwrap();
+    let ahead = Store::open(2).unwrap();
+    ahead.accept_items(&log).unwrap();
+    let replica = hlcstore::SharedStore::open(2).unwrap();
+    let clone = replica.clone();
+    replica.close();
+    assert_eq!(replica.reload(&ahead.checkpoint(9).unwrap()), Ok(9));
+    assert_eq!(clone.floor(), ahead.floor());
+    assert_eq!(clone.snapshot().unwrap().digest(..), ahead.snapshot().unwrap().digest(..));
+}

@@ -1,0 +1,66 @@
+//! A shared store has the calls of a store, and returns the same.
+
+use hlcstore::{Item, Node, SharedStore, Stamp, Store};
+
+/// Returns what each call on a store returns, as text.
+macro_rules! answers {
+    ($store:expr) => {{
+        let store = $store;
+        let mut answers = Vec::new();
+        let mut add = |answer: &dyn std::fmt::Debug| answers.push(format!("{answer:?}"));
+        let mut node = Node::new(0, Stamp::ZERO);
+        let at = |physical| Stamp::new(physical, 0);
+        for reading in 1..=9 {
+            let value = [reading as u8];
+            let item = node.write(reading, b"city", &value).unwrap();
+            add(&store.check(item));
+            add(&store.accept(item));
+        }
+        let items = [node.delete(10, b"lake").unwrap(), node.report(11).unwrap()];
+        add(&store.accept_all(&items));
+        add(&store.accept_all(&items));
+        add(&store.accept_items(&items[1].encode().unwrap()));
+        add(&store.floor());
+        add(&store.floor_node());
+        add(&store.join());
+        add(&store.join_at(at(12)));
+        add(&store.accept(Item::report(1, 0, at(13))));
+        add(&(store.nodes(), store.link(1), store.link(2), store.link(3)));
+        let snapshot = store.snapshot_at(at(5)).unwrap();
+        add(&(snapshot.id(), snapshot.stamp(), snapshot.get(b"city"), snapshot.digest(..)));
+        let id = snapshot.keep();
+        add(&store.snapshots());
+        add(&store.snapshot_by_id(id).unwrap().iter().collect::<Vec<_>>());
+        add(&store.snapshots());
+        add(&(store.check_vacuum(at(4)), store.vacuum_to(at(4)), store.horizon(), store.rows()));
+        let snapshot = store.snapshot_at(at(6)).unwrap();
+        add(&(store.vacuum_to_certified(at(7)), store.check_vacuum(at(6)), store.rows()));
+        add(&store.close_all());
+        add(&snapshot.get(b"city"));
+        add(&(store.vacuum(), store.horizon(), store.rows()));
+        add(&store.vacuum_certified());
+        let saved = store.checkpoint(7).unwrap();
+        add(&saved);
+        add(&store.reopen(1));
+        store.close();
+        add(&(store.floor(), store.reload(&saved), store.floor()));
+        store.close();
+        add(&(store.rows(), store.reopen(3), store.nodes()));
+        answers
+    }};
+}
+
+#[test]
+fn shared_store_answers_as_a_store() {
+    let expected = answers!(Store::open(1).unwrap());
+    assert_eq!(answers!(SharedStore::open(1).unwrap()), expected);
+    assert_eq!(answers!(SharedStore::from(Store::open(1).unwrap())), expected);
+    assert!(expected.iter().any(|answer| answer.contains("NoSnapshot")));
+}
+
+#[test]
+fn shared_store_is_restored() {
+    let (store, saved) = (Store::open(3).unwrap(), Store::open(3).unwrap().checkpoint(8).unwrap());
+    let (shared, word) = SharedStore::restore(&saved).unwrap();
+    assert_eq!((word, shared.nodes()), (8, store.nodes()));
+}
