@@ -1,6 +1,6 @@
 -- What a reader beside others lends, as an owner of an `Arc` does, without a count. Assumes `Logic`.
 use Prim.Native.Nat.{ℕ}
-use mathlib.Core.List.{List, [], ◌∷◌}
+use mathlib.Core.List.{[], ◌∷◌}
 use seplogic.Ra.Ura.{Ura}
 use base.FractionLaws.{Counts}
 use base.Logic.{ent, sep, wand, upd_i, id⊢, apply∗}
