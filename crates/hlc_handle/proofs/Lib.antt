@@ -1,4 +1,5 @@
 pub mod Lending
 pub mod LentValues
+pub mod Promise
 pub mod Rooms
 pub mod Values
