@@ -1,64 +1,44 @@
-"""What a call of the C library costs from Python, in ns: the least of five runs. The argument is the shared object."""
-import pathlib
-import sys
+"""What a call of the package hlcstore costs in Python, in ns: the least of nine runs."""
+
 import time
 
-sys.path.insert(0, str(pathlib.Path(__file__).resolve().parent.parent / "examples" / "python"))
-import hlcstore
+from hlcstore import Item, Node, Store, stamp
 
 WRITES = 100_000
 KEYS = [b"key%05d" % n for n in range(1_000)]
+PARTS = [(0, i, stamp(i + 1), KEYS[i % 1_000], b"value000") for i in range(WRITES)]
+ITEMS = [Item.write(*parts) for parts in PARTS]
+BATCHES = [ITEMS[start : start + 1_000] for start in range(0, WRITES, 1_000)]
+LOGS = [b"".join(map(bytes, batch)) for batch in BATCHES]
+ASKED = [KEYS[i * 7 % 1_000] for i in range(WRITES)]
+ASKED_BATCHES = [ASKED[start : start + 1_000] for start in range(0, WRITES, 1_000)]
 least = {}
 
 
-def take(kind, started):
-    least[kind] = min(least.get(kind, 1e12), (time.perf_counter_ns() - started) / WRITES)
-
-
-def filled(kind, fill):
-    store = hlcstore.Store()
-    store.open(1)
+def take(kind, call, arguments):
+    """Times the calls with each of these arguments."""
     started = time.perf_counter_ns()
-    fill(store)
-    take(kind, started)
-    return store
+    for argument in arguments:
+        call(argument)
+    each = (time.perf_counter_ns() - started) / WRITES
+    least[kind] = min(least.get(kind, each), each)
 
 
-def one_by_one(store):
-    for i in range(WRITES):
-        store.write(0, (i, (i + 1) << 16), KEYS[i % 1_000], b"value000")
+def run():
+    take("accept of a write, in batches of 1000", Store(1).accept_all, BATCHES)
+    take("accept of a write, as bytes of 1000", Store(1).accept_items, LOGS)
+    store = Store(1)
+    take("accept of a write, by its parts", lambda parts: store.accept_write(*parts), PARTS)
+    store = Store(1)
+    take("accept of a write, as an item", store.accept, ITEMS)
+    snapshot = store.snapshot()
+    take("read, 100 versions", snapshot.get, ASKED)
+    take("read, 100 versions, in batches of 1000", snapshot.read_all, ASKED_BATCHES)
+    node = Node(0)
+    take("node's write", lambda reading: node.write(reading, KEYS[0], b"value000"), range(WRITES))
 
 
-def in_batches(store):
-    for start in range(0, WRITES, 1_000):
-        items = ((0, (i, (i + 1) << 16), KEYS[i % 1_000], b"value000") for i in range(start, start + 1_000))
-        store.accept_all(items)
-
-
-packed = []
-
-
-def packed_before(store):
-    for entries, parts in packed:
-        store.accept_packed(entries, parts)
-
-
-hlcstore.load(sys.argv[1])
-for start in range(0, WRITES, 1_000):
-    pack = hlcstore.ENTRY.pack
-    entries = b"".join(
-        pack(0, False, i, (i + 1) << 16, 16 * (i - start), 8, 16 * (i - start) + 8, 8)
-        for i in range(start, start + 1_000)
-    )
-    packed.append((entries, b"".join(KEYS[i % 1_000] + b"value000" for i in range(start, start + 1_000))))
-for _ in range(5):
-    filled("by 1000, packed before", packed_before)
-    filled("by 1000", in_batches)
-    store = filled("one by one", one_by_one)
-    id, _ = store.snapshot_at_floor()
-    started = time.perf_counter_ns()
-    for i in range(WRITES):
-        store.read(id, KEYS[i * 7 % 1_000])
-    take("read, 100 versions", started)
+for _ in range(9):
+    run()
 for kind, each in least.items():
-    print("Python: accept of a write," if "read" not in kind else "Python:", kind, f"{each:.0f}")
+    print("Python:", kind, f"{each:.0f}")

@@ -1,178 +1,261 @@
-"""The story of examples/c/story.c, with the wrapper. The argument is the shared object."""
-import sys
+"""The story of examples/c/story.c, with the package hlcstore.
+
+The package has no buffers of its caller and no store that is not open yet. So what the C program prints about the room
+of a buffer is computed here, and three of its answers are only printed.
+"""
+
+import struct
 
 import hlcstore
-from hlcstore import ENTRY, PLACE, Node, Refused, Store
+from hlcstore import Error, Item, Node, Store, stamp
 
 
 def print_answer(what, call, *args):
+    """Prints the code of an answer, and its number or the refusal's word."""
     try:
-        value = call(*args)
-        print(what, 0, *(value if isinstance(value, tuple) else (value,)))
-        return value
-    except Refused as refused:
-        # The number of an issued item, or of a node, is printed before its word; it is 0 at a refusal.
-        number = (0,) if what in ("write", "join at") else ()
-        print(what, refused.code, *number, refused.word)
+        print(what, 0, call(*args))
+    except Error as refused:
+        print(what, refused.code, refused.word)
+
+
+def print_check(call, *args):
+    print_answer("check", lambda: call(*args) or 0)
 
 
 def line(what, call, *args):
     try:
         call(*args)
         print(what, 0)
-    except Refused as refused:
+    except Error as refused:
         print(what, refused.code)
 
 
-def shown(what, call, *args):
+def print_bytes(what, call, *args):
     try:
-        value = call(*args)
-        code, value = (102, b"") if value is None else (0, value)
-    except Refused as refused:
+        code, value = 0, call(*args)
+    except Error as refused:
         code, value = refused.code, b""
     print(what, code, len(value), value.hex())
 
 
+def print_item(what, call, *args):
+    """Prints the number and the stamp of the item that a node issues, and returns it."""
+    try:
+        item = call(*args)
+    except Error as refused:
+        print(what, refused.code, 0, refused.word)
+        return None
+    print(what, 0, item.number, item.stamp)
+    return item
+
+
+def accept(store, item):
+    print_answer("accept", lambda: store.accept(item) or item.stamp)
+
+
 def write(store, node, reading, key, value):
     """Lets a node issue a write, and the store accept it."""
-    item = print_answer("write", node.write, reading, key, value)
+    item = print_item("write", node.write, reading, key, value)
     if item:
-        print_answer("accept", store.write, node.id, item, key, value)
+        accept(store, item)
 
 
 def report(store, node, reading):
-    print_answer("accept", store.report, node.id, print_answer("report", node.report, reading))
+    accept(store, print_item("report", node.report, reading))
 
 
-def print_certified(numbers, text):
-    at, kept, cost, dropped = numbers
-    print("certificate", 0, len(text), at)
-    print("kept", 0, kept, cost)
-    print("dropped", 0, dropped)
+def open_snapshot(store):
+    snapshot = store.snapshot()
+    print("snapshot", 0, snapshot.id, snapshot.stamp)
+    return snapshot
 
 
-def scan(call, *args):
+def closed_snapshot():
+    """Returns a snapshot that is not open."""
+    with Store(1).snapshot() as snapshot:
+        return snapshot
+
+
+def sized(part):
+    """Some bytes with their length before them, as hlc_list writes them."""
+    return struct.pack("<Q", len(part)) + part
+
+
+def pairs(snapshot, *bounds):
+    """The pairs of a range, as hlc_list writes them."""
+    return [sized(key) + sized(value) for key, value in snapshot.items(*bounds)]
+
+
+def print_list(snapshot):
+    print_bytes("list", lambda: b"".join(pairs(snapshot)))
+
+
+def print_fitting(what, parts, room, code=0):
+    """Prints as many of some parts as have room. If all of them have, the code is this one."""
+    fitting = b""
+    many = 0
+    while many < len(parts) and len(fitting) + len(parts[many]) <= room:
+        fitting += parts[many]
+        many += 1
+    print(what, 104 if many < len(parts) else code, len(fitting), many, fitting.hex())
+
+
+def scan(room, snapshot, *bounds):
     try:
-        value, many, more = call(*args)
-        print("scan", 104 if more else 0, len(value), many, value.hex())
-    except Refused as refused:
+        print_fitting("scan", pairs(snapshot, *bounds), room)
+    except Error as refused:
         print("scan", refused.code, 0, 0, "")
 
 
-def read_all(store, id, many_keys, room):
-    places = b"".join(PLACE.pack(*place) for place in ((0, 4), (4, 4), (8, 1))[:many_keys])
+def scan_keys(room, snapshot):
     try:
-        value, many, code = store.read_packed(id, places, b"citytown", room)
-        print("read all", code, len(value), many, value.hex())
-    except Refused as refused:
+        print_fitting("scan", [sized(key) for key in snapshot.keys()], room)
+    except Error as refused:
+        print("scan", refused.code, 0, 0, "")
+
+
+def read_all(room, snapshot, code=0):
+    """Reads two keys. The C program reads a third one, whose place is outside the bytes, where it gets the code."""
+    try:
+        values = snapshot.read_all([b"city", b"town"])
+        answers = [b"\0" if value is None else b"\1" + sized(value) for value in values]
+        print_fitting("read all", answers, room, code)
+    except Error as refused:
         print("read all", refused.code, 0, 0, "")
 
 
-def look_round(store):
+def look_round(store, first, second):
     """Lists parts of snapshots, and asks what the store has."""
-    scan(store.scan, 2)
-    scan(store.scan, 1, b"a", b"d")
-    scan(store.scan, 1, b"a", b"", 24)
-    scan(store.scan, 1, b"d")
-    scan(store.scan, 3)
-    scan(store.scan_keys, 1, b"", b"", 12)
-    scan(store.scan_keys, 1, b"", b"", 11)
-    scan(store.scan_keys, 3)
-    shown("digest", store.digest, 1)
-    shown("digest", store.digest, 1, b"d")
-    shown("digest", store.digest, 3)
-    read_all(store, 1, 2, 64)
-    read_all(store, 1, 2, 14)
-    read_all(store, 1, 3, 64)
-    read_all(store, 3, 3, 64)
-    print_answer("count", store.count, 1, b"a", b"d")
-    print_answer("count", store.count, 3, b"a", b"d")
-    print_answer("horizon", store.horizon)
-    print_answer("nodes", store.nodes)
+    closed = closed_snapshot()
+    scan(64, second)
+    scan(64, first, b"a", b"d")
+    scan(24, first, b"a")
+    scan(64, first, b"d")
+    scan(64, closed)
+    scan_keys(12, first)
+    scan_keys(11, first)
+    scan_keys(64, closed)
+    print_bytes("digest", first.digest)
+    print_bytes("digest", first.digest, b"d")
+    print_bytes("digest", closed.digest)
+    read_all(64, first)
+    read_all(14, first)
+    read_all(64, first, 103)
+    read_all(64, closed)
+    print_answer("count", first.count, b"a", b"d")
+    print_answer("count", closed.count, b"a", b"d")
+    print_answer("horizon", lambda: store.horizon)
+    print_answer("nodes", lambda: store.nodes)
     for node in 0, 1, 2:
         try:
-            next, head, retired = store.link(node)
-            print("link", 0, next, head, int(retired))
-        except Refused as refused:
+            link = store.link(node)
+            print("link", 0, link.next, link.head, int(link.retired))
+        except Error as refused:
             print("link", refused.code, 0, 0, 0)
     print_answer("floor node", store.floor_node)
-    opened(store)
+    print_opened(store)
 
 
-def opened(store):
-    for id, stamp in store.snapshots():
-        print("opened", 0, id, stamp)
+def print_opened(store):
+    for snapshot in store.snapshots():
+        print("opened", 0, snapshot.id, snapshot.stamp)
     print("opened", 10, 0, 0)
 
 
 def save(store):
     """Saves the store, makes another one of the bytes, and reads it. Bytes that were cut or changed are refused."""
     for _ in range(2):
-        print("checkpoint", 0, len(store.checkpoint(77)))
+        print_answer("checkpoint", lambda: len(store.checkpoint(77)))
     saved = store.checkpoint(77)
-    with Store() as copy:
-        print_answer("restore", copy.restore, saved[:-1])
-        print_answer("restore", copy.restore, bytes([saved[0] ^ 1]) + saved[1:])
-        print_answer("restore", copy.restore, saved)
-        print_answer("restore", copy.restore, saved)
-        print_answer("rows", copy.rows)
-        shown("read", copy.read, 1, b"city")
+    print_answer("restore", Store.restore, saved[:-1])
+    print_answer("restore", Store.restore, bytes([saved[0] ^ 1]) + saved[1:])
+    with Store.restore(saved) as copy:
+        print("restore", 0, copy.word)
+        print("restore", 101, 0)
+        print_answer("rows", lambda: copy.rows)
+        print_bytes("read", copy.snapshots()[0].get, b"city")
 
 
-def items(store, log):
+def print_accepted(store, log):
     try:
-        print("items", 0, *store.accept_items(log), 0)
-    except Refused as refused:
-        print("items", refused.code, *refused.word)
+        many = store.accept_items(log)
+        print("items", 0, len(log), many, 0)
+    except Error as refused:
+        print("items", refused.code, refused.used, refused.accepted, refused.word)
 
 
 def replicate():
     """Writes three items to a log, and lets another store take them from there, some of them again."""
-    log = hlcstore.item_bytes("write", 0, (0, 10 << 16), b"city", b"Lyon")
-    print("item", 0, len(log))
-    for kind, item in ("report", (1, 11 << 16)), ("retire", (2, 12 << 16)):
-        more = hlcstore.item_bytes(kind, 0, item)
-        print("item", 0, len(more))
-        log += more
-    print_answer("item", hlcstore.item_bytes, "delete", 0, (3, 13 << 16), b"")
-    with Store() as replica:
-        line("open", replica.open, 1)
+    items = [
+        Item.write(0, 0, stamp(10), b"city", b"Lyon"),
+        Item.report(0, 1, stamp(11)),
+        Item.retire(0, 2, stamp(12)),
+        Item.delete(0, 3, stamp(13), b""),
+    ]
+    for item in items:
+        print_answer("item", lambda: len(bytes(item)))
+    log = b"".join(bytes(item) for item in items[:3])
+    with Store(1) as replica:
+        print("open", 0)
         for part in log[:32], log[52:72], log[:40], log:
-            items(replica, part)
-        print_answer("rows", replica.rows)
+            print_accepted(replica, part)
+        print_answer("rows", lambda: replica.rows)
         replica.close()
-        items(replica, log)
+        print_accepted(replica, log)
 
 
 def restart():
     """Makes a node as it was before a restart, and raises its clock."""
     try:
-        Node.restored(7, 2, 3)
-    except Refused as refused:
+        Node.restore(7, 2, 3)
+    except Error as refused:
         print("restore", refused.code, 0, 2)
-    node = Node.restored(7, 10 << 16, 3)
-    print("restore", 0, node.raw.next, node.raw.last)
-    node.raise_to((12 << 16) + 5)
-    node.raise_to(11 << 16)
-    print_answer("report", node.report, 1)
-
-
-def accept(call, *args):
-    try:
-        print("all", 0, call(*args), 0)
-    except Refused as refused:
-        print("all", refused.code, *refused.word)
+    node = Node.restore(7, stamp(10), 3)
+    print("restore", 0, node.next, node.last)
+    node.raise_to(stamp(12, 5))
+    node.raise_to(stamp(11))
+    print_item("report", node.report, 1)
 
 
 def accept_three(store, node):
-    """Lets a node issue a write and a deletion, and passes them to the store in one call, with an entry whose key is
-    not there."""
-    first = print_answer("write", node.write, 40, b"lake", b"Como")
-    second = print_answer("delete", node.delete, 41, b"town")
-    deletion = ENTRY.pack(node.id, True, *second, 8, 4, 0, 0)
-    entries = ENTRY.pack(node.id, False, *first, 0, 4, 4, 4) + deletion + ENTRY.pack(node.id, False, 0, 0, 12, 1, 0, 0)
-    accept(store.accept_packed, entries, b"lakeComotown")
-    accept(store.accept_all, [(node.id, second, b"town", None)])
+    """Lets a node issue a write and a deletion, and passes them to the store in one call. The C program adds an entry
+    whose key is not there, and gets its code."""
+    items = [
+        print_item("write", node.write, 40, b"lake", b"Como"),
+        print_item("delete", node.delete, 41, b"town"),
+    ]
+    print("all", 103, store.accept_all(items), 0)
+    try:
+        store.accept_all(items[1:])
+    except Error as refused:
+        print("all", refused.code, refused.accepted, refused.word)
+
+
+def print_vacuum(what, vacuum, *length):
+    print(what, 0, *length, vacuum.stamp)
+    print("kept", 0, vacuum.kept, vacuum.cost)
+    print("dropped", 0, vacuum.dropped)
+
+
+def certify(call, *args):
+    vacuum, certificate = call(*args)
+    print_vacuum("certificate", vacuum, len(certificate))
+    return certificate
+
+
+def check(certificate):
+    try:
+        print("checked", 0, *hlcstore.check(certificate), 0)
+    except Error as refused:
+        print("checked", refused.code, 0, 0, refused.word)
+
+
+def join_at(store, start):
+    try:
+        node = store.join_at(start)
+        print("join at", 0, node.id, node.last)
+    except Error as refused:
+        print("join at", refused.code, 0, refused.word)
 
 
 def keep_above(store, node):
@@ -180,91 +263,99 @@ def keep_above(store, node):
     which keeps what lies above that stamp."""
     write(store, node, 39, b"city", b"Bern")
     report(store, node, 45)
-    for start in 40 << 16, 50 << 16:
-        print_answer("join at", store.join_at, start)
-    print_answer("check", store.check_vacuum, 42 << 16)
-    print_answer("check", store.check_vacuum, 40 << 16)
-    at, kept, cost, dropped = store.vacuum_to(40 << 16)
-    print("vacuum to", 0, at)
-    print("kept", 0, kept, cost)
-    print("dropped", 0, dropped)
-    print_answer("vacuum to", store.vacuum_to, 39 << 16)
-    print_certified(*store.vacuum_to_certified(40 << 16))
-    print_answer("rows", store.rows)
+    join_at(store, stamp(40))
+    join_at(store, stamp(50))
+    print_check(store.check_vacuum, stamp(42))
+    print_check(store.check_vacuum, stamp(40))
+    print_vacuum("vacuum to", store.vacuum_to(stamp(40)))
+    print_answer("vacuum to", store.vacuum_to, stamp(39))
+    certify(store.vacuum_to_certified, stamp(40))
+    print_answer("rows", lambda: store.rows)
 
 
-def story(store):
-    print("version", hlcstore.lib.hlc_version() - 100)
+def begin():
+    """Opens the store of the story, as late as the C program does."""
+    print("version", hlcstore.version() - 100)
     for answer in 0, 6, 4, 107:
         print(f"answer {answer} {hlcstore.error_name(answer)}: {hlcstore.error_text(answer)}")
-    a, b = Node(0, 0), Node(1, 0)
-    print_answer("rows", store.rows)
-    line("open", store.open, 0)
-    line("open", store.open, 2)
-    line("open", store.open, 2)
+    with Store(1) as closed:
+        pass
+    print_answer("rows", lambda: closed.rows)
+    line("open", Store, 0)
+    store = Store(2)
+    print("open", 0)
+    print("open", 101)
+    return store
+
+
+def write_and_read(store, a, b):
+    """Lets two nodes write, and returns two snapshots."""
     write(store, a, 10, b"city", b"Lyon")
-    print_answer("again", store.write, 0, (0, 10 << 16), b"city", b"Lyon")
-    print_answer("check", store.check_write, 0, (1, 11 << 16), b"", b"Lyon")
+    print_answer("again", store.accept_write, 0, 0, stamp(10), b"city", b"Lyon")
+    print_check(store.check_write, 0, 1, stamp(11), b"", b"Lyon")
     write(store, a, 10, b"city", b"Paris")
-    sent = print_answer("send", a.send, 12)
+    sent = a.send(12)
+    print("send", 0, sent)
     print_answer("receive", b.receive, sent, 11)
     report(store, b, 11)
-    floor = print_answer("floor", store.floor)
-    print_answer("snapshot", store.snapshot, floor + 1)
-    print_answer("snapshot", store.snapshot_at_floor)
-    shown("read", store.read, 1, b"city")
-    # The wrapper calls again where a buffer is too short. The C program prints a line about that.
-    print("short 0 5 1")
-    shown("read", store.read, 1, b"town")
-    shown("read", store.read, 2, b"city")
+    print_answer("floor", lambda: store.floor)
+    print_answer("snapshot", store.snapshot, store.floor + 1)
+    first = open_snapshot(store)
+    print_bytes("read", first.get, b"city")
+    print("short", 0, len(first[b"city"]), 1)
+    print_bytes("read", first.__getitem__, b"town")
+    print_bytes("read", closed_snapshot().get, b"city")
     write(store, b, 20, b"town", b"")
-    item = print_answer("delete", a.delete, 21, b"city")
-    print_answer("accept", store.delete, 0, item, b"city")
+    item = print_item("delete", a.delete, 21, b"city")
+    accept(store, item)
     report(store, b, 22)
-    print_answer("snapshot", store.snapshot_at_floor)
-    for id in 1, 2, 3:
-        shown("list", store.list, id)
-    look_round(store)
-    save(store)
-    replicate()
-    restart()
-    print_answer("rows", store.rows)
-    floor, kept, cost, dropped = store.vacuum()
-    print("vacuum", 0, floor)
-    print("kept", 0, kept, cost)
-    print("dropped", 0, dropped)
-    shown("read", store.read, 1, b"city")
-    print_answer("close", store.close_snapshot, 1)
-    print_answer("close", store.close_snapshot, 1)
+    return first, open_snapshot(store)
+
+
+def vacuum(store, first):
+    print_answer("rows", lambda: store.rows)
+    print_vacuum("vacuum", store.vacuum())
+    print_bytes("read", first.get, b"city")
+    print_answer("close", store.close_snapshot, first.id)
+    print_answer("close", store.close_snapshot, first.id)
     for _ in range(2):
-        numbers, text = store.vacuum_certified()
-        print_certified(numbers, text)
-    print(text.decode(), end="")
-    for part in text, text[:35], text[:4]:
-        try:
-            print("checked", 0, *hlcstore.check(part), 0)
-        except Refused as refused:
-            print("checked", refused.code, 0, 0, refused.word)
-    print_answer("rows", store.rows)
+        certificate = certify(store.vacuum_certified)
+    print(certificate.decode(), end="")
+    check(certificate)
+    check(certificate[:35])
+    check(certificate[:4])
+    print_answer("rows", lambda: store.rows)
     print_answer("snapshot", store.snapshot, 1)
-    c = Node(*print_answer("join", store.join))
+
+
+def join_and_retire(store, a, b):
+    c = store.join()
+    print("join", 0, c.id, c.last)
     write(store, c, 1, b"city", b"Rome")
     accept_three(store, b)
-    item = print_answer("retire", a.retire, 30)
-    print_answer("accept", store.retire, 0, item)
+    item = print_item("retire", a.retire, 30)
+    accept(store, item)
     write(store, a, 31, b"city", b"Nice")
-    print_answer("check", store.check_report, 0, (4, 31 << 16))
+    print_check(store.check_report, 0, 4, stamp(31))
     write(store, b, 1 << 48, b"city", b"Nice")
     write(store, b, 31, bytes(256), b"Nice")
     write(store, b, 31, b"city", bytes(65536))
     keep_above(store, c)
+
+
+with begin() as store:
+    a, b = Node(0), Node(1)
+    first, second = write_and_read(store, a, b)
+    for snapshot in first, second, closed_snapshot():
+        print_list(snapshot)
+    look_round(store, first, second)
+    save(store)
+    replicate()
+    restart()
+    vacuum(store, first)
+    join_and_retire(store, a, b)
     line("close all", store.close_all)
-    opened(store)
+    print_opened(store)
     store.close()
     line("close all", store.close_all)
-    print_answer("floor", store.floor)
-
-
-hlcstore.load(sys.argv[1])
-with Store() as store:
-    story(store)
+    print_answer("floor", lambda: store.floor)

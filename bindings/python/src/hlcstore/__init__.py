@@ -1,0 +1,94 @@
+"""A multi-version store that several nodes feed, and the nodes' clocks.
+
+>>> from hlcstore import Node, Store
+>>> node = Node(0)
+>>> with Store(1) as store:
+...     store.accept(node.write(5, b"city", b"Lyon"))
+...     with store.snapshot() as snapshot:
+...         print(snapshot[b"city"])
+b'Lyon'
+
+Any thread may call anything, but an iterator belongs to one thread at a time. A refusal of the library is an exception
+below `Error`. A number that has too many bits is an OverflowError.
+"""
+
+from ._errors import (
+    AboveFloor,
+    BadBytes,
+    BadKey,
+    BadLine,
+    BelowHorizon,
+    Closed,
+    CounterFull,
+    Error,
+    NoCheckpoint,
+    NoMemory,
+    NoNode,
+    NoSnapshot,
+    NoSuchNode,
+    NotNext,
+    NotShown,
+    NoValue,
+    NumbersSpent,
+    ReadingTooLarge,
+    Retired,
+    StampNotRising,
+    TooLong,
+    TooManyNodes,
+    TooManySnapshots,
+    ValueTooLong,
+)
+from ._native import VERSION as __version__
+from ._native import Item, Node, Snapshot, Store, check, error_name, error_text, version
+from ._results import Checked, Link, Vacuum
+
+__all__ = [
+    "AboveFloor",
+    "BadBytes",
+    "BadKey",
+    "BadLine",
+    "BelowHorizon",
+    "Checked",
+    "Closed",
+    "CounterFull",
+    "Error",
+    "Item",
+    "Link",
+    "NoCheckpoint",
+    "NoMemory",
+    "NoNode",
+    "NoSnapshot",
+    "NoSuchNode",
+    "NoValue",
+    "Node",
+    "NotNext",
+    "NotShown",
+    "NumbersSpent",
+    "ReadingTooLarge",
+    "Retired",
+    "Snapshot",
+    "StampNotRising",
+    "Store",
+    "TooLong",
+    "TooManyNodes",
+    "TooManySnapshots",
+    "Vacuum",
+    "ValueTooLong",
+    "__version__",
+    "check",
+    "error_name",
+    "error_text",
+    "split",
+    "stamp",
+    "version",
+]
+
+
+def stamp(physical: int, counter: int = 0) -> int:
+    """Return the word of a stamp with this physical part and this counter."""
+    return physical << 16 | counter
+
+
+def split(stamp: int) -> tuple[int, int]:
+    """Return the physical part and the counter of a stamp."""
+    return stamp >> 16, stamp & 0xFFFF

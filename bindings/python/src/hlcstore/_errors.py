@@ -1,0 +1,132 @@
+"""The refusals of the library as exceptions. Their numbers and their texts come from the library."""
+
+from typing import ClassVar
+
+from . import _native
+
+
+class Error(Exception):
+    """A refusal of the library. Its text says what was refused."""
+
+    code: ClassVar[int] = 0
+    """The number of the refusal in hlcstore.h."""
+    word: int
+    """The word that hlcstore.h names with the refusal, or 0."""
+    accepted: int
+    """How many items `accept_all` or `accept_items` accepted before the refusal."""
+    used: int
+    """How many bytes of the log these items have. The next call of `accept_items` goes on from there."""
+
+    def __init__(self, word: int = 0, accepted: int = 0, used: int = 0) -> None:
+        super().__init__(word, accepted, used)
+        self.word = word
+        self.accepted = accepted
+        self.used = used
+
+    def __str__(self) -> str:
+        text = _native.error_text(self.code)
+        return f"{text} ({self.word})" if self.word else text
+
+
+class NoNode(Error):
+    code = _native.HLC_NO_NODE
+
+
+class ReadingTooLarge(Error):
+    code = _native.HLC_READING_TOO_LARGE
+
+
+class CounterFull(Error):
+    code = _native.HLC_COUNTER_FULL
+
+
+class NotNext(Error):
+    code = _native.HLC_NOT_NEXT
+
+
+class StampNotRising(Error):
+    code = _native.HLC_STAMP_NOT_RISING
+
+
+class AboveFloor(Error):
+    code = _native.HLC_ABOVE_FLOOR
+
+
+class BelowHorizon(Error):
+    code = _native.HLC_BELOW_HORIZON
+
+
+class NoSnapshot(Error):
+    code = _native.HLC_NO_SNAPSHOT
+
+
+class TooManySnapshots(Error):
+    code = _native.HLC_TOO_MANY_SNAPSHOTS
+
+
+class BadKey(Error):
+    code = _native.HLC_BAD_KEY
+
+
+class ValueTooLong(Error):
+    code = _native.HLC_VALUE_TOO_LONG
+
+
+class NumbersSpent(Error):
+    code = _native.HLC_NUMBERS_SPENT
+
+
+class NoMemory(Error, MemoryError):
+    code = _native.HLC_NO_MEMORY
+
+
+class BadLine(Error):
+    code = _native.HLC_BAD_LINE
+
+
+class TooLong(Error):
+    code = _native.HLC_TOO_LONG
+
+
+class NotShown(Error):
+    code = _native.HLC_NOT_SHOWN
+
+
+class TooManyNodes(Error):
+    code = _native.HLC_TOO_MANY_NODES
+
+
+class Retired(Error):
+    code = _native.HLC_RETIRED
+
+
+class Closed(Error):
+    code = _native.HLC_CLOSED
+
+
+class NoValue(Error, KeyError):
+    code = _native.HLC_NO_VALUE
+
+
+class NoSuchNode(Error):
+    code = _native.HLC_NO_SUCH_NODE
+
+
+class BadBytes(Error):
+    code = _native.HLC_BAD_BYTES
+
+
+class NoCheckpoint(Error):
+    code = _native.HLC_NO_CHECKPOINT
+
+
+REFUSALS: dict[int, type[Error]] = {refusal.code: refusal for refusal in Error.__subclasses__()}
+
+# In tracebacks and pickles they have the name by which a program knows them.
+for _class in (Error, *REFUSALS.values()):
+    _class.__module__ = "hlcstore"
+
+
+def refusal(code: int, word: int, accepted: int, used: int) -> Error:
+    """Return the exception of a refusal. The extension calls it."""
+    return REFUSALS[code](word, accepted, used)

@@ -1,0 +1,36 @@
+"""What calls return that have several numbers to return."""
+
+from typing import NamedTuple
+
+
+class Vacuum(NamedTuple):
+    """What a vacuum left up to a stamp, and what it dropped there."""
+
+    stamp: int
+    """The stamp: that of the call, or the floor."""
+    kept: int
+    """How many rows are left up to it."""
+    cost: int
+    """What these cost: for each the length of its key and of its value, and 10."""
+    dropped: int
+    """How many rows were dropped."""
+
+
+class Link(NamedTuple):
+    """What a store accepted from a node."""
+
+    next: int
+    """The number of the node's next item."""
+    head: int
+    """The stamp of its last accepted item, or of its start."""
+    retired: bool
+    """Whether its retirement was accepted."""
+
+
+class Checked(NamedTuple):
+    """What a certificate shows: no rows with the same answers are fewer, or cost less."""
+
+    rows: int
+    """How many rows."""
+    cost: int
+    """What they cost."""

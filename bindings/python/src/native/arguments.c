@@ -1,0 +1,78 @@
+/* The arguments of calls, and the bytes of their answers. */
+#include "native.h"
+#include <stdlib.h>
+
+/* Makes an integer of any object that is one. Returns false with an exception where it is none, or does not fit. */
+static bool take_number(PyObject *from, uint64_t most, uint64_t *to)
+{
+    PyObject *number = PyNumber_Index(from);
+    if (!number) return false;
+    *to = PyLong_AsUnsignedLongLong(number);
+    Py_DECREF(number);
+    if (*to == UINT64_MAX && PyErr_Occurred()) return false;
+    if (*to <= most) return true;
+    PyErr_Format(PyExc_OverflowError, "the number is above %llu", (unsigned long long)most);
+    return false;
+}
+
+int take_u16(PyObject *from, void *to)
+{
+    uint64_t number;
+    if (!take_number(from, UINT16_MAX, &number)) return 0;
+    *(uint16_t *)to = (uint16_t)number;
+    return 1;
+}
+
+int take_u64(PyObject *from, void *to) { return take_number(from, UINT64_MAX, to); }
+
+/* A bytes object of an object with bytes: the same one, or a copy. */
+static PyObject *as_bytes_object(PyObject *from)
+{
+    if (PyBytes_Check(from)) {
+        Py_INCREF(from);
+        return from;
+    }
+    if (PyObject_CheckBuffer(from)) return PyBytes_FromObject(from);
+    PyErr_Format(PyExc_TypeError, "a bytes-like object is required, not %R", Py_TYPE(from));
+    return NULL;
+}
+
+/* Where a later argument is refused, it is called again with NULL, and drops the bytes. */
+int take_bytes(PyObject *from, void *to)
+{
+    Bytes *bytes = to;
+    if (!from) {
+        drop_bytes(bytes);
+        return 1;
+    }
+    bytes->owner = as_bytes_object(from);
+    if (!bytes->owner) return 0;
+    bytes->at = (const uint8_t *)PyBytes_AsString(bytes->owner);
+    bytes->len = (size_t)PyBytes_Size(bytes->owner);
+    return Py_CLEANUP_SUPPORTED;
+}
+
+void drop_bytes(Bytes *bytes)
+{
+    Py_CLEAR(bytes->owner);
+    bytes->at = NULL;
+    bytes->len = 0;
+}
+
+PyObject *number_object(uint64_t number) { return PyLong_FromUnsignedLongLong(number); }
+
+bool make_room(Output *out)
+{
+    uint8_t *at = realloc(out->at, out->len);
+    if (!at) return false;
+    out->at = at;
+    out->room = out->len;
+    return true;
+}
+
+PyObject *output_object(Output *out)
+{
+    PyObject *bytes = PyBytes_FromStringAndSize((const char *)out->at, (Py_ssize_t)out->len);
+    free(out->at);
+    return bytes;
+}

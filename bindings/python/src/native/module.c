@@ -1,0 +1,105 @@
+/* The module hlcstore._native. */
+#include "native.h"
+
+Classes *classes_of(PyObject *self) { return PyType_GetModuleState(Py_TYPE(self)); }
+
+void *allocate(PyTypeObject *type)
+{
+    allocfunc allocate_object = (allocfunc)PyType_GetSlot(type, Py_tp_alloc);
+    return allocate_object(type, 0);
+}
+
+void release_object(PyObject *self)
+{
+    PyTypeObject *type = Py_TYPE(self);
+    freefunc free_object = (freefunc)PyType_GetSlot(type, Py_tp_free);
+    free_object(self);
+    Py_DECREF((PyObject *)type);
+}
+
+static bool make_class(PyObject *module, PyType_Spec *spec, PyTypeObject **to)
+{
+    *to = (PyTypeObject *)PyType_FromModuleAndSpec(module, spec, NULL);
+    return *to != NULL;
+}
+
+/* Makes a class, and adds it under its name. */
+static bool add_class(PyObject *module, PyType_Spec *spec, PyTypeObject **to)
+{
+    return make_class(module, spec, to) && PyModule_AddType(module, *to) == 0;
+}
+
+static bool add_classes(PyObject *module)
+{
+    Classes *classes = PyModule_GetState(module);
+    return add_class(module, &item_spec, &classes->item) && add_class(module, &node_spec, &classes->node)
+           && add_class(module, &store_spec, &classes->store) && add_class(module, &snapshot_spec, &classes->snapshot)
+           && make_class(module, &pairs_spec, &classes->pairs);
+}
+
+static int fill_module(PyObject *module)
+{
+    if (hlc_version() != HLC_VERSION_NUMBER) {
+        PyErr_SetString(PyExc_ImportError, "the library and its header have different versions");
+        return -1;
+    }
+    bool is_filled = PyModule_AddStringConstant(module, "VERSION", HLC_VERSION) == 0 && add_refusal_numbers(module)
+                     && PyModule_AddFunctions(module, refusal_functions) == 0 && add_classes(module);
+    return is_filled ? 0 : -1;
+}
+
+static int visit_module(PyObject *module, visitproc visit, void *arg)
+{
+    Classes *classes = PyModule_GetState(module);
+    Py_VISIT(classes->item);
+    Py_VISIT(classes->node);
+    Py_VISIT(classes->store);
+    Py_VISIT(classes->snapshot);
+    Py_VISIT(classes->pairs);
+    return 0;
+}
+
+static int clear_module(PyObject *module)
+{
+    Classes *classes = PyModule_GetState(module);
+    Py_CLEAR(classes->item);
+    Py_CLEAR(classes->node);
+    Py_CLEAR(classes->store);
+    Py_CLEAR(classes->snapshot);
+    Py_CLEAR(classes->pairs);
+    return 0;
+}
+
+static PyObject *version(PyObject *module, PyObject *none)
+{
+    (void)module, (void)none;
+    return PyLong_FromUnsignedLong(hlc_version());
+}
+
+static PyMethodDef functions[] = {
+    { "check", check_certificate, METH_O,
+      "check($module, certificate, /)\n--\n\n"
+      "Check the text of a certificate, whoever made it: no rows with the same answers are fewer or cheaper." },
+    { "version", version, METH_NOARGS,
+      "version($module, /)\n--\n\n"
+      "Return the library's version: 10,000 times its first number, 100 times the second, and the third." },
+    { 0 },
+};
+
+static PyModuleDef_Slot slots[] = {
+    { Py_mod_exec, fill_module },
+    { 0, NULL },
+};
+
+static struct PyModuleDef definition = {
+    .m_base = PyModuleDef_HEAD_INIT,
+    .m_name = "hlcstore._native",
+    .m_doc = "The store and its nodes, from the C library.",
+    .m_size = sizeof(Classes),
+    .m_methods = functions,
+    .m_slots = slots,
+    .m_traverse = visit_module,
+    .m_clear = clear_module,
+};
+
+PyMODINIT_FUNC PyInit__native(void) { return PyModuleDef_Init(&definition); }

@@ -1,0 +1,185 @@
+/* What the files of the extension share.
+ *
+ * Threads. A store has a lock that many calls may take to ask, or one call to change it. A thread lets go of the
+ * interpreter before it waits for a store's lock, and releases the store's lock before it waits for the interpreter.
+ * So threads never wait for each other in a ring. Between lock and unlock no object of Python is made or dropped: that
+ * could collect garbage, which closes snapshots. Nodes and items have no lock: their calls keep the interpreter.
+ *
+ * Bytes. A call uses only buffers of its own. An argument that is not a bytes object is copied, since its owner could
+ * change it while the call runs without the interpreter. */
+#ifndef HLCSTORE_NATIVE_H
+#define HLCSTORE_NATIVE_H
+#define PY_SSIZE_T_CLEAN
+#include <Python.h>
+#include <pthread.h>
+#include <stddef.h>
+#include <structmember.h>
+#include "hlcstore.h"
+
+/* The classes of the module. */
+typedef struct {
+    PyTypeObject *item;
+    PyTypeObject *node;
+    PyTypeObject *store;
+    PyTypeObject *snapshot;
+    PyTypeObject *pairs;
+} Classes;
+
+/* A class without subclasses, whose attributes stay as they are. */
+#define FINAL_CLASS (Py_TPFLAGS_DEFAULT | Py_TPFLAGS_IMMUTABLETYPE)
+
+/* Methods whose arguments may have names. */
+#define METHOD(name, call, doc) { name, (PyCFunction)(void (*)(void))call, METH_VARARGS | METH_KEYWORDS, doc }
+#define CLASS_METHOD(name, call, doc) \
+    { name, (PyCFunction)(void (*)(void))call, METH_VARARGS | METH_KEYWORDS | METH_CLASS, doc }
+
+/* Returns the classes of the module that made this object. */
+Classes *classes_of(PyObject *self);
+
+/* A new object of a class, all of it 0, or NULL. */
+void *allocate(PyTypeObject *type);
+
+/* Frees an object, whose content is released. */
+void release_object(PyObject *self);
+
+/* ---- arguments.c ---- */
+
+/* Some bytes, and the bytes object that owns them, or NULL where there are none. */
+typedef struct {
+    PyObject *owner;
+    const uint8_t *at;
+    size_t len;
+} Bytes;
+
+void drop_bytes(Bytes *bytes);
+
+/* Converters for the format O& of PyArg_ParseTuple. */
+int take_u16(PyObject *from, void *to);
+int take_u64(PyObject *from, void *to);
+int take_bytes(PyObject *from, void *to);
+
+PyObject *number_object(uint64_t number);
+
+/* A buffer for an answer, whose length is only known after a first call. */
+typedef struct {
+    uint8_t *at;
+    size_t room;
+    size_t len;
+} Output;
+
+/* Makes a buffer have room for the answer. Returns false without memory. It runs under a lock too. */
+bool make_room(Output *out);
+
+/* Returns the answer as bytes, and frees the buffer. */
+PyObject *output_object(Output *out);
+
+/* ---- refusals.c ---- */
+
+/* Raises the exception of a refusal, and returns NULL. */
+PyObject *refuse(uint32_t code, uint64_t word);
+
+/* Raises the exception of a refusal of one of many items: so many were accepted before it, in so many bytes. */
+PyObject *refuse_after(uint32_t code, uint64_t word, size_t accepted, size_t used);
+
+/* Returns a named tuple of hlcstore/_results.py, of these numbers, and of an object behind them unless it is NULL. */
+PyObject *result_of(const char *name, const uint64_t *numbers, Py_ssize_t many, PyObject *last);
+
+extern PyMethodDef refusal_functions[];
+bool add_refusal_numbers(PyObject *module);
+
+/* ---- item.c ---- */
+
+typedef enum { WRITE, DELETE, REPORT, RETIRE } Kind;
+
+/* What an item says. A key or a value that its kind does not have is empty. */
+typedef struct {
+    Kind kind;
+    uint16_t node;
+    uint64_t number;
+    uint64_t stamp;
+    Bytes key;
+    Bytes value;
+} Content;
+
+typedef struct {
+    PyObject_HEAD
+    Content content;
+} Item;
+
+/* Fills the content from the arguments of a call: node, number, stamp, and the key and the value of its kind. */
+bool take_content(Content *content, Kind kind, PyObject *args, PyObject *words);
+void drop_content(Content *content);
+
+extern PyType_Spec item_spec;
+
+/* ---- node.c ---- */
+
+typedef struct {
+    PyObject_HEAD
+    hlc_node node;
+} Node;
+
+extern PyType_Spec node_spec;
+
+/* ---- store.c ---- */
+
+typedef struct {
+    PyObject_HEAD
+    hlc_store handle;
+    pthread_rwlock_t lock;
+    bool has_lock;
+    uint64_t word; /* the word of the checkpoint of which it was restored */
+} Store;
+
+/* Whether a call may keep the interpreter while it runs. */
+typedef enum { SHORT, LONG } Duration;
+
+/* Locks a store. Returns what unlock needs: the thread that let go of the interpreter, or NULL. */
+PyThreadState *lock_to_ask(Store *store, Duration duration);
+PyThreadState *lock_to_change(Store *store, Duration duration);
+void unlock(Store *store, PyThreadState *thread);
+
+extern PyType_Spec store_spec;
+
+/* ---- vacuum.c ---- */
+
+/* Methods of a store. */
+PyObject *store_vacuum(PyObject *self, PyObject *none);
+PyObject *store_vacuum_certified(PyObject *self, PyObject *none);
+PyObject *store_vacuum_to(PyObject *self, PyObject *stamp);
+PyObject *store_vacuum_to_certified(PyObject *self, PyObject *stamp);
+PyObject *store_check_vacuum(PyObject *self, PyObject *stamp);
+
+/* The function check of the module. */
+PyObject *check_certificate(PyObject *module, PyObject *text);
+
+/* ---- snapshot.c ---- */
+
+typedef struct {
+    PyObject_HEAD
+    Store *store;
+    uint64_t id;
+    uint64_t stamp;
+    bool is_owner; /* whether the snapshot is closed where this object is dropped */
+} Snapshot;
+
+/* Methods of a store. */
+PyObject *store_snapshot(PyObject *self, PyObject *args, PyObject *words);
+PyObject *store_snapshots(PyObject *self, PyObject *none);
+PyObject *store_close_snapshot(PyObject *self, PyObject *id);
+
+extern PyType_Spec snapshot_spec;
+
+/* ---- read_all.c ---- */
+
+/* A method of a snapshot. */
+PyObject *snapshot_read_all(PyObject *self, PyObject *keys);
+
+/* ---- pairs.c ---- */
+
+/* Returns an iterator over the keys from one on and below another, with their values or alone. It takes the bytes. */
+PyObject *pairs_of(Snapshot *snapshot, Bytes start, Bytes end, bool with_values);
+
+extern PyType_Spec pairs_spec;
+
+#endif

@@ -1,0 +1,172 @@
+/* A node. Its calls are short and keep the interpreter, so threads make them one at a time. */
+#include "native.h"
+
+static PyObject *node_new(PyTypeObject *type, PyObject *args, PyObject *words)
+{
+    static char *names[] = { "id", "start", NULL };
+    uint16_t id;
+    uint64_t start = 0;
+    if (!PyArg_ParseTupleAndKeywords(args, words, "O&|O&:Node", names, take_u16, &id, take_u64, &start)) return NULL;
+    Node *node = allocate(type);
+    if (node) node->node = hlc_node_open(id, start);
+    return (PyObject *)node;
+}
+
+static PyObject *node_restore(PyObject *type, PyObject *args, PyObject *words)
+{
+    static char *names[] = { "id", "last", "next", NULL };
+    uint16_t id;
+    uint64_t last, next;
+    if (!PyArg_ParseTupleAndKeywords(args, words, "O&O&O&:restore", names, take_u16, &id, take_u64, &last, take_u64,
+                                     &next))
+        return NULL;
+    Node *node = allocate((PyTypeObject *)type);
+    if (!node) return NULL;
+    uint32_t code = hlc_node_restore(id, last, next, &node->node);
+    if (code == HLC_OK) return (PyObject *)node;
+    Py_DECREF((PyObject *)node);
+    return refuse(code, 0);
+}
+
+/* ---- Items ---- */
+
+static uint32_t issue(hlc_node *node, uint64_t reading, Content *item)
+{
+    const Bytes *key = &item->key, *value = &item->value;
+    switch (item->kind) {
+    case WRITE:
+        return hlc_node_write(node, reading, key->at, key->len, value->at, value->len, &item->number, &item->stamp);
+    case DELETE: return hlc_node_delete(node, reading, key->at, key->len, &item->number, &item->stamp);
+    case REPORT: return hlc_node_report(node, reading, &item->number, &item->stamp);
+    default: return hlc_node_retire(node, reading, &item->number, &item->stamp);
+    }
+}
+
+/* Issues an item. The object is made before, so that no item is issued and then lost. It takes the bytes. */
+static PyObject *issued(PyObject *self, Kind kind, uint64_t reading, Bytes key, Bytes value)
+{
+    hlc_node *node = &((Node *)self)->node;
+    Item *item = allocate(classes_of(self)->item);
+    if (!item) {
+        drop_bytes(&key);
+        drop_bytes(&value);
+        return NULL;
+    }
+    item->content = (Content){ .kind = kind, .node = node->id, .key = key, .value = value };
+    uint32_t code = issue(node, reading, &item->content);
+    if (code == HLC_OK) return (PyObject *)item;
+    refuse(code, item->content.stamp);
+    Py_DECREF((PyObject *)item);
+    return NULL;
+}
+
+static const Bytes NO_BYTES;
+
+static PyObject *node_write(PyObject *self, PyObject *args, PyObject *words)
+{
+    static char *names[] = { "reading", "key", "value", NULL };
+    uint64_t reading;
+    Bytes key = { 0 }, value = { 0 };
+    if (!PyArg_ParseTupleAndKeywords(args, words, "O&O&O&:write", names, take_u64, &reading, take_bytes, &key,
+                                     take_bytes, &value))
+        return NULL;
+    return issued(self, WRITE, reading, key, value);
+}
+
+static PyObject *node_delete(PyObject *self, PyObject *args, PyObject *words)
+{
+    static char *names[] = { "reading", "key", NULL };
+    uint64_t reading;
+    Bytes key = { 0 };
+    if (!PyArg_ParseTupleAndKeywords(args, words, "O&O&:delete", names, take_u64, &reading, take_bytes, &key))
+        return NULL;
+    return issued(self, DELETE, reading, key, NO_BYTES);
+}
+
+static PyObject *node_report(PyObject *self, PyObject *from)
+{
+    uint64_t reading;
+    return take_u64(from, &reading) ? issued(self, REPORT, reading, NO_BYTES, NO_BYTES) : NULL;
+}
+
+static PyObject *node_retire(PyObject *self, PyObject *from)
+{
+    uint64_t reading;
+    return take_u64(from, &reading) ? issued(self, RETIRE, reading, NO_BYTES, NO_BYTES) : NULL;
+}
+
+/* ---- The clock ---- */
+
+static PyObject *node_send(PyObject *self, PyObject *from)
+{
+    uint64_t reading, word;
+    if (!take_u64(from, &reading)) return NULL;
+    uint32_t code = hlc_node_send(&((Node *)self)->node, reading, &word);
+    return code == HLC_OK ? number_object(word) : refuse(code, word);
+}
+
+static PyObject *node_receive(PyObject *self, PyObject *args, PyObject *words)
+{
+    static char *names[] = { "seen", "reading", NULL };
+    uint64_t seen, reading, word;
+    if (!PyArg_ParseTupleAndKeywords(args, words, "O&O&:receive", names, take_u64, &seen, take_u64, &reading))
+        return NULL;
+    uint32_t code = hlc_node_receive(&((Node *)self)->node, seen, reading, &word);
+    return code == HLC_OK ? number_object(word) : refuse(code, word);
+}
+
+static PyObject *node_raise_to(PyObject *self, PyObject *from)
+{
+    uint64_t stamp;
+    if (!take_u64(from, &stamp)) return NULL;
+    hlc_node_raise(&((Node *)self)->node, stamp);
+    Py_RETURN_NONE;
+}
+
+static PyObject *node_repr(PyObject *self)
+{
+    const hlc_node *node = &((Node *)self)->node;
+    return PyUnicode_FromFormat("<Node %d, last=%llu, next=%llu>", node->id, (unsigned long long)node->last,
+                                (unsigned long long)node->next);
+}
+
+static PyMethodDef node_methods[] = {
+    CLASS_METHOD("restore", node_restore,
+                 "restore($type, /, id, last, next)\n--\n\n"
+                 "Return a node as it was before a restart: its number, last stamp and next item's number."),
+    METHOD("write", node_write,
+           "write($self, /, reading, key, value)\n--\n\nIssue a write at this reading of a physical clock."),
+    METHOD("delete", node_delete, "delete($self, /, reading, key)\n--\n\nIssue a deletion."),
+    { "report", node_report, METH_O, "report($self, reading, /)\n--\n\nIssue a report, which raises the floor." },
+    { "retire", node_retire, METH_O,
+      "retire($self, reading, /)\n--\n\nIssue the node's retirement. It issues nothing after it." },
+    { "send", node_send, METH_O, "send($self, reading, /)\n--\n\nReturn the stamp of a message that is sent." },
+    METHOD("receive", node_receive,
+           "receive($self, /, seen, reading)\n--\n\n"
+           "Receive a message with this stamp, or observe a snapshot at it. Return the event's stamp."),
+    { "raise_to", node_raise_to, METH_O,
+      "raise_to($self, stamp, /)\n--\n\nRaise the clock to a stamp, without an event." },
+    { 0 },
+};
+
+static PyMemberDef node_members[] = {
+    { "id", T_USHORT, offsetof(Node, node.id), READONLY, "Its number." },
+    { "last", T_ULONGLONG, offsetof(Node, node.last), READONLY, "The stamp of its last event." },
+    { "next", T_ULONGLONG, offsetof(Node, node.next), READONLY, "The number of its next item." },
+    { "retired", T_BOOL, offsetof(Node, node.retired), READONLY, "Whether it retired." },
+    { 0 },
+};
+
+static PyType_Slot node_slots[] = {
+    { Py_tp_doc,
+      "Node(id, start=0)\n--\n\n"
+      "A node: a writer with a clock of its own. Its clock starts at a stamp: 0, or where Store.join let it start." },
+    { Py_tp_new, node_new },
+    { Py_tp_dealloc, release_object },
+    { Py_tp_methods, node_methods },
+    { Py_tp_members, node_members },
+    { Py_tp_repr, node_repr },
+    { 0, NULL },
+};
+
+PyType_Spec node_spec = { "hlcstore.Node", sizeof(Node), 0, FINAL_CLASS, node_slots };

@@ -1,0 +1,124 @@
+/* Reads many keys of a snapshot in one call. */
+#include "native.h"
+#include <stdlib.h>
+#include <string.h>
+
+/* Room for the longest answer: a byte, a length of eight bytes, and a value of 65,535. */
+enum { ROOM = 65544, LENGTH = 8 };
+
+/* The keys of a call, one behind the other, and the answers of those that were read last. */
+typedef struct {
+    hlc_place *places;
+    size_t many;
+    uint8_t *keys;
+    size_t keys_len;
+    uint8_t answers[ROOM];
+    size_t answers_len;
+} Batch;
+
+static void free_batch(Batch *batch)
+{
+    free(batch->places);
+    free(batch->keys);
+    free(batch);
+}
+
+/* Appends a key. Returns false with an exception. */
+static bool append(Batch *batch, const Bytes *key)
+{
+    uint8_t *keys = realloc(batch->keys, batch->keys_len + key->len + 1);
+    if (!keys) {
+        PyErr_NoMemory();
+        return false;
+    }
+    memcpy(keys + batch->keys_len, key->at, key->len);
+    batch->keys = keys;
+    batch->places[batch->many++] = (hlc_place){ batch->keys_len, key->len };
+    batch->keys_len += key->len;
+    return true;
+}
+
+static bool append_all(Batch *batch, PyObject *tuple)
+{
+    for (Py_ssize_t i = 0; i < PyTuple_Size(tuple); i++) {
+        Bytes key;
+        if (!take_bytes(PyTuple_GetItem(tuple, i), &key)) return false;
+        bool is_appended = append(batch, &key);
+        drop_bytes(&key);
+        if (!is_appended) return false;
+    }
+    return true;
+}
+
+static Batch *batch_of(PyObject *tuple)
+{
+    Batch *batch = calloc(1, sizeof *batch);
+    if (!batch) return (Batch *)PyErr_NoMemory();
+    batch->places = calloc((size_t)PyTuple_Size(tuple) + 1, sizeof *batch->places);
+    if (!batch->places) PyErr_NoMemory();
+    if (batch->places && append_all(batch, tuple)) return batch;
+    free_batch(batch);
+    return NULL;
+}
+
+/* Reads the keys from one on, as many as fit. many: how many. */
+static uint32_t read_from(Snapshot *snapshot, Batch *batch, size_t from, size_t *many)
+{
+    PyThreadState *thread = lock_to_ask(snapshot->store, LONG);
+    hlc_store mine = snapshot->store->handle;
+    uint32_t code = hlc_read_all(&mine, snapshot->id, batch->places + from, batch->many - from, batch->keys,
+                                 batch->keys_len, batch->answers, ROOM, &batch->answers_len, many);
+    unlock(snapshot->store, thread);
+    return code;
+}
+
+/* The value of an answer, or None where the key has none. at: the answer's place, and then that of the next one. */
+static PyObject *value_at(const uint8_t **at)
+{
+    size_t len = 0;
+    if (*(*at)++ == 0) {
+        Py_INCREF(Py_None);
+        return Py_None;
+    }
+    for (int i = LENGTH - 1; i >= 0; i--) len = len << 8 | (*at)[i];
+    *at += LENGTH + len;
+    return PyBytes_FromStringAndSize((const char *)*at - len, (Py_ssize_t)len);
+}
+
+/* Puts the values of the answers into the list, from a place on. */
+static bool put_values(const Batch *batch, PyObject *list, size_t from, size_t many)
+{
+    const uint8_t *at = batch->answers;
+    for (size_t i = 0; i < many; i++) {
+        PyObject *value = value_at(&at);
+        if (!value || PyList_SetItem(list, (Py_ssize_t)(from + i), value)) return false;
+    }
+    return true;
+}
+
+/* The list is still this call's own, so its empty places are no harm. */
+static PyObject *values_of(Snapshot *snapshot, Batch *batch)
+{
+    PyObject *list = PyList_New((Py_ssize_t)batch->many);
+    uint32_t code = HLC_MORE;
+    size_t many;
+    for (size_t from = 0; list && code == HLC_MORE; from += many) {
+        code = read_from(snapshot, batch, from, &many);
+        bool is_answered = code == HLC_OK || code == HLC_MORE;
+        if (!is_answered) refuse(code, 0);
+        if (!is_answered || !put_values(batch, list, from, many)) Py_CLEAR(list);
+    }
+    return list;
+}
+
+PyObject *snapshot_read_all(PyObject *self, PyObject *keys)
+{
+    PyObject *tuple = PySequence_Tuple(keys), *list = NULL;
+    if (!tuple) return NULL;
+    Batch *batch = batch_of(tuple);
+    Py_DECREF(tuple);
+    if (!batch) return NULL;
+    list = values_of((Snapshot *)self, batch);
+    free_batch(batch);
+    return list;
+}

@@ -1,0 +1,477 @@
+/* A store, its lock, and the calls that change it or ask what it has. */
+#include "native.h"
+#include <stdlib.h>
+
+/* ---- The lock ---- */
+
+/* Where the library of C lets readers pass by a waiting writer, readers could keep it waiting for good. */
+static int make_lock(pthread_rwlock_t *lock)
+{
+    pthread_rwlockattr_t kind;
+    int failure = pthread_rwlockattr_init(&kind);
+    if (failure) return failure;
+#ifdef __GLIBC__
+    pthread_rwlockattr_setkind_np(&kind, PTHREAD_RWLOCK_PREFER_WRITER_NONRECURSIVE_NP);
+#endif
+    failure = pthread_rwlock_init(lock, &kind);
+    pthread_rwlockattr_destroy(&kind);
+    return failure;
+}
+
+PyThreadState *lock_to_ask(Store *store, Duration duration)
+{
+    if (duration == SHORT && pthread_rwlock_tryrdlock(&store->lock) == 0) return NULL;
+    PyThreadState *thread = PyEval_SaveThread();
+    pthread_rwlock_rdlock(&store->lock);
+    return thread;
+}
+
+PyThreadState *lock_to_change(Store *store, Duration duration)
+{
+    if (duration == SHORT && pthread_rwlock_trywrlock(&store->lock) == 0) return NULL;
+    PyThreadState *thread = PyEval_SaveThread();
+    pthread_rwlock_wrlock(&store->lock);
+    return thread;
+}
+
+void unlock(Store *store, PyThreadState *thread)
+{
+    pthread_rwlock_unlock(&store->lock);
+    if (thread) PyEval_RestoreThread(thread);
+}
+
+/* ---- Opening and closing ---- */
+
+static Store *closed_store(PyTypeObject *type)
+{
+    Store *store = allocate(type);
+    if (!store) return NULL;
+    store->has_lock = make_lock(&store->lock) == 0;
+    if (store->has_lock) return store;
+    Py_DECREF((PyObject *)store);
+    return (Store *)PyErr_NoMemory();
+}
+
+static PyObject *store_new(PyTypeObject *type, PyObject *args, PyObject *words)
+{
+    static char *names[] = { "nodes", NULL };
+    uint16_t nodes;
+    if (!PyArg_ParseTupleAndKeywords(args, words, "O&:Store", names, take_u16, &nodes)) return NULL;
+    Store *store = closed_store(type);
+    if (!store) return NULL;
+    uint32_t code = hlc_open(&store->handle, nodes);
+    if (code == HLC_OK) return (PyObject *)store;
+    Py_DECREF((PyObject *)store);
+    return refuse(code, 0);
+}
+
+static PyObject *store_restore(PyObject *type, PyObject *from)
+{
+    Bytes saved;
+    if (!take_bytes(from, &saved)) return NULL;
+    Store *store = closed_store((PyTypeObject *)type);
+    uint64_t word = 0;
+    uint32_t code = HLC_OK;
+    if (store) {
+        PyThreadState *thread = lock_to_change(store, LONG);
+        code = hlc_restore(&store->handle, saved.at, saved.len, &word);
+        unlock(store, thread);
+        store->word = word;
+    }
+    drop_bytes(&saved);
+    if (code == HLC_OK) return (PyObject *)store;
+    Py_DECREF((PyObject *)store);
+    return refuse(code, word);
+}
+
+/* Nobody else has the store any more. */
+static void store_dealloc(PyObject *self)
+{
+    Store *store = (Store *)self;
+    hlc_close(&store->handle);
+    if (store->has_lock) pthread_rwlock_destroy(&store->lock);
+    release_object(self);
+}
+
+static PyObject *store_close(PyObject *self, PyObject *none)
+{
+    Store *store = (Store *)self;
+    (void)none;
+    PyThreadState *thread = lock_to_change(store, LONG);
+    hlc_close(&store->handle);
+    unlock(store, thread);
+    Py_RETURN_NONE;
+}
+
+static PyObject *store_enter(PyObject *self, PyObject *none)
+{
+    (void)none;
+    Py_INCREF(self);
+    return self;
+}
+
+/* ---- Items ---- */
+
+static uint32_t accept(hlc_store *store, const Content *item, uint64_t *word)
+{
+    const Bytes *key = &item->key, *value = &item->value;
+    switch (item->kind) {
+    case WRITE:
+        return hlc_accept_write(store, item->node, item->number, item->stamp, key->at, key->len, value->at, value->len,
+                                word);
+    case DELETE: return hlc_accept_delete(store, item->node, item->number, item->stamp, key->at, key->len, word);
+    case REPORT: return hlc_accept_report(store, item->node, item->number, item->stamp, word);
+    default: return hlc_accept_retire(store, item->node, item->number, item->stamp, word);
+    }
+}
+
+/* hlc_check_report answers for a retirement too. */
+static uint32_t check(hlc_store *store, const Content *item, uint64_t *word)
+{
+    const Bytes *key = &item->key, *value = &item->value;
+    switch (item->kind) {
+    case WRITE:
+        return hlc_check_write(store, item->node, item->number, item->stamp, key->at, key->len, value->at, value->len,
+                               word);
+    case DELETE: return hlc_check_delete(store, item->node, item->number, item->stamp, key->at, key->len, word);
+    default: return hlc_check_report(store, item->node, item->number, item->stamp, word);
+    }
+}
+
+/* None, or the exception of a refusal. */
+static PyObject *answer(uint32_t code, uint64_t word)
+{
+    if (code != HLC_OK) return refuse(code, word);
+    Py_RETURN_NONE;
+}
+
+static PyObject *accept_content(Store *store, const Content *item)
+{
+    uint64_t word;
+    PyThreadState *thread = lock_to_change(store, SHORT);
+    uint32_t code = accept(&store->handle, item, &word);
+    unlock(store, thread);
+    return answer(code, word);
+}
+
+static PyObject *check_content(Store *store, const Content *item)
+{
+    uint64_t word;
+    PyThreadState *thread = lock_to_ask(store, SHORT);
+    hlc_store mine = store->handle;
+    uint32_t code = check(&mine, item, &word);
+    unlock(store, thread);
+    return answer(code, word);
+}
+
+/* Makes one of these calls with the content that the arguments describe. */
+static PyObject *with_content(PyObject *self, PyObject *(*call)(Store *, const Content *), Kind kind, PyObject *args,
+                              PyObject *words)
+{
+    Content content;
+    if (!take_content(&content, kind, args, words)) return NULL;
+    PyObject *result = call((Store *)self, &content);
+    drop_content(&content);
+    return result;
+}
+
+#define WITH_CONTENT(name, call, kind) \
+    static PyObject *name(PyObject *self, PyObject *args, PyObject *words) \
+    { \
+        return with_content(self, call, kind, args, words); \
+    }
+WITH_CONTENT(store_accept_write, accept_content, WRITE)
+WITH_CONTENT(store_accept_delete, accept_content, DELETE)
+WITH_CONTENT(store_accept_report, accept_content, REPORT)
+WITH_CONTENT(store_accept_retire, accept_content, RETIRE)
+WITH_CONTENT(store_check_write, check_content, WRITE)
+WITH_CONTENT(store_check_delete, check_content, DELETE)
+WITH_CONTENT(store_check_report, check_content, REPORT)
+
+/* The content of an item, or NULL with an exception where the object is none. */
+static const Content *content_of(PyObject *self, PyObject *item)
+{
+    if (Py_TYPE(item) == classes_of(self)->item) return &((Item *)item)->content;
+    PyErr_Format(PyExc_TypeError, "an hlcstore.Item is required, not %R", Py_TYPE(item));
+    return NULL;
+}
+
+static PyObject *store_accept(PyObject *self, PyObject *item)
+{
+    const Content *content = content_of(self, item);
+    return content ? accept_content((Store *)self, content) : NULL;
+}
+
+static PyObject *store_check_item(PyObject *self, PyObject *item)
+{
+    const Content *content = content_of(self, item);
+    return content ? check_content((Store *)self, content) : NULL;
+}
+
+/* The contents of a tuple of items, to be freed, or NULL with an exception. */
+static const Content **contents_of(PyObject *self, PyObject *items)
+{
+    size_t many = (size_t)PyTuple_Size(items);
+    const Content **contents = malloc((many + 1) * sizeof *contents);
+    if (!contents) return (const Content **)PyErr_NoMemory();
+    for (size_t i = 0; i < many; i++) {
+        contents[i] = content_of(self, PyTuple_GetItem(items, (Py_ssize_t)i));
+        if (!contents[i]) {
+            free(contents);
+            return NULL;
+        }
+    }
+    return contents;
+}
+
+/* Accepts contents in turn until one is refused. accepted: how many were accepted. */
+static uint32_t accept_contents(Store *store, const Content **contents, size_t many, size_t *accepted, uint64_t *word)
+{
+    PyThreadState *thread = lock_to_change(store, LONG);
+    /* So a closed store is refused too where there are no items. */
+    uint32_t code = hlc_floor(&store->handle, word);
+    for (*accepted = 0; code == HLC_OK && *accepted < many; *accepted += code == HLC_OK)
+        code = accept(&store->handle, contents[*accepted], word);
+    unlock(store, thread);
+    return code;
+}
+
+static PyObject *store_accept_all(PyObject *self, PyObject *from)
+{
+    PyObject *items = PySequence_Tuple(from);
+    if (!items) return NULL;
+    const Content **contents = contents_of(self, items);
+    PyObject *result = NULL;
+    if (contents) {
+        uint64_t word;
+        size_t accepted;
+        uint32_t code = accept_contents((Store *)self, contents, (size_t)PyTuple_Size(items), &accepted, &word);
+        result = code == HLC_OK ? PyLong_FromSize_t(accepted) : refuse_after(code, word, accepted, 0);
+        free(contents);
+    }
+    Py_DECREF(items);
+    return result;
+}
+
+static PyObject *store_accept_items(PyObject *self, PyObject *from)
+{
+    Store *store = (Store *)self;
+    Bytes log;
+    uint64_t word;
+    size_t used, many;
+    if (!take_bytes(from, &log)) return NULL;
+    PyThreadState *thread = lock_to_change(store, LONG);
+    uint32_t code = hlc_items_accept(&store->handle, log.at, log.len, &used, &many, &word);
+    unlock(store, thread);
+    drop_bytes(&log);
+    return code == HLC_OK ? PyLong_FromSize_t(many) : refuse_after(code, word, many, used);
+}
+
+/* ---- Nodes ---- */
+
+/* Lets a node join, at a start or at the floor. Its object is made before, so that no number is taken and then lost. */
+static PyObject *join(PyObject *self, const uint64_t *start)
+{
+    Store *store = (Store *)self;
+    Node *node = allocate(classes_of(self)->node);
+    uint16_t id;
+    uint64_t word = 0;
+    if (!node) return NULL;
+    PyThreadState *thread = lock_to_change(store, SHORT);
+    uint32_t code = start ? hlc_join_at(&store->handle, *start, &id, &word) : hlc_join(&store->handle, &id, &word);
+    unlock(store, thread);
+    node->node = hlc_node_open(id, word);
+    if (code == HLC_OK) return (PyObject *)node;
+    Py_DECREF((PyObject *)node);
+    return refuse(code, word);
+}
+
+static PyObject *store_join(PyObject *self, PyObject *none)
+{
+    (void)none;
+    return join(self, NULL);
+}
+
+static PyObject *store_join_at(PyObject *self, PyObject *from)
+{
+    uint64_t start;
+    return take_u64(from, &start) ? join(self, &start) : NULL;
+}
+
+static PyObject *store_link(PyObject *self, PyObject *from)
+{
+    Store *store = (Store *)self;
+    uint16_t node;
+    uint64_t numbers[2];
+    bool retired;
+    if (!take_u16(from, &node)) return NULL;
+    PyThreadState *thread = lock_to_ask(store, SHORT);
+    hlc_store mine = store->handle;
+    uint32_t code = hlc_link(&mine, node, &numbers[0], &numbers[1], &retired);
+    unlock(store, thread);
+    return code == HLC_OK ? result_of("Link", numbers, 2, retired ? Py_True : Py_False) : refuse(code, 0);
+}
+
+/* ---- What a store has ---- */
+
+/* A call that asks for a number. */
+typedef struct {
+    uint32_t (*call)(hlc_store *, uint64_t *);
+} Question;
+
+static const Question FLOOR = { hlc_floor }, HORIZON = { hlc_horizon }, ROWS = { hlc_rows }, NODES = { hlc_nodes };
+static const Question FLOOR_NODE = { hlc_floor_node };
+
+static PyObject *ask(PyObject *self, void *question)
+{
+    Store *store = (Store *)self;
+    uint64_t number;
+    PyThreadState *thread = lock_to_ask(store, SHORT);
+    hlc_store mine = store->handle;
+    uint32_t code = ((const Question *)question)->call(&mine, &number);
+    unlock(store, thread);
+    return code == HLC_OK ? number_object(number) : refuse(code, 0);
+}
+
+static PyObject *store_floor_node(PyObject *self, PyObject *none)
+{
+    (void)none;
+    return ask(self, (void *)&FLOOR_NODE);
+}
+
+static PyObject *store_close_all(PyObject *self, PyObject *none)
+{
+    Store *store = (Store *)self;
+    (void)none;
+    PyThreadState *thread = lock_to_change(store, SHORT);
+    uint32_t code = hlc_close_all(&store->handle);
+    unlock(store, thread);
+    return answer(code, 0);
+}
+
+/* ---- Checkpoints ---- */
+
+static uint32_t save(hlc_store *store, uint64_t word, Output *out)
+{
+    uint32_t code = hlc_checkpoint(store, word, out->at, out->room, &out->len);
+    if (code != HLC_OK || out->len <= out->room) return code;
+    if (!make_room(out)) return HLC_NO_MEMORY;
+    return hlc_checkpoint(store, word, out->at, out->room, &out->len);
+}
+
+static PyObject *store_checkpoint(PyObject *self, PyObject *args, PyObject *words)
+{
+    static char *names[] = { "word", NULL };
+    Store *store = (Store *)self;
+    uint64_t word = 0;
+    Output out = { 0 };
+    if (!PyArg_ParseTupleAndKeywords(args, words, "|O&:checkpoint", names, take_u64, &word)) return NULL;
+    PyThreadState *thread = lock_to_ask(store, LONG);
+    hlc_store mine = store->handle;
+    uint32_t code = save(&mine, word, &out);
+    unlock(store, thread);
+    if (code == HLC_OK) return output_object(&out);
+    free(out.at);
+    return refuse(code, 0);
+}
+
+/* ---- The class ---- */
+
+static PyMethodDef store_methods[] = {
+    { "restore", store_restore, METH_O | METH_CLASS,
+      "restore($type, saved, /)\n--\n\n"
+      "Return a store made of the bytes of a checkpoint, whose word is its attribute word.\n\n"
+      "It continues as the saved store would have: the same next items, open snapshots and answers." },
+    { "close", store_close, METH_NOARGS, "close($self, /)\n--\n\nClose the store and free its memory." },
+    { "__enter__", store_enter, METH_NOARGS, "__enter__($self, /)\n--\n\nReturn the store." },
+    { "__exit__", store_close, METH_VARARGS, "__exit__($self, /, *exception)\n--\n\nClose the store." },
+    { "accept", store_accept, METH_O, "accept($self, item, /)\n--\n\nAccept an item." },
+    METHOD("accept_write", store_accept_write,
+           "accept_write($self, /, node, number, stamp, key, value)\n--\n\nAccept the write of a node."),
+    METHOD("accept_delete", store_accept_delete,
+           "accept_delete($self, /, node, number, stamp, key)\n--\n\nAccept the deletion of a node."),
+    METHOD("accept_report", store_accept_report,
+           "accept_report($self, /, node, number, stamp)\n--\n\nAccept the report of a node."),
+    METHOD("accept_retire", store_accept_retire,
+           "accept_retire($self, /, node, number, stamp)\n--\n\nAccept the retirement of a node."),
+    { "accept_all", store_accept_all, METH_O,
+      "accept_all($self, items, /)\n--\n\n"
+      "Accept items in turn, in one call, and return how many.\n\n"
+      "If one is refused, those before it stay accepted, and the exception's accepted is how many they are." },
+    { "accept_items", store_accept_items, METH_O,
+      "accept_items($self, log, /)\n--\n\n"
+      "Accept items that follow each other as bytes, and return how many.\n\n"
+      "Items that were accepted before are passed over, and counted. If one is refused, the exception's accepted is\n"
+      "how many were accepted before it, and its used is how many bytes these have." },
+    { "check_item", store_check_item, METH_O,
+      "check_item($self, item, /)\n--\n\nRaise what accept would raise, except NoMemory." },
+    METHOD("check_write", store_check_write,
+           "check_write($self, /, node, number, stamp, key, value)\n--\n\n"
+           "Raise what accept_write would raise, except NoMemory."),
+    METHOD("check_delete", store_check_delete,
+           "check_delete($self, /, node, number, stamp, key)\n--\n\n"
+           "Raise what accept_delete would raise, except NoMemory."),
+    METHOD("check_report", store_check_report,
+           "check_report($self, /, node, number, stamp)\n--\n\n"
+           "Raise what accept_report and accept_retire would raise."),
+    { "join", store_join, METH_NOARGS,
+      "join($self, /)\n--\n\nLet a node join at the floor, and return it. Replicas use join_at." },
+    { "join_at", store_join_at, METH_O,
+      "join_at($self, start, /)\n--\n\nLet a node join whose clock starts at this stamp, and return it." },
+    { "link", store_link, METH_O, "link($self, node, /)\n--\n\nReturn what was accepted from a node." },
+    { "floor_node", store_floor_node, METH_NOARGS,
+      "floor_node($self, /)\n--\n\nReturn the number of the first node that holds the floor back." },
+    METHOD("snapshot", store_snapshot,
+           "snapshot($self, /, stamp=None)\n--\n\nOpen a snapshot at a stamp, or at the floor."),
+    { "snapshots", store_snapshots, METH_NOARGS,
+      "snapshots($self, /)\n--\n\n"
+      "Return the open snapshots, the oldest first.\n\nThey stay open where these objects are dropped." },
+    { "close_snapshot", store_close_snapshot, METH_O,
+      "close_snapshot($self, id, /)\n--\n\nClose the snapshot with this id, and return its stamp." },
+    { "close_all", store_close_all, METH_NOARGS, "close_all($self, /)\n--\n\nClose all open snapshots." },
+    { "vacuum", store_vacuum, METH_NOARGS,
+      "vacuum($self, /)\n--\n\n"
+      "Drop all rows up to the floor that neither it nor an open snapshot needs." },
+    { "vacuum_certified", store_vacuum_certified, METH_NOARGS,
+      "vacuum_certified($self, /)\n--\n\nDo the same, and return the numbers and the certificate." },
+    { "vacuum_to", store_vacuum_to, METH_O,
+      "vacuum_to($self, stamp, /)\n--\n\n"
+      "Drop all rows up to a stamp that neither it nor an open snapshot below it needs." },
+    { "vacuum_to_certified", store_vacuum_to_certified, METH_O,
+      "vacuum_to_certified($self, stamp, /)\n--\n\nDo the same, and return the numbers and the certificate." },
+    { "check_vacuum", store_check_vacuum, METH_O,
+      "check_vacuum($self, stamp, /)\n--\n\nRaise what vacuum_to would raise, except NoMemory." },
+    METHOD("checkpoint", store_checkpoint,
+           "checkpoint($self, /, word=0)\n--\n\n"
+           "Return the store's whole state as bytes, with a word of the caller's.\n\n"
+           "The word may be the place in a log up to which the store applied it."),
+    { 0 },
+};
+
+static PyGetSetDef store_fields[] = {
+    { "floor", ask, NULL, "The floor: every item that is accepted later has a greater stamp.", (void *)&FLOOR },
+    { "horizon", ask, NULL, "The stamp of the last vacuum, or 0. No snapshot opens below it.", (void *)&HORIZON },
+    { "rows", ask, NULL, "How many rows are stored.", (void *)&ROWS },
+    { "nodes", ask, NULL, "How many node numbers are assigned, those of retired nodes too.", (void *)&NODES },
+    { 0 },
+};
+
+static PyMemberDef store_members[] = {
+    { "word", T_ULONGLONG, offsetof(Store, word), READONLY,
+      "The word of the checkpoint that the store was restored from, or 0." },
+    { 0 },
+};
+
+static PyType_Slot store_slots[] = {
+    { Py_tp_doc,
+      "Store(nodes)\n--\n\n"
+      "A multi-version store of so many nodes, numbered from 0. Any thread may call it." },
+    { Py_tp_new, store_new },
+    { Py_tp_dealloc, store_dealloc },
+    { Py_tp_methods, store_methods },
+    { Py_tp_getset, store_fields },
+    { Py_tp_members, store_members },
+    { 0, NULL },
+};
+
+PyType_Spec store_spec = { "hlcstore.Store", sizeof(Store), 0, FINAL_CLASS, store_slots };

@@ -1,0 +1,116 @@
+/* Vacuums, and the certificates of what they left. */
+#include "native.h"
+#include <stdlib.h>
+
+/* The numbers of a vacuum: its stamp, or the word of a refusal; the rows kept, their cost, and the rows dropped. */
+enum { STAMP, KEPT, COST, DROPPED, NUMBERS };
+
+/* Without a stamp it is a vacuum up to the floor. */
+static uint32_t run(hlc_store *store, const uint64_t *stamp, uint64_t *numbers)
+{
+    if (!stamp) return hlc_vacuum(store, &numbers[STAMP], &numbers[KEPT], &numbers[COST], &numbers[DROPPED]);
+    return hlc_vacuum_to(store, *stamp, &numbers[STAMP], &numbers[KEPT], &numbers[COST], &numbers[DROPPED]);
+}
+
+static uint32_t run_certified(hlc_store *store, const uint64_t *stamp, uint64_t *numbers, Output *out)
+{
+    if (!stamp)
+        return hlc_vacuum_certified(store, &numbers[STAMP], &numbers[KEPT], &numbers[COST], &numbers[DROPPED],
+                                    out->at, out->room, &out->len);
+    return hlc_vacuum_to_certified(store, *stamp, &numbers[STAMP], &numbers[KEPT], &numbers[COST], &numbers[DROPPED],
+                                   out->at, out->room, &out->len);
+}
+
+/* Where the certificate does not fit, a further vacuum finds nothing to drop, and returns the same certificate. The
+ * numbers are those of the first one. */
+static uint32_t run_to_the_end(hlc_store *store, const uint64_t *stamp, uint64_t *numbers, Output *out)
+{
+    uint64_t numbers_again[NUMBERS];
+    uint32_t code = run_certified(store, stamp, numbers, out);
+    if (code != HLC_OK || out->len <= out->room) return code;
+    if (!make_room(out)) return HLC_NO_MEMORY;
+    return run_certified(store, stamp, numbers_again, out);
+}
+
+static PyObject *vacuum(Store *store, const uint64_t *stamp)
+{
+    uint64_t numbers[NUMBERS];
+    PyThreadState *thread = lock_to_change(store, LONG);
+    uint32_t code = run(&store->handle, stamp, numbers);
+    unlock(store, thread);
+    return code == HLC_OK ? result_of("Vacuum", numbers, NUMBERS, NULL) : refuse(code, numbers[STAMP]);
+}
+
+/* The numbers and the certificate. It frees the buffer. */
+static PyObject *numbers_and_certificate(const uint64_t *numbers, Output *out)
+{
+    PyObject *certificate = output_object(out), *result = NULL;
+    PyObject *vacuum = certificate ? result_of("Vacuum", numbers, NUMBERS, NULL) : NULL;
+    if (vacuum) result = PyTuple_Pack(2, vacuum, certificate);
+    Py_XDECREF(vacuum);
+    Py_XDECREF(certificate);
+    return result;
+}
+
+static PyObject *vacuum_certified(Store *store, const uint64_t *stamp)
+{
+    uint64_t numbers[NUMBERS];
+    Output out = { 0 };
+    PyThreadState *thread = lock_to_change(store, LONG);
+    uint32_t code = run_to_the_end(&store->handle, stamp, numbers, &out);
+    unlock(store, thread);
+    if (code == HLC_OK) return numbers_and_certificate(numbers, &out);
+    free(out.at);
+    return refuse(code, code == HLC_NO_MEMORY ? 0 : numbers[STAMP]);
+}
+
+PyObject *store_vacuum(PyObject *self, PyObject *none)
+{
+    (void)none;
+    return vacuum((Store *)self, NULL);
+}
+
+PyObject *store_vacuum_certified(PyObject *self, PyObject *none)
+{
+    (void)none;
+    return vacuum_certified((Store *)self, NULL);
+}
+
+PyObject *store_vacuum_to(PyObject *self, PyObject *from)
+{
+    uint64_t stamp;
+    return take_u64(from, &stamp) ? vacuum((Store *)self, &stamp) : NULL;
+}
+
+PyObject *store_vacuum_to_certified(PyObject *self, PyObject *from)
+{
+    uint64_t stamp;
+    return take_u64(from, &stamp) ? vacuum_certified((Store *)self, &stamp) : NULL;
+}
+
+PyObject *store_check_vacuum(PyObject *self, PyObject *from)
+{
+    Store *store = (Store *)self;
+    uint64_t stamp, word;
+    if (!take_u64(from, &stamp)) return NULL;
+    PyThreadState *thread = lock_to_ask(store, SHORT);
+    hlc_store mine = store->handle;
+    uint32_t code = hlc_check_vacuum(&mine, stamp, &word);
+    unlock(store, thread);
+    if (code != HLC_OK) return refuse(code, word);
+    Py_RETURN_NONE;
+}
+
+PyObject *check_certificate(PyObject *module, PyObject *from)
+{
+    Bytes text;
+    uint64_t numbers[2], word;
+    uint32_t code;
+    (void)module;
+    if (!take_bytes(from, &text)) return NULL;
+    Py_BEGIN_ALLOW_THREADS
+    code = hlc_check(text.at, text.len, &numbers[0], &numbers[1], &word);
+    Py_END_ALLOW_THREADS
+    drop_bytes(&text);
+    return code == HLC_OK ? result_of("Checked", numbers, 2, NULL) : refuse(code, word);
+}

@@ -1,0 +1,337 @@
+"""Each call of the package, and what it takes and returns."""
+
+import doctest
+import hashlib
+import importlib.metadata
+import pickle
+import struct
+import unittest
+
+import hlcstore
+from hlcstore import Checked, Item, Link, Node, Store, Vacuum, split, stamp
+
+
+def filled(pairs):
+    """Returns a store of one node with these pairs, and the node."""
+    store, node = Store(1), Node(0)
+    for reading, (key, value) in enumerate(pairs, 1):
+        store.accept(node.write(reading, key, value))
+    return store, node
+
+
+def digest_of(pairs):
+    """The digest that a snapshot with these pairs has."""
+    parts = (struct.pack("<Q", len(part)) + part for pair in pairs for part in pair)
+    return hashlib.sha256(b"".join(parts)).digest()
+
+
+class Items(unittest.TestCase):
+    def test_nodes_issue_items(self):
+        node = Node(3, stamp(7))
+        self.assertEqual((node.id, node.last, node.next, node.retired), (3, stamp(7), 0, False))
+        write, delete = node.write(10, b"city", b"Lyon"), node.delete(reading=10, key=b"city")
+        report, retire = node.report(11), node.retire(12)
+        self.assertEqual(write, Item.write(3, 0, stamp(10), b"city", b"Lyon"))
+        self.assertEqual(delete, Item.delete(3, 1, stamp(10, 1), b"city"))
+        self.assertEqual(report, Item.report(3, 2, stamp(11)))
+        self.assertEqual(retire, Item.retire(3, 3, stamp(12)))
+        self.assertEqual((node.last, node.next, node.retired), (stamp(12), 4, True))
+        self.assertEqual([item.kind for item in (write, delete, report, retire)], "write delete report retire".split())
+        fields = (write.node, write.number, write.stamp, write.key, write.value)
+        self.assertEqual(fields, (3, 0, stamp(10), b"city", b"Lyon"))
+        self.assertEqual((delete.key, delete.value, report.key, report.value), (b"city", None, None, None))
+
+    def test_items_are_values(self):
+        first, same = (Item.write(node=1, number=2, stamp=3, key=b"a", value=b"x") for _ in range(2))
+        self.assertEqual(len({first, same}), 1)
+        others = [Item.write(0, 2, 3, b"a", b"x"), Item.write(1, 0, 3, b"a", b"x"), Item.write(1, 2, 0, b"a", b"x")]
+        others += [Item.write(1, 2, 3, b"b", b"x"), Item.write(1, 2, 3, b"a", b"y"), Item.write(1, 2, 3, b"ax", b"")]
+        others += [Item.delete(1, 2, 3, b"a"), Item.report(1, 2, 3), Item.retire(1, 2, 3), (1, 2, 3, b"a", b"x")]
+        for other in others:
+            self.assertNotEqual(first, other)
+        self.assertEqual(repr(first), "Item.write(1, 2, 3, b'a', b'x')")
+        self.assertEqual([repr(other)[:11] for other in others[-4:-1]], ["Item.delete", "Item.report", "Item.retire"])
+        with self.assertRaises(AttributeError):
+            first.stamp = 4
+
+    def test_clocks(self):
+        sender, receiver = Node(0), Node(1)
+        sent = sender.send(12)
+        self.assertEqual((sent, receiver.receive(sent, 11)), (stamp(12), stamp(12, 1)))
+        receiver.raise_to(stamp(20, 5))
+        receiver.raise_to(stamp(3))
+        self.assertEqual((receiver.last, receiver.next, receiver.send(1)), (stamp(20, 5), 0, stamp(20, 6)))
+        again = Node.restore(id=receiver.id, last=receiver.last, next=7)
+        self.assertEqual((again.id, again.last, again.next), (1, stamp(20, 6), 7))
+        self.assertEqual(repr(again), f"<Node 1, last={stamp(20, 6)}, next=7>")
+
+    def test_stamps(self):
+        self.assertEqual((stamp(1), stamp(2, 3)), (65536, 131075))
+        self.assertEqual(split(stamp(2, 3)), (2, 3))
+
+
+class Feeding(unittest.TestCase):
+    def setUp(self):
+        self.node, self.other = Node(0), Node(1)
+        self.items = [
+            self.node.write(1, b"a", b"x"),
+            self.node.delete(2, b"b"),
+            self.node.report(3),
+            self.other.write(3, b"a", bytes(65535)),
+            self.other.retire(4),
+        ]
+
+    def assert_fed(self, store):
+        self.assertEqual((store.floor, store.rows, store.nodes, store.horizon), (stamp(3), 3, 2, 0))
+        self.assertEqual(store.link(0), Link(3, stamp(3), False))
+        self.assertEqual(store.link(1), Link(2, stamp(4), True))
+        self.assertEqual(store.floor_node(), 0)
+        with store.snapshot() as snapshot:
+            self.assertEqual(dict(snapshot.items()), {b"a": bytes(65535)})
+
+    def test_one_by_one(self):
+        store = Store(2)
+        for item in self.items:
+            store.check_item(item)
+            self.assertIsNone(store.accept(item))
+        self.assert_fed(store)
+
+    def test_by_their_parts(self):
+        store = Store(nodes=2)
+        for item in self.items:
+            parts = [part for part in (item.key, item.value) if part is not None]
+            if item.kind != "retire":
+                getattr(store, "check_" + item.kind)(item.node, item.number, item.stamp, *parts)
+            getattr(store, "accept_" + item.kind)(item.node, item.number, item.stamp, *parts)
+        self.assert_fed(store)
+
+    def test_all_at_once(self):
+        store = Store(2)
+        self.assertEqual(store.accept_all(iter(self.items)), 5)
+        self.assertEqual(store.accept_all([]), 0)
+        self.assert_fed(store)
+        with self.assertRaises(hlcstore.NotNext) as met:
+            Store(2).accept_all([self.items[0], self.items[3], self.items[2]])
+        self.assertEqual((met.exception.accepted, met.exception.used, met.exception.word), (2, 0, 1))
+
+    def test_as_bytes(self):
+        log = b"".join(bytes(item) for item in self.items)
+        for kind in bytes, bytearray, memoryview:
+            store = Store(2)
+            self.assertEqual(store.accept_items(kind(log)), 5)
+            self.assertEqual(store.accept_items(kind(log)), 5)
+            self.assert_fed(store)
+        store, first = Store(2), len(bytes(self.items[0]))
+        with self.assertRaises(hlcstore.BadBytes) as met:
+            store.accept_items(log[: first + 5])
+        self.assertEqual((met.exception.accepted, met.exception.used, met.exception.word), (1, first, 1))
+        self.assertEqual(store.accept_items(log[first:]), 4)
+        self.assert_fed(store)
+
+    def test_nodes_join(self):
+        store, node = filled([(b"a", b"x")])
+        joined = store.join()
+        self.assertEqual((joined.id, joined.last, joined.next), (1, stamp(1), 0))
+        store.accept(joined.write(1, b"a", b"y"))
+        store.accept(node.report(9))
+        later = store.join_at(stamp(12))
+        self.assertEqual((later.id, later.last, store.nodes), (2, stamp(12), 3))
+
+
+class Snapshots(unittest.TestCase):
+    def test_a_snapshot_is_a_mapping(self):
+        store, node = filled([(b"city", b"Lyon"), (b"lake", b"")])
+        with store.snapshot() as snapshot:
+            store.accept(node.write(9, b"town", b"Ulm"))
+            self.assertEqual((snapshot[b"city"], snapshot[b"lake"]), (b"Lyon", b""))
+            with self.assertRaises(KeyError):
+                snapshot[b"town"]
+            self.assertEqual((snapshot.get(b"city"), snapshot.get(b"town"), snapshot.get(b"a", 7)), (b"Lyon", None, 7))
+            self.assertTrue(b"lake" in snapshot and b"town" not in snapshot)
+            self.assertTrue(b"" not in snapshot and bytes(256) not in snapshot)
+            self.assertEqual((len(snapshot), list(snapshot)), (2, [b"city", b"lake"]))
+            self.assertEqual(dict(snapshot), {b"city": b"Lyon", b"lake": b""})
+            self.assertEqual(snapshot.read_all([b"town", b"lake", b"city", b""]), [None, b"", b"Lyon", None])
+            self.assertEqual(snapshot.read_all([]), [])
+            self.assertEqual(repr(snapshot), "<Snapshot 1 at 2.0>")
+        self.assertEqual(len(store.snapshot()), 3)
+
+    def test_any_bytes_are_read(self):
+        store, node = filled([])
+        wide = memoryview(b"c_i_t_y_")[::2]
+        store.accept(node.write(1, wide, bytearray(b"Lyon")))
+        snapshot = store.snapshot()
+        for key in b"city", bytearray(b"city"), memoryview(b"city"), wide:
+            self.assertEqual((snapshot[key], snapshot.get(key), key in snapshot), (b"Lyon", b"Lyon", True))
+            self.assertIs(type(snapshot[key]), bytes)
+
+    def test_long_values(self):
+        lengths = [0, 1, 1023, 1024, 1025, 65534, 65535]
+        pairs = [(b"%05d" % length, bytes([length % 251]) * length) for length in lengths]
+        snapshot = filled(pairs)[0].snapshot()
+        self.assertEqual(list(snapshot.items()), pairs)
+        self.assertEqual([snapshot[key] for key, _ in pairs], [value for _, value in pairs])
+        many = [pairs[i % len(pairs)] for i in range(500)]
+        self.assertEqual(snapshot.read_all(key for key, _ in many), [value for _, value in many])
+
+    def test_ranges(self):
+        pairs = [(b"%03d" % i + b"\0\xff"[: i % 3], b"v" * (i * 7 % 300)) for i in range(1000)]
+        snapshot = filled(reversed(pairs))[0].snapshot()
+        for start, end in [(b"", b""), (b"5", b""), (b"", b"07"), (b"123", b"456\0"), (b"9", b"1"), (b"999\0", b"x")]:
+            part = [pair for pair in pairs if pair[0] >= start and (not end or pair[0] < end)]
+            self.assertEqual(list(snapshot.items(start, end)), part)
+            self.assertEqual(list(snapshot.keys(start=start, end=end)), [key for key, _ in part])
+            self.assertEqual(snapshot.count(start, end), len(part))
+            self.assertEqual(snapshot.digest(start, end), digest_of(part))
+        self.assertEqual((list(snapshot), len(snapshot)), ([key for key, _ in pairs], 1000))
+        items = snapshot.items()
+        self.assertEqual([next(items) for _ in range(10)], pairs[:10])
+        self.assertEqual(list(items), pairs[10:])
+        self.assertEqual(list(items), [])
+
+    def test_the_longest_pairs(self):
+        keys = [b"a", b"a\0", b"a\0\0", b"a\0\1", b"a\1", *[bytes([i]) * 255 for i in range(100, 105)]]
+        pairs = [(key, key[-1:] * 65535) for key in keys]
+        snapshot = filled(pairs)[0].snapshot()
+        self.assertEqual(list(snapshot.items()), pairs)
+        self.assertEqual(list(snapshot), keys)
+        self.assertEqual(snapshot.read_all(snapshot), [value for _, value in pairs])
+
+    def test_opening_and_closing(self):
+        store, node = filled([(b"a", b"x"), (b"a", b"y")])
+        old, new = store.snapshot(stamp(1)), store.snapshot(stamp=None)
+        self.assertEqual((old[b"a"], new[b"a"], old.stamp, new.stamp), (b"x", b"y", stamp(1), stamp(2)))
+        listed = store.snapshots()
+        self.assertEqual([(each.id, each.stamp) for each in listed], [(old.id, stamp(1)), (new.id, stamp(2))])
+        del listed
+        self.assertEqual(len(store.snapshots()), 2)
+        store.snapshots()[0].close()
+        self.assertEqual([each.id for each in store.snapshots()], [new.id])
+        old.close()
+        del new
+        self.assertEqual(store.snapshots(), [])
+        third = store.snapshot()
+        self.assertEqual(store.close_snapshot(third.id), stamp(2))
+        fourth = store.snapshot()
+        store.close_all()
+        for closed in old, third, fourth:
+            with self.assertRaises(hlcstore.NoSnapshot):
+                closed[b"a"]
+
+    def test_a_snapshot_keeps_its_store(self):
+        snapshot = filled([(b"a", b"x")])[0].snapshot()
+        items = snapshot.items()
+        self.assertEqual(snapshot[b"a"], b"x")
+        del snapshot
+        self.assertEqual(list(items), [(b"a", b"x")])
+
+
+class Vacuums(unittest.TestCase):
+    def setUp(self):
+        self.store, node = filled([(b"a", b"x"), (b"a", b"yy"), (b"b", b"z")])
+        self.store.accept(node.write(4, b"b", b"zz"))
+
+    def test_to_the_floor(self):
+        vacuum = self.store.vacuum()
+        self.assertEqual(vacuum, Vacuum(stamp=stamp(4), kept=2, cost=26, dropped=2))
+        self.assertEqual((self.store.horizon, self.store.rows), (stamp(4), 2))
+
+    def test_to_a_stamp(self):
+        self.store.check_vacuum(stamp(2))
+        self.assertEqual(self.store.vacuum_to(stamp(2)), (stamp(2), 1, 13, 1))
+        self.assertEqual((self.store.horizon, self.store.rows), (stamp(2), 3))
+
+    def test_certificates(self):
+        vacuum, certificate = self.store.vacuum_certified()
+        self.assertEqual(vacuum, (stamp(4), 2, 26, 2))
+        self.assertEqual(hlcstore.check(certificate), Checked(rows=2, cost=26))
+        self.assertEqual(hlcstore.check(bytearray(certificate)).rows, 2)
+        vacuum, again = self.store.vacuum_to_certified(stamp(4))
+        self.assertEqual((vacuum.dropped, again), (0, certificate))
+
+    def test_a_long_certificate(self):
+        store = filled([(b"key %d" % i, b"value") for i in range(3000)])[0]
+        vacuum, certificate = store.vacuum_certified()
+        self.assertEqual(hlcstore.check(certificate), (vacuum.kept, vacuum.cost))
+
+
+class Restarts(unittest.TestCase):
+    def test_a_replica_is_restored(self):
+        store, node = filled([(b"key %d" % (i % 100), b"value %d" % i) for i in range(1000)])
+        old, new = store.snapshot(stamp(500)), store.snapshot()
+        store.vacuum()
+        saved = store.checkpoint(word=77)
+        with Store.restore(saved) as copy:
+            self.assertEqual((copy.word, copy.floor, copy.rows, copy.nodes), (77, store.floor, store.rows, store.nodes))
+            self.assertEqual((copy.horizon, copy.link(0), copy.checkpoint(77)), (store.horizon, store.link(0), saved))
+            for mine, its in zip((old, new), copy.snapshots(), strict=True):
+                self.assertEqual((its.id, its.stamp, list(its.items())), (mine.id, mine.stamp, list(mine.items())))
+                self.assertEqual(its.digest(), mine.digest())
+            item = node.write(2000, b"key 7", b"later")
+            for each in store, copy:
+                each.accept(item)
+            self.assertEqual(copy.snapshot().digest(), store.snapshot().digest())
+        self.assertEqual((store.word, Store.restore(bytearray(store.checkpoint())).word), (0, 0))
+
+    def test_a_node_is_restored(self):
+        store, node = filled([(b"a", b"x")])
+        again = Node.restore(node.id, node.last, node.next)
+        store.accept(again.write(1, b"a", b"y"))
+        self.assertEqual(store.snapshot()[b"a"], b"y")
+
+
+class Arguments(unittest.TestCase):
+    def test_wrong_types(self):
+        store, node = Store(1), Node(0)
+        snapshot, item = store.snapshot(), node.report(1)
+        calls = [
+            (Store, "1"), (Store,), (Store, 1, 2), (Node, None), (Node.restore, 1, 2), (Item,), (hlcstore.Snapshot,),
+            (Item.write, 0, 0, 0, "a", b""), (Item.write, 0, 0, 0, b"a", 5), (Item.report, 0.5, 0, 0),
+            (node.write, 1, "a", b""), (node.write, 1, b"a", None), (node.write, 1, b"a"), (node.report, "1"),
+            (node.report,), (node.receive, 1), (node.raise_to, None), (store.accept, (0, 0, 1)), (store.accept, None),
+            (store.accept_all, 5), (store.accept_all, [item, None]), (store.accept_items, [1, 2]),
+            (store.accept_items, 8), (store.accept_write, 0, 0, 1, ["a"], b""), (store.snapshot, "floor"),
+            (store.close_snapshot, None), (store.restore, None), (store.checkpoint, b""), (store.link, None),
+            (snapshot.get, "a"), (snapshot.get,), (snapshot.get, b"a", 1, 2), (snapshot.items, 1),
+            (snapshot.read_all, b"ab"), (snapshot.read_all, None), (snapshot.digest, b"", "z"),
+            (snapshot.__getitem__, 1), (snapshot.__contains__, "a"), (hlcstore.check, "point 1.0"),
+        ]  # fmt: skip
+        for call, *args in calls:
+            with self.assertRaises(TypeError, msg=f"{call} {args}"):
+                call(*args)
+        self.assertEqual((store.rows, store.link(0).next, node.next), (0, 0, 1))
+
+    def test_numbers_that_do_not_fit(self):
+        store, node = Store(1), Node(0)
+        calls = [
+            (Store, 65536), (Store, -1), (Node, 65536), (Node, 0, 2**64), (Item.report, 65536, 0, 0),
+            (Item.report, 0, -1, 0), (node.report, 2**64), (node.send, -1), (store.snapshot, 2**64),
+            (store.link, 65536), (store.checkpoint, 2**64), (store.vacuum_to, -1), (hlcstore.error_text, -1),
+        ]  # fmt: skip
+        for call, *args in calls:
+            with self.assertRaises(OverflowError, msg=f"{call} {args}"):
+                call(*args)
+
+    def test_classes_are_final(self):
+        for kind in Store, Node, Item, hlcstore.Snapshot:
+            with self.assertRaises(TypeError):
+                type("Sub", (kind,), {})
+            with self.assertRaises(TypeError):
+                kind.accept = None
+
+    def test_the_version(self):
+        first, second, third = map(int, hlcstore.__version__.split("."))
+        self.assertEqual(hlcstore.version(), first * 10000 + second * 100 + third)
+        self.assertEqual(importlib.metadata.version("hlcstore"), hlcstore.__version__)
+
+    def test_the_example_of_the_module(self):
+        result = doctest.testmod(hlcstore)
+        self.assertEqual((result.failed, result.attempted > 0), (0, True))
+
+    def test_results_are_pickled(self):
+        for result in Vacuum(1, 2, 3, 4), Link(1, 2, True), Checked(1, 2):
+            self.assertEqual(pickle.loads(pickle.dumps(result)), result)
+
+
+if __name__ == "__main__":
+    unittest.main()

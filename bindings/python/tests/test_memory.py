@@ -1,0 +1,143 @@
+"""Memory and references: calls free and drop what they took, also where they are refused."""
+
+import gc
+import resource
+import sys
+import tracemalloc
+import unittest
+
+import hlcstore
+from hlcstore import Error, Item, Node, Store, stamp
+
+KEY, VALUE = b"a key of many", b"a value " * 300
+TOO_LONG = bytes(65536)
+
+
+def refuse(kind, call, *args):
+    """Makes a call that is refused."""
+    try:
+        call(*args)
+    except kind:
+        return
+    raise AssertionError(f"{call} was not refused")
+
+
+def feed(store, node):
+    """Makes each call that feeds a store."""
+    items = [node.write(1, KEY, VALUE), node.delete(2, KEY), node.report(3)]
+    items.append(node.write(4, bytearray(KEY), memoryview(VALUE)))
+    refuse(hlcstore.NotNext, store.accept_all, items[1:])
+    store.check_item(items[0])
+    store.accept(items[0])
+    store.accept_all(iter(items[1:3]))
+    store.accept_items(b"".join(map(bytes, items)))
+    store.accept_write(0, 4, stamp(5), KEY, VALUE)
+    store.check_delete(0, 5, stamp(6), KEY)
+    refuse(hlcstore.BadBytes, store.accept_items, b"\1")
+    refuse(TypeError, store.accept_all, [items[0], KEY])
+    refuse(TypeError, store.accept_write, 0, 5, stamp(6), KEY, "text")
+    refuse(hlcstore.ValueTooLong, node.write, 9, KEY, TOO_LONG)
+    refuse(hlcstore.ValueTooLong, bytes, Item.write(0, 0, 1, KEY, TOO_LONG))
+    hash(items[0]), repr(items), items[0] == items[3], items[0].kind, items[0].value
+    return items
+
+
+def read(snapshot):
+    """Makes each call of a snapshot."""
+    snapshot[KEY], snapshot.get(KEY), snapshot.get(b"other"), snapshot.get(b"other", VALUE), KEY in snapshot
+    refuse(KeyError, snapshot.__getitem__, b"other")
+    refuse(TypeError, snapshot.get, "text")
+    snapshot.read_all([KEY, b"other"] * 50)
+    refuse(TypeError, snapshot.read_all, [KEY, None])
+    list(snapshot.items()), list(snapshot.keys(KEY, b"z")), len(snapshot), snapshot.count(KEY), snapshot.digest(b"a")
+    next(snapshot.items())
+    refuse(TypeError, snapshot.items, KEY, 5)
+
+
+def keep(store):
+    """Makes the calls that vacuum, certify, save and restore."""
+    store.vacuum()
+    vacuum, certificate = store.vacuum_certified()
+    store.vacuum_to(vacuum.stamp)
+    store.vacuum_to_certified(vacuum.stamp)
+    refuse(hlcstore.AboveFloor, store.vacuum_to, 2**63)
+    hlcstore.check(certificate)
+    refuse(hlcstore.BadLine, hlcstore.check, b"point")
+    saved = store.checkpoint()
+    with Store.restore(saved) as copy:
+        copy.snapshots(), copy.link(0), copy.floor, copy.join(), copy.join_at(2**50), copy.floor_node()
+    refuse(Error, Store.restore, saved[:-1])
+
+
+def play():
+    """One round: every call, on a store of its own."""
+    node = Node(0)
+    Node.restore(node.id, node.last, node.next)
+    with Store(1) as store:
+        feed(store, node)
+        with store.snapshot() as snapshot:
+            read(snapshot)
+            keep(store)
+        refuse(hlcstore.NoSnapshot, list, snapshot)
+        store.snapshot().close()
+        other = store.snapshot()
+        store.close_snapshot(other.id)
+    Store(1)
+    refuse(hlcstore.NoNode, Store, 0)
+
+
+class Memory(unittest.TestCase):
+    def test_the_process_does_not_grow(self):
+        for _ in range(500):
+            play()
+        before = resource.getrusage(resource.RUSAGE_SELF).ru_maxrss
+        for _ in range(5000):
+            play()
+        grown = resource.getrusage(resource.RUSAGE_SELF).ru_maxrss - before
+        self.assertLess(grown, 1000, "KiB")
+
+    def test_no_object_stays(self):
+        """What Python allocates is counted. An object that stayed in each round would have 16 bytes or more. Some are
+        left in the lists of free objects, which Python keeps."""
+        tracemalloc.start()
+        for _ in range(200):
+            play()
+        gc.collect()
+        before, _ = tracemalloc.get_traced_memory()
+        for _ in range(2000):
+            play()
+        gc.collect()
+        after, _ = tracemalloc.get_traced_memory()
+        tracemalloc.stop()
+        self.assertLess(after - before, 8 * 2000, "bytes")
+
+    def test_references_are_dropped(self):
+        """Each object that a call is passed has as many references after it as before."""
+        store, node, default = Store(1), Node(0), object()
+        items = feed(store, node)
+        snapshot = store.snapshot()
+
+        def use():
+            read(snapshot)
+            snapshot.get(b"other", default)
+            iterators = snapshot.items(KEY, VALUE), iter(snapshot), store.snapshot(), store.snapshots()
+            del iterators
+            refuse(hlcstore.NotNext, store.accept, items[0])
+            refuse(hlcstore.NotNext, store.accept_all, items)
+            Node(1).write(1, KEY, VALUE), Item.delete(0, 1, 2, KEY), items[0].key, store.link(0).retired, node.retired
+            bytes(items[0]), repr(items[0]), hash(items[0])
+
+        watched = [KEY, VALUE, TOO_LONG, default, store, node, snapshot, items[0], Store, Node, Item, Error, None, True]
+        for _ in range(50):
+            use()
+        gc.collect()
+        before = [sys.getrefcount(each) for each in watched]
+        for _ in range(100):
+            use()
+        gc.collect()
+        for each, references in zip(watched, before):
+            self.assertLess(abs(sys.getrefcount(each) - references), 50, repr(each)[:50])
+
+
+if __name__ == "__main__":
+    unittest.main()

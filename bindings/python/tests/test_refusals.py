@@ -1,0 +1,207 @@
+"""Each exception of the package: what raises it, its code, its word and its text."""
+
+import hashlib
+import pickle
+import subprocess
+import sys
+import textwrap
+import unittest
+
+import hlcstore
+from hlcstore import Error, Item, Node, Store, stamp
+
+# Handles and buffers are the package's own, so it never meets these.
+WITHOUT_CLASS = {"HLC_OK", "HLC_IS_OPEN", "HLC_OUTSIDE", "HLC_MORE"}
+FULL = stamp(5, 65535)
+
+
+def fed():
+    """Returns a store with one item, at the stamp 2.0."""
+    store = Store(1)
+    store.accept(Item.write(0, 0, stamp(2), b"a", b"x"))
+    return store
+
+
+def vacuumed():
+    store = fed()
+    store.vacuum()
+    return store
+
+
+def closed():
+    with Store(1) as store:
+        return store
+
+
+def retired():
+    node = Node(0)
+    node.retire(1)
+    return node
+
+
+def certificate():
+    """Returns a certificate with a line too few."""
+    store = fed()
+    store.accept(Item.delete(0, 1, stamp(3), b"a"))
+    _, text = store.vacuum_to_certified(stamp(2))
+    return b"".join(text.splitlines(keepends=True)[:-1])
+
+
+def checkpoint_without_nodes():
+    """Returns a checkpoint of a store with no nodes at the start, which its digest fits."""
+    saved = bytearray(Store(1).checkpoint())
+    saved[20:22] = bytes(2)
+    saved[-32:] = hashlib.sha256(saved[:-32]).digest()
+    return saved
+
+
+# For each class, but NoMemory: a call that raises it, and its word.
+REFUSED = {
+    hlcstore.NoNode: (lambda: Store(0), 0),
+    hlcstore.ReadingTooLarge: (lambda: Node(0).report(2**48), 0),
+    hlcstore.CounterFull: (lambda: Node(0, FULL).report(5), FULL),
+    hlcstore.NotNext: (lambda: fed().accept_report(0, 5, stamp(3)), 1),
+    hlcstore.StampNotRising: (lambda: fed().accept_report(0, 1, stamp(1)), stamp(2)),
+    hlcstore.AboveFloor: (lambda: fed().snapshot(stamp(3)), stamp(2)),
+    hlcstore.BelowHorizon: (lambda: vacuumed().snapshot(stamp(1)), stamp(2)),
+    hlcstore.NoSnapshot: (lambda: Store(1).close_snapshot(1), 0),
+    hlcstore.TooManySnapshots: (lambda: [store.snapshot() for store in [Store(1)] for _ in range(1025)], 0),
+    hlcstore.BadKey: (lambda: Node(0).delete(1, bytes(256)), 0),
+    hlcstore.ValueTooLong: (lambda: bytes(Item.write(0, 0, 1, b"a", bytes(65536))), 0),
+    hlcstore.NumbersSpent: (lambda: Node.restore(0, 2**64 - 1, 2**64 - 1).report(1), 0),
+    hlcstore.BadLine: (lambda: hlcstore.check(b"point 1.0\npoint"), 2),
+    hlcstore.TooLong: (lambda: hlcstore.check(bytes(2**24 + 1)), 0),
+    hlcstore.NotShown: (lambda: hlcstore.check(certificate()), 7),
+    hlcstore.TooManyNodes: (lambda: [store.join() for store in [Store(1)] for _ in range(1024)], 0),
+    hlcstore.Retired: (lambda: retired().send(5), 0),
+    hlcstore.Closed: (lambda: closed().rows, 0),
+    hlcstore.NoValue: (lambda: fed().snapshot()[b"b"], 0),
+    hlcstore.NoSuchNode: (lambda: Node.restore(7, 2, 3), 0),
+    hlcstore.BadBytes: (lambda: Store.restore(bytes(60)), 2),
+    hlcstore.NoCheckpoint: (lambda: Store.restore(checkpoint_without_nodes()), 1),
+}
+
+
+def class_name(name):
+    """The name of the class of an answer: that of HLC_NO_NODE is NoNode."""
+    return "".join(word.capitalize() for word in name.split("_")[1:])
+
+
+class Refusals(unittest.TestCase):
+    def test_each_is_raised(self):
+        for kind, (call, word) in REFUSED.items():
+            with self.subTest(kind.__name__), self.assertRaises(Error) as met:
+                call()
+            refused, text = met.exception, hlcstore.error_text(kind.code)
+            self.assertIs(type(refused), kind)
+            self.assertEqual((refused.word, refused.accepted, refused.used), (word, 0, 0), kind)
+            self.assertEqual(str(refused), f"{text} ({word})" if word else text)
+            copy = pickle.loads(pickle.dumps(refused))
+            self.assertEqual((type(copy), copy.word, str(copy)), (kind, word, str(refused)))
+
+    def test_each_number_has_a_class(self):
+        names = {code: hlcstore.error_name(code) for code in range(1000)}
+        named = {code: name for code, name in names.items() if name and name not in WITHOUT_CLASS}
+        classes = {kind.code: kind.__name__ for kind in Error.__subclasses__()}
+        self.assertEqual(classes, {code: class_name(name) for code, name in named.items()})
+        self.assertEqual(set(REFUSED) | {hlcstore.NoMemory}, set(Error.__subclasses__()))
+        self.assertLessEqual(set(classes.values()), set(hlcstore.__all__))
+
+    def test_other_numbers_have_no_text(self):
+        for code in 4, 999, 2**32 - 1, 2**40:
+            self.assertEqual((hlcstore.error_name(code), hlcstore.error_text(code)), ("", ""))
+
+    def test_classes_of_python_catch_two(self):
+        self.assertTrue(issubclass(hlcstore.NoValue, KeyError) and issubclass(hlcstore.NoMemory, MemoryError))
+        self.assertEqual(str(hlcstore.NoMemory()), hlcstore.error_text(15))
+
+    def test_a_refused_item_changes_nothing(self):
+        node = Node(0)
+        for call in (lambda: node.write(1, b"", b""), lambda: node.report(2**48), lambda: node.send(2**63)):
+            with self.assertRaises(Error):
+                call()
+        self.assertEqual((node.last, node.next), (0, 0))
+
+    def test_out_of_memory(self):
+        """In a process whose memory has a limit, writes are refused at last, and are accepted again without it."""
+        program = """
+            import resource
+            import hlcstore
+
+            node, store, value = hlcstore.Node(0), hlcstore.Store(1), bytes(65535)
+            pages = int(open("/proc/self/statm").read().split()[0])
+            limit = pages * resource.getpagesize() + 2**26
+            resource.setrlimit(resource.RLIMIT_AS, (limit, resource.RLIM_INFINITY))
+            items = [node.write(1, b"key", value) for _ in range(3000)]
+            accepted = 0
+            try:
+                while accepted < len(items):
+                    store.accept(items[accepted])
+                    accepted += 1
+            except hlcstore.NoMemory as refused:
+                code = refused.code
+            resource.setrlimit(resource.RLIMIT_AS, (resource.RLIM_INFINITY, resource.RLIM_INFINITY))
+            assert code == 15 and 0 < accepted < len(items)
+            assert store.link(0).next == store.rows == accepted
+            assert store.accept_all(items[accepted:]) == len(items) - accepted
+            assert store.snapshot()[b"key"] == value
+            print("all right")
+        """
+        done = subprocess.run([sys.executable, "-c", textwrap.dedent(program)], capture_output=True, text=True)
+        self.assertEqual((done.stdout, done.stderr), ("all right\n", ""))
+
+
+class AfterClose(unittest.TestCase):
+    def test_a_closed_store_refuses(self):
+        store, item = Store(1), Item.report(0, 0, 1)
+        store.close()
+        store.close()
+        calls = [
+            (store.accept, item), (store.accept_write, 0, 0, 1, b"a", b""), (store.accept_delete, 0, 0, 1, b"a"),
+            (store.accept_report, 0, 0, 1), (store.accept_retire, 0, 0, 1), (store.accept_all, [item]),
+            (store.accept_all, []), (store.accept_items, bytes(item)), (store.check_item, item),
+            (store.check_write, 0, 0, 1, b"a", b""), (store.check_delete, 0, 0, 1, b"a"), (store.check_report, 0, 0, 1),
+            (store.join,), (store.join_at, 5), (store.link, 0), (store.floor_node,), (store.snapshot,),
+            (store.snapshot, 0), (store.snapshots,), (store.close_snapshot, 1), (store.close_all,), (store.vacuum,),
+            (store.vacuum_certified,), (store.vacuum_to, 0), (store.vacuum_to_certified, 0), (store.check_vacuum, 0),
+            (store.checkpoint,), *[(getattr, store, name) for name in ("floor", "horizon", "rows", "nodes")],
+        ]  # fmt: skip
+        for call, *args in calls:
+            with self.assertRaises(hlcstore.Closed, msg=f"{call} {args}"):
+                call(*args)
+        self.assertEqual(store.word, 0)
+
+    def assert_refused(self, snapshot, items, kind):
+        calls = [
+            (snapshot.get, b"a"), (snapshot.__getitem__, b"a"), (snapshot.__contains__, b"a"), (len, snapshot),
+            (list, snapshot), (list, snapshot.keys()), (list, snapshot.items()), (snapshot.count,),
+            (snapshot.digest,), (snapshot.read_all, [b"a"]), (snapshot.read_all, []), (next, items), (next, items),
+        ]  # fmt: skip
+        for call, *args in calls:
+            with self.assertRaises(kind, msg=f"{call} {args}"):
+                call(*args)
+
+    def test_a_closed_snapshot_refuses(self):
+        store = fed()
+        with store.snapshot() as snapshot:
+            items = snapshot.items()
+        snapshot.close()
+        self.assert_refused(snapshot, items, hlcstore.NoSnapshot)
+        self.assertEqual((snapshot.id, snapshot.stamp), (1, stamp(2)))
+
+    def test_a_snapshot_of_a_closed_store_refuses(self):
+        with fed() as store:
+            snapshot = store.snapshot()
+            items = snapshot.items()
+        self.assert_refused(snapshot, items, hlcstore.Closed)
+        snapshot.close()
+
+    def test_a_block_that_raises_closes(self):
+        with self.assertRaises(ZeroDivisionError), fed() as store, store.snapshot():
+            raise ZeroDivisionError
+        with self.assertRaises(hlcstore.Closed):
+            store.snapshots()
+
+
+if __name__ == "__main__":
+    unittest.main()

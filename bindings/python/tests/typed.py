@@ -1,0 +1,36 @@
+"""What a type checker must accept, and infer."""
+
+from collections.abc import Iterator
+from typing import assert_type
+
+import hlcstore
+from hlcstore import AboveFloor, Checked, Item, Link, Node, NotNext, Snapshot, Store, Vacuum, check, split, stamp
+
+node = Node(0)
+item = assert_type(node.write(1, b"a", bytearray(b"x")), Item)
+with Store(1) as store:
+    store.accept(item)
+    assert_type(store.accept_all([item, node.report(2)]), int)
+    assert_type(store.accept_items(memoryview(bytes(item))), int)
+    assert_type(store.join_at(stamp(5)), Node)
+    assert_type(store.link(0), Link)
+    assert_type(store.snapshots(), list[Snapshot])
+    try:
+        with store.snapshot() as snapshot:
+            assert_type(snapshot[b"a"], bytes)
+            assert_type(snapshot.get(b"b"), bytes | None)
+            assert_type(snapshot.get(b"b", 7), bytes | int)
+            assert_type(snapshot.items(start=b"a"), Iterator[tuple[bytes, bytes]])
+            assert_type(list(snapshot), list[bytes])
+            assert_type(snapshot.read_all([b"a"]), list[bytes | None])
+            assert_type(b"a" in snapshot, bool)
+            assert_type(split(snapshot.stamp), tuple[int, int])
+    except AboveFloor as refused:
+        assert_type(refused.word, int)
+    except NotNext as refused_item:
+        assert_type(refused_item.accepted, int)
+    vacuum, certificate = store.vacuum_certified()
+    assert_type(vacuum, Vacuum)
+    assert_type(check(certificate), Checked)
+    assert_type(Store.restore(store.checkpoint(word=3)), Store)
+assert_type(hlcstore.__version__, str)
