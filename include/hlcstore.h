@@ -17,7 +17,7 @@
  * caller's and are not used after the call.
  *
  * What the caller must ensure, and nothing checks:
- *   - a store is HLC_CLOSED_STORE at first, and only these functions change it;
+ *   - a store is HLC_CLOSED_STORE at first, a restore HLC_NO_RESTORING, and only these functions change them;
  *   - one call at a time with a store: where several threads call, a lock orders their calls. No call comes from a
  *     signal handler. Calls with different stores and nodes may run concurrently;
  *   - calls that only read a store (those that may run beside "reads" in the table) may run concurrently, as under the
@@ -67,6 +67,10 @@
  *   hlc_items_accept                    106 1 27 6 14 7 15                yes     other stores
  *   hlc_checkpoint                      15                                yes     reads
  *   hlc_restore                         101 106 107 15                    yes     other stores
+ *   hlc_restore_start                   101 15                            yes     other restores
+ *   hlc_restore_feed                    100 15                            yes     other restores
+ *   hlc_restore_finish                  100 101 106 107 15                yes     other stores and restores
+ *   hlc_restore_drop                                                              other restores
  *   hlc_node_open, _raise                                                         other nodes
  *   hlc_node_restore                    105                                       other nodes
  *   hlc_node_write, _delete             27 12 13 14 2 3                           other nodes
@@ -123,8 +127,8 @@ enum {
     HLC_NOT_SHOWN = 22,         /* of hlc_check; word: the number of the first reason of docs/formats.md, 1 to 8 */
     HLC_TOO_MANY_NODES = 26,    /* 1,024 node numbers are assigned */
     HLC_RETIRED = 27,           /* the node retired */
-    HLC_CLOSED = 100,           /* the store is closed */
-    HLC_IS_OPEN = 101,          /* of hlc_open: the store is open, and is unchanged */
+    HLC_CLOSED = 100,           /* the store is closed; of hlc_restore_feed, _finish: no restore is under way */
+    HLC_IS_OPEN = 101,          /* of hlc_open, hlc_restore: the store is open, and is unchanged */
     HLC_NO_VALUE = 102,         /* of hlc_read: the key has no value in the snapshot */
     HLC_OUTSIDE = 103,          /* of hlc_accept_all, hlc_read_all: a key or a value lies outside the bytes */
     HLC_MORE = 104,             /* of hlc_scan, hlc_scan_keys, hlc_read_all: a part is left, which did not fit */
@@ -333,6 +337,30 @@ uint32_t hlc_checkpoint(hlc_store *store, uint64_t word, uint8_t *out, size_t ou
  * have: the same next items, open snapshots, horizon and answers. word: the word that was saved, or the refusal's.
  * Refusals: 101, 106, 107, 15. Bytes that hlc_checkpoint returned are refused with 101 and 15 alone. */
 uint32_t hlc_restore(hlc_store *store, const uint8_t *bytes, size_t bytes_len, uint64_t *word);
+
+/* A restore from pieces of any size, so that the bytes of a checkpoint need not be in memory at once. Its fields are
+ * the library's. */
+typedef struct {
+    void *at;
+    bool live;
+} hlc_restoring;
+
+#define HLC_NO_RESTORING { 0, false }
+
+/* Starts a restore. Refusals: 101 where one is under way, 15. */
+uint32_t hlc_restore_start(hlc_restoring *restoring);
+
+/* Adds the next bytes. Refusals: 100 where no restore is under way; 15, and nothing was added. No fault of the bytes is
+ * found before hlc_restore_finish. */
+uint32_t hlc_restore_feed(hlc_restoring *restoring, const uint8_t *bytes, size_t bytes_len);
+
+/* Opens a closed store from all bytes that were added, as hlc_restore does, and ends the restore. word: as in
+ * hlc_restore. Refusals: 100 where no restore is under way; 101 where the store is open, and the restore goes on; 106,
+ * 107 and 15, after which the restore has ended. */
+uint32_t hlc_restore_finish(hlc_restoring *restoring, hlc_store *store, uint64_t *word);
+
+/* Ends a restore without a store, and frees what it has. A restore that is not ended leaks its memory. */
+void hlc_restore_drop(hlc_restoring *restoring);
 
 /* ---- What a store has ---- No memory in any call. */
 

@@ -131,11 +131,27 @@ def compare(pick, store, writes, snapshots, keys, nodes):
         look(pick, store, id, sorted(pair for pair in newest.items() if pair[1] is not None), keys)
 
 
+def restore_in_pieces(pick, store, saved):
+    """Restores a store from pieces by lot, and returns the answer and the word."""
+    restoring = Handle()
+    ok("restore_start", restoring)
+    while saved:
+        size = pick.randint(0, 200)
+        ok("restore_feed", restoring, saved[:size])
+        saved = saved[size:]
+    returned = library.call("restore_finish", restoring, store)
+    library.call("restore_drop", restoring)
+    return returned
+
+
 def refuse(pick, saved, log, nodes):
-    """Checks that changed and cut bytes are refused."""
+    """Checks that changed and cut bytes are refused, by a restore in pieces too."""
     changed = bytearray(saved)
     changed[pick.randrange(len(changed))] ^= 1 << pick.randrange(8)
-    assert library.call("restore", Handle(), bytes(changed))[0] == BAD_BYTES
+    refused = library.call("restore", Handle(), bytes(changed))
+    assert refused[0] == BAD_BYTES and restore_in_pieces(pick, Handle(), bytes(changed)) == refused
+    cut = saved[: pick.randrange(len(saved))]
+    assert restore_in_pieces(pick, Handle(), cut) == library.call("restore", Handle(), cut)
     for end in range(0, len(log), len(log) // 20 + 1):
         other = opened(nodes)
         code, used, _, word = library.call("items_accept", other, log[:end])
@@ -152,6 +168,8 @@ def play(pick):
     saved = whole("checkpoint", store, 5)
     assert ok("items_accept", store, log)[0] == len(log) and whole("checkpoint", store, 5) == saved
     assert ok("restore", copy, saved) == 5 and whole("checkpoint", copy, 5) == saved
+    library.call("close", copy)
+    assert tuple(restore_in_pieces(pick, copy, saved)) == (OK, 5) and whole("checkpoint", copy, 5) == saved
     for each in store, copy:
         compare(pick, each, writes, snapshots, keys, many)
     refuse(pick, saved, log, many)

@@ -20,7 +20,7 @@ SIZES = {"uint8_t": 1, "hlc_entry": ENTRY.size, "hlc_place": PLACE.size}
 
 
 class Handle(c.Structure):
-    """A store, closed at first."""
+    """A store, closed at first; or a restore, not started."""
 
     _fields_ = [("at", c.c_void_p), ("live", c.c_bool)]
 
@@ -29,7 +29,7 @@ class RawNode(c.Structure):
     _fields_ = [("id", c.c_uint16), ("last", c.c_uint64), ("next", c.c_uint64), ("retired", c.c_bool)]
 
 
-STRUCTURES = {"hlc_store": Handle, "hlc_node": RawNode}
+STRUCTURES = {"hlc_store": Handle, "hlc_restoring": Handle, "hlc_node": RawNode}
 
 
 class Number:

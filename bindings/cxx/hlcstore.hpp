@@ -548,6 +548,21 @@ inline shown check_certificate(std::string_view text) {
   return found;
 }
 
+// A restore from the bytes of a checkpoint in pieces of any size. `store::restore` ends it.
+class restoring {
+ public:
+  restoring() { detail::check(hlc_restore_start(&raw_)); }
+  restoring(const restoring&) = delete;
+  restoring& operator=(const restoring&) = delete;
+  ~restoring() { hlc_restore_drop(&raw_); }
+
+  void feed(std::string_view piece) { detail::check(hlc_restore_feed(&raw_, detail::bytes(piece), piece.size())); }
+
+ private:
+  friend class store;
+  hlc_restoring raw_ = HLC_NO_RESTORING;
+};
+
 // A store, which closes itself. A closed one refuses each call with HLC_CLOSED, except open and restore.
 class store {
  public:
@@ -574,6 +589,14 @@ class store {
     const auto opened = handle_or_new();
     const std::uint64_t word =
         detail::word_of(hlc_restore, opened.get(), detail::bytes(checkpoint), checkpoint.size());
+    handle_ = opened;
+    return word;
+  }
+
+  // Opens a closed store from all pieces that were fed, in the same way.
+  std::uint64_t restore(restoring& pieces) {
+    const auto opened = handle_or_new();
+    const std::uint64_t word = detail::word_of(hlc_restore_finish, &pieces.raw_, opened.get());
     handle_ = opened;
     return word;
   }

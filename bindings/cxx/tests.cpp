@@ -120,6 +120,13 @@ void ownership() {
   EXPECT(moved.snapshots().size() == 1 && moved.snapshots()[0].id == early.id());
   EXPECT(refusal_of([&] { moved.open(1); }) == HLC_IS_OPEN);
   EXPECT(refusal_of([&] { moved.restore(moved.checkpoint(0)); }) == HLC_IS_OPEN);
+  hlcstore::restoring pieces;
+  const string saved = moved.checkpoint(7);
+  for (std::size_t at = 0; at < saved.size(); at += 10) pieces.feed(string(saved, at, 10));
+  EXPECT(refusal_of([&] { moved.restore(pieces); }) == HLC_IS_OPEN);
+  store copy;
+  EXPECT(copy.restore(pieces) == 7 && copy.checkpoint(7) == saved);
+  EXPECT(refusal_of([&] { pieces.feed("more"); }) == HLC_CLOSED);
   early = moved.open_snapshot();
   EXPECT(moved.snapshots().size() == 1 && early.get("a") == "y");
   early.close();

@@ -54,6 +54,26 @@ static void feed(hlc_store *store)
     expect("all, no bytes", code, many + word, HLC_OUTSIDE, 0);
 }
 
+/* A restore from no pieces, from one without bytes, and what is refused where none is under way. */
+static void restore_no_pieces(hlc_store *copy)
+{
+    hlc_restoring restoring = HLC_NO_RESTORING;
+    uint64_t word;
+    uint32_t code = hlc_restore_feed(&restoring, NONE);
+    expect("no restore", code, 0, HLC_CLOSED, 0);
+    code = hlc_restore_finish(&restoring, copy, &word);
+    expect("no restore", code, word, HLC_CLOSED, 0);
+    code = hlc_restore_start(&restoring);
+    expect("start", code, 0, HLC_OK, 0);
+    code = hlc_restore_start(&restoring);
+    expect("start twice", code, 0, HLC_IS_OPEN, 0);
+    code = hlc_restore_feed(&restoring, NONE);
+    expect("feed, no bytes", code, 0, HLC_OK, 0);
+    code = hlc_restore_finish(&restoring, copy, &word);
+    expect("finish, no bytes", code, word, HLC_BAD_BYTES, 1);
+    hlc_restore_drop(&restoring);
+}
+
 /* Key a has a value of no bytes at 1.0, and key b one of three bytes at 2.0. A pair of a listing is two lengths of
  * eight bytes each, the key and the value. The certificate is "point 1.0", "row a 1.0 0 value %" and
  * "witness a none 1.0". */
@@ -96,6 +116,7 @@ static void read_back(hlc_store *store)
     expect("checkpoint, no room", code, len, HLC_OK, 164);
     code = hlc_restore(&copy, NONE, &word);
     expect("restore, no bytes", code, word, HLC_BAD_BYTES, 1);
+    restore_no_pieces(&copy);
 }
 
 int main(void)

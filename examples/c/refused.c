@@ -6,7 +6,8 @@
 
 #define BYTES(s) (const uint8_t *)(s), sizeof(s) - 1
 #define AT(l) ((uint64_t)(l) << 16)
-#define STEPS 17
+#define STEPS 18
+#define PIECE 50
 
 static long left = -1;
 static int wrong;
@@ -42,6 +43,23 @@ static uint32_t restore(const uint8_t *bytes, size_t len)
     return code;
 }
 
+/* The same from pieces. */
+static uint32_t restore_in_pieces(const uint8_t *bytes, size_t len)
+{
+    hlc_restoring restoring = HLC_NO_RESTORING;
+    hlc_store copy = HLC_CLOSED_STORE;
+    uint64_t word;
+    uint32_t code = hlc_restore_start(&restoring);
+    for (size_t at = 0; code == HLC_OK && at < len; at += PIECE) {
+        code = hlc_restore_feed(&restoring, bytes + at, len - at < PIECE ? len - at : PIECE);
+    }
+    if (code == HLC_OK) code = hlc_restore_finish(&restoring, &copy, &word);
+    if (code == HLC_OK && word != 7) wrong++;
+    hlc_restore_drop(&restoring);
+    hlc_close(&copy);
+    return code;
+}
+
 static uint32_t call(int step, hlc_store *store)
 {
     static uint8_t out[1024], saved[1024];
@@ -66,7 +84,8 @@ static uint32_t call(int step, hlc_store *store)
     case 13: return hlc_vacuum(store, &v, &w, &x, &y);
     case 14: return hlc_vacuum_certified(store, &v, &w, &x, &y, out, sizeof out, &len);
     case 15: return hlc_checkpoint(store, 7, saved, sizeof saved, &saved_len);
-    default: return restore(saved, saved_len);
+    case 16: return restore(saved, saved_len);
+    default: return restore_in_pieces(saved, saved_len);
     }
 }
 

@@ -273,6 +273,18 @@ class Restarts(unittest.TestCase):
             self.assertEqual(copy.snapshot().digest(), store.snapshot().digest())
         self.assertEqual((store.word, Store.restore(bytearray(store.checkpoint())).word), (0, 0))
 
+    def test_a_replica_is_restored_from_pieces(self):
+        store, _ = filled([(b"key %d" % i, b"value") for i in range(100)])
+        saved = store.checkpoint(word=7)
+        with Store.restore(saved[at : at + 99] for at in range(0, len(saved), 99)) as copy:
+            self.assertEqual((copy.word, copy.checkpoint(7)), (7, saved))
+        with self.assertRaises(hlcstore.BadBytes):
+            Store.restore([saved[:-1]])
+        with self.assertRaises(TypeError):
+            Store.restore([saved, None])
+        with self.assertRaises(ZeroDivisionError):
+            Store.restore(bytes(1 // i) for i in (1, 0))
+
     def test_a_node_is_restored(self):
         store, node = filled([(b"a", b"x")])
         again = Node.restore(node.id, node.last, node.next)

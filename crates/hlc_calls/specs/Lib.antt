@@ -8,7 +8,6 @@ pub mod Scan
 pub mod Status
 pub mod Saved
 pub mod Log
-pub mod Texts
 pub mod ReadAll
 pub mod Digest
 pub mod Check

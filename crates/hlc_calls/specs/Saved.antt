@@ -8,7 +8,8 @@ use Rattle.hlc_checkpoint.specs.declared.checkpoint.RestoreFault.{RestoreFault}
 use Rattle.hlc_core.specs.StoreView.{StoreView}
 use Rattle.hlc_saved.specs.Saved.{AreOf, SpellNone}
 use Rattle.hlc_saved.specs.Reading.{saved}
-use Rattle.hlc_saved.specs.declared.fault.ResumeError.TheVariants.{Parts}
+use Rattle.hlc_saved.specs.declared.fault.ResumeError.{ResumeError}
+use Rattle.hlc_saved.specs.declared.fault.ResumeError.TheVariants.{NoMemory, Bytes, Parts}
 use Rattle.hlc_calls.specs.Answers.{IsCopied}
 
 -- bytes of this kind are returned: how many there are, and the bytes, if they fit
@@ -27,3 +28,14 @@ IsNotMade bytes code word =
     ((code ≡ 15) × (word ≡ 0))
     ⊎ (((fault : WireFault) × (saved bytes ≡ Err fault) × (code ≡ 106) × (word ≡ fault_code fault))
     ⊎ ((fault : RestoreFault) × SpellNone bytes (Parts fault) × (code ≡ 107) × (word ≡ reason_code fault)))
+
+-- the answer for an error, and its word
+abbrev pub resume_code : ResumeError → ℕ
+resume_code NoMemory = 15
+resume_code (Bytes fault) = 106
+resume_code (Parts fault) = 107
+
+abbrev pub resume_word : ResumeError → ℕ
+resume_word NoMemory = 0
+resume_word (Bytes fault) = fault_code fault
+resume_word (Parts fault) = reason_code fault

@@ -16,6 +16,5 @@ pub mod read_all;
 pub mod saved;
 pub mod scan;
 pub mod status;
-pub mod texts;
 
 pub use hlc_core::Stamp;

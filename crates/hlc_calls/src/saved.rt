@@ -1,13 +1,13 @@
 //! A store to bytes and back.
-ghost use Rattle.std.specs.Prelude.{◌≡◌, ◌≢◌, List, ℕ, MatchResult};
+ghost use Rattle.std.specs.Prelude.{◌≡◌, ◌≢◌, List, ℕ, MatchResult, Ok, Err};
 ghost use Rattle.hlc_core.specs.Past.{Step};
 ghost use Rattle.hlc_core.specs.StoreView.{Represents};
 ghost use Rattle.hlc_saved.specs.Saved.{AreOfStore, BytesRepresent};
-ghost use Rattle.hlc_calls.specs.Saved.{ReturnsBytes, IsMade, IsNotMade};
+ghost use Rattle.hlc_calls.specs.Saved.{ReturnsBytes, IsMade, IsNotMade, resume_code, resume_word};
 
 use crate::open_store::fill;
 use hlc_core::Core;
-use hlc_saved::{ResumeError, resume, save};
+use hlc_saved::{ResumeError, Resumed, resume, save};
 use std::alloc::Global;
 
 /// Saves a store with a word of the caller's. Returns 0, the length of the bytes and, where they fit, the bytes; or 15.
@@ -37,8 +37,17 @@ pub fn restore(alloc: Global, bytes: &[u8], word: &mut u64) -> Result<Core, u32>
         → MatchResult result (λ core. (word.new ≡ saved) × Represents core past)
         (λ code. code ≡ 15) }
 {
+    answered(resume(alloc, bytes), word)
+}
+
+/// Returns a store that was made from bytes, and writes its word; or returns 15; or 106 and the number of the fault of
+/// the bytes, or 107 and the number of the reason.
+pub fn answered(resumed: Result<Resumed, ResumeError>, word: &mut u64) -> Result<Core, u32>
+    ensures { MatchResult resumed (λ made. (result ≡ Ok made.core) × (word.new ≡ made.word))
+        (λ error. (result ≡ Err (resume_code error)) × (word.new ≡ resume_word error)) }
+{
     *word = 0;
-    match resume(alloc, bytes) {
+    match resumed {
         Ok(made) => {
             *word = made.word;
             Ok(made.core)

@@ -1,5 +1,5 @@
 //! The calls that save a store as bytes, and make one of bytes.
-ghost use Rattle.std.specs.Prelude.{◌≡◌, ◌≢◌, List, ℕ};
+ghost use Rattle.std.specs.Prelude.{◌≡◌, ◌≢◌, List, ℕ, None, MatchOption, MatchResult};
 ghost use Rattle.hlc_core.specs.Past.{Step};
 ghost use Rattle.hlc_core.specs.StoreView.{Represents};
 ghost use Rattle.hlc_saved.specs.Saved.{AreOfStore, BytesRepresent};
@@ -8,6 +8,7 @@ ghost use Rattle.hlc_ffi.specs.Handle.{IsRestoring, RestoresPast, OnReader};
 
 use crate::handle::of_core;
 use hlc_calls::saved;
+use hlc_core::Core;
 use hlc_handle::{Reader, Store};
 use std::alloc::Global;
 
@@ -50,7 +51,23 @@ pub extern "C" fn hlc_restore(alloc: Global, store: &mut Store, bytes: &[u8], wo
         store.put(handle);
         return 101;
     }
-    let core = match saved::restore(alloc, bytes, word) {
+    let made = saved::restore(alloc, bytes, word);
+    opened(alloc, store, made, word)
+}
+
+/// Puts a store that was made into a closed handle. Returns 0; or the answer why none was made; or 15.
+pub(crate) fn opened(
+    alloc: Global,
+    store: &mut Store,
+    made: Result<Core, u32>,
+    word: &mut u64,
+) -> u32
+    requires { store.old.room.value ≡ None }
+    ensures { MatchResult made (λ core. MatchOption store.new.room.value ((result ≡ 15) × (word.new ≡ 0))
+        (λ kept. (result ≡ 0) × (word.new ≡ word.old) × (kept ≡ core)))
+        (λ code. (result ≡ code) × (word.new ≡ word.old) × (store.new.room.value ≡ None)) }
+{
+    let core = match made {
         Ok(core) => core,
         Err(code) => return code,
     };

@@ -1,10 +1,10 @@
 //! The version of the library, and its answers in words.
 ghost use Rattle.std.specs.Prelude.{◌≡◌, length};
 ghost use Rattle.hlc_calls.specs.Answers.{IsCopied};
-ghost use Rattle.hlc_calls.specs.Texts.{answer_name, answer_text};
+ghost use Rattle.hlc_answers.specs.Texts.{answer_name, answer_text};
 
+use hlc_answers::{name, text};
 use hlc_calls::open_store::fill;
-use hlc_calls::texts::{name, text};
 
 /// The version, as 10,000 times the first number, 100 times the second, and the third.
 const VERSION: u32 = 100;

@@ -1,12 +1,14 @@
 //! A store that C owns through a handle: a pointer and a flag. Zero bytes are a closed handle. A copy of the handle
-//! reads the store, beside other copies.
+//! reads the store, beside other copies. A restore that is under way has such a handle too.
 #![tactic(auto)]
 
 mod loose;
 mod reader;
+mod restoring;
 mod store;
 
 pub use reader::{LentCore, LentRoom, Reader};
+pub use restoring::{RestoreRoom, Restoring};
 pub use store::{Room, Store};
 
 /// The type that C sees at the pointer.

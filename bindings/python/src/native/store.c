@@ -65,9 +65,46 @@ static PyObject *store_new(PyTypeObject *type, PyObject *args, PyObject *words)
     return refuse(code, 0);
 }
 
+/* Feeds all pieces of an iterable. Returns the answer, or -1 with an exception. */
+static int feed_pieces(hlc_restoring *restoring, PyObject *pieces)
+{
+    PyObject *iterator = PyObject_GetIter(pieces), *piece;
+    int code = HLC_OK;
+    if (!iterator) return -1;
+    while (code == HLC_OK && (piece = PyIter_Next(iterator))) {
+        Bytes bytes;
+        code = take_bytes(piece, &bytes) ? (int)hlc_restore_feed(restoring, bytes.at, bytes.len) : -1;
+        if (code >= 0) drop_bytes(&bytes);
+        Py_DECREF(piece);
+    }
+    Py_DECREF(iterator);
+    return code == HLC_OK && PyErr_Occurred() ? -1 : code;
+}
+
+static PyObject *restore_pieces(PyObject *type, PyObject *pieces)
+{
+    Store *store = closed_store((PyTypeObject *)type);
+    hlc_restoring restoring = HLC_NO_RESTORING;
+    uint64_t word = 0;
+    if (!store) return NULL;
+    int code = (int)hlc_restore_start(&restoring);
+    if (code == HLC_OK) code = feed_pieces(&restoring, pieces);
+    if (code == HLC_OK) {
+        PyThreadState *thread = lock_to_change(store, LONG);
+        code = (int)hlc_restore_finish(&restoring, &store->handle, &word);
+        unlock(store, thread);
+        store->word = word;
+    }
+    hlc_restore_drop(&restoring);
+    if (code == HLC_OK) return (PyObject *)store;
+    Py_DECREF((PyObject *)store);
+    return code < 0 ? NULL : refuse((uint32_t)code, word);
+}
+
 static PyObject *store_restore(PyObject *type, PyObject *from)
 {
     Bytes saved;
+    if (!PyObject_CheckBuffer(from)) return restore_pieces(type, from);
     if (!take_bytes(from, &saved)) return NULL;
     Store *store = closed_store((PyTypeObject *)type);
     uint64_t word = 0;
@@ -380,7 +417,8 @@ static PyObject *store_checkpoint(PyObject *self, PyObject *args, PyObject *word
 static PyMethodDef store_methods[] = {
     { "restore", store_restore, METH_O | METH_CLASS,
       "restore($type, saved, /)\n--\n\n"
-      "Return a store made of the bytes of a checkpoint, whose word is its attribute word.\n\n"
+      "Return a store made of the bytes of a checkpoint, or of an iterable of pieces of them. The word that was saved\n"
+      "is its attribute word.\n\n"
       "It continues as the saved store would have: the same next items, open snapshots and answers." },
     { "close", store_close, METH_NOARGS, "close($self, /)\n--\n\nClose the store and free its memory." },
     { "__enter__", store_enter, METH_NOARGS, "__enter__($self, /)\n--\n\nReturn the store." },

@@ -69,6 +69,13 @@ pub struct hlc_place {
     pub len: usize,
 }
 
+#[repr(C)]
+#[derive(Clone, Copy, Debug, PartialEq, Eq)]
+pub struct hlc_restoring {
+    pub at: *mut c_void,
+    pub live: bool,
+}
+
 unsafe extern "C" {
     pub safe fn hlc_version() -> u32;
     pub fn hlc_error_name(answer: u32, out: *mut u8, out_len: usize, len: *mut usize);
@@ -273,6 +280,10 @@ unsafe extern "C" {
     ) -> u32;
     pub fn hlc_checkpoint(store: *mut hlc_store, word: u64, out: *mut u8, out_len: usize, len: *mut usize) -> u32;
     pub fn hlc_restore(store: *mut hlc_store, bytes: *const u8, bytes_len: usize, word: *mut u64) -> u32;
+    pub fn hlc_restore_start(restoring: *mut hlc_restoring) -> u32;
+    pub fn hlc_restore_feed(restoring: *mut hlc_restoring, bytes: *const u8, bytes_len: usize) -> u32;
+    pub fn hlc_restore_finish(restoring: *mut hlc_restoring, store: *mut hlc_store, word: *mut u64) -> u32;
+    pub fn hlc_restore_drop(restoring: *mut hlc_restoring);
     pub fn hlc_horizon(store: *mut hlc_store, stamp: *mut u64) -> u32;
     pub fn hlc_nodes(store: *mut hlc_store, many: *mut u64) -> u32;
     pub fn hlc_link(store: *mut hlc_store, node: u16, next: *mut u64, head: *mut u64, retired: *mut bool) -> u32;

@@ -55,6 +55,13 @@ impl Handle {
         Ok(word)
     }
 
+    /// Opens the store from the pieces of a restore, and ends that.
+    pub(crate) fn finish(&mut self, restoring: &mut sys::hlc_restoring) -> Result<u64> {
+        let word = self.change(|store, word| unsafe { sys::hlc_restore_finish(restoring, store, word) })?;
+        self.openings += 1;
+        Ok(word)
+    }
+
     pub(crate) fn openings(&self) -> u64 {
         self.openings
     }

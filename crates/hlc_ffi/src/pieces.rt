@@ -1,0 +1,79 @@
+//! A restore from bytes that come in pieces of any size.
+ghost use Rattle.std.specs.Prelude.{◌≡◌, None};
+ghost use Rattle.hlc_ffi.specs.Pieces.{HasStarted, HasFed, HasFinished};
+
+use crate::saved::opened;
+use hlc_calls::saved::answered;
+use hlc_handle::{Restoring, Store};
+use hlc_saved::CheckpointReader;
+use std::alloc::Global;
+
+/// Starts a restore. Returns 0; or 101 where one is under way, which goes on; or 15.
+#[unsafe(no_mangle)]
+pub extern "C" fn hlc_restore_start(alloc: Global, restoring: &mut Restoring) -> u32
+    ensures { HasStarted restoring.old.room.value restoring.new.room.value result }
+{
+    if let Some(reader) = restoring.take(alloc) {
+        restoring.put(reader);
+        return 101;
+    }
+    match Box::new(alloc, CheckpointReader::new(alloc)) {
+        Ok(reader) => {
+            restoring.put(reader);
+            0
+        }
+        Err(_) => 15,
+    }
+}
+
+/// Adds the next bytes of a checkpoint. Returns 0; or 100 where no restore is under way; or 15, and nothing was added.
+#[unsafe(no_mangle)]
+pub extern "C" fn hlc_restore_feed(alloc: Global, restoring: &mut Restoring, bytes: &[u8]) -> u32
+    ensures { HasFed restoring.old.room.value restoring.new.room.value bytes.now result }
+{
+    match restoring.take(alloc) {
+        None => 100,
+        Some(taken) => {
+            let mut reader = taken;
+            let code = match reader.feed(bytes) {
+                Ok(()) => 0,
+                Err(_) => 15,
+            };
+            restoring.put(reader);
+            code
+        }
+    }
+}
+
+/// Ends a restore, and opens a closed store from all bytes that were added, as `hlc_restore` does. Returns what that
+/// returns; or 100 where no restore is under way; or 101 for an open store, and the restore goes on.
+#[unsafe(no_mangle)]
+pub extern "C" fn hlc_restore_finish(
+    alloc: Global,
+    restoring: &mut Restoring,
+    store: &mut Store,
+    word: &mut u64,
+) -> u32
+    ensures { HasFinished restoring.old.room.value restoring.new.room.value store.old.room.value
+        store.new.room.value result word.new }
+{
+    *word = 0;
+    let Some(reader) = restoring.take(alloc) else {
+        return 100;
+    };
+    if let Some(handle) = store.take(alloc) {
+        store.put(handle);
+        restoring.put(reader);
+        return 101;
+    }
+    let made = answered(Box::into_inner(reader).finish(), word);
+    opened(alloc, store, made, word)
+}
+
+/// Ends a restore, and frees what it has read.
+#[unsafe(no_mangle)]
+pub extern "C" fn hlc_restore_drop(alloc: Global, restoring: &mut Restoring)
+    ensures { restoring.new.room.value ≡ None }
+{
+    let _ = restoring.take(alloc);
+}
