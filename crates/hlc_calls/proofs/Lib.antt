@@ -6,4 +6,4 @@ pub mod Refusals
 pub mod Holders
 pub mod Logs
 pub mod Readings
-pub mod Resumed
+pub mod ResumedLemmas

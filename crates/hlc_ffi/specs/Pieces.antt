@@ -1,5 +1,5 @@
 -- A restore in pieces, before and after a call.
-use Rattle.std.specs.Prelude.{◌≡◌, ◌≢◌, ℕ, List, [], ◌++◌, Option, Some, None, MatchOption}
+use Rattle.std.specs.Prelude.{◌≡◌, ◌⊎◌, ℕ, List, [], ◌++◌, Option, Some, None, MatchOption}
 use Rattle.hlc_core.specs.StoreView.{StoreView}
 use Rattle.hlc_saved.specs.declared.reader.CheckpointReader.{CheckpointReader}
 use Rattle.hlc_saved.specs.Blocks.{HasRead}
@@ -14,7 +14,7 @@ HasStarted None new code = MatchOption new (code ≡ 15) (λ reader. (code ≡ 0
 abbrev pub HasFed : Option CheckpointReader → Option CheckpointReader → List ℕ → ℕ → Type 0
 HasFed None new bytes code = (code ≡ 100) × (new ≡ None)
 HasFed (Some before) new bytes code = MatchOption new ⊥ (λ after. (fed : List ℕ) → HasRead before fed
-    → (code ≡ 0 → HasRead after (fed ++ bytes)) × (code ≢ 0 → (code ≡ 15) × HasRead after fed))
+    → ((code ≡ 0) × HasRead after (fed ++ bytes)) ⊎ ((code ≡ 15) × HasRead after fed))
 
 -- a closed store is restored from all bytes that were read, and the restore has ended; an open one is unchanged, and
 -- the restore goes on

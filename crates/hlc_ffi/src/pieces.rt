@@ -35,12 +35,12 @@ pub extern "C" fn hlc_restore_feed(alloc: Global, restoring: &mut Restoring, byt
         None => 100,
         Some(taken) => {
             let mut reader = taken;
-            let code = match reader.feed(bytes) {
+            let fed = reader.feed(bytes);
+            restoring.put(reader);
+            match fed {
                 Ok(()) => 0,
                 Err(_) => 15,
-            };
-            restoring.put(reader);
-            code
+            }
         }
     }
 }

@@ -56,8 +56,8 @@ impl RestoreRoom {
     }
 }
 
-/// What C has of it. Zero bytes are none. C promises that the bytes are still those that a call left, and that it uses no
-/// copy of them besides.
+/// What C has of it. Zero bytes are none. C promises that the bytes are still those that a call left, and that it uses
+/// no copy of them besides.
 #[repr(C)]
 pub struct Restoring {
     pub room: RestoreRoom,

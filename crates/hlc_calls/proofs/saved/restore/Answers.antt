@@ -1,5 +1,5 @@
 -- What was made of the bytes is returned, or why nothing was.
-use Rattle.hlc_calls.proofs.Resumed.{is_made, is_past}
+use Rattle.hlc_calls.proofs.ResumedLemmas.{is_made, is_past}
 use Rattle.hlc_calls.proofs.saved.restore.Goals as goal
 
 pub returns-clause-made : goal.returns-clause-made

@@ -14,11 +14,11 @@ Answers resumed result word =
     MatchResult resumed (λ made. (result ≡ Ok made.core) × (word ≡ made.word))
     (λ error. (result ≡ Err (resume_code error)) × (word ≡ resume_word error))
 
-abbrev Restores : List ℕ → Result StoreView ℕ → ℕ → Type 0
+abbrev pub Restores : List ℕ → Result StoreView ℕ → ℕ → Type 0
 Restores bytes result word =
     MatchResult result (λ core. IsMade bytes word core) (λ code. IsNotMade bytes code word)
 
-abbrev LeavesPast : ℕ → List Step → Result StoreView ℕ → ℕ → Type 0
+abbrev pub LeavesPast : ℕ → List Step → Result StoreView ℕ → ℕ → Type 0
 LeavesPast saved past result word =
     MatchResult result (λ core. (word ≡ saved) × Represents core past) (λ code. code ≡ 15)
 
