@@ -1,0 +1,180 @@
+"""A client of etcd that needs the standard library alone: it speaks to etcd's HTTP/JSON gateway.
+
+A cluster has several members, and each of them answers for all. Where one does not answer in time, the call goes to the
+next. The first may have carried it out all the same, so that a call can take place twice: `log.py` makes only calls for
+which that is harmless. In the gateway's JSON, bytes are in base64, 64-bit numbers are strings, and zeros are left out.
+"""
+
+import base64
+import http.client
+import json
+import random
+import time
+from typing import NamedTuple
+
+TIMEOUT = 3.0  # seconds without an answer, or without a watched change, after which the next member is asked
+PATIENCE = 120.0  # seconds without any member's answer after which a call fails
+BUSY = (408, 429, 500, 503, 504)  # no leader, no answer in time, no space: the call can be made again
+
+
+class Unavailable(Exception):
+    """The member cannot answer now."""
+
+
+class Compacted(Exception):
+    """etcd has dropped the history that was asked for."""
+
+
+class Refused(Exception):
+    """etcd refuses the call, and would refuse it again."""
+
+
+class Pair(NamedTuple):
+    """A key with its value, and the revision that put it there."""
+
+    key: bytes
+    value: bytes
+    revision: int
+
+
+def encode(data):
+    return base64.b64encode(data).decode()
+
+
+def pair_of(words):
+    """Returns what a key-value of the gateway says."""
+    value = base64.b64decode(words.get("value", ""))
+    return Pair(base64.b64decode(words["key"]), value, int(words["mod_revision"]))
+
+
+def pairs_of(answer):
+    return [pair_of(words) for words in answer.get("kvs", [])]
+
+
+def revision_of(answer):
+    return int(answer["header"]["revision"])
+
+
+def prefix_end(prefix):
+    """Returns the first key above all keys with this prefix."""
+    return prefix[:-1] + bytes([prefix[-1] + 1])
+
+
+# ---- Parts of requests ----
+
+
+def range_of(key, end=b"", **more):
+    """Asks for a key; or for the keys from `key` on and below `end`."""
+    return {"key": encode(key), "range_end": encode(end), **more}
+
+
+def prefix_of(prefix, **more):
+    return range_of(prefix, prefix_end(prefix), **more)
+
+
+def put(key, value, **more):
+    return {"request_put": {"key": encode(key), "value": encode(value), **more}}
+
+
+def get(key, end=b"", **more):
+    return {"request_range": range_of(key, end, **more)}
+
+
+def delete(key, end=b""):
+    return {"request_delete_range": range_of(key, end)}
+
+
+def unchanged(key, revision):
+    """A condition: the key was last changed at this revision, which is 0 where there is no such key."""
+    return {"key": encode(key), "target": "MOD", "result": "EQUAL", "mod_revision": str(revision)}
+
+
+class Etcd:
+    """A connection to one member at a time. Each thread has its own."""
+
+    def __init__(self, members):
+        self.members = members
+        self.at = random.randrange(len(members))
+        self.connection = None
+
+    def connect(self):
+        host, port = self.members[self.at].rsplit(":", 1)
+        return http.client.HTTPConnection(host, int(port), timeout=TIMEOUT)
+
+    def next_member(self):
+        """Turns to the next member, after a short while."""
+        if self.connection:
+            self.connection.close()
+        self.connection = None
+        self.at = (self.at + 1) % len(self.members)
+        time.sleep(0.05)
+
+    def call(self, path, request):
+        """Returns the answer of the first member that answers."""
+        end = time.monotonic() + PATIENCE
+        while True:
+            try:
+                return self.ask(path, json.dumps(request))
+            except (OSError, http.client.HTTPException, Unavailable):
+                if time.monotonic() > end:
+                    raise
+                self.next_member()
+
+    def ask(self, path, request):
+        self.connection = self.connection or self.connect()
+        self.connection.request("POST", "/v3/" + path, request)
+        answer = self.connection.getresponse()
+        text = answer.read()
+        if answer.status == 200:
+            return json.loads(text)
+        if answer.status in BUSY:
+            raise Unavailable(text.decode())
+        if b"has been compacted" in text:
+            raise Compacted(text.decode())
+        raise Refused(f"{path}: {text.decode()}")
+
+    # ---- Calls ----
+
+    def get(self, key):
+        """Returns the pair of a key, or None."""
+        pairs = pairs_of(self.call("kv/range", range_of(key)))
+        return pairs[0] if pairs else None
+
+    def list(self, prefix):
+        """Returns the pairs of all keys with a prefix, in the order of the keys."""
+        return pairs_of(self.call("kv/range", prefix_of(prefix)))
+
+    def transact(self, conditions, then, otherwise=()):
+        """Makes the changes `then` if all conditions are true, and else those of `otherwise`, as one change."""
+        return self.call("kv/txn", {"compare": conditions, "success": list(then), "failure": list(otherwise)})
+
+    def lease(self, seconds):
+        """Returns a lease: keys that are put with it are deleted if it is not kept alive for so many seconds."""
+        return self.call("lease/grant", {"TTL": str(seconds)})["ID"]
+
+    def keep_alive(self, lease):
+        """Returns whether the lease is still there, from now on for its whole time."""
+        return "TTL" in self.call("lease/keepalive", {"ID": lease})["result"]
+
+    def watch(self, prefix, revision):
+        """Yields lists of the pairs that were put below a prefix from a revision on, without a gap.
+
+        The lists are in the order of revisions. Ends with Compacted, or with another exception where the member stops
+        answering: then a watch from behind the last pair goes on.
+        """
+        wish = {"start_revision": str(revision), "fragment": True, "filters": ["NODELETE"]}
+        connection = self.connect()
+        try:
+            connection.request("POST", "/v3/watch", json.dumps({"create_request": prefix_of(prefix, **wish)}))
+            for line in connection.getresponse():
+                answer = json.loads(line)
+                if "error" in answer:
+                    raise Unavailable(line.decode())
+                if "compact_revision" in answer["result"]:
+                    raise Compacted(line.decode())
+                if answer["result"].get("canceled"):
+                    raise Unavailable(line.decode())
+                yield [pair_of(event["kv"]) for event in answer["result"].get("events", [])]
+            raise Unavailable("the member ended the watch")
+        finally:
+            connection.close()

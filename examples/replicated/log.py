@@ -1,0 +1,164 @@
+"""The log: what the writers and the coordinator append, in one order that is the same for all replicas.
+
+Keys in etcd:
+
+    log/NODE/NUMBER   a batch of a node's items, as the bytes of hlcstore; NUMBER is that of the first one
+    log/plan/NUMBER   an entry of the coordinator, in JSON: a join, or a retention threshold
+    link/NODE         the head of a link, in JSON: who may append to it, and where the next process goes on
+    cut               in JSON: the revision up to which entries were deleted
+
+etcd numbers its changes: these numbers are its revisions. An append is one transaction and so one revision, and the
+order of the log is that of the revisions. A replica that has applied all entries up to a revision needs nothing else to
+go on from there.
+"""
+
+import http.client
+import json
+import secrets
+from typing import NamedTuple
+
+from etcd import Compacted, Unavailable, delete, get, pairs_of, prefix_end, prefix_of, put, revision_of, unchanged
+
+LOG, PLAN, CUT = b"log/", b"log/plan/", b"cut"
+PAGE = 64  # entries in an answer
+
+
+class Fenced(Exception):
+    """Another process took the link over. This one has to end."""
+
+
+class Cut(Exception):
+    """The next entry was cut off the log: only a newer checkpoint helps."""
+
+
+class Entry(NamedTuple):
+    """A part of the log: a batch of items, or a plan of the coordinator."""
+
+    revision: int
+    plan: dict | None
+    items: bytes
+
+
+def batch_key(node, number):
+    return b"log/%04x/%016x" % (node, number)
+
+
+def plan_key(number):
+    return b"log/plan/%016x" % number
+
+
+def link_key(node):
+    return b"link/%04x" % node
+
+
+def to_json(value):
+    return json.dumps(value).encode()
+
+
+def entry_of(pair):
+    if pair.key.startswith(PLAN):
+        return Entry(pair.revision, json.loads(pair.value), b"")
+    return Entry(pair.revision, None, pair.value)
+
+
+class Link:
+    """The end of a node's link at which one process appends."""
+
+    def __init__(self, etcd, node):
+        self.etcd = etcd
+        self.key = link_key(node)
+        self.owner = secrets.token_hex(8)
+        self.revision = 0
+
+    def claim(self, new):
+        """Takes the link over, and returns the state that the last append left, or `new` if there is no such link.
+
+        From now on an append of any other process is refused, also one that is on its way to etcd.
+        """
+        while True:
+            head = self.etcd.get(self.key)
+            state = json.loads(head.value) if head else new
+            mine = to_json(state | {"owner": self.owner})
+            answer = self.etcd.transact([unchanged(self.key, head.revision if head else 0)], [put(self.key, mine)])
+            if answer.get("succeeded"):
+                self.revision = revision_of(answer)
+                return state
+
+    def append(self, key, value, state, also=()):
+        """Appends an entry, with the link's new state and other changes, and returns the entry's revision.
+
+        All is one transaction, whose condition is that the head is as this process left it. So if the answer is lost
+        and the transaction is sent again, it takes place once. The states of a link are all different: a head that
+        already has this one was left by this very append.
+        """
+        mine = to_json(state | {"owner": self.owner})
+        changes = [put(self.key, mine), put(key, value), *also]
+        answer = self.etcd.transact([self.is_mine()], changes, [get(self.key)])
+        if answer.get("succeeded"):
+            self.revision = revision_of(answer)
+            return self.revision
+        head = pairs_of(answer["responses"][0]["response_range"])[0]
+        if head.value != mine:
+            raise Fenced(f"{self.key.decode()} belongs to {json.loads(head.value)['owner']}")
+        self.revision = head.revision
+        return self.revision
+
+    def is_mine(self):
+        """A condition for other transactions: no other process has taken the link over."""
+        return unchanged(self.key, self.revision)
+
+
+# ---- Reading ----
+
+
+def page(etcd, after):
+    """Returns the first entries above a revision, and the revision of the answer: up to it there is nothing between."""
+    wish = {"min_mod_revision": str(after + 1), "sort_target": "MOD", "sort_order": "ASCEND", "limit": str(PAGE)}
+    answer = etcd.transact([], [get(CUT), get(LOG, prefix_end(LOG), **wish)])
+    cut, entries = (pairs_of(part["response_range"]) for part in answer["responses"])
+    if cut and json.loads(cut[0].value) > after:
+        raise Cut(f"the log begins behind {json.loads(cut[0].value)}, and {after} was asked for")
+    return [entry_of(pair) for pair in entries], revision_of(answer)
+
+
+def follow(etcd, after):
+    """Yields each entry above a revision, in order, and goes on as entries are appended.
+
+    The entries come by a watch. Where etcd has dropped the history that the watch needs, the keys are still there,
+    unless the log was cut: then they come by pages until a watch can go on.
+    """
+    while True:
+        try:
+            for pairs in etcd.watch(LOG, after + 1):
+                for pair in pairs:
+                    yield entry_of(pair)
+                    after = pair.revision
+        except Compacted:
+            entries, revision = page(etcd, after)
+            yield from entries
+            after = entries[-1].revision if entries else revision
+        except (OSError, http.client.HTTPException, Unavailable):
+            etcd.next_member()
+
+
+# ---- Cutting ----
+
+
+def cut(etcd, link, revision):
+    """Deletes all entries up to a revision, and the history that etcd keeps of them. The caller has this link.
+
+    `cut` is written first, so that a replica that needs what is deleted next sees that it is too late. The rest may be
+    done twice, or be left to the next time.
+    """
+    if not etcd.transact([link.is_mine()], [put(CUT, to_json(revision))]).get("succeeded"):
+        raise Fenced("another process cuts the log")
+    wish = {"keys_only": True, "max_mod_revision": str(revision), "sort_target": "KEY", "sort_order": "ASCEND"}
+    last = {}
+    for pair in pairs_of(etcd.call("kv/range", prefix_of(LOG, **wish))):
+        last[pair.key[: pair.key.rindex(b"/") + 1]] = pair.key
+    for prefix, key in last.items():
+        etcd.transact([], [delete(prefix, key + b"\0")])
+    try:
+        etcd.call("kv/compaction", {"revision": str(revision)})
+    except Compacted:
+        pass
