@@ -39,6 +39,7 @@ class Coordinator:
         self.link = log.Link(self.etcd, NUMBER)
         self.head = self.link.claim(NEW)
         self.node = Node.restore(NUMBER, self.head["last"], self.head["next"])
+        print("node", NUMBER, flush=True)
         self.retires = False
 
     # ---- Appending ----

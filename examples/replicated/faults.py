@@ -155,8 +155,8 @@ class Faults:
         self.programs.coordinator = self.programs.start_coordinator()
 
     def replace_coordinator(self):
-        if not self.programs.coordinator:
-            return None
+        if not self.programs.coordinator or "node" not in self.programs.coordinator.numbers:
+            return None  # the one that takes the link over last would be the first one
         self.programs.expect_end(self.programs.coordinator, 3)
         self.start_coordinator()
         return "a second coordinator takes over"

@@ -92,7 +92,7 @@ class Replica:
                 words = json.loads(pair.value)
                 if words["checkpoint"] > self.revision:
                     try:
-                        return self.begin(words["name"], lambda: fetch(words["address"], "/checkpoint"))
+                        return self.begin(words["name"], lambda: serve.fetch(words["address"], "/checkpoint"))
                     except (OSError, http.client.HTTPException, *DAMAGED):
                         pass  # that one was killed, or its disk is damaged
             time.sleep(0.2)
@@ -172,18 +172,6 @@ def refusals():
 
 def report(**words):
     print(json.dumps(words), flush=True)
-
-
-def fetch(address, path):
-    connection = http.client.HTTPConnection(address, timeout=60)
-    try:
-        connection.request("GET", path)
-        answer = connection.getresponse()
-        if answer.status != 200:
-            raise http.client.HTTPException(answer.read().decode())
-        return answer.read()
-    finally:
-        connection.close()
 
 
 def essential(call, *words):

@@ -13,6 +13,7 @@ status is 425 for a stamp above the floor, 410 for one below the horizon, and 40
 Whoever answers has `state()`, `snapshot(stamp)`, which is used in a `with`, and calls for other paths in `others`.
 """
 
+import http.client
 import http.server
 import json
 import threading
@@ -84,3 +85,16 @@ class Request(http.server.BaseHTTPRequestHandler):
 
     def log_message(self, *words):
         """Requests are not logged."""
+
+
+def fetch(address, path):
+    """Returns the bytes that another process answers."""
+    connection = http.client.HTTPConnection(address, timeout=60)
+    try:
+        connection.request("GET", path)
+        answer = connection.getresponse()
+        if answer.status != 200:
+            raise http.client.HTTPException(answer.read().decode())
+        return answer.read()
+    finally:
+        connection.close()
