@@ -2,7 +2,7 @@
 -- that are left without rows contribute none.
 use Rattle.std.proofs.Common.{◌≡◌, ℕ, zero, suc, ◌+◌, ◌<◌, ◌≤◌, Bool, true, false, cond, List, [], ◌∷◌, ◌++◌, length}
 use Rattle.std.proofs.Common.{refl, sym, ap, ap₂, ◌∙◌, arith, take, drop, filter, ltb, get_or, set, All, map}
-use Rattle.std.specs.Prelude.{slice_get, count_by, Some}
+use Rattle.std.specs.Prelude.{slice_get, Some}
 use Rattle.std.specs.List.{items_where_true, AllByRecursion}
 use Rattle.std.proofs.lemmas.Option.{none-some, same_Some}
 use Rattle.std.proofs.lemmas.Bool.{ltb-true, lt-ltb}
@@ -10,7 +10,6 @@ use Rattle.std.proofs.lemmas.List.{length-map, length-append, length-drop, drop-
 use Rattle.std.proofs.lemmas.List.{get_or-set_same, get_or-map}
 use Rattle.std.proofs.lemmas.List.{take-append-drop}
 use Rattle.std.proofs.lemmas.List.Concat.{flat_map-append}
-use Rattle.std.proofs.lemmas.List.Sums.{length-filter}
 use Rattle.std.proofs.lemmas.List.Elements.{All-from_recursion}
 use Rattle.hlc_node.specs.declared.row.Row.{Row}
 use Rattle.hlc_columns.specs.Cells.{Cell}
@@ -178,18 +177,6 @@ pub cells_read : (leaf : List Entry) (slot : ℕ) (key : List ℕ) (cells : List
 cells_read [] slot key cells is = absurd (none-some _ is)
 cells_read (e ∷ es) zero key cells is = ap (λ (e : Entry). e.1) (same_Some e (key, cells) is)
 cells_read (e ∷ es) (suc slot) key cells is = cells_read es slot key cells is
-
--- how many flags are set
-pub set_flags : (flags : List Bool) (rows : List Row) → length flags ≡ length rows
-    → count_by (λ b. b) flags ≡ length (items_where_true flags rows)
-set_flags flags rows long = sym (length-filter (λ b. b) flags) ∙ go flags rows long
-  where
-    go : (flags : List Bool) (rows : List Row) → length flags ≡ length rows
-        → length (filter (λ b. b) flags) ≡ length (items_where_true flags rows)
-    go [] rows long = refl
-    go (b ∷ flags) [] long = absurd (omega (arith, long))
-    go (true ∷ flags) (row ∷ rows) long = ap suc (go flags rows (omega (arith, long)))
-    go (false ∷ flags) (row ∷ rows) long = go flags rows (omega (arith, long))
 
 -- an item of the list is read the same with another default
 own_item : {X : Type 0} (xs : List X) (n : ℕ) (d : X) → n < length xs → get_or xs n d ≡ get_or xs n (get_or xs n d)

@@ -1,16 +1,17 @@
 -- The answers of many keys at one bound.
-use Rattle.std.specs.Prelude.{◌≡◌, ◌≢◌, ◌↔◌, ℕ, List, [], ◌∷◌, ◌++◌, Bool, true}
-use Rattle.std.specs.Prelude.{Option, Some, None, map, drop}
+use Rattle.std.specs.Prelude.{◌≡◌, ◌≢◌, ◌↔◌, ℕ, List, [], ◌∷◌, ◌++◌, Bool, true, false}
+use Rattle.std.specs.Prelude.{Option, Some, None, map, drop, All, length, filter, not, nat_lt, ◌&&◌, ◌<◌, ◌≤◌}
 use Rattle.std.specs.Prelude.{Contains, IsTrue, if◌then◌else◌}
 use Rattle.std.specs.List.Sorted.{IsStrictlySortedBy}
 use Rattle.std.specs.Cmp.Lexicographic.{slice_cmp}
-use Rattle.std.specs.Ordering.{nat_cmp, is_lt}
-use Rattle.std.specs.declared.cmp.Ordering.TheVariants.{Less}
+use Rattle.std.specs.Str.{bytes_eq}
+use Rattle.std.specs.Ordering.{nat_cmp, is_lt, is_gt}
+use Rattle.std.specs.declared.cmp.Ordering.TheVariants.{Less, Greater}
 use Rattle.hlc_index.specs.Entries.{entries_in}
 use Rattle.hlc_node.specs.declared.row.Row.{Row}
 use Rattle.hlc_node.specs.Rows.{answer}
 use Rattle.hlc_columns.specs.Cells.{Cell}
-use Rattle.hlc_columns.specs.Rows.{rows_of}
+use Rattle.hlc_columns.specs.Rows.{rows_of, rows_in, KeyCells, KeysAscend}
 use Rattle.hlc_columns.specs.declared.answers.Walk.{Walk}
 
 -- a key is below the end of a range, if it has one
@@ -43,3 +44,41 @@ answers_in (e ∷ es) bound to =
 -- the entries that a walk has left
 abbrev pub entries_left : Walk → List (List ℕ × List Cell)
 entries_left walk = walk.rest.now ++ entries_in (drop walk.next walk.columns.now)
+
+-- the first of some columns is that of a key
+abbrev pub starts_at : List ℕ → List (List ℕ × List Cell) → Bool
+starts_at key [] = false
+starts_at key (e ∷ es) = bytes_eq e.0 key
+
+-- among some columns, those whose keys are above a key: all from some place on, and none before it
+pub record AreAbove (es : List (List ℕ × List Cell)) (key : List ℕ) (above : List (List ℕ × List Cell)) : Type 0 where
+  pub front : List (List ℕ × List Cell)
+  pub whole : es ≡ front ++ above
+  pub not_above : All (λ e. slice_cmp nat_cmp e.0 key ≢ Greater) front
+  pub all_above : All (λ e. slice_cmp nat_cmp e.0 key ≡ Greater) above
+
+-- the last key of some columns, or else this one
+abbrev pub last_key : List ℕ → List KeyCells → List ℕ
+last_key key [] = key
+last_key key (one ∷ columns) = last_key one.key columns
+
+-- where a part of at most so many columns ends: at its last key, or nowhere if it has fewer columns, since no key is left
+abbrev pub part_end : List ℕ → ℕ → List KeyCells → Option (List ℕ)
+part_end key most columns = if nat_lt (length columns) most then None else Some (last_key key columns)
+
+-- a key is not above the end of a part, if it has one
+abbrev pub is_upto : Option (List ℕ) → List ℕ → Bool
+is_upto None key = true
+is_upto (Some last) key = not (is_gt (slice_cmp nat_cmp key last))
+
+-- a key is in a part: above a key, and not above the end of the part
+abbrev pub in_part : List ℕ → Option (List ℕ) → List ℕ → Bool
+in_part from to key = is_gt (slice_cmp nat_cmp key from) && is_upto to key
+
+-- the columns of the first keys above a key, at most so many
+pub record AreNext (rows : List Row) (key : List ℕ) (most : ℕ) (columns : List KeyCells) : Type 0 where
+  pub few : length columns ≤ most
+  pub ascend : KeysAscend columns
+  pub filled : All (λ one. 0 < length one.cells) columns
+  pub inside : All (λ one. in_part key (part_end key most columns) one.key ≡ true) columns
+  pub exact : filter (λ row. in_part key (part_end key most columns) row.key) rows ≡ rows_in columns

@@ -5,7 +5,7 @@ ghost use Rattle.std.specs.Iterator.{YieldsFirstBy, item_count};
 ghost use Rattle.std.specs.Map.Iter.{deref_pair};
 ghost use Rattle.hlc_index.specs.Entries.{entries_in, entries_from, keys_in, key_cmp};
 ghost use Rattle.hlc_columns.specs.Table.{indexed_rows};
-ghost use Rattle.hlc_columns.specs.Answers.{answers_in, entries_left, is_below, AreAnswers, IsBetween};
+ghost use Rattle.hlc_columns.specs.Answers.{answers_in, entries_left, starts_at, is_below, AreAnswers, IsBetween};
 
 use crate::boxed::BoxedColumn;
 use hlc_clock::Stamp;
@@ -40,7 +40,7 @@ impl<'a> Walk<'a> {
     }
 
     /// Returns a walk from a slot of a leaf on.
-    fn from_slot(columns: &'a Index<BoxedColumn>, at: usize, slot: usize) -> Walk<'a>
+    pub(crate) fn from_slot(columns: &'a Index<BoxedColumn>, at: usize, slot: usize) -> Walk<'a>
         requires { slot ≤ length (slice_index_or columns.now at []) }
         ensures { entries_left result ≡ entries_from columns.now at slot }
     {
@@ -73,7 +73,7 @@ impl<'a> Walk<'a> {
     }
 
     /// Returns the next column with its key, or none at the end.
-    fn next(&mut self) -> Option<&'a (Bytes, BoxedColumn)>
+    pub(crate) fn next(&mut self) -> Option<&'a (Bytes, BoxedColumn)>
         ensures { MatchOption result ((entries_left self.old ≡ []) × (entries_left self.new ≡ []))
             (λ entry. entries_left self.old ≡ entry.now ∷ entries_left self.new) }
     {
@@ -85,6 +85,18 @@ impl<'a> Walk<'a> {
         self.rest = rest;
         self.fetched = self.fetched.saturating_sub(first.1.get().len());
         Some(first)
+    }
+
+    /// Returns whether the next column is that of a key.
+    pub(crate) fn is_at(&mut self, key: &[u8]) -> bool
+        ensures same { entries_left self.new ≡ entries_left self.old }
+        ensures first { result ≡ starts_at key.now (entries_left self.old) }
+    {
+        self.turn();
+        match self.rest.first() {
+            Some(first) => first.0.as_slice() == key,
+            None => false,
+        }
     }
 
     /// Ends the walk.

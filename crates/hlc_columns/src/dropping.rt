@@ -1,7 +1,7 @@
 //! Dropping rows from the columns of an index.
-ghost use Rattle.std.specs.Prelude.{◌≡◌, ◌≤◌, ◌<◌, [], count_by, length, take, drop, nat_lt, slice_set, slice_index_or};
+ghost use Rattle.std.specs.Prelude.{◌≡◌, ◌≤◌, ◌<◌, [], length, take, drop, filter, nat_lt, slice_set, slice_index_or};
 ghost use Rattle.std.specs.List.{items_where_true};
-ghost use Rattle.hlc_index.specs.Entries.{with_value_in};
+ghost use Rattle.hlc_index.specs.Entries.{entries_in, with_value_in};
 ghost use Rattle.hlc_columns.specs.Table.{indexed_rows, table_rows, kept_in, cells_at, AreFilled};
 
 use crate::boxed::BoxedColumn;
@@ -21,6 +21,8 @@ pub(crate) fn keep_rows(columns: &mut Index<BoxedColumn>, flags: &[bool])
     ensures rows { indexed_rows columns.new
         ≡ items_where_true flags.now (indexed_rows columns.old) }
     ensures filled { AreFilled columns.new }
+    ensures entries { entries_in columns.new
+        ≡ filter (λ e. nat_lt 0 (length e.1)) (kept_in flags.now (entries_in columns.old)) }
 {
     let mut left = flags;
     for at in 0..columns.leaves() {
@@ -45,7 +47,7 @@ fn keep_in_leaf<'a>(columns: &mut Index<BoxedColumn>, at: usize, flags: &'a [boo
 }
 
 /// Keeps only the rows of a column that the first flags select, and returns the flags of the later rows.
-fn keep_at<'a>(
+pub(crate) fn keep_at<'a>(
     columns: &mut Index<BoxedColumn>,
     at: usize,
     slot: usize,
@@ -71,11 +73,4 @@ fn keep_first<'a>(column: &mut BoxedColumn, flags: &'a [bool]) -> &'a [bool]
     let (first, left) = flags.split_at(column.get().len());
     column.get_mut().keep(first);
     left
-}
-
-/// Returns how many flags are set.
-pub(crate) fn count_set(flags: &[bool]) -> usize
-    ensures { result ≡ count_by (λ flag. flag) flags.now }
-{
-    flags.iter().filter(|flag| **flag).count()
 }

@@ -5,11 +5,14 @@ ghost use Rattle.std.specs.Map.{lookup};
 ghost use Rattle.hlc_index.specs.Entries.{is_key, keys_in, entries_in, IsEntryAt, IsPlace};
 ghost use Rattle.hlc_columns.specs.Parts.{new_row};
 ghost use Rattle.hlc_columns.specs.Table.{indexed_rows, AreFilled, Inserted};
+ghost use Rattle.hlc_columns.specs.Cells.{value_bytes};
+ghost use Rattle.hlc_columns.specs.Sizes.{sizes_of, with_row, with_key, Fit};
 
 use crate::boxed::BoxedColumn;
 use hlc_clock::Stamp;
 use hlc_index::Index;
-use hlc_node::Bytes;
+use hlc_node::{Bytes, value_slice};
+use hlc_sizes::{Sizes, length_of};
 use hlc_values::NoMemory;
 use std::alloc::Global;
 use std::cmp::Ordering;
@@ -41,28 +44,38 @@ pub(crate) fn find_last(columns: &Index<BoxedColumn>, key: &[u8]) -> Option<(usi
 /// the key copied. If memory runs out, or if there are 2^128 - 1 rows, it is refused, and the rows do not change.
 pub(crate) fn put_row(
     columns: &mut Index<BoxedColumn>,
-    count: &mut u128,
+    sizes: &mut Sizes,
     alloc: Global,
     place: Option<(usize, usize)>,
     row: NewRow<'_>,
 ) -> Result<(), NoMemory>
     requires place { IsPlace columns.old row.key.now place }
     requires filled { AreFilled columns.old }
-    requires count { count.old ≡ length (indexed_rows columns.old) }
+    requires sizes { sizes.old ≡ sizes_of (entries_in columns.old) }
+    requires fit { Fit sizes.old }
     ensures ok { OnOk result (Inserted (indexed_rows columns.old) (new_row row.entry)
         (indexed_rows columns.new)) }
     ensures err { OnErr result (indexed_rows columns.new ≡ indexed_rows columns.old) }
     ensures filled { AreFilled columns.new }
-    ensures count { count.new ≡ length (indexed_rows columns.new) }
+    ensures sizes { sizes.new ≡ sizes_of (entries_in columns.new) }
+    ensures fit { Fit sizes.new }
 {
-    let Some(more) = count.checked_add(1) else {
+    let Some(more) = sizes.with_row(length_of(value_slice(&row.value))) else {
         return Err(NoMemory);
     };
     match place {
-        Some((at, slot)) => push_at(columns, at, slot, row.stamp, row.node, row.value)?,
-        None => add_column(columns, alloc, row)?,
+        Some((at, slot)) => {
+            push_at(columns, at, slot, row.stamp, row.node, row.value)?;
+            *sizes = more;
+        }
+        None => {
+            let Some(all) = more.with_key(row.key.len()) else {
+                return Err(NoMemory);
+            };
+            add_column(columns, alloc, row)?;
+            *sizes = all;
+        }
     }
-    *count = more;
     Ok(())
 }
 
@@ -83,6 +96,9 @@ fn push_at(
         (record { key = key; stamp = stamp; node = node; value = value }) (indexed_rows columns.new)) }
     ensures err { OnErr result (indexed_rows columns.new ≡ indexed_rows columns.old) }
     ensures filled { AreFilled columns.new }
+    ensures sizes { OnOk result (sizes_of (entries_in columns.new)
+        ≡ with_row (sizes_of (entries_in columns.old)) (value_bytes value)) }
+    ensures same { OnErr result (entries_in columns.new ≡ entries_in columns.old) }
 {
     let column = columns.value_mut(at, slot);
     push_cell(column, stamp, node, value)
@@ -116,6 +132,10 @@ fn add_column(
         (indexed_rows columns.new)) }
     ensures err { OnErr result (indexed_rows columns.new ≡ indexed_rows columns.old) }
     ensures filled { AreFilled columns.new }
+    ensures sizes { OnOk result (sizes_of (entries_in columns.new)
+        ≡ with_key (with_row (sizes_of (entries_in columns.old)) (value_bytes row.entry.value))
+        (length row.entry.key.now)) }
+    ensures same { OnErr result (entries_in columns.new ≡ entries_in columns.old) }
 {
     let key = Bytes::from_slice(alloc, row.key)?;
     let column = BoxedColumn::of_row(alloc, row.stamp, row.node, row.value)?;

@@ -2,12 +2,14 @@
 use Rattle.std.proofs.Common.{◌≡◌, ◌<◌, ◌+◌, ◌++◌, ◌∷◌, ◌∙◌, ℕ, zero, suc, List, [], Some, get_or, length, arith, refl}
 use Rattle.std.proofs.Common.{ap, take}
 use Rattle.std.specs.Prelude.{slice_get}
-use Rattle.std.specs.Map.{lookup, set_value}
+use Rattle.std.specs.Map.{lookup, set_value, remove_entry}
 use Rattle.std.specs.List.Sorted.{IsStrictlySortedBy}
 use Rattle.std.proofs.lemmas.List.{append-nil}
 use Rattle.std.proofs.lemmas.List.Concat.{flat_map-append}
 use Rattle.hlc_index.specs.Entries.{keys_in, key_cmp, is_key, entries_in, with_value_in, IsEntryAt}
+use Rattle.hlc_index.specs.Entries.{entries_before, entries_from}
 use Rattle.hlc_index.proofs.Values.{valued_is, there_is}
+use Rattle.hlc_index.proofs.Removed.{removed_is}
 
 pub taken : {X : Type 0} (xs : List X) (n : ℕ) (none : X) → n < length xs
     → take (n + 1) xs ≡ take n xs ++ get_or xs n none ∷ []
@@ -39,3 +41,8 @@ module _ {V : Type 0} (leaves : List (List (List ℕ × V))) where
     pub entry_written : (v : V)
         → entries_in (with_value_in leaves at slot v) ≡ set_value (is_key key) (entries_in leaves) v
     entry_written v = valued_is leaves at slot there.0 there.1 (entries_in leaves) key v ascend there.2 refl
+
+    -- the entries before it and those after it are all but the entry of the key
+    pub entry_removed : entries_before leaves at slot ++ entries_from leaves at (slot + 1)
+        ≡ remove_entry (is_key key) (entries_in leaves)
+    entry_removed = removed_is leaves at slot key there.0 there.1 there.2 ascend

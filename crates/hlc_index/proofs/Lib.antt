@@ -8,3 +8,4 @@ pub mod Places
 pub mod Values
 pub mod EntryLemmas
 pub mod Sought
+pub mod Removed

@@ -1,5 +1,5 @@
 //! The map.
-ghost use Rattle.std.specs.Prelude.{◌≡◌, ◌≢◌, ◌-◌, ◌<◌, ◌≤◌, ◌++◌, ◌↔◌, [], ℕ, None, Some, length, slice_get};
+ghost use Rattle.std.specs.Prelude.{◌≡◌, ◌≢◌, ◌-◌, ◌+◌, ◌<◌, ◌≤◌, ◌++◌, ◌↔◌, [], ℕ, None, Some, length, slice_get};
 ghost use Rattle.std.specs.Prelude.{slice_index_or, All};
 ghost use Rattle.std.specs.Prelude.{filter, IsNone, IfSome, OnOk, OnErr, IfErr, option_copied};
 ghost use Rattle.std.specs.Map.{lookup};
@@ -161,6 +161,15 @@ impl<V: Drop> Index<V> {
         ensures ascend { IsStrictlySortedBy key_cmp (keys_in (entries_in self.old)) }
     {
         self.leaves.value_mut(at, slot)
+    }
+
+    /// Removes the entry at a slot of a leaf, and the leaf if that is left without entries. It needs no memory.
+    pub fn remove(&mut self, at: usize, slot: usize)
+        requires leaf { at < length self.old }
+        requires inside { slot < length (slice_index_or self.old at []) }
+        ensures { entries_in self.new ≡ entries_before self.old at slot ++ entries_from self.old at (slot + 1) }
+    {
+        self.leaves.remove(at, slot);
     }
 
     /// Returns the leaf and the slot of the greatest key, or none if there are no entries. It needs

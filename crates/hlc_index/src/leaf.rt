@@ -1,5 +1,5 @@
 //! A leaf: some entries of the map in the order of their keys, with the heads of the keys side by side.
-ghost use Rattle.std.specs.Prelude.{◌≡◌, ◌++◌, ◌-◌, ◌≤◌, ◌<◌, [], List, length, slice_index_or, All};
+ghost use Rattle.std.specs.Prelude.{◌≡◌, ◌++◌, ◌+◌, ◌-◌, ◌≤◌, ◌<◌, [], List, length, slice_index_or, All};
 ghost use Rattle.std.specs.Prelude.{OnErr, IfOk, IfErr, OnOk};
 ghost use Rattle.std.specs.Prelude.{take, drop, slice_get, Some, map, filter};
 ghost use Rattle.std.specs.List.{insert};
@@ -193,6 +193,17 @@ impl<V> Leaf<V> {
     {
         let entry = &mut self.entries[slot];
         &mut entry.1
+    }
+}
+
+impl<V: Drop> Leaf<V> {
+    /// Removes the entry at a slot. It needs no memory.
+    pub(crate) fn remove(&mut self, slot: usize)
+        requires { slot < length self.old }
+        ensures { self.new ≡ take slot self.old ++ drop (slot + 1) self.old }
+    {
+        self.heads.remove(slot);
+        self.entries.remove(slot);
     }
 }
 

@@ -6,6 +6,7 @@ ghost use Rattle.std.specs.List.{insert};
 ghost use Rattle.hlc_index.specs.Head.{head_of, AreBytes};
 ghost use Rattle.hlc_index.specs.Entries.{keys_in, first_keys, IsUptoAt, IsAboveAt};
 ghost use Rattle.hlc_index.specs.Entries.{entries_in, entries_with, with_value_in};
+ghost use Rattle.hlc_index.specs.Entries.{entries_before, entries_from};
 ghost use Rattle.std.specs.Borrow.{Lends, sem};
 ghost use Rattle.std.specs.Prelude.{slice_get, Some};
 ghost use Rattle.hlc_index.specs.contracts.leaves.Leaves.{the_row};
@@ -282,6 +283,21 @@ impl<V: Drop> Leaves<V> {
     {
         let leaf = &mut self.leaves[at];
         leaf.value_mut(slot)
+    }
+
+    /// Removes the entry at a slot of a leaf, and the leaf if that is left without entries. It needs no memory.
+    pub(crate) fn remove(&mut self, at: usize, slot: usize)
+        requires leaf { at < length self.old }
+        requires inside { slot < length (slice_index_or self.old at []) }
+        ensures { entries_in self.new ≡ entries_before self.old at slot ++ entries_from self.old at (slot + 1) }
+    {
+        self.leaves[at].remove(slot);
+        if self.leaves[at].len() == 0 {
+            self.tops.remove(at);
+            self.leaves.remove(at);
+        } else if slot == 0 {
+            self.tops[at] = self.leaves[at].head(0);
+        }
     }
 }
 

@@ -129,6 +129,51 @@ fn the_index_has_the_entries_of_a_tree(rt: HostRuntime) {
     }
 }
 
+/// Removes an entry from both maps, and returns whether it was in both and they are alike then.
+fn stay_alike_without(
+    index: &mut Index<Count>,
+    tree: &mut BTreeMap<Vec<u8>, Count>,
+    at: usize,
+    slot: usize,
+) -> bool {
+    if at >= index.leaves() || slot >= index.leaf(at).len() {
+        return false;
+    }
+    let is_in_tree = tree.remove(index.leaf(at)[slot].0.as_slice()).is_some();
+    index.remove(at, slot);
+    is_in_tree && are_alike(index, tree)
+}
+
+/// Returns whether both maps stay alike while their entries are removed one by one, first and last ones of leaves in
+/// turns, and when they are filled again.
+fn empty_alike(alloc: Global, entries: u16) -> Result<bool, AllocError> {
+    let mut index = Index::new(alloc);
+    let mut tree: BTreeMap<Vec<u8>, Count> = BTreeMap::new(alloc);
+    fill(&mut index, &mut tree, alloc, entries)?;
+    let mut are_well = index.leaves() > 2;
+    for i in 0..entries {
+        let leaves = index.leaves();
+        if leaves == 0 {
+            break;
+        }
+        let at = if i % 3 == 0 { leaves - 1 } else { 0 };
+        let slot = if i % 2 == 0 {
+            0
+        } else {
+            index.leaf(at).len().saturating_sub(1)
+        };
+        are_well = are_well && stay_alike_without(&mut index, &mut tree, at, slot);
+    }
+    let is_empty = index.leaves() == 0;
+    fill(&mut index, &mut tree, alloc, entries)?;
+    Ok(are_well && is_empty && are_alike(&index, &tree))
+}
+
+#[test]
+fn entries_are_removed_as_from_a_tree(rt: HostRuntime) {
+    assert!(rt; empty_alike(rt.alloc(), 400) == Ok(true));
+}
+
 /// Returns whether a box of an empty value is filled, and whether a box of a filled one is.
 fn are_filled(alloc: Global) -> Result<(bool, bool), AllocFailed<Count>> {
     let nothing = Box::new(alloc, Count(0))?;

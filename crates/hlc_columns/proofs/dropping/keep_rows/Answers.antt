@@ -1,9 +1,9 @@
 -- One more leaf; and then the columns without rows are removed.
-use Rattle.std.proofs.Common.{◌<◌, ◌∙◌, ap, sym, subst, arith, length, All}
+use Rattle.std.proofs.Common.{◌<◌, ◌∙◌, ap, sym, subst, arith, length, All, filter}
 use Rattle.hlc_index.specs.Entries.{entries_in}
 use Rattle.hlc_columns.specs.Table.{kept_in, table_rows}
 use Rattle.hlc_columns.proofs.Kept.{run_none, total_none, leaf_rows, column_inside, leaf_enough, next_leaves, next_left}
-use Rattle.hlc_columns.proofs.Kept.{run_all, kept_leaves, kept_rows, filled_rows, all_filled}
+use Rattle.hlc_columns.proofs.Kept.{is_filled, run_all, kept_leaves, kept_rows, filled_rows, all_filled}
 use Rattle.hlc_columns.proofs.dropping.keep_rows.Goals as goal
 use Rattle.hlc_columns.proofs.dropping.keep_rows.Goals.{In-loop-at}
 
@@ -55,3 +55,12 @@ returns-clause-rows c =
 pub returns-clause-filled : goal.returns-clause-filled
 returns-clause-filled c =
     subst (All (λ e. 0 < length e.1)) (sym c.keep_filled.ensures) (all_filled (entries_in c.loop-at.columns))
+
+pub returns-clause-entries : goal.returns-clause-entries
+returns-clause-entries c =
+    let over = c.loop-at-test.false in
+    let e = c.leaves-at-end.ensures.count in
+    c.keep_filled.ensures
+    ∙ ap (λ ls. filter is_filled (entries_in ls)) (c.loop-at.invariant.columns
+    ∙ run_all kept_in leaf_rows c.args.flags.now c.args.columns.now c.loop-at.at (omega (arith, over, e)))
+    ∙ ap (filter is_filled) (kept_leaves c.args.flags.now c.args.columns.now)

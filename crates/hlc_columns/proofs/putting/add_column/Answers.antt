@@ -1,9 +1,14 @@
 -- The row goes into a column of its own; all others stay.
-use Rattle.std.proofs.Common.{◌<◌, refl, sym, ap, subst, length, arith, All}
+use Rattle.std.proofs.Common.{◌≡◌, ◌<◌, refl, sym, ap, subst, length, arith, All, None}
+use Rattle.std.specs.Map.{lookup}
 use Rattle.hlc_index.specs.Entries.{entries_in}
 use Rattle.hlc_columns.specs.Parts.{new_row}
+use Rattle.hlc_columns.specs.Cells.{value_bytes}
+use Rattle.hlc_columns.specs.Sizes.{sizes_of, with_row, with_key}
 use Rattle.hlc_columns.specs.Table.{indexed_rows}
+use Rattle.hlc_columns.proofs.Found.{test}
 use Rattle.hlc_columns.proofs.Inserted.{all_inserted, added_as}
+use Rattle.hlc_columns.proofs.SizeLemmas.{sizes_added}
 use Rattle.hlc_columns.proofs.putting.add_column.Goals as goal
 
 pub returns-clause-ok : goal.returns-clause-ok
@@ -18,3 +23,14 @@ returns-clause-filled c =
     subst (All (λ e. 0 < length e.1)) (sym c.in_ok-insert.ensures.ok)
     (all_inserted _ (entries_in c.args.columns.now) c.in_ok-key.key c.in_ok-column.column c.requires.filled
     (omega (arith, one)))
+
+pub returns-clause-sizes : goal.returns-clause-sizes
+returns-clause-sizes c =
+    subst (λ k. sizes_of (entries_in c.insert.new.self)
+    ≡ with_key (with_row (sizes_of (entries_in c.args.columns.now)) (value_bytes c.args.row.value)) (length k))
+    c.in_ok-key.ensures.bytes
+    (sizes_added c.in_ok-key.key
+    (record { stamp = c.args.row.stamp; node = c.args.row.node; value = c.args.row.value })
+    c.in_ok-column.column (entries_in c.args.columns.now) (entries_in c.insert.new.self)
+    (subst (λ k. lookup (test k) (entries_in c.args.columns.now) ≡ None) (sym c.in_ok-key.ensures.bytes)
+    c.requires.new) c.in_ok-column.ensures c.in_ok-insert.ensures.ok)

@@ -1,11 +1,13 @@
 -- The row goes to the end of the column of the key at that position; all others stay.
-use Rattle.std.proofs.Common.{◌<◌, ◌≤◌, refl, sym, subst, length, arith, All, List, ℕ, [], get_or}
+use Rattle.std.proofs.Common.{◌<◌, ◌≤◌, refl, sym, subst, length, arith, All, List, ℕ, [], get_or, ap, ◌∙◌}
+use Rattle.std.specs.Map.{set_value}
 use Rattle.std.proofs.lemmas.Result.{on_ok_weaker, on_err_weaker}
 use Rattle.hlc_index.specs.Entries.{entries_in, keys_in, with_value_in, IsEntryAt}
 use Rattle.hlc_index.proofs.EntryLemmas.{entry_found, entry_written}
 use Rattle.hlc_columns.specs.Table.{indexed_rows}
 use Rattle.hlc_columns.proofs.Found.{test}
-use Rattle.hlc_columns.proofs.Inserted.{all_set, found_some, pushed_as, kept_as}
+use Rattle.hlc_columns.proofs.Inserted.{all_set, found_some, pushed_as, kept_as, same_set}
+use Rattle.hlc_columns.proofs.SizeLemmas.{sizes_pushed}
 use Rattle.hlc_columns.proofs.putting.push_at.Goals as goal
 
 -- the key at the position
@@ -52,3 +54,24 @@ returns-clause-filled c =
     c.push_cell.new.column))
     (all_set (test (own c)) (entries_in c.args.columns.now) c.push_cell.new.column c.requires.filled
     (omega (arith, some, grows)))
+
+pub returns-clause-sizes : goal.returns-clause-sizes
+returns-clause-sizes c =
+    on_ok_weaker c.push_cell.result
+    (λ more. sizes_pushed (own c) (record { stamp = c.args.stamp; node = c.args.node; value = c.args.value })
+    c.value_mut-column.result.now c.push_cell.new.column (entries_in c.args.columns.now)
+    (entries_in (with_value_in c.args.columns.now c.args.at c.args.slot c.push_cell.new.column))
+    (entry_found c.args.columns.now (own c) c.args.at c.args.slot (place c) c.value_mut-column.ensures.ascend
+    c.value_mut-column.result.now c.value_mut-column.ensures.value) more
+    (entry_written c.args.columns.now (own c) c.args.at c.args.slot (place c) c.value_mut-column.ensures.ascend
+    c.push_cell.new.column)) c.push_cell.ensures.ok
+
+pub returns-clause-same : goal.returns-clause-same
+returns-clause-same c =
+    on_err_weaker c.push_cell.result
+    (λ stays. entry_written c.args.columns.now (own c) c.args.at c.args.slot (place c)
+    c.value_mut-column.ensures.ascend c.push_cell.new.column
+    ∙ ap (set_value (test (own c)) (entries_in c.args.columns.now)) stays
+    ∙ same_set (own c) c.value_mut-column.result.now (entries_in c.args.columns.now)
+    (entry_found c.args.columns.now (own c) c.args.at c.args.slot (place c) c.value_mut-column.ensures.ascend
+    c.value_mut-column.result.now c.value_mut-column.ensures.value)) c.push_cell.ensures.err

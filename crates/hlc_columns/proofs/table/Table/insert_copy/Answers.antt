@@ -33,7 +33,8 @@ invariant_of-self c =
       c.put_row.ensures.filled,
       either-IsRowSet c.put_row.result c.args.self.now (row_in at) _ (added at) (stayed at) c.requires
           (subst IsRowSet c.self.view_is c.self.invariant.1),
-      c.put_row.ensures.count,
+      c.put_row.ensures.sizes,
+      c.put_row.ensures.fit,
     )
 
 pub returns-clause-ok : goal.returns-clause-ok

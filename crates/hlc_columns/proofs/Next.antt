@@ -1,0 +1,223 @@
+-- The first columns above a key are all those of a range of keys.
+use Rattle.std.proofs.Common.{◌≡◌, ◌≢◌, ℕ, zero, suc, ◌+◌, ◌<◌, ◌≤◌, Bool, true, false, cond, List, [], ◌∷◌, ◌++◌}
+use Rattle.std.proofs.Common.{refl, sym, ap, ap₂, ◌∙◌, inl, inr, arith, take, drop, filter, length, subst, All, Some}
+use Rattle.std.proofs.Common.{None, Option, Ordering, Less, Equal, Greater, ltb, ◌&&◌, get_or}
+use Rattle.std.specs.Prelude.{not}
+use Rattle.std.specs.Ordering.{is_gt, ordering_reverse}
+use Rattle.std.specs.List.{AllByRecursion}
+use Rattle.std.specs.List.Sorted.{IsStrictlySortedBy}
+use Rattle.std.specs.Cmp.Lexicographic.{nat_list_cmp_total}
+use Rattle.std.proofs.lemmas.Bool.{cases_Bool, ltb-true}
+use Rattle.std.proofs.lemmas.List.{append-nil, take-append-drop, length-map}
+use Rattle.std.proofs.lemmas.List.Elements.{All-from_recursion, All-nil, All-cons}
+use Rattle.std.proofs.lemmas.List.Elements.{filter-append, All-map, All-take, All-tail, All-weaker}
+use Rattle.hlc_node.specs.declared.row.Row.{Row}
+use Rattle.hlc_index.specs.Entries.{keys_in, key_cmp}
+use Rattle.hlc_index.proofs.Slots.{itself}
+use Rattle.hlc_columns.specs.Cells.{Cell}
+use Rattle.hlc_columns.specs.Rows.{KeyCells, rows_of, row_of, KeysAscend}
+use Rattle.hlc_columns.specs.Table.{table_rows, keyed}
+use Rattle.hlc_columns.specs.Answers.{AreAbove, AreNext, in_part, is_upto, part_end, last_key}
+use Rattle.hlc_columns.proofs.Keys.{rows_keyed, keys_keyed}
+use Rattle.hlc_columns.proofs.WalkLemmas.{Entry, one_of, rows_both}
+use Rattle.hlc_columns.proofs.Listed.{ascend_from}
+use Rattle.hlc_columns.proofs.KeptOf.{all_left, all_right}
+
+-- the rows of columns whose keys all are of a kind, or none of them
+pub pass_all : (is_of : List ℕ → Bool) (es : List Entry) → All (λ e. is_of e.0 ≡ true) es
+    → filter (λ row. is_of row.key) (table_rows es) ≡ table_rows es
+pass_all is_of [] all = refl
+pass_all is_of (e ∷ es) all =
+    filter-append (λ (row : Row). is_of row.key) (rows_of e.0 e.1) (table_rows es)
+    ∙ ap₂ (λ a b. a ++ b) (own e.1)
+    (pass_all is_of es (All-tail (λ (e : Entry). is_of e.0 ≡ true) e es all))
+  where
+    own : (cells : List Cell) → filter (λ row. is_of row.key) (rows_of e.0 cells) ≡ rows_of e.0 cells
+    own [] = refl
+    own (c ∷ cs) =
+        ap (λ b. cond b (row_of e.0 c ∷ filter (λ (row : Row). is_of row.key) (rows_of e.0 cs))
+        (filter (λ (row : Row). is_of row.key) (rows_of e.0 cs))) (all 0 e (omega arith))
+        ∙ ap (λ l. row_of e.0 c ∷ l) (own cs)
+
+pub pass_none : (is_of : List ℕ → Bool) (es : List Entry) → All (λ e. is_of e.0 ≡ false) es
+    → filter (λ row. is_of row.key) (table_rows es) ≡ []
+pass_none is_of [] all = refl
+pass_none is_of (e ∷ es) all =
+    filter-append (λ (row : Row). is_of row.key) (rows_of e.0 e.1) (table_rows es)
+    ∙ ap₂ (λ a b. a ++ b) (own e.1)
+    (pass_none is_of es (All-tail (λ (e : Entry). is_of e.0 ≡ false) e es all))
+  where
+    own : (cells : List Cell) → filter (λ row. is_of row.key) (rows_of e.0 cells) ≡ []
+    own [] = refl
+    own (c ∷ cs) =
+        ap (λ b. cond b (row_of e.0 c ∷ filter (λ (row : Row). is_of row.key) (rows_of e.0 cs))
+        (filter (λ (row : Row). is_of row.key) (rows_of e.0 cs))) (all 0 e (omega arith))
+        ∙ own cs
+
+sorted_first : (xs ys : List Entry) → IsStrictlySortedBy key_cmp (keys_in (xs ++ ys))
+    → IsStrictlySortedBy key_cmp (keys_in xs)
+unfolding IsStrictlySortedBy
+sorted_first [] ys up = tt
+sorted_first (x ∷ xs) ys up = (go xs up.0, sorted_first xs ys up.1)
+  where
+    go : (xs : List Entry) → AllByRecursion (λ k. key_cmp x.0 k ≡ Less) (keys_in (xs ++ ys))
+        → AllByRecursion (λ k. key_cmp x.0 k ≡ Less) (keys_in xs)
+    go [] h = tt
+    go (z ∷ zs) h = (h.0, go zs h.1)
+
+-- the last key of ascending columns
+below_last : (k other : List ℕ) (e : Entry) (es : List Entry)
+    → AllByRecursion (λ x. key_cmp k x ≡ Less) (keys_in (e ∷ es)) → key_cmp k (last_key other (keyed (e ∷ es))) ≡ Less
+below_last k other e [] h = h.0
+below_last k other e (f ∷ es) h = below_last k e.0 f es h.1
+
+not_gt_less : (o : Ordering) → o ≡ Less → is_gt o ≡ false
+not_gt_less o is = ap is_gt is
+
+first_upto : (e : Entry) (es : List Entry) → AllByRecursion (λ x. key_cmp e.0 x ≡ Less) (keys_in es)
+    → is_gt (key_cmp e.0 (last_key e.0 (keyed es))) ≡ false
+first_upto e [] h = ap is_gt (itself e.0)
+first_upto e (f ∷ es) h = not_gt_less _ (below_last e.0 e.0 f es h)
+
+upto_last : (key : List ℕ) (es : List Entry) → IsStrictlySortedBy key_cmp (keys_in es)
+    → All (λ e. is_gt (key_cmp e.0 (last_key key (keyed es))) ≡ false) es
+unfolding IsStrictlySortedBy
+upto_last key [] up = All-nil (λ (e : Entry). is_gt (key_cmp e.0 (last_key key (keyed []))) ≡ false)
+upto_last key (e ∷ es) up =
+    All-cons (λ (x : Entry). is_gt (key_cmp x.0 (last_key e.0 (keyed es))) ≡ false) e es (first_upto e es up.0)
+    (upto_last e.0 es up.1)
+
+over_last : (key : List ℕ) (es more : List Entry) → IsStrictlySortedBy key_cmp (keys_in (es ++ more))
+    → All (λ e. key_cmp e.0 key ≡ Greater) more → All (λ e. key_cmp e.0 (last_key key (keyed es)) ≡ Greater) more
+unfolding IsStrictlySortedBy
+over_last key [] more up over = over
+over_last key (e ∷ es) more up over =
+    over_last e.0 es more up.1
+    (All-from_recursion (λ (x : Entry). key_cmp x.0 e.0 ≡ Greater) more (go es up.0))
+  where
+    last : (ms : List Entry) → AllByRecursion (λ k. key_cmp e.0 k ≡ Less) (keys_in ms)
+        → AllByRecursion (λ (x : Entry). key_cmp x.0 e.0 ≡ Greater) ms
+    last [] h = tt
+    last (m ∷ ms) h = (nat_list_cmp_total.antisymm m.0 e.0 ∙ ap ordering_reverse h.0, last ms h.1)
+
+    go : (es : List Entry) → AllByRecursion (λ k. key_cmp e.0 k ≡ Less) (keys_in (es ++ more))
+        → AllByRecursion (λ (x : Entry). key_cmp x.0 e.0 ≡ Greater) more
+    go [] h = last more h
+    go (d ∷ ds) h = go ds h.1
+
+take_few : (n : ℕ) (es : List Entry) → length (take n es) ≤ n
+take_few zero es = omega arith
+take_few (suc n) [] = omega arith
+take_few (suc n) (e ∷ es) = let rest = take_few n es in omega (arith, rest)
+
+-- what is left if fewer were taken
+drop_none : (n : ℕ) (es : List Entry) → length (take n es) < n → drop n es ≡ []
+drop_none zero es lt = absurd (omega (arith, lt))
+drop_none (suc n) [] lt = refl
+drop_none (suc n) (e ∷ es) lt = drop_none n es (omega (arith, lt))
+
+not_greater_gt : (o : Ordering) → o ≢ Greater → is_gt o ≡ false
+not_greater_gt o ne = elim o as (λ p. o ≡ p → is_gt p ≡ false) [
+  | Less ↦ λ is. refl
+  | Equal ↦ λ is. refl
+  | Greater ↦ λ is. absurd (ne is)
+] refl
+
+module _ (key : List ℕ) (most : ℕ) (above : List Entry) (over : All (λ e. key_cmp e.0 key ≡ Greater) above)
+    (up : IsStrictlySortedBy key_cmp (keys_in above)) where
+  abbrev first : List Entry
+  first = take most above
+
+  abbrev rest : List Entry
+  rest = drop most above
+
+  abbrev end : Option (List ℕ)
+  end = part_end key most (keyed first)
+
+  parts : above ≡ first ++ rest
+  parts = sym (take-append-drop most above)
+
+  over_parts : All (λ e. key_cmp e.0 key ≡ Greater) (first ++ rest)
+  over_parts = subst (All (λ (e : Entry). key_cmp e.0 key ≡ Greater)) parts over
+
+  up_parts : IsStrictlySortedBy key_cmp (keys_in (first ++ rest))
+  up_parts = subst (λ es. IsStrictlySortedBy key_cmp (keys_in es)) parts up
+
+  first_up : IsStrictlySortedBy key_cmp (keys_in first)
+  first_up = sorted_first first rest up_parts
+
+  upto_end : All (λ e. is_upto end e.0 ≡ true) first
+  upto_end = elim (ltb (length (keyed first)) most) as (λ b.
+      All (λ (e : Entry). is_upto (cond b None (Some (last_key key (keyed first)))) e.0 ≡ true) first) [
+        | true ↦ λ i d lt. refl
+        | false ↦ All-weaker (λ (e : Entry). is_gt (key_cmp e.0 (last_key key (keyed first))) ≡ false)
+            (λ e. is_upto (Some (last_key key (keyed first))) e.0 ≡ true) (λ e is. ap not is) first
+            (upto_last key first first_up)
+      ]
+
+  pub first_inside : All (λ e. in_part key end e.0 ≡ true) first
+  first_inside i d lt =
+      ap₂ (λ a b. a && b)
+      (ap is_gt (all_left (λ (e : Entry). key_cmp e.0 key ≡ Greater) first rest over_parts i d lt))
+      (upto_end i d lt)
+
+  rest_over : All (λ e. in_part key end e.0 ≡ false) rest
+  rest_over = elim (cases_Bool (ltb (length (keyed first)) most)) [
+    | inl t ↦
+        let few = ltb-true (length (keyed first)) most t in
+        let long = length-map first one_of in
+        subst (All (λ (e : Entry). in_part key end e.0 ≡ false))
+        (sym (drop_none most above (omega (arith, few, long))))
+        (All-nil (λ (e : Entry). in_part key end e.0 ≡ false))
+    | inr f ↦ subst (λ b. All (λ (e : Entry). in_part key (cond b None (Some (last_key key (keyed first)))) e.0 ≡ false)
+        rest) (sym f)
+        (λ i d lt.
+        let gt = over_last key first rest up_parts
+        (all_right (λ (e : Entry). key_cmp e.0 key ≡ Greater) first rest over_parts) i d lt in
+        ap₂ (λ a b. a && b)
+        (ap is_gt (all_right (λ (e : Entry). key_cmp e.0 key ≡ Greater) first rest over_parts i d lt))
+        (ap (λ o. not (is_gt o)) gt))
+  ]
+
+  pub above_exact : filter (λ row. in_part key end row.key) (table_rows above) ≡ table_rows first
+  above_exact =
+      ap (λ es. filter (λ (row : Row). in_part key end row.key) (table_rows es)) parts
+      ∙ ap (filter (λ (row : Row). in_part key end row.key)) (rows_both first rest)
+      ∙ filter-append (λ (row : Row). in_part key end row.key) (table_rows first) (table_rows rest)
+      ∙ ap₂ (λ a b. a ++ b) (pass_all (in_part key end) first first_inside)
+      (pass_none (in_part key end) rest rest_over)
+      ∙ append-nil (table_rows first)
+
+  pub next_few : length (keyed first) ≤ most
+  next_few = let few = take_few most above in let long = length-map first one_of in omega (arith, few, long)
+
+  pub next_ascend : KeysAscend (keyed first)
+  next_ascend = keys_keyed first first_up
+
+pub are_next : (es : List Entry) (key : List ℕ) (above : List Entry) → AreAbove es key above → (most : ℕ)
+    (columns : List KeyCells) → columns ≡ keyed (take most above) → IsStrictlySortedBy key_cmp (keys_in es)
+    → All (λ e. 0 < length e.1) es → AreNext (table_rows es) key most columns
+are_next es key above h most columns is up filled =
+    let up_whole : IsStrictlySortedBy key_cmp (keys_in (h.front ++ above)) =
+    subst (λ es. IsStrictlySortedBy key_cmp (keys_in es)) h.whole up in
+    let up_above = ascend_from h.front above up_whole in
+    let some = subst (All (λ (e : Entry). 0 < length e.1)) h.whole filled in
+    let some_above = all_right (λ (e : Entry). 0 < length e.1) h.front above some in
+    let end : Option (List ℕ) = part_end key most (keyed (take most above)) in
+    subst (AreNext (table_rows es) key most) (sym is) (record {
+      few = next_few key most above h.all_above up_above;
+      ascend = next_ascend key most above h.all_above up_above;
+      filled = All-map (λ (one : KeyCells). 0 < length one.cells) one_of (take most above)
+          (All-take (λ (e : Entry). 0 < length e.1) most above some_above);
+      inside = All-map (λ (one : KeyCells). in_part key end one.key ≡ true) one_of (take most above)
+          (first_inside key most above h.all_above up_above);
+      exact = ap (λ es. filter (λ (row : Row). in_part key end row.key) (table_rows es)) h.whole
+          ∙ ap (filter (λ (row : Row). in_part key end row.key)) (rows_both h.front above)
+          ∙ filter-append (λ (row : Row). in_part key end row.key) (table_rows h.front) (table_rows above)
+          ∙ ap₂ (λ a b. a ++ b)
+          (pass_none (in_part key end) h.front
+          (λ i d lt. ap (λ b. b && is_upto end (get_or h.front i d).0)
+          (not_greater_gt _ (h.not_above i d lt))))
+          (above_exact key most above h.all_above up_above)
+          ∙ sym (rows_keyed (take most above));
+    })

@@ -1,0 +1,61 @@
+//! The columns of the keys above a key.
+ghost use Rattle.std.specs.Prelude.{◌≡◌, ◌≢◌, ◌++◌, All, IfOk, OnOk, take, ℕ, List};
+ghost use Rattle.std.specs.declared.cmp.Ordering.TheVariants.{Greater};
+ghost use Rattle.std.specs.List.Sorted.{IsStrictlySortedBy};
+ghost use Rattle.hlc_index.specs.Entries.{entries_in, keys_in, key_cmp};
+ghost use Rattle.hlc_columns.specs.Cells.{Cell};
+ghost use Rattle.hlc_columns.specs.Table.{keyed};
+ghost use Rattle.hlc_columns.specs.Answers.{entries_left, AreAbove};
+
+use crate::answers::Walk;
+use crate::boxed::BoxedColumn;
+use crate::keyed::Keyed;
+use hlc_index::Index;
+use hlc_values::NoMemory;
+use std::alloc::Global;
+
+/// Returns the first columns whose keys are above a key, at most so many, each with its key.
+pub(crate) fn columns_above<'a>(
+    alloc: Global,
+    columns: &'a Index<BoxedColumn>,
+    key: &[u8],
+    most: usize,
+) -> Result<Vec<Keyed<'a>>, NoMemory>
+    ensures list { IfOk result (λ list. (above : List (List ℕ × List Cell))
+        × AreAbove (entries_in columns.now) key.now above × (list.items ≡ keyed (take most above))) }
+    ensures ascend { IsStrictlySortedBy key_cmp (keys_in (entries_in columns.now)) }
+{
+    let mut walk = walk_above(columns, key);
+    take_columns(alloc, &mut walk, most)
+}
+
+/// Returns a walk over the columns whose keys are above a key.
+fn walk_above<'a>(columns: &'a Index<BoxedColumn>, key: &[u8]) -> Walk<'a>
+    ensures above { AreAbove (entries_in columns.now) key.now (entries_left result) }
+    ensures ascend { IsStrictlySortedBy key_cmp (keys_in (entries_in columns.now)) }
+{
+    let (at, slot) = columns.seek(key);
+    let mut walk = Walk::from_slot(columns, at, slot);
+    if walk.is_at(key) {
+        walk.next();
+    }
+    walk
+}
+
+/// Returns the next columns of a walk, at most so many.
+fn take_columns<'a>(
+    alloc: Global,
+    walk: &mut Walk<'a>,
+    most: usize,
+) -> Result<Vec<Keyed<'a>>, NoMemory>
+    ensures { IfOk result (λ list. list.items ≡ keyed (take most (entries_left walk.old))) }
+{
+    let mut list = Vec::new(alloc);
+    for _ in 0..most {
+        let Some(next) = walk.next() else {
+            return Ok(list);
+        };
+        list.push(Keyed::new(next.0.as_slice(), next.1.get()))?;
+    }
+    Ok(list)
+}

@@ -1,0 +1,54 @@
+//! Dropping rows of one key.
+ghost use Rattle.std.specs.Prelude.{◌≡◌, ◌+◌, ◌<◌, ◌++◌, ◌∷◌, [], length, slice_index_or};
+ghost use Rattle.std.specs.List.{items_where_true};
+ghost use Rattle.hlc_index.specs.Entries.{entries_in, entries_before, entries_from};
+ghost use Rattle.hlc_columns.specs.Sizes.{sizes_of, Fit};
+ghost use Rattle.hlc_columns.specs.Table.{cells_at, key_at, if_filled};
+
+use crate::boxed::BoxedColumn;
+use crate::dropping::keep_at;
+use crate::sizes::sizes_of_column;
+use hlc_index::Index;
+use hlc_sizes::Sizes;
+
+/// Keeps only the flagged rows of the column at a position, in their order. The column is removed if it is left without
+/// rows. It needs no memory.
+pub(crate) fn keep_column(
+    columns: &mut Index<BoxedColumn>,
+    sizes: &mut Sizes,
+    at: usize,
+    slot: usize,
+    flags: &[bool],
+)
+    requires leaf { at < length columns.old }
+    requires inside { slot < length (slice_index_or columns.old at []) }
+    requires many { length flags.now ≡ length (cells_at columns.old at slot) }
+    requires sizes { sizes.old ≡ sizes_of (entries_in columns.old) }
+    requires fit { Fit sizes.old }
+    ensures entries { entries_in columns.new ≡ entries_before columns.old at slot
+        ++ (if_filled (key_at columns.old at slot, items_where_true flags.now (cells_at columns.old at slot))
+        ++ entries_from columns.old at (slot + 1)) }
+    ensures sizes { sizes.new ≡ sizes_of (entries_in columns.new) }
+    ensures fit { Fit sizes.new }
+{
+    let before = sizes_at(columns, at, slot);
+    keep_at(columns, at, slot, flags);
+    let after = sizes_at(columns, at, slot);
+    let others = sizes.minus(before);
+    if after.rows == 0 {
+        columns.remove(at, slot);
+        *sizes = others;
+    } else {
+        *sizes = others.plus(after);
+    }
+}
+
+/// Returns the sizes of the column at a position.
+fn sizes_at(columns: &Index<BoxedColumn>, at: usize, slot: usize) -> Sizes
+    requires leaf { at < length columns.now }
+    requires inside { slot < length (slice_index_or columns.now at []) }
+    ensures { result ≡ sizes_of ((key_at columns.now at slot, cells_at columns.now at slot) ∷ []) }
+{
+    let entry = &columns.leaf(at)[slot];
+    sizes_of_column(entry.0.as_slice(), entry.1.get())
+}

@@ -1,0 +1,6 @@
+//! How many rows, keys and bytes a table has.
+#![tactic(auto)]
+
+mod sizes;
+
+pub use sizes::{Sizes, length_of};
