@@ -14,6 +14,6 @@ pub use hlc_clock::{ClockFault, ReadingTooLarge};
 pub use hlc_core::{
     Accepted, Answers, Body, BodyFault, Bytes, Checkpoint, Core, CoreEvent, CoreFault, CoreReply,
     Item, ItemRef, JoinFault, LinkFault, Listing, NoMemory, NoNode, NoSnapshot, Pair, Points,
-    Report, RestoreFault, Row, Snapshot, SnapshotFault, Stamp, View, Witness, Witnesses,
+    Report, RestoreFault, Row, Sizes, Snapshot, SnapshotFault, Stamp, View, Witness, Witnesses,
 };
 pub use hlc_node::{Message, NodeCore, NodeFault, RefusedWrite, Written};

@@ -1,13 +1,17 @@
 -- What each call returns to C, for one past that the store represented.
-use Rattle.std.specs.Prelude.{◌≡◌, ℕ, ◌+◌, ◌<◌, ◌≤◌, List, ◌∷◌, ◌++◌, length, drop, min, Option, Some, None, ⊤}
+use Rattle.std.specs.Prelude.{◌≡◌, ℕ, ◌+◌, ◌<◌, ◌≤◌, List, ◌∷◌, ◌++◌, length, drop, min, Option, Some, None, ⊤, Bool, true}
+use Rattle.std.specs.Prelude.{false}
 use Rattle.hlc_node.specs.declared.item.Item.{Item}
 use Rattle.hlc_node.specs.declared.row.Row.{Row}
 use Rattle.hlc_node.specs.Rows.{answer}
+use Rattle.hlc_columns.specs.Answers.{in_part}
+use Rattle.hlc_columns.specs.Sizes.{Sizes}
 use Rattle.hlc_vacuum.specs.declared.report.Report.{Report}
 use Rattle.hlc_core.specs.Past.{Step, Took, Opened, Closed, Joined, numbered, floor, opened, stamp_of}
 use Rattle.hlc_core.specs.Past.{item_refusal, join_refusal, join_at_refusal, open_refusal, room_refusal, vacuum_refusal}
 use Rattle.hlc_core.specs.StoreView.{StoreView, nodes, Represents}
-use Rattle.hlc_core.specs.Calls.{IsWrite, Vacuums}
+use Rattle.hlc_core.specs.Calls.{IsWrite, AreSizes, Vacuums}
+use Rattle.hlc_core.specs.Parts.{EndsAt, Trims}
 use Rattle.hlc_calls.specs.Outcome.{IsAnswered}
 
 -- the item was accepted, and its stamp is returned; or it was refused
@@ -75,6 +79,12 @@ ReturnsRead (Some stamp) rows key code len old new = ReturnsAnswer (answer rows 
 abbrev pub narrowed : ℕ → ℕ
 narrowed number = min number 18446744073709551615
 
+-- the sizes of the rows, each narrowed: how many rows and keys there are, the bytes of the keys, those of the values
+abbrev pub ReturnsSizes : List Row → ℕ → ℕ → ℕ → ℕ → Type 0
+ReturnsSizes stored rows keys key_bytes value_bytes =
+    (sizes : Sizes) × AreSizes stored sizes × (rows ≡ narrowed sizes.rows) × (keys ≡ narrowed sizes.keys)
+    × (key_bytes ≡ narrowed sizes.key_bytes) × (value_bytes ≡ narrowed sizes.value_bytes)
+
 -- the numbers of a report: its floor, how many rows were kept, what they cost, and how many were dropped
 abbrev pub AreNumbers : Report → ℕ → ℕ → ℕ → ℕ → Type 0
 AreNumbers report floor kept bytes dropped =
@@ -101,3 +111,27 @@ ReturnsVacuumedTo old new at past code returned kept bytes dropped =
 abbrev pub ReturnsVacuumChecked : StoreView → ℕ → List Step → ℕ → ℕ → Type 0
 ReturnsVacuumChecked kept at past code returned = IsAnswered (vacuum_refusal (nodes kept) past at) ⊥ (returned ≡ 0)
     code returned
+
+-- where a part ended: the length of its last key and, where it fits, the key, and that a key is left above it; or no
+-- bytes, and that none is left
+abbrev pub ReturnsEnd : Option (List ℕ) → ℕ → Bool → List ℕ → List ℕ → Type 0
+ReturnsEnd None len more old new = (len ≡ 0) × (more ≡ false) × (new ≡ old)
+ReturnsEnd (Some key) len more old new = (len ≡ length key) × (more ≡ true) × IsCopied key old new
+
+-- a part of a vacuum to the stamp took place, of the first keys above one, at most so many, and the numbers of its
+-- report are returned, and where it ended
+abbrev pub ReturnsPart
+    : StoreView → StoreView → ℕ → List ℕ → ℕ → List Step
+    → ℕ → ℕ → ℕ → ℕ → ℕ → Bool → List ℕ → List ℕ → Type 0
+ReturnsPart old new at after most past floor kept bytes dropped len more before out =
+    (report : Report) × (end : Option (List ℕ)) × EndsAt old after most end
+    × Trims old new at past (in_part after end) report × AreNumbers report floor kept bytes dropped
+    × ReturnsEnd end len more before out
+
+-- the same, or it was refused
+abbrev pub ReturnsVacuumedPart
+    : StoreView → StoreView → ℕ → List ℕ → ℕ → List Step
+    → ℕ → ℕ → ℕ → ℕ → ℕ → ℕ → Bool → List ℕ → List ℕ → Type 0
+ReturnsVacuumedPart old new at after most past code returned kept bytes dropped len more before out =
+    IsAnswered (vacuum_refusal (nodes old) past at) ⊤
+    (ReturnsPart old new at after most past returned kept bytes dropped len more before out) code returned

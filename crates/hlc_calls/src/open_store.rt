@@ -1,13 +1,14 @@
 //! The calls of an open store, with their answers as the numbers that C gets.
-ghost use Rattle.std.specs.Prelude.{◌≡◌, ◌≢◌, List, length};
+ghost use Rattle.std.specs.Prelude.{◌≡◌, ◌≢◌, List, length, false};
 ghost use Rattle.hlc_core.specs.Past.{Step, stamp_of, writes};
 ghost use Rattle.hlc_core.specs.StoreView.{nodes, Represents};
 ghost use Rattle.hlc_calls.specs.Answers.{ReturnsJoined, ReturnsJoinedAt, ReturnsOpened, ReturnsOpenedAtFloor};
 ghost use Rattle.hlc_calls.specs.Answers.{ReturnsClosed, IsCopied, ReturnsRead, ReturnsVacuumedAtFloor};
-ghost use Rattle.hlc_calls.specs.Answers.{ReturnsVacuumedTo, ReturnsVacuumChecked, AreNumbers, narrowed};
+ghost use Rattle.hlc_calls.specs.Answers.{ReturnsVacuumedTo, ReturnsVacuumChecked, ReturnsSizes, AreNumbers};
+ghost use Rattle.hlc_calls.specs.Answers.{narrowed, ReturnsVacuumedPart, ReturnsEnd};
 
 use crate::codes::{answer, refuse};
-use hlc_core::{Core, Report, Stamp};
+use hlc_core::{Bytes, Core, Report, Stamp};
 
 /// Lets a node join. Returns 0, its number and the stamp of its start, or a refusal.
 #[tactic(auto, using(crate::proofs::Refusals::refused_returns, crate::proofs::Refusals::made_returns))]
@@ -150,6 +151,24 @@ pub fn rows(core: &Core) -> u64
     narrow(core.rows())
 }
 
+/// Writes how many rows and keys are stored, the bytes of the keys, each counted once, and those of the values of all
+/// rows.
+pub fn sizes(
+    core: &Core,
+    rows: &mut u64,
+    keys: &mut u64,
+    key_bytes: &mut u64,
+    value_bytes: &mut u64,
+)
+    ensures { ReturnsSizes core.now.rows rows.new keys.new key_bytes.new value_bytes.new }
+{
+    let sizes = core.sizes();
+    *rows = narrow(sizes.rows);
+    *keys = narrow(sizes.keys);
+    *key_bytes = narrow(sizes.key_bytes);
+    *value_bytes = narrow(sizes.value_bytes);
+}
+
 /// Writes the content of a report: its floor, how many rows were kept, what they cost in bytes, and how many were
 /// dropped.
 pub(crate) fn put_report(
@@ -238,5 +257,55 @@ pub fn vacuum_to(
             0
         }
         Err(fault) => refuse(&fault, returned),
+    }
+}
+
+/// Makes a part of a vacuum to a stamp, of the first keys above one, at most so many. Returns 0, the stamp, the numbers
+/// of the part, the length of its last key and, where it fits, the key, and whether a key is left above it; or a refusal
+/// and its word.
+pub fn vacuum_part(
+    core: &mut Core,
+    at: Stamp,
+    after: &[u8],
+    most: usize,
+    returned: &mut u64,
+    kept: &mut u64,
+    bytes: &mut u64,
+    dropped: &mut u64,
+    out: &mut [u8],
+    len: &mut usize,
+    more: &mut bool,
+) -> u32
+    ensures answer { (past : List Step) → Represents core.old past
+        → ReturnsVacuumedPart core.old core.new at after.now most past result returned.new
+        kept.new bytes.new dropped.new len.new more.new out.old out.new }
+    ensures same { result ≢ 0 → core.new ≡ core.old }
+    ensures nothing { result ≢ 0 → (kept.new ≡ 0) × (bytes.new ≡ 0) × (dropped.new ≡ 0)
+        × (len.new ≡ 0) × (more.new ≡ false) × (out.new ≡ out.old) }
+    ensures nodes { nodes core.new ≡ nodes core.old }
+{
+    *kept = 0;
+    *bytes = 0;
+    *dropped = 0;
+    *len = 0;
+    *more = false;
+    match core.vacuum_part(at, after, most) {
+        Ok((report, end)) => {
+            put_report(&report, returned, kept, bytes, dropped);
+            put_end(&end, out, len, more);
+            0
+        }
+        Err(fault) => refuse(&fault, returned),
+    }
+}
+
+/// Writes where a part of a vacuum ended.
+fn put_end(end: &Option<Bytes>, out: &mut [u8], len: &mut usize, more: &mut bool)
+    ensures { ReturnsEnd end.now len.new more.new out.old out.new }
+{
+    *len = 0;
+    *more = end.is_some();
+    if let Some(key) = end {
+        fill(key.as_slice(), out, len);
     }
 }

@@ -213,7 +213,7 @@ impl Checkpoint {
         self.opened
     }
 
-    /// Returns the stamp of the last vacuum, 0.0 before the first.
+    /// Returns the stamp of the last vacuum, or part of one, 0.0 before the first.
     pub fn horizon(&self) -> Stamp
         ensures { result ≡ self.now.horizon }
     {

@@ -17,8 +17,8 @@ use Rattle.hlc_snapshot.specs.RegistryView.{RegistryView, IsRegister, opened_at,
 use Rattle.hlc_snapshot.proofs.RegisterLemmas.{closed-is_register}
 use Rattle.hlc_witness.specs.Certificate.{RowsAscend}
 use Rattle.hlc_witness.specs.Cost.{IsInLimits}
-use Rattle.hlc_core.specs.Past.{Step, Took, Opened, Closed, Vacuumed, Joined, numbered, count, head, retired, top}
-use Rattle.hlc_core.specs.Past.{floor, horizon, opened, open_snapshots, of_registry, of_room}
+use Rattle.hlc_core.specs.Past.{Step, Took, Opened, Closed, Vacuumed, Trimmed, Joined, numbered, count, head, retired}
+use Rattle.hlc_core.specs.Past.{top, floor, horizon, opened, open_snapshots, of_registry, of_room}
 use Rattle.hlc_core.specs.Past.{IsLegal, writes, greatest_accepted}
 use Rattle.hlc_core.specs.declared.fault.CoreFault.TheVariants.{Join}
 use Rattle.hlc_heads.specs.declared.heads.JoinFault.TheVariants.{TooManyNodes}
@@ -39,6 +39,7 @@ numbered-from nodes (Took item ∷ past) = numbered-from nodes past
 numbered-from nodes (Opened stamp ∷ past) = numbered-from nodes past
 numbered-from nodes (Closed id ∷ past) = numbered-from nodes past
 numbered-from nodes (Vacuumed at ∷ past) = numbered-from nodes past
+numbered-from nodes (Trimmed at dropped ∷ past) = numbered-from nodes past
 numbered-from nodes (Joined node start ∷ past) = (let h = numbered-from nodes past in omega (arith, h))
 
 -- and no more numbers are assigned than there are
@@ -49,6 +50,7 @@ numbered-few nodes (Took item ∷ past) few legal = numbered-few nodes past few 
 numbered-few nodes (Opened stamp ∷ past) few legal = numbered-few nodes past few legal.1
 numbered-few nodes (Closed id ∷ past) few legal = numbered-few nodes past few legal.1
 numbered-few nodes (Vacuumed at ∷ past) few legal = numbered-few nodes past few legal.1
+numbered-few nodes (Trimmed at dropped ∷ past) few legal = numbered-few nodes past few legal.1
 numbered-few nodes (Joined node start ∷ past) few legal =
     elim (cases_lt (numbered nodes past) MOST_NUMBERS) [
       | inl below ↦ (let g : numbered nodes past < MOST_NUMBERS = below in omega arith)
@@ -62,6 +64,7 @@ heads-low nodes [] legal n = omega arith
 heads-low nodes (Opened stamp ∷ past) legal n = heads-low nodes past legal.1 n
 heads-low nodes (Closed id ∷ past) legal n = heads-low nodes past legal.1 n
 heads-low nodes (Vacuumed at ∷ past) legal n = heads-low nodes past legal.1 n
+heads-low nodes (Trimmed at dropped ∷ past) legal n = heads-low nodes past legal.1 n
 heads-low nodes (Joined node start ∷ past) legal n =
     let old : head n past ≤ top past = heads-low nodes past legal.3 n in
     elim (cases_eq node n) [
@@ -86,6 +89,7 @@ top-at nodes [] some legal = (0, some, refl)
 top-at nodes (Opened stamp ∷ past) some legal = top-at nodes past some legal.1
 top-at nodes (Closed id ∷ past) some legal = top-at nodes past some legal.1
 top-at nodes (Vacuumed at ∷ past) some legal = top-at nodes past some legal.1
+top-at nodes (Trimmed at dropped ∷ past) some legal = top-at nodes past some legal.1
 top-at nodes (Joined node start ∷ past) some legal =
     let old = top-at nodes past some legal.3 in
     let within : old.0 < numbered nodes past = old.1 in
@@ -179,6 +183,7 @@ register-of nodes [] legal =
     }
 register-of nodes (Took item ∷ past) legal = register-of nodes past legal.1
 register-of nodes (Vacuumed at ∷ past) legal = register-of nodes past legal.1
+register-of nodes (Trimmed at dropped ∷ past) legal = register-of nodes past legal.1
 register-of nodes (Joined node start ∷ past) legal = register-of nodes past legal.3
 register-of nodes (Closed id ∷ past) legal =
     closed-is_register (record { snapshots = open_snapshots past; opened = opened past }) id
@@ -195,6 +200,7 @@ count-low nodes [] legal n = omega arith
 count-low nodes (Opened stamp ∷ past) legal n = count-low nodes past legal.1 n
 count-low nodes (Closed id ∷ past) legal n = count-low nodes past legal.1 n
 count-low nodes (Vacuumed at ∷ past) legal n = count-low nodes past legal.1 n
+count-low nodes (Trimmed at dropped ∷ past) legal n = count-low nodes past legal.1 n
 count-low nodes (Joined node start ∷ past) legal n =
     let old : count n past ≤ head n past = count-low nodes past legal.3 n in
     elim (cases_eq node n) [
@@ -224,6 +230,7 @@ count-retired [] n has_retired = absurd cc
 count-retired (Opened stamp ∷ past) n has_retired = count-retired past n has_retired
 count-retired (Closed id ∷ past) n has_retired = count-retired past n has_retired
 count-retired (Vacuumed at ∷ past) n has_retired = count-retired past n has_retired
+count-retired (Trimmed at dropped ∷ past) n has_retired = count-retired past n has_retired
 count-retired (Joined node start ∷ past) n has_retired = count-retired past n has_retired
 count-retired (Took item ∷ past) n has_retired =
     elim (cases_eq item.node n) [

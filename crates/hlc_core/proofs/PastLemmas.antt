@@ -21,9 +21,9 @@ use Rattle.hlc_node.specs.Rows.{IsSameVersion, IsRowSet}
 use Rattle.hlc_heads.specs.Low.{low}
 use Rattle.hlc_heads.proofs.LowLemmas.{low-is, low-rises, low-joins, low-stays}
 use Rattle.hlc_witness.specs.Cost.{IsInLimits, AreInLimits}
-use Rattle.hlc_core.specs.Past.{Step, Took, Opened, Closed, Vacuumed, Joined, numbered, count, head, retired, top}
-use Rattle.hlc_core.specs.Past.{floor, horizon, open_snapshots, room_refusal, open_refusal, body_rows, item_rows}
-use Rattle.hlc_core.specs.Past.{writes, link_refusal, of_body, item_refusal, vacuum_refusal, IsLegal}
+use Rattle.hlc_core.specs.Past.{Step, Took, Opened, Closed, Vacuumed, Trimmed, Joined, numbered, count, head, retired}
+use Rattle.hlc_core.specs.Past.{top, floor, horizon, vacuumed, open_snapshots, room_refusal, open_refusal, body_rows}
+use Rattle.hlc_core.specs.Past.{item_rows, writes, link_refusal, of_body, item_refusal, vacuum_refusal, IsLegal}
 use Rattle.hlc_core.specs.Past.{greatest_accepted, join_refusal, join_at_refusal}
 use Rattle.hlc_heads.specs.declared.heads.TheConstants.{MOST_NUMBERS}
 
@@ -119,6 +119,7 @@ fresh nodes [] n legal out = (refl, refl)
 fresh nodes (Opened stamp ∷ past) n legal out = fresh nodes past n legal.1 out
 fresh nodes (Closed id ∷ past) n legal out = fresh nodes past n legal.1 out
 fresh nodes (Vacuumed at ∷ past) n legal out = fresh nodes past n legal.1 out
+fresh nodes (Trimmed at dropped ∷ past) n legal out = fresh nodes past n legal.1 out
 fresh nodes (Joined node start ∷ past) n legal out =
     fresh nodes past n legal.3 (let out' : numbered nodes past + 1 ≤ n = out in omega arith)
 fresh nodes (Took item ∷ past) n legal out =
@@ -187,6 +188,7 @@ inside-row nodes [] legal row m = absurd (Contains-none row m)
 inside-row nodes (Opened stamp ∷ past) legal row m = inside-row nodes past legal.1 row m
 inside-row nodes (Closed id ∷ past) legal row m = inside-row nodes past legal.1 row m
 inside-row nodes (Vacuumed at ∷ past) legal row m = inside-row nodes past legal.1 row m
+inside-row nodes (Trimmed at dropped ∷ past) legal row m = inside-row nodes past legal.1 row m
 inside-row nodes (Joined node start ∷ past) legal row m =
     let within : row.node < numbered nodes past = inside-row nodes past legal.3 row m in
     let goal : row.node < numbered nodes past + 1 = omega arith in goal
@@ -207,6 +209,7 @@ below_head nodes [] legal row m = absurd (Contains-none row m)
 below_head nodes (Opened stamp ∷ past) legal row m = below_head nodes past legal.1 row m
 below_head nodes (Closed id ∷ past) legal row m = below_head nodes past legal.1 row m
 below_head nodes (Vacuumed at ∷ past) legal row m = below_head nodes past legal.1 row m
+below_head nodes (Trimmed at dropped ∷ past) legal row m = below_head nodes past legal.1 row m
 below_head nodes (Joined node start ∷ past) legal row m =
     let old : row.stamp ≤ head row.node past = below_head nodes past legal.3 row m in
     elim (cases_eq node row.node) [
@@ -270,6 +273,7 @@ writes-row_set nodes [] legal = tt
 writes-row_set nodes (Opened stamp ∷ past) legal = writes-row_set nodes past legal.1
 writes-row_set nodes (Closed id ∷ past) legal = writes-row_set nodes past legal.1
 writes-row_set nodes (Vacuumed at ∷ past) legal = writes-row_set nodes past legal.1
+writes-row_set nodes (Trimmed at dropped ∷ past) legal = writes-row_set nodes past legal.1
 writes-row_set nodes (Joined node start ∷ past) legal = writes-row_set nodes past legal.3
 writes-row_set nodes (Took item ∷ past) legal =
     row_set-body item.node item.stamp item.body (writes past) (new_version nodes past item legal.1 legal.0)
@@ -289,6 +293,7 @@ writes-limits nodes [] legal = All-nil _
 writes-limits nodes (Opened stamp ∷ past) legal = writes-limits nodes past legal.1
 writes-limits nodes (Closed id ∷ past) legal = writes-limits nodes past legal.1
 writes-limits nodes (Vacuumed at ∷ past) legal = writes-limits nodes past legal.1
+writes-limits nodes (Trimmed at dropped ∷ past) legal = writes-limits nodes past legal.1
 writes-limits nodes (Joined node start ∷ past) legal = writes-limits nodes past legal.3
 writes-limits nodes (Took item ∷ past) legal =
     limits-body item.node item.stamp item.body (writes past)
@@ -356,6 +361,7 @@ open-low nodes (Opened stamp ∷ past) legal = All-push (λ snapshot. snapshot.s
 open-low nodes (Closed id ∷ past) legal =
     All-filter _ (λ snapshot. snapshot.stamp ≤ floor nodes past) _ (open-low nodes past legal.1)
 open-low nodes (Vacuumed at ∷ past) legal = open-low nodes past legal.1
+open-low nodes (Trimmed at dropped ∷ past) legal = open-low nodes past legal.1
 open-low nodes (Joined node start ∷ past) legal =
     let up : floor nodes past ≤ floor nodes (Joined node start ∷ past) =
     floor-joins nodes past node start legal.1 legal.2 in
@@ -413,10 +419,24 @@ horizon-low nodes (Took item ∷ past) legal =
 horizon-low nodes (Opened stamp ∷ past) legal = horizon-low nodes past legal.1
 horizon-low nodes (Closed id ∷ past) legal = horizon-low nodes past legal.1
 horizon-low nodes (Vacuumed at ∷ past) legal = vacuum-below nodes past at legal.0
+horizon-low nodes (Trimmed at dropped ∷ past) legal = vacuum-below nodes past at legal.0
 horizon-low nodes (Joined node start ∷ past) legal =
     let low : horizon past ≤ floor nodes past = horizon-low nodes past legal.3 in
     let up : floor nodes past ≤ floor nodes (Joined node start ∷ past) =
     floor-joins nodes past node start legal.1 legal.2 in omega arith
+
+-- nor is the stamp of the last whole vacuum above the horizon
+pub vacuumed-low : (nodes : ℕ) (past : List Step) → IsLegal nodes past → vacuumed past ≤ horizon past
+vacuumed-low nodes [] legal = omega arith
+vacuumed-low nodes (Took item ∷ past) legal = vacuumed-low nodes past legal.1
+vacuumed-low nodes (Opened stamp ∷ past) legal = vacuumed-low nodes past legal.1
+vacuumed-low nodes (Closed id ∷ past) legal = vacuumed-low nodes past legal.1
+vacuumed-low nodes (Vacuumed at ∷ past) legal = omega arith
+vacuumed-low nodes (Trimmed at dropped ∷ past) legal =
+    let low : vacuumed past ≤ horizon past = vacuumed-low nodes past legal.1 in
+    let up : horizon past ≤ at = vacuum-above nodes past at legal.0 in
+    let goal : vacuumed past ≤ at = omega arith in goal
+vacuumed-low nodes (Joined node start ∷ past) legal = vacuumed-low nodes past legal.3
 
 -- an item that is accepted is above the horizon
 pub above-horizon : (nodes : ℕ) (past : List Step) (item : Item) → IsLegal nodes past
@@ -440,6 +460,7 @@ accepted-low (Took item ∷ past) =
 accepted-low (Opened stamp ∷ past) = accepted-low past
 accepted-low (Closed id ∷ past) = accepted-low past
 accepted-low (Vacuumed at ∷ past) = accepted-low past
+accepted-low (Trimmed at dropped ∷ past) = accepted-low past
 accepted-low (Joined node start ∷ past) =
     let old : greatest_accepted past ≤ top past = accepted-low past in
     let goal : greatest_accepted past ≤ max (top past) start = omega arith in goal
@@ -451,6 +472,7 @@ retired-head nodes [] n legal has_retired = omega arith
 retired-head nodes (Opened stamp ∷ past) n legal has_retired = retired-head nodes past n legal.1 has_retired
 retired-head nodes (Closed id ∷ past) n legal has_retired = retired-head nodes past n legal.1 has_retired
 retired-head nodes (Vacuumed at ∷ past) n legal has_retired = retired-head nodes past n legal.1 has_retired
+retired-head nodes (Trimmed at dropped ∷ past) n legal has_retired = retired-head nodes past n legal.1 has_retired
 retired-head nodes (Joined node start ∷ past) n legal has_retired =
     elim (cases_eq node n) [
       | inl same ↦

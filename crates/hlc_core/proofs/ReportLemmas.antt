@@ -1,5 +1,5 @@
 -- There is one report of a vacuum: its points are one list, and so are its changes and those of the one before.
-use Rattle.std.proofs.Common.{◌≡◌, ℕ, ◌+◌, ◌≤◌, List, [], ◌∷◌, length, ap, sym, ◌∙◌, arith}
+use Rattle.std.proofs.Common.{◌≡◌, ℕ, ◌≤◌, List, [], ◌∷◌, length, ap, sym, ◌∙◌, arith}
 use Rattle.std.specs.Prelude.{Contains}
 use Rattle.std.proofs.lemmas.List.Elements.{All-map, All-contains}
 use Rattle.hlc_snapshot.specs.declared.snapshot.Snapshot.{Snapshot}
@@ -8,11 +8,10 @@ use Rattle.hlc_witness.specs.declared.witness.Witness.{Witness}
 use Rattle.hlc_witness.specs.Changes.{AreChanges}
 use Rattle.hlc_witness.specs.Cost.{changes_cost}
 use Rattle.hlc_witness.specs.AllChanges.{all_changes}
-use Rattle.hlc_vacuum.specs.Representing.{count_above}
 use Rattle.hlc_vacuum.specs.declared.report.Report.{Report}
 use Rattle.hlc_clock.proofs.PointLemmas.{ArePoints-unique, points-ascend}
 use Rattle.hlc_witness.proofs.ChangeLemmas.{changes_are_one}
-use Rattle.hlc_core.specs.Past.{Step, Took, Opened, Closed, Vacuumed, Joined, floor, horizon, open_snapshots, writes}
+use Rattle.hlc_core.specs.Past.{Step, Took, Opened, Closed, Vacuumed, Trimmed, Joined, floor, open_snapshots, writes}
 use Rattle.hlc_core.specs.Past.{IsLegal}
 use Rattle.hlc_core.specs.Stored.{AreVacuumPoints, AreLastChanges, IsStoredCount, IsReport}
 use Rattle.hlc_core.proofs.PastLemmas.{open-low}
@@ -44,6 +43,7 @@ one-last (Took item ∷ past) changes before are were = one-last past changes be
 one-last (Opened stamp ∷ past) changes before are were = one-last past changes before are were
 one-last (Closed id ∷ past) changes before are were = one-last past changes before are were
 one-last (Joined node start ∷ past) changes before are were = one-last past changes before are were
+one-last (Trimmed at dropped ∷ past) changes before are were = one-last past changes before are were
 one-last (Vacuumed at ∷ past) changes before are were =
     one-changes at past are.0 were.0 changes before are.1 were.1 are.2 were.2
 
@@ -51,8 +51,8 @@ one-last (Vacuumed at ∷ past) changes before are were =
 pub there_is_one_count : (past : List Step) (count other : ℕ)
     → IsStoredCount past count → IsStoredCount past other → count ≡ other
 there_is_one_count past count other is also =
-    is.2 ∙ ap (λ changes. length changes + count_above (horizon past) (writes past))
-    (one-last past is.0 also.0 is.1 also.1) ∙ sym also.2
+    let same : length is.0 ≡ length also.0 = ap length (one-last past is.0 also.0 is.1 also.1) in
+    omega (arith, is.2, also.2)
 
 abbrev a_report : ℕ → List ℕ → ℕ → ℕ → ℕ → List Witness → Report
 a_report at points kept bytes dropped witnesses =

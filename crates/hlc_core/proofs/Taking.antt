@@ -1,9 +1,9 @@
 -- An item that is not refused is accepted: the core represents one more item.
-use Rattle.std.proofs.Common.{◌≡◌, ℕ, ◌+◌, ◌<◌, List, ◌∷◌, ◌++◌, length, max}
+use Rattle.std.proofs.Common.{◌≡◌, ℕ, ◌+◌, ◌<◌, ◌≤◌, List, ◌∷◌, ◌++◌, length, max}
 use Rattle.std.proofs.Common.{None, ap, sym, ◌∙◌}
 use Rattle.std.proofs.Common.{arith, length-set}
 use Rattle.std.specs.Prelude.{slice_set}
-use Rattle.std.proofs.lemmas.List.{append-nil}
+use Rattle.std.proofs.lemmas.List.{append-nil, length_push}
 use Rattle.hlc_node.specs.declared.row.Row.{Row}
 use Rattle.hlc_node.specs.declared.item.Item.{Item}
 use Rattle.hlc_node.specs.declared.item.Body.{Body}
@@ -11,15 +11,16 @@ use Rattle.hlc_node.specs.declared.item.Body.TheVariants.{Write, Report, Retire}
 use Rattle.hlc_node.specs.Items.{retires}
 use Rattle.hlc_node.specs.Rows.{IsRowSet}
 use Rattle.hlc_intake.specs.IntakeView.{IntakeView}
-use Rattle.hlc_core.specs.Past.{Step, Took, numbered, count, head, retired, top, horizon}
+use Rattle.hlc_core.specs.Past.{Step, Took, numbered, count, head, retired, top, horizon, vacuumed, trimmed}
 use Rattle.hlc_core.specs.Past.{opened, writes, body_rows, open_snapshots, item_refusal}
 use Rattle.hlc_core.specs.Past.{IsLegal}
 use Rattle.hlc_core.specs.StoreView.{StoreView, nodes, Represents}
 use Rattle.hlc_vacuum.specs.Representing.{RowsRepresent, count_above}
-use Rattle.hlc_vacuum.proofs.RepresentingLemmas.{writes_keep_representing, writes_are_counted}
+use Rattle.hlc_vacuum.proofs.RepresentingLemmas.{writes_keep_representing}
+use Rattle.hlc_vacuum.proofs.Counts.{count_push}
 use Rattle.hlc_snapshot.specs.RegistryView.{stamps}
 use Rattle.hlc_core.proofs.PastLemmas.{admissible, on_link, inside}
-use Rattle.hlc_core.proofs.PastLemmas.{above-horizon, writes-row_set}
+use Rattle.hlc_core.proofs.PastLemmas.{above-horizon, vacuumed-low, writes-row_set}
 use Rattle.hlc_core.proofs.Links.{a_link, links-took, after_item}
 
 -- the row of an item, if it has one, is stored with the others, and counts as one more
@@ -32,14 +33,16 @@ rows-body stored all horizon opened node stamp (Write key value) represent up ap
     writes_keep_representing stored all horizon opened (record { key = key; stamp = stamp; node = node; value = value })
     represent up apart
 
-count-body : (stored all : List Row) (horizon changes : ℕ) (node stamp : ℕ) (body : Body)
-    → length stored ≡ changes + count_above horizon all → horizon < stamp
-    → length (stored ++ body_rows node stamp body) ≡ changes + count_above horizon (all ++ body_rows node stamp body)
-count-body stored all horizon changes node stamp Report is up = rw (append-nil, append-nil) is
-count-body stored all horizon changes node stamp Retire is up = rw (append-nil, append-nil) is
-count-body stored all horizon changes node stamp (Write key value) is up =
-    writes_are_counted stored all horizon changes (record { key = key; stamp = stamp; node = node; value = value })
-    is up
+count-body : (stored all : List Row) (bound dropped changes : ℕ) (node stamp : ℕ) (body : Body)
+    → length stored + dropped ≡ changes + count_above bound all → bound < stamp
+    → length (stored ++ body_rows node stamp body) + dropped
+    ≡ changes + count_above bound (all ++ body_rows node stamp body)
+count-body stored all bound dropped changes node stamp Report is up = rw (append-nil, append-nil) is
+count-body stored all bound dropped changes node stamp Retire is up = rw (append-nil, append-nil) is
+count-body stored all bound dropped changes node stamp (Write key value) is up =
+    let row : Row = record { key = key; stamp = stamp; node = node; value = value } in
+    let a = length_push stored row in
+    let b = count_push bound all row up in omega arith
 
 -- an item that is not refused is accepted
 pub took : (kept : StoreView) (past : List Step) (item : Item) → Represents kept past
@@ -55,6 +58,7 @@ took kept past item h none =
     length-set kept.links item.node link in
     let legal : IsLegal (nodes kept) (Took item ∷ past) = (none, h.legal) in
     let up : horizon past < item.stamp = above-horizon (nodes kept) past item h.legal none in
+    let low : vacuumed past ≤ horizon past = vacuumed-low (nodes kept) past h.legal in
     record {
       legal = legal;
       many = same ∙ h.many;
@@ -67,8 +71,8 @@ took kept past item h none =
       stored = (
         h.stored.0,
         h.stored.1,
-        count-body kept.rows (writes past) (horizon past)
-            (length h.stored.0) item.node item.stamp item.body h.stored.2 up,
+        count-body kept.rows (writes past) (vacuumed past) (trimmed past) (length h.stored.0) item.node item.stamp
+            item.body h.stored.2 (omega arith),
       );
       horizon = h.horizon;
     }

@@ -20,17 +20,17 @@ use Rattle.hlc_witness.proofs.CostLemmas.{fewest_rows_are_cheapest, fewest_rows_
 use Rattle.hlc_vacuum.proofs.RepresentingLemmas.{vacuums_compose, representing_rows_are_fewest, vacuums_are_certified}
 use Rattle.hlc_vacuum.proofs.RepresentingLemmas.{rows_above_are_counted}
 use Rattle.hlc_vacuum.specs.declared.report.Report.{Report}
-use Rattle.hlc_core.specs.Past.{Step, Vacuumed, horizon, open_snapshots, writes, vacuum_refusal}
+use Rattle.hlc_core.specs.Past.{Step, Vacuumed, horizon, vacuumed, trimmed, open_snapshots, writes, vacuum_refusal}
 use Rattle.hlc_core.specs.Stored.{AreVacuumPoints, IsReport, LeavesFewest}
 use Rattle.hlc_core.specs.StoreView.{StoreView, nodes, with_rows_left, Represents}
 use Rattle.hlc_core.specs.Calls.{Vacuums}
-use Rattle.hlc_core.proofs.PastLemmas.{vacuum-above, writes-limits}
+use Rattle.hlc_core.proofs.PastLemmas.{vacuum-above, vacuumed-low, writes-limits}
 use Rattle.hlc_columns.proofs.FlagLemmas.{filter-IsRowSet}
 use Rattle.hlc_core.proofs.ReportLemmas.{one-changes}
 use Rattle.hlc_clock.proofs.PointLemmas.{points-ascend, points-last}
 
 -- with fewer snapshots open
-fewer-open : (stored all : List Row) (horizon at : ℕ) (snapshots : List Snapshot)
+pub fewer-open : (stored all : List Row) (horizon at : ℕ) (snapshots : List Snapshot)
     → RowsRepresent stored all horizon (stamps snapshots) → RowsRepresent stored all horizon (stamps_to at snapshots)
 fewer-open stored all horizon at snapshots represent = record {
   row_set = represent.row_set;
@@ -43,7 +43,7 @@ fewer-open stored all horizon at snapshots represent = record {
 }
 
 -- and with those that are open above the horizon
-more-open : (stored all : List Row) (at : ℕ) (snapshots : List Snapshot)
+pub more-open : (stored all : List Row) (at : ℕ) (snapshots : List Snapshot)
     → RowsRepresent stored all at (stamps_to at snapshots) → RowsRepresent stored all at (stamps snapshots)
 more-open stored all at snapshots represent = record {
   row_set = represent.row_set;
@@ -60,7 +60,7 @@ more-open stored all at snapshots represent = record {
 }
 
 -- none of the counted stamps is above the stamp
-low-open : (at : ℕ) (snapshots : List Snapshot) (stamp : ℕ) → Contains (stamps_to at snapshots) stamp → stamp ≤ at
+pub low-open : (at : ℕ) (snapshots : List Snapshot) (stamp : ℕ) → Contains (stamps_to at snapshots) stamp → stamp ≤ at
 low-open at snapshots stamp m =
     All-contains (λ stamp. stamp ≤ at) (stamps_to at snapshots) stamp (stamps_to-low at snapshots) m
 
@@ -73,8 +73,9 @@ leaves-fewest kept at past report h expected =
     let ascend : PointsAscend report.points = points-ascend opened report.points at expected.points in
     let same : h.stored.0 ≡ report.witnesses = one-changes at past h.stored.1.0 report.points
     h.stored.0 report.witnesses h.stored.1.1 expected.points h.stored.1.2 expected.witnesses in
-    let count : length kept.rows ≡ length report.witnesses + count_above at (writes past) = h.stored.2
-    ∙ ap (λ changes. length changes + count_above at (writes past)) same in
+    let many : length kept.rows + 0 ≡ length h.stored.0 + count_above at (writes past) = h.stored.2 in
+    let as_many : length h.stored.0 ≡ length report.witnesses = ap length same in
+    let count : length kept.rows ≡ length report.witnesses + count_above at (writes past) = omega arith in
     let after : RepresentsAfterVacuum kept.rows (writes past) at opened report.points report.witnesses =
     representing_rows_are_fewest kept.rows (writes past) at opened report.points report.witnesses
     (fewer-open kept.rows (writes past) at at (open_snapshots past) h.rows) expected.points.members
@@ -118,6 +119,7 @@ vacuums kept at past rows report h none are made at_stamp number dropped bytes =
     let high : horizon past ≤ at = vacuum-above (nodes kept) past at none in
     let after : RepresentsAfterVacuum rows (writes past) at (stamps_to at (open_snapshots past)) report.points
     report.witnesses = represents-vacuumed kept at past rows report h high are made in
+    let now : length rows ≡ length report.witnesses + count_above at (writes past) = after.stored_count in
     let represents : Represents (with_rows_left kept rows at) (Vacuumed at ∷ past) = record {
       legal = (none, h.legal);
       many = h.many;
@@ -126,7 +128,11 @@ vacuums kept at past rows report h none are made at_stamp number dropped bytes =
       snapshots = h.snapshots;
       opened = h.opened;
       rows = more-open rows (writes past) at (open_snapshots past) after.represents;
-      stored = (report.witnesses, (report.points, are, after.listed), after.stored_count);
+      stored = (
+        report.witnesses,
+        (report.points, are, after.listed),
+        (let many : length rows + 0 ≡ length report.witnesses + count_above at (writes past) = omega arith in many),
+      );
       horizon = refl;
     } in
     let expected : IsReport at past report = record {
@@ -140,11 +146,12 @@ vacuums kept at past rows report h none are made at_stamp number dropped bytes =
       dropped = (
         h.stored.0,
         h.stored.1,
-        let was : length kept.rows ≡ length h.stored.0 + count_above (horizon past) (writes past) = h.stored.2 in
-            let parts : count_above (horizon past) (writes past)
-            ≡ count_between (horizon past) at (writes past) + count_above at (writes past) =
-            rows_above_are_counted (horizon past) at (writes past) high in
-            let now : length rows ≡ length report.witnesses + count_above at (writes past) = after.stored_count in
+        let was : length kept.rows + trimmed past ≡ length h.stored.0 + count_above (vacuumed past) (writes past) =
+            h.stored.2 in
+            let low : vacuumed past ≤ horizon past = vacuumed-low (nodes kept) past h.legal in
+            let parts : count_above (vacuumed past) (writes past)
+            ≡ count_between (vacuumed past) at (writes past) + count_above at (writes past) =
+            rows_above_are_counted (vacuumed past) at (writes past) (omega arith) in
             omega (arith, number, dropped),
       );
     } in

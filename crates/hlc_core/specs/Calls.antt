@@ -18,6 +18,7 @@ use Rattle.hlc_core.specs.Past.{Step, Took, Opened, Closed, Vacuumed, Joined, nu
 use Rattle.hlc_core.specs.Past.{writes, item_refusal, join_refusal, join_at_refusal, room_refusal, open_refusal}
 use Rattle.hlc_core.specs.Past.{vacuum_refusal}
 pub use Rattle.hlc_checkpoint.specs.Sorted.{AreRowsTo}
+pub use Rattle.hlc_columns.specs.Sizes.{AreSizes}
 use Rattle.hlc_core.specs.Stored.{IsReport, LeavesFewest}
 use Rattle.hlc_core.specs.StoreView.{StoreView, nodes, Represents}
 

@@ -23,13 +23,15 @@ use Rattle.hlc_core.specs.declared.fault.CoreFault.TheVariants.{NoNode, Link, Bo
 use Rattle.hlc_core.specs.declared.fault.CoreFault.TheVariants.{BelowHorizon, Snapshot as snapshot_refused, NoMemory}
 
 -- an event that took place: an item was accepted; a snapshot was opened at a stamp; the snapshot with an id was closed;
--- rows were vacuumed up to this stamp; a node with this number joined, and starts at this stamp
+-- rows were vacuumed up to this stamp; a node with this number joined, and starts at this stamp; the horizon was moved
+-- to this stamp, and this many rows that no reader needs were dropped: part of a vacuum
 pub data Step : Type 0 where
   Took : Item → Step
   Opened : ℕ → Step
   Closed : ℕ → Step
   Vacuumed : ℕ → Step
   Joined : ℕ → ℕ → Step
+  Trimmed : ℕ → ℕ → Step
 
 -- Below, a past is the list of the steps that took place, the last one first. Refused calls and reads are no steps.
 -- `nodes` is the number of nodes at the start, which are numbered from 0; those that join have the numbers after them.
@@ -77,11 +79,25 @@ top (_ ∷ past) = top past
 abbrev pub floor : ℕ → List Step → ℕ
 floor nodes past = low (λ n. head n past) (λ n. retired n past) (numbered nodes past) (top past)
 
--- the stamp of the last vacuum, 0 before the first
+-- the stamp of the last vacuum or part of one, 0 before the first
 abbrev pub horizon : List Step → ℕ
 horizon [] = 0
 horizon (Vacuumed at ∷ past) = at
+horizon (Trimmed at dropped ∷ past) = at
 horizon (_ ∷ past) = horizon past
+
+-- the stamp of the last whole vacuum, 0 before the first
+abbrev pub vacuumed : List Step → ℕ
+vacuumed [] = 0
+vacuumed (Vacuumed at ∷ past) = at
+vacuumed (_ ∷ past) = vacuumed past
+
+-- the number of rows that parts of vacuums dropped since the last whole vacuum
+abbrev pub trimmed : List Step → ℕ
+trimmed [] = 0
+trimmed (Vacuumed at ∷ past) = 0
+trimmed (Trimmed at dropped ∷ past) = dropped + trimmed past
+trimmed (_ ∷ past) = trimmed past
 
 -- the row of the body of an item with this node and stamp
 abbrev pub body_rows : ℕ → ℕ → Body → List Row
@@ -194,5 +210,6 @@ IsLegal nodes (Took item ∷ past) = (item_refusal nodes past item ≡ None) × 
 IsLegal nodes (Opened stamp ∷ past) = (open_refusal nodes past stamp ≡ None) × IsLegal nodes past
 IsLegal nodes (Closed id ∷ past) = (stamp_of id past ≢ None) × IsLegal nodes past
 IsLegal nodes (Vacuumed at ∷ past) = (vacuum_refusal nodes past at ≡ None) × IsLegal nodes past
+IsLegal nodes (Trimmed at dropped ∷ past) = (vacuum_refusal nodes past at ≡ None) × IsLegal nodes past
 IsLegal nodes (Joined node start ∷ past) =
     (join_refusal nodes past ≡ None) × (node ≡ numbered nodes past) × (floor nodes past ≤ start) × IsLegal nodes past

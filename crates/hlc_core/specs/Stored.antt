@@ -13,7 +13,7 @@ use Rattle.hlc_vacuum.specs.Vacuumed.{rows_to}
 use Rattle.hlc_vacuum.specs.Representing.{count_above, count_between}
 use Rattle.hlc_witness.specs.Certificate.{RowsAscend, IsCertificate}
 use Rattle.hlc_vacuum.specs.declared.report.Report.{Report}
-use Rattle.hlc_core.specs.Past.{Step, Vacuumed, horizon, open_snapshots, writes}
+use Rattle.hlc_core.specs.Past.{Step, Vacuumed, vacuumed, trimmed, open_snapshots, writes}
 
 -- the points of a vacuum to a stamp after this past: the stamps of the open snapshots at or below it, and the stamp
 -- itself, each once, ascending
@@ -25,21 +25,22 @@ abbrev pub AreVacuumChanges : ℕ → List Step → List Witness → Type 0
 AreVacuumChanges at past changes =
     (points : List ℕ) × AreVacuumPoints at past points × AreChanges (writes past) points changes
 
--- the changes of the last vacuum; none before the first
+-- the changes of the last whole vacuum; none before the first
 abbrev pub AreLastChanges : List Step → List Witness → Type 0
 AreLastChanges [] changes = changes ≡ []
 AreLastChanges (Vacuumed at ∷ past) changes = AreVacuumChanges at past changes
 AreLastChanges (_ ∷ past) changes = AreLastChanges past changes
 
--- the number of stored rows: as many as the changes at the last vacuum and the accepted writes above the horizon
+-- the number of stored rows, with those that parts of vacuums dropped since the last whole one: as many as the changes
+-- at that and the accepted writes above its stamp
 abbrev pub IsStoredCount : List Step → ℕ → Type 0
 IsStoredCount past number =
     (changes : List Witness) × AreLastChanges past changes
-    × (number ≡ length changes + count_above (horizon past) (writes past))
+    × (number + trimmed past ≡ length changes + count_above (vacuumed past) (writes past))
 
--- The report of a vacuum to a stamp after this past. The rows that it keeps cost exactly what its changes force. It
--- drops the rows of the changes of the vacuum before and those of the accepted writes between the horizons, except as
--- many as its own changes.
+-- The report of a vacuum to a stamp after this past. The rows that it keeps cost exactly what its changes force. With
+-- the parts of vacuums since the last whole one, it drops the rows of the changes of that one and those of the accepted
+-- writes between the stamps of the two, except as many as its own changes.
 pub record IsReport (at : ℕ) (past : List Step) (report : Report) : Type 0 where
   pub at_stamp : report.floor ≡ at
   pub points : AreVacuumPoints at past report.points
@@ -47,7 +48,7 @@ pub record IsReport (at : ℕ) (past : List Step) (report : Report) : Type 0 whe
   pub kept : report.kept ≡ length report.witnesses
   pub bytes : report.bytes ≡ changes_cost (writes past) report.witnesses
   pub dropped : (before : List Witness) × AreLastChanges past before
-      × (report.dropped + report.kept ≡ length before + count_between (horizon past) at (writes past))
+      × (report.dropped + report.kept + trimmed past ≡ length before + count_between (vacuumed past) at (writes past))
 
 -- The rows that the vacuum of this report left: at or below its floor a row set, the fewest rows that answer as all do
 -- at its points, and the cheapest, with the number and the cost that it reports. In the order of key, stamp and node

@@ -1,5 +1,6 @@
 //! What is true of every legal past, and of cores that represent one.
 ghost use Rattle.std.specs.Prelude.{◌≡◌, ◌≢◌, ◌+◌, ◌<◌, ◌≤◌, ◌⊎◌, ◌↔◌, true, false, ℕ, List, ◌∷◌, None, All, length};
+ghost use Rattle.std.specs.Prelude.{Bool, not};
 ghost use Rattle.hlc_node.specs.Rows.{IsRowSet, answer};
 ghost use Rattle.hlc_core.specs.Past.{Step, Took, Joined, Vacuumed, IsLegal, numbered, retired, top, writes, head};
 ghost use Rattle.hlc_core.specs.Past.{floor, open_snapshots, item_refusal, join_refusal, join_at_refusal};
@@ -13,6 +14,7 @@ ghost use Rattle.hlc_vacuum.specs.declared.report.Report.{Report as AReport};
 ghost use Rattle.hlc_core.specs.Stored.{AreVacuumPoints, IsReport, IsStoredCount, LeavesFewest};
 ghost use Rattle.hlc_core.specs.StoreView.{StoreView, nodes, with_rows_left, Represents};
 ghost use Rattle.hlc_core.specs.Calls.{Vacuums};
+ghost use Rattle.hlc_core.specs.Parts.{Trims, rows_of_keys};
 ghost use Rattle.hlc_core.specs.Checkpoint.{IsCheckpoint, IsCopyOf, IsFirstReason};
 ghost use Rattle.hlc_witness.specs.Certificate.{RowsAscend};
 ghost use Rattle.hlc_heads.specs.declared.heads.TheConstants.{MOST_NODES};
@@ -149,6 +151,24 @@ pub fn vacuums_keep_representing()
         → report.kept ≡ length report.witnesses → report.dropped + length rows ≡ length kept.rows
         → report.bytes ≡ rows_cost (rows_to report.floor rows)
         → Vacuums kept (with_rows_left kept rows at) at past report }
+{}
+
+/// After a part of a vacuum up to a stamp, of the stored rows of the keys of one kind, at the points of the past, the
+/// core represents the past with the part of a vacuum, all other rows stay, the report is the expected one, and the
+/// remaining rows of these keys are the fewest against all accepted writes of these keys, which are the cheapest.
+pub fn parts_keep_representing()
+    ensures { (kept : StoreView) (at : ℕ) (past : List Step) (rows : List ARow)
+        (is_of : List ℕ → Bool) (report : AReport)
+        → Represents kept past → vacuum_refusal (nodes kept) past at ≡ None
+        → AreVacuumPoints at past report.points → IsRowSet rows
+        → rows_of_keys (λ key. not (is_of key)) rows
+        ≡ rows_of_keys (λ key. not (is_of key)) kept.rows
+        → IsVacuumOf (rows_of_keys is_of kept.rows) report.points report.witnesses
+        (rows_of_keys is_of rows)
+        → report.floor ≡ at
+        → report.kept ≡ length report.witnesses → report.dropped + length rows ≡ length kept.rows
+        → report.bytes ≡ rows_cost (rows_to report.floor (rows_of_keys is_of rows))
+        → Trims kept (with_rows_left kept rows at) at past is_of report }
 {}
 
 /// Just after a vacuum the rows at or below its stamp are the fewest, and the cheapest, against all accepted writes.

@@ -2,7 +2,8 @@
 ghost use Rattle.std.specs.Prelude.{◌≡◌, ◌≢◌, List, length, true, false};
 ghost use Rattle.hlc_core.specs.Past.{Step, closed_all, floor, stamp_of, writes};
 ghost use Rattle.hlc_core.specs.StoreView.{Represents, nodes};
-ghost use Rattle.hlc_calls.specs.Answers.{ReturnsOpened, ReturnsOpenedAtFloor, ReturnsClosed, ReturnsRead, narrowed};
+ghost use Rattle.hlc_calls.specs.Answers.{ReturnsOpened, ReturnsOpenedAtFloor, ReturnsClosed, ReturnsRead};
+ghost use Rattle.hlc_calls.specs.Answers.{ReturnsSizes, narrowed};
 ghost use Rattle.hlc_calls.specs.Listing.{ReturnsListing};
 ghost use Rattle.hlc_calls.specs.Digest.{ReturnsDigest};
 ghost use Rattle.hlc_calls.specs.Scan.{ReturnsScan, ReturnsCount};
@@ -138,6 +139,31 @@ pub extern "C" fn hlc_rows(store: &mut Reader, rows: &mut u64) -> u32
     *rows = 0;
     of_core!(store, |core| {
         *rows = open_store::rows(core);
+        0
+    })
+}
+
+/// Returns 0, in constant time, and how many rows and keys are stored, the bytes of the keys, each counted once, and
+/// those of the values of all rows. A number is 2^64 - 1 where it would be greater. It takes no memory.
+#[unsafe(no_mangle)]
+pub extern "C" fn hlc_sizes(
+    store: &mut Reader,
+    rows: &mut u64,
+    keys: &mut u64,
+    key_bytes: &mut u64,
+    value_bytes: &mut u64,
+) -> u32
+    ensures answer { OnReader store.old.room.value ((result ≡ 100) × (rows.new ≡ 0)
+        × (keys.new ≡ 0) × (key_bytes.new ≡ 0) × (value_bytes.new ≡ 0)) (λ core. (result ≡ 0)
+        × ReturnsSizes core.rows rows.new keys.new key_bytes.new value_bytes.new) }
+    ensures same { store.new.room.value ≡ store.old.room.value }
+{
+    *rows = 0;
+    *keys = 0;
+    *key_bytes = 0;
+    *value_bytes = 0;
+    of_core!(store, |core| {
+        open_store::sizes(core, rows, keys, key_bytes, value_bytes);
         0
     })
 }

@@ -9,7 +9,8 @@ use crate::handle::of_core;
 use hlc_calls::status;
 use hlc_handle::Reader;
 
-/// Returns 0 and the horizon (GC threshold): the stamp of the last vacuum, or 0 before the first.
+/// Returns 0 and the horizon (GC threshold): the stamp of the last vacuum, or part of one, or 0 before
+/// the first.
 #[unsafe(no_mangle)]
 pub extern "C" fn hlc_horizon(store: &mut Reader, stamp: &mut u64) -> u32
     ensures answer { OnReader store.old.room.value

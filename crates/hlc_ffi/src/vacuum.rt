@@ -1,8 +1,8 @@
 //! The calls that drop what no reader needs.
-ghost use Rattle.std.specs.Prelude.{◌≡◌, ◌≢◌, List};
+ghost use Rattle.std.specs.Prelude.{◌≡◌, ◌≢◌, List, false};
 ghost use Rattle.hlc_core.specs.Past.{Step};
 ghost use Rattle.hlc_core.specs.StoreView.{Represents};
-ghost use Rattle.hlc_calls.specs.Answers.{ReturnsVacuumedAtFloor, ReturnsVacuumedTo, ReturnsVacuumChecked};
+ghost use Rattle.hlc_calls.specs.Answers.{ReturnsVacuumedAtFloor, ReturnsVacuumedTo, ReturnsVacuumChecked, ReturnsVacuumedPart};
 ghost use Rattle.hlc_calls.specs.Check.{ReturnsCheck};
 ghost use Rattle.hlc_calls.specs.Certified.{IsCertifiedAtFloor, IsCertifiedTo, IsHalfAtFloor};
 ghost use Rattle.hlc_ffi.specs.Handle.{OnStore, nodes_in_handle, OnReader};
@@ -166,6 +166,49 @@ pub extern "C" fn hlc_vacuum_to_certified(
         alloc,
         store,
         |core| certify_to(alloc, core, at, word, kept, bytes, dropped, out, len)
+    )
+}
+
+/// Makes a part of `hlc_vacuum_to`, of the first keys above one, at most so many. Returns 0, the stamp, how many rows of
+/// these keys at or below it were kept, what they cost in bytes, how many were dropped, the length of the last of these
+/// keys and, where it fits, the key, and whether a key is left above it; or 8 and the floor, 9 and the horizon, or 15.
+#[unsafe(no_mangle)]
+pub extern "C" fn hlc_vacuum_part(
+    alloc: Global,
+    store: &mut Store,
+    at: u64,
+    after: &[u8],
+    most: usize,
+    word: &mut u64,
+    kept: &mut u64,
+    bytes: &mut u64,
+    dropped: &mut u64,
+    out: &mut [u8],
+    len: &mut usize,
+    more: &mut bool,
+) -> u32
+    ensures answer { OnStore store.old.room.value store.new.room.value
+        ((result ≡ 100) × (word.new ≡ 0)) (λ old new. (past : List Step) → Represents old past
+        → ReturnsVacuumedPart old new at after.now most past result word.new kept.new bytes.new
+        dropped.new len.new more.new out.old out.new) }
+    ensures nothing { result ≢ 0 → (kept.new ≡ 0) × (bytes.new ≡ 0) × (dropped.new ≡ 0)
+        × (len.new ≡ 0) × (more.new ≡ false) × (out.new ≡ out.old) }
+    ensures same { result ≢ 0 → store.new.room.value ≡ store.old.room.value }
+    ensures nodes { nodes_in_handle store.new.room.value ≡ nodes_in_handle store.old.room.value }
+{
+    *word = 0;
+    *kept = 0;
+    *bytes = 0;
+    *dropped = 0;
+    *len = 0;
+    *more = false;
+    let at = Stamp::from_bits(at);
+    on_core!(
+        alloc,
+        store,
+        |core| open_store::vacuum_part(
+            core, at, after, most, word, kept, bytes, dropped, out, len, more
+        )
     )
 }
 

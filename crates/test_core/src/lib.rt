@@ -1,6 +1,6 @@
 //! Tests of the store alone, by the public calls of `Core`: vacuums to the floor (closed timestamp) and to a stamp
-//! below it, and nodes that join and retire; and the small callers in the READMEs of `hlc_checkpoint` and `hlc_core`.
-//! There is nothing else here.
+//! below it, nodes that join and retire, and how much is stored; and the small callers in the READMEs of
+//! `hlc_checkpoint` and `hlc_core`. There is nothing else here.
 #![tactic(auto)]
 
 #[cfg(test)]
@@ -14,7 +14,10 @@ mod items;
 #[cfg(test)]
 mod joins;
 #[cfg(test)]
+mod parts;
 mod ranges;
+#[cfg(test)]
+mod sizes;
 #[cfg(test)]
 mod vacuums;
 #[cfg(test)]

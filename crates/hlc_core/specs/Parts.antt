@@ -1,0 +1,53 @@
+-- Part of a vacuum: rows of the keys of one kind are dropped, and all other rows stay.
+use Rattle.std.specs.Prelude.{◌≡◌, ℕ, ◌+◌, List, ◌∷◌, length, filter, Bool, not, Option, None, Result, Ok, Err, ⊤}
+use Rattle.hlc_node.specs.declared.row.Row.{Row}
+use Rattle.hlc_witness.specs.Changes.{AreChanges}
+use Rattle.hlc_witness.specs.Cost.{changes_cost}
+use Rattle.hlc_vacuum.specs.declared.report.Report.{Report}
+use Rattle.hlc_columns.specs.Answers.{AreNext, in_part, part_end}
+use Rattle.hlc_columns.specs.Rows.{KeyCells}
+use Rattle.hlc_core.specs.declared.fault.CoreFault.{CoreFault}
+use Rattle.hlc_core.specs.Calls.{IsRefusal}
+use Rattle.hlc_core.specs.Past.{Step, Trimmed, writes, vacuum_refusal}
+use Rattle.hlc_core.specs.Stored.{AreVacuumPoints, LeavesFewest}
+use Rattle.hlc_core.specs.StoreView.{StoreView, nodes, Represents}
+
+-- among some rows, those of the keys of a kind
+abbrev pub rows_of_keys : (List ℕ → Bool) → List Row → List Row
+rows_of_keys is_of rows = filter (λ row. is_of row.key) rows
+
+-- The report of a part of a vacuum to a stamp after this past, for the keys of a kind. The rows of these keys that it
+-- keeps cost exactly what the changes of all accepted writes of these keys force.
+pub record IsPartReport (at : ℕ) (past : List Step) (is_of : List ℕ → Bool) (report : Report) : Type 0 where
+  pub at_stamp : report.floor ≡ at
+  pub points : AreVacuumPoints at past report.points
+  pub witnesses : AreChanges (rows_of_keys is_of (writes past)) report.points report.witnesses
+  pub kept : report.kept ≡ length report.witnesses
+  pub bytes : report.bytes ≡ changes_cost (rows_of_keys is_of (writes past)) report.witnesses
+
+-- Part of a vacuum to a stamp took place: the core represents it, and the report is the expected one, with the number
+-- of rows that were dropped. The rows of these keys that are left are the fewest and the cheapest against all accepted
+-- writes of these keys, and all other rows stay.
+pub record Trims (old new : StoreView) (at : ℕ) (past : List Step) (is_of : List ℕ → Bool)
+    (report : Report) : Type 0 where
+  pub represents : Represents new (Trimmed at report.dropped ∷ past)
+  pub others : rows_of_keys (λ key. not (is_of key)) new.rows ≡ rows_of_keys (λ key. not (is_of key)) old.rows
+  pub expected : IsPartReport at past is_of report
+  pub dropped : report.dropped + length new.rows ≡ length old.rows
+  pub fewest : LeavesFewest (rows_of_keys is_of new.rows) (rows_of_keys is_of (writes past)) report
+
+-- a part of the stored rows, of the first keys above one, at most so many, ends at this key; or nowhere, if there is no
+-- key above it
+pub record EndsAt (kept : StoreView) (after : List ℕ) (most : ℕ) (end : Option (List ℕ)) : Type 0 where
+  pub columns : List KeyCells
+  pub next : AreNext kept.rows after most columns
+  pub is : end ≡ part_end after most columns
+
+-- part of a vacuum to the stamp took place, of the first keys above one, at most so many, and where it ended is
+-- returned; or it was refused
+abbrev pub VacuumsPart
+    : StoreView → StoreView → ℕ → List ℕ → ℕ → List Step → Result (Report × Option (List ℕ)) CoreFault → Type 0
+VacuumsPart old new at after most past (Ok made) =
+    (vacuum_refusal (nodes old) past at ≡ None) × EndsAt old after most made.1
+    × Trims old new at past (in_part after made.1) made.0
+VacuumsPart old new at after most past (Err fault) = IsRefusal (vacuum_refusal (nodes old) past at) ⊤ fault

@@ -1,0 +1,48 @@
+-- The plan of the columns of some keys, and what is done by it.
+use Rattle.std.specs.Prelude.{◌≡◌, ◌+◌, ◌≤◌, ◌∷◌, [], ℕ, Bool, List, ⊤, length, take, drop, filter, not, Contains}
+use Rattle.hlc_node.specs.declared.row.Row.{Row}
+use Rattle.hlc_node.specs.Rows.{IsRowSet}
+use Rattle.hlc_witness.specs.Cost.{rows_cost}
+use Rattle.hlc_columns.specs.Answers.{AreNext, part_end}
+use Rattle.hlc_columns.specs.Rows.{rows_with, KeyCells, keys_in, rows_in}
+use Rattle.hlc_columns.specs.Table.{rows_kept}
+use Rattle.hlc_vacuum.specs.Plan.{IsPlanOf}
+use Rattle.hlc_vacuum.specs.Vacuumed.{IsVacuumOf, rows_to}
+use Rattle.hlc_vacuum.specs.declared.part.PartPlan.{PartPlan}
+use Rattle.hlc_vacuum.specs.declared.report.Report.{Report}
+
+-- among some rows those of several keys are kept if their flags are set, each key in turn with as many flags as it has
+-- rows; all others are kept
+abbrev pub all_kept : List (List ℕ) → List Bool → List Row → List Row
+all_kept [] flags rows = rows
+all_kept (key ∷ keys) flags rows =
+    all_kept keys (drop (length (rows_with key rows)) flags)
+    (rows_kept key (take (length (rows_with key rows)) flags) rows)
+
+-- there are enough flags for the rows of these keys in turn
+abbrev pub HaveFlags : List (List ℕ) → List Bool → List Row → Type 0
+HaveFlags [] flags rows = ⊤
+HaveFlags (key ∷ keys) flags rows =
+    (length (rows_with key rows) ≤ length flags)
+    × HaveFlags keys (drop (length (rows_with key rows)) flags)
+    (rows_kept key (take (length (rows_with key rows)) flags) rows)
+
+-- The part has the plan of the columns of the first keys above one, at most so many, with these keys and where they end.
+pub record IsPartOf (part : PartPlan) (rows : List Row) (after : List ℕ) (most : ℕ) : Type 0 where
+  pub columns : List KeyCells
+  pub next : AreNext rows after most columns
+  pub row_set : IsRowSet rows
+  pub keys : part.keys.items ≡ keys_in columns
+  pub plan : IsPlanOf part.plan (rows_in columns)
+  pub end : part.end ≡ part_end after most columns
+
+-- Rows of the keys of a kind were vacuumed, as the report says, and all others stayed.
+pub record IsPartVacuum (old new : List Row) (is_of : List ℕ → Bool) (report : Report) : Type 0 where
+  pub row_set : IsRowSet new
+  pub within : (row : Row) → Contains new row → Contains old row
+  pub others : filter (λ row. not (is_of row.key)) new ≡ filter (λ row. not (is_of row.key)) old
+  pub vacuumed : IsVacuumOf (filter (λ row. is_of row.key) old) report.points report.witnesses
+      (filter (λ row. is_of row.key) new)
+  pub kept : report.kept ≡ length report.witnesses
+  pub bytes : report.bytes ≡ rows_cost (rows_to report.floor (filter (λ row. is_of row.key) new))
+  pub dropped : report.dropped + length new ≡ length old

@@ -1,0 +1,123 @@
+//! A vacuum of the columns of the keys of a range.
+ghost use Rattle.std.specs.Prelude.{◌≡◌, ℕ, List, IfOk};
+ghost use Rattle.hlc_clock.specs.Points.{PointsAscend};
+ghost use Rattle.hlc_columns.specs.Answers.{in_part, part_end};
+ghost use Rattle.hlc_columns.specs.Rows.{KeyCells, keys_in};
+ghost use Rattle.hlc_vacuum.specs.Part.{all_kept, HaveFlags, IsPartOf, IsPartVacuum};
+ghost use Rattle.hlc_vacuum.specs.Report.{report_of};
+
+use crate::plan::{Plan, dropped_of};
+use crate::planner::{plan_columns, plan_of};
+use crate::points::last_of;
+use crate::report::Report;
+use hlc_clock::Stamp;
+use hlc_columns::{Keyed, Table};
+use hlc_node::Bytes;
+use hlc_values::NoMemory;
+use std::alloc::Global;
+
+/// The plan of the columns of some keys, these keys, and the last of them, or none if there is no key above it.
+#[derive(Debug, Drop)]
+pub struct PartPlan {
+    pub plan: Plan,
+    pub keys: Vec<Bytes>,
+    pub end: Option<Bytes>,
+}
+
+/// Plans a vacuum of the first keys above a key, at most so many, at ascending points, as `plan_table` does for all. It
+/// reads no other columns, and changes nothing.
+pub fn plan_part(
+    alloc: Global,
+    table: &Table,
+    after: &[u8],
+    most: usize,
+    points: &[Stamp],
+) -> Result<PartPlan, NoMemory>
+    requires { PointsAscend points.now }
+    ensures made { IfOk result (λ part. IsPartOf part table.now after.now most) }
+    ensures points { IfOk result (λ part. part.plan.points ≡ points.now) }
+{
+    let columns = table.columns_after(after, most)?;
+    let draft = plan_columns(alloc, columns.as_slice(), points)?;
+    let plan = plan_of(alloc, points, draft)?;
+    let keys = copy_keys(alloc, columns.as_slice())?;
+    let end = end_of(alloc, after, most, keys.as_slice())?;
+    Ok(PartPlan { plan, keys, end })
+}
+
+/// Returns copies of the keys of some columns.
+fn copy_keys(alloc: Global, columns: &[Keyed<'_>]) -> Result<Vec<Bytes>, NoMemory>
+    ensures { IfOk result (λ keys. keys.items ≡ keys_in columns.now) }
+{
+    let mut keys = Vec::new(alloc);
+    for one in columns {
+        keys.push(Bytes::from_slice(alloc, one.key())?)?;
+    }
+    Ok(keys)
+}
+
+/// Returns a copy of the last of the keys, or of `after` if there are none; or none if they are fewer than so many.
+fn end_of(
+    alloc: Global,
+    after: &[u8],
+    most: usize,
+    keys: &[Bytes],
+) -> Result<Option<Bytes>, NoMemory>
+    ensures { IfOk result (λ end. (columns : List KeyCells) → keys.now ≡ keys_in columns
+        → end ≡ part_end after.now most columns) }
+{
+    if keys.len() < most {
+        return Ok(None);
+    }
+    if keys.is_empty() {
+        return Ok(Some(Bytes::from_slice(alloc, after)?));
+    }
+    let last = &keys[keys.len() - 1];
+    Ok(Some(Bytes::from_slice(alloc, last.as_slice())?))
+}
+
+/// Carries out the plan of the columns of some keys of this table. All other rows stay. It needs no memory.
+pub fn apply_part(table: &mut Table, part: PartPlan) -> (Report, Option<Bytes>)
+    requires { (after : List ℕ) × (most : ℕ) × IsPartOf part table.old after most }
+    ensures vacuumed { (after : List ℕ) (most : ℕ) → IsPartOf part table.old after most
+        → IsPartVacuum table.old table.new (in_part after part.end) result.0 }
+    ensures report { result.0 ≡ report_of part.plan }
+    ensures end { result.1 ≡ part.end }
+{
+    let PartPlan { plan, keys, end } = part;
+    (apply_to_keys(table, keys.as_slice(), plan), end)
+}
+
+/// Does so for these keys.
+fn apply_to_keys(table: &mut Table, keys: &[Bytes], plan: Plan) -> Report
+    requires { HaveFlags keys.now plan.keep table.old }
+    ensures rows { table.new ≡ all_kept keys.now plan.keep table.old }
+    ensures report { result ≡ report_of plan }
+{
+    let Plan {
+        keep,
+        points,
+        witnesses,
+        bytes,
+    } = plan;
+    keep_of_keys(table, keys, keep.as_slice());
+    Report {
+        floor: last_of(points.as_slice()),
+        points,
+        kept: witnesses.len() as u64,
+        bytes,
+        dropped: dropped_of(keep.as_slice()),
+        witnesses,
+    }
+}
+
+/// Keeps those rows of the keys that the flags select, and all rows of other keys.
+fn keep_of_keys(table: &mut Table, keys: &[Bytes], flags: &[bool])
+    requires { HaveFlags keys.now flags.now table.old }
+    ensures { table.new ≡ all_kept keys.now flags.now table.old }
+{
+    let mut left = flags;
+    for key in keys {
+        left = table.keep_of(key.as_slice(), left);
+    }
+}
