@@ -56,11 +56,13 @@
  *   hlc_scan                            10 104                                    reads
  *   hlc_scan_keys                       10 104                                    reads
  *   hlc_count, hlc_digest               10                                        reads
- *   hlc_floor, _rows, _horizon, _nodes  none                                      reads
+ *   hlc_floor, _rows, _sizes, _horizon  none                                      reads
+ *   hlc_nodes                           none                                      reads
  *   hlc_link, hlc_floor_node            1                                         reads
  *   hlc_snapshot                        10                                        reads
  *   hlc_vacuum, hlc_vacuum_certified    15                                yes     other stores
  *   hlc_vacuum_to, _to_certified        8 9 15                            yes     other stores
+ *   hlc_vacuum_part                     8 9 15                            yes     other stores
  *   hlc_check_vacuum                    8 9                                       reads
  *   hlc_item_write, _delete             12 13 15                          yes     all
  *   hlc_item_report, _retire            15                                yes     all
@@ -274,6 +276,11 @@ uint32_t hlc_floor(hlc_store *store, uint64_t *stamp);
 /* Returns how many rows are stored, or 2^64 - 1 where there are more. No memory. In constant time. */
 uint32_t hlc_rows(hlc_store *store, uint64_t *rows);
 
+/* Returns how much is stored. rows: how many rows; keys: how many keys have rows; key_bytes: the bytes of these keys,
+ * each counted once; value_bytes: the bytes of the values of all rows, where a deletion has none. A number is 2^64 - 1
+ * where it would be greater. The store takes more memory than these bytes. No memory. In constant time. */
+uint32_t hlc_sizes(hlc_store *store, uint64_t *rows, uint64_t *keys, uint64_t *key_bytes, uint64_t *value_bytes);
+
 /* Drops all rows at or below the floor except the fewest, and the cheapest, that give the same answers as all accepted
  * writes at each open snapshot and at the floor. kept, dropped: numbers of rows at or below the floor; bytes: the cost
  * of those that were kept, which is for each the length of its key and of its value, and 10. The last two are 2^64 - 1
@@ -300,7 +307,21 @@ uint32_t hlc_vacuum_to(hlc_store *store, uint64_t stamp, uint64_t *word, uint64_
 uint32_t hlc_vacuum_to_certified(hlc_store *store, uint64_t stamp, uint64_t *word, uint64_t *kept, uint64_t *bytes,
                                  uint64_t *dropped, uint8_t *out, size_t out_len, size_t *len);
 
-/* Returns what hlc_vacuum_to would return for this stamp, except 15. word: 0, or the refusal's word. No memory. */
+/* Makes a part of hlc_vacuum_to, so that one call does a bounded amount of work under the caller's lock: it vacuums the
+ * first keys above `after`, which without bytes is below every key, at most `most` of them. word: the stamp, or the
+ * refusal's word; kept, bytes, dropped: as in hlc_vacuum_to, for the rows of these keys. more: whether a key may be
+ * left above them: then the next part is called with the last of them as `after`; else the vacuum is whole. len: how
+ * many bytes that key has, at most 255, or 0 where more is false; out: the key, as in hlc_read. Where `most` is 0, it
+ * is `after`. The first part makes the stamp the horizon. Every other call is allowed between parts, and nothing is
+ * kept for the next one. Parts with one stamp, from the first key to the last, leave the fewest rows, as hlc_vacuum_to
+ * does, if no snapshot closed meanwhile. Refusals, in this order: 8, 9, 15. Looks `after` up, and reads these keys once
+ * at each point. */
+uint32_t hlc_vacuum_part(hlc_store *store, uint64_t stamp, const uint8_t *after, size_t after_len, size_t most,
+                         uint64_t *word, uint64_t *kept, uint64_t *bytes, uint64_t *dropped, uint8_t *out,
+                         size_t out_len, size_t *len, bool *more);
+
+/* Returns what hlc_vacuum_to, and hlc_vacuum_part, would return for this stamp, except 15. word: 0, or the refusal's
+ * word. No memory. */
 uint32_t hlc_check_vacuum(hlc_store *store, uint64_t stamp, uint64_t *word);
 
 /* Checks the text of a certificate, whoever made it: no row set that gives the same answers at its points has fewer
@@ -364,7 +385,8 @@ void hlc_restore_drop(hlc_restoring *restoring);
 
 /* ---- What a store has ---- No memory in any call. */
 
-/* Returns the horizon (GC threshold): the stamp of the last vacuum, or 0 before the first. In constant time. */
+/* Returns the horizon (GC threshold): the stamp of the last vacuum, or part of one, or 0 before the first. In constant
+ * time. */
 uint32_t hlc_horizon(hlc_store *store, uint64_t *stamp);
 
 /* Returns how many node numbers are assigned, those of retired nodes too. In constant time. */

@@ -5,11 +5,12 @@ import hashlib
 import random
 import struct
 import sys
+from urllib.parse import unquote_to_bytes
 
 from raw_calls import PLACE, Handle, Library
 
 ROUNDS = 300
-OK, NO_SNAPSHOT, MORE, BAD_BYTES = 0, 10, 104, 106
+OK, ABOVE_FLOOR, BELOW_HORIZON, NO_SNAPSHOT, MORE, BAD_BYTES = 0, 8, 9, 10, 104, 106
 
 
 def ok(name, *args):
@@ -61,10 +62,85 @@ def expected(parts, room):
     return MORE if many < len(parts) else OK, len(written), written, many
 
 
+def cost(rows):
+    return sum(len(key) + len(value or b"") + 10 for _, _, key, value in rows)
+
+
+def newest_at_changes(rows, points):
+    """Of one key's rows, the newest at each of the ascending points at which its answer differs from that before."""
+    found, before = [], None
+    for point in points:
+        newest = max((row for row in rows if row[0] <= point), key=lambda row: row[:2], default=None)
+        if newest and newest[3] != before:
+            found.append(newest)
+            before = newest[3]
+    return found
+
+
+class Model:
+    """What a store must have: all writes, each with its stamp, node, key and value, or None for a deletion; the rows
+    that are stored of them; the ids and the stamps of the open snapshots; the horizon; and the stamp of a vacuum in
+    parts that has not ended, with the key to go on from."""
+
+    def __init__(self):
+        self.writes, self.rows, self.snapshots, self.horizon, self.begun = [], [], {}, 0, None
+
+    def write(self, row):
+        self.writes.append(row)
+        self.rows.append(row)
+
+    def keys(self):
+        return sorted({key for _, _, key, _ in self.rows})
+
+    def vacuum(self, at, keys):
+        """Vacuums these keys. Returns how many rows are left of them, what they cost, and how many were dropped."""
+        points = sorted({stamp for stamp in self.snapshots.values() if stamp <= at} | {at})
+        total, kept = len(self.rows), []
+        for key in keys:
+            mine = [row for row in self.rows if row[2] == key]
+            left = newest_at_changes(mine, points)
+            fewest = newest_at_changes([row for row in self.writes if row[2] == key], points)
+            assert (len(left), cost(left)) == (len(fewest), cost(fewest))
+            above = [row for row in mine if row[0] > at]
+            self.rows = [row for row in self.rows if row[2] != key] + left + above
+            kept += left
+        self.horizon = at
+        return len(kept), cost(kept), total - len(self.rows)
+
+
+def vacuum_part(pick, store, model):
+    """Makes the next part of a vacuum, or the first one of another, and compares what it returns with the model."""
+    floor = ok("floor", store)
+    at, after = model.begun or (pick.randint(model.horizon, floor + 1), b"")
+    most, room = pick.randint(0, 3), pick.choice((0, 2, 255))
+    answer, word, kept, bytes, dropped, length, end, more = library.call("vacuum_part", store, at, after, most, room)
+    if at > floor or at < model.horizon:
+        refusal = (ABOVE_FLOOR, floor) if at > floor else (BELOW_HORIZON, model.horizon)
+        assert (answer, word, kept, bytes, dropped, length, more) == (*refusal, 0, 0, 0, 0, False)
+        model.begun = None
+        return
+    keys = [key for key in model.keys() if key > after][:most]
+    assert (answer, word, kept, bytes, dropped) == (OK, at, *model.vacuum(at, keys))
+    assert more == (len(keys) == most)
+    last = (keys or [after])[-1] if more else b""
+    assert (length, end) == (len(last), last if len(last) <= room else None)
+    model.begun = (at, last) if more else None
+    if not more and pick.random() < 0.5:
+        kept, bytes, dropped = model.vacuum(at, model.keys())
+        assert ok("vacuum_to", store, at) == (at, kept, bytes, 0) and dropped == 0
+
+
+def vacuum(pick, store, model):
+    """Vacuums to a stamp."""
+    at = pick.randint(model.horizon, ok("floor", store))
+    assert ok("vacuum_to", store, at) == (at, *model.vacuum(at, model.keys()))
+
+
 def feed(pick, store, nodes, keys):
-    """Lets the nodes issue items, which the store takes as bytes, and opens snapshots and vacuums between. Returns all
-    writes, the open snapshots, and the bytes of all items."""
-    writes, snapshots, log, reading = [], {}, b"", 1
+    """Lets the nodes issue items, which the store takes as bytes, and opens snapshots and vacuums between. Returns the
+    model, and the bytes of all items."""
+    model, log, reading = Model(), b"", 1
+    snapshots = model.snapshots
     for _ in range(pick.randint(5, 60)):
         reading += pick.randint(0, 2)
         node = pick.randrange(len(nodes))
@@ -74,7 +150,7 @@ def feed(pick, store, nodes, keys):
         parts = {"write": (key, value), "delete": (key,), "report": ()}[kind]
         number, stamp = ok("node_" + kind, nodes[node], reading, *parts)
         if parts:
-            writes.append((stamp, node, key, value))
+            model.write((stamp, node, key, value))
         encoded = whole("item_" + kind, node, number, stamp, *parts)
         assert ok("items_accept", store, encoded) == (len(encoded), 1, 0)
         log += encoded
@@ -84,8 +160,10 @@ def feed(pick, store, nodes, keys):
             id, stamp = ok("open_snapshot_at_floor", store)
             snapshots[id] = stamp
         if pick.random() < 0.05:
-            ok("vacuum", store)
-    return writes, snapshots, log
+            vacuum(pick, store, model)
+        if pick.random() < 0.3:
+            vacuum_part(pick, store, model)
+    return model, log
 
 
 def look(pick, store, id, pairs, keys):
@@ -120,15 +198,30 @@ def open_snapshots(store):
         found.append((id, stamp))
 
 
-def compare(pick, store, writes, snapshots, keys, nodes):
-    """Compares all that the store returns with the writes and the open snapshots."""
+def compare(pick, store, model, keys, nodes):
+    """Compares all that the store returns with the model."""
     heads = [ok("link", store, node)[1] for node in range(nodes)]
     assert ok("nodes", store) == nodes and ok("floor", store) == min(heads)
     assert ok("floor_node", store) == heads.index(min(heads))
-    assert open_snapshots(store) == sorted(snapshots.items())
-    for id, stamp in snapshots.items():
-        newest = {key: value for at, _, key, value in sorted(writes, key=lambda row: row[:2]) if at <= stamp}
+    assert open_snapshots(store) == sorted(model.snapshots.items())
+    assert ok("horizon", store) == model.horizon
+    assert ok("sizes", store) == sizes([row[2:] for row in model.rows])
+    for id, stamp in model.snapshots.items():
+        newest = {key: value for at, _, key, value in sorted(model.writes, key=lambda row: row[:2]) if at <= stamp}
         look(pick, store, id, sorted(pair for pair in newest.items() if pair[1] is not None), keys)
+
+
+def certified_rows(text):
+    """The keys of the rows of a certificate, with their values, or none in a deletion mark."""
+    lines = [line.split(b" ") for line in text.split(b"\n") if line.startswith(b"row ")]
+    values = [unquote_to_bytes(line[5].removesuffix(b"%")) if line[4] == b"value" else None for line in lines]
+    return [(unquote_to_bytes(line[1]), value) for line, value in zip(lines, values)]
+
+
+def sizes(rows):
+    """How many rows and keys these are, the bytes of the keys, each once, and those of the values."""
+    keys = {key for key, _ in rows}
+    return len(rows), len(keys), sum(map(len, keys)), sum(len(value) for _, value in rows if value is not None)
 
 
 def restore_in_pieces(pick, store, saved):
@@ -164,20 +257,27 @@ def play(pick):
     keys = [bytes(pick.choices(b"ab\0\xff", k=pick.randint(1, 4))) for _ in range(8)]
     store, copy = opened(many), Handle()
     nodes = [library.call("node_open", node, 0)[0] for node in range(many)]
-    writes, snapshots, log = feed(pick, store, nodes, keys)
+    model, log = feed(pick, store, nodes, keys)
     saved = whole("checkpoint", store, 5)
     assert ok("items_accept", store, log)[0] == len(log) and whole("checkpoint", store, 5) == saved
     assert ok("restore", copy, saved) == 5 and whole("checkpoint", copy, 5) == saved
     library.call("close", copy)
     assert tuple(restore_in_pieces(pick, copy, saved)) == (OK, 5) and whole("checkpoint", copy, 5) == saved
     for each in store, copy:
-        compare(pick, each, writes, snapshots, keys, many)
+        compare(pick, each, model, keys, many)
+    assert ok("rows", store) == ok("sizes", store)[0]
     refuse(pick, saved, log, many)
-    at, kept, cost, _, text = whole("vacuum_certified", store)
+    at, kept, bytes_kept, _, text = whole("vacuum_certified", store)
     rows, total, _ = ok("check", text)
-    assert (at, kept, cost) == (ok("floor", store), rows, total)
+    assert (at, kept, bytes_kept) == (ok("floor", store), rows, total)
     assert rows == sum(line.startswith(b"row ") for line in text.split(b"\n"))
+    above = [row[2:] for row in model.writes if row[0] > at]
+    assert ok("sizes", store) == sizes(certified_rows(text) + above)
     assert ok("horizon", store) == ok("floor", store)
+    model.begun = (at, b"")
+    while model.begun:
+        vacuum_part(pick, copy, model)
+    assert ok("sizes", copy) == ok("sizes", store)
     ok("close_all", store)
     assert open_snapshots(store) == []
     library.call("close", store)

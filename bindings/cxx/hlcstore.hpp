@@ -523,6 +523,15 @@ struct link_state {
   bool retired = false;
 };
 
+// How much a store contains: how many rows; how many keys that have rows, and the bytes of these, each counted once;
+// and the bytes of the values of all rows. A number is 2^64 - 1 where it would be greater.
+struct store_sizes {
+  std::uint64_t rows = 0;
+  std::uint64_t keys = 0;
+  std::uint64_t key_bytes = 0;
+  std::uint64_t value_bytes = 0;
+};
+
 // What a vacuum did up to a stamp: how many rows are left there, what they cost in bytes, and how many were dropped.
 struct vacuum_report {
   timestamp stamp;
@@ -533,6 +542,12 @@ struct vacuum_report {
 
 struct certified_vacuum : vacuum_report {
   std::string certificate;
+};
+
+// A part of a vacuum, with the numbers of its keys, and the key after which the next part goes on, or none after the
+// last part.
+struct partial_vacuum : vacuum_report {
+  std::optional<std::string> next;
 };
 
 // What a certificate shows: no row set with the same answers has fewer rows, or costs fewer bytes.
@@ -710,6 +725,14 @@ class store {
   std::uint64_t rows() const { return asked(hlc_rows); }
   std::uint64_t nodes() const { return asked(hlc_nodes); }
 
+  // In constant time.
+  store_sizes sizes() const {
+    hlc_store mine = copy();
+    store_sizes found;
+    detail::check(hlc_sizes(&mine, &found.rows, &found.keys, &found.key_bytes, &found.value_bytes));
+    return found;
+  }
+
   link_state link(std::uint16_t node) const {
     hlc_store mine = copy();
     link_state found;
@@ -742,7 +765,26 @@ class store {
     return made;
   }
 
-  // Does the same, with the certificate of the rows that are left.
+  // Does a part of vacuum_to, so that one call does a bounded amount of work: of the first keys above one, or the first
+  // of all where that has no bytes, at most so many. The first part makes the stamp the horizon. All calls are allowed
+  // between parts. Parts with one stamp, from the first key to the last, leave the fewest rows, if no snapshot closed
+  // meanwhile.
+  partial_vacuum vacuum_part(timestamp stamp, std::string_view after = {}, std::size_t most = 1024) {
+    partial_vacuum made;
+    // A part of no keys ends where it begins.
+    std::string next(after.size() < 255 ? 255 : after.size(), '\0');
+    std::size_t len = 0;
+    bool more = false;
+    const std::uint32_t code = hlc_vacuum_part(
+        own(), stamp.word, detail::bytes(after), after.size(), most, &made.stamp.word, &made.kept, &made.bytes,
+        &made.dropped, detail::bytes(next), next.size(), &len, &more);
+    detail::check(code, made.stamp.word);
+    next.resize(len);
+    if (more) made.next = std::move(next);
+    return made;
+  }
+
+  // Does vacuum or vacuum_to, with the certificate of the rows that are left.
   certified_vacuum vacuum_certified() { return certified(hlc_vacuum_certified, own()); }
   certified_vacuum vacuum_to_certified(timestamp stamp) {
     return certified(hlc_vacuum_to_certified, own(), stamp.word);

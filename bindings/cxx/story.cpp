@@ -3,6 +3,7 @@
 #include <cstdio>
 #include <functional>
 #include <hlcstore.hpp>
+#include <optional>
 #include <string>
 #include <string_view>
 
@@ -200,6 +201,14 @@ void look_round(store& store) {
   for (std::size_t place = 0; place < 3; place++) opened(store, place);
 }
 
+void print_sizes(const store& store) try {
+  const hlcstore::store_sizes found = store.sizes();
+  std::printf("sizes 0 %llu %llu %llu %llu\n", wide(found.rows), wide(found.keys), wide(found.key_bytes),
+              wide(found.value_bytes));
+} catch (const hlcstore::error& refused) {
+  std::printf("sizes %u 0 0 0 0\n", refused.code());
+}
+
 // Saves the store, makes another one of the bytes, and reads it. Bytes that were cut or changed are refused.
 void save(const store& from) {
   store copy;
@@ -326,6 +335,37 @@ void keep_above(store& store, node& node) {
   print_word("vacuum to", [&] { return store.vacuum_to(timestamp::of(39)).stamp.word; });
   print_certified(store.vacuum_to_certified(timestamp::of(40)));
   print_word("rows", [&] { return store.rows(); });
+  print_sizes(store);
+}
+
+// Vacuums in parts of so many keys, and prints the key after which each next part goes on.
+void vacuum_parts(store& store, timestamp stamp, std::size_t most) try {
+  std::optional<string> after = "";
+  while (after) {
+    const hlcstore::partial_vacuum made = store.vacuum_part(stamp, *after, most);
+    std::printf("part 0 %llu %llu %llu %llu %d ", wide(made.stamp.word), wide(made.kept), wide(made.bytes),
+                wide(made.dropped), made.next.has_value());
+    after = made.next;
+    for (const char byte : after.value_or("")) std::printf("%02x", static_cast<unsigned char>(byte));
+    std::printf("\n");
+  }
+} catch (const hlcstore::error& refused) {
+  std::printf("part %u %llu 0 0 0 0 \n", refused.code(), wide(refused.word()));
+}
+
+// Vacuums key by key, and by two keys at a later stamp, after which a whole vacuum drops nothing.
+void keep_in_parts(store& store, node& b, node& c) {
+  write(store, c, 46, "city", "Oslo");
+  write(store, c, 47, "lake", "Nemi");
+  write(store, c, 48, "city", "Riga");
+  report(store, b, 48);
+  vacuum_parts(store, timestamp::of(49), 1);
+  vacuum_parts(store, timestamp::of(47), 1);
+  print_word("horizon", [&] { return store.horizon().word; });
+  vacuum_parts(store, timestamp::of(46), 1);
+  vacuum_parts(store, timestamp::of(48), 2);
+  print_report("vacuum to", store.vacuum_to(timestamp::of(48)));
+  print_sizes(store);
 }
 
 void check(string_view certificate) try {
@@ -405,6 +445,7 @@ void vacuum(store& store) {
   check(string_view(again.certificate).substr(0, 35));
   check(string_view(again.certificate).substr(0, 4));
   print_word("rows", [&] { return store.rows(); });
+  print_sizes(store);
   print_word("snapshot", [&] { return store.open_snapshot({1}).id(); });
 }
 
@@ -427,6 +468,7 @@ void join_and_retire(store& store, node& a, node& b) {
   write(store, b, 31, string_view(large).substr(0, 256), "Nice");
   write(store, b, 31, "city", large);
   keep_above(store, c);
+  keep_in_parts(store, b, c);
 }
 
 }  // namespace
@@ -440,12 +482,14 @@ int main() {
     say(answer);
   }
   print_word("rows", [&] { return store.rows(); });
+  print_sizes(store);
   begin(store, a, b);
   look_round(store);
   save(store);
   replicate();
   restart();
   print_word("rows", [&] { return store.rows(); });
+  print_sizes(store);
   vacuum(store);
   join_and_retire(store, a, b);
   print_code("close all", [&] { store.close_all(); });

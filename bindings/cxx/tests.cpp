@@ -202,6 +202,31 @@ void certificates() {
   const hlcstore::shown shown = hlcstore::check_certificate(made.certificate);
   EXPECT(shown.rows == 500 && shown.bytes == made.bytes && store.horizon() == made.stamp);
   EXPECT(store.vacuum_to(made.stamp).dropped == 0 && store.vacuum_to_certified(made.stamp).kept == 500);
+  const hlcstore::store_sizes left = store.sizes();
+  EXPECT(left.rows == 500 && left.keys == 500 && left.value_bytes == 500);
+  EXPECT(left.key_bytes + left.value_bytes + 10 * left.rows == made.bytes);
+}
+
+void parts() {
+  std::map<string, string> pairs;
+  for (int i = 0; i < 500; i++) pairs[key_of(i)] = "x";
+  store store = filled(pairs);
+  node writer = node::restore(0, store.link(0).head, store.link(0).next);
+  for (const auto& [key, value] : pairs) write(store, writer, 2, key, "y");
+  const timestamp stamp = store.floor();
+  std::optional<string> after = "";
+  std::uint64_t kept = 0;
+  while (after) {
+    const hlcstore::partial_vacuum made = store.vacuum_part(stamp, *after, 200);
+    EXPECT(made.stamp == stamp && made.kept == made.dropped && store.horizon() == stamp);
+    kept += made.kept;
+    EXPECT(store.rows() == 1000 - kept && made.next.has_value() == (made.kept == 200));
+    after = made.next;
+  }
+  EXPECT(kept == 500 && !store.vacuum_part(stamp).next && store.vacuum_to(stamp).dropped == 0);
+  const hlcstore::partial_vacuum none = store.vacuum_part(stamp, string(300, 'z'), 0);
+  EXPECT(none.kept == 0 && none.next == string(300, 'z'));
+  EXPECT(refusal_of([&] { store.vacuum_part(timestamp::of(1)); }) == HLC_BELOW_HORIZON);
 }
 
 void restarts() {
@@ -234,6 +259,7 @@ int main() {
   refusals();
   partly_accepted();
   certificates();
+  parts();
   restarts();
   stamps();
   std::puts(wrong == 0 ? "all right" : "wrong");

@@ -82,6 +82,7 @@ static void read_back(hlc_store *store)
     hlc_store copy = HLC_CLOSED_STORE;
     uint64_t id, word, kept, cost, dropped;
     size_t len, many;
+    bool more;
     uint32_t code = hlc_open_snapshot_at_floor(store, &id, &word);
     expect("snapshot", code, word, HLC_OK, AT(1));
     code = hlc_read(store, 1, BYTES("a"), NONE, &len);
@@ -94,6 +95,10 @@ static void read_back(hlc_store *store)
     expect("certificate", code, len + kept + dropped, HLC_OK, 50);
     code = hlc_vacuum_to_certified(store, AT(1), &word, &kept, &cost, &dropped, NONE, &len);
     expect("certificate to a stamp", code, len + kept + dropped, HLC_OK, 50);
+    code = hlc_vacuum_part(store, AT(1), NONE, 1, &word, &kept, &cost, &dropped, NONE, &len, &more);
+    expect("part, no room", code, len + kept + cost + dropped + more, HLC_OK, 14);
+    code = hlc_vacuum_part(store, AT(1), NONE, 0, &word, &kept, &cost, &dropped, NONE, &len, &more);
+    expect("part of no keys", code, len + kept + cost + dropped + more, HLC_OK, 1);
     code = hlc_accept_write(store, 0, 1, AT(2), BYTES("b"), BYTES("red"), &word);
     expect("accept", code, word, HLC_OK, AT(2));
     code = hlc_open_snapshot_at_floor(store, &id, &word);

@@ -6,7 +6,7 @@
 
 #define BYTES(s) (const uint8_t *)(s), sizeof(s) - 1
 #define AT(l) ((uint64_t)(l) << 16)
-#define STEPS 18
+#define STEPS 19
 #define PIECE 50
 
 static long left = -1;
@@ -66,6 +66,7 @@ static uint32_t call(int step, hlc_store *store)
     static size_t saved_len;
     uint64_t v, w, x, y;
     uint16_t node;
+    bool more;
     size_t len;
     switch (step) {
     case 0: return hlc_open(store, 2);
@@ -79,12 +80,14 @@ static uint32_t call(int step, hlc_store *store)
     case 8: return hlc_close_snapshot(store, 1, &w);
     case 9: return hlc_join(store, &node, &w);
     case 10: return hlc_join_at(store, AT(30), &node, &w);
-    case 11: return hlc_vacuum_to(store, AT(12), &v, &w, &x, &y);
-    case 12: return hlc_vacuum_to_certified(store, AT(12), &v, &w, &x, &y, out, sizeof out, &len);
-    case 13: return hlc_vacuum(store, &v, &w, &x, &y);
-    case 14: return hlc_vacuum_certified(store, &v, &w, &x, &y, out, sizeof out, &len);
-    case 15: return hlc_checkpoint(store, 7, saved, sizeof saved, &saved_len);
-    case 16: return restore(saved, saved_len);
+    case 11:
+        return hlc_vacuum_part(store, AT(12), BYTES(""), 1, &v, &w, &x, &y, out, sizeof out, &len, &more);
+    case 12: return hlc_vacuum_to(store, AT(12), &v, &w, &x, &y);
+    case 13: return hlc_vacuum_to_certified(store, AT(12), &v, &w, &x, &y, out, sizeof out, &len);
+    case 14: return hlc_vacuum(store, &v, &w, &x, &y);
+    case 15: return hlc_vacuum_certified(store, &v, &w, &x, &y, out, sizeof out, &len);
+    case 16: return hlc_checkpoint(store, 7, saved, sizeof saved, &saved_len);
+    case 17: return restore(saved, saved_len);
     default: return restore_in_pieces(saved, saved_len);
     }
 }

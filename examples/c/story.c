@@ -1,5 +1,5 @@
 /* Two nodes write, snapshots are read, a vacuum drops rows, a node joins and one retires, another joins at a stamp and
- * a vacuum to a stamp drops rows. Each answer is printed on a line. */
+ * a vacuum to a stamp drops rows, and two more in parts. Each answer is printed on a line. */
 #include "hlcstore.h"
 #include <inttypes.h>
 #include <stdio.h>
@@ -114,6 +114,14 @@ static void link_of(uint16_t node)
     bool retired;
     uint32_t code = hlc_link(&store, node, &next, &head, &retired);
     printf("link %" PRIu32 " %" PRIu64 " %" PRIu64 " %d\n", code, next, head, retired);
+}
+
+static void sizes(void)
+{
+    uint64_t rows, keys, key_bytes, value_bytes;
+    uint32_t code = hlc_sizes(&store, &rows, &keys, &key_bytes, &value_bytes);
+    printf("sizes %" PRIu32 " %" PRIu64 " %" PRIu64 " %" PRIu64 " %" PRIu64 "\n", code, rows, keys, key_bytes,
+           value_bytes);
 }
 
 static void snapshot_at(uint64_t place)
@@ -309,6 +317,55 @@ static void keep_above(hlc_node *node)
     print_answer("dropped", code, dropped);
     code = hlc_rows(&store, &word);
     print_answer("rows", code, word);
+    sizes();
+}
+
+/* Vacuums the next keys, at most so many, and prints the key to go on from. Returns whether a key may be left. */
+static bool vacuum_part(uint64_t stamp, size_t most, uint8_t key[255], size_t *key_len)
+{
+    uint64_t kept, cost, dropped;
+    bool more;
+    uint8_t out[255];
+    size_t len;
+    uint32_t code = hlc_vacuum_part(&store, stamp, key, *key_len, most, &word, &kept, &cost, &dropped, out, sizeof out,
+                                    &len, &more);
+    printf("part %" PRIu32 " %" PRIu64 " %" PRIu64 " %" PRIu64 " %" PRIu64 " %d ", code, word, kept, cost, dropped,
+           more);
+    for (size_t i = 0; i < len; i++) printf("%02x", out[i]);
+    printf("\n");
+    memcpy(key, out, len);
+    *key_len = len;
+    return more;
+}
+
+/* Vacuums in parts of so many keys. */
+static void vacuum_parts(uint64_t stamp, size_t most)
+{
+    uint8_t key[255];
+    size_t len = 0;
+    while (vacuum_part(stamp, most, key, &len)) continue;
+}
+
+/* Vacuums key by key, and by two keys at a later stamp, after which a whole vacuum drops nothing. */
+static void keep_in_parts(hlc_node *b, hlc_node *c)
+{
+    uint64_t kept, cost, dropped;
+    uint32_t code;
+    write_item(c, 46, BYTES("city"), BYTES("Oslo"));
+    write_item(c, 47, BYTES("lake"), BYTES("Nemi"));
+    write_item(c, 48, BYTES("city"), BYTES("Riga"));
+    report(b, 48);
+    vacuum_parts(AT(49), 1);
+    vacuum_parts(AT(47), 1);
+    code = hlc_horizon(&store, &word);
+    print_answer("horizon", code, word);
+    vacuum_parts(AT(46), 1);
+    vacuum_parts(AT(48), 2);
+    code = hlc_vacuum_to(&store, AT(48), &word, &kept, &cost, &dropped);
+    print_answer("vacuum to", code, word);
+    print_two("kept", code, kept, cost);
+    print_answer("dropped", code, dropped);
+    sizes();
 }
 
 int main(void)
@@ -328,6 +385,7 @@ int main(void)
     say(HLC_NO_CHECKPOINT);
     code = hlc_rows(&store, &word);
     print_answer("rows", code, word);
+    sizes();
     line("open", hlc_open(&store, 0));
     line("open", hlc_open(&store, 2));
     line("open", hlc_open(&store, 2));
@@ -371,6 +429,7 @@ int main(void)
     restart();
     code = hlc_rows(&store, &word);
     print_answer("rows", code, word);
+    sizes();
     code = hlc_vacuum(&store, &at, &kept, &cost, &dropped);
     print_answer("vacuum", code, at);
     print_two("kept", code, kept, cost);
@@ -393,6 +452,7 @@ int main(void)
     check(out, 4);
     code = hlc_rows(&store, &word);
     print_answer("rows", code, word);
+    sizes();
     code = hlc_open_snapshot(&store, 1, &id);
     print_answer("snapshot", code, id);
     code = hlc_join(&store, &joined, &start);
@@ -411,6 +471,7 @@ int main(void)
     write_item(&b, 31, large, 256, BYTES("Nice"));
     write_item(&b, 31, BYTES("city"), large, sizeof large);
     keep_above(&c);
+    keep_in_parts(&b, &c);
     line("close all", hlc_close_all(&store));
     snapshot_at(0);
     hlc_close(&store);

@@ -156,6 +156,13 @@ def look_round(store, first, second):
     print_opened(store)
 
 
+def print_sizes(store):
+    try:
+        print("sizes", 0, *store.sizes)
+    except Error as refused:
+        print("sizes", refused.code, 0, 0, 0, 0)
+
+
 def print_opened(store):
     for snapshot in store.snapshots():
         print("opened", 0, snapshot.id, snapshot.stamp)
@@ -271,6 +278,34 @@ def keep_above(store, node):
     print_answer("vacuum to", store.vacuum_to, stamp(39))
     certify(store.vacuum_to_certified, stamp(40))
     print_answer("rows", lambda: store.rows)
+    print_sizes(store)
+
+
+def vacuum_parts(store, at, most):
+    """Vacuums in parts of so many keys, and prints the key after which each next part goes on."""
+    after = b""
+    while after is not None:
+        try:
+            *numbers, after = store.vacuum_part(at, after, most)
+        except Error as refused:
+            print("part", refused.code, refused.word, 0, 0, 0, 0, "")
+            return
+        print("part", 0, *numbers, int(after is not None), (after or b"").hex())
+
+
+def keep_in_parts(store, b, c):
+    """Vacuums key by key, and by two keys at a later stamp, after which a whole vacuum drops nothing."""
+    write(store, c, 46, b"city", b"Oslo")
+    write(store, c, 47, b"lake", b"Nemi")
+    write(store, c, 48, b"city", b"Riga")
+    report(store, b, 48)
+    vacuum_parts(store, stamp(49), 1)
+    vacuum_parts(store, stamp(47), 1)
+    print_answer("horizon", lambda: store.horizon)
+    vacuum_parts(store, stamp(46), 1)
+    vacuum_parts(store, stamp(48), 2)
+    print_vacuum("vacuum to", store.vacuum_to(stamp(48)))
+    print_sizes(store)
 
 
 def begin():
@@ -281,6 +316,7 @@ def begin():
     with Store(1) as closed:
         pass
     print_answer("rows", lambda: closed.rows)
+    print_sizes(closed)
     line("open", Store, 0)
     store = Store(2)
     print("open", 0)
@@ -314,6 +350,7 @@ def write_and_read(store, a, b):
 
 def vacuum(store, first):
     print_answer("rows", lambda: store.rows)
+    print_sizes(store)
     print_vacuum("vacuum", store.vacuum())
     print_bytes("read", first.get, b"city")
     print_answer("close", store.close_snapshot, first.id)
@@ -325,6 +362,7 @@ def vacuum(store, first):
     check(certificate[:35])
     check(certificate[:4])
     print_answer("rows", lambda: store.rows)
+    print_sizes(store)
     print_answer("snapshot", store.snapshot, 1)
 
 
@@ -341,6 +379,7 @@ def join_and_retire(store, a, b):
     write(store, b, 31, bytes(256), b"Nice")
     write(store, b, 31, b"city", bytes(65536))
     keep_above(store, c)
+    keep_in_parts(store, b, c)
 
 
 with begin() as store:

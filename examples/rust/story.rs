@@ -1,6 +1,6 @@
 //! The story of examples/c/story.c, with the crate hlcstore of bindings/rust.
 
-use hlcstore::{Certified, Error, Item, KeyRange, Node, Result, Snapshot, Stamp, Store, Vacuumed};
+use hlcstore::{Certified, Error, Item, KeyRange, Node, Result, Snapshot, Stamp, Store, VacuumPart, Vacuumed};
 
 fn at(physical: u64) -> Stamp {
     Stamp::new(physical, 0)
@@ -135,6 +135,13 @@ fn read_all(store: &Store, id: u64, room: usize, code: u32) {
     println!("read all {code} {} {many} {}", bytes.len(), hex(&bytes));
 }
 
+fn print_sizes(store: &Store) {
+    match store.sizes() {
+        Ok(sizes) => println!("sizes 0 {} {} {} {}", sizes.rows, sizes.keys, sizes.key_bytes, sizes.value_bytes),
+        Err(error) => println!("sizes {} 0 0 0 0", error.code()),
+    }
+}
+
 fn opened(store: &Store, place: usize) {
     match store.snapshots().unwrap().get(place) {
         Some(open) => println!("opened 0 {} {}", open.id, open.stamp.to_bits()),
@@ -264,6 +271,40 @@ fn keep_above(store: &Store, node: &mut Node) {
     print_answer("vacuum to", store.vacuum_to(at(39)).map(|vacuumed| vacuumed.stamp.to_bits()));
     print_certified(&store.vacuum_to_certified(at(40)).unwrap());
     print_answer("rows", store.rows());
+    print_sizes(store);
+}
+
+// Vacuums in parts of so many keys, and prints the key after which each next part goes on.
+fn vacuum_parts(store: &Store, stamp: Stamp, most: usize) {
+    let mut after = Some(Vec::new());
+    while let Some(key) = after {
+        match store.vacuum_part(stamp, &key, most) {
+            Ok(VacuumPart { vacuumed, next }) => {
+                let Vacuumed { stamp, kept, bytes, dropped } = vacuumed;
+                let (stamp, more, last) = (stamp.to_bits(), next.is_some() as u8, hex(next.as_deref().unwrap_or(b"")));
+                println!("part 0 {stamp} {kept} {bytes} {dropped} {more} {last}");
+                after = next;
+            }
+            Err(error) => return println!("part {} {} 0 0 0 0 ", error.code(), error.word()),
+        }
+    }
+}
+
+// Vacuums key by key, and by two keys at a later stamp, after which a whole vacuum drops nothing.
+fn keep_in_parts(store: &Store, b: &mut Node, c: &mut Node) {
+    write(store, c, 46, b"city", b"Oslo");
+    write(store, c, 47, b"lake", b"Nemi");
+    write(store, c, 48, b"city", b"Riga");
+    report(store, b, 48);
+    vacuum_parts(store, at(49), 1);
+    vacuum_parts(store, at(47), 1);
+    print_answer("horizon", store.horizon().map(Stamp::to_bits));
+    vacuum_parts(store, at(46), 1);
+    vacuum_parts(store, at(48), 2);
+    let vacuumed = store.vacuum_to(at(48)).unwrap();
+    print_answer("vacuum to", Ok(vacuumed.stamp.to_bits()));
+    print_vacuumed(&vacuumed);
+    print_sizes(store);
 }
 
 // Vacuums with certificates, and checks the last one and parts of it.
@@ -289,6 +330,7 @@ fn main() {
     let store = Store::closed();
     let (mut a, mut b) = (Node::new(0, Stamp::ZERO), Node::new(1, Stamp::ZERO));
     print_answer("rows", store.rows());
+    print_sizes(&store);
     for nodes in [0, 2, 2] {
         line("open", store.reopen(nodes));
     }
@@ -324,6 +366,7 @@ fn main() {
     replicate();
     restart();
     print_answer("rows", store.rows());
+    print_sizes(&store);
     let vacuumed = store.vacuum().unwrap();
     print_answer("vacuum", Ok(vacuumed.stamp.to_bits()));
     print_vacuumed(&vacuumed);
@@ -333,6 +376,7 @@ fn main() {
     }
     certify(&store);
     print_answer("rows", store.rows());
+    print_sizes(&store);
     print_answer("snapshot", store.snapshot_at(Stamp::from_bits(1)).map(|snapshot| snapshot.id()));
     let mut c = store.join().unwrap();
     print_two("join", Ok((c.id().into(), c.last().to_bits())));
@@ -347,6 +391,7 @@ fn main() {
     write(&store, &mut b, 31, &[0; 256], b"Nice");
     write(&store, &mut b, 31, b"city", &[0; 65536]);
     keep_above(&store, &mut c);
+    keep_in_parts(&store, &mut b, &mut c);
     line("close all", store.close_all());
     opened(&store, 0);
     store.close();

@@ -8,7 +8,7 @@ import struct
 import unittest
 
 import hlcstore
-from hlcstore import Checked, Item, Link, Node, Store, Vacuum, split, stamp
+from hlcstore import Checked, Item, Link, Node, Sizes, Store, Vacuum, VacuumPart, split, stamp
 
 
 def filled(pairs):
@@ -83,6 +83,7 @@ class Feeding(unittest.TestCase):
 
     def assert_fed(self, store):
         self.assertEqual((store.floor, store.rows, store.nodes, store.horizon), (stamp(3), 3, 2, 0))
+        self.assertEqual(store.sizes, Sizes(rows=3, keys=2, key_bytes=2, value_bytes=65536))
         self.assertEqual(store.link(0), Link(3, stamp(3), False))
         self.assertEqual(store.link(1), Link(2, stamp(4), True))
         self.assertEqual(store.floor_node(), 0)
@@ -235,11 +236,26 @@ class Vacuums(unittest.TestCase):
         vacuum = self.store.vacuum()
         self.assertEqual(vacuum, Vacuum(stamp=stamp(4), kept=2, cost=26, dropped=2))
         self.assertEqual((self.store.horizon, self.store.rows), (stamp(4), 2))
+        self.assertEqual(self.store.sizes, (2, 2, 2, 4))
 
     def test_to_a_stamp(self):
         self.store.check_vacuum(stamp(2))
         self.assertEqual(self.store.vacuum_to(stamp(2)), (stamp(2), 1, 13, 1))
         self.assertEqual((self.store.horizon, self.store.rows), (stamp(2), 3))
+
+    def test_in_parts(self):
+        first = self.store.vacuum_part(stamp(4), most=1)
+        self.assertEqual(first, VacuumPart(stamp=stamp(4), kept=1, cost=13, dropped=1, next=b"a"))
+        self.assertEqual((self.store.horizon, self.store.rows), (stamp(4), 3))
+        self.assertEqual(self.store.vacuum_part(stamp(4), bytearray(b"a"), 2), (stamp(4), 1, 13, 1, None))
+        self.assertEqual(self.store.vacuum_part(stamp=stamp(4), after=b"b"), (stamp(4), 0, 0, 0, None))
+        self.assertEqual(self.store.vacuum_part(stamp(4)), (stamp(4), 2, 26, 0, None))
+        self.assertEqual(self.store.vacuum_to(stamp(4)), (stamp(4), 2, 26, 0))
+
+    def test_a_part_of_no_keys(self):
+        for after in b"", b"b", b"c" * 255, b"c" * 300:
+            self.assertEqual(self.store.vacuum_part(stamp(1), after, 0), (stamp(1), 0, 0, 0, after))
+        self.assertEqual(self.store.rows, 4)
 
     def test_certificates(self):
         vacuum, certificate = self.store.vacuum_certified()
@@ -341,7 +357,7 @@ class Arguments(unittest.TestCase):
         self.assertEqual((result.failed, result.attempted > 0), (0, True))
 
     def test_results_are_pickled(self):
-        for result in Vacuum(1, 2, 3, 4), Link(1, 2, True), Checked(1, 2):
+        for result in Vacuum(1, 2, 3, 4), VacuumPart(1, 2, 3, 4, b"5"), Link(1, 2, True), Checked(1, 2):
             self.assertEqual(pickle.loads(pickle.dumps(result)), result)
 
 

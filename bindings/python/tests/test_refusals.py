@@ -163,8 +163,9 @@ class AfterClose(unittest.TestCase):
             (store.check_write, 0, 0, 1, b"a", b""), (store.check_delete, 0, 0, 1, b"a"), (store.check_report, 0, 0, 1),
             (store.join,), (store.join_at, 5), (store.link, 0), (store.floor_node,), (store.snapshot,),
             (store.snapshot, 0), (store.snapshots,), (store.close_snapshot, 1), (store.close_all,), (store.vacuum,),
-            (store.vacuum_certified,), (store.vacuum_to, 0), (store.vacuum_to_certified, 0), (store.check_vacuum, 0),
-            (store.checkpoint,), *[(getattr, store, name) for name in ("floor", "horizon", "rows", "nodes")],
+            (store.vacuum_certified,), (store.vacuum_to, 0), (store.vacuum_to_certified, 0), (store.vacuum_part, 0),
+            (store.check_vacuum, 0), (store.checkpoint,),
+            *[(getattr, store, name) for name in ("floor", "horizon", "rows", "sizes", "nodes")],
         ]  # fmt: skip
         for call, *args in calls:
             with self.assertRaises(hlcstore.Closed, msg=f"{call} {args}"):

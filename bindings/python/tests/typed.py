@@ -4,7 +4,8 @@ from collections.abc import Iterator
 from typing import assert_type
 
 import hlcstore
-from hlcstore import AboveFloor, Checked, Item, Link, Node, NotNext, Snapshot, Store, Vacuum, check, split, stamp
+from hlcstore import AboveFloor, Checked, Item, Link, Node, NotNext, Sizes, Snapshot, Store, Vacuum, VacuumPart
+from hlcstore import check, split, stamp
 
 node = Node(0)
 item = assert_type(node.write(1, b"a", bytearray(b"x")), Item)
@@ -14,6 +15,7 @@ with Store(1) as store:
     assert_type(store.accept_items(memoryview(bytes(item))), int)
     assert_type(store.join_at(stamp(5)), Node)
     assert_type(store.link(0), Link)
+    assert_type(store.sizes, Sizes)
     assert_type(store.snapshots(), list[Snapshot])
     try:
         with store.snapshot() as snapshot:
@@ -31,6 +33,7 @@ with Store(1) as store:
         assert_type(refused_item.accepted, int)
     vacuum, certificate = store.vacuum_certified()
     assert_type(vacuum, Vacuum)
+    assert_type(store.vacuum_part(0, bytearray(b"a"), most=2), VacuumPart)
     assert_type(check(certificate), Checked)
     assert_type(Store.restore(store.checkpoint(word=3)), Store)
 assert_type(hlcstore.__version__, str)

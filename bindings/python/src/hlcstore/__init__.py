@@ -40,7 +40,7 @@ from ._errors import (
 )
 from ._native import VERSION as __version__
 from ._native import Item, Node, Snapshot, Store, check, error_name, error_text, version
-from ._results import Checked, Link, Vacuum
+from ._results import Checked, Link, Sizes, Vacuum, VacuumPart
 
 __all__ = [
     "AboveFloor",
@@ -66,6 +66,7 @@ __all__ = [
     "NumbersSpent",
     "ReadingTooLarge",
     "Retired",
+    "Sizes",
     "Snapshot",
     "StampNotRising",
     "Store",
@@ -73,6 +74,7 @@ __all__ = [
     "TooManyNodes",
     "TooManySnapshots",
     "Vacuum",
+    "VacuumPart",
     "ValueTooLong",
     "__version__",
     "check",

@@ -16,6 +16,21 @@ class Vacuum(NamedTuple):
     """How many rows were dropped."""
 
 
+class VacuumPart(NamedTuple):
+    """What a part of a vacuum left of the rows of its keys up to a stamp, and what it dropped there."""
+
+    stamp: int
+    """The stamp of the call."""
+    kept: int
+    """How many rows of these keys are left up to it."""
+    cost: int
+    """What these cost: for each the length of its key and of its value, and 10."""
+    dropped: int
+    """How many rows were dropped."""
+    next: bytes | None
+    """The key after which the next part goes on, or None where the vacuum is whole."""
+
+
 class Link(NamedTuple):
     """What a store accepted from a node."""
 
@@ -25,6 +40,19 @@ class Link(NamedTuple):
     """The stamp of its last accepted item, or of its start."""
     retired: bool
     """Whether its retirement was accepted."""
+
+
+class Sizes(NamedTuple):
+    """How much a store contains. A number is 2^64 - 1 where it would be greater."""
+
+    rows: int
+    """How many rows are stored."""
+    keys: int
+    """How many keys have rows."""
+    key_bytes: int
+    """The bytes of these keys, each counted once."""
+    value_bytes: int
+    """The bytes of the values of all rows. A deletion has none."""
 
 
 class Checked(NamedTuple):

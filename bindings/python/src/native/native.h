@@ -148,6 +148,7 @@ PyObject *store_vacuum(PyObject *self, PyObject *none);
 PyObject *store_vacuum_certified(PyObject *self, PyObject *none);
 PyObject *store_vacuum_to(PyObject *self, PyObject *stamp);
 PyObject *store_vacuum_to_certified(PyObject *self, PyObject *stamp);
+PyObject *store_vacuum_part(PyObject *self, PyObject *args, PyObject *words);
 PyObject *store_check_vacuum(PyObject *self, PyObject *stamp);
 
 /* The function check of the module. */

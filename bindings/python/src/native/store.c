@@ -370,6 +370,18 @@ static PyObject *ask(PyObject *self, void *question)
     return code == HLC_OK ? number_object(number) : refuse(code, 0);
 }
 
+static PyObject *sizes(PyObject *self, void *none)
+{
+    Store *store = (Store *)self;
+    uint64_t numbers[4];
+    (void)none;
+    PyThreadState *thread = lock_to_ask(store, SHORT);
+    hlc_store mine = store->handle;
+    uint32_t code = hlc_sizes(&mine, &numbers[0], &numbers[1], &numbers[2], &numbers[3]);
+    unlock(store, thread);
+    return code == HLC_OK ? result_of("Sizes", numbers, 4, NULL) : refuse(code, 0);
+}
+
 static PyObject *store_floor_node(PyObject *self, PyObject *none)
 {
     (void)none;
@@ -477,6 +489,11 @@ static PyMethodDef store_methods[] = {
       "Drop all rows up to a stamp that neither it nor an open snapshot below it needs." },
     { "vacuum_to_certified", store_vacuum_to_certified, METH_O,
       "vacuum_to_certified($self, stamp, /)\n--\n\nDo the same, and return the numbers and the certificate." },
+    METHOD("vacuum_part", store_vacuum_part,
+           "vacuum_part($self, /, stamp, after=b'', most=1024)\n--\n\n"
+           "Do a part of vacuum_to: of the first keys above one, at most so many.\n\n"
+           "The next part goes on after the key that is returned as next, until that is None. All calls are allowed\n"
+           "between parts. Parts with one stamp leave the fewest rows, if no snapshot closed meanwhile."),
     { "check_vacuum", store_check_vacuum, METH_O,
       "check_vacuum($self, stamp, /)\n--\n\nRaise what vacuum_to would raise, except NoMemory." },
     METHOD("checkpoint", store_checkpoint,
@@ -488,8 +505,11 @@ static PyMethodDef store_methods[] = {
 
 static PyGetSetDef store_fields[] = {
     { "floor", ask, NULL, "The floor: every item that is accepted later has a greater stamp.", (void *)&FLOOR },
-    { "horizon", ask, NULL, "The stamp of the last vacuum, or 0. No snapshot opens below it.", (void *)&HORIZON },
+    { "horizon", ask, NULL, "The stamp of the last vacuum, or part of one, or 0. No snapshot opens below it.",
+      (void *)&HORIZON },
     { "rows", ask, NULL, "How many rows are stored.", (void *)&ROWS },
+    { "sizes", sizes, NULL, "How many rows and keys are stored, and how many bytes these have. In constant time.",
+      NULL },
     { "nodes", ask, NULL, "How many node numbers are assigned, those of retired nodes too.", (void *)&NODES },
     { 0 },
 };

@@ -88,6 +88,50 @@ PyObject *store_vacuum_to_certified(PyObject *self, PyObject *from)
     return take_u64(from, &stamp) ? vacuum_certified((Store *)self, &stamp) : NULL;
 }
 
+/* The longest key. */
+#define KEY_ROOM 255
+
+/* A part of a vacuum up to a stamp: of the first keys above one, at most so many. */
+typedef struct {
+    uint64_t stamp;
+    Bytes after;
+    uint64_t most;
+} Part;
+
+static PyObject *vacuum_part(Store *store, const Part *part)
+{
+    uint64_t numbers[NUMBERS];
+    uint8_t key[KEY_ROOM];
+    size_t len;
+    bool more;
+    PyThreadState *thread = lock_to_change(store, LONG);
+    uint32_t code = hlc_vacuum_part(&store->handle, part->stamp, part->after.at, part->after.len, part->most,
+                                    &numbers[STAMP], &numbers[KEPT], &numbers[COST], &numbers[DROPPED], key,
+                                    sizeof key, &len, &more);
+    unlock(store, thread);
+    if (code != HLC_OK) return refuse(code, numbers[STAMP]);
+    if (!more) return result_of("VacuumPart", numbers, NUMBERS, Py_None);
+    /* Only a part of no keys ends at longer bytes: at those where it begins. */
+    const uint8_t *end = len <= sizeof key ? key : part->after.at;
+    PyObject *next = PyBytes_FromStringAndSize((const char *)end, (Py_ssize_t)len);
+    PyObject *result = next ? result_of("VacuumPart", numbers, NUMBERS, next) : NULL;
+    Py_XDECREF(next);
+    return result;
+}
+
+PyObject *store_vacuum_part(PyObject *self, PyObject *args, PyObject *words)
+{
+    static char *names[] = { "stamp", "after", "most", NULL };
+    Part part = { .most = 1024 };
+    PyObject *result;
+    if (!PyArg_ParseTupleAndKeywords(args, words, "O&|O&O&:vacuum_part", names, take_u64, &part.stamp, take_bytes,
+                                     &part.after, take_u64, &part.most))
+        return NULL;
+    result = vacuum_part((Store *)self, &part);
+    drop_bytes(&part.after);
+    return result;
+}
+
 PyObject *store_check_vacuum(PyObject *self, PyObject *from)
 {
     Store *store = (Store *)self;

@@ -208,6 +208,13 @@ unsafe extern "C" {
     ) -> u32;
     pub fn hlc_floor(store: *mut hlc_store, stamp: *mut u64) -> u32;
     pub fn hlc_rows(store: *mut hlc_store, rows: *mut u64) -> u32;
+    pub fn hlc_sizes(
+        store: *mut hlc_store,
+        rows: *mut u64,
+        keys: *mut u64,
+        key_bytes: *mut u64,
+        value_bytes: *mut u64,
+    ) -> u32;
     pub fn hlc_vacuum(
         store: *mut hlc_store,
         floor: *mut u64,
@@ -243,6 +250,21 @@ unsafe extern "C" {
         out: *mut u8,
         out_len: usize,
         len: *mut usize,
+    ) -> u32;
+    pub fn hlc_vacuum_part(
+        store: *mut hlc_store,
+        stamp: u64,
+        after: *const u8,
+        after_len: usize,
+        most: usize,
+        word: *mut u64,
+        kept: *mut u64,
+        bytes: *mut u64,
+        dropped: *mut u64,
+        out: *mut u8,
+        out_len: usize,
+        len: *mut usize,
+        more: *mut bool,
     ) -> u32;
     pub fn hlc_check_vacuum(store: *mut hlc_store, stamp: u64, word: *mut u64) -> u32;
     pub fn hlc_check(text: *const u8, text_len: usize, rows: *mut u64, bytes: *mut u64, word: *mut u64) -> u32;

@@ -6,13 +6,15 @@
 use crate::buffer::{append, reserve};
 use crate::error::answer;
 use crate::range::Bounds;
-use crate::vacuum::{Certified, Vacuumed};
-use crate::{Content, Error, Item, Link, Node, OpenSnapshot, Result, Stamp, Stopped};
+use crate::vacuum::{Certified, VacuumPart, Vacuumed};
+use crate::{Content, Error, Item, Link, Node, OpenSnapshot, Result, Sizes, Stamp, Stopped};
 use hlcstore_sys as sys;
 
 /// How many bytes are made room for at first: of a value, and of a certificate or a checkpoint.
 const VALUE_ROOM: usize = 64;
 const TEXT_ROOM: usize = 4096;
+/// How many bytes a stored key has at most.
+const KEY_ROOM: usize = 255;
 
 /// A store of the C library, closed or open. It closes itself.
 #[derive(Debug)]
@@ -276,6 +278,13 @@ impl Handle {
         self.ask(|store, rows| unsafe { sys::hlc_rows(store, rows) })
     }
 
+    pub(crate) fn sizes(&self) -> Result<Sizes> {
+        let mut sizes = Sizes::default();
+        let Sizes { keys, key_bytes, value_bytes, .. } = &mut sizes;
+        sizes.rows = self.ask(|store, rows| unsafe { sys::hlc_sizes(store, rows, keys, key_bytes, value_bytes) })?;
+        Ok(sizes)
+    }
+
     pub(crate) fn nodes(&self) -> Result<u64> {
         self.ask(|store, many| unsafe { sys::hlc_nodes(store, many) })
     }
@@ -318,6 +327,24 @@ impl Handle {
         made.stamp =
             self.change(|store, word| unsafe { sys::hlc_vacuum_to(store, to.to_bits(), word, kept, bytes, dropped) })?;
         Ok(made.vacuumed())
+    }
+
+    pub(crate) fn vacuum_part(&mut self, to: Stamp, after: &[u8], most: usize) -> Result<VacuumPart> {
+        let (mut made, mut next) = (Numbers::default(), Vec::new());
+        let (mut len, mut more) = (0, false);
+        // A part of no keys ends where it begins.
+        reserve(&mut next, KEY_ROOM.max(after.len()))?;
+        let Numbers { kept, bytes, dropped, .. } = &mut made;
+        let (at, at_len, out, room) = (after.as_ptr(), after.len(), next.as_mut_ptr(), next.capacity());
+        made.stamp = self.change(|store, word| unsafe {
+            let to = to.to_bits();
+            sys::hlc_vacuum_part(
+                store, to, at, at_len, most, word, kept, bytes, dropped, out, room, &mut len, &mut more,
+            )
+        })?;
+        // SAFETY: there was room for the key, so the call has written these bytes.
+        unsafe { next.set_len(len) };
+        Ok(VacuumPart { vacuumed: made.vacuumed(), next: more.then_some(next) })
     }
 
     pub(crate) fn check_vacuum(&self, to: Stamp) -> Result<()> {

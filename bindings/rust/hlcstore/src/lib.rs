@@ -60,8 +60,8 @@ pub use restoring::Restoring;
 pub use shared::SharedStore;
 pub use snapshot::{Access, OpenSnapshot, Snapshot};
 pub use stamp::Stamp;
-pub use store::{Link, Store};
-pub use vacuum::{Certified, Checked, Vacuumed, check_certificate};
+pub use store::{Link, Sizes, Store};
+pub use vacuum::{Certified, Checked, VacuumPart, Vacuumed, check_certificate};
 
 /// Returns the version of the C library: 10,000 times its first number, 100 times the second, and the third.
 pub fn version() -> u32 {

@@ -1,5 +1,7 @@
 use crate::handle::Handle;
-use crate::{Certified, Item, Link, Node, OpenSnapshot, Result, Snapshot, Stamp, Stopped, Store, Vacuumed};
+use crate::{
+    Certified, Item, Link, Node, OpenSnapshot, Result, Sizes, Snapshot, Stamp, Stopped, Store, VacuumPart, Vacuumed,
+};
 use std::fmt;
 use std::sync::{Arc, PoisonError, RwLock, RwLockReadGuard, RwLockWriteGuard};
 
@@ -138,6 +140,11 @@ impl SharedStore {
         self.read().rows()
     }
 
+    /// Returns how many rows and keys are stored, and how many bytes they have, as [`Store::sizes`] does.
+    pub fn sizes(&self) -> Result<Sizes> {
+        self.read().sizes()
+    }
+
     /// Returns how many node numbers are assigned, as [`Store::nodes`] does.
     pub fn nodes(&self) -> Result<u64> {
         self.read().nodes()
@@ -166,6 +173,11 @@ impl SharedStore {
     /// Vacuums to a stamp with a certificate, as [`Store::vacuum_to_certified`] does.
     pub fn vacuum_to_certified(&self, stamp: Stamp) -> Result<Certified> {
         self.write().vacuum_to_certified(stamp)
+    }
+
+    /// Does a part of a vacuum to a stamp, as [`Store::vacuum_part`] does.
+    pub fn vacuum_part(&self, stamp: Stamp, after: &[u8], most: usize) -> Result<VacuumPart> {
+        self.write().vacuum_part(stamp, after, most)
     }
 
     /// Returns why a vacuum to a stamp would be refused, as [`Store::check_vacuum`] does.

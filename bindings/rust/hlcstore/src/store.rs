@@ -1,6 +1,6 @@
 use crate::handle::Handle;
 use crate::snapshot::{OpenSnapshot, Snapshot};
-use crate::{Certified, Item, Node, Result, SharedStore, Stamp, Stopped, Vacuumed};
+use crate::{Certified, Item, Node, Result, SharedStore, Stamp, Stopped, VacuumPart, Vacuumed};
 use std::cell::{Ref, RefCell, RefMut};
 use std::fmt;
 
@@ -40,6 +40,19 @@ pub struct Link {
     pub head: Stamp,
     /// Whether its retirement was accepted.
     pub is_retired: bool,
+}
+
+/// How much a store contains. A number is 2^64 - 1 where it would be greater.
+#[derive(Clone, Copy, Debug, Default, PartialEq, Eq, Hash)]
+pub struct Sizes {
+    /// How many rows are stored.
+    pub rows: u64,
+    /// How many keys have rows.
+    pub keys: u64,
+    /// The bytes of these keys, each counted once.
+    pub key_bytes: u64,
+    /// The bytes of the values of all rows. A deletion has none.
+    pub value_bytes: u64,
 }
 
 impl Store {
@@ -173,7 +186,8 @@ impl Store {
         self.read().floor_node()
     }
 
-    /// Returns the horizon (GC threshold): the stamp of the last vacuum, or [`Stamp::ZERO`] before the first.
+    /// Returns the horizon (GC threshold): the stamp of the last vacuum, or part of one, or [`Stamp::ZERO`] before
+    /// the first.
     pub fn horizon(&self) -> Result<Stamp> {
         self.read().horizon()
     }
@@ -181,6 +195,22 @@ impl Store {
     /// Returns how many rows are stored.
     pub fn rows(&self) -> Result<u64> {
         self.read().rows()
+    }
+
+    /// Returns how many rows and keys are stored, and how many bytes they have, in constant time.
+    ///
+    /// ```
+    /// use hlcstore::{Node, Sizes, Stamp, Store};
+    ///
+    /// let store = Store::open(1)?;
+    /// let mut node = Node::new(0, Stamp::ZERO);
+    /// store.accept(node.write(1, b"city", b"Lyon")?)?;
+    /// store.accept(node.write(2, b"city", b"Paris")?)?;
+    /// assert_eq!(store.sizes()?, Sizes { rows: 2, keys: 1, key_bytes: 4, value_bytes: 9 });
+    /// # Ok::<(), hlcstore::Error>(())
+    /// ```
+    pub fn sizes(&self) -> Result<Sizes> {
+        self.read().sizes()
     }
 
     /// Returns how many node numbers are assigned, those of retired nodes too.
@@ -237,6 +267,33 @@ impl Store {
     /// Refusals: those of [`vacuum_to`](Store::vacuum_to). With `NoMemory` the vacuum may have taken place.
     pub fn vacuum_to_certified(&self, stamp: Stamp) -> Result<Certified> {
         self.write().vacuum_to_certified(stamp)
+    }
+
+    /// Does a part of [`vacuum_to`](Store::vacuum_to), so that a call does a bounded amount of work while other threads
+    /// wait: of the first keys above `after`, or the first of all where that has no bytes, at most so many. The next
+    /// part goes on after the key [`next`](VacuumPart::next). The first part makes the stamp the horizon. All
+    /// calls are allowed between parts. Parts with one stamp, from the first key to the last, leave the fewest rows, if
+    /// no snapshot closed meanwhile.
+    ///
+    /// Refusals, in this order: `AboveFloor`, `BelowHorizon`, `NoMemory`.
+    ///
+    /// ```
+    /// use hlcstore::{Node, Stamp, Store};
+    ///
+    /// let store = Store::open(1)?;
+    /// let mut node = Node::new(0, Stamp::ZERO);
+    /// for reading in 1..=9 {
+    ///     store.accept(node.write(reading, &[reading as u8 % 3], b"Lyon")?)?;
+    /// }
+    /// let mut after = Some(Vec::new());
+    /// while let Some(key) = after {
+    ///     after = store.vacuum_part(Stamp::new(9, 0), &key, 2)?.next;
+    /// }
+    /// assert_eq!(store.rows()?, 3);
+    /// # Ok::<(), hlcstore::Error>(())
+    /// ```
+    pub fn vacuum_part(&self, stamp: Stamp, after: &[u8], most: usize) -> Result<VacuumPart> {
+        self.write().vacuum_part(stamp, after, most)
     }
 
     /// Returns why [`vacuum_to`](Store::vacuum_to) would be refused, except `NoMemory`.

@@ -26,6 +26,15 @@ pub struct Certified {
     pub certificate: String,
 }
 
+/// What a part of a vacuum did, and where the next one begins.
+#[derive(Clone, Debug, PartialEq, Eq, Hash)]
+pub struct VacuumPart {
+    /// What it did. The numbers are those of rows of the keys of this part.
+    pub vacuumed: Vacuumed,
+    /// The last key of this part, after which the next one goes on, or none where the vacuum is whole.
+    pub next: Option<Vec<u8>>,
+}
+
 /// How many rows a certificate has, and what they cost.
 #[derive(Clone, Copy, Debug, PartialEq, Eq, Hash)]
 pub struct Checked {

@@ -1,4 +1,4 @@
-//! Vacuums with certificates that are longer than the first buffer.
+//! Vacuums with certificates that are longer than the first buffer, and vacuums in parts.
 
 use hlcstore::{Certified, Node, Stamp, Store, check_certificate};
 
@@ -42,4 +42,28 @@ fn vacuum_to_a_stamp_returns_its_own_numbers_with_a_long_certificate() {
     assert_eq!(store.horizon(), Ok(stamp));
     let again = store.vacuum_to_certified(stamp).unwrap().vacuumed;
     assert_eq!((again.kept, again.dropped), (KEYS, 0));
+}
+
+#[test]
+fn parts_of_a_vacuum_leave_one_row_of_each_key() {
+    let store = store();
+    let stamp = Stamp::new(2, KEYS as u16 - 1);
+    let (mut after, mut parts) = (Vec::new(), Vec::new());
+    loop {
+        let part = store.vacuum_part(stamp, &after, 200).unwrap();
+        parts.push((part.vacuumed.kept, part.vacuumed.bytes, part.vacuumed.dropped));
+        assert_eq!((part.vacuumed.stamp, store.horizon()), (stamp, Ok(stamp)));
+        let Some(next) = part.next else { break };
+        assert_eq!(next, (200 * parts.len() as u64 - 1).to_be_bytes());
+        after = next;
+    }
+    assert_eq!(parts, [(200, 5200, 200), (200, 5200, 200), (100, 2600, 100)]);
+    assert_eq!((store.rows(), store.vacuum_to(stamp).unwrap().dropped), (Ok(KEYS), 0));
+}
+
+#[test]
+fn part_of_no_keys_ends_where_it_begins() {
+    let (store, after) = (store(), vec![7; 300]);
+    let part = store.vacuum_part(Stamp::new(1, 0), &after, 0).unwrap();
+    assert_eq!((part.vacuumed.kept, part.vacuumed.dropped, part.next), (0, 0, Some(after)));
 }

@@ -103,11 +103,13 @@ fn snapshots_and_vacuums_are_refused() {
     assert_eq!(refused(store.snapshot_at(at(6))), (ErrorKind::AboveFloor, floor));
     assert_eq!(refused(store.vacuum_to(at(6))), (ErrorKind::AboveFloor, floor));
     assert_eq!(refused(store.vacuum_to_certified(at(6))), (ErrorKind::AboveFloor, floor));
+    assert_eq!(refused(store.vacuum_part(at(6), b"", 1)), (ErrorKind::AboveFloor, floor));
     assert_eq!(refused(store.check_vacuum(at(6))), (ErrorKind::AboveFloor, floor));
     store.vacuum_to(at(5)).unwrap();
     assert_eq!(refused(store.snapshot_at(at(4))), (ErrorKind::BelowHorizon, floor));
     assert_eq!(refused(store.vacuum_to(at(4))), (ErrorKind::BelowHorizon, floor));
     assert_eq!(refused(store.vacuum_to_certified(at(4))), (ErrorKind::BelowHorizon, floor));
+    assert_eq!(refused(store.vacuum_part(at(4), b"", 1)), (ErrorKind::BelowHorizon, floor));
     assert_eq!(refused(store.check_vacuum(at(4))), (ErrorKind::BelowHorizon, floor));
     assert_eq!(refused(store.join_at(at(4))), (ErrorKind::BelowHorizon, floor));
     assert_eq!(refused(store.snapshot_by_id(1)), (ErrorKind::NoSnapshot, 0));

@@ -34,10 +34,11 @@ macro_rules! answers {
         add(&store.snapshots());
         add(&(store.check_vacuum(at(4)), store.vacuum_to(at(4)), store.horizon(), store.rows()));
         let snapshot = store.snapshot_at(at(6)).unwrap();
+        add(&(store.vacuum_part(at(6), b"", 1), store.vacuum_part(at(6), b"city", 1), store.rows()));
         add(&(store.vacuum_to_certified(at(7)), store.check_vacuum(at(6)), store.rows()));
         add(&store.close_all());
         add(&snapshot.get(b"city"));
-        add(&(store.vacuum(), store.horizon(), store.rows()));
+        add(&(store.vacuum(), store.horizon(), store.rows(), store.sizes()));
         add(&store.vacuum_certified());
         let saved = store.checkpoint(7).unwrap();
         add(&saved);
