@@ -131,8 +131,12 @@ def vacuum_part(pick, store, model):
 
 
 def vacuum(pick, store, model):
-    """Vacuums to a stamp."""
-    at = pick.randint(model.horizon, ok("floor", store))
+    """Vacuums to the floor, or to a stamp."""
+    floor = ok("floor", store)
+    if pick.random() < 0.3:
+        assert ok("vacuum", store) == (floor, *model.vacuum(floor, model.keys()))
+        return
+    at = pick.randint(model.horizon, floor)
     assert ok("vacuum_to", store, at) == (at, *model.vacuum(at, model.keys()))
 
 
