@@ -15,6 +15,7 @@ mod items;
 mod joins;
 #[cfg(test)]
 mod parts;
+#[cfg(test)]
 mod ranges;
 #[cfg(test)]
 mod sizes;
