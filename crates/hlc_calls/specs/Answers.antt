@@ -1,5 +1,6 @@
 -- What each call returns to C, for one past that the store represented.
-use Rattle.std.specs.Prelude.{◌≡◌, ℕ, ◌+◌, ◌<◌, ◌≤◌, List, ◌∷◌, ◌++◌, length, drop, min, Option, Some, None, ⊤, Bool, true}
+use Rattle.std.specs.Prelude.{◌≡◌, ℕ, ◌+◌, ◌<◌, ◌≤◌, List, ◌∷◌, ◌++◌, length, drop, min, Option}
+use Rattle.std.specs.Prelude.{Some, None, ⊤, Bool, true}
 use Rattle.std.specs.Prelude.{false}
 use Rattle.hlc_node.specs.declared.item.Item.{Item}
 use Rattle.hlc_node.specs.declared.row.Row.{Row}

@@ -261,8 +261,8 @@ pub fn vacuum_to(
 }
 
 /// Makes a part of a vacuum to a stamp, of the first keys above one, at most so many. Returns 0, the stamp, the numbers
-/// of the part, the length of its last key and, where it fits, the key, and whether a key is left above it; or a refusal
-/// and its word.
+/// of the part, the length of its last key and, where it fits, the key, and whether a key is left above it; or a
+/// refusal and its word.
 pub fn vacuum_part(
     core: &mut Core,
     at: Stamp,

@@ -1,5 +1,6 @@
 -- Rows of one key are dropped: what becomes of the columns, of their rows and of their sizes.
-use Rattle.std.proofs.Common.{◌≡◌, ℕ, ◌+◌, ◌-◌, ◌<◌, ◌≤◌, Bool, true, false, cond, List, [], ◌∷◌, ◌++◌}
+use Rattle.std.proofs.Common.{◌≡◌, ℕ, ◌+◌, ◌-◌, ◌<◌, ◌≤◌, Bool, true, false, cond, List, []}
+use Rattle.std.proofs.Common.{◌∷◌, ◌++◌}
 use Rattle.std.proofs.Common.{refl, sym, ap, ap₂, ◌∙◌, inl, inr, arith, take, drop, length, get_or, set, subst}
 use Rattle.std.proofs.Common.{All, Contains, ltb, Ordering, Less, Equal}
 use Rattle.std.specs.Prelude.{sum_by}
@@ -274,7 +275,9 @@ module _ (ls : List (List Entry)) (at slot : ℕ) (inside : at < length ls) (lt 
         (subst Fit (all ∙ ap sizes_of (parted_own ls at slot inside lt)) fit))
 
     long : after.rows ≡ length own_kept
-    long = ap (λ (s : Sizes). s.rows) after_is ∙ sum_by-cons (λ (e : Entry). length e.1) (own_key, own_kept) [] ∙ omega arith
+    long =
+        ap (λ (s : Sizes). s.rows) after_is
+        ∙ sum_by-cons (λ (e : Entry). length e.1) (own_key, own_kept) [] ∙ omega arith
 
     -- none is left, and the column goes
     module _ (none : after.rows ≡ 0) (new : List Entry)
@@ -285,7 +288,9 @@ module _ (ls : List (List Entry)) (at slot : ℕ) (inside : at < length ls) (lt 
           (from_now ls at slot inside lt now own_kept written)
 
       pub gone_entries : new ≡ ahead ++ (if_filled (own_key, own_kept) ++ after_it)
-      gone_entries = parted_gone ∙ ap (λ l. ahead ++ (l ++ after_it)) (sym (filled_none (own_key, own_kept) (sym long ∙ none)))
+      gone_entries =
+          parted_gone
+          ∙ ap (λ l. ahead ++ (l ++ after_it)) (sym (filled_none (own_key, own_kept) (sym long ∙ none)))
 
       pub gone_sizes : others ≡ sizes_of new
       gone_sizes = others_are ∙ ap sizes_of (sym parted_gone)

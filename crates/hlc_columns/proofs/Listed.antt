@@ -1,6 +1,8 @@
 -- The first columns of a walk, and those above a key.
-use Rattle.std.proofs.Common.{◌≡◌, ◌≢◌, ℕ, zero, suc, ◌+◌, ◌≤◌, List, [], ◌∷◌, ◌++◌, sym, ap, ◌∙◌, arith, take}
-use Rattle.std.proofs.Common.{length, get_or, drop, Bool, true, false, Option, Some, None, All, refl, subst, inl, inr, Bor}
+use Rattle.std.proofs.Common.{◌≡◌, ◌≢◌, ℕ, zero, suc, ◌+◌, ◌≤◌, List, [], ◌∷◌, ◌++◌, sym, ap}
+use Rattle.std.proofs.Common.{◌∙◌, arith, take}
+use Rattle.std.proofs.Common.{length, get_or, drop, Bool, true, false, Option, Some, None, All, refl, subst, inl, inr}
+use Rattle.std.proofs.Common.{Bor}
 use Rattle.std.proofs.Common.{Ordering, Less, Equal, Greater, true≢false}
 use Rattle.std.specs.Prelude.{MatchOption}
 use Rattle.std.specs.Ordering.{is_eq, ordering_reverse}
@@ -36,7 +38,8 @@ one_more {X} xs rest i x is =
 
 -- one more column is listed
 pub listed_more : (list more : List KeyCells) (es left after : List Entry) (i : ℕ) (e : Entry) (one : KeyCells)
-    → list ≡ keyed (take i es) → left ≡ drop i es → left ≡ e ∷ after → more ≡ list ++ one ∷ [] → one ≡ one_of e
+    → list ≡ keyed (take i es) → left ≡ drop i es → left ≡ e ∷ after → more ≡ list ++ one ∷ []
+    → one ≡ one_of e
     → (more ≡ keyed (take (i + 1) es)) × (after ≡ drop (i + 1) es)
 listed_more list more es left after i e one inv rest next is same =
     let h = one_more es after i e (sym rest ∙ next) in (

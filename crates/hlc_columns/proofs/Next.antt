@@ -1,5 +1,6 @@
 -- The first columns above a key are all those of a range of keys.
-use Rattle.std.proofs.Common.{◌≡◌, ◌≢◌, ℕ, zero, suc, ◌+◌, ◌<◌, ◌≤◌, Bool, true, false, cond, List, [], ◌∷◌, ◌++◌}
+use Rattle.std.proofs.Common.{◌≡◌, ◌≢◌, ℕ, zero, suc, ◌+◌, ◌<◌, ◌≤◌, Bool, true, false, cond, List}
+use Rattle.std.proofs.Common.{[], ◌∷◌, ◌++◌}
 use Rattle.std.proofs.Common.{refl, sym, ap, ap₂, ◌∙◌, inl, inr, arith, take, drop, filter, length, subst, All, Some}
 use Rattle.std.proofs.Common.{None, Option, Ordering, Less, Equal, Greater, ltb, ◌&&◌, get_or}
 use Rattle.std.specs.Prelude.{not}
@@ -67,7 +68,8 @@ sorted_first (x ∷ xs) ys up = (go xs up.0, sorted_first xs ys up.1)
 
 -- the last key of ascending columns
 below_last : (k other : List ℕ) (e : Entry) (es : List Entry)
-    → AllByRecursion (λ x. key_cmp k x ≡ Less) (keys_in (e ∷ es)) → key_cmp k (last_key other (keyed (e ∷ es))) ≡ Less
+    → AllByRecursion (λ x. key_cmp k x ≡ Less) (keys_in (e ∷ es))
+    → key_cmp k (last_key other (keyed (e ∷ es))) ≡ Less
 below_last k other e [] h = h.0
 below_last k other e (f ∷ es) h = below_last k e.0 f es h.1
 

@@ -62,7 +62,8 @@ abbrev pub last_key : List ℕ → List KeyCells → List ℕ
 last_key key [] = key
 last_key key (one ∷ columns) = last_key one.key columns
 
--- where a part of at most so many columns ends: at its last key, or nowhere if it has fewer columns, since no key is left
+-- where a part of at most so many columns ends: at its last key, or nowhere if it has fewer columns, since no key is
+-- left
 abbrev pub part_end : List ℕ → ℕ → List KeyCells → Option (List ℕ)
 part_end key most columns = if nat_lt (length columns) most then None else Some (last_key key columns)
 

@@ -1,5 +1,6 @@
 -- Part of a vacuum: rows of the keys of one kind are dropped, and all other rows stay.
-use Rattle.std.specs.Prelude.{◌≡◌, ℕ, ◌+◌, List, ◌∷◌, length, filter, Bool, not, Option, None, Result, Ok, Err, ⊤}
+use Rattle.std.specs.Prelude.{◌≡◌, ℕ, ◌+◌, List, ◌∷◌, length, filter, Bool, not, Option, None, Result, Ok}
+use Rattle.std.specs.Prelude.{Err, ⊤}
 use Rattle.hlc_node.specs.declared.row.Row.{Row}
 use Rattle.hlc_witness.specs.Changes.{AreChanges}
 use Rattle.hlc_witness.specs.Cost.{changes_cost}
@@ -46,7 +47,8 @@ pub record EndsAt (kept : StoreView) (after : List ℕ) (most : ℕ) (end : Opti
 -- part of a vacuum to the stamp took place, of the first keys above one, at most so many, and where it ended is
 -- returned; or it was refused
 abbrev pub VacuumsPart
-    : StoreView → StoreView → ℕ → List ℕ → ℕ → List Step → Result (Report × Option (List ℕ)) CoreFault → Type 0
+    : StoreView → StoreView → ℕ → List ℕ → ℕ → List Step
+    → Result (Report × Option (List ℕ)) CoreFault → Type 0
 VacuumsPart old new at after most past (Ok made) =
     (vacuum_refusal (nodes old) past at ≡ None) × EndsAt old after most made.1
     × Trims old new at past (in_part after made.1) made.0

@@ -2,7 +2,8 @@
 ghost use Rattle.std.specs.Prelude.{◌≡◌, ◌≢◌, List, false};
 ghost use Rattle.hlc_core.specs.Past.{Step};
 ghost use Rattle.hlc_core.specs.StoreView.{Represents};
-ghost use Rattle.hlc_calls.specs.Answers.{ReturnsVacuumedAtFloor, ReturnsVacuumedTo, ReturnsVacuumChecked, ReturnsVacuumedPart};
+ghost use Rattle.hlc_calls.specs.Answers.{ReturnsVacuumedAtFloor, ReturnsVacuumedTo, ReturnsVacuumChecked};
+ghost use Rattle.hlc_calls.specs.Answers.{ReturnsVacuumedPart};
 ghost use Rattle.hlc_calls.specs.Check.{ReturnsCheck};
 ghost use Rattle.hlc_calls.specs.Certified.{IsCertifiedAtFloor, IsCertifiedTo, IsHalfAtFloor};
 ghost use Rattle.hlc_ffi.specs.Handle.{OnStore, nodes_in_handle, OnReader};
@@ -169,8 +170,8 @@ pub extern "C" fn hlc_vacuum_to_certified(
     )
 }
 
-/// Makes a part of `hlc_vacuum_to`, of the first keys above one, at most so many. Returns 0, the stamp, how many rows of
-/// these keys at or below it were kept, what they cost in bytes, how many were dropped, the length of the last of these
+/// Makes a part of `hlc_vacuum_to`, of the first keys above one, at most so many. Returns 0, the stamp, how many rows
+/// of these keys at or below it were kept, what they cost in bytes, how many were dropped, the length of the last of these
 /// keys and, where it fits, the key, and whether a key is left above it; or 8 and the floor, 9 and the horizon, or 15.
 #[unsafe(no_mangle)]
 pub extern "C" fn hlc_vacuum_part(

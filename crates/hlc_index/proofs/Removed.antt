@@ -1,5 +1,6 @@
 -- One entry removed from a leaf, or the leaf with it.
-use Rattle.std.proofs.Common.{◌≡◌, ◌<◌, ◌+◌, ◌++◌, ◌∷◌, ◌∙◌, ℕ, zero, suc, List, [], ap, ap₂, refl, sym, subst, arith, All}
+use Rattle.std.proofs.Common.{◌≡◌, ◌<◌, ◌+◌, ◌++◌, ◌∷◌, ◌∙◌, ℕ, zero, suc, List, [], ap, ap₂}
+use Rattle.std.proofs.Common.{refl, sym, subst, arith, All}
 use Rattle.std.proofs.Common.{map, take, drop, length, get_or, set, append_assoc, Less, Equal, cond}
 use Rattle.std.specs.Map.{remove_entry}
 use Rattle.std.specs.Ordering.{is_eq}

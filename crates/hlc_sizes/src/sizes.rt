@@ -1,5 +1,5 @@
 //! The sizes of a table, as numbers of 128 bits.
-ghost use Rattle.std.specs.Prelude.{◌≡◌, IfSome, option_copied};
+ghost use Rattle.std.specs.Prelude.{◌≡◌, IfSome, IsNone, option_copied};
 ghost use Rattle.hlc_sizes.specs.Sizes.{no_sizes, plus, minus, with_row, with_key, value_bytes, Fit, IsPart};
 
 /// How many rows and keys a table has, and how many bytes.
@@ -56,7 +56,8 @@ impl Sizes {
 
     /// Returns the sizes with one more row, whose value has this many bytes, or none if a number would be too great.
     pub fn with_row(self, bytes: usize) -> Option<Sizes>
-        ensures { IfSome result (λ more. (more ≡ with_row self bytes) × Fit more) }
+        ensures some { IfSome result (λ more. (more ≡ with_row self bytes) × Fit more) }
+        ensures none { IsNone result → Fit (with_row self bytes) → ⊥ }
     {
         Some(Sizes {
             rows: self.rows.checked_add(1)?,
@@ -68,7 +69,8 @@ impl Sizes {
 
     /// Returns the sizes with one more key of this many bytes, or none if a number would be too great.
     pub fn with_key(self, bytes: usize) -> Option<Sizes>
-        ensures { IfSome result (λ more. (more ≡ with_key self bytes) × Fit more) }
+        ensures some { IfSome result (λ more. (more ≡ with_key self bytes) × Fit more) }
+        ensures none { IsNone result → Fit (with_key self bytes) → ⊥ }
     {
         Some(Sizes {
             rows: self.rows,

@@ -1,7 +1,8 @@
 -- Rows of which those of some keys are kept by flags, and all others are kept. What is kept is a row set, has the other
 -- rows unchanged, and of the rows of the keys those whose flags are set. Each is shown by going through the rows, and
 -- then through the keys.
-use Rattle.std.proofs.Common.{◌≡◌, ◌≢◌, ℕ, ◌+◌, Bool, true, false, not, cond, List, [], ◌∷◌, ◌++◌, length, refl}
+use Rattle.std.proofs.Common.{◌≡◌, ◌≢◌, ℕ, ◌+◌, Bool, true, false, not, cond, List, [], ◌∷◌, ◌++◌}
+use Rattle.std.proofs.Common.{length, refl}
 use Rattle.std.proofs.Common.{sym, ap, ap₂, ◌∙◌, subst, inl, inr, arith, filter, take, drop, true≢false, Less}
 use Rattle.std.proofs.Common.{nat_cmp}
 use Rattle.std.specs.Prelude.{All, count_by}

@@ -1,5 +1,6 @@
 -- The plan of the columns of some keys, and what is done by it.
-use Rattle.std.specs.Prelude.{◌≡◌, ◌+◌, ◌≤◌, ◌∷◌, [], ℕ, Bool, List, ⊤, length, take, drop, filter, not, Contains}
+use Rattle.std.specs.Prelude.{◌≡◌, ◌+◌, ◌≤◌, ◌∷◌, [], ℕ, Bool, List, ⊤, length, take, drop, filter}
+use Rattle.std.specs.Prelude.{not, Contains}
 use Rattle.hlc_node.specs.declared.row.Row.{Row}
 use Rattle.hlc_node.specs.Rows.{IsRowSet}
 use Rattle.hlc_witness.specs.Cost.{rows_cost}
@@ -27,7 +28,8 @@ HaveFlags (key ∷ keys) flags rows =
     × HaveFlags keys (drop (length (rows_with key rows)) flags)
     (rows_kept key (take (length (rows_with key rows)) flags) rows)
 
--- The part has the plan of the columns of the first keys above one, at most so many, with these keys and where they end.
+-- The part has the plan of the columns of the first keys above one, at most so many, with these keys and where they
+-- end.
 pub record IsPartOf (part : PartPlan) (rows : List Row) (after : List ℕ) (most : ℕ) : Type 0 where
   pub columns : List KeyCells
   pub next : AreNext rows after most columns

@@ -29,7 +29,8 @@ returns-then-is_at-clause-above c =
     subst (AreAbove (entries_in c.args.columns.now) c.args.key.now)
     (sym (skipped (entries_left c.is_at.new.self) (entries_left c.next.new.self) _ c.next.ensures
     ∙ ap (skip true) same))
-    (subst (λ b. AreAbove (entries_in c.args.columns.now) c.args.key.now (skip b (ahead at))) c.if-is_at.true (above at))
+    (subst (λ b. AreAbove (entries_in c.args.columns.now) c.args.key.now (skip b (ahead at))) c.if-is_at.true
+    (above at))
 
 pub returns-else-is_at-clause-above : goal.returns-else-is_at-clause-above
 returns-else-is_at-clause-above c =
