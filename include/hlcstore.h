@@ -310,12 +310,12 @@ uint32_t hlc_vacuum_to_certified(hlc_store *store, uint64_t stamp, uint64_t *wor
 /* Makes a part of hlc_vacuum_to, so that one call does a bounded amount of work under the caller's lock: it vacuums the
  * first keys above `after`, which without bytes is below every key, at most `most` of them. word: the stamp, or the
  * refusal's word; kept, bytes, dropped: as in hlc_vacuum_to, for the rows of these keys. more: whether a key may be
- * left above them: then the next part is called with the last of them as `after`; else the vacuum is whole. len: how
+ * left above them: then the next part is called with the last of them as `after`; else none is left. len: how
  * many bytes that key has, at most 255, or 0 where more is false; out: the key, as in hlc_read. Where `most` is 0, it
  * is `after`. The first part makes the stamp the horizon. Every other call is allowed between parts, and nothing is
- * kept for the next one. Parts with one stamp, from the first key to the last, leave the fewest rows, as hlc_vacuum_to
- * does, if no snapshot closed meanwhile. Refusals, in this order: 8, 9, 15. Looks `after` up, and reads these keys once
- * at each point. */
+ * kept for the next one. Each part leaves the fewest rows of its keys, and the cheapest, as hlc_vacuum_to does of all,
+ * at the snapshots that are open then. Refusals, in this order: 8, 9, 15. Looks `after` up, and reads these keys once at
+ * each point. */
 uint32_t hlc_vacuum_part(hlc_store *store, uint64_t stamp, const uint8_t *after, size_t after_len, size_t most,
                          uint64_t *word, uint64_t *kept, uint64_t *bytes, uint64_t *dropped, uint8_t *out,
                          size_t out_len, size_t *len, bool *more);

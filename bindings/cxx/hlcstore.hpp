@@ -767,8 +767,7 @@ class store {
 
   // Does a part of vacuum_to, so that one call does a bounded amount of work: of the first keys above one, or the first
   // of all where that has no bytes, at most so many. The first part makes the stamp the horizon. All calls are allowed
-  // between parts. Parts with one stamp, from the first key to the last, leave the fewest rows, if no snapshot closed
-  // meanwhile.
+  // between parts. Each leaves the fewest rows of its keys at the snapshots that are open then.
   partial_vacuum vacuum_part(timestamp stamp, std::string_view after = {}, std::size_t most = 1024) {
     partial_vacuum made;
     // A part of no keys ends where it begins.

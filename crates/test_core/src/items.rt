@@ -1,5 +1,5 @@
 //! Items to feed a store with.
-use hlc_core::{Body, Bytes, Item, Stamp};
+use hlc_core::{Body, Bytes, Core, Item, Stamp};
 use std::alloc::Global;
 use std::process::Abort;
 use std::test::*;
@@ -40,4 +40,18 @@ pub(crate) fn said(at: (u16, u64, u64), body: Body) -> Item {
         stamp: Stamp::from_bits(bits),
         body,
     }
+}
+
+/// Checks that the store accepts the node's next write, or a deletion where there is no value. The reading is one more
+/// than the number.
+pub(crate) fn takes<R: Abort>(
+    rt: &R,
+    alloc: Global,
+    core: &mut Core,
+    number: u64,
+    key: &[u8],
+    value: Option<&[u8]>,
+) {
+    let at = (0, number, stamp(number.wrapping_add(1)).bits());
+    assert!(rt; core.accept(item(rt, alloc, at, key, value)).is_ok());
 }

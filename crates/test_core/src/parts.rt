@@ -1,23 +1,10 @@
 //! A vacuum in parts.
 use crate::expected::must_be;
-use crate::items::{item, stamp};
+use crate::items::{stamp, takes};
 use hlc_core::{Bytes, Core, CoreFault, Report};
 use std::alloc::Global;
 use std::process::Abort;
 use std::test::*;
-
-/// Checks that the store accepts the node's next write. The reading is one more than the number.
-fn takes<R: Abort>(
-    rt: &R,
-    alloc: Global,
-    core: &mut Core,
-    number: u64,
-    key: &[u8],
-    value: Option<&[u8]>,
-) {
-    let at = (0, number, stamp(number.wrapping_add(1)).bits());
-    assert!(rt; core.accept(item(rt, alloc, at, key, value)).is_ok());
-}
 
 /// Checks that a part of a vacuum to a stamp, of at most so many keys, keeps and drops so many rows, and ends at a key.
 fn leaves<R: Abort>(
@@ -40,11 +27,14 @@ fn leaves<R: Abort>(
 #[test]
 fn parts_make_a_vacuum(rt: HostRuntime) {
     let mut core = Core::new(rt.alloc(), 1).expect(&rt, "a store");
-    are_those_of_a_vacuum(&rt, rt.alloc(), &mut core);
+    fills(&rt, rt.alloc(), &mut core);
+    begins(&rt, &mut core);
+    goes_on(&rt, rt.alloc(), &mut core);
+    ends(&rt, &mut core);
 }
 
-/// Three keys have two versions each, and a fourth a deletion mark; a write comes between the parts.
-fn are_those_of_a_vacuum<R: Abort>(rt: &R, alloc: Global, core: &mut Core) {
+/// Three keys have two versions each, and a fourth a deletion mark.
+fn fills<R: Abort>(rt: &R, alloc: Global, core: &mut Core) {
     takes(rt, alloc, core, 0, b"ash", Some(b"1"));
     takes(rt, alloc, core, 1, b"ash", Some(b"2"));
     takes(rt, alloc, core, 2, b"elm", Some(b"1"));
@@ -52,19 +42,36 @@ fn are_those_of_a_vacuum<R: Abort>(rt: &R, alloc: Global, core: &mut Core) {
     takes(rt, alloc, core, 4, b"fir", None);
     takes(rt, alloc, core, 5, b"oak", Some(b"1"));
     takes(rt, alloc, core, 6, b"oak", Some(b"2"));
-    let at = stamp(7);
-    leaves(rt, core.vacuum_part(at, b"", 0), 0, 0, Some(b""));
+}
+
+/// A part of no keys moves the horizon alone.
+fn begins<R: Abort>(rt: &R, core: &mut Core) {
+    leaves(rt, core.vacuum_part(stamp(7), b"", 0), 0, 0, Some(b""));
     must_be(rt, core.rows(), 7);
-    assert!(rt; core.horizon() == at);
+    assert!(rt; core.horizon() == stamp(7));
     assert!(rt; core.open(stamp(6)).is_err());
-    leaves(rt, core.vacuum_part(at, b"", 2), 2, 2, Some(b"elm"));
+}
+
+/// A write comes between the parts.
+fn goes_on<R: Abort>(rt: &R, alloc: Global, core: &mut Core) {
+    leaves(rt, core.vacuum_part(stamp(7), b"", 2), 2, 2, Some(b"elm"));
     must_be(rt, core.rows(), 5);
     takes(rt, alloc, core, 7, b"ash", Some(b"3"));
-    leaves(rt, core.vacuum_part(at, b"elm", 1), 0, 1, Some(b"fir"));
-    leaves(rt, core.vacuum_part(at, b"fir", 2), 1, 1, None);
+    leaves(
+        rt,
+        core.vacuum_part(stamp(7), b"elm", 1),
+        0,
+        1,
+        Some(b"fir"),
+    );
+    leaves(rt, core.vacuum_part(stamp(7), b"fir", 2), 1, 1, None);
     must_be(rt, core.rows(), 4);
-    leaves(rt, core.vacuum_part(at, b"oak", 1), 0, 0, None);
-    leaves(rt, core.vacuum_part(at, b"", 9), 3, 0, None);
+}
+
+/// Further parts drop nothing, and a whole vacuum drops the row that the write between the parts replaced.
+fn ends<R: Abort>(rt: &R, core: &mut Core) {
+    leaves(rt, core.vacuum_part(stamp(7), b"oak", 1), 0, 0, None);
+    leaves(rt, core.vacuum_part(stamp(7), b"", 9), 3, 0, None);
     assert!(rt; core.vacuum_part(stamp(6), b"", 1).is_err());
     assert!(rt; core.vacuum_part(stamp(9), b"", 1).is_err());
     must_be(rt, core.vacuum().expect(rt, "memory").dropped, 1);

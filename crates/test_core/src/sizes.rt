@@ -1,6 +1,6 @@
 //! How much a store contains.
 use crate::expected::must_be;
-use crate::items::{item, stamp};
+use crate::items::takes;
 use hlc_core::{Core, Sizes};
 use std::alloc::Global;
 use std::process::Abort;
@@ -15,20 +15,6 @@ fn has<R: Abort>(rt: &R, core: &Core, rows: u128, keys: u128, key_bytes: u128, v
         value_bytes,
     };
     must_be(rt, core.sizes(), expected);
-}
-
-/// Checks that the store accepts the node's next write, or a deletion where there is no value. The reading is one more
-/// than the number.
-fn takes<R: Abort>(
-    rt: &R,
-    alloc: Global,
-    core: &mut Core,
-    number: u64,
-    key: &[u8],
-    value: Option<&[u8]>,
-) {
-    let at = (0, number, stamp(number.wrapping_add(1)).bits());
-    assert!(rt; core.accept(item(rt, alloc, at, key, value)).is_ok());
 }
 
 /// Checks that a vacuum drops so many rows.

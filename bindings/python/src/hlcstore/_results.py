@@ -28,7 +28,7 @@ class VacuumPart(NamedTuple):
     dropped: int
     """How many rows were dropped."""
     next: bytes | None
-    """The key after which the next part goes on, or None where the vacuum is whole."""
+    """The key after which the next part goes on, or None where no key is left."""
 
 
 class Link(NamedTuple):

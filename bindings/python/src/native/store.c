@@ -493,7 +493,7 @@ static PyMethodDef store_methods[] = {
            "vacuum_part($self, /, stamp, after=b'', most=1024)\n--\n\n"
            "Do a part of vacuum_to: of the first keys above one, at most so many.\n\n"
            "The next part goes on after the key that is returned as next, until that is None. All calls are allowed\n"
-           "between parts. Parts with one stamp leave the fewest rows, if no snapshot closed meanwhile."),
+           "between parts. Each leaves the fewest rows of its keys at the snapshots that are open then."),
     { "check_vacuum", store_check_vacuum, METH_O,
       "check_vacuum($self, stamp, /)\n--\n\nRaise what vacuum_to would raise, except NoMemory." },
     METHOD("checkpoint", store_checkpoint,

@@ -272,8 +272,7 @@ impl Store {
     /// Does a part of [`vacuum_to`](Store::vacuum_to), so that a call does a bounded amount of work while other threads
     /// wait: of the first keys above `after`, or the first of all where that has no bytes, at most so many. The next
     /// part goes on after the key [`next`](VacuumPart::next). The first part makes the stamp the horizon. All
-    /// calls are allowed between parts. Parts with one stamp, from the first key to the last, leave the fewest rows, if
-    /// no snapshot closed meanwhile.
+    /// calls are allowed between parts. Each leaves the fewest rows of its keys at the snapshots that are open then.
     ///
     /// Refusals, in this order: `AboveFloor`, `BelowHorizon`, `NoMemory`.
     ///
