@@ -12,12 +12,13 @@
  * Every answer writes to every pointer, with 0 where there is nothing to return. A buffer that an answer does not fill
  * keeps its bytes.
  *
- * Ownership. A store owns its memory until hlc_close; a program that forgets a store leaks its memory. A node is a
- * plain value without memory: it may be copied, and two copies are independent. Keys, values and buffers stay the
- * caller's and are not used after the call.
+ * Ownership. A store owns its memory until hlc_close, and an output until hlc_output_drop; a program that forgets one
+ * leaks its memory. A node is a plain value without memory: it may be copied, and two copies are independent. Keys,
+ * values and buffers stay the caller's and are not used after the call.
  *
  * What the caller must ensure, and nothing checks:
- *   - a store is HLC_CLOSED_STORE at first, a restore HLC_NO_RESTORING, and only these functions change them;
+ *   - a store is HLC_CLOSED_STORE at first, a restore HLC_NO_RESTORING, an output HLC_NO_OUTPUT, and only these
+ *     functions change them. No copy of a restore or an output is used;
  *   - one call at a time with a store: where several threads call, a lock orders their calls. No call comes from a
  *     signal handler. Calls with different stores and nodes may run concurrently;
  *   - calls that only read a store (those that may run beside "reads" in the table) may run concurrently, as under the
@@ -60,19 +61,22 @@
  *   hlc_nodes                           none                                      reads
  *   hlc_link, hlc_floor_node            1                                         reads
  *   hlc_snapshot                        10                                        reads
- *   hlc_vacuum, hlc_vacuum_certified    15                                yes     other stores
- *   hlc_vacuum_to, _to_certified        8 9 15                            yes     other stores
+ *   hlc_vacuum                          15                                yes     other stores
+ *   hlc_vacuum_certified                108 15                            yes     other stores and outputs
+ *   hlc_vacuum_to                       8 9 15                            yes     other stores
+ *   hlc_vacuum_to_certified             108 8 9 15                        yes     other stores and outputs
  *   hlc_vacuum_part                     8 9 15                            yes     other stores
  *   hlc_check_vacuum                    8 9                                       reads
  *   hlc_item_write, _delete             12 13 15                          yes     all
  *   hlc_item_report, _retire            15                                yes     all
  *   hlc_items_accept                    106 1 27 6 14 7 15                yes     other stores
- *   hlc_checkpoint                      15                                yes     reads
+ *   hlc_checkpoint                      108 15                            yes     reads, with other outputs
  *   hlc_restore                         101 106 107 15                    yes     other stores
  *   hlc_restore_start                   101 15                            yes     other restores
  *   hlc_restore_feed                    100 15                            yes     other restores
  *   hlc_restore_finish                  100 101 106 107 15                yes     other stores and restores
  *   hlc_restore_drop                                                              other restores
+ *   hlc_output_read, _drop                                                        other outputs
  *   hlc_node_open, _raise                                                         other nodes
  *   hlc_node_restore                    105                                       other nodes
  *   hlc_node_write, _delete             27 12 13 14 2 3                           other nodes
@@ -97,6 +101,15 @@ typedef struct {
 } hlc_store;
 
 #define HLC_CLOSED_STORE { 0, false }
+
+/* The bytes that a call made, a certificate or a checkpoint, so that they are made once, however many they are. Its
+ * fields are the library's. */
+typedef struct {
+    void *at;
+    bool live;
+} hlc_output;
+
+#define HLC_NO_OUTPUT { 0, false }
 
 /* A node: its number, the stamp of its last event, the number of its next item, and whether it retired. A program may
  * read the fields, but only the calls may change them. A node that is saved to disk and loaded again continues where it
@@ -133,10 +146,12 @@ enum {
     HLC_IS_OPEN = 101,          /* of hlc_open, hlc_restore: the store is open, and is unchanged */
     HLC_NO_VALUE = 102,         /* of hlc_read: the key has no value in the snapshot */
     HLC_OUTSIDE = 103,          /* of hlc_accept_all, hlc_read_all: a key or a value lies outside the bytes */
-    HLC_MORE = 104,             /* of hlc_scan, hlc_scan_keys, hlc_read_all: a part is left, which did not fit */
+    HLC_MORE = 104,             /* of hlc_scan, _scan_keys, hlc_read_all, hlc_output_read: a part is left, which did
+                                   not fit */
     HLC_NO_SUCH_NODE = 105,     /* of hlc_node_restore: no node has issued so many items up to this stamp */
     HLC_BAD_BYTES = 106,        /* of hlc_restore, hlc_items_accept; word: the number of the first fault, 1 to 7 */
-    HLC_NO_CHECKPOINT = 107     /* of hlc_restore; word: the number of the first reason of docs/formats.md, 1 to 9 */
+    HLC_NO_CHECKPOINT = 107,    /* of hlc_restore; word: the number of the first reason of docs/formats.md, 1 to 9 */
+    HLC_HAS_BYTES = 108         /* the output has bytes, and keeps them; nothing took place */
 };
 
 /* ---- The library ---- */
@@ -287,11 +302,11 @@ uint32_t hlc_sizes(hlc_store *store, uint64_t *rows, uint64_t *keys, uint64_t *k
  * where they would be greater. Refusal: 15. Reads each key once at each point. */
 uint32_t hlc_vacuum(hlc_store *store, uint64_t *floor, uint64_t *kept, uint64_t *bytes, uint64_t *dropped);
 
-/* Does the same, with the certificate of the rows that are left up to the floor, which `hlcstore check` reads. len: how
- * many bytes it has, as in hlc_read; a further call makes a further vacuum, which finds nothing to drop, and returns
- * its certificate. Refusal: 15, where the vacuum may have taken place. */
+/* Does the same, and puts the certificate of the rows that are left up to the floor, which `hlcstore check` reads, into
+ * an output that has no bytes. len: how many bytes the certificate has. Refusals, in this order: 108; 15, where the
+ * vacuum may have taken place: then a further call finds nothing to drop, and makes its certificate. */
 uint32_t hlc_vacuum_certified(hlc_store *store, uint64_t *floor, uint64_t *kept, uint64_t *bytes, uint64_t *dropped,
-                              uint8_t *out, size_t out_len, size_t *len);
+                              hlc_output *output, size_t *len);
 
 /* Drops all rows at or below a stamp except the fewest, and the cheapest, that give the same answers as all accepted
  * writes at each snapshot that is open at or below the stamp, and at the stamp. All rows above it stay. No snapshot
@@ -301,11 +316,10 @@ uint32_t hlc_vacuum_certified(hlc_store *store, uint64_t *floor, uint64_t *kept,
 uint32_t hlc_vacuum_to(hlc_store *store, uint64_t stamp, uint64_t *word, uint64_t *kept, uint64_t *bytes,
                        uint64_t *dropped);
 
-/* Does the same, with the certificate of the rows that are left up to the stamp. len: as in hlc_vacuum_certified; a
- * further call with the same stamp makes a further vacuum, which finds nothing to drop, and returns its certificate.
- * Refusals: 8, 9, 15. With 15 the vacuum may have taken place. */
+/* Does the same, and puts the certificate of the rows that are left up to the stamp into an output that has no bytes.
+ * len: as in hlc_vacuum_certified. Refusals, in this order: 108, 8, 9, 15. With 15 the vacuum may have taken place. */
 uint32_t hlc_vacuum_to_certified(hlc_store *store, uint64_t stamp, uint64_t *word, uint64_t *kept, uint64_t *bytes,
-                                 uint64_t *dropped, uint8_t *out, size_t out_len, size_t *len);
+                                 uint64_t *dropped, hlc_output *output, size_t *len);
 
 /* Makes a part of hlc_vacuum_to, so that one call does a bounded amount of work under the caller's lock: it vacuums the
  * first keys above `after`, which without bytes is below every key, at most `most` of them. word: the stamp, or the
@@ -314,8 +328,9 @@ uint32_t hlc_vacuum_to_certified(hlc_store *store, uint64_t stamp, uint64_t *wor
  * many bytes that key has, at most 255, or 0 where more is false; out: the key, as in hlc_read. Where `most` is 0, it
  * is `after`. The first part makes the stamp the horizon. Every other call is allowed between parts, and nothing is
  * kept for the next one. Each part leaves the fewest rows of its keys, and the cheapest, as hlc_vacuum_to does of all,
- * at the snapshots that are open then. Refusals, in this order: 8, 9, 15. Looks `after` up, and reads these keys once at
- * each point. */
+ * at the snapshots that are open then. Parts from no bytes on to the last, with no other call between them, make an
+ * hlc_vacuum_to together, whose numbers are their sums. Refusals, in this order: 8, 9, 15. Looks `after` up, and reads
+ * these keys once at each point. */
 uint32_t hlc_vacuum_part(hlc_store *store, uint64_t stamp, const uint8_t *after, size_t after_len, size_t most,
                          uint64_t *word, uint64_t *kept, uint64_t *bytes, uint64_t *dropped, uint8_t *out,
                          size_t out_len, size_t *len, bool *more);
@@ -350,9 +365,9 @@ uint32_t hlc_items_accept(hlc_store *store, const uint8_t *bytes, size_t bytes_l
                           uint64_t *word);
 
 /* Saves the whole state of a store, with a word of the caller's: for example the place in a log up to which the store
- * applied it. len: how many bytes that takes, as in hlc_read; a call with a larger buffer saves again. docs/formats.md
- * describes the bytes, which end with a digest. Refusal: 15. Copies each row, and takes memory for twice that. */
-uint32_t hlc_checkpoint(hlc_store *store, uint64_t word, uint8_t *out, size_t out_len, size_t *len);
+ * applied it. The bytes go into an output that has none; len: how many they are. docs/formats.md describes them; they
+ * end with a digest. Refusals, in this order: 108, 15. Copies each row, and takes memory for twice that. */
+uint32_t hlc_checkpoint(hlc_store *store, uint64_t word, hlc_output *output, size_t *len);
 
 /* Opens a closed store from the bytes of hlc_checkpoint, whoever wrote them. It continues as the saved store would
  * have: the same next items, open snapshots, horizon and answers. word: the word that was saved, or the refusal's.
@@ -382,6 +397,16 @@ uint32_t hlc_restore_finish(hlc_restoring *restoring, hlc_store *store, uint64_t
 
 /* Ends a restore without a store, and frees what it has. A restore that is not ended leaks its memory. */
 void hlc_restore_drop(hlc_restoring *restoring);
+
+/* ---- Outputs ---- No memory in any call. */
+
+/* Reads the bytes of an output from a place on, where the first byte is at 0: as many as out has room for. len: how
+ * many were written. Returns HLC_OK where they are the last, or HLC_MORE where bytes are left: the next call goes on at
+ * `from` + len. An output without bytes has nothing to read. */
+uint32_t hlc_output_read(hlc_output *output, size_t from, uint8_t *out, size_t out_len, size_t *len);
+
+/* Frees the bytes of an output, which has none then and can be used again. */
+void hlc_output_drop(hlc_output *output);
 
 /* ---- What a store has ---- No memory in any call. */
 

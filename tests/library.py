@@ -1,16 +1,18 @@
 #!/usr/bin/env python3
 """Makes random calls of the C library, and compares every answer with a model that keeps all writes. The arguments are
-the shared object and a seed. Prints `all right` at the end, and fails at the first difference."""
+the shared object, linked with grant.c, and a seed. Prints `all right` at the end, and fails at the first difference."""
 import hashlib
 import random
 import struct
 import sys
+from collections import Counter
 from urllib.parse import unquote_to_bytes
 
 from raw_calls import PLACE, Handle, Library
 
 ROUNDS = 300
-OK, ABOVE_FLOOR, BELOW_HORIZON, NO_SNAPSHOT, MORE, BAD_BYTES = 0, 8, 9, 10, 104, 106
+OK, ABOVE_FLOOR, BELOW_HORIZON, NO_SNAPSHOT, NO_MEMORY = 0, 8, 9, 10, 15
+CLOSED, MORE, BAD_BYTES, HAS_BYTES = 100, 104, 106, 108
 
 
 def ok(name, *args):
@@ -22,10 +24,47 @@ def ok(name, *args):
 
 def whole(name, *args):
     """Makes a call whose last argument is the room of a buffer, again where it is too short, and returns the bytes."""
-    *numbers, length, data = ok(name, *args, 64)
-    if data is None:
-        *_, data = ok(name, *args, length)
+    length, data = ok(name, *args, 64)
+    return ok(name, *args, length)[1] if data is None else data
+
+
+def read_pieces(pick, output, length):
+    """Reads an output of so many bytes, at once, in pieces from one place to the next, and from places by lot. Returns
+    the bytes."""
+    code, many, data = library.call("output_read", output, 0, length)
+    assert (code, many) == (OK, length)
+    read, code = b"", MORE
+    while code == MORE:
+        code, many, piece = library.call("output_read", output, len(read), pick.randint(0, 200))
+        read += piece
+    assert read == data
+    for _ in range(4):
+        place, room = pick.randint(0, length + 2), pick.randint(0, length + 2)
+        piece = data[place : place + room]
+        code = MORE if place + room < length else OK
+        assert library.call("output_read", output, place, room) == (code, len(piece), piece)
+    return data
+
+
+def has_no_bytes(output):
+    return all(library.call("output_read", output, place, 9) == (OK, 0, b"") for place in (0, 5))
+
+
+def made(pick, name, *args):
+    """Makes a call that puts bytes into an output, and returns what it wrote, with the bytes in place of how many they
+    are."""
+    output = Handle()
+    written = ok(name, *args, output)
+    *numbers, length = written if isinstance(written, tuple) else (written,)
+    data = read_pieces(pick, output, length)
+    library.call("output_drop", output)
+    assert has_no_bytes(output)
     return (*numbers, data) if numbers else data
+
+
+def whole_state(pick, store):
+    """Returns the bytes of a checkpoint, with the word 5."""
+    return made(pick, "checkpoint", store, 5)
 
 
 def opened(nodes):
@@ -131,13 +170,17 @@ def vacuum_part(pick, store, model):
 
 
 def vacuum(pick, store, model):
-    """Vacuums to the floor, or to a stamp."""
+    """Vacuums to the floor, or to a stamp, with or without a certificate."""
     floor = ok("floor", store)
-    if pick.random() < 0.3:
-        assert ok("vacuum", store) == (floor, *model.vacuum(floor, model.keys()))
+    at = floor if pick.random() < 0.3 else pick.randint(model.horizon, floor)
+    name, args = ("vacuum", ()) if at == floor and pick.random() < 0.9 else ("vacuum_to", (at,))
+    kept, bytes, dropped = model.vacuum(at, model.keys())
+    if pick.random() < 0.5:
+        assert ok(name, store, *args) == (at, kept, bytes, dropped)
         return
-    at = pick.randint(model.horizon, floor)
-    assert ok("vacuum_to", store, at) == (at, *model.vacuum(at, model.keys()))
+    *numbers, text = made(pick, name + "_certified", store, *args)
+    assert numbers == [at, kept, bytes, dropped] and ok("check", text) == (kept, bytes, 0)
+    assert Counter(certified_rows(text)) == Counter(row[2:] for row in model.rows if row[0] <= at)
 
 
 def feed(pick, store, nodes, keys):
@@ -256,22 +299,87 @@ def refuse(pick, saved, log, nodes):
         library.call("close", other)
 
 
+def refuse_full(pick, store):
+    """Makes each call with an output that has bytes: nothing takes place, and it keeps them. A closed store is refused
+    before it, and a stamp above the floor or below the horizon after it."""
+    output, saved = Handle(), whole_state(pick, store)
+    length = ok("checkpoint", store, 5, output)
+    stamp = pick.randint(0, 2 * ok("floor", store) + 1)
+    for name, *args in ("vacuum_certified",), ("vacuum_to_certified", stamp), ("checkpoint", 6):
+        for each, refusal in (store, HAS_BYTES), (Handle(), CLOSED):
+            code, *written = library.call(name, each, *args, output)
+            assert code == refusal and not any(written)
+    assert read_pieces(pick, output, length) == saved and whole_state(pick, store) == saved
+    library.call("output_drop", output)
+
+
+def restored(saved):
+    store = Handle()
+    ok("restore", store, saved)
+    return store
+
+
+def with_grants(pick, grants, name, *args):
+    """Makes a call that puts bytes into an output, while so many of its requests for memory are granted, and then one
+    is refused. Returns its answer, what it wrote, and whether there was such a request. Reading and dropping an output
+    takes no memory."""
+    output = Handle()
+    library.granted.value = grants
+    code, *numbers, length = library.call(name, *args, output)
+    is_met = library.granted.value < 0
+    library.granted.value = 0
+    data = read_pieces(pick, output, length)
+    library.call("output_drop", output)
+    assert library.granted.value == 0
+    library.granted.value = -1
+    return code, (*numbers, data) if numbers else data, is_met
+
+
+def refuse_memory(pick, saved, name, *args):
+    """Refuses each request for memory of a call that puts bytes into an output, each time with a store of its own.
+    After a refusal the output has no bytes. A vacuum took place then as a whole or not at all, and the next call
+    certifies it."""
+    store = restored(saved)
+    first, after, later = made(pick, name, store, *args), whole_state(pick, store), made(pick, name, store, *args)
+    library.call("close", store)
+    grants, is_met = 0, True
+    while is_met:
+        store = restored(saved)
+        code, written, is_met = with_grants(pick, grants, name, store, *args)
+        if code == OK:
+            assert written == first
+        else:
+            assert code == NO_MEMORY and is_met and not any(written)
+            state = whole_state(pick, store)
+            assert state in (saved, after)
+            assert made(pick, name, store, *args) == (first if state == saved else later)
+        assert whole_state(pick, store) == after
+        library.call("close", store)
+        grants += 1
+    assert grants > 1
+
+
 def play(pick):
     many = pick.randint(1, 4)
     keys = [bytes(pick.choices(b"ab\0\xff", k=pick.randint(1, 4))) for _ in range(8)]
     store, copy = opened(many), Handle()
     nodes = [library.call("node_open", node, 0)[0] for node in range(many)]
     model, log = feed(pick, store, nodes, keys)
-    saved = whole("checkpoint", store, 5)
-    assert ok("items_accept", store, log)[0] == len(log) and whole("checkpoint", store, 5) == saved
-    assert ok("restore", copy, saved) == 5 and whole("checkpoint", copy, 5) == saved
+    saved = whole_state(pick, store)
+    assert ok("items_accept", store, log)[0] == len(log) and whole_state(pick, store) == saved
+    assert ok("restore", copy, saved) == 5 and whole_state(pick, copy) == saved
     library.call("close", copy)
-    assert tuple(restore_in_pieces(pick, copy, saved)) == (OK, 5) and whole("checkpoint", copy, 5) == saved
+    assert tuple(restore_in_pieces(pick, copy, saved)) == (OK, 5) and whole_state(pick, copy) == saved
     for each in store, copy:
         compare(pick, each, model, keys, many)
     assert ok("rows", store) == ok("sizes", store)[0]
     refuse(pick, saved, log, many)
-    at, kept, bytes_kept, _, text = whole("vacuum_certified", store)
+    refuse_full(pick, store)
+    if pick.random() < 0.1:
+        refuse_memory(pick, saved, "checkpoint", 5)
+        refuse_memory(pick, saved, "vacuum_certified")
+        refuse_memory(pick, saved, "vacuum_to_certified", pick.randint(model.horizon, ok("floor", store)))
+    at, kept, bytes_kept, _, text = made(pick, "vacuum_certified", store)
     rows, total, _ = ok("check", text)
     assert (at, kept, bytes_kept) == (ok("floor", store), rows, total)
     assert rows == sum(line.startswith(b"row ") for line in text.split(b"\n"))

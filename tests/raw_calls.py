@@ -4,6 +4,9 @@
 for bytes with their length, also for packed entries and places; and for a buffer its room. It returns the answer, and
 then what the call wrote, in the order of the header: numbers; and of a buffer the length, and the bytes if they fit.
 Every call has words and buffers of its own. For one thread.
+
+`granted.value` is how many requests for memory are granted before one is refused, or below 0: see grant.c, with which
+the library is linked.
 """
 import ctypes as c
 import pathlib
@@ -20,7 +23,7 @@ SIZES = {"uint8_t": 1, "hlc_entry": ENTRY.size, "hlc_place": PLACE.size}
 
 
 class Handle(c.Structure):
-    """A store, closed at first; or a restore, not started."""
+    """A store, closed at first; a restore, not started; or an output, without bytes."""
 
     _fields_ = [("at", c.c_void_p), ("live", c.c_bool)]
 
@@ -29,7 +32,7 @@ class RawNode(c.Structure):
     _fields_ = [("id", c.c_uint16), ("last", c.c_uint64), ("next", c.c_uint64), ("retired", c.c_bool)]
 
 
-STRUCTURES = {"hlc_store": Handle, "hlc_restoring": Handle, "hlc_node": RawNode}
+STRUCTURES = {"hlc_store": Handle, "hlc_output": Handle, "hlc_restoring": Handle, "hlc_node": RawNode}
 
 
 class Number:
@@ -55,7 +58,7 @@ class Place:
 
 
 class Structure:
-    """A store or a node."""
+    """A store, an output, a restore or a node."""
 
     def __init__(self, type):
         self.types = [c.POINTER(STRUCTURES[type])]
@@ -115,6 +118,7 @@ class Library:
 
     def __init__(self, path):
         library = c.CDLL(path)
+        self.granted = c.c_long.in_dll(library, "requests_granted")
         self.calls = {}
         declarations = re.sub(r"/\*.*?\*/", "", HEADER.read_text(), flags=re.S)
         for result, name, text in re.findall(r"^(\w+) hlc_(\w+)\(([^)]*)\);", declarations, re.M):

@@ -102,6 +102,28 @@ std::string fetch(Call call, Arguments... arguments) {
   return text;
 }
 
+// The bytes that a call makes. It frees them.
+class output {
+ public:
+  output() noexcept = default;
+  output(const output&) = delete;
+  output& operator=(const output&) = delete;
+  ~output() { hlc_output_drop(&raw_); }
+
+  // Where a call puts its bytes.
+  hlc_output* raw() noexcept { return &raw_; }
+
+  // All bytes, which are so many.
+  std::string text(std::size_t len) {
+    std::string read(len, '\0');
+    check(hlc_output_read(&raw_, 0, bytes(read), read.size(), &len));
+    return read;
+  }
+
+ private:
+  hlc_output raw_ = HLC_NO_OUTPUT;
+};
+
 // Takes a length of eight bytes, the low one first, from the front of some bytes, and so many bytes behind it.
 inline std::string_view take_text(std::string_view& rest) {
   std::uint64_t len = 0;
@@ -798,7 +820,10 @@ class store {
   // The whole state of the store as bytes, with a word of the program's, such as a place in a log.
   std::string checkpoint(std::uint64_t word) const {
     hlc_store mine = copy();
-    return detail::fetch(hlc_checkpoint, &mine, word);
+    detail::output saved;
+    std::size_t len;
+    detail::check(hlc_checkpoint(&mine, word, saved.raw(), &len));
+    return saved.text(len);
   }
 
  private:
@@ -824,20 +849,16 @@ class store {
     return detail::word_of(call, &mine);
   }
 
-  // Vacuums with a certificate. Where that does not fit, a further vacuum, which finds nothing to drop, returns it.
+  // Vacuums with a certificate.
   template <class Call, class... Arguments>
   static certified_vacuum certified(Call call, Arguments... arguments) {
-    certified_vacuum made, again;
-    std::size_t len = 4096;
-    for (certified_vacuum* now : {&made, &again}) {
-      std::string& text = made.certificate;
-      text.resize(len);
-      const std::uint32_t code = call(arguments..., &now->stamp.word, &now->kept, &now->bytes, &now->dropped,
-                                      detail::bytes(text), text.size(), &len);
-      detail::check(code, now->stamp.word);
-      if (len <= text.size()) break;
-    }
-    made.certificate.resize(len);
+    certified_vacuum made;
+    detail::output certificate;
+    std::size_t len;
+    const std::uint32_t code = call(arguments..., &made.stamp.word, &made.kept, &made.bytes, &made.dropped,
+                                    certificate.raw(), &len);
+    detail::check(code, made.stamp.word);
+    made.certificate = certificate.text(len);
     return made;
   }
 

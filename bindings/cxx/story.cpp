@@ -478,7 +478,7 @@ int main() {
   node a(0), b(1);
   std::printf("version %u\n", hlcstore::version() - HLC_VERSION_NUMBER);
   for (const std::uint32_t answer : {std::uint32_t{HLC_OK}, std::uint32_t{HLC_NOT_NEXT}, std::uint32_t{4},
-                                     std::uint32_t{HLC_NO_CHECKPOINT}}) {
+                                     std::uint32_t{HLC_NO_CHECKPOINT}, std::uint32_t{HLC_HAS_BYTES}}) {
     say(answer);
   }
   print_word("rows", [&] { return store.rows(); });

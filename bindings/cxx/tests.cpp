@@ -190,7 +190,7 @@ void partly_accepted() {
   EXPECT(store.floor_node() == std::nullopt && store.link(0).retired);
 }
 
-// The certificate is longer than the first buffer, so it takes a further vacuum. The numbers are those of the first.
+// A long certificate, with the numbers of the vacuum that made it.
 void certificates() {
   std::map<string, string> pairs;
   for (int i = 0; i < 500; i++) pairs[key_of(i)] = "x";
@@ -201,7 +201,10 @@ void certificates() {
   EXPECT(made.certificate.size() > 4096 && made.kept == 500 && made.dropped == 100 && made.stamp == store.floor());
   const hlcstore::shown shown = hlcstore::check_certificate(made.certificate);
   EXPECT(shown.rows == 500 && shown.bytes == made.bytes && store.horizon() == made.stamp);
-  EXPECT(store.vacuum_to(made.stamp).dropped == 0 && store.vacuum_to_certified(made.stamp).kept == 500);
+  EXPECT(store.vacuum_to(made.stamp).dropped == 0);
+  const hlcstore::certified_vacuum again = store.vacuum_to_certified(made.stamp);
+  EXPECT(again.kept == 500 && again.dropped == 0 && again.certificate == made.certificate);
+  EXPECT(refusal_of([&] { store.vacuum_to_certified({made.stamp.word + 1}); }) == HLC_ABOVE_FLOOR);
   const hlcstore::store_sizes left = store.sizes();
   EXPECT(left.rows == 500 && left.keys == 500 && left.value_bytes == 500);
   EXPECT(left.key_bytes + left.value_bytes + 10 * left.rows == made.bytes);

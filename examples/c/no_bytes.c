@@ -74,9 +74,44 @@ static void restore_no_pieces(hlc_store *copy)
     hlc_restore_drop(&restoring);
 }
 
+/* Reads an output of so many bytes with no room: bytes are left before their end, and none at it. */
+static void read_no_piece(hlc_output *output, size_t bytes_len)
+{
+    size_t len;
+    uint32_t code = hlc_output_read(output, 0, NONE, &len);
+    expect("output, no room", code, len, bytes_len > 0 ? HLC_MORE : HLC_OK, 0);
+    code = hlc_output_read(output, bytes_len, NONE, &len);
+    expect("output, at its end", code, len, HLC_OK, 0);
+}
+
+/* Makes a certificate, and the same one to a stamp: "point 1.0", "row a 1.0 0 value %" and "witness a none 1.0". */
+static void certify(hlc_store *store)
+{
+    hlc_output output = HLC_NO_OUTPUT;
+    uint64_t word, kept, cost, dropped;
+    size_t len;
+    read_no_piece(&output, 0);
+    uint32_t code = hlc_vacuum_certified(store, &word, &kept, &cost, &dropped, &output, &len);
+    expect("certificate", code, len + kept + dropped, HLC_OK, 50);
+    read_no_piece(&output, 49);
+    hlc_output_drop(&output);
+    code = hlc_vacuum_to_certified(store, AT(1), &word, &kept, &cost, &dropped, &output, &len);
+    expect("certificate to a stamp", code, len + kept + dropped, HLC_OK, 50);
+    hlc_output_drop(&output);
+}
+
+static void save(hlc_store *store)
+{
+    hlc_output output = HLC_NO_OUTPUT;
+    size_t len;
+    uint32_t code = hlc_checkpoint(store, 0, &output, &len);
+    expect("checkpoint", code, len, HLC_OK, 164);
+    read_no_piece(&output, len);
+    hlc_output_drop(&output);
+}
+
 /* Key a has a value of no bytes at 1.0, and key b one of three bytes at 2.0. A pair of a listing is two lengths of
- * eight bytes each, the key and the value. The certificate is "point 1.0", "row a 1.0 0 value %" and
- * "witness a none 1.0". */
+ * eight bytes each, the key and the value. */
 static void read_back(hlc_store *store)
 {
     hlc_store copy = HLC_CLOSED_STORE;
@@ -91,10 +126,7 @@ static void read_back(hlc_store *store)
     expect("read, no key", code, len, HLC_NO_VALUE, 0);
     code = hlc_list(store, 1, NONE, &len);
     expect("list", code, len, HLC_OK, 17);
-    code = hlc_vacuum_certified(store, &word, &kept, &cost, &dropped, NONE, &len);
-    expect("certificate", code, len + kept + dropped, HLC_OK, 50);
-    code = hlc_vacuum_to_certified(store, AT(1), &word, &kept, &cost, &dropped, NONE, &len);
-    expect("certificate to a stamp", code, len + kept + dropped, HLC_OK, 50);
+    certify(store);
     code = hlc_vacuum_part(store, AT(1), NONE, 1, &word, &kept, &cost, &dropped, NONE, &len, &more);
     expect("part, no room", code, len + kept + cost + dropped + more, HLC_OK, 14);
     code = hlc_vacuum_part(store, AT(1), NONE, 0, &word, &kept, &cost, &dropped, NONE, &len, &more);
@@ -117,8 +149,7 @@ static void read_back(hlc_store *store)
     expect("items, no bytes", code, len + many + word, HLC_OK, 0);
     code = hlc_count(store, 2, NONE, NONE, &word);
     expect("count", code, word, HLC_OK, 2);
-    code = hlc_checkpoint(store, 0, NONE, &len);
-    expect("checkpoint, no room", code, len, HLC_OK, 164);
+    save(store);
     code = hlc_restore(&copy, NONE, &word);
     expect("restore, no bytes", code, word, HLC_BAD_BYTES, 1);
     restore_no_pieces(&copy);

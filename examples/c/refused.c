@@ -12,6 +12,10 @@
 static long left = -1;
 static int wrong;
 
+/* The checkpoint that the restores read. */
+static uint8_t saved[1024];
+static size_t saved_len;
+
 void *__real_malloc(size_t size);
 void *__real_realloc(void *at, size_t size);
 
@@ -60,10 +64,42 @@ static uint32_t restore_in_pieces(const uint8_t *bytes, size_t len)
     return code;
 }
 
+/* Reads all bytes that a call with this answer made, and drops the output. After a refusal it has none. */
+static size_t take(hlc_output *output, uint32_t code, size_t made, uint8_t *out, size_t room)
+{
+    size_t len;
+    if (hlc_output_read(output, 0, out, room, &len) != HLC_OK || len != made) wrong++;
+    if ((len > 0) != (code == HLC_OK)) wrong++;
+    hlc_output_drop(output);
+    return len;
+}
+
+/* Makes a certificate, up to a stamp or to the floor. */
+static uint32_t certify(hlc_store *store, const uint64_t *stamp)
+{
+    hlc_output output = HLC_NO_OUTPUT;
+    uint64_t v, w, x, y;
+    uint8_t out[1024];
+    size_t len;
+    uint32_t code = stamp ? hlc_vacuum_to_certified(store, *stamp, &v, &w, &x, &y, &output, &len)
+                          : hlc_vacuum_certified(store, &v, &w, &x, &y, &output, &len);
+    take(&output, code, len, out, sizeof out);
+    return code;
+}
+
+static uint32_t save(hlc_store *store)
+{
+    hlc_output output = HLC_NO_OUTPUT;
+    size_t len;
+    uint32_t code = hlc_checkpoint(store, 7, &output, &len);
+    saved_len = take(&output, code, len, saved, sizeof saved);
+    return code;
+}
+
 static uint32_t call(int step, hlc_store *store)
 {
-    static uint8_t out[1024], saved[1024];
-    static size_t saved_len;
+    static const uint64_t at = AT(12);
+    uint8_t out[1024];
     uint64_t v, w, x, y;
     uint16_t node;
     bool more;
@@ -83,10 +119,10 @@ static uint32_t call(int step, hlc_store *store)
     case 11:
         return hlc_vacuum_part(store, AT(12), BYTES(""), 1, &v, &w, &x, &y, out, sizeof out, &len, &more);
     case 12: return hlc_vacuum_to(store, AT(12), &v, &w, &x, &y);
-    case 13: return hlc_vacuum_to_certified(store, AT(12), &v, &w, &x, &y, out, sizeof out, &len);
+    case 13: return certify(store, &at);
     case 14: return hlc_vacuum(store, &v, &w, &x, &y);
-    case 15: return hlc_vacuum_certified(store, &v, &w, &x, &y, out, sizeof out, &len);
-    case 16: return hlc_checkpoint(store, 7, saved, sizeof saved, &saved_len);
+    case 15: return certify(store, NULL);
+    case 16: return save(store);
     case 17: return restore(saved, saved_len);
     default: return restore_in_pieces(saved, saved_len);
     }

@@ -76,12 +76,15 @@ static void join_and_vacuum(hlc_store *store, uint64_t floor)
  * returns their length. */
 static size_t answers(hlc_store *store, uint8_t *out, size_t room)
 {
+    hlc_output output = HLC_NO_OUTPUT;
     uint64_t id, word, kept, cost, dropped;
     size_t len, all;
-    uint32_t code = hlc_vacuum_to_certified(store, THRESHOLD, &word, &kept, &cost, &dropped, out, room, &len);
+    uint32_t code = hlc_vacuum_to_certified(store, THRESHOLD, &word, &kept, &cost, &dropped, &output, &len);
     expect("certificate", code, word, HLC_OK, THRESHOLD);
     expect("dropped again", code, dropped, HLC_OK, 0);
-    all = len;
+    code = hlc_output_read(&output, 0, out, room, &all);
+    expect("its bytes", code, all, HLC_OK, len);
+    hlc_output_drop(&output);
     for (uint64_t at = 20; at < 22; at++) {
         code = hlc_open_snapshot(store, AT(at), &id);
         expect("snapshot", code, id, HLC_OK, at - 19);

@@ -191,13 +191,18 @@ static void look_round(void)
 static void save(void)
 {
     hlc_store copy = HLC_CLOSED_STORE;
+    hlc_output output = HLC_NO_OUTPUT;
     uint8_t saved[256], out[16];
     uint64_t rows;
     size_t len, value_len;
-    uint32_t code = hlc_checkpoint(&store, 77, saved, 200, &len);
-    print_answer("checkpoint", code, len);
-    code = hlc_checkpoint(&store, 77, saved, sizeof saved, &len);
-    print_answer("checkpoint", code, len);
+    uint32_t code;
+    for (int i = 0; i < 2; i++) {
+        hlc_output_drop(&output);
+        code = hlc_checkpoint(&store, 77, &output, &len);
+        print_answer("checkpoint", code, len);
+    }
+    hlc_output_read(&output, 0, saved, sizeof saved, &len);
+    hlc_output_drop(&output);
     code = hlc_restore(&copy, saved, len - 1, &word);
     print_answer("restore", code, word);
     saved[0] ^= 1;
@@ -290,9 +295,9 @@ static void accept_three(hlc_node *node)
  * keeps what lies above that stamp. */
 static void keep_above(hlc_node *node)
 {
+    hlc_output output = HLC_NO_OUTPUT;
     uint64_t kept, cost, dropped;
     uint16_t joined;
-    uint8_t out[8];
     uint32_t code;
     size_t len;
     write_item(node, 39, BYTES("city"), BYTES("Bern"));
@@ -311,10 +316,11 @@ static void keep_above(hlc_node *node)
     print_answer("dropped", code, dropped);
     code = hlc_vacuum_to(&store, AT(39), &word, &kept, &cost, &dropped);
     print_answer("vacuum to", code, word);
-    code = hlc_vacuum_to_certified(&store, AT(40), &word, &kept, &cost, &dropped, out, sizeof out, &len);
+    code = hlc_vacuum_to_certified(&store, AT(40), &word, &kept, &cost, &dropped, &output, &len);
     print_two("certificate", code, len, word);
     print_two("kept", code, kept, cost);
     print_answer("dropped", code, dropped);
+    hlc_output_drop(&output);
     code = hlc_rows(&store, &word);
     print_answer("rows", code, word);
     sizes();
@@ -368,12 +374,48 @@ static void keep_in_parts(hlc_node *b, hlc_node *c)
     sizes();
 }
 
+/* Prints the bytes of an output in pieces, so that they need no buffer of their length. */
+static void print_output(hlc_output *output)
+{
+    uint8_t piece[10];
+    size_t at = 0, len;
+    uint32_t code = HLC_MORE;
+    while (code == HLC_MORE) {
+        code = hlc_output_read(output, at, piece, sizeof piece, &len);
+        fwrite(piece, 1, len, stdout);
+        at += len;
+    }
+}
+
+/* Vacuums with certificates, and checks the last one and parts of it. */
+static void certify(void)
+{
+    hlc_output output = HLC_NO_OUTPUT;
+    uint64_t at, kept, cost, dropped;
+    uint8_t text[256];
+    size_t len;
+    for (int i = 0; i < 2; i++) {
+        uint32_t code;
+        hlc_output_drop(&output);
+        code = hlc_vacuum_certified(&store, &at, &kept, &cost, &dropped, &output, &len);
+        print_two("certificate", code, len, at);
+        print_two("kept", code, kept, cost);
+        print_answer("dropped", code, dropped);
+    }
+    print_output(&output);
+    hlc_output_read(&output, 0, text, sizeof text, &len);
+    hlc_output_drop(&output);
+    check(text, len);
+    check(text, 35);
+    check(text, 4);
+}
+
 int main(void)
 {
     hlc_node a = hlc_node_open(0, 0), b = hlc_node_open(1, 0), c;
     uint64_t id, at, start, kept, cost, dropped;
     static const uint8_t large[65536];
-    uint8_t out[256];
+    uint8_t out[5];
     uint16_t joined;
     uint32_t code;
     size_t len;
@@ -383,6 +425,7 @@ int main(void)
     say(HLC_NOT_NEXT);
     say(4);
     say(HLC_NO_CHECKPOINT);
+    say(HLC_HAS_BYTES);
     code = hlc_rows(&store, &word);
     print_answer("rows", code, word);
     sizes();
@@ -439,17 +482,7 @@ int main(void)
     print_answer("close", code, at);
     code = hlc_close_snapshot(&store, 1, &at);
     print_answer("close", code, at);
-    for (int i = 0; i < 2; i++) {
-        size_t room = i == 0 ? 8 : sizeof out;
-        code = hlc_vacuum_certified(&store, &at, &kept, &cost, &dropped, out, room, &len);
-        print_two("certificate", code, len, at);
-        print_two("kept", code, kept, cost);
-        print_answer("dropped", code, dropped);
-    }
-    fwrite(out, 1, len, stdout);
-    check(out, len);
-    check(out, 35);
-    check(out, 4);
+    certify();
     code = hlc_rows(&store, &word);
     print_answer("rows", code, word);
     sizes();

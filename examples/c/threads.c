@@ -134,16 +134,25 @@ static bool digests(hlc_store *mine, const struct snapshot *at)
     return memcmp(out[0], out[1], 32) == 0;
 }
 
+/* Makes a checkpoint, in an output of this call's own. */
+static bool saves(hlc_store *mine)
+{
+    hlc_output output = HLC_NO_OUTPUT;
+    size_t len;
+    uint32_t code = hlc_checkpoint(mine, 0, &output, &len);
+    hlc_output_drop(&output);
+    return code == HLC_OK && len > 0;
+}
+
 /* The floor is not below the snapshot, nor the horizon above the floor; its rows are there, and it can be saved. */
 static bool asks(hlc_store *mine, const struct snapshot *at)
 {
     uint64_t floor, horizon, rows, id, stamp;
-    size_t len;
     if (hlc_floor(mine, &floor) != HLC_OK || floor < at->stamp) return false;
     if (hlc_horizon(mine, &horizon) != HLC_OK || horizon > floor) return false;
     if (hlc_rows(mine, &rows) != HLC_OK || rows < count_of(0, KEYS, at->round)) return false;
     if (hlc_snapshot(mine, 0, &id, &stamp) != HLC_OK || stamp > at->stamp) return false;
-    return hlc_checkpoint(mine, 0, NULL, 0, &len) == HLC_OK && len > 0;
+    return saves(mine);
 }
 
 static bool look(hlc_store *mine, const struct snapshot *at, unsigned kind, unsigned k)

@@ -311,7 +311,7 @@ def keep_in_parts(store, b, c):
 def begin():
     """Opens the store of the story, as late as the C program does."""
     print("version", hlcstore.version() - 100)
-    for answer in 0, 6, 4, 107:
+    for answer in 0, 6, 4, 107, 108:
         print(f"answer {answer} {hlcstore.error_name(answer)}: {hlcstore.error_text(answer)}")
     with Store(1) as closed:
         pass

@@ -324,7 +324,7 @@ fn certify(store: &Store) {
 
 fn main() {
     println!("version {}", hlcstore::version() - 100);
-    for answer in [0, 6, 4, 107] {
+    for answer in [0, 6, 4, 107, 108] {
         println!("answer {answer} {}: {}", hlcstore::error_name(answer), hlcstore::error_text(answer));
     }
     let store = Store::closed();

@@ -266,8 +266,9 @@ class Vacuums(unittest.TestCase):
         self.assertEqual((vacuum.dropped, again), (0, certificate))
 
     def test_a_long_certificate(self):
-        store = filled([(b"key %d" % i, b"value") for i in range(3000)])[0]
+        store = filled([(b"key %d" % (i % 2000), b"value") for i in range(3000)])[0]
         vacuum, certificate = store.vacuum_certified()
+        self.assertEqual((vacuum.stamp, vacuum.kept, vacuum.dropped), (stamp(3000), 2000, 1000))
         self.assertEqual(hlcstore.check(certificate), (vacuum.kept, vacuum.cost))
 
 

@@ -60,6 +60,7 @@ fn words(answer: u32) -> (&'static str, &'static str)
             "HLC_NO_CHECKPOINT",
             "the content of the bytes is no checkpoint",
         ),
+        108 => ("HLC_HAS_BYTES", "the output has bytes already"),
         _ => ("", ""),
     }
 }

@@ -4,6 +4,7 @@ pub mod Certified
 pub mod Listing
 pub mod Nodes
 pub mod Outcome
+pub mod Output
 pub mod Scan
 pub mod Status
 pub mod Saved

@@ -1,5 +1,5 @@
 -- How a store's bytes are returned, and how one is made of bytes.
-use Rattle.std.specs.Prelude.{◌≡◌, ◌⊎◌, ℕ, List, length, Err}
+use Rattle.std.specs.Prelude.{◌≡◌, ◌⊎◌, ℕ, List, Err}
 use Rattle.hlc_wire.specs.declared.fault.WireFault.{WireFault}
 use Rattle.hlc_wire.specs.Faults.{fault_code}
 use Rattle.hlc_checkpoint.specs.Checkpoint.{IsCopyOf}
@@ -10,12 +10,6 @@ use Rattle.hlc_saved.specs.Saved.{AreOf, SpellNone}
 use Rattle.hlc_saved.specs.Reading.{saved}
 use Rattle.hlc_saved.specs.declared.fault.ResumeError.{ResumeError}
 use Rattle.hlc_saved.specs.declared.fault.ResumeError.TheVariants.{NoMemory, Bytes, Parts}
-use Rattle.hlc_calls.specs.Answers.{IsCopied}
-
--- bytes of this kind are returned: how many there are, and the bytes, if they fit
-abbrev pub ReturnsBytes : (List ℕ → Type 0) → ℕ → List ℕ → List ℕ → Type 0
-ReturnsBytes IsWanted len old new =
-    (bytes : List ℕ) × IsWanted bytes × (len ≡ length bytes) × IsCopied bytes old new
 
 -- the bytes are those of a checkpoint with this word, and the store has exactly its state
 abbrev pub IsMade : List ℕ → ℕ → StoreView → Type 0

@@ -12,6 +12,7 @@ pub mod list;
 pub mod log;
 pub mod node;
 pub mod open_store;
+pub mod output;
 pub mod read_all;
 pub mod saved;
 pub mod scan;

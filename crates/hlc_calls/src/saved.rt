@@ -1,30 +1,27 @@
 //! A store to bytes and back.
-ghost use Rattle.std.specs.Prelude.{◌≡◌, ◌≢◌, List, ℕ, MatchResult, Ok, Err};
+ghost use Rattle.std.specs.Prelude.{◌≡◌, List, ℕ, MatchResult, Ok, Err, IfOk, IfErr};
 ghost use Rattle.hlc_core.specs.Past.{Step};
 ghost use Rattle.hlc_core.specs.StoreView.{Represents};
 ghost use Rattle.hlc_saved.specs.Saved.{AreOfStore, BytesRepresent};
-ghost use Rattle.hlc_calls.specs.Saved.{ReturnsBytes, IsMade, IsNotMade, resume_code, resume_word};
+ghost use Rattle.hlc_calls.specs.Saved.{IsMade, IsNotMade, resume_code, resume_word};
 
-use crate::open_store::fill;
 use hlc_core::Core;
 use hlc_saved::{ResumeError, Resumed, resume, save};
 use std::alloc::Global;
 
-/// Saves a store with a word of the caller's. Returns 0, the length of the bytes and, where they fit, the bytes; or 15.
-pub fn checkpoint(alloc: Global, core: &Core, word: u64, out: &mut [u8], len: &mut usize) -> u32
-    ensures saved { result ≡ 0
-        → ReturnsBytes (λ bytes. AreOfStore bytes word core.now) len.new out.old out.new }
-    ensures represents { result ≡ 0 → (past : List Step) → Represents core.now past
-        → ReturnsBytes (λ bytes. BytesRepresent bytes word past) len.new out.old out.new }
-    ensures nothing { result ≢ 0 → (result ≡ 15) × (len.new ≡ 0) × (out.new ≡ out.old) }
+/// Saves a store with a word of the caller's. Returns the bytes, or 15.
+pub fn checkpoint(alloc: Global, core: &Core, word: u64) -> Result<Box<Vec<u8>>, u32>
+    ensures saved { IfOk result (λ bytes. AreOfStore bytes.value.items word core.now) }
+    ensures represents { IfOk result (λ bytes. (past : List Step) → Represents core.now past
+        → BytesRepresent bytes.value.items word past) }
+    ensures shortage { IfErr result (λ code. code ≡ 15) }
 {
-    *len = 0;
-    match save(alloc, core, word) {
-        Ok(bytes) => {
-            fill(bytes.as_slice(), out, len);
-            0
-        }
-        Err(_) => 15,
+    let Ok(bytes) = save(alloc, core, word) else {
+        return Err(15);
+    };
+    match Box::new(alloc, bytes) {
+        Ok(boxed) => Ok(boxed),
+        Err(_) => Err(15),
     }
 }
 

@@ -1,2 +1,3 @@
 pub mod Handle
+pub mod Outputs
 pub mod Pieces

@@ -31,5 +31,27 @@ macro_rules! of_core {
     };
 }
 
+/// Makes a call that returns boxed bytes, and puts them into an output that has none. Returns 108 for one that has
+/// some, and makes no call.
+macro_rules! into_output {
+    ($alloc:expr, $output:expr, $len:expr, $call:expr) => {
+        match $output.take($alloc) {
+            Some(kept) => {
+                $output.put(kept);
+                108
+            }
+            None => match $call {
+                Ok(made) => {
+                    *$len = made.len();
+                    $output.put(made);
+                    0
+                }
+                Err(code) => code,
+            },
+        }
+    };
+}
+
+pub(crate) use into_output;
 pub(crate) use of_core;
 pub(crate) use on_core;

@@ -10,6 +10,7 @@ pub mod batch;
 mod handle;
 pub mod log;
 pub mod node;
+pub mod output;
 pub mod pieces;
 pub mod read;
 pub mod saved;
@@ -18,7 +19,7 @@ pub mod texts;
 pub mod vacuum;
 
 use hlc_core::Core;
-pub use hlc_handle::{Reader, Restoring, Store};
+pub use hlc_handle::{Output, Reader, Restoring, Store};
 use std::alloc::Global;
 
 /// Opens a closed store of so many nodes, 1 to 64, in which nothing took place. Returns 0, 1, 15, or 101 for an open

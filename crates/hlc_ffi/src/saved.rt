@@ -1,40 +1,43 @@
 //! The calls that save a store as bytes, and make one of bytes.
-ghost use Rattle.std.specs.Prelude.{◌≡◌, ◌≢◌, List, ℕ, None, MatchOption, MatchResult};
+ghost use Rattle.std.specs.Prelude.{◌≡◌, ◌≢◌, ⊤, List, ℕ, None, MatchOption, MatchResult};
 ghost use Rattle.hlc_core.specs.Past.{Step};
 ghost use Rattle.hlc_core.specs.StoreView.{Represents};
 ghost use Rattle.hlc_saved.specs.Saved.{AreOfStore, BytesRepresent};
-ghost use Rattle.hlc_calls.specs.Saved.{ReturnsBytes};
 ghost use Rattle.hlc_ffi.specs.Handle.{IsRestoring, RestoresPast, OnReader};
+ghost use Rattle.hlc_ffi.specs.Outputs.{OnOutput};
 
-use crate::handle::of_core;
+use crate::handle::{into_output, of_core};
 use hlc_calls::saved;
 use hlc_core::Core;
-use hlc_handle::{Reader, Store};
+use hlc_handle::{Output, Reader, Store};
 use std::alloc::Global;
 
-/// Saves the whole state of a store, with a word of the caller's. Returns 0, the length of the bytes and, where they
-/// fit, the bytes; or 15.
+/// Saves the whole state of a store, with a word of the caller's, as bytes in an output. Returns 0 and the length of
+/// the bytes; or 108 where the output has bytes; or 15.
 #[unsafe(no_mangle)]
 pub extern "C" fn hlc_checkpoint(
     alloc: Global,
     store: &mut Reader,
     word: u64,
-    out: &mut [u8],
+    output: &mut Output,
     len: &mut usize,
 ) -> u32
-    ensures saved { OnReader store.old.room.value (result ≡ 100)
-        (λ core. result ≡ 0
-        → ReturnsBytes (λ bytes. AreOfStore bytes word core) len.new out.old out.new) }
-    ensures represents { OnReader store.old.room.value (result ≡ 100)
-        (λ core. result ≡ 0 → (past : List Step) → Represents core past
-        → ReturnsBytes (λ bytes. BytesRepresent bytes word past) len.new out.old out.new) }
-    ensures shortage { OnReader store.old.room.value (result ≡ 100)
-        (λ core. result ≢ 0 → result ≡ 15) }
-    ensures nothing { result ≢ 0 → (len.new ≡ 0) × (out.new ≡ out.old) }
+    ensures saved { OnReader store.old.room.value (result ≡ 100) (λ core.
+        OnOutput output.old.room.value output.new.room.value result len.new ⊤
+        (λ bytes. AreOfStore bytes word core) (result ≡ 15)) }
+    ensures represents { OnReader store.old.room.value (result ≡ 100) (λ core.
+        OnOutput output.old.room.value output.new.room.value result len.new ⊤
+        (λ bytes. (past : List Step) → Represents core past → BytesRepresent bytes word past)
+        (result ≡ 15)) }
+    ensures nothing { result ≢ 0 → (len.new ≡ 0)
+        × (output.new.room.value ≡ output.old.room.value) }
     ensures same { store.new.room.value ≡ store.old.room.value }
 {
     *len = 0;
-    of_core!(store, |core| saved::checkpoint(alloc, core, word, out, len))
+    of_core!(
+        store,
+        |core| into_output!(alloc, output, len, saved::checkpoint(alloc, core, word))
+    )
 }
 
 /// Opens a closed store from the bytes of `hlc_checkpoint`. Returns 0 and the word that they were saved with; or 101

@@ -5,15 +5,16 @@ ghost use Rattle.hlc_core.specs.StoreView.{Represents};
 ghost use Rattle.hlc_calls.specs.Answers.{ReturnsVacuumedAtFloor, ReturnsVacuumedTo, ReturnsVacuumChecked};
 ghost use Rattle.hlc_calls.specs.Answers.{ReturnsVacuumedPart};
 ghost use Rattle.hlc_calls.specs.Check.{ReturnsCheck};
-ghost use Rattle.hlc_calls.specs.Certified.{IsCertifiedAtFloor, IsCertifiedTo, IsHalfAtFloor};
+ghost use Rattle.hlc_calls.specs.Certified.{IsCertifiedAtFloor, IsCertifiedTo, IsHalfAtFloor, IsNotCertified};
 ghost use Rattle.hlc_ffi.specs.Handle.{OnStore, nodes_in_handle, OnReader};
+ghost use Rattle.hlc_ffi.specs.Outputs.{OnOutput};
 
-use crate::handle::{of_core, on_core};
+use crate::handle::{into_output, of_core, on_core};
 use hlc_calls::certify::{certify, certify_to};
 use hlc_calls::check::check;
 use hlc_calls::open_store;
 use hlc_core::Stamp;
-use hlc_handle::{Reader, Store};
+use hlc_handle::{Output, Reader, Store};
 use std::alloc::Global;
 
 /// Drops the rows that no reader needs. Returns 0, the floor, how many rows at or below it were kept, what they cost in
@@ -48,9 +49,9 @@ pub extern "C" fn hlc_vacuum(
     )
 }
 
-/// Does the same, with the certificate of the rows that are left up to the floor. Returns 0, these numbers, the length
-/// of the certificate in bytes and, where they fit, the bytes; or 15, where the vacuum may have taken place. Where
-/// they do not fit, a further call certifies a further vacuum, which finds nothing to drop.
+/// Does the same, and puts the certificate of the rows that are left up to the floor into an output. Returns 0, these
+/// numbers and the length of the certificate in bytes; or 108 where the output has bytes; or 15, where the vacuum may
+/// have taken place.
 #[unsafe(no_mangle)]
 pub extern "C" fn hlc_vacuum_certified(
     alloc: Global,
@@ -59,18 +60,18 @@ pub extern "C" fn hlc_vacuum_certified(
     kept: &mut u64,
     bytes: &mut u64,
     dropped: &mut u64,
-    out: &mut [u8],
+    output: &mut Output,
     len: &mut usize,
 ) -> u32
     ensures answer { OnStore store.old.room.value store.new.room.value (result ≡ 100)
-        (λ old new. result ≡ 0 → (past : List Step) → Represents old past
-        → IsCertifiedAtFloor old new past floor.new kept.new bytes.new dropped.new
-        len.new out.old out.new) }
-    ensures half { OnStore store.old.room.value store.new.room.value (result ≡ 100)
-        (λ old new. result ≢ 0 → (result ≡ 15) × ((past : List Step) → Represents old past
-        → IsHalfAtFloor old new past)) }
+        (λ old new. OnOutput output.old.room.value output.new.room.value result len.new (new ≡ old)
+        (λ text. (past : List Step) → Represents old past
+        → IsCertifiedAtFloor old new past floor.new kept.new bytes.new dropped.new text)
+        ((result ≡ 15) × ((past : List Step) → Represents old past
+        → IsHalfAtFloor old new past))) }
     ensures nothing { result ≢ 0 → (floor.new ≡ 0) × (kept.new ≡ 0) × (bytes.new ≡ 0)
-        × (dropped.new ≡ 0) × (len.new ≡ 0) × (out.new ≡ out.old) }
+        × (dropped.new ≡ 0) × (len.new ≡ 0)
+        × (output.new.room.value ≡ output.old.room.value) }
     ensures nodes { nodes_in_handle store.new.room.value ≡ nodes_in_handle store.old.room.value }
 {
     *floor = 0;
@@ -81,7 +82,12 @@ pub extern "C" fn hlc_vacuum_certified(
     on_core!(
         alloc,
         store,
-        |core| certify(alloc, core, floor, kept, bytes, dropped, out, len)
+        |core| into_output!(
+            alloc,
+            output,
+            len,
+            certify(alloc, core, floor, kept, bytes, dropped)
+        )
     )
 }
 
@@ -131,10 +137,9 @@ pub extern "C" fn hlc_vacuum_to(
     )
 }
 
-/// Does the same, with the certificate of the rows that are left up to the stamp. Returns 0, these numbers, the length
-/// of the certificate in bytes and, where they fit, the bytes; or a refusal and its word; or 15, where the vacuum may
-/// have taken place all the same. Where they do not fit, a further call to the same stamp certifies a further vacuum,
-/// which finds nothing to drop.
+/// Does the same, and puts the certificate of the rows that are left up to the stamp into an output. Returns 0, these
+/// numbers and the length of the certificate in bytes; or 108 where the output has bytes; or a refusal and its word; or
+/// 15, where the vacuum may have taken place all the same.
 #[unsafe(no_mangle)]
 pub extern "C" fn hlc_vacuum_to_certified(
     alloc: Global,
@@ -144,15 +149,18 @@ pub extern "C" fn hlc_vacuum_to_certified(
     kept: &mut u64,
     bytes: &mut u64,
     dropped: &mut u64,
-    out: &mut [u8],
+    output: &mut Output,
     len: &mut usize,
 ) -> u32
     ensures answer { OnStore store.old.room.value store.new.room.value
-        ((result ≡ 100) × (word.new ≡ 0)) (λ old new. (past : List Step) → Represents old past
-        → IsCertifiedTo old new at past result word.new kept.new bytes.new dropped.new
-        len.new out.old out.new) }
+        ((result ≡ 100) × (word.new ≡ 0)) (λ old new. OnOutput output.old.room.value
+        output.new.room.value result len.new ((new ≡ old) × (word.new ≡ 0))
+        (λ text. (past : List Step) → Represents old past
+        → IsCertifiedTo old new at past word.new kept.new bytes.new dropped.new text)
+        ((past : List Step) → Represents old past
+        → IsNotCertified old new at past result word.new)) }
     ensures nothing { result ≢ 0 → (kept.new ≡ 0) × (bytes.new ≡ 0) × (dropped.new ≡ 0)
-        × (len.new ≡ 0) × (out.new ≡ out.old) }
+        × (len.new ≡ 0) × (output.new.room.value ≡ output.old.room.value) }
     ensures same { result ≢ 0 → result ≢ 15
         → store.new.room.value ≡ store.old.room.value }
     ensures nodes { nodes_in_handle store.new.room.value ≡ nodes_in_handle store.old.room.value }
@@ -166,13 +174,19 @@ pub extern "C" fn hlc_vacuum_to_certified(
     on_core!(
         alloc,
         store,
-        |core| certify_to(alloc, core, at, word, kept, bytes, dropped, out, len)
+        |core| into_output!(
+            alloc,
+            output,
+            len,
+            certify_to(alloc, core, at, word, kept, bytes, dropped)
+        )
     )
 }
 
 /// Makes a part of `hlc_vacuum_to`, of the first keys above one, at most so many. Returns 0, the stamp, how many rows
-/// of these keys at or below it were kept, what they cost in bytes, how many were dropped, the length of the last of these
-/// keys and, where it fits, the key, and whether a key is left above it; or 8 and the floor, 9 and the horizon, or 15.
+/// of these keys at or below it were kept, what they cost in bytes, how many were dropped, the length of the last of
+/// these keys and, where it fits, the key, and whether a key is left above it; or 8 and the floor, 9 and the horizon,
+/// or 15.
 #[unsafe(no_mangle)]
 pub extern "C" fn hlc_vacuum_part(
     alloc: Global,

@@ -1,5 +1,6 @@
 pub mod Lending
 pub mod LentValues
+pub mod OutputRooms
 pub mod Promise
 pub mod RestoreRooms
 pub mod Rooms

@@ -1,6 +1,5 @@
 /* The arguments of calls, and the bytes of their answers. */
 #include "native.h"
-#include <stdlib.h>
 
 /* Makes an integer of any object that is one. Returns false with an exception where it is none, or does not fit. */
 static bool take_number(PyObject *from, uint64_t most, uint64_t *to)
@@ -61,18 +60,14 @@ void drop_bytes(Bytes *bytes)
 
 PyObject *number_object(uint64_t number) { return PyLong_FromUnsignedLongLong(number); }
 
-bool make_room(Output *out)
+/* Nobody else has the bytes object yet, so it is filled without the interpreter. */
+PyObject *output_object(hlc_output *output, size_t len)
 {
-    uint8_t *at = realloc(out->at, out->len);
-    if (!at) return false;
-    out->at = at;
-    out->room = out->len;
-    return true;
-}
-
-PyObject *output_object(Output *out)
-{
-    PyObject *bytes = PyBytes_FromStringAndSize((const char *)out->at, (Py_ssize_t)out->len);
-    free(out->at);
+    PyObject *bytes = PyBytes_FromStringAndSize(NULL, (Py_ssize_t)len);
+    uint8_t *at = bytes ? (uint8_t *)PyBytes_AsString(bytes) : NULL;
+    Py_BEGIN_ALLOW_THREADS
+    if (at) hlc_output_read(output, 0, at, len, &len);
+    hlc_output_drop(output);
+    Py_END_ALLOW_THREADS
     return bytes;
 }

@@ -60,18 +60,9 @@ int take_bytes(PyObject *from, void *to);
 
 PyObject *number_object(uint64_t number);
 
-/* A buffer for an answer, whose length is only known after a first call. */
-typedef struct {
-    uint8_t *at;
-    size_t room;
-    size_t len;
-} Output;
-
-/* Makes a buffer have room for the answer. Returns false without memory. It runs under a lock too. */
-bool make_room(Output *out);
-
-/* Returns the answer as bytes, and frees the buffer. */
-PyObject *output_object(Output *out);
+/* Returns all bytes of an output, which are so many, and drops it. It is called after unlock, and lets other threads of
+ * Python run meanwhile. */
+PyObject *output_object(hlc_output *output, size_t len);
 
 /* ---- refusals.c ---- */
 

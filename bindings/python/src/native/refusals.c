@@ -1,8 +1,8 @@
 /* Refusals and results, whose classes are in Python. */
 #include "native.h"
 
-/* The numbers of the refusals, for hlcstore/_errors.py. It has no class for HLC_IS_OPEN, HLC_OUTSIDE and HLC_MORE,
- * since handles and buffers are this extension's own. */
+/* The numbers of the refusals, for hlcstore/_errors.py. It has no class for HLC_IS_OPEN, HLC_OUTSIDE, HLC_MORE and
+ * HLC_HAS_BYTES, since handles, buffers and outputs are this extension's own. */
 static const struct {
     const char *name;
     uint32_t code;

@@ -400,28 +400,19 @@ static PyObject *store_close_all(PyObject *self, PyObject *none)
 
 /* ---- Checkpoints ---- */
 
-static uint32_t save(hlc_store *store, uint64_t word, Output *out)
-{
-    uint32_t code = hlc_checkpoint(store, word, out->at, out->room, &out->len);
-    if (code != HLC_OK || out->len <= out->room) return code;
-    if (!make_room(out)) return HLC_NO_MEMORY;
-    return hlc_checkpoint(store, word, out->at, out->room, &out->len);
-}
-
 static PyObject *store_checkpoint(PyObject *self, PyObject *args, PyObject *words)
 {
     static char *names[] = { "word", NULL };
     Store *store = (Store *)self;
+    hlc_output output = HLC_NO_OUTPUT;
     uint64_t word = 0;
-    Output out = { 0 };
+    size_t len;
     if (!PyArg_ParseTupleAndKeywords(args, words, "|O&:checkpoint", names, take_u64, &word)) return NULL;
     PyThreadState *thread = lock_to_ask(store, LONG);
     hlc_store mine = store->handle;
-    uint32_t code = save(&mine, word, &out);
+    uint32_t code = hlc_checkpoint(&mine, word, &output, &len);
     unlock(store, thread);
-    if (code == HLC_OK) return output_object(&out);
-    free(out.at);
-    return refuse(code, 0);
+    return code == HLC_OK ? output_object(&output, len) : refuse(code, 0);
 }
 
 /* ---- The class ---- */

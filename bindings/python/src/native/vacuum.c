@@ -1,6 +1,5 @@
 /* Vacuums, and the certificates of what they left. */
 #include "native.h"
-#include <stdlib.h>
 
 /* The numbers of a vacuum: its stamp, or the word of a refusal; the rows kept, their cost, and the rows dropped. */
 enum { STAMP, KEPT, COST, DROPPED, NUMBERS };
@@ -12,24 +11,14 @@ static uint32_t run(hlc_store *store, const uint64_t *stamp, uint64_t *numbers)
     return hlc_vacuum_to(store, *stamp, &numbers[STAMP], &numbers[KEPT], &numbers[COST], &numbers[DROPPED]);
 }
 
-static uint32_t run_certified(hlc_store *store, const uint64_t *stamp, uint64_t *numbers, Output *out)
+static uint32_t run_certified(hlc_store *store, const uint64_t *stamp, uint64_t *numbers, hlc_output *output,
+                              size_t *len)
 {
     if (!stamp)
-        return hlc_vacuum_certified(store, &numbers[STAMP], &numbers[KEPT], &numbers[COST], &numbers[DROPPED],
-                                    out->at, out->room, &out->len);
+        return hlc_vacuum_certified(store, &numbers[STAMP], &numbers[KEPT], &numbers[COST], &numbers[DROPPED], output,
+                                    len);
     return hlc_vacuum_to_certified(store, *stamp, &numbers[STAMP], &numbers[KEPT], &numbers[COST], &numbers[DROPPED],
-                                   out->at, out->room, &out->len);
-}
-
-/* Where the certificate does not fit, a further vacuum finds nothing to drop, and returns the same certificate. The
- * numbers are those of the first one. */
-static uint32_t run_to_the_end(hlc_store *store, const uint64_t *stamp, uint64_t *numbers, Output *out)
-{
-    uint64_t numbers_again[NUMBERS];
-    uint32_t code = run_certified(store, stamp, numbers, out);
-    if (code != HLC_OK || out->len <= out->room) return code;
-    if (!make_room(out)) return HLC_NO_MEMORY;
-    return run_certified(store, stamp, numbers_again, out);
+                                   output, len);
 }
 
 static PyObject *vacuum(Store *store, const uint64_t *stamp)
@@ -41,10 +30,10 @@ static PyObject *vacuum(Store *store, const uint64_t *stamp)
     return code == HLC_OK ? result_of("Vacuum", numbers, NUMBERS, NULL) : refuse(code, numbers[STAMP]);
 }
 
-/* The numbers and the certificate. It frees the buffer. */
-static PyObject *numbers_and_certificate(const uint64_t *numbers, Output *out)
+/* The numbers and the certificate, which has so many bytes. It drops the output. */
+static PyObject *numbers_and_certificate(const uint64_t *numbers, hlc_output *output, size_t len)
 {
-    PyObject *certificate = output_object(out), *result = NULL;
+    PyObject *certificate = output_object(output, len), *result = NULL;
     PyObject *vacuum = certificate ? result_of("Vacuum", numbers, NUMBERS, NULL) : NULL;
     if (vacuum) result = PyTuple_Pack(2, vacuum, certificate);
     Py_XDECREF(vacuum);
@@ -55,13 +44,12 @@ static PyObject *numbers_and_certificate(const uint64_t *numbers, Output *out)
 static PyObject *vacuum_certified(Store *store, const uint64_t *stamp)
 {
     uint64_t numbers[NUMBERS];
-    Output out = { 0 };
+    hlc_output output = HLC_NO_OUTPUT;
+    size_t len;
     PyThreadState *thread = lock_to_change(store, LONG);
-    uint32_t code = run_to_the_end(&store->handle, stamp, numbers, &out);
+    uint32_t code = run_certified(&store->handle, stamp, numbers, &output, &len);
     unlock(store, thread);
-    if (code == HLC_OK) return numbers_and_certificate(numbers, &out);
-    free(out.at);
-    return refuse(code, code == HLC_NO_MEMORY ? 0 : numbers[STAMP]);
+    return code == HLC_OK ? numbers_and_certificate(numbers, &output, len) : refuse(code, numbers[STAMP]);
 }
 
 PyObject *store_vacuum(PyObject *self, PyObject *none)

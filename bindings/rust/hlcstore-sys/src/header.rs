@@ -32,10 +32,18 @@ pub const HLC_MORE: u32 = 104;
 pub const HLC_NO_SUCH_NODE: u32 = 105;
 pub const HLC_BAD_BYTES: u32 = 106;
 pub const HLC_NO_CHECKPOINT: u32 = 107;
+pub const HLC_HAS_BYTES: u32 = 108;
 
 #[repr(C)]
 #[derive(Clone, Copy, Debug, PartialEq, Eq)]
 pub struct hlc_store {
+    pub at: *mut c_void,
+    pub live: bool,
+}
+
+#[repr(C)]
+#[derive(Clone, Copy, Debug, PartialEq, Eq)]
+pub struct hlc_output {
     pub at: *mut c_void,
     pub live: bool,
 }
@@ -228,8 +236,7 @@ unsafe extern "C" {
         kept: *mut u64,
         bytes: *mut u64,
         dropped: *mut u64,
-        out: *mut u8,
-        out_len: usize,
+        output: *mut hlc_output,
         len: *mut usize,
     ) -> u32;
     pub fn hlc_vacuum_to(
@@ -247,8 +254,7 @@ unsafe extern "C" {
         kept: *mut u64,
         bytes: *mut u64,
         dropped: *mut u64,
-        out: *mut u8,
-        out_len: usize,
+        output: *mut hlc_output,
         len: *mut usize,
     ) -> u32;
     pub fn hlc_vacuum_part(
@@ -300,12 +306,14 @@ unsafe extern "C" {
         many: *mut usize,
         word: *mut u64,
     ) -> u32;
-    pub fn hlc_checkpoint(store: *mut hlc_store, word: u64, out: *mut u8, out_len: usize, len: *mut usize) -> u32;
+    pub fn hlc_checkpoint(store: *mut hlc_store, word: u64, output: *mut hlc_output, len: *mut usize) -> u32;
     pub fn hlc_restore(store: *mut hlc_store, bytes: *const u8, bytes_len: usize, word: *mut u64) -> u32;
     pub fn hlc_restore_start(restoring: *mut hlc_restoring) -> u32;
     pub fn hlc_restore_feed(restoring: *mut hlc_restoring, bytes: *const u8, bytes_len: usize) -> u32;
     pub fn hlc_restore_finish(restoring: *mut hlc_restoring, store: *mut hlc_store, word: *mut u64) -> u32;
     pub fn hlc_restore_drop(restoring: *mut hlc_restoring);
+    pub fn hlc_output_read(output: *mut hlc_output, from: usize, out: *mut u8, out_len: usize, len: *mut usize) -> u32;
+    pub fn hlc_output_drop(output: *mut hlc_output);
     pub fn hlc_horizon(store: *mut hlc_store, stamp: *mut u64) -> u32;
     pub fn hlc_nodes(store: *mut hlc_store, many: *mut u64) -> u32;
     pub fn hlc_link(store: *mut hlc_store, node: u16, next: *mut u64, head: *mut u64, retired: *mut bool) -> u32;

@@ -12,5 +12,8 @@ pub use header::*;
 /// A store before it is opened.
 pub const HLC_CLOSED_STORE: hlc_store = hlc_store { at: core::ptr::null_mut(), live: false };
 
+/// An output that has no bytes.
+pub const HLC_NO_OUTPUT: hlc_output = hlc_output { at: core::ptr::null_mut(), live: false };
+
 /// A restore before it is started.
 pub const HLC_NO_RESTORING: hlc_restoring = hlc_restoring { at: core::ptr::null_mut(), live: false };

@@ -1,6 +1,6 @@
 //! Compares the structs with those of the header, as the C compiler lays them out.
 
-use hlcstore_sys::{hlc_entry, hlc_node, hlc_place, hlc_restoring, hlc_store};
+use hlcstore_sys::{hlc_entry, hlc_node, hlc_output, hlc_place, hlc_restoring, hlc_store};
 use std::fs;
 use std::path::Path;
 use std::process::Command;
@@ -31,6 +31,7 @@ fn structs_are_laid_out_as_in_c() {
     let mut program = String::from("#include \"hlcstore.h\"\n#include <stdio.h>\nint main(void)\n{\n");
     let mut expected = String::new();
     compare!(program, expected, hlc_store { at, live });
+    compare!(program, expected, hlc_output { at, live });
     compare!(program, expected, hlc_node { id, last, next, retired });
     compare!(program, expected, hlc_entry { node, deletes, number, stamp, key_at, key_len, value_at, value_len });
     compare!(program, expected, hlc_place { at, len });

@@ -10,9 +10,8 @@ use crate::vacuum::{Certified, VacuumPart, Vacuumed};
 use crate::{Content, Error, Item, Link, Node, OpenSnapshot, Result, Sizes, Stamp, Stopped};
 use hlcstore_sys as sys;
 
-/// How many bytes are made room for at first: of a value, and of a certificate or a checkpoint.
+/// How many bytes of a value are made room for at first.
 const VALUE_ROOM: usize = 64;
-const TEXT_ROOM: usize = 4096;
 /// How many bytes a stored key has at most.
 const KEY_ROOM: usize = 255;
 
@@ -306,10 +305,9 @@ impl Handle {
     }
 
     pub(crate) fn checkpoint(&self, word: u64) -> Result<Vec<u8>> {
-        let (mut copy, mut bytes) = (self.raw, Vec::new());
-        reserve(&mut bytes, TEXT_ROOM)?;
-        unsafe { append(&mut bytes, |out, room, len| sys::hlc_checkpoint(&mut copy, word, out, room, len))? };
-        Ok(bytes)
+        let (mut output, mut len) = (Output::none(), 0);
+        self.ask(|store, _| unsafe { sys::hlc_checkpoint(store, word, &mut output.raw, &mut len) })?;
+        output.read(len)
     }
 
     // ---- Vacuums ----
@@ -352,47 +350,55 @@ impl Handle {
     }
 
     pub(crate) fn vacuum_certified(&mut self) -> Result<Certified> {
-        self.certified(|store, made, out, room, len| {
-            let Numbers { stamp, kept, bytes, dropped } = made;
-            unsafe { sys::hlc_vacuum_certified(store, stamp, kept, bytes, dropped, out, room, len) }
-        })
+        let (mut made, mut output, mut len) = (Numbers::default(), Output::none(), 0);
+        let Numbers { stamp, kept, bytes, dropped } = &mut made;
+        self.change(|store, _| unsafe {
+            sys::hlc_vacuum_certified(store, stamp, kept, bytes, dropped, &mut output.raw, &mut len)
+        })?;
+        Ok(made.certified(output.read(len)?))
     }
 
     pub(crate) fn vacuum_to_certified(&mut self, to: Stamp) -> Result<Certified> {
-        let to = to.to_bits();
-        self.certified(|store, made, out, room, len| {
-            let Numbers { stamp, kept, bytes, dropped } = made;
-            unsafe { sys::hlc_vacuum_to_certified(store, to, stamp, kept, bytes, dropped, out, room, len) }
-        })
-    }
-
-    /// Makes a call that vacuums and writes a certificate, again where there was too little room. The numbers are those
-    /// of the first call, since a further one finds nothing to drop.
-    fn certified(
-        &mut self,
-        mut call: impl FnMut(*mut sys::hlc_store, &mut Numbers, *mut u8, usize, *mut usize) -> u32,
-    ) -> Result<Certified> {
-        let (mut first, mut word, mut text) = (None, 0, Vec::new());
-        reserve(&mut text, TEXT_ROOM)?;
-        let called = unsafe {
-            append(&mut text, |out, room, len| {
-                let mut made = Numbers::default();
-                let code = call(&mut self.raw, &mut made, out, room, len);
-                first.get_or_insert(made);
-                word = made.stamp;
-                code
-            })
-        };
-        called.map_err(|error| Error::new(error.code(), word))?;
-        let vacuumed = first.unwrap_or_default().vacuumed();
-        let certificate = String::from_utf8(text).expect("a certificate is ASCII");
-        Ok(Certified { vacuumed, certificate })
+        let (mut made, mut output, mut len) = (Numbers::default(), Output::none(), 0);
+        let Numbers { kept, bytes, dropped, .. } = &mut made;
+        made.stamp = self.change(|store, word| unsafe {
+            let to = to.to_bits();
+            sys::hlc_vacuum_to_certified(store, to, word, kept, bytes, dropped, &mut output.raw, &mut len)
+        })?;
+        Ok(made.certified(output.read(len)?))
     }
 }
 
 impl Drop for Handle {
     fn drop(&mut self) {
         self.close();
+    }
+}
+
+/// The bytes that a call of the library makes. It frees them.
+struct Output {
+    raw: sys::hlc_output,
+}
+
+// The blocks that are unsafe here call the library in the same way. `raw` is `HLC_NO_OUTPUT` at first, only calls of the
+// library change it, and it is not copied.
+impl Output {
+    fn none() -> Output {
+        Output { raw: sys::HLC_NO_OUTPUT }
+    }
+
+    /// Returns all bytes, which are so many.
+    fn read(&mut self, len: usize) -> Result<Vec<u8>> {
+        let mut bytes = Vec::new();
+        reserve(&mut bytes, len)?;
+        unsafe { append(&mut bytes, |out, room, len| sys::hlc_output_read(&mut self.raw, 0, out, room, len))? };
+        Ok(bytes)
+    }
+}
+
+impl Drop for Output {
+    fn drop(&mut self) {
+        unsafe { sys::hlc_output_drop(&mut self.raw) }
     }
 }
 
@@ -409,5 +415,10 @@ impl Numbers {
     fn vacuumed(self) -> Vacuumed {
         let Numbers { stamp, kept, bytes, dropped } = self;
         Vacuumed { stamp: Stamp::from_bits(stamp), kept, bytes, dropped }
+    }
+
+    fn certified(self, text: Vec<u8>) -> Certified {
+        let certificate = String::from_utf8(text).expect("a certificate is ASCII");
+        Certified { vacuumed: self.vacuumed(), certificate }
     }
 }

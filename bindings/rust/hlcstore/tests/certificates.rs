@@ -1,4 +1,4 @@
-//! Vacuums with certificates that are longer than the first buffer, and vacuums in parts.
+//! Vacuums with long certificates, and vacuums in parts.
 
 use hlcstore::{Certified, Node, Stamp, Store, check_certificate};
 

@@ -47,7 +47,7 @@ fn lack_of_memory_is_an_error() {
             match store.accept(item) {
                 Ok(()) => accepted += 1,
                 Err(error) => {
-                    // The buffers of this crate are an error too.
+                    // There is none for a checkpoint either.
                     return (accepted, error, store.checkpoint(0).unwrap_err());
                 }
             }

@@ -1,0 +1,166 @@
+/* A certificate and a checkpoint are read from an output, in pieces of any size and from any place. An output that has
+ * bytes keeps them, and a call that gets it does nothing. */
+#include "hlcstore.h"
+#include <inttypes.h>
+#include <stdio.h>
+#include <string.h>
+
+#define BYTES(s) (const uint8_t *)(s), sizeof(s) - 1
+#define AT(l) ((uint64_t)(l) << 16)
+
+enum { ROOM = 256 };
+
+/* What a vacuum certifies where the row of 2.0 is left. */
+static const char TEXT[] = "point 2.0\nrow city 2.0 0 value Lyon\nwitness city none 2.0\n";
+static const size_t TEXT_LEN = sizeof TEXT - 1;
+
+static hlc_store store = HLC_CLOSED_STORE;
+static int wrong;
+
+/* Checks that a call returned, and wrote, what is expected. */
+static void expect(const char *call, uint32_t code, uint64_t returned, uint32_t expected_code, uint64_t expected)
+{
+    if (code == expected_code && returned == expected) return;
+    printf("%s %" PRIu32 " %" PRIu64 "\n", call, code, returned);
+    wrong++;
+}
+
+static void accept(uint64_t number, uint64_t stamp, const uint8_t *value, size_t value_len)
+{
+    uint64_t word;
+    uint32_t code = hlc_accept_write(&store, 0, number, stamp, BYTES("city"), value, value_len, &word);
+    expect("accept", code, word, HLC_OK, stamp);
+}
+
+/* Checks the piece from a place on for which there is so much room, and that the buffer keeps what lies behind it. */
+static void expect_piece(hlc_output *output, size_t from, size_t room, const uint8_t *bytes, size_t bytes_len)
+{
+    uint8_t out[ROOM], expected[ROOM];
+    size_t left = from < bytes_len ? bytes_len - from : 0, piece = left < room ? left : room, len;
+    memset(out, '#', sizeof out);
+    memset(expected, '#', sizeof expected);
+    if (piece > 0) memcpy(expected, bytes + from, piece);
+    uint32_t code = hlc_output_read(output, from, out, room, &len);
+    expect("piece", code, len, piece < left ? HLC_MORE : HLC_OK, piece);
+    if (memcmp(out, expected, sizeof out) != 0) wrong++;
+}
+
+/* Checks that an output has these bytes, with each room from each place on, and from places behind the last byte. */
+static void expect_bytes(hlc_output *output, const uint8_t *bytes, size_t bytes_len)
+{
+    for (size_t room = 0; room <= bytes_len + 1; room++) {
+        for (size_t from = 0; from <= bytes_len + 1; from++) expect_piece(output, from, room, bytes, bytes_len);
+        expect_piece(output, SIZE_MAX, room, bytes, bytes_len);
+    }
+}
+
+/* An output has no bytes at first, nor after a call that was refused, nor after it was dropped, once or twice. */
+static void make_none(void)
+{
+    hlc_output output = HLC_NO_OUTPUT;
+    hlc_store closed = HLC_CLOSED_STORE;
+    uint64_t word, kept, cost, dropped;
+    size_t len;
+    expect_piece(&output, 0, ROOM, NULL, 0);
+    expect_piece(&output, 1, 0, NULL, 0);
+    uint32_t code = hlc_vacuum_to_certified(&store, AT(9), &word, &kept, &cost, &dropped, &output, &len);
+    expect("above the floor", code, len + kept + cost + dropped + word, HLC_ABOVE_FLOOR, AT(2));
+    code = hlc_checkpoint(&closed, 7, &output, &len);
+    expect("closed", code, len, HLC_CLOSED, 0);
+    expect_piece(&output, 0, ROOM, NULL, 0);
+    hlc_output_drop(&output);
+    hlc_output_drop(&output);
+    expect_piece(&output, 0, ROOM, NULL, 0);
+}
+
+/* Reads a certificate in two pieces. */
+static void certify(hlc_output *output)
+{
+    uint64_t floor, kept, cost, dropped;
+    uint8_t text[ROOM];
+    size_t len;
+    uint32_t code = hlc_vacuum_certified(&store, &floor, &kept, &cost, &dropped, output, &len);
+    expect("certificate", code, len, HLC_OK, TEXT_LEN);
+    expect("its stamp", code, floor, HLC_OK, AT(2));
+    expect("kept", code, kept, HLC_OK, 1);
+    expect("their cost", code, cost, HLC_OK, 18);
+    expect("dropped", code, dropped, HLC_OK, 1);
+    code = hlc_output_read(output, 0, text, 10, &len);
+    expect("first piece", code, len, HLC_MORE, 10);
+    code = hlc_output_read(output, 10, text + 10, sizeof text - 10, &len);
+    expect("last piece", code, len, HLC_OK, TEXT_LEN - 10);
+    if (memcmp(text, TEXT, TEXT_LEN) != 0) wrong++;
+    expect_bytes(output, (const uint8_t *)TEXT, TEXT_LEN);
+}
+
+/* Makes each call with an output that has the certificate. A vacuum would drop a row. A closed store is refused before
+ * it, and stamps above the floor and below the horizon after it. */
+static void refuse_full(hlc_output *output)
+{
+    static const uint64_t stamps[] = { AT(1), AT(3), AT(9) };
+    hlc_store closed = HLC_CLOSED_STORE;
+    uint64_t word, kept, cost, dropped;
+    size_t len;
+    accept(2, AT(3), BYTES("Nice"));
+    uint32_t code = hlc_vacuum_certified(&store, &word, &kept, &cost, &dropped, output, &len);
+    expect("full", code, len + word + kept + cost + dropped, HLC_HAS_BYTES, 0);
+    for (size_t i = 0; i < sizeof stamps / sizeof *stamps; i++) {
+        code = hlc_vacuum_to_certified(&store, stamps[i], &word, &kept, &cost, &dropped, output, &len);
+        expect("full, to a stamp", code, len + word + kept + cost + dropped, HLC_HAS_BYTES, 0);
+    }
+    code = hlc_checkpoint(&store, 7, output, &len);
+    expect("full, checkpoint", code, len, HLC_HAS_BYTES, 0);
+    code = hlc_vacuum_certified(&closed, &word, &kept, &cost, &dropped, output, &len);
+    expect("full, closed", code, len + word + kept + cost + dropped, HLC_CLOSED, 0);
+    code = hlc_vacuum_to_certified(&closed, AT(3), &word, &kept, &cost, &dropped, output, &len);
+    expect("full, closed, to a stamp", code, len + word + kept + cost + dropped, HLC_CLOSED, 0);
+    code = hlc_checkpoint(&closed, 7, output, &len);
+    expect("full, closed, checkpoint", code, len, HLC_CLOSED, 0);
+    code = hlc_rows(&store, &word);
+    expect("rows", code, word, HLC_OK, 2);
+    code = hlc_horizon(&store, &word);
+    expect("horizon", code, word, HLC_OK, AT(2));
+    expect_bytes(output, (const uint8_t *)TEXT, TEXT_LEN);
+}
+
+/* Uses an output again for a checkpoint, which outlives its store, and restores another store from pieces of it. */
+static void save(hlc_output *output)
+{
+    hlc_restoring restoring = HLC_NO_RESTORING;
+    hlc_store copy = HLC_CLOSED_STORE;
+    uint8_t saved[ROOM], piece[7];
+    uint64_t word;
+    size_t saved_len, len, at = 0;
+    hlc_output_drop(output);
+    uint32_t code = hlc_checkpoint(&store, 7, output, &saved_len);
+    hlc_close(&store);
+    if (code == HLC_OK) code = hlc_output_read(output, 0, saved, sizeof saved, &len);
+    expect("checkpoint", code, len, HLC_OK, saved_len);
+    expect_bytes(output, saved, saved_len);
+    expect("start", hlc_restore_start(&restoring), 0, HLC_OK, 0);
+    do {
+        code = hlc_output_read(output, at, piece, sizeof piece, &len);
+        expect("feed", hlc_restore_feed(&restoring, piece, len), 0, HLC_OK, 0);
+        at += len;
+    } while (code == HLC_MORE);
+    code = hlc_restore_finish(&restoring, &copy, &word);
+    expect("finish", code, word, HLC_OK, 7);
+    code = hlc_rows(&copy, &word);
+    expect("rows", code, word, HLC_OK, 2);
+    hlc_close(&copy);
+}
+
+int main(void)
+{
+    hlc_output output = HLC_NO_OUTPUT;
+    expect("open", hlc_open(&store, 1), 0, HLC_OK, 0);
+    accept(0, AT(1), BYTES("Rome"));
+    accept(1, AT(2), BYTES("Lyon"));
+    make_none();
+    certify(&output);
+    refuse_full(&output);
+    save(&output);
+    hlc_output_drop(&output);
+    printf("%s\n", wrong ? "wrong" : "all right");
+    return wrong != 0;
+}
