@@ -17,3 +17,4 @@ pub use hlc_core::{
     Report, RestoreFault, Row, Sizes, Snapshot, SnapshotFault, Stamp, View, Witness, Witnesses,
 };
 pub use hlc_node::{Message, NodeCore, NodeFault, RefusedWrite, Written};
+pub use hlc_passes::parts_are_a_vacuum;
