@@ -9,30 +9,10 @@ ghost use Rattle.hlc_calls.specs.Certified.{IsCertifiedAtFloor, IsCertifiedTo, I
 
 use crate::{codes, open_store};
 use hlc_certificate::put_certificate;
-use hlc_core::{Core, Report, Row, Stamp, Witness};
+use hlc_core::{Core, Report, Stamp};
 use hlc_text::printer::Printer;
 use hlc_text::watched::Watched;
 use std::alloc::Global;
-
-/// Returns the text of a certificate, or none where it runs out of memory.
-fn text_of(
-    alloc: Global,
-    points: &[Stamp],
-    rows: &[Row],
-    witnesses: &[Witness],
-) -> Option<Box<Vec<u8>>>
-    ensures { IfSome result
-        (λ text. text.value.items ≡ certificate_text points.now rows.now witnesses.now) }
-{
-    let mut writer = Watched::new(Vec::new(alloc));
-    let mut printer = Printer::new(&mut writer);
-    put_certificate(&mut printer, points, rows, witnesses);
-    printer.finish();
-    if writer.failed() {
-        return None;
-    }
-    Box::new(alloc, writer.into_inner()).ok()
-}
 
 /// Returns the text of the certificate of the rows up to a report's floor, or none where it runs out of memory.
 fn certificate_of(alloc: Global, core: &Core, report: &Report) -> Option<Box<Vec<u8>>>
@@ -41,8 +21,15 @@ fn certificate_of(alloc: Global, core: &Core, report: &Report) -> Option<Box<Vec
         × (text.value.items ≡ certificate_text report.now.points rows report.now.witnesses)) }
 {
     let rows = core.rows_to(report.floor).ok()?;
-    let points = report.points.as_slice();
-    text_of(alloc, points, rows.as_slice(), report.witnesses.as_slice())
+    let (points, witnesses) = (report.points.as_slice(), report.witnesses.as_slice());
+    let mut writer = Watched::new(Vec::new(alloc));
+    let mut printer = Printer::new(&mut writer);
+    put_certificate(&mut printer, points, rows.as_slice(), witnesses);
+    printer.finish();
+    if writer.failed() {
+        return None;
+    }
+    Box::new(alloc, writer.into_inner()).ok()
 }
 
 /// Vacuums, and writes the numbers of the report. Returns the text of the certificate; or 15, where the vacuum may have

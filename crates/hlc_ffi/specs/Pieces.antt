@@ -16,6 +16,11 @@ HasFed None new bytes code = (code ≡ 100) × (new ≡ None)
 HasFed (Some before) new bytes code = MatchOption new ⊥ (λ after. (fed : List ℕ) → HasRead before fed
     → ((code ≡ 0) × HasRead after (fed ++ bytes)) ⊎ ((code ≡ 15) × HasRead after fed))
 
+-- a restore is under way, and these are the bytes that it has read
+abbrev pub HasReadAll : Option CheckpointReader → List ℕ → Type 0
+HasReadAll None fed = ⊥
+HasReadAll (Some reader) fed = HasRead reader fed
+
 -- a closed store is restored from all bytes that were read, and the restore has ended; an open one is unchanged, and
 -- the restore goes on
 abbrev pub HasFinished : Option CheckpointReader → Option CheckpointReader → Option StoreView → Option StoreView → ℕ

@@ -1,6 +1,9 @@
 //! A restore from bytes that come in pieces of any size.
-ghost use Rattle.std.specs.Prelude.{◌≡◌, None};
-ghost use Rattle.hlc_ffi.specs.Pieces.{HasStarted, HasFed, HasFinished};
+ghost use Rattle.std.specs.Prelude.{◌≡◌, ℕ, List, None};
+ghost use Rattle.hlc_core.specs.Past.{Step};
+ghost use Rattle.hlc_saved.specs.Saved.{BytesRepresent};
+ghost use Rattle.hlc_ffi.specs.Handle.{RestoresPast};
+ghost use Rattle.hlc_ffi.specs.Pieces.{HasStarted, HasFed, HasReadAll, HasFinished};
 
 use crate::saved::opened;
 use hlc_calls::saved::answered;
@@ -54,8 +57,11 @@ pub extern "C" fn hlc_restore_finish(
     store: &mut Store,
     word: &mut u64,
 ) -> u32
-    ensures { HasFinished restoring.old.room.value restoring.new.room.value store.old.room.value
-        store.new.room.value result word.new }
+    ensures answer { HasFinished restoring.old.room.value restoring.new.room.value
+        store.old.room.value store.new.room.value result word.new }
+    ensures represents { (fed : List ℕ) (saved : ℕ) (past : List Step)
+        → HasReadAll restoring.old.room.value fed → BytesRepresent fed saved past
+        → RestoresPast store.old.room.value store.new.room.value saved past result word.new }
 {
     *word = 0;
     let Some(reader) = restoring.take(alloc) else {

@@ -1,0 +1,95 @@
+// Part of hlcstore.hpp: how the calls of hlcstore.h are made.
+#ifndef HLCSTORE_CALL_HPP
+#define HLCSTORE_CALL_HPP
+#include <cstddef>
+#include <cstdint>
+#include <string>
+#include <string_view>
+
+#include "error.hpp"
+
+namespace hlcstore::detail {
+
+inline const std::uint8_t* bytes(std::string_view text) noexcept {
+  return reinterpret_cast<const std::uint8_t*>(text.data());
+}
+
+inline std::uint8_t* bytes(std::string& text) noexcept { return reinterpret_cast<std::uint8_t*>(text.data()); }
+
+inline void check(std::uint32_t code, std::uint64_t word = 0) {
+  if (code != HLC_OK) throw error(code, word);
+}
+
+// Makes a call whose last argument is where it writes a word.
+template <class Call, class... Arguments>
+answer answered(Call call, Arguments... arguments) {
+  answer made;
+  made.code = call(arguments..., &made.word);
+  return made;
+}
+
+// Makes such a call, and returns the word.
+template <class Call, class... Arguments>
+std::uint64_t word_of(Call call, Arguments... arguments) {
+  const answer made = answered(call, arguments...);
+  check(made.code, made.word);
+  return made.word;
+}
+
+// Makes a call whose last arguments are a buffer, its length, and where it writes how many bytes there are; and makes
+// it again where they did not fit.
+template <class Call, class... Arguments>
+std::uint32_t fetch_to(std::string& text, Call call, Arguments... arguments) {
+  std::uint8_t small[256];
+  std::size_t len;
+  const std::uint32_t code = call(arguments..., small, sizeof small, &len);
+  if (code != HLC_OK) return code;
+  if (len <= sizeof small) {
+    text.assign(reinterpret_cast<const char*>(small), len);
+    return code;
+  }
+  text.resize(len);
+  return call(arguments..., bytes(text), text.size(), &len);
+}
+
+// Makes such a call, and returns the bytes.
+template <class Call, class... Arguments>
+std::string fetch(Call call, Arguments... arguments) {
+  std::string text;
+  check(fetch_to(text, call, arguments...));
+  return text;
+}
+
+// The bytes that a call makes. It frees them.
+class output {
+ public:
+  output() noexcept = default;
+  output(const output&) = delete;
+  output& operator=(const output&) = delete;
+  ~output() { hlc_output_drop(&raw_); }
+
+  // Where a call puts its bytes.
+  hlc_output* raw() noexcept { return &raw_; }
+
+  // All bytes, which are so many.
+  std::string text(std::size_t len) {
+    std::string read(len, '\0');
+    check(hlc_output_read(&raw_, 0, bytes(read), read.size(), &len));
+    return read;
+  }
+
+ private:
+  hlc_output raw_ = HLC_NO_OUTPUT;
+};
+
+// Takes a length of eight bytes, the low one first, from the front of some bytes, and so many bytes behind it.
+inline std::string_view take_text(std::string_view& rest) {
+  std::uint64_t len = 0;
+  for (std::size_t at = 8; at > 0; at--) len = len << 8 | static_cast<unsigned char>(rest[at - 1]);
+  const std::string_view text = rest.substr(8, len);
+  rest.remove_prefix(8 + len);
+  return text;
+}
+
+}  // namespace hlcstore::detail
+#endif

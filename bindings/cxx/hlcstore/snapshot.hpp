@@ -1,0 +1,280 @@
+// Part of hlcstore.hpp: snapshots, and the ranges of their pairs and keys.
+#ifndef HLCSTORE_SNAPSHOT_HPP
+#define HLCSTORE_SNAPSHOT_HPP
+#include <cstddef>
+#include <cstdint>
+#include <iterator>
+#include <memory>
+#include <optional>
+#include <string>
+#include <string_view>
+#include <utility>
+#include <vector>
+
+#include "call.hpp"
+#include "error.hpp"
+#include "node.hpp"
+
+namespace hlcstore {
+
+// A part of a range, as bytes in the form of hlc_scan or hlc_scan_keys; and whether a further part is left.
+struct part {
+  std::string bytes;
+  std::size_t many = 0;
+  bool more = false;
+};
+
+namespace detail {
+
+// An open snapshot: the handle, which a store shares with its snapshots, and the snapshot's id. Each call that asks is
+// made with a copy of the handle, so that such calls may run beside each other.
+struct view {
+  std::shared_ptr<hlc_store> handle;
+  std::uint64_t id = 0;
+
+  hlc_store copy() const {
+    if (!handle) throw error(HLC_NO_SNAPSHOT);
+    return *handle;
+  }
+
+  template <class Call>
+  part scan(Call call, std::string_view from, std::string_view to, std::size_t room) const {
+    hlc_store mine = copy();
+    part made{std::string(room, '\0'), 0, false};
+    std::size_t len;
+    const std::uint32_t code = call(&mine, id, bytes(from), from.size(), bytes(to), to.size(), bytes(made.bytes), room,
+                                    &len, &made.many);
+    made.more = code == HLC_MORE;
+    if (!made.more) check(code);
+    made.bytes.resize(len);
+    return made;
+  }
+};
+
+// What a range has: the call that scans it, and how an entry is taken from the bytes.
+struct pairs {
+  using value_type = std::pair<std::string, std::string>;
+  static constexpr auto scan = hlc_scan;
+  static void take(std::string_view& rest, value_type& entry) {
+    entry.first = take_text(rest);
+    entry.second = take_text(rest);
+  }
+  static const std::string& key(const value_type& entry) noexcept { return entry.first; }
+};
+
+struct keys {
+  using value_type = std::string;
+  static constexpr auto scan = hlc_scan_keys;
+  static void take(std::string_view& rest, value_type& entry) { entry = take_text(rest); }
+  static const std::string& key(const value_type& entry) noexcept { return entry; }
+};
+
+// A place in a range, whose entries are fetched in pieces. The first piece is small, since most ranges are; later ones
+// have room for any pair.
+template <class Entries>
+class cursor {
+ public:
+  cursor(const view& view, std::string_view from, std::string_view to) : view_(view), from_(from), to_(to) {}
+
+  const typename Entries::value_type& entry() const noexcept { return entry_; }
+
+  // Goes to the next entry, and returns whether there is one.
+  bool advance() {
+    while (left_ == 0) {
+      if (!more_) return false;
+      fetch();
+    }
+    Entries::take(rest_, entry_);
+    left_--;
+    if (left_ == 0) from_.assign(Entries::key(entry_)).push_back('\0');
+    return true;
+  }
+
+ private:
+  void fetch() {
+    part next = view_.scan(Entries::scan, from_, to_, room_);
+    piece_ = std::move(next.bytes);
+    rest_ = piece_;
+    left_ = next.many;
+    more_ = next.more;
+    room_ = 65806;
+  }
+
+  view view_;
+  std::string from_, to_, piece_;
+  std::string_view rest_;
+  std::size_t left_ = 0, room_ = 4096;
+  bool more_ = true;
+  typename Entries::value_type entry_;
+};
+
+}  // namespace detail
+
+// The pairs, or the keys, of a range of a snapshot, in byte order. They are fetched in pieces while a loop goes on: a
+// range of any size takes little memory, and the store may change in between. Each step may be a call that asks.
+template <class Entries>
+class range {
+ public:
+  // Copies of an iterator go on together.
+  class iterator {
+   public:
+    using iterator_category = std::input_iterator_tag;
+    using value_type = typename Entries::value_type;
+    using difference_type = std::ptrdiff_t;
+    using pointer = const value_type*;
+    using reference = const value_type&;
+
+    // What `*place++` reads.
+    struct previous {
+      value_type value;
+      reference operator*() const noexcept { return value; }
+    };
+
+    iterator() = default;
+    explicit iterator(std::shared_ptr<detail::cursor<Entries>> place) : place_(std::move(place)) { ++*this; }
+
+    reference operator*() const noexcept { return place_->entry(); }
+    pointer operator->() const noexcept { return &place_->entry(); }
+    iterator& operator++() {
+      if (!place_->advance()) place_ = nullptr;
+      return *this;
+    }
+    previous operator++(int) {
+      previous before{**this};
+      ++*this;
+      return before;
+    }
+    friend bool operator==(const iterator& a, const iterator& b) noexcept { return a.place_ == b.place_; }
+    friend bool operator!=(const iterator& a, const iterator& b) noexcept { return a.place_ != b.place_; }
+
+   private:
+    std::shared_ptr<detail::cursor<Entries>> place_;
+  };
+
+  range(detail::view view, std::string_view from, std::string_view to)
+      : view_(std::move(view)), from_(from), to_(to) {}
+
+  iterator begin() const { return iterator(std::make_shared<detail::cursor<Entries>>(view_, from_, to_)); }
+  iterator end() const noexcept { return {}; }
+
+ private:
+  detail::view view_;
+  std::string from_, to_;
+};
+
+using pair_range = range<detail::pairs>;
+using key_range = range<detail::keys>;
+
+// An open snapshot, which closes itself. A range goes from the key `from` on, up to the key `to` and without it, or to
+// the end if `to` has no bytes. The calls of a snapshot that outlives its store throw HLC_CLOSED.
+class snapshot {
+ public:
+  snapshot(snapshot&&) noexcept = default;
+  snapshot& operator=(snapshot&& other) noexcept {
+    if (this != &other) {
+      close();
+      view_ = std::move(other.view_);
+      stamp_ = other.stamp_;
+    }
+    return *this;
+  }
+  ~snapshot() { close(); }
+
+  std::uint64_t id() const noexcept { return view_.id; }
+  timestamp stamp() const noexcept { return stamp_; }
+
+  std::optional<std::string> get(std::string_view key) const {
+    hlc_store mine = view_.copy();
+    std::string value;
+    const std::uint32_t code = detail::fetch_to(value, hlc_read, &mine, id(), detail::bytes(key), key.size());
+    if (code == HLC_NO_VALUE) return std::nullopt;
+    detail::check(code);
+    return value;
+  }
+
+  // Reads these keys in turn.
+  std::vector<std::optional<std::string>> get_all(const std::vector<std::string_view>& keys) const {
+    std::vector<hlc_place> places;
+    std::string bytes;
+    for (const std::string_view key : keys) {
+      places.push_back({bytes.size(), key.size()});
+      bytes.append(key);
+    }
+    std::vector<std::optional<std::string>> values;
+    while (values.size() < keys.size()) read_piece(places, bytes, values);
+    return values;
+  }
+
+  pair_range::iterator begin() const { return range().begin(); }
+  pair_range::iterator end() const noexcept { return {}; }
+  pair_range range(std::string_view from = {}, std::string_view to = {}) const { return {view_, from, to}; }
+  key_range keys(std::string_view from = {}, std::string_view to = {}) const { return {view_, from, to}; }
+
+  // As many pairs, or keys, of a range as fit into so many bytes.
+  part scan(std::string_view from, std::string_view to, std::size_t room) const {
+    return view_.scan(hlc_scan, from, to, room);
+  }
+  part scan_keys(std::string_view from, std::string_view to, std::size_t room) const {
+    return view_.scan(hlc_scan_keys, from, to, room);
+  }
+
+  // All pairs, as bytes in the form of hlc_list.
+  std::string list() const {
+    hlc_store mine = view_.copy();
+    return detail::fetch(hlc_list, &mine, id());
+  }
+
+  std::uint64_t count(std::string_view from = {}, std::string_view to = {}) const {
+    hlc_store mine = view_.copy();
+    return detail::word_of(hlc_count, &mine, id(), detail::bytes(from), from.size(), detail::bytes(to), to.size());
+  }
+
+  // The SHA-256 of a range, in 32 bytes, by which replicas compare.
+  std::string digest(std::string_view from = {}, std::string_view to = {}) const {
+    hlc_store mine = view_.copy();
+    return detail::fetch(hlc_digest, &mine, id(), detail::bytes(from), from.size(), detail::bytes(to), to.size());
+  }
+
+  // Closes the snapshot. Its calls throw HLC_NO_SNAPSHOT from then on.
+  void close() noexcept {
+    std::uint64_t stamp;
+    if (view_.handle) hlc_close_snapshot(view_.handle.get(), view_.id, &stamp);
+    view_.handle = nullptr;
+  }
+
+  // Leaves the snapshot open in its store, and returns its id, for store::attach_snapshot.
+  std::uint64_t release() noexcept {
+    view_.handle = nullptr;
+    return view_.id;
+  }
+
+ private:
+  friend class store;
+
+  snapshot(std::shared_ptr<hlc_store> handle, std::uint64_t id, timestamp stamp) noexcept
+      : view_{std::move(handle), id}, stamp_(stamp) {}
+
+  // Reads the keys that have no answer yet, as many as fit. There is room for one of any length.
+  void read_piece(const std::vector<hlc_place>& places, std::string_view bytes,
+                  std::vector<std::optional<std::string>>& values) const {
+    hlc_store mine = view_.copy();
+    std::string piece(65544, '\0');
+    std::size_t len, many;
+    const std::uint32_t code = hlc_read_all(&mine, id(), places.data() + values.size(), places.size() - values.size(),
+                                            detail::bytes(bytes), bytes.size(), detail::bytes(piece), piece.size(),
+                                            &len, &many);
+    if (code != HLC_MORE) detail::check(code);
+    std::string_view rest = piece;
+    for (std::size_t at = 0; at < many; at++) {
+      const bool has_value = rest.front() == 1;
+      rest.remove_prefix(1);
+      values.push_back(has_value ? std::optional<std::string>(detail::take_text(rest)) : std::nullopt);
+    }
+  }
+
+  detail::view view_;
+  timestamp stamp_;
+};
+
+}  // namespace hlcstore
+#endif

@@ -1,0 +1,367 @@
+// Part of hlcstore.hpp: the store, and what it answers and reports.
+#ifndef HLCSTORE_STORE_HPP
+#define HLCSTORE_STORE_HPP
+#include <cstddef>
+#include <cstdint>
+#include <memory>
+#include <optional>
+#include <string>
+#include <string_view>
+#include <utility>
+#include <vector>
+
+#include "call.hpp"
+#include "error.hpp"
+#include "node.hpp"
+#include "snapshot.hpp"
+
+namespace hlcstore {
+
+// How many items of a batch were accepted. At a refusal they are those before the refused one, and stay accepted.
+struct batch_answer : answer {
+  std::size_t many = 0;
+};
+
+// How many items of a log were accepted or passed over, and how many bytes they have. At a refusal they are those
+// before the refused one, and stay accepted.
+struct log_answer : answer {
+  std::size_t many = 0;
+  std::size_t used = 0;
+};
+
+// An open snapshot of a store: its id, and its stamp.
+struct snapshot_info {
+  std::uint64_t id = 0;
+  timestamp stamp;
+};
+
+// What a store accepted from a node: the number of its next item, the stamp of its last one or of its start, and
+// whether it retired.
+struct link_state {
+  std::uint64_t next = 0;
+  timestamp head;
+  bool retired = false;
+};
+
+// How much a store contains: how many rows; how many keys that have rows, and the bytes of these, each counted once;
+// and the bytes of the values of all rows. A number is 2^64 - 1 where it would be greater.
+struct store_sizes {
+  std::uint64_t rows = 0;
+  std::uint64_t keys = 0;
+  std::uint64_t key_bytes = 0;
+  std::uint64_t value_bytes = 0;
+};
+
+// What a vacuum did up to a stamp: how many rows are left there, what they cost in bytes, and how many were dropped.
+struct vacuum_report {
+  timestamp stamp;
+  std::uint64_t kept = 0;
+  std::uint64_t bytes = 0;
+  std::uint64_t dropped = 0;
+};
+
+struct certified_vacuum : vacuum_report {
+  std::string certificate;
+};
+
+// A part of a vacuum, with the numbers of its keys, and the key after which the next part goes on, or none after the
+// last part.
+struct partial_vacuum : vacuum_report {
+  std::optional<std::string> next;
+};
+
+// What a certificate shows: no row set with the same answers has fewer rows, or costs fewer bytes.
+struct shown {
+  std::uint64_t rows = 0;
+  std::uint64_t bytes = 0;
+};
+
+// Checks the text of a certificate.
+inline shown check_certificate(std::string_view text) {
+  shown found;
+  detail::word_of(hlc_check, detail::bytes(text), text.size(), &found.rows, &found.bytes);
+  return found;
+}
+
+// A restore from the bytes of a checkpoint in pieces of any size. `store::restore` ends it.
+class restoring {
+ public:
+  restoring() { detail::check(hlc_restore_start(&raw_)); }
+  restoring(const restoring&) = delete;
+  restoring& operator=(const restoring&) = delete;
+  ~restoring() { hlc_restore_drop(&raw_); }
+
+  void feed(std::string_view piece) { detail::check(hlc_restore_feed(&raw_, detail::bytes(piece), piece.size())); }
+
+ private:
+  friend class store;
+  hlc_restoring raw_ = HLC_NO_RESTORING;
+};
+
+// A store, which closes itself. A closed one refuses each call with HLC_CLOSED, except open and restore.
+class store {
+ public:
+  store() noexcept = default;
+  explicit store(std::uint16_t nodes) { open(nodes); }
+  store(store&&) noexcept = default;
+  store& operator=(store&& other) noexcept {
+    if (this != &other) {
+      close();
+      handle_ = std::move(other.handle_);
+    }
+    return *this;
+  }
+  ~store() { close(); }
+
+  void open(std::uint16_t nodes) {
+    const auto opened = handle_or_new();
+    detail::check(hlc_open(opened.get(), nodes));
+    handle_ = opened;
+  }
+
+  // Opens a closed store from the bytes of a checkpoint, and returns the word that was saved with it.
+  std::uint64_t restore(std::string_view checkpoint) {
+    const auto opened = handle_or_new();
+    const std::uint64_t word =
+        detail::word_of(hlc_restore, opened.get(), detail::bytes(checkpoint), checkpoint.size());
+    handle_ = opened;
+    return word;
+  }
+
+  // Opens a closed store from all pieces that were fed, in the same way.
+  std::uint64_t restore(restoring& pieces) {
+    const auto opened = handle_or_new();
+    const std::uint64_t word = detail::word_of(hlc_restore_finish, &pieces.raw_, opened.get());
+    handle_ = opened;
+    return word;
+  }
+
+  void close() noexcept {
+    if (handle_) hlc_close(handle_.get());
+    handle_ = nullptr;
+  }
+
+  // The handle, for calls of hlcstore.h; null where the store is closed.
+  hlc_store* raw() noexcept { return handle_.get(); }
+
+  // ---- Items ----
+
+  void accept_write(const item& item, std::string_view key, std::string_view value) {
+    detail::word_of(hlc_accept_write, own(), item.node, item.number, item.stamp.word, detail::bytes(key), key.size(),
+                    detail::bytes(value), value.size());
+  }
+  void accept_erase(const item& item, std::string_view key) {
+    detail::word_of(hlc_accept_delete, own(), item.node, item.number, item.stamp.word, detail::bytes(key), key.size());
+  }
+  void accept_report(const item& item) {
+    detail::word_of(hlc_accept_report, own(), item.node, item.number, item.stamp.word);
+  }
+  void accept_retire(const item& item) {
+    detail::word_of(hlc_accept_retire, own(), item.node, item.number, item.stamp.word);
+  }
+
+  // Accepts the items in turn until one is refused.
+  [[nodiscard]] batch_answer accept(const batch& items) {
+    batch_answer made;
+    made.code = hlc_accept_all(own(), items.entries_.data(), items.entries_.size(), detail::bytes(items.bytes_),
+                               items.bytes_.size(), &made.many, &made.word);
+    return made;
+  }
+
+  // Accepts encoded items in turn until one is refused, and passes over those that were accepted before.
+  [[nodiscard]] log_answer accept_log(std::string_view bytes) {
+    log_answer made;
+    made.code = hlc_items_accept(own(), detail::bytes(bytes), bytes.size(), &made.used, &made.many, &made.word);
+    return made;
+  }
+
+  // What accepting the item would answer, except HLC_NO_MEMORY. check_report answers for a retirement too.
+  [[nodiscard]] answer check_write(const item& item, std::string_view key, std::string_view value) const {
+    hlc_store mine = copy();
+    return detail::answered(hlc_check_write, &mine, item.node, item.number, item.stamp.word, detail::bytes(key),
+                            key.size(), detail::bytes(value), value.size());
+  }
+  [[nodiscard]] answer check_erase(const item& item, std::string_view key) const {
+    hlc_store mine = copy();
+    return detail::answered(hlc_check_delete, &mine, item.node, item.number, item.stamp.word, detail::bytes(key),
+                            key.size());
+  }
+  [[nodiscard]] answer check_report(const item& item) const {
+    hlc_store mine = copy();
+    return detail::answered(hlc_check_report, &mine, item.node, item.number, item.stamp.word);
+  }
+
+  // Lets a node join: at the floor (closed timestamp), or at a start at or above it.
+  node join() {
+    std::uint16_t id;
+    const std::uint64_t start = detail::word_of(hlc_join, own(), &id);
+    return node(id, {start});
+  }
+  node join_at(timestamp start) {
+    std::uint16_t id;
+    detail::word_of(hlc_join_at, own(), start.word, &id);
+    return node(id, start);
+  }
+
+  // ---- Snapshots ----
+
+  // Opens a snapshot: at the floor, or at a stamp.
+  snapshot open_snapshot() {
+    std::uint64_t id;
+    const std::uint64_t stamp = detail::word_of(hlc_open_snapshot_at_floor, own(), &id);
+    return {handle_, id, {stamp}};
+  }
+  snapshot open_snapshot(timestamp stamp) {
+    return {handle_, detail::word_of(hlc_open_snapshot, own(), stamp.word), stamp};
+  }
+
+  // The open snapshot of this id: one that was released, or was open when the store was saved.
+  snapshot attach_snapshot(std::uint64_t id) {
+    for (const snapshot_info& open : snapshots()) {
+      if (open.id == id) return {handle_, id, open.stamp};
+    }
+    throw error(HLC_NO_SNAPSHOT);
+  }
+
+  // The open snapshots, by rising ids.
+  std::vector<snapshot_info> snapshots() const {
+    hlc_store mine = copy();
+    std::vector<snapshot_info> found;
+    for (;;) {
+      snapshot_info next;
+      const std::uint32_t code = hlc_snapshot(&mine, found.size(), &next.id, &next.stamp.word);
+      if (code == HLC_NO_SNAPSHOT) return found;
+      detail::check(code);
+      found.push_back(next);
+    }
+  }
+
+  void close_all() { detail::check(hlc_close_all(own())); }
+
+  // ---- What the store has ----
+
+  timestamp floor() const { return {asked(hlc_floor)}; }
+  timestamp horizon() const { return {asked(hlc_horizon)}; }
+  std::uint64_t rows() const { return asked(hlc_rows); }
+  std::uint64_t nodes() const { return asked(hlc_nodes); }
+
+  // In constant time.
+  store_sizes sizes() const {
+    hlc_store mine = copy();
+    store_sizes found;
+    detail::check(hlc_sizes(&mine, &found.rows, &found.keys, &found.key_bytes, &found.value_bytes));
+    return found;
+  }
+
+  link_state link(std::uint16_t node) const {
+    hlc_store mine = copy();
+    link_state found;
+    detail::check(hlc_link(&mine, node, &found.next, &found.head.word, &found.retired));
+    return found;
+  }
+
+  // The first node that holds the floor back; none where all nodes have retired.
+  std::optional<std::uint16_t> floor_node() const {
+    hlc_store mine = copy();
+    const answer found = detail::answered(hlc_floor_node, &mine);
+    if (found.code == HLC_NO_NODE) return std::nullopt;
+    detail::check(found.code);
+    return static_cast<std::uint16_t>(found.word);
+  }
+
+  // ---- Vacuum and checkpoint ----
+
+  // Drops the rows that no reader needs: up to the floor, or up to a stamp, which is the horizon from then on.
+  vacuum_report vacuum() {
+    vacuum_report made;
+    detail::check(hlc_vacuum(own(), &made.stamp.word, &made.kept, &made.bytes, &made.dropped));
+    return made;
+  }
+  vacuum_report vacuum_to(timestamp stamp) {
+    vacuum_report made;
+    const std::uint32_t code =
+        hlc_vacuum_to(own(), stamp.word, &made.stamp.word, &made.kept, &made.bytes, &made.dropped);
+    detail::check(code, made.stamp.word);
+    return made;
+  }
+
+  // Does a part of vacuum_to, so that one call does a bounded amount of work: of the first keys above one, or the first
+  // of all where that has no bytes, at most so many. The first part makes the stamp the horizon. All calls are allowed
+  // between parts. Each leaves the fewest rows of its keys at the snapshots that are open then.
+  partial_vacuum vacuum_part(timestamp stamp, std::string_view after = {}, std::size_t most = 1024) {
+    partial_vacuum made;
+    // A part of no keys ends where it begins.
+    std::string next(after.size() < 255 ? 255 : after.size(), '\0');
+    std::size_t len = 0;
+    bool more = false;
+    const std::uint32_t code = hlc_vacuum_part(
+        own(), stamp.word, detail::bytes(after), after.size(), most, &made.stamp.word, &made.kept, &made.bytes,
+        &made.dropped, detail::bytes(next), next.size(), &len, &more);
+    detail::check(code, made.stamp.word);
+    next.resize(len);
+    if (more) made.next = std::move(next);
+    return made;
+  }
+
+  // Does vacuum or vacuum_to, with the certificate of the rows that are left.
+  certified_vacuum vacuum_certified() { return certified(hlc_vacuum_certified, own()); }
+  certified_vacuum vacuum_to_certified(timestamp stamp) {
+    return certified(hlc_vacuum_to_certified, own(), stamp.word);
+  }
+
+  // What vacuum_to would answer, except HLC_NO_MEMORY.
+  [[nodiscard]] answer check_vacuum(timestamp stamp) const {
+    hlc_store mine = copy();
+    return detail::answered(hlc_check_vacuum, &mine, stamp.word);
+  }
+
+  // The whole state of the store as bytes, with a word of the program's, such as a place in a log.
+  std::string checkpoint(std::uint64_t word) const {
+    hlc_store mine = copy();
+    detail::output saved;
+    std::size_t len;
+    detail::check(hlc_checkpoint(&mine, word, saved.raw(), &len));
+    return saved.text(len);
+  }
+
+ private:
+  // The handle itself, for a call that changes the store.
+  hlc_store* own() {
+    if (!handle_) throw error(HLC_CLOSED);
+    return handle_.get();
+  }
+
+  // A copy of the handle, for a call that only asks.
+  hlc_store copy() const {
+    if (!handle_) throw error(HLC_CLOSED);
+    return *handle_;
+  }
+
+  // A closed store gets a new handle, since old snapshots may still share the one it had.
+  std::shared_ptr<hlc_store> handle_or_new() const {
+    return handle_ ? handle_ : std::make_shared<hlc_store>(hlc_store HLC_CLOSED_STORE);
+  }
+
+  std::uint64_t asked(std::uint32_t (*call)(hlc_store*, std::uint64_t*)) const {
+    hlc_store mine = copy();
+    return detail::word_of(call, &mine);
+  }
+
+  // Vacuums with a certificate.
+  template <class Call, class... Arguments>
+  static certified_vacuum certified(Call call, Arguments... arguments) {
+    certified_vacuum made;
+    detail::output certificate;
+    std::size_t len;
+    const std::uint32_t code = call(arguments..., &made.stamp.word, &made.kept, &made.bytes, &made.dropped,
+                                    certificate.raw(), &len);
+    detail::check(code, made.stamp.word);
+    made.certificate = certificate.text(len);
+    return made;
+  }
+
+  std::shared_ptr<hlc_store> handle_;
+};
+
+}  // namespace hlcstore
+#endif
