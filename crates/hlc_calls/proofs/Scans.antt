@@ -7,7 +7,7 @@ use Rattle.std.proofs.lemmas.Grind.{flat_map-append}
 use Rattle.hlc_node.specs.declared.row.Row.{Row}
 use Rattle.hlc_node.specs.Rows.{answer}
 use Rattle.hlc_columns.specs.Answers.{AreAnswers, IsBetween}
-use Rattle.hlc_calls.specs.Listing.{sized, listing_bytes, with_bytes}
+use Rattle.hlc_calls.specs.Listing.{listing_bytes, with_bytes}
 use Rattle.sha2.specs.Sha256.{sha256}
 use Rattle.hlc_calls.specs.Answers.{narrowed, IsCopied}
 use Rattle.hlc_calls.specs.Digest.{ReturnsDigest}

@@ -1,6 +1,6 @@
 -- Rows of the keys of two kinds that have no key in common.
-use Rattle.std.proofs.Common.{◌≡◌, ◌≢◌, ℕ, ◌+◌, List, [], ◌∷◌, ◌++◌, Bool, true, false, cond, Option, Some, None}
-use Rattle.std.proofs.Common.{Contains, All, length, filter, refl, ap, ap₂, sym, ◌∙◌, subst, inl, inr, arith, Less}
+use Rattle.std.proofs.Common.{◌≡◌, ℕ, ◌+◌, List, [], ◌∷◌, ◌++◌, Bool, true, false, cond, Option, Some, None}
+use Rattle.std.proofs.Common.{Contains, length, filter, refl, ap, ap₂, sym, ◌∙◌, inl, inr, arith, Less}
 use Rattle.std.proofs.Common.{nat_cmp, sum_by}
 use Rattle.std.specs.Prelude.{not, ◌⊎◌}
 use Rattle.std.specs.Ordering.{ordering_then}

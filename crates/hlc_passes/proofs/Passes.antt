@@ -1,7 +1,7 @@
 -- The parts of a pass, from the last one back: from each key on they are together a part without an end. All of them
 -- are a vacuum, since each key of a row is above the empty one.
 use Rattle.std.proofs.Common.{◌≡◌, ℕ, ◌+◌, ◌≤◌, List, [], ◌∷◌, Bool, true, false, cond, ◌&&◌, Option, Some, None}
-use Rattle.std.proofs.Common.{Contains, All, length, filter, refl, ap, ap₂, sym, ◌∙◌, subst, inl, inr, arith}
+use Rattle.std.proofs.Common.{Contains, All, length, refl, ap, ap₂, sym, ◌∙◌, subst, inl, inr, arith}
 use Rattle.std.proofs.Common.{Ordering, Less, Equal, Greater, nat_cmp, leb}
 use Rattle.std.specs.Prelude.{not, ◌⊎◌, MatchOption, nat_lt, is_some}
 use Rattle.std.specs.Ordering.{is_gt, ordering_reverse}
@@ -26,7 +26,7 @@ use Rattle.hlc_vacuum.specs.Representing.{count_above, count_between}
 use Rattle.hlc_vacuum.proofs.Counts.{split_count, same_above}
 use Rattle.hlc_vacuum.proofs.RepresentingLemmas.{rows_above_are_counted}
 use Rattle.hlc_core.specs.Past.{Step, Trimmed, Vacuumed, horizon, vacuumed, trimmed, writes, open_snapshots}
-use Rattle.hlc_core.specs.Stored.{AreVacuumPoints, IsReport}
+use Rattle.hlc_core.specs.Stored.{IsReport}
 use Rattle.hlc_core.specs.StoreView.{StoreView, nodes, Represents}
 use Rattle.hlc_core.specs.Calls.{Vacuums}
 use Rattle.hlc_core.specs.Parts.{rows_of_keys, IsPartReport, Trims, EndsAt}

@@ -1,5 +1,5 @@
 -- The store is restored from all that the reader has read.
-use Rattle.std.proofs.Common.{List, ℕ, sym, subst}
+use Rattle.std.proofs.Common.{sym, subst}
 use Rattle.hlc_saved.specs.declared.reader.CheckpointReader.{CheckpointReader}
 use Rattle.hlc_saved.specs.Blocks.{HasRead}
 use Rattle.hlc_saved.proofs.Saves.{resumed_word, resumed_represents, resumed_only}
@@ -21,7 +21,7 @@ pub returns-clause-represents : goal.returns-clause-represents
 returns-clause-represents c =
     rw (c.in-Some.ensures.boxed, c.in_default-take.ensures.boxed) (λ fed saved past read of.
     let resumed = c.finish.ensures fed
-        (subst (λ (reader : CheckpointReader). HasRead reader fed) (sym c.into_inner.ensures) read) in
+    (subst (λ (reader : CheckpointReader). HasRead reader fed) (sym c.into_inner.ensures) read) in
     restores_past saved past _ _ _ _ _ (is_past saved past _ _ _ c.answered-made.ensures
     (resumed_word _ fed saved of.0 of.1 resumed) (resumed_represents _ fed saved past of resumed)
     (resumed_only _ fed saved of.0 of.1 resumed)) c.opened.ensures)
