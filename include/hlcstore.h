@@ -76,7 +76,8 @@
  *   hlc_restore_feed                    100 15                            yes     other restores
  *   hlc_restore_finish                  100 101 106 107 15                yes     other stores and restores
  *   hlc_restore_drop                                                              other restores
- *   hlc_output_read, _drop                                                        other outputs
+ *   hlc_output_read                     104                                       other outputs
+ *   hlc_output_drop                                                               other outputs
  *   hlc_node_open, _raise                                                         other nodes
  *   hlc_node_restore                    105                                       other nodes
  *   hlc_node_write, _delete             27 12 13 14 2 3                           other nodes

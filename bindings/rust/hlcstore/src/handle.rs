@@ -5,8 +5,9 @@
 
 use crate::buffer::{append, reserve};
 use crate::error::answer;
+use crate::output::{Certificate, Output};
 use crate::range::Bounds;
-use crate::vacuum::{Certified, VacuumPart, Vacuumed};
+use crate::vacuum::{VacuumPart, Vacuumed};
 use crate::{Content, Error, Item, Link, Node, OpenSnapshot, Result, Sizes, Stamp, Stopped};
 use hlcstore_sys as sys;
 
@@ -304,10 +305,11 @@ impl Handle {
         }
     }
 
-    pub(crate) fn checkpoint(&self, word: u64) -> Result<Vec<u8>> {
-        let (mut output, mut len) = (Output::none(), 0);
-        self.ask(|store, _| unsafe { sys::hlc_checkpoint(store, word, &mut output.raw, &mut len) })?;
-        output.read(len)
+    pub(crate) fn checkpoint(&self, word: u64) -> Result<Output> {
+        let mut saved = Output::none();
+        let (output, len) = saved.place();
+        self.ask(|store, _| unsafe { sys::hlc_checkpoint(store, word, output, len) })?;
+        Ok(saved)
     }
 
     // ---- Vacuums ----
@@ -349,56 +351,28 @@ impl Handle {
         self.ask(|store, word| unsafe { sys::hlc_check_vacuum(store, to.to_bits(), word) }).map(drop)
     }
 
-    pub(crate) fn vacuum_certified(&mut self) -> Result<Certified> {
-        let (mut made, mut output, mut len) = (Numbers::default(), Output::none(), 0);
+    pub(crate) fn vacuum_certified(&mut self) -> Result<Certificate> {
+        let (mut made, mut text) = (Numbers::default(), Output::none());
         let Numbers { stamp, kept, bytes, dropped } = &mut made;
-        self.change(|store, _| unsafe {
-            sys::hlc_vacuum_certified(store, stamp, kept, bytes, dropped, &mut output.raw, &mut len)
-        })?;
-        Ok(made.certified(output.read(len)?))
+        let (output, len) = text.place();
+        self.change(|store, _| unsafe { sys::hlc_vacuum_certified(store, stamp, kept, bytes, dropped, output, len) })?;
+        Ok(Certificate { vacuumed: made.vacuumed(), text })
     }
 
-    pub(crate) fn vacuum_to_certified(&mut self, to: Stamp) -> Result<Certified> {
-        let (mut made, mut output, mut len) = (Numbers::default(), Output::none(), 0);
+    pub(crate) fn vacuum_to_certified(&mut self, to: Stamp) -> Result<Certificate> {
+        let (mut made, mut text) = (Numbers::default(), Output::none());
         let Numbers { kept, bytes, dropped, .. } = &mut made;
+        let (output, len) = text.place();
         made.stamp = self.change(|store, word| unsafe {
-            let to = to.to_bits();
-            sys::hlc_vacuum_to_certified(store, to, word, kept, bytes, dropped, &mut output.raw, &mut len)
+            sys::hlc_vacuum_to_certified(store, to.to_bits(), word, kept, bytes, dropped, output, len)
         })?;
-        Ok(made.certified(output.read(len)?))
+        Ok(Certificate { vacuumed: made.vacuumed(), text })
     }
 }
 
 impl Drop for Handle {
     fn drop(&mut self) {
         self.close();
-    }
-}
-
-/// The bytes that a call of the library makes. It frees them.
-struct Output {
-    raw: sys::hlc_output,
-}
-
-// The blocks that are unsafe here call the library in the same way. `raw` is `HLC_NO_OUTPUT` at first, only calls of the
-// library change it, and it is not copied.
-impl Output {
-    fn none() -> Output {
-        Output { raw: sys::HLC_NO_OUTPUT }
-    }
-
-    /// Returns all bytes, which are so many.
-    fn read(&mut self, len: usize) -> Result<Vec<u8>> {
-        let mut bytes = Vec::new();
-        reserve(&mut bytes, len)?;
-        unsafe { append(&mut bytes, |out, room, len| sys::hlc_output_read(&mut self.raw, 0, out, room, len))? };
-        Ok(bytes)
-    }
-}
-
-impl Drop for Output {
-    fn drop(&mut self) {
-        unsafe { sys::hlc_output_drop(&mut self.raw) }
     }
 }
 
@@ -415,10 +389,5 @@ impl Numbers {
     fn vacuumed(self) -> Vacuumed {
         let Numbers { stamp, kept, bytes, dropped } = self;
         Vacuumed { stamp: Stamp::from_bits(stamp), kept, bytes, dropped }
-    }
-
-    fn certified(self, text: Vec<u8>) -> Certified {
-        let certificate = String::from_utf8(text).expect("a certificate is ASCII");
-        Certified { vacuumed: self.vacuumed(), certificate }
     }
 }

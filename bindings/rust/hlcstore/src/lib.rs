@@ -43,6 +43,7 @@ mod handle;
 mod item;
 mod listing;
 mod node;
+mod output;
 mod range;
 mod restoring;
 mod shared;

@@ -162,7 +162,8 @@ impl SharedStore {
 
     /// Vacuums to the floor with a certificate, as [`Store::vacuum_certified`] does.
     pub fn vacuum_certified(&self) -> Result<Certified> {
-        self.write().vacuum_certified()
+        let made = self.write().vacuum_certified()?;
+        made.read()
     }
 
     /// Vacuums to a stamp, as [`Store::vacuum_to`] does.
@@ -172,7 +173,8 @@ impl SharedStore {
 
     /// Vacuums to a stamp with a certificate, as [`Store::vacuum_to_certified`] does.
     pub fn vacuum_to_certified(&self, stamp: Stamp) -> Result<Certified> {
-        self.write().vacuum_to_certified(stamp)
+        let made = self.write().vacuum_to_certified(stamp)?;
+        made.read()
     }
 
     /// Does a part of a vacuum to a stamp, as [`Store::vacuum_part`] does.
@@ -187,7 +189,8 @@ impl SharedStore {
 
     /// Returns the whole state of the store as bytes, as [`Store::checkpoint`] does. Reads run beside it.
     pub fn checkpoint(&self, word: u64) -> Result<Vec<u8>> {
-        self.read().checkpoint(word)
+        let saved = self.read().checkpoint(word)?;
+        saved.read()
     }
 
     // A thread that panicked while it had the lock was in no call of the library, which does not panic. So the store is

@@ -237,7 +237,7 @@ impl Store {
     ///
     /// Refusal: `NoMemory`, where the vacuum may have taken place.
     pub fn vacuum_certified(&self) -> Result<Certified> {
-        self.write().vacuum_certified()
+        self.write().vacuum_certified()?.read()
     }
 
     /// Drops all rows at or below a stamp except the fewest, and the cheapest, that give the same answers as all
@@ -266,7 +266,7 @@ impl Store {
     ///
     /// Refusals: those of [`vacuum_to`](Store::vacuum_to). With `NoMemory` the vacuum may have taken place.
     pub fn vacuum_to_certified(&self, stamp: Stamp) -> Result<Certified> {
-        self.write().vacuum_to_certified(stamp)
+        self.write().vacuum_to_certified(stamp)?.read()
     }
 
     /// Does a part of [`vacuum_to`](Store::vacuum_to), so that a call does a bounded amount of work while other threads
@@ -318,7 +318,7 @@ impl Store {
     /// # Ok::<(), hlcstore::Error>(())
     /// ```
     pub fn checkpoint(&self, word: u64) -> Result<Vec<u8>> {
-        self.read().checkpoint(word)
+        self.read().checkpoint(word)?.read()
     }
 
     /// Shares the store among threads.
