@@ -71,7 +71,7 @@ class output {
   // Where a call puts its bytes.
   hlc_output* raw() noexcept { return &raw_; }
 
-  // All bytes, which are so many.
+  // The bytes, of which there are len.
   std::string text(std::size_t len) {
     std::string read(len, '\0');
     check(hlc_output_read(&raw_, 0, bytes(read), read.size(), &len));

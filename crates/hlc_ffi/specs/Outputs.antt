@@ -13,6 +13,7 @@ OnOutput (Some before) new code len Nothing Made NotMade = (code ≡ 108) × (le
 OnOutput None new code len Nothing Made NotMade =
     MatchOption new ((len ≡ 0) × NotMade) (λ made. (code ≡ 0) × (len ≡ length made.items) × Made made.items)
 
+-- the bytes that there are to read
 abbrev pub bytes_in : Option Bytes → List ℕ
 bytes_in None = []
 bytes_in (Some kept) = kept.items

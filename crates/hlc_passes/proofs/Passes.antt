@@ -1,6 +1,7 @@
 -- The parts of a pass, from the last one back: from each key on they are together a part without an end. All of them
 -- are a vacuum, since each key of a row is above the empty one.
-use Rattle.std.proofs.Common.{◌≡◌, ℕ, ◌+◌, ◌≤◌, List, [], ◌∷◌, Bool, true, false, cond, ◌&&◌, Option, Some, None}
+use Rattle.std.proofs.Common.{◌≡◌, ℕ, ◌+◌, ◌≤◌, List, [], ◌∷◌, Bool, true, false, cond, ◌&&◌}
+use Rattle.std.proofs.Common.{Option, Some, None}
 use Rattle.std.proofs.Common.{Contains, All, length, refl, ap, ap₂, sym, ◌∙◌, subst, inl, inr, arith}
 use Rattle.std.proofs.Common.{Ordering, Less, Equal, Greater, nat_cmp, leb}
 use Rattle.std.specs.Prelude.{not, ◌⊎◌, MatchOption, nat_lt, is_some}

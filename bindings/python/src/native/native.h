@@ -60,8 +60,8 @@ int take_bytes(PyObject *from, void *to);
 
 PyObject *number_object(uint64_t number);
 
-/* Returns all bytes of an output, which are so many, and drops it. It is called after unlock, and lets other threads of
- * Python run meanwhile. */
+/* Returns the bytes of an output, len of them, and drops it. It is called after unlock, and lets other threads of Python
+ * run meanwhile. */
 PyObject *output_object(hlc_output *output, size_t len);
 
 /* ---- refusals.c ---- */

@@ -30,7 +30,7 @@ static PyObject *vacuum(Store *store, const uint64_t *stamp)
     return code == HLC_OK ? result_of("Vacuum", numbers, NUMBERS, NULL) : refuse(code, numbers[STAMP]);
 }
 
-/* The numbers and the certificate, which has so many bytes. It drops the output. */
+/* The numbers, and the certificate of len bytes. It drops the output. */
 static PyObject *numbers_and_certificate(const uint64_t *numbers, hlc_output *output, size_t len)
 {
     PyObject *certificate = output_object(output, len), *result = NULL;

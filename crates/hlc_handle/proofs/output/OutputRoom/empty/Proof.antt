@@ -15,9 +15,9 @@ use denote.Steps.{nothing}
 use denote.Triple.Walked.{Stays, walk_of}
 use Rattle.std.proofs.raw_atomic.Walks.{proved_at, leaves}
 use Rattle.hlc_handle.specs.Rows.{bytes_row}
+use Rattle.hlc_handle.specs.Room.{room_owns}
 use Rattle.hlc_handle.specs.contracts.output.OutputRoom as room
-use Rattle.hlc_handle.proofs.Rooms.{one}
-use Rattle.hlc_handle.proofs.OutputRooms.{room_in}
+use Rattle.hlc_handle.proofs.Rooms.{one, room_in}
 use Rattle.hlc_handle.specs.contracts.output.OutputRoom.empty.{ended, clauses}
 use Rattle.hlc_handle.specs.contracts.output.OutputRoom.empty.Key.{name as #self}
 use Rattle.hlc_handle.proofs.output.OutputRoom.empty.Statement.{statement}
@@ -34,7 +34,7 @@ empty_spec 𝓤 𝓛 𝓜 𝓡 wired =
     qed 𝓛 ((‵ ftrue ⊛ ‵ ftrue) ∷ ‵ ftrue ∷ []) ∵
     enter ! 𝓣.C 𝓣.Λ fn [] Post $ alloc_all ! (λ l. pass_all ! refl tt $
     sets ! (agg ! (and_then ! (lit ! tt) (no_more !))) refl (tt, (record { fits = lit< tt }, tt)) $
-    nothing ! $ room_in ! out $ use0 𝓛 (raw (fact 𝓤 (None' ≡ None'))) (fact_i 𝓤 (None' ≡ None') (emp 𝓤) refl) $
+    nothing ! $ room_in ! out.at (room_owns bytes_row out.at out.value) $ use0 𝓛 (raw (fact 𝓤 (None' ≡ None'))) (fact_i 𝓤 (None' ≡ None') (emp 𝓤) refl) $
     nothing ! $ nothing ! $
     returns ! (look_at ! 0 refl) $ free_all ! refl $ keep ! (0 ∷ 1 ∷ 3 ∷ 2 ∷ []) $
     by ! (leaves 𝓛 ended hs c z w out tt tt)))

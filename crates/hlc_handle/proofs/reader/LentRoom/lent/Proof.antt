@@ -22,8 +22,8 @@ use Rattle.hlc_core.specs.contracts.store.Core as core
 use Rattle.hlc_handle.specs.Lent.{lent_owns, lent_room_owns}
 use Rattle.hlc_handle.specs.contracts.reader.LentCore as lent
 use Rattle.hlc_handle.specs.contracts.reader.LentRoom as room
-use Rattle.hlc_handle.proofs.Rooms.{one, some_is}
-use Rattle.hlc_handle.proofs.LentValues.{nowhere, room_out, lent_in}
+use Rattle.hlc_handle.proofs.Rooms.{one, some_is, room_in, room_out}
+use Rattle.hlc_handle.proofs.LentValues.{nowhere}
 use Rattle.hlc_handle.specs.contracts.reader.LentRoom.lent.{ended, clauses}
 use Rattle.hlc_handle.specs.contracts.reader.LentRoom.lent.Key.{name as #self}
 use Rattle.hlc_handle.proofs.reader.LentRoom.lent.Statement.{statement}
@@ -42,7 +42,7 @@ lent_spec 𝓤 𝓛 𝓜 𝓡 wired =
     qed 𝓛 ((raw (alive 𝓛 ended.signature z.0.0 z.0.1) ⊛ ‵ (owns
     (types_at ended.signature.params z.0.0) z.0.3 z.0.4)) ∷ raw (fact 𝓤 (IsSome d.value)) ∷ []) ∵
     move ! (1 ∷ []) $ heard ! (IsSome d.value) (λ there. let found = some_is d.value there in let x = found.0 in
-    split ! $ move ! (1 ∷ []) $ fsplit ! $ room_out ! d z.0.4.0 (λ ws.
+    split ! $ move ! (1 ∷ []) $ fsplit ! $ room_out ! d.at (lent_room_owns core.the_row d.at d.value) z.0.4.0 (λ ws.
     rewrite ! 0 (λ (y : Option (core.the_row).Denot). ‵ (lent_room_owns core.the_row d.at y)) found.1 refl $
     in_a_block ! d.at (λ p. lent_owns core.the_row p x) (nowhere 𝓛 core.the_row x) (λ b o e.
     let returned : z.0.4.0 ≡ one (vptr b o) ∷ [] = ws ∙ ap (λ (p : Ptr). one (ptr_val p) ∷ []) e in
@@ -53,7 +53,7 @@ lent_spec 𝓤 𝓛 𝓜 𝓡 wired =
     sets ! (of_opd ! (get_in ! (fld ! refl (stop !)) (sub ! 0 refl (whole !)))) refl (tt, tt) $
     sets ! (of_opd ! (get ! refl)) refl (tt, tt) $
     sets ! (agg ! (and_then ! (get ! refl) (no_more !))) refl (tt, (tt, tt)) $
-    lent_in ! out $ use0 𝓛 (raw (fact 𝓤 (d.value ≡ Some x)))
+    room_in ! out.at (lent_owns core.the_row out.at out.value) $ use0 𝓛 (raw (fact 𝓤 (d.value ≡ Some x)))
     (fact_i 𝓤 (d.value ≡ Some x) (emp 𝓤) found.1) $ nothing ! $ nothing ! $ fjoin ! $ nothing ! $
     returns ! (look_at ! 0 refl) $ free_all ! refl $ keep ! (0 ∷ 1 ∷ 3 ∷ 2 ∷ []) $
     by ! (leaves 𝓛 ended hs c z w out (tt, tt) (tt, tt)))))))

@@ -22,9 +22,9 @@ use Rattle.std.specs.contracts.alloc.Global as heap
 use Rattle.std.proofs.alloc.Global.TheLaws as heap_laws
 use Rattle.std_heap.specs.contracts.GlobalAllocator.TheImpl.{ghosts}
 use Rattle.hlc_saved.specs.contracts.reader.CheckpointReader as saved
+use Rattle.hlc_handle.specs.Room.{room_owns}
 use Rattle.hlc_handle.specs.contracts.restoring.RestoreRoom as room
-use Rattle.hlc_handle.proofs.Rooms.{one}
-use Rattle.hlc_handle.proofs.RestoreRooms.{room_in}
+use Rattle.hlc_handle.proofs.Rooms.{one, room_in}
 use Rattle.hlc_handle.proofs.Values.{both, Loose, loose_good, loose_out}
 use Rattle.hlc_handle.specs.contracts.restoring.RestoreRoom.of.{ended, clauses}
 use Rattle.hlc_handle.specs.contracts.restoring.RestoreRoom.of.Key.{name as #self}
@@ -53,7 +53,7 @@ of_spec 𝓤 𝓛 𝓜 𝓡 wired =
     sets ! (of_opd ! (get_in ! (fld ! refl (stop !)) (sub ! 0 refl (whole !)))) refl (tt, tt) $
     sets ! (of_opd ! (get ! refl)) refl (tt, tt) $
     sets ! (agg ! (and_then ! (get ! refl) (no_more !))) refl (tt, (tt, tt)) $
-    room_in ! out $ use0 𝓛 (raw (fact 𝓤 (kept ≡ kept))) (fact_i 𝓤 (kept ≡ kept) (emp 𝓤) refl) $ nothing ! $
+    room_in ! out.at (room_owns saved.the_row out.at out.value) $ use0 𝓛 (raw (fact 𝓤 (kept ≡ kept))) (fact_i 𝓤 (kept ≡ kept) (emp 𝓤) refl) $ nothing ! $
     nothing ! $ fjoin ! $ nothing ! $
     returns ! (look_at ! 0 refl) $ free_all ! refl $ keep ! (0 ∷ 1 ∷ 3 ∷ 2 ∷ []) $
     by ! (leaves 𝓛 ended hs c z (one (vptr b o)) out (tt, tt) (tt, tt)))))

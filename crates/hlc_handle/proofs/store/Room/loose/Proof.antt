@@ -56,7 +56,7 @@ loose_spec 𝓤 𝓛 𝓜 𝓡 wired =
     qed 𝓛 ((raw (alive 𝓛 ended.signature z.0.0 z.0.1) ⊛ ‵ (owns
     (types_at ended.signature.params z.0.0) z.0.3 z.0.4)) ∷ raw (fact 𝓤 (IsSome d.value)) ∷ []) ∵
     move ! (1 ∷ []) $ heard ! (IsSome d.value) (λ there. let found = some_is d.value there in let x = found.0 in
-    split ! $ move ! (1 ∷ []) $ fsplit ! $ room_out ! d z.0.4.0
+    split ! $ move ! (1 ∷ []) $ fsplit ! $ room_out ! d.at (room_owns core.the_row d.at d.value) z.0.4.0
     (λ ws. move ! (1 ∷ []) $ fsplit ! $ handle_tells al ! a z.0.4.1.0 (λ h eh fits. move ! (2 ∷ []) $
     rewrite ! 0 (λ (y : Option (core.the_row).Denot). ‵ (room_owns core.the_row d.at y)) found.1 refl $
     in_a_block ! d.at (λ p. box_owns (ghosts.dealloc_token a) core.the_row p x)
