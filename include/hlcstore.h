@@ -7,8 +7,9 @@
  *
  * Answers. A call returns HLC_OK, the number of the first expected refusal, or HLC_CLOSED for a closed store. Every
  * call is total: it checks lengths and numbers itself, and is proved to answer as described here, whatever is passed to
- * it. After any answer but HLC_OK the store, and the node, is unchanged; hlc_accept_all, hlc_items_accept,
- * hlc_node_restore, hlc_vacuum_certified and hlc_vacuum_to_certified describe exceptions.
+ * it by the rules below. Where hlc_restore took bytes that no hlc_checkpoint made, calls are proved to be safe, but not
+ * to answer as described. After any answer but HLC_OK the store, and the node, is unchanged; hlc_accept_all,
+ * hlc_items_accept, hlc_node_restore, hlc_vacuum_certified and hlc_vacuum_to_certified describe exceptions.
  * Every answer writes to every pointer, with 0 where there is nothing to return. A buffer that an answer does not fill
  * keeps its bytes.
  *
@@ -18,29 +19,33 @@
  *
  * What the caller must ensure, and nothing checks:
  *   - a store is HLC_CLOSED_STORE at first, a restore HLC_NO_RESTORING, an output HLC_NO_OUTPUT, and only these
- *     functions change them. No copy of a restore or an output is used;
- *   - one call at a time with a store: where several threads call, a lock orders their calls. No call comes from a
- *     signal handler. Calls with different stores and nodes may run concurrently;
+ *     functions change them. Between calls each of them may be moved: assigned to another place, if only that one is
+ *     used from then on. No other copy of a restore or an output is used;
+ *   - one call at a time with a store: where several threads call, a lock orders their calls. Calls with different
+ *     stores and nodes may run concurrently. No call comes from a signal handler, or from the child of a fork of a
+ *     process with threads;
  *   - calls that only read a store (those that may run beside "reads" in the table) may run concurrently, as under the
- *     reading side of a read-write lock, if each gets a copy of the store of its own, which it has alone:
+ *     reading side of a read-write lock, if each gets a copy of the store of its own:
  *         hlc_store mine = *store;
  *         hlc_read(&mine, ...);
- *     The copy is made after the last call that changed the store, and no call changes the store while a call uses a
- *     copy. A copy is passed to no other calls, and is not closed;
+ *     A copy is made, and is used, only while no call is made with the store itself, not even one that reads: such a
+ *     call changes the store's fields until it returns. A copy is of no use any more after the next call with the store
+ *     that may not run beside "reads", even if that was refused. A copy is passed to no other calls, and is not closed;
  *   - a pointer is not NULL, unless its length is 0: (NULL, 0) represents no bytes, and no entries. It is aligned, and
- *     what it points to is live; what a call writes does not overlap what another argument points to; a node's
- *     `retired` and an entry's `deletes` are false or true;
- *   - malloc, realloc and free belong together, and align to 16.
+ *     what it points to is live. What a call writes does not overlap what another argument points to: no variable takes
+ *     two results, and `after` and `out` of hlc_vacuum_part are two buffers. A bool is false or true before the call,
+ *     also where the call only writes it: a node's and a link's `retired`, an entry's `deletes`, and `more`;
+ *   - malloc, realloc and free belong together, align to 16, and may be called by several threads at once.
  *
  * Costs. Where a call says "no memory" it makes no allocation, and cannot return HLC_NO_MEMORY. docs/performance.md has
  * measurements.
  *
- * All calls. Each call on a store also returns HLC_CLOSED, except hlc_open, hlc_restore and hlc_close. The last column
- * says what may run beside a call: calls with other stores; these and reads of the same store, with copies; calls with
- * other nodes; or all.
+ * All calls. Each call on a store also returns HLC_CLOSED, before every other refusal, except hlc_open, hlc_restore,
+ * hlc_restore_finish and hlc_close. The last column says what may run beside a call: calls with other stores; these and
+ * reads of the same store, with copies; calls with other nodes; or all.
  *
  *   call                                refusals, in this order           memory  beside
- *   hlc_open                            1 15 101                          yes     other stores
+ *   hlc_open                            101 1 15                          yes     other stores
  *   hlc_close                                                                     other stores
  *   hlc_accept_write, _delete           1 27 6 14 7 12 13 15              yes     other stores
  *   hlc_accept_report, _retire          1 27 6 14 7                               other stores
@@ -137,14 +142,17 @@ enum {
     HLC_BAD_KEY = 12,           /* the key has no bytes, or more than 255 */
     HLC_VALUE_TOO_LONG = 13,    /* the value has more than 65,535 bytes */
     HLC_NUMBERS_SPENT = 14,     /* no link number, or id of a snapshot, is left */
-    HLC_NO_MEMORY = 15,         /* out of memory, and no other refusal is expected */
+    HLC_NO_MEMORY = 15,         /* out of memory, and no other refusal is expected; of hlc_restore, hlc_restore_finish
+                                   and hlc_items_accept it may come in place of another refusal */
     HLC_BAD_LINE = 16,          /* of hlc_check; word: the number of the first bad line */
     HLC_TOO_LONG = 20,          /* of hlc_check: the text has more than 16,777,216 bytes */
     HLC_NOT_SHOWN = 22,         /* of hlc_check; word: the number of the first reason of docs/formats.md, 1 to 8 */
     HLC_TOO_MANY_NODES = 26,    /* 1,024 node numbers are assigned */
     HLC_RETIRED = 27,           /* the node retired */
-    HLC_CLOSED = 100,           /* the store is closed; of hlc_restore_feed, _finish: no restore is under way */
-    HLC_IS_OPEN = 101,          /* of hlc_open, hlc_restore: the store is open, and is unchanged */
+    HLC_CLOSED = 100,           /* the store is closed, or another thread makes a call with it, against the rules; of
+                                   hlc_restore_feed, _finish: no restore is under way */
+    HLC_IS_OPEN = 101,          /* of hlc_open, hlc_restore, _finish: the store is open, and is unchanged; of
+                                   hlc_restore_start: a restore is under way, and goes on */
     HLC_NO_VALUE = 102,         /* of hlc_read: the key has no value in the snapshot */
     HLC_OUTSIDE = 103,          /* of hlc_accept_all, hlc_read_all: a key or a value lies outside the bytes */
     HLC_MORE = 104,             /* of hlc_scan, _scan_keys, hlc_read_all, hlc_output_read: a part is left, which did
@@ -173,7 +181,8 @@ void hlc_error_text(uint32_t answer, uint8_t *out, size_t out_len, size_t *len);
 
 /* ---- The store ---- */
 
-/* Opens a store of so many nodes, numbered from 0, in which nothing took place. Refusals: 1, 15, 101. */
+/* Opens a closed store of so many nodes, numbered from 0, in which nothing took place. Refusals, in this order: 101, 1,
+ * 15. */
 uint32_t hlc_open(hlc_store *store, uint16_t nodes);
 
 /* Closes a store and frees what it contains. A closed one stays closed. */
@@ -303,9 +312,10 @@ uint32_t hlc_sizes(hlc_store *store, uint64_t *rows, uint64_t *keys, uint64_t *k
  * where they would be greater. Refusal: 15. Reads each key once at each point. */
 uint32_t hlc_vacuum(hlc_store *store, uint64_t *floor, uint64_t *kept, uint64_t *bytes, uint64_t *dropped);
 
-/* Does the same, and puts the certificate of the rows that are left up to the floor, which `hlcstore check` reads, into
- * an output that has no bytes. len: how many bytes the certificate has. Refusals, in this order: 108; 15, where the
- * vacuum may have taken place: then a further call finds nothing to drop, and makes its certificate. */
+/* Does the same, and puts the certificate of the rows that are left up to the floor into an output that has no bytes.
+ * hlc_check and `hlcstore check` read it if it has at most 16,777,216 bytes. len: how many bytes it has. Refusals, in
+ * this order: 108; 15, where the vacuum may have taken place: then a further call finds nothing to drop, and makes its
+ * certificate. */
 uint32_t hlc_vacuum_certified(hlc_store *store, uint64_t *floor, uint64_t *kept, uint64_t *bytes, uint64_t *dropped,
                               hlc_output *output, size_t *len);
 
@@ -322,16 +332,16 @@ uint32_t hlc_vacuum_to(hlc_store *store, uint64_t stamp, uint64_t *word, uint64_
 uint32_t hlc_vacuum_to_certified(hlc_store *store, uint64_t stamp, uint64_t *word, uint64_t *kept, uint64_t *bytes,
                                  uint64_t *dropped, hlc_output *output, size_t *len);
 
-/* Makes a part of hlc_vacuum_to, so that one call does a bounded amount of work under the caller's lock: it vacuums the
- * first keys above `after`, which without bytes is below every key, at most `most` of them. word: the stamp, or the
- * refusal's word; kept, bytes, dropped: as in hlc_vacuum_to, for the rows of these keys. more: whether a key may be
- * left above them: then the next part is called with the last of them as `after`; else none is left. len: how
- * many bytes that key has, at most 255, or 0 where more is false; out: the key, as in hlc_read. Where `most` is 0, it
- * is `after`. The first part makes the stamp the horizon. Every other call is allowed between parts, and nothing is
- * kept for the next one. Each part leaves the fewest rows of its keys, and the cheapest, as hlc_vacuum_to does of all,
- * at the snapshots that are open then. Parts from no bytes on to the last, with no other call between them, make an
- * hlc_vacuum_to together, whose numbers are their sums. Refusals, in this order: 8, 9, 15. Looks `after` up, and reads
- * these keys once at each point. */
+/* Makes a part of hlc_vacuum_to, so that one call does a bounded amount of work under the caller's lock: it vacuums
+ * the first keys above `after`, which without bytes is below every key, at most `most` of them. word: the stamp, or
+ * the refusal's word; kept, bytes, dropped: as in hlc_vacuum_to, for the rows of these keys. more: whether a key may
+ * be left above them: then the next part is called with the last of them as `after`; else none is left. len: how many
+ * bytes that key has, or 0 where more is false; out: the key, as in hlc_read. A key of the store has at most 255
+ * bytes. Where `most` is 0, that key is `after`, however long it is. The first part makes the stamp the horizon. Every
+ * other call is allowed between parts, and nothing is kept for the next one. Each part leaves the fewest rows of its
+ * keys, and the cheapest, as hlc_vacuum_to does of all, at the snapshots that are open then. Parts from no bytes on to
+ * the last, with no other call between them, make an hlc_vacuum_to together, whose numbers are their sums. Refusals,
+ * in this order: 8, 9, 15. Looks `after` up, and reads these keys once at each point. */
 uint32_t hlc_vacuum_part(hlc_store *store, uint64_t stamp, const uint8_t *after, size_t after_len, size_t most,
                          uint64_t *word, uint64_t *kept, uint64_t *bytes, uint64_t *dropped, uint8_t *out,
                          size_t out_len, size_t *len, bool *more);
@@ -360,8 +370,8 @@ uint32_t hlc_item_retire(uint16_t node, uint64_t number, uint64_t stamp, uint8_t
  * accepted before are passed over, so that a log can be read again from any place. many: how many items were
  * accepted or passed over, also at a refusal; used: how many bytes these have: the next call goes on from there.
  * Bytes that end within an item are refused with 106 and word 1. word: 0, or the refusal's word. Refusals, of each
- * item in this order: 106, 1, 27, 6, 14, 7, 15. Only a write can get 15: in place of another refusal, where there is no
- * memory for a copy of its key and its value. */
+ * item in this order: 106, 1, 27, 6, 14, 7, 15. Only a write, or a deletion, can get 15: in place of another refusal,
+ * where there is no memory for a copy of its key and its value. */
 uint32_t hlc_items_accept(hlc_store *store, const uint8_t *bytes, size_t bytes_len, size_t *used, size_t *many,
                           uint64_t *word);
 
@@ -372,7 +382,8 @@ uint32_t hlc_checkpoint(hlc_store *store, uint64_t word, hlc_output *output, siz
 
 /* Opens a closed store from the bytes of hlc_checkpoint, whoever wrote them. It continues as the saved store would
  * have: the same next items, open snapshots, horizon and answers. word: the word that was saved, or the refusal's.
- * Refusals: 101, 106, 107, 15. Bytes that hlc_checkpoint returned are refused with 101 and 15 alone. */
+ * Refusals, in this order: 101, 106, 107, 15; but 15 may come in place of 106 and 107, when memory runs out before the
+ * fault is found. Bytes that hlc_checkpoint returned are refused with 101 and 15 alone. */
 uint32_t hlc_restore(hlc_store *store, const uint8_t *bytes, size_t bytes_len, uint64_t *word);
 
 /* A restore from pieces of any size, so that the bytes of a checkpoint need not be in memory at once. Its fields are
@@ -392,8 +403,8 @@ uint32_t hlc_restore_start(hlc_restoring *restoring);
 uint32_t hlc_restore_feed(hlc_restoring *restoring, const uint8_t *bytes, size_t bytes_len);
 
 /* Opens a closed store from all bytes that were added, as hlc_restore does, and ends the restore. word: as in
- * hlc_restore. Refusals: 100 where no restore is under way; 101 where the store is open, and the restore goes on; 106,
- * 107 and 15, after which the restore has ended. */
+ * hlc_restore. Refusals, in this order: 100 where no restore is under way; 101 where the store is open, and the restore
+ * goes on; 106, 107 and 15, as of hlc_restore, after which the restore has ended. */
 uint32_t hlc_restore_finish(hlc_restoring *restoring, hlc_store *store, uint64_t *word);
 
 /* Ends a restore without a store, and frees what it has. A restore that is not ended leaks its memory. */

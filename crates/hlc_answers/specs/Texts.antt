@@ -32,8 +32,11 @@ answer_words answer =
     )
     else if answer == 26 then (codes "HLC_TOO_MANY_NODES", codes "1,024 node numbers are assigned")
     else if answer == 27 then (codes "HLC_RETIRED", codes "the node retired")
-    else if answer == 100 then (codes "HLC_CLOSED", codes "the store is closed")
-    else if answer == 101 then (codes "HLC_IS_OPEN", codes "the store is open already")
+    else if answer == 100 then (codes "HLC_CLOSED", codes "the store is closed, or no restore is under way")
+    else if answer == 101 then (
+      codes "HLC_IS_OPEN",
+      codes "the store is open already, or a restore is under way",
+    )
     else if answer == 102 then (codes "HLC_NO_VALUE", codes "the key has no value in the snapshot")
     else if answer == 103 then (codes "HLC_OUTSIDE", codes "the bytes of an entry or a key are not there")
     else if answer == 104 then (codes "HLC_MORE", codes "the next part does not fit")

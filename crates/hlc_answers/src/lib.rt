@@ -43,8 +43,14 @@ fn words(answer: u32) -> (&'static str, &'static str)
         ),
         26 => ("HLC_TOO_MANY_NODES", "1,024 node numbers are assigned"),
         27 => ("HLC_RETIRED", "the node retired"),
-        100 => ("HLC_CLOSED", "the store is closed"),
-        101 => ("HLC_IS_OPEN", "the store is open already"),
+        100 => (
+            "HLC_CLOSED",
+            "the store is closed, or no restore is under way",
+        ),
+        101 => (
+            "HLC_IS_OPEN",
+            "the store is open already, or a restore is under way",
+        ),
         102 => ("HLC_NO_VALUE", "the key has no value in the snapshot"),
         103 => (
             "HLC_OUTSIDE",

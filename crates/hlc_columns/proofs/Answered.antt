@@ -21,7 +21,7 @@ use Rattle.hlc_index.specs.Entries.{key_cmp}
 use Rattle.hlc_columns.specs.Rows.{rows_of}
 use Rattle.hlc_columns.specs.Table.{table_rows}
 use Rattle.hlc_columns.specs.Answers.{answers_in, pair_of, is_below, IsBetween, AreAnswers}
-use Rattle.hlc_columns.proofs.Found.{newest_alone}
+use Rattle.hlc_columns.proofs.FoundLemmas.{newest_alone}
 use Rattle.hlc_columns.proofs.Keys.{names, name_of_row}
 use Rattle.hlc_columns.proofs.WalkLemmas.{Entry, one_of}
 

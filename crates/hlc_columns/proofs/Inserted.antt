@@ -21,7 +21,7 @@ use Rattle.std.specs.List.Sorted.{IsPermutation}
 use Rattle.std.proofs.lemmas.List.Sorted.{IsPermutation-append_right, IsPermutation-append_comm}
 use Rattle.std.proofs.lemmas.List.Elements.{Contains-append_cases, Contains-append_left, Contains-append_right}
 use Rattle.hlc_columns.specs.Table.{table_rows, HasNoVersion, Inserted}
-use Rattle.hlc_columns.proofs.Found.{test, same_key, none_here}
+use Rattle.hlc_columns.proofs.FoundLemmas.{test, same_key, none_here}
 use Rattle.hlc_values.proofs.MemberLemmas.{Contains-rest, Contains-cons_cases}
 
 more_before : (xs : List Row) (old : List Row) (row : Row) (new : List Row) → Inserted old row new

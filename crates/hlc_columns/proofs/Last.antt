@@ -14,7 +14,7 @@ use Rattle.std.proofs.lemmas.Map.Keys.{Less-from_sorted, sorted_tail}
 use Rattle.hlc_index.specs.Entries.{key_cmp, is_key, keys_in}
 use Rattle.hlc_columns.specs.Cells.{Cell}
 use Rattle.hlc_columns.specs.Rows.{row_of, rows_of}
-use Rattle.hlc_columns.proofs.Found.{cells_in}
+use Rattle.hlc_columns.proofs.FoundLemmas.{cells_in}
 
 -- the key of the entry at a slot
 pub key_read : (leaf : List (List ℕ × List Cell)) (slot : ℕ) (e : List ℕ × List Cell) (key : List ℕ)

@@ -14,7 +14,7 @@ use Rattle.std.proofs.lemmas.List.Elements.{All-from_recursion, All-nil, All-con
 use Rattle.std.proofs.lemmas.List.Elements.{filter-append, All-map, All-take, All-tail, All-weaker}
 use Rattle.hlc_node.specs.declared.row.Row.{Row}
 use Rattle.hlc_index.specs.Entries.{keys_in, key_cmp}
-use Rattle.hlc_index.proofs.Slots.{itself}
+use Rattle.hlc_index.proofs.SlotLemmas.{itself}
 use Rattle.hlc_columns.specs.Cells.{Cell}
 use Rattle.hlc_columns.specs.Rows.{KeyCells, rows_of, row_of, KeysAscend}
 use Rattle.hlc_columns.specs.Table.{table_rows, keyed}

@@ -21,7 +21,7 @@ use Rattle.hlc_columns.specs.Rows.{row_of, rows_of}
 use Rattle.hlc_columns.specs.Table.{table_rows, kept_in}
 use Rattle.hlc_columns.specs.Sizes.{sizes_of, plus, with_row, with_key, Fit, row_bytes, AreSizes}
 use Rattle.hlc_columns.specs.Sizes.{Sizes}
-use Rattle.hlc_columns.proofs.Found.{test, same_key, none_here}
+use Rattle.hlc_columns.proofs.FoundLemmas.{test, same_key, none_here}
 use Rattle.hlc_columns.proofs.Keys.{name_of_row, row_of_name}
 use Rattle.std.specs.List.{AllByRecursion, items_where_true}
 use Rattle.std.specs.List.Sorted.{IsStrictlySortedBy}

@@ -12,7 +12,7 @@ use Rattle.hlc_snapshot.proofs.RegisterLemmas.{stamp_in-hit}
 use Rattle.hlc_core.specs.Past.{Step, Closed, closed_all}
 use Rattle.hlc_core.specs.StoreView.{StoreView, IsConsistent, nodes, Represents, without_snapshots}
 use Rattle.hlc_core.proofs.Opening.{closes, less_snapshot}
-use Rattle.hlc_core.proofs.Checkpoints.{register-of}
+use Rattle.hlc_core.proofs.CheckpointLemmas.{register-of}
 
 -- none of these has the id
 without-none : (id : ℕ) (xs : List Snapshot) → All (λ snapshot. id < snapshot.id) xs → without id xs ≡ xs

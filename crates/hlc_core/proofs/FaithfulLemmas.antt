@@ -18,7 +18,7 @@ use Rattle.hlc_core.specs.declared.reply.CoreReply.TheVariants.{Answer, Vacuumed
 use Rattle.hlc_core.specs.History.{past_of, IsAnswer, IsExpected, IsLegalHistory, RepresentsHistory}
 use Rattle.hlc_core.specs.Headline.{IsMoment, ReadsAreNewest, VacuumsAreFewest, VacuumsAreCheapest, FewestAreLeft}
 use Rattle.hlc_core.specs.Headline.{IsFaithful, vacuum_stamp}
-use Rattle.hlc_core.proofs.Vacuums.{leaves-fewest}
+use Rattle.hlc_core.proofs.VacuumLemmas.{leaves-fewest}
 
 before-legal : (nodes : ℕ) (later before : List (CoreEvent × CoreReply)) → IsLegalHistory nodes (later ++ before)
     → IsLegalHistory nodes before

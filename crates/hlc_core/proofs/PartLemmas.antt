@@ -8,7 +8,7 @@ use Rattle.std.proofs.lemmas.Bool.{cond-false, both_ways}
 use Rattle.hlc_values.proofs.MemberLemmas.{Contains-filter, Contains-from_filter}
 use Rattle.hlc_node.specs.declared.row.Row.{Row}
 use Rattle.hlc_node.specs.Rows.{is_candidate, later, newest, answer, IsRowSet}
-use Rattle.hlc_node.proofs.Newest.{other-misses}
+use Rattle.hlc_node.proofs.CandidateLemmas.{other-misses}
 use Rattle.hlc_node.proofs.NewestLemmas.{answer_none}
 use Rattle.hlc_columns.proofs.FlagLemmas.{filter-IsRowSet}
 use Rattle.hlc_vacuum.specs.Representing.{RowsRepresent}

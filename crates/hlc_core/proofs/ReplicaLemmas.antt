@@ -10,7 +10,7 @@ use Rattle.hlc_node.specs.declared.item.Item.{Item}
 use Rattle.hlc_node.specs.Items.{retires}
 use Rattle.hlc_node.specs.Rows.{answer}
 use Rattle.hlc_heads.specs.Low.{least_left, or_else, low}
-use Rattle.hlc_vacuum.proofs.Parts.{same_rows}
+use Rattle.hlc_vacuum.proofs.PartLemmas.{same_rows}
 use Rattle.hlc_heads.specs.declared.heads.TheConstants.{MOST_NUMBERS}
 use Rattle.hlc_core.specs.declared.fault.CoreFault.{CoreFault}
 use Rattle.hlc_core.specs.declared.fault.CoreFault.TheVariants.{Join}
@@ -21,7 +21,7 @@ use Rattle.hlc_core.specs.StoreView.{StoreView, nodes, Represents}
 use Rattle.hlc_core.specs.Replicas.{items_of, joins_of, AreReplicas}
 use Rattle.hlc_core.proofs.PastLemmas.{inside, head-same, head-other, head-joined, head-joined_other}
 use Rattle.hlc_core.proofs.PastLemmas.{retired-same, retired-other, count-other, body_rows-are, writes-row_set}
-use Rattle.hlc_core.proofs.Checkpoints.{heads-low, top-at}
+use Rattle.hlc_core.proofs.CheckpointLemmas.{heads-low, top-at}
 
 items-same : (n : ℕ) (item : Item) (past : List Step) → item.node ≡ n
     → items_of n (Took item ∷ past) ≡ item ∷ items_of n past

@@ -17,7 +17,7 @@ use Rattle.hlc_core.specs.Past.{IsLegal}
 use Rattle.hlc_core.specs.StoreView.{StoreView, nodes, Represents}
 use Rattle.hlc_vacuum.specs.Representing.{RowsRepresent, count_above}
 use Rattle.hlc_vacuum.proofs.RepresentingLemmas.{writes_keep_representing}
-use Rattle.hlc_vacuum.proofs.Counts.{count_push}
+use Rattle.hlc_vacuum.proofs.CountLemmas.{count_push}
 use Rattle.hlc_snapshot.specs.RegistryView.{stamps}
 use Rattle.hlc_core.proofs.PastLemmas.{admissible, on_link, inside}
 use Rattle.hlc_core.proofs.PastLemmas.{above-horizon, vacuumed-low, writes-row_set}

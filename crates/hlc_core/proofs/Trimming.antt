@@ -22,7 +22,7 @@ use Rattle.hlc_core.specs.StoreView.{StoreView, nodes, with_rows_left, Represent
 use Rattle.hlc_core.specs.Parts.{rows_of_keys, Trims}
 use Rattle.hlc_core.proofs.PastLemmas.{vacuum-above, writes-limits}
 use Rattle.hlc_core.proofs.PartLemmas.{represent-of_keys, represent-parts}
-use Rattle.hlc_core.proofs.Vacuums.{fewer-open, more-open, low-open}
+use Rattle.hlc_core.proofs.VacuumLemmas.{fewer-open, more-open, low-open}
 
 -- the rows that it left represent the past with it
 pub trimmed-represents : (kept new : StoreView) (past : List Step) (at dropped : ℕ) → Represents kept past

@@ -9,7 +9,7 @@ use Rattle.std.proofs.lemmas.List.Concat.{flat_map-append}
 use Rattle.hlc_index.specs.Entries.{keys_in, key_cmp, is_key, entries_in, with_value_in, IsEntryAt}
 use Rattle.hlc_index.specs.Entries.{entries_before, entries_from}
 use Rattle.hlc_index.proofs.Values.{valued_is, there_is}
-use Rattle.hlc_index.proofs.Removed.{removed_is}
+use Rattle.hlc_index.proofs.RemovalLemmas.{removed_is}
 
 pub taken : {X : Type 0} (xs : List X) (n : ℕ) (none : X) → n < length xs
     → take (n + 1) xs ≡ take n xs ++ get_or xs n none ∷ []

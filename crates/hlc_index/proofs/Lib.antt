@@ -3,9 +3,9 @@ pub mod Kept
 pub mod LeafLemmas
 pub mod Tops
 pub mod Joined
-pub mod Slots
+pub mod SlotLemmas
 pub mod Places
 pub mod Values
 pub mod EntryLemmas
 pub mod Sought
-pub mod Removed
+pub mod RemovalLemmas

@@ -15,8 +15,8 @@ use Rattle.std.proofs.lemmas.List.{length-append, drop_more, get_or-map, length-
 use Rattle.hlc_index.specs.Entries.{keys_in, key_cmp, is_key, IsSlot, IsAboveAt, IsUptoAt, first_key, first_keys}
 use Rattle.hlc_index.specs.Entries.{entries_in, entries_with}
 use Rattle.hlc_index.proofs.Joined.{joined_all, insert_front, insert_back}
-use Rattle.hlc_index.proofs.Slots.{parts, absent_lookup, inserted_at, found_lookup, ascend_with, entry_joined}
-use Rattle.hlc_index.proofs.Slots.{slot_joined, none_some}
+use Rattle.hlc_index.proofs.SlotLemmas.{parts, absent_lookup, inserted_at, found_lookup, ascend_with, entry_joined}
+use Rattle.hlc_index.proofs.SlotLemmas.{slot_joined, none_some}
 use Rattle.hlc_index.proofs.Heads.{length_keys}
 
 module _ {V : Type 0} where

@@ -13,7 +13,7 @@ use Rattle.hlc_index.specs.Entries.{keys_in, key_cmp, IsSlot, IsAboveAt, IsUptoA
 use Rattle.hlc_index.specs.Entries.{entries_before, entries_from}
 use Rattle.hlc_index.proofs.Heads.{length_keys}
 use Rattle.hlc_index.proofs.Joined.{joined_all}
-use Rattle.hlc_index.proofs.Slots.{parts, itself, other, keys_joined}
+use Rattle.hlc_index.proofs.SlotLemmas.{parts, itself, other, keys_joined}
 use Rattle.hlc_index.proofs.Places.{slot_whole, slot_first}
 
 unlike : {a b : Ordering} → (a ≡ b → ⊥) → (o : Ordering) → o ≡ a → o ≡ b → ⊥

@@ -13,7 +13,7 @@ use Rattle.hlc_index.specs.Entries.{with_value, with_value_in}
 use Rattle.hlc_index.proofs.Heads.{length_keys}
 use Rattle.hlc_index.proofs.LeafLemmas.{keys_with}
 use Rattle.hlc_index.proofs.Joined.{joined_all, joined_set}
-use Rattle.hlc_index.proofs.Slots.{itself, other, keys_joined, none_some, found_lookup, entry_joined}
+use Rattle.hlc_index.proofs.SlotLemmas.{itself, other, keys_joined, none_some, found_lookup, entry_joined}
 use Rattle.hlc_index.proofs.Places.{none_first, none_there, end_place}
 
 no_none : {X : Type 0} (o : Option X) → None ≡ o → IsSome o → ⊥

@@ -14,7 +14,7 @@ ghost use Rattle.std.specs.declared.cmp.Ordering.TheVariants.{Less};
 use crate::filled::Filled;
 use crate::head::head_of;
 use crate::leaves::Leaves;
-use hlc_node::Bytes;
+use hlc_bytes::Bytes;
 use std::alloc::{AllocFailed, Global};
 use std::marker::Model;
 

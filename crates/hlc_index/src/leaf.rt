@@ -11,7 +11,7 @@ ghost use Rattle.hlc_index.specs.contracts.leaf.Leaf.{the_row};
 
 use crate::filled::Filled;
 use crate::head::{compare_alike, head_of, place_of_head};
-use hlc_node::Bytes;
+use hlc_bytes::Bytes;
 use hlc_values::NoMemory;
 use std::alloc::{AllocFailed, Global};
 use std::cmp::Ordering;

@@ -14,7 +14,7 @@ ghost use Rattle.hlc_index.specs.contracts.leaves.Leaves.{the_row};
 use crate::filled::Filled;
 use crate::head::{compare_alike, place_of_head};
 use crate::leaf::{Leaf, MOST_ENTRIES};
-use hlc_node::Bytes;
+use hlc_bytes::Bytes;
 use hlc_values::NoMemory;
 use std::alloc::{AllocFailed, Global};
 use std::cmp::Ordering;

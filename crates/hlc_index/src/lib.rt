@@ -6,10 +6,8 @@ mod head;
 mod index;
 mod leaf;
 mod leaves;
-#[cfg(test)]
-mod tests;
 
 pub use filled::Filled;
-pub use hlc_node::Bytes;
+pub use hlc_bytes::Bytes;
 pub use hlc_values::NoMemory;
 pub use index::Index;

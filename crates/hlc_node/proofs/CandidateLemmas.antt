@@ -1,8 +1,8 @@
 -- A row passes the test of a candidate exactly if it is of the key, and at or below the stamp.
-use Rattle.std.proofs.Common.{◌≡◌, ℕ, ◌≤◌, List, true}
+use Rattle.std.proofs.Common.{◌≡◌, ◌≢◌, ℕ, ◌≤◌, List, true, false, inl, inr}
 use Rattle.std.specs.Prelude.{nat_le}
 use Rattle.std.specs.Str.{bytes_eq}
-use Rattle.std.proofs.lemmas.Bool.{and_parts, and_from, leb-true, le-leb}
+use Rattle.std.proofs.lemmas.Bool.{cases_Bool, and_parts, and_from, leb-true, le-leb}
 use Rattle.std.proofs.lemmas.Slice.Eq.{bytes_eq-Decides}
 use Rattle.hlc_node.specs.declared.row.Row.{Row}
 use Rattle.hlc_node.specs.Rows.{is_candidate}
@@ -16,3 +16,11 @@ candidate_true key bound row h =
 pub candidate_from : (key : List ℕ) (bound : ℕ) (row : Row) → row.key ≡ key → row.stamp ≤ bound
     → is_candidate key bound row ≡ true
 candidate_from key bound row k s = and_from _ _ ((bytes_eq-Decides row.key key).1 k) (le-leb _ _ s)
+
+-- a row of another key does not pass it
+pub other-misses : (key : List ℕ) (bound : ℕ) (row : Row) → row.key ≢ key → is_candidate key bound row ≡ false
+other-misses key bound row apart =
+    elim (cases_Bool (is_candidate key bound row)) [
+      | inl hit ↦ absurd (apart (candidate_true key bound row hit).0)
+      | inr miss ↦ miss
+    ]

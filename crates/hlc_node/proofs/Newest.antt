@@ -186,10 +186,3 @@ candidate-same key low high row le none =
         | inr other ↦ miss ∙ sym other
       ]
     ]
-
-pub other-misses : (key : List ℕ) (bound : ℕ) (row : Row) → row.key ≢ key → is_candidate key bound row ≡ false
-other-misses key bound row apart =
-    elim (cases_Bool (is_candidate key bound row)) [
-      | inl hit ↦ absurd (apart (candidate_true key bound row hit).0)
-      | inr miss ↦ miss
-    ]

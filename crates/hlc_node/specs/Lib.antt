@@ -1,4 +1,3 @@
-pub mod Storage
 pub mod Items
 pub mod Rows
 pub mod Node

@@ -1,20 +1,11 @@
 //! `==` of these types is true exactly on equal values, and each copy is equal.
 ghost use Rattle.std.proofs.Common.{rules};
 ghost use Rattle.std.proofs.lemmas.Grind.{common_steps};
-ghost use Rattle.std.specs.Cmp.Lexicographic.{pointwise_decides};
-ghost use Rattle.std.specs.Cmp.Rules.{comparing};
 
-use crate::bytes::Bytes;
 use crate::item::{Body, BodyFault, Item, Message};
 use crate::node::{NodeCore, NodeFault};
 use crate::row::Row;
 use hlc_values::Exact;
-
-impl Exact for Bytes {
-    ghost equal = { pointwise_decides (Prim.search (comparing, rules)) };
-
-    ghost copied = { λ bytes copy same. same };
-}
 
 impl Exact for Body {
     ghost equal = { Prim.search (rules, common_steps) };

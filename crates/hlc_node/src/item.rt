@@ -5,8 +5,8 @@ ghost use Rattle.hlc_node.specs.Faults.{body_code};
 ghost use Rattle.hlc_node.specs.declared.item.Body.TheVariants.{Write as a_write, Report, Retire};
 ghost use Rattle.hlc_node.specs.declared.item.TheConstants.{MOST_KEY_BYTES, MOST_VALUE_BYTES};
 
-use crate::bytes::{Bytes, value_slice};
 use crate::item_ref::ItemRef;
+use hlc_bytes::{Bytes, value_slice};
 use hlc_clock::Stamp;
 use hlc_values::NoMemory;
 use std::error::Error;

@@ -2,19 +2,14 @@
 //! row that answers a read.
 #![tactic(auto)]
 
-mod bytes;
-#[cfg(test)]
-mod bytes_tests;
 mod exact;
 mod item;
 mod item_ref;
 mod laws;
-mod mark;
 mod node;
 mod row;
-mod short;
 
-pub use bytes::{Bytes, value_slice};
+pub use hlc_bytes::{Bytes, MOST_SHORT_BYTES, ValueOrMark, most_short_bytes_are_22, value_slice};
 pub use hlc_clock::Stamp;
 pub use item::{
     Body, BodyFault, Item, MOST_KEY_BYTES, MOST_VALUE_BYTES, Message, body_fault,
@@ -24,7 +19,5 @@ pub use item_ref::{ItemRef, Written};
 pub use laws::{
     newest_is_greatest, newest_is_unique, newest_stays, no_newest_no_row, other_keys_do_not_count,
 };
-pub use mark::ValueOrMark;
 pub use node::{NodeCore, NodeFault, RefusedWrite};
 pub use row::Row;
-pub use short::{MOST_SHORT_BYTES, most_short_bytes_are_22};

@@ -2,7 +2,7 @@
 ghost use Rattle.std.specs.Prelude.{◌≡◌, ◌≤◌, length, option_copied};
 ghost use Rattle.hlc_node.specs.Items.{IsShortValue};
 
-use crate::bytes::{Bytes, value_slice};
+use hlc_bytes::{Bytes, value_slice};
 use hlc_clock::Stamp;
 use hlc_values::NoMemory;
 

@@ -1,3 +1,3 @@
 pub mod Best
-pub mod Places
-pub mod Counted
+pub mod PlaceLemmas
+pub mod CountLemmas

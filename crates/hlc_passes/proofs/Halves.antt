@@ -14,7 +14,7 @@ use Rattle.hlc_node.specs.Rows.{answer}
 use Rattle.hlc_witness.specs.declared.witness.Witness.{Witness}
 use Rattle.hlc_witness.specs.Changes.{AreChanges, IsChange, answer_at, change_cmp}
 use Rattle.hlc_witness.specs.Cost.{changes_cost, change_cost, cost_of}
-use Rattle.hlc_witness.proofs.Listed.{sorted_append, all_from}
+use Rattle.hlc_witness.proofs.ListedLemmas.{sorted_append, all_from}
 use Rattle.hlc_core.specs.Parts.{rows_of_keys}
 use Rattle.hlc_core.proofs.PartLemmas.{answer-of_keys, answer-other_keys}
 

@@ -24,7 +24,7 @@ use Rattle.hlc_witness.specs.Changes.{AreChanges}
 use Rattle.hlc_witness.specs.Cost.{IsInLimits, changes_cost}
 use Rattle.hlc_vacuum.specs.declared.report.Report.{Report}
 use Rattle.hlc_vacuum.specs.Representing.{count_above, count_between}
-use Rattle.hlc_vacuum.proofs.Counts.{split_count, same_above}
+use Rattle.hlc_vacuum.proofs.CountLemmas.{split_count, same_above}
 use Rattle.hlc_vacuum.proofs.RepresentingLemmas.{rows_above_are_counted}
 use Rattle.hlc_core.specs.Past.{Step, Trimmed, Vacuumed, horizon, vacuumed, trimmed, writes, open_snapshots}
 use Rattle.hlc_core.specs.Stored.{IsReport}
@@ -32,7 +32,7 @@ use Rattle.hlc_core.specs.StoreView.{StoreView, nodes, Represents}
 use Rattle.hlc_core.specs.Calls.{Vacuums}
 use Rattle.hlc_core.specs.Parts.{rows_of_keys, IsPartReport, Trims, EndsAt}
 use Rattle.hlc_core.proofs.PastLemmas.{vacuum-above, vacuumed-low, writes-limits}
-use Rattle.hlc_core.proofs.Vacuums.{leaves-fewest}
+use Rattle.hlc_core.proofs.VacuumLemmas.{leaves-fewest}
 use Rattle.hlc_passes.specs.Pass.{Part, ArePass, left_by, together, report_of}
 use Rattle.hlc_passes.proofs.Halves.{Kind, AreHalves, not_first, not_second, same-within, count-halves}
 use Rattle.hlc_passes.proofs.Halves.{changes-together, cost-together}

@@ -4,5 +4,5 @@ mod Steady
 mod Stages
 mod Sizes
 mod Blocks
-pub mod Saves
+pub mod SaveLemmas
 mod Pieces

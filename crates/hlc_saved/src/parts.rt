@@ -52,8 +52,10 @@ impl PartsReader {
         end
     }
 
-    /// Makes room for `count` bytes, and drops those that were read.
+    /// Makes room for `count` bytes, and drops those that were read. All that can be read was read before, so that no
+    /// more than the incomplete part of a row is kept.
     pub fn make_room(&mut self, count: usize) -> Result<(), NoMemory>
+        requires { IsStuck self.old.stage (drop self.old.at self.old.pending.items) }
         ensures same { (more : List ℕ) → parts_left self.new more ≡ parts_left self.old more }
         ensures room { OnOk result
             (vec_len self.new.pending + count ≤ vec_capacity self.new.pending) }

@@ -1,5 +1,6 @@
 //! A checkpoint that is written whole, or in pieces.
-ghost use Rattle.std.specs.Prelude.{◌≡◌, ◌++◌, ◌∷◌, [], ℕ, List, IfOk, IfErr, OnOk, OnErr, length};
+ghost use Rattle.std.specs.Prelude.{◌≡◌, ◌≤◌, ◌+◌, ◌^◌, ◌++◌, ◌∷◌, [], ℕ, List};
+ghost use Rattle.std.specs.Prelude.{IfOk, IfErr, OnOk, OnErr, MatchResult, length};
 ghost use Rattle.std.specs.List.{flat_map};
 ghost use Rattle.hlc_node.specs.declared.row.Row.{Row as ARow};
 ghost use Rattle.hlc_witness.specs.Cost.{IsInLimits, AreInLimits};
@@ -55,8 +56,10 @@ pub(crate) fn encoded(
     Ok(out)
 }
 
-/// Returns the number of bytes of a frame with this many bytes in its body.
-fn whole_size(size: u64) -> Result<usize, NoMemory> {
+/// Returns the number of bytes of a frame with this many bytes in its body. Refused only where that is 2^64 or more.
+fn whole_size(size: u64) -> Result<usize, NoMemory>
+    ensures { MatchResult result (λ whole. whole ≡ size + 52) (λ _. 2 ^ 64 ≤ size + 52) }
+{
     let framed = size
         .checked_add((FRONT_BYTES + DIGEST_BYTES) as u64)
         .ok_or(NoMemory)?;

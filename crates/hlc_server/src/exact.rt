@@ -5,6 +5,7 @@ ghost use Rattle.std.proofs.Common.{rules, ap};
 ghost use Rattle.std.proofs.lemmas.Bool.Decides.{Decides-and, Decides-eqb};
 ghost use Rattle.std.proofs.lemmas.Grind.{common_steps};
 
+use crate::end::WorkEnd;
 use crate::entry::{Entry, NotDone, Receipt};
 use crate::settle::SettleFault;
 use hlc_values::Exact;
@@ -41,6 +42,12 @@ impl Exact for SettleFault {
     ghost use Rattle.std.proofs.Common.{rules};
     ghost use Rattle.std.proofs.lemmas.Grind.{common_steps};
 
+    ghost equal = { Prim.search (rules, common_steps) };
+
+    ghost copied = { Prim.search rules };
+}
+
+impl Exact for WorkEnd {
     ghost equal = { Prim.search (rules, common_steps) };
 
     ghost copied = { Prim.search rules };

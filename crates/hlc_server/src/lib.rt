@@ -4,6 +4,7 @@
 
 mod caller;
 mod calling;
+mod end;
 mod entry;
 mod exact;
 mod guarded;
@@ -17,6 +18,7 @@ mod writing;
 
 pub use caller::{Called, Caller};
 pub use calling::{step_guarded, vacuum_guarded, vacuum_to_guarded};
+pub use end::{Served, WorkEnd};
 pub use entry::{CallResult, Entry, NotDone, Receipt};
 pub use guarded::Guarded;
 pub use hlc_core::{Bytes, Core, CoreEvent, CoreReply, Item, Stamp};

@@ -4,7 +4,8 @@ ghost use Rattle.std.specs.Prelude.{if◌then◌else◌, All, IfOk, IfErr, IfSom
 ghost use Rattle.hlc_snapshot.specs.RegistryView.{IsRegister, IsRefusal, closed, opened_at, room_refusal};
 ghost use Rattle.hlc_snapshot.specs.RegistryView.{ids_rise, stamp_in, stamps, stamps_to};
 ghost use Rattle.hlc_clock.specs.Points.{ArePoints};
-ghost use Rattle.std.specs.Prelude.{AllPairs, nat_lt, false};
+ghost use Rattle.hlc_snapshot.specs.declared.snapshot.Snapshot.{Snapshot as ASnapshot};
+ghost use Rattle.std.specs.Prelude.{AllPairs, List, ◌-◌, nat_lt, false};
 ghost use Rattle.std.specs.List.Sorted.{IsPartitionPoint};
 
 use crate::fault::{NoSnapshot, SnapshotFault};
@@ -193,7 +194,10 @@ pub fn is_register(snapshots: &[Snapshot], opened: u64) -> bool
 
 /// Returns the position of a snapshot, assuming that no snapshot from the oldest open one to this one was closed: ids
 /// are assigned in order.
-fn place_after_oldest(snapshots: &[Snapshot], id: u64) -> usize {
+fn place_after_oldest(snapshots: &[Snapshot], id: u64) -> usize
+    ensures { (oldest : ASnapshot) (newer : List ASnapshot) → snapshots.now ≡ oldest ∷ newer
+        → result ≡ id - oldest.id }
+{
     match snapshots.first() {
         Some(oldest) => id.saturating_sub(oldest.id) as usize,
         None => 0,

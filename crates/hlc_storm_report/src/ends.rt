@@ -1,12 +1,11 @@
 //! How the workers of a storm ended, and what follows from that.
 ghost use Rattle.std.specs.Prelude.{◌≡◌, ◌≢◌, ◌∷◌, [], ◌++◌, false, true, None, Some, IfOk, IfErr, reverse};
 ghost use Rattle.std.proofs.Props.{props};
-ghost use Rattle.hlc_workers.specs.declared.end.WorkEnd.{WorkEnd, WorkEnd as AnEnd};
+ghost use Rattle.hlc_server.specs.declared.end.WorkEnd.{WorkEnd, WorkEnd as AnEnd};
 ghost use Rattle.hlc_storm_report.specs.Found.{MayRefuse};
 
 use crate::report::StormFault;
-use hlc_server::{Caller, Receipt};
-use hlc_workers::{Served, WorkEnd};
+use hlc_server::{Caller, Receipt, Served, WorkEnd};
 use std::alloc::Global;
 use std::sync::ledger::Ledger;
 

@@ -10,10 +10,9 @@ ghost use Rattle.hlc_storm_report.specs.Printed.{storm_text, storm_status};
 
 use crate::report::{StormFault, StormReport};
 use hlc_core::Pair;
-use hlc_server::{NotDone, SettleFault};
+use hlc_server::{NotDone, SettleFault, WorkEnd};
 use hlc_text::printer::Printer;
 use hlc_text::watched::Watched;
-use hlc_workers::WorkEnd;
 use std::io::Write;
 
 /// Prints what a storm found, or the one line that refuses it, and returns the exit status: 0 where the storm settled,

@@ -1,9 +1,8 @@
 //! What a storm found, and why it may have no report.
 
 use hlc_core::{Listing, Stamp};
-use hlc_server::SettleFault;
+use hlc_server::{SettleFault, WorkEnd};
 use hlc_values::NoMemory;
-use hlc_workers::WorkEnd;
 
 /// What a storm found, once its receipts settled.
 #[derive(Debug, Drop)]

@@ -20,7 +20,7 @@ use Rattle.hlc_witness.specs.Fewest.{Alike}
 use Rattle.hlc_vacuum.specs.Vacuumed.{rows_to, KeepsNewest}
 use Rattle.hlc_witness.specs.declared.witness.Witness.{Witness}
 use Rattle.hlc_witness.proofs.ChangeLemmas.{changes_force_rows}
-use Rattle.hlc_vacuum.proofs.Parts.{apart_rows, newest_in_part, none_in_part, answer-rows_to}
+use Rattle.hlc_vacuum.proofs.PartLemmas.{apart_rows, newest_in_part, none_in_part, answer-rows_to}
 use Rattle.hlc_witness.proofs.PlaceLemmas.{first_point, next_point, before_one, last_upper}
 use Rattle.hlc_columns.proofs.FlagLemmas.{filter-IsRowSet}
 

@@ -34,7 +34,7 @@ use Rattle.hlc_vacuum.specs.declared.part.PartPlan.{PartPlan}
 use Rattle.hlc_vacuum.specs.declared.report.Report.{Report}
 use Rattle.hlc_columns.proofs.FlagLemmas.{flagged-none, flagged-append, flagged-map, flagged-IsRowSet}
 use Rattle.hlc_columns.proofs.FlagLemmas.{flagged-Contains}
-use Rattle.hlc_columns.proofs.Found.{other_key}
+use Rattle.hlc_columns.proofs.FoundLemmas.{other_key}
 
 -- a row of another key is kept
 kept_passes : (key : List ℕ) (flags : List Bool) (row : Row) (rows : List Row) → bytes_eq row.key key ≡ false

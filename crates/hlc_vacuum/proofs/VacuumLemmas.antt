@@ -12,7 +12,7 @@ use Rattle.hlc_witness.specs.declared.witness.Witness.{Witness}
 use Rattle.hlc_witness.proofs.ChangeLemmas.{changes_force_rows}
 use Rattle.hlc_witness.proofs.CostLemmas.{fewest_rows_cost, fewest_rows_are_cheapest}
 use Rattle.hlc_vacuum.proofs.Kept.{kept_alike, low_count}
-use Rattle.hlc_vacuum.proofs.Parts.{answer-rows_to}
+use Rattle.hlc_vacuum.proofs.PartLemmas.{answer-rows_to}
 use Rattle.hlc_witness.proofs.PlaceLemmas.{last_upper}
 
 -- the newest row at each change, all above the last point, and no other

@@ -17,7 +17,7 @@ use Rattle.hlc_witness.specs.Certificate.{RowsAscend, row_cmp}
 use Rattle.hlc_witness.specs.Changes.{ChangesAscend, change_cmp}
 use Rattle.hlc_witness.specs.Reasons.{IsAbove}
 use Rattle.hlc_witness.specs.declared.witness.Witness.{Witness}
-use Rattle.hlc_witness.proofs.Listed.{sorted_append}
+use Rattle.hlc_witness.proofs.ListedLemmas.{sorted_append}
 use Rattle.hlc_witness.proofs.Orders.{change_cmp_total, row_cmp_total}
 
 pub rows_from_neighbours : (rows : List Row)

@@ -20,7 +20,7 @@ use Rattle.hlc_witness.specs.declared.witness.Witness.{Witness}
 use Rattle.hlc_witness.proofs.Computed.{keys_sorted, keys_every}
 use Rattle.hlc_witness.proofs.Forced.{Serves, forced, serves_once, apart}
 use Rattle.hlc_witness.proofs.Orders.{change_cmp_total}
-use Rattle.hlc_witness.proofs.Listed.{all_from, change_has_row, changes_each, changes_every, changes_sorted}
+use Rattle.hlc_witness.proofs.ListedLemmas.{all_from, change_has_row, changes_each, changes_every, changes_sorted}
 
 pub changes_force_rows : (all others : List Row) (points : List ℕ) (changes : List Witness)
     → ChangesAscend changes → All (IsChange all points) changes → Alike others all points

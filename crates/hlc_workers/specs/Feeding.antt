@@ -12,8 +12,8 @@ use Rattle.hlc_core.specs.declared.reply.CoreReply.{CoreReply}
 use Rattle.hlc_core.specs.declared.reply.CoreReply.TheVariants.{Accepted}
 use Rattle.hlc_server.specs.declared.entry.Receipt.{Receipt}
 use Rattle.hlc_workers.specs.declared.session.Work.{Work}
-use Rattle.hlc_workers.specs.declared.end.WorkEnd.{WorkEnd}
-use Rattle.hlc_workers.specs.declared.end.WorkEnd.TheVariants.{Done, Held, Closed}
+use Rattle.hlc_server.specs.declared.end.WorkEnd.{WorkEnd}
+use Rattle.hlc_server.specs.declared.end.WorkEnd.TheVariants.{Done, Held, Closed}
 use Rattle.hlc_workers.specs.Paid.{event_of, HasCalled, HasStayed}
 
 -- the call that passes an item to the store

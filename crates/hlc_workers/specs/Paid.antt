@@ -6,8 +6,8 @@ use Rattle.hlc_core.specs.declared.event.CoreEvent.{CoreEvent}
 use Rattle.hlc_server.specs.declared.entry.Receipt.{Receipt}
 use Rattle.hlc_server.specs.Seats.{CallerView}
 use Rattle.hlc_workers.specs.declared.session.Work.{Work}
-use Rattle.hlc_workers.specs.declared.end.WorkEnd.{WorkEnd}
-use Rattle.hlc_workers.specs.declared.end.WorkEnd.TheVariants.{Done, Held, Closed}
+use Rattle.hlc_server.specs.declared.end.WorkEnd.{WorkEnd}
+use Rattle.hlc_server.specs.declared.end.WorkEnd.TheVariants.{Done, Held, Closed}
 
 -- the call of a receipt
 abbrev pub event_of : Receipt → CoreEvent

@@ -2,15 +2,8 @@
 ghost use Rattle.std.proofs.Common.{rules};
 ghost use Rattle.std.proofs.lemmas.Grind.{common_steps};
 
-use crate::end::WorkEnd;
 use crate::gate::FreeGate;
 use hlc_values::Exact;
-
-impl Exact for WorkEnd {
-    ghost equal = { Prim.search (rules, common_steps) };
-
-    ghost copied = { Prim.search rules };
-}
 
 impl Exact for FreeGate {
     ghost equal = { Prim.search (rules, common_steps) };

@@ -4,13 +4,12 @@ ghost use Rattle.std.specs.Option.{option_map};
 ghost use Rattle.hlc_workers.specs.Paid.{IsPaid};
 ghost use Rattle.hlc_workers.specs.Feeding.{TookAll, FedOne, FedNone, fed_by, fed_all};
 
-use crate::end::WorkEnd;
 use crate::gate::Gate;
 use crate::session::{Session, Work};
 use hlc_core::{CoreEvent, CoreReply, Item};
 use hlc_floor::{Board, Feeder};
 use hlc_link::{LinkReceiver, Parcel};
-use hlc_server::{Caller, Receipt, Shared};
+use hlc_server::{Caller, Receipt, Shared, WorkEnd};
 use std::alloc::Global;
 use std::sync::Wait;
 use std::sync::ledger::Ledger;

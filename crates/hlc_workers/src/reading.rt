@@ -4,12 +4,12 @@ ghost use Rattle.hlc_core.specs.declared.event.CoreEvent.TheVariants.{Read as AR
 ghost use Rattle.hlc_workers.specs.Paid.{IsPaid, MadeSome, event_of};
 ghost use Rattle.hlc_workers.specs.Rounds.{reads_of, IsRound, AtFloor, HasServed};
 
-use crate::end::WorkEnd;
+use crate::end::end_of;
 use crate::gate::Gate;
 use crate::session::{Opening, Session, Work};
 use hlc_core::{Bytes, CoreEvent, Stamp};
 use hlc_floor::{Board, FloorPass};
-use hlc_server::{Caller, NotDone, Receipt, Shared};
+use hlc_server::{Caller, NotDone, Receipt, Shared, WorkEnd};
 use std::alloc::Global;
 use std::sync::Wait;
 use std::sync::ledger::Ledger;
@@ -129,7 +129,7 @@ pub fn serve_reader<L: Ledger, G: Gate, R: Wait>(
 {
     let mut pass = pass;
     let mut session = Session::new(rt, alloc, shared, caller, gate);
-    let end = WorkEnd::of(session.make_rounds(board, &mut pass, keys, rounds));
+    let end = end_of(session.make_rounds(board, &mut pass, keys, rounds));
     let Work { caller, receipts } = session.work;
     Reader {
         caller,

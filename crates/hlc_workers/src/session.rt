@@ -4,10 +4,9 @@ ghost use Rattle.std.specs.Prelude.{IfErr, OnOk};
 ghost use Rattle.hlc_workers.specs.Paid.{MadeOne};
 ghost use Rattle.hlc_workers.specs.Rounds.{IsOpening, opening_of};
 
-use crate::end::WorkEnd;
 use crate::gate::Gate;
 use hlc_core::{CoreEvent, CoreFault, CoreReply};
-use hlc_server::{Caller, NotDone, Receipt, Shared};
+use hlc_server::{Caller, NotDone, Receipt, Shared, WorkEnd};
 use std::alloc::Global;
 use std::sync::Wait;
 use std::sync::ledger::Ledger;

@@ -3,23 +3,15 @@ ghost use Rattle.std.specs.Prelude.{◌≡◌, ◌≢◌, ◌<◌, ℕ, map, rep
 ghost use Rattle.hlc_core.specs.declared.event.CoreEvent.{CoreEvent as AnEvent};
 ghost use Rattle.hlc_workers.specs.Paid.{IsPaid, MadeOne, MadeSome, event_of};
 
-use crate::end::WorkEnd;
+use crate::end::end_of;
 use crate::gate::Gate;
 use crate::session::{Session, Work};
 use hlc_core::CoreEvent;
-use hlc_server::{Caller, Receipt, Shared};
+use hlc_server::{Caller, Served, Shared, WorkEnd};
 use std::alloc::Global;
 use std::sync::Wait;
 use std::sync::ledger::Ledger;
 use std::thread::Threads;
-
-/// What the worker of the vacuum returns: its caller, its receipts in the order of its calls, and how it ended.
-#[derive(Drop)]
-pub struct Served<L: Ledger> {
-    pub caller: Caller<L>,
-    pub receipts: Vec<Receipt>,
-    pub end: WorkEnd,
-}
 
 impl<L: Ledger, G: Gate, R: Wait + Threads + Sync> Session<'_, L, G, R> {
     /// Makes one vacuum.
@@ -75,7 +67,7 @@ pub fn serve_vacuum<L: Ledger, G: Gate, R: Wait + Threads + Sync>(
         → G.may_answer gate.now turn true }
 {
     let mut session = Session::new(rt, alloc, shared, caller, gate);
-    let end = WorkEnd::of(session.vacuum_often(times));
+    let end = end_of(session.vacuum_often(times));
     let Work { caller, receipts } = session.work;
     Served {
         caller,

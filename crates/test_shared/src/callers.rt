@@ -1,7 +1,7 @@
 //! The small callers in the READMEs of `hlc_link`, `hlc_floor`, `hlc_server` and `hlc_workers`, with what they rely on.
 ghost use Rattle.std.specs.Prelude.{◌≡◌, ◌↔◌, ◌+◌, ◌<◌, ◌≤◌, ℕ, length, slice_index};
 ghost use Rattle.std.specs.Prelude.{IsTrue, IfOk, IfSome};
-ghost use Rattle.hlc_workers.specs.declared.end.WorkEnd.{WorkEnd};
+ghost use Rattle.hlc_server.specs.declared.end.WorkEnd.{WorkEnd};
 
 use hlc_clock::Stamp;
 use hlc_floor::{Board, FloorPass};

@@ -80,7 +80,7 @@ struct Counting {
 impl Write for Counting {
     fn write(&mut self, buf: &[u8]) -> io::Result<usize> {
         self.blocks = self.blocks.saturating_add(1);
-        if buf.len() < 4096 {
+        if buf.len() < 8192 {
             self.small = self.small.saturating_add(1);
         }
         Ok(buf.len())
@@ -255,22 +255,47 @@ fn the_longest_input(rt: HostRuntime) {
     }
 }
 
+/// Runs a script, and returns how many blocks were written, and how many of them had fewer than 8,192 bytes.
+fn blocks_of<H: AllocGlobal + Abort>(rt: &H, text: &[u8]) -> (u64, u64) {
+    let mut reader = Watched::new(Giving::whole(text));
+    let mut writer = Watched::new(Counting {
+        blocks: 0,
+        small: 0,
+    });
+    let end = run_script(rt.alloc(), &mut reader, &mut writer);
+    assert_eq!(rt; end.status(), 0);
+    let Counting { blocks, small } = writer.into_inner();
+    (blocks, small)
+}
+
 #[test]
 fn replies_leave_in_blocks(rt: HostRuntime) -> Result<(), Fail> {
     let mut text = Vec::from_slice(rt.alloc(), b"nodes 1\n")?;
     for _ in 0..3000 {
         text.extend_from_slice(b"write 0 5 a x\n")?;
     }
-    let mut reader = Watched::new(Giving::whole(text.as_slice()));
-    let mut writer = Watched::new(Counting {
-        blocks: 0,
-        small: 0,
-    });
-    let end = run_script(rt.alloc(), &mut reader, &mut writer);
-    let Counting { blocks, small } = writer.into_inner();
-    assert_eq!(rt; end.status(), 0);
+    let (blocks, small) = blocks_of(&rt, text.as_slice());
     assert!(rt;
         2 <= blocks && blocks <= 16 && small <= 1,
+        "{blocks} {small}"
+    );
+    Ok(())
+}
+
+/// Values longer than a block, between short replies.
+#[test]
+fn long_values_leave_in_blocks(rt: HostRuntime) -> Result<(), Fail> {
+    let mut text = Vec::from_slice(rt.alloc(), b"nodes 1\nwrite 0 5 a ")?;
+    for _ in 0..9000 {
+        text.push(b'x')?;
+    }
+    text.extend_from_slice(b"\ndeliver 0 0\nopen floor\n")?;
+    for _ in 0..20 {
+        text.extend_from_slice(b"floor\nread 1 a\n")?;
+    }
+    let (blocks, small) = blocks_of(&rt, text.as_slice());
+    assert!(rt;
+        20 <= blocks && blocks <= 41 && small <= 1,
         "{blocks} {small}"
     );
     Ok(())

@@ -6,7 +6,7 @@ use Rattle.hlc_columns.specs.Parts.{new_row}
 use Rattle.hlc_columns.specs.Cells.{value_bytes}
 use Rattle.hlc_columns.specs.Sizes.{sizes_of, with_row, with_key}
 use Rattle.hlc_columns.specs.Table.{indexed_rows}
-use Rattle.hlc_columns.proofs.Found.{test}
+use Rattle.hlc_columns.proofs.FoundLemmas.{test}
 use Rattle.hlc_columns.proofs.Inserted.{all_inserted, added_as}
 use Rattle.hlc_columns.proofs.SizeLemmas.{sizes_added}
 use Rattle.hlc_columns.proofs.putting.add_column.Goals as goal

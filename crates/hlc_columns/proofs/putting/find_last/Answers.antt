@@ -2,7 +2,7 @@
 use Rattle.std.proofs.Common.{◌-◌, ◌∙◌, ap, sym, arith, length, [], get_or}
 use Rattle.std.specs.Ordering.{is_eq}
 use Rattle.hlc_index.specs.Entries.{keys_in, entries_in}
-use Rattle.hlc_columns.proofs.Found.{same_key}
+use Rattle.hlc_columns.proofs.FoundLemmas.{same_key}
 use Rattle.hlc_columns.proofs.Last.{key_read, last_entry, above_last}
 use Rattle.hlc_columns.proofs.putting.find_last.Goals as goal
 

@@ -5,7 +5,7 @@ use Rattle.std.proofs.lemmas.Result.{on_ok_weaker, on_err_weaker}
 use Rattle.hlc_index.specs.Entries.{entries_in, keys_in, with_value_in, IsEntryAt}
 use Rattle.hlc_index.proofs.EntryLemmas.{entry_found, entry_written}
 use Rattle.hlc_columns.specs.Table.{indexed_rows}
-use Rattle.hlc_columns.proofs.Found.{test}
+use Rattle.hlc_columns.proofs.FoundLemmas.{test}
 use Rattle.hlc_columns.proofs.Inserted.{all_set, found_some, pushed_as, kept_as, same_set}
 use Rattle.hlc_columns.proofs.SizeLemmas.{sizes_pushed}
 use Rattle.hlc_columns.proofs.putting.push_at.Goals as goal

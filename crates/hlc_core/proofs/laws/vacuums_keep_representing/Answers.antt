@@ -1,5 +1,5 @@
 -- The remaining stored rows are a vacuum of all accepted ones.
-use Rattle.hlc_core.proofs.Vacuums.{vacuums}
+use Rattle.hlc_core.proofs.VacuumLemmas.{vacuums}
 use Rattle.hlc_core.proofs.laws.vacuums_keep_representing.Goals as goal
 
 pub returns : goal.returns

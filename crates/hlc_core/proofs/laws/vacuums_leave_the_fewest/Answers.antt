@@ -1,5 +1,5 @@
 -- The report counts the remaining rows.
-use Rattle.hlc_core.proofs.Vacuums.{leaves-fewest}
+use Rattle.hlc_core.proofs.VacuumLemmas.{leaves-fewest}
 use Rattle.hlc_core.proofs.laws.vacuums_leave_the_fewest.Goals as goal
 
 pub returns : goal.returns

@@ -2,7 +2,7 @@
 use Rattle.std.proofs.Common.{sym, subst}
 use Rattle.hlc_saved.specs.declared.reader.CheckpointReader.{CheckpointReader}
 use Rattle.hlc_saved.specs.Blocks.{HasRead}
-use Rattle.hlc_saved.proofs.Saves.{resumed_word, resumed_represents, resumed_only}
+use Rattle.hlc_saved.proofs.SaveLemmas.{resumed_word, resumed_represents, resumed_only}
 use Rattle.hlc_calls.proofs.ResumedLemmas.{is_made, is_past}
 use Rattle.hlc_ffi.proofs.Openings.{restores, restores_past}
 use Rattle.hlc_ffi.proofs.pieces.hlc_restore_finish.Goals as goal

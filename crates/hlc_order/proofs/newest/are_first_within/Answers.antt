@@ -2,7 +2,7 @@
 use Rattle.std.proofs.Common.{◌≡◌, ◌∙◌, ◌≤◌, ◌<◌, ◌-◌, length, get_or, ap, sym, subst, arith}
 use Rattle.std.proofs.lemmas.Bool.{ltb-true, leb-true}
 use Rattle.std.proofs.lemmas.List.{get_or_default}
-use Rattle.hlc_order.proofs.Places.{first_within}
+use Rattle.hlc_order.proofs.PlaceLemmas.{first_within}
 use Rattle.hlc_order.proofs.newest.are_first_within.Goals as goal
 
 pub returns-in-Some-clause-within : goal.returns-in-Some-clause-within

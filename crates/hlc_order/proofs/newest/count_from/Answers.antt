@@ -1,6 +1,6 @@
 -- The count is found at the first row above the bound, or at the end.
 use Rattle.std.proofs.Common.{◌≤◌, ◌<◌, arith, length, subst}
-use Rattle.hlc_order.proofs.Places.{point_after, within_more}
+use Rattle.hlc_order.proofs.PlaceLemmas.{point_after, within_more}
 use Rattle.hlc_order.proofs.newest.count_from.Goals as goal
 
 pub loop-count-preserved : goal.loop-count-preserved

@@ -2,8 +2,8 @@
 use Rattle.std.proofs.Common.{◌≡◌, ℕ, get_or, rules, leb, true, false, length, arith}
 use Rattle.std.specs.List.Sorted.{IsPartitionPoint}
 use Rattle.std.proofs.lemmas.List.Sorted.{IsPartitionPoint-from_clause}
-use Rattle.hlc_order.proofs.Places.{stamps_partitioned, all_indexed}
-use Rattle.hlc_order.proofs.Counted.{index_counted}
+use Rattle.hlc_order.proofs.PlaceLemmas.{stamps_partitioned, all_indexed}
+use Rattle.hlc_order.proofs.CountLemmas.{index_counted}
 use Rattle.hlc_order.proofs.newest.count_indexed.Goals as goal
 
 pub returns-then-is_last_within : goal.returns-then-is_last_within

@@ -1,7 +1,7 @@
 -- Stamps ascend along the index, so the rows at or below the bound come first, and the last of them is above all
 -- others.
 use Rattle.std.proofs.Common.{arith}
-use Rattle.hlc_order.proofs.Places.{none_indexed, last_indexed}
+use Rattle.hlc_order.proofs.PlaceLemmas.{none_indexed, last_indexed}
 use Rattle.hlc_order.proofs.newest.newest_of_first.Goals as goal
 
 pub returns-then-count-eq0 : goal.returns-then-count-eq0

@@ -3,7 +3,7 @@ use Rattle.std.proofs.Common.{◌≡◌, ℕ, get_or, rules, arith, ltb, true, f
 use Rattle.std.proofs.lemmas.Bool.Decides.{nat_tests}
 use Rattle.std.specs.List.Sorted.{IsPartitionPoint}
 use Rattle.std.proofs.lemmas.List.Sorted.{IsPartitionPoint-from_clause}
-use Rattle.hlc_order.proofs.Places.{stamps_partitioned_below}
+use Rattle.hlc_order.proofs.PlaceLemmas.{stamps_partitioned_below}
 use Rattle.hlc_order.proofs.order.count_below.Goals as goal
 use Rattle.hlc_order.proofs.order.count_below.Goals.{After-partition_point}
 

@@ -7,7 +7,7 @@ use Rattle.std.proofs.lemmas.Bool.{lt-leb}
 use Rattle.std.proofs.lemmas.Fn.{always_returns_same}
 use Rattle.std.proofs.lemmas.List.Sorted.{length_permutation, ranks_by}
 use Rattle.hlc_order.specs.Order.{place_cmp}
-use Rattle.hlc_order.proofs.Places.{sorted_index, numbered_below, numbered_every, place_order}
+use Rattle.hlc_order.proofs.PlaceLemmas.{sorted_index, numbered_below, numbered_every, place_order}
 use Rattle.hlc_order.proofs.order.index_again.Goals as goal
 
 pub returns-clause-index : goal.returns-clause-index

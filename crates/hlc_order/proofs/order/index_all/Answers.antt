@@ -4,7 +4,7 @@ use Rattle.std.proofs.Common.{◌≡◌, ◌≤◌, ◌<◌, ◌∙◌, ℕ, Lis
 use Rattle.std.proofs.lemmas.List.{length-drop}
 use Rattle.std.proofs.lemmas.List.Sorted.{length_permutation}
 use Rattle.hlc_order.specs.Order.{IsIndex, IsNumbered}
-use Rattle.hlc_order.proofs.Places.{numbered_front, tail_index}
+use Rattle.hlc_order.proofs.PlaceLemmas.{numbered_front, tail_index}
 use Rattle.hlc_order.proofs.order.index_all.Goals as goal
 
 pub count_below-from-requires : goal.count_below-from-requires

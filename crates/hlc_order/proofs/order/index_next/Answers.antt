@@ -5,7 +5,7 @@ use Rattle.std.specs.Prelude.{is_ok}
 use Rattle.std.proofs.lemmas.List.{get_or_default}
 use Rattle.hlc_order.specs.Newest.{NotAbove}
 use Rattle.hlc_order.specs.Order.{IsIndex}
-use Rattle.hlc_order.proofs.Places.{pushed_index}
+use Rattle.hlc_order.proofs.PlaceLemmas.{pushed_index}
 use Rattle.hlc_order.proofs.order.index_next.Goals as goal
 
 pub returns-then-is_below : goal.returns-then-is_below

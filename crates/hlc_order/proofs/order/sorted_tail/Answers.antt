@@ -4,7 +4,7 @@ use Rattle.std.specs.Ordering.{is_lt}
 use Rattle.std.proofs.lemmas.Fn.{always_returns_same}
 use Rattle.std.proofs.lemmas.List.Sorted.{ranks_by}
 use Rattle.hlc_order.specs.Order.{place_cmp}
-use Rattle.hlc_order.proofs.Places.{sorted_rises, place_order}
+use Rattle.hlc_order.proofs.PlaceLemmas.{sorted_rises, place_order}
 use Rattle.hlc_order.proofs.order.sorted_tail.Goals as goal
 
 pub returns-clause-rises : goal.returns-clause-rises

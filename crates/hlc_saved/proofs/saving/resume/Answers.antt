@@ -1,5 +1,5 @@
 -- The bytes are the encoding of one word and one checkpoint.
-use Rattle.hlc_saved.proofs.Saves.{resumed_word, resumed_represents, resumed_only}
+use Rattle.hlc_saved.proofs.SaveLemmas.{resumed_word, resumed_represents, resumed_only}
 use Rattle.hlc_saved.proofs.saving.resume.Goals as goal
 
 pub returns-clause-word : goal.returns-clause-word

@@ -6,7 +6,7 @@ use Rattle.hlc_core.specs.Past.{Step}
 use Rattle.hlc_core.specs.StoreView.{StoreView, nodes, Represents}
 use Rattle.hlc_core.specs.History.{IsLegalHistory, past_of}
 use Rattle.hlc_server.specs.declared.settle.SettleFault.TheVariants.{NoTrail}
-use Rattle.hlc_workers.specs.declared.end.WorkEnd.TheVariants.{Done}
+use Rattle.hlc_server.specs.declared.end.WorkEnd.TheVariants.{Done}
 use Rattle.hlc_words.specs.declared.plan.StormPlan.{StormPlan}
 use Rattle.hlc_storm_report.specs.declared.report.StormReport.{StormReport}
 use Rattle.hlc_storm_report.specs.declared.report.StormFault.{StormFault}

@@ -5,7 +5,7 @@ use Rattle.std.proofs.lemmas.Map.Entries.{All-lookup}
 use Rattle.hlc_index.specs.Entries.{entries_in, is_key}
 use Rattle.hlc_columns.specs.Cells.{Cell}
 use Rattle.hlc_columns.specs.Rows.{rows_of, rows_with}
-use Rattle.hlc_columns.proofs.Found.{cells_in, rows_in_table, found_absent}
+use Rattle.hlc_columns.proofs.FoundLemmas.{cells_in, rows_in_table, found_absent}
 use Rattle.hlc_columns.proofs.table.Table.column.Goals as goal
 use Rattle.hlc_columns.proofs.table.Table.column.Goals.{After-get}
 

@@ -1,6 +1,6 @@
 -- As for `restore`: the new core has the state of the checkpoint, with its rows in another order.
 use Rattle.std.proofs.Common.{refl, IsPermutation}
-use Rattle.hlc_core.proofs.Checkpoints.{copy-represents}
+use Rattle.hlc_core.proofs.CheckpointLemmas.{copy-represents}
 use Rattle.hlc_checkpoint.proofs.CheckpointLemmas.{restored}
 use Rattle.hlc_core.proofs.store.Core.from_checkpoint.Goals as goal
 

@@ -2,7 +2,7 @@
 use Rattle.std.specs.List.Sorted.{IsStrictlySortedBy}
 use Rattle.std.proofs.Common.{subst, sym}
 use Rattle.hlc_index.specs.Entries.{key_cmp, keys_in}
-use Rattle.hlc_index.proofs.Removed.{ascend_removed}
+use Rattle.hlc_index.proofs.RemovalLemmas.{ascend_removed}
 use Rattle.hlc_index.proofs.index.Index.remove.Goals as goal
 
 pub invariant_of-self : goal.invariant_of-self

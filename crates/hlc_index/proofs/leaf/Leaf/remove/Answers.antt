@@ -1,5 +1,5 @@
 -- Heads and keys lose the same position.
-use Rattle.hlc_index.proofs.Removed.{leaf_without}
+use Rattle.hlc_index.proofs.RemovalLemmas.{leaf_without}
 use Rattle.hlc_index.proofs.leaf.Leaf.remove.Goals as goal
 
 pub invariant_of-self : goal.invariant_of-self

@@ -4,7 +4,7 @@ use Rattle.hlc_index.specs.Head.{head_of, AreBytes}
 use Rattle.hlc_index.specs.Entries.{first_key}
 use Rattle.hlc_index.proofs.Heads.{length_keys}
 use Rattle.hlc_index.proofs.Tops.{leaves_set, leaves_kept}
-use Rattle.hlc_index.proofs.Removed.{leaves_without, read_back, first_stays, entries_removed}
+use Rattle.hlc_index.proofs.RemovalLemmas.{leaves_without, read_back, first_stays, entries_removed}
 use Rattle.hlc_index.proofs.leaves.Leaves.remove.Goals as goal
 
 pub invariant_of-self : goal.invariant_of-self

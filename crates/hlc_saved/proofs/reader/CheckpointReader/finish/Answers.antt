@@ -3,7 +3,7 @@ use Rattle.std.proofs.Common.{[], sym, subst, ◌∙◌}
 use Rattle.hlc_wire.specs.Reading.{Fails, whole}
 use Rattle.hlc_saved.specs.Blocks.{parts_left}
 use Rattle.hlc_saved.proofs.Blocks.{saved_ok, saved_err}
-use Rattle.hlc_saved.proofs.Saves.{resumes}
+use Rattle.hlc_saved.proofs.SaveLemmas.{resumes}
 use Rattle.hlc_saved.proofs.reader.CheckpointReader.finish.Goals as goal
 
 pub returns-in-Err-Fault : goal.returns-in-Err-Fault

@@ -2,7 +2,8 @@
 ghost use Rattle.std.specs.Prelude.{not};
 ghost use Rattle.std.proofs.Common.{nat_eq};
 
-use crate::{Bytes, Filled, Index};
+use crate::callers::add_new;
+use hlc_index::{Bytes, Filled, Index};
 use std::alloc::{AllocError, AllocFailed, Global};
 use std::collections::BTreeMap;
 
@@ -184,4 +185,17 @@ fn are_filled(alloc: Global) -> Result<(bool, bool), AllocFailed<Count>> {
 #[test]
 fn a_box_is_filled_as_its_value_is(rt: HostRuntime) {
     assert!(rt; are_filled(rt.alloc()).is_ok_and(|filled| filled == (false, true)));
+}
+
+/// Returns whether a key is added once, and keeps its first value.
+fn is_added_once(alloc: Global) -> Result<bool, AllocFailed<(Bytes, u64)>> {
+    let mut index = Index::new(alloc);
+    let first = add_new(&mut index, Bytes::from_vec(Vec::new(alloc)), 1)?;
+    let second = add_new(&mut index, Bytes::from_vec(Vec::new(alloc)), 2)?;
+    Ok(first && !second && index.get(b"") == Some(&1))
+}
+
+#[test]
+fn a_key_is_added_once(rt: HostRuntime) {
+    assert!(rt; is_added_once(rt.alloc()).is_ok_and(|is_added| is_added));
 }

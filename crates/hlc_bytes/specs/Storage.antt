@@ -1,9 +1,9 @@
 -- Where the bytes of a key or a value are stored.
 use Rattle.std.specs.Prelude.{ℕ, List, Option, Some, None}
-use Rattle.hlc_node.specs.declared.bytes.Storage.{Storage}
-use Rattle.hlc_node.specs.declared.bytes.Storage.TheVariants.{Here, There}
-use Rattle.hlc_node.specs.declared.mark.StorageOrMark.{StorageOrMark}
-use Rattle.hlc_node.specs.declared.mark.StorageOrMark.TheVariants as marked
+use Rattle.hlc_bytes.specs.declared.bytes.Storage.{Storage}
+use Rattle.hlc_bytes.specs.declared.bytes.Storage.TheVariants.{Here, There}
+use Rattle.hlc_bytes.specs.declared.mark.StorageOrMark.{StorageOrMark}
+use Rattle.hlc_bytes.specs.declared.mark.StorageOrMark.TheVariants as marked
 
 -- the bytes, wherever they are stored
 abbrev pub bytes_of : Storage → List ℕ

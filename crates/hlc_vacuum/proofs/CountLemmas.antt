@@ -10,7 +10,7 @@ use Rattle.hlc_node.specs.declared.row.Row.{Row}
 use Rattle.hlc_columns.proofs.FlagLemmas.{filter-IsRowSet}
 use Rattle.hlc_vacuum.specs.Representing.{count_above}
 use Rattle.hlc_vacuum.specs.Vacuumed.{rows_to}
-use Rattle.hlc_vacuum.proofs.Parts.{apart_rows}
+use Rattle.hlc_vacuum.proofs.PartLemmas.{apart_rows}
 
 -- a list is its rows at or below a bound and its rows above it
 pub split_count : (bound : ℕ) (rows : List Row) → length rows ≡ length (rows_to bound rows) + count_above bound rows

@@ -24,7 +24,7 @@ enum StorageOrMark {
 impl Model for ValueOrMark {
     ghost use Rattle.std.specs.Prelude.{Option, List, ℕ};
     ghost use Rattle.std.specs.Coded.{coded_option, coded_list, coded_ℕ};
-    ghost use Rattle.hlc_node.specs.Storage.{value_of};
+    ghost use Rattle.hlc_bytes.specs.Storage.{value_of};
 
     ghost Value = { Option (List ℕ) };
 

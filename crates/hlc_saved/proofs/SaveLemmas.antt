@@ -11,7 +11,7 @@ use Rattle.hlc_core.specs.StoreView.{StoreView, Represents}
 use Rattle.hlc_checkpoint.specs.Checkpoint.{IsCheckpoint, IsCopyOf, IsFirstReason}
 use Rattle.hlc_checkpoint.specs.declared.checkpoint.RestoreFault.{RestoreFault}
 use Rattle.hlc_checkpoint.specs.declared.checkpoint.RestoreFault.TheVariants as reasons
-use Rattle.hlc_core.proofs.Checkpoints.{copy-represents}
+use Rattle.hlc_core.proofs.CheckpointLemmas.{copy-represents}
 use Rattle.hlc_wire.specs.declared.fault.WireFault.{WireFault}
 use Rattle.hlc_wire.specs.declared.fault.DecodeError.{DecodeError}
 use Rattle.hlc_wire.specs.Reading.{◌>>=◌, Gives, whole}

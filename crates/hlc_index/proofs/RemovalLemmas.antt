@@ -16,7 +16,7 @@ use Rattle.hlc_index.specs.Entries.{entries_before, entries_from}
 use Rattle.hlc_index.proofs.LeafLemmas.{IsLeaf}
 use Rattle.hlc_index.proofs.Tops.{AreLeaves}
 use Rattle.hlc_index.proofs.Joined.{joined_set}
-use Rattle.hlc_index.proofs.Slots.{itself, other}
+use Rattle.hlc_index.proofs.SlotLemmas.{itself, other}
 use Rattle.hlc_index.proofs.Sought.{parted}
 
 -- a list without the member at a position

@@ -6,7 +6,7 @@ ghost use Rattle.std.specs.Cmp.Lexicographic.{lists_per, lists_equiv};
 ghost use Rattle.std.specs.Iterator.Runs.{EveryRun, ItemsMapTo};
 ghost use Rattle.std.specs.Slice.Iter.{iter_rest, iter_steps};
 ghost use Rattle.std.specs.Str.{bytes_eq};
-ghost use Rattle.hlc_node.specs.Storage.{bytes_of};
+ghost use Rattle.hlc_bytes.specs.Storage.{bytes_of};
 
 use crate::short::{MOST_SHORT_BYTES, Short};
 use hlc_values::NoMemory;
@@ -34,7 +34,7 @@ pub(crate) enum Storage {
 impl Model for Bytes {
     ghost use Rattle.std.specs.Prelude.{List, ℕ};
     ghost use Rattle.std.specs.Coded.{coded_list, coded_ℕ};
-    ghost use Rattle.hlc_node.specs.Storage.{bytes_of};
+    ghost use Rattle.hlc_bytes.specs.Storage.{bytes_of};
 
     ghost Value = { List ℕ };
 

@@ -1,6 +1,6 @@
 //! What contracts do not see of bytes: their size in memory, and which of them keep their vector.
-use crate::bytes::Bytes;
-use crate::mark::ValueOrMark;
+use crate::callers::short_copy;
+use hlc_bytes::{Bytes, ValueOrMark};
 use std::mem::size_of;
 use std::test::Fail;
 
@@ -40,4 +40,10 @@ fn equal_however_stored(rt: HostRuntime) -> Result<(), Fail> {
         assert_eq!(rt; copy.into_vec(rt.alloc())?.as_slice(), letters);
     }
     Ok(())
+}
+
+#[test]
+fn a_short_key_is_copied(rt: HostRuntime) {
+    let copy = short_copy(rt.alloc(), b"river");
+    assert!(rt; copy.is_some_and(|bytes| bytes.as_slice() == b"river"));
 }

@@ -1,0 +1,11 @@
+//! The bytes of a key or a value, stored in place where they are few.
+#![tactic(auto)]
+
+mod bytes;
+mod exact;
+mod mark;
+mod short;
+
+pub use bytes::{Bytes, value_slice};
+pub use mark::ValueOrMark;
+pub use short::{MOST_SHORT_BYTES, most_short_bytes_are_22};
