@@ -9,7 +9,6 @@ ghost use Rattle.hlc_server.specs.declared.end.WorkEnd.{WorkEnd};
 ghost use Rattle.hlc_workers.specs.Paid.{IsPaid, event_of};
 ghost use Rattle.hlc_workers.specs.Feeding.{TookAll, fed_all};
 ghost use Rattle.hlc_workers.specs.Rounds.{HasServed};
-ghost use Rattle.hlc_storm.specs.declared.working.TheConstants.{ROUNDS};
 
 use hlc_core::Bytes;
 use hlc_floor::{Board, Feeder, FloorPass};
@@ -96,7 +95,7 @@ pub(crate) fn read_keys<L: Ledger, G: Gate, R: Wait>(
 ) -> Served<L>
     ensures share { IsPaid place.entry.caller result.caller result.receipts.items }
     ensures done { result.end ≡ WorkEnd.Done
-        → (pass : FloorPassView) × HasServed keys.now ROUNDS place.entry.pass pass result.receipts.items }
+        → (pass : FloorPassView) × HasServed keys.now 16 place.entry.pass pass result.receipts.items }
     ensures stopped { result.end ≡ WorkEnd.Held
         → G.may_answer gate.now (vec_len result.receipts) false }
     ensures open { result.end ≢ WorkEnd.Closed }
@@ -131,7 +130,7 @@ pub(crate) fn vacuum_rows<L: Ledger, G: Gate, R: Wait + Threads + Sync>(
 ) -> Served<L>
     ensures share { IsPaid caller result.caller result.receipts.items }
     ensures done { result.end ≡ WorkEnd.Done
-        → map event_of result.receipts.items ≡ replicate ROUNDS AnEvent.Vacuum }
+        → map event_of result.receipts.items ≡ replicate 16 AnEvent.Vacuum }
     ensures stopped { result.end ≡ WorkEnd.Held
         → G.may_answer gate.now (vec_len result.receipts) false }
     ensures open { result.end ≢ WorkEnd.Closed }

@@ -45,5 +45,5 @@ fn equal_however_stored(rt: HostRuntime) -> Result<(), Fail> {
 #[test]
 fn a_short_key_is_copied(rt: HostRuntime) {
     let copy = short_copy(rt.alloc(), b"river");
-    assert!(rt; copy.is_some_and(|bytes| bytes.as_slice() == b"river"));
+    assert!(rt; copy.is_some_and(|bytes| bytes.as_slice() == b"river".as_slice()));
 }

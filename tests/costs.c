@@ -1,0 +1,288 @@
+/* Makes calls of the C library on small stores and on large ones, and marks where each begins and ends, so that a
+   counter of instructions (callgrind) tells what each cost: tests/costs compares. Without callgrind it counts nothing.
+   It also prints how many bytes of memory stores take. */
+#include "hlcstore.h"
+#include <inttypes.h>
+#include <malloc.h>
+#include <stdio.h>
+#include <stdlib.h>
+#include <string.h>
+#include <valgrind/callgrind.h>
+
+#define STAMP(reading) ((uint64_t)(reading) << 16)
+#define TIMES 1000
+#define MANY_KEYS 65536
+#define FEW_KEYS 1024
+
+static uint64_t live; /* the bytes that the program has from malloc */
+
+void *__real_malloc(size_t size);
+void *__real_realloc(void *at, size_t size);
+void __real_free(void *at);
+
+void *__wrap_malloc(size_t size)
+{
+    void *at = __real_malloc(size);
+    live += malloc_usable_size(at);
+    return at;
+}
+
+void *__wrap_realloc(void *at, size_t size)
+{
+    live -= malloc_usable_size(at);
+    at = __real_realloc(at, size);
+    live += malloc_usable_size(at);
+    return at;
+}
+
+void __wrap_free(void *at)
+{
+    live -= malloc_usable_size(at);
+    __real_free(at);
+}
+
+/* Ends the program where a call was refused. */
+static void must(uint32_t answer)
+{
+    if (answer == HLC_OK || answer == HLC_MORE) return;
+    fprintf(stderr, "answer %" PRIu32 "\n", answer);
+    exit(1);
+}
+
+static void begin(void)
+{
+    CALLGRIND_START_INSTRUMENTATION;
+    CALLGRIND_ZERO_STATS;
+}
+
+/* Ends what is measured: a name without spaces, the size of the store, and how many calls it was. */
+static void end(const char *name, uint64_t size, uint64_t calls)
+{
+    char label[100];
+    snprintf(label, sizeof label, "%s %" PRIu64 " %" PRIu64, name, size, calls);
+    CALLGRIND_DUMP_STATS_AT(label);
+    CALLGRIND_STOP_INSTRUMENTATION;
+}
+
+/* Writes a key of twelve bytes, which rises with its number. */
+static size_t key_of(uint64_t number, uint8_t *key)
+{
+    return (size_t)snprintf((char *)key, 16, "key:%08" PRIu64, number);
+}
+
+/* The place of a number in a scattered order; `size` is a power of 2. */
+static uint64_t scattered(uint64_t number, uint64_t size)
+{
+    return number * 40503 % size;
+}
+
+/* Accepts the next write of node 0: its stamp is one reading above that of its last item. */
+static void put(hlc_store *store, uint64_t number, uint64_t key_number)
+{
+    uint8_t key[16];
+    size_t key_len = key_of(key_number, key);
+    uint64_t word;
+    must(hlc_accept_write(store, 0, number, STAMP(number + 1), key, key_len, (const uint8_t *)"value", 5, &word));
+}
+
+/* Opens a store with so many keys of one version, a power of 2, that came in a scattered order or in their own. */
+static void fill(hlc_store *store, uint64_t keys, bool scatter)
+{
+    must(hlc_open(store, 1));
+    for (uint64_t i = 0; i < keys; i++) put(store, i, scatter ? scattered(i, keys) : i);
+}
+
+/* Opens a store with so many versions of one key. */
+static void fill_key(hlc_store *store, uint64_t versions)
+{
+    must(hlc_open(store, 1));
+    for (uint64_t i = 0; i < versions; i++) put(store, i, 0);
+}
+
+static uint64_t open_at_floor(hlc_store *store)
+{
+    uint64_t id, stamp;
+    must(hlc_open_snapshot_at_floor(store, &id, &stamp));
+    return id;
+}
+
+static void read_key(hlc_store *store, uint64_t id, uint64_t key_number)
+{
+    uint8_t key[16], value[8];
+    size_t len;
+    must(hlc_read(store, id, key, key_of(key_number, key), value, sizeof value, &len));
+}
+
+/* What a store has is known without a look at its rows. */
+static void measure_questions(hlc_store *store, uint64_t keys)
+{
+    uint64_t a, b, c, d;
+    bool retired = false;
+    begin();
+    for (int i = 0; i < TIMES; i++) must(hlc_rows(store, &a));
+    end("rows", keys, TIMES);
+    begin();
+    for (int i = 0; i < TIMES; i++) must(hlc_sizes(store, &a, &b, &c, &d));
+    end("sizes", keys, TIMES);
+    begin();
+    for (int i = 0; i < TIMES; i++) must(hlc_floor(store, &a));
+    end("floor", keys, TIMES);
+    begin();
+    for (int i = 0; i < TIMES; i++) must(hlc_horizon(store, &a));
+    end("horizon", keys, TIMES);
+    begin();
+    for (int i = 0; i < TIMES; i++) must(hlc_link(store, 0, &a, &b, &retired));
+    end("link", keys, TIMES);
+}
+
+/* A page of a hundred pairs, and their count and digest, cost what they return. */
+static void measure_pages(hlc_store *store, uint64_t keys, uint64_t id)
+{
+    static uint8_t out[100 * 33];
+    uint8_t from[16], to[16], digest[32];
+    size_t from_len = key_of(keys / 2, from), to_len = key_of(keys / 2 + 100, to), len, pairs;
+    uint64_t many;
+    begin();
+    must(hlc_scan(store, id, from, from_len, NULL, 0, out, sizeof out, &len, &pairs));
+    end("scan", keys, 1);
+    if (pairs != 100) exit(1);
+    begin();
+    must(hlc_count(store, id, from, from_len, to, to_len, &many));
+    end("count", keys, 1);
+    if (many != 100) exit(1);
+    begin();
+    must(hlc_digest(store, id, from, from_len, to, to_len, digest, sizeof digest, &len));
+    end("digest", keys, 1);
+}
+
+/* A part of a vacuum costs what its keys cost, of which each has one version here. */
+static void measure_part(hlc_store *store, uint64_t keys)
+{
+    uint8_t after[16], out[255];
+    size_t after_len = key_of(keys / 2, after), len;
+    uint64_t floor, word, kept, bytes, dropped;
+    bool more = false;
+    must(hlc_floor(store, &floor));
+    begin();
+    must(hlc_vacuum_part(store, floor, after, after_len, 100, &word, &kept, &bytes, &dropped, out, sizeof out, &len,
+                         &more));
+    end("part", keys, 1);
+    if (kept != 100 || dropped != 0) exit(1);
+}
+
+static void measure_keys(uint64_t keys)
+{
+    hlc_store store = HLC_CLOSED_STORE;
+    fill(&store, keys, true);
+    measure_questions(&store, keys);
+    uint64_t id = open_at_floor(&store);
+    begin();
+    for (int i = 0; i < TIMES; i++) read_key(&store, id, scattered((uint64_t)i * 7 + 1, keys));
+    end("read", keys, TIMES);
+    measure_pages(&store, keys, id);
+    measure_part(&store, keys);
+    begin();
+    for (uint64_t i = 0; i < TIMES; i++) put(&store, keys + i, keys + scattered(i, 1024));
+    end("new-key", keys, TIMES);
+    hlc_close(&store);
+}
+
+/* Reads at stamps among the versions of one key, and further versions. */
+static void measure_versions(uint64_t versions)
+{
+    hlc_store store = HLC_CLOSED_STORE;
+    uint64_t ids[100];
+    fill_key(&store, versions);
+    for (uint64_t i = 0; i < 100; i++) must(hlc_open_snapshot(&store, STAMP(versions / 100 * i + 1), &ids[i]));
+    begin();
+    for (int i = 0; i < TIMES; i++) read_key(&store, ids[i % 100], 0);
+    end("version", versions, TIMES);
+    begin();
+    for (uint64_t i = 0; i < 10 * TIMES; i++) put(&store, versions + i, 0);
+    end("push", versions, 10 * TIMES);
+    hlc_close(&store);
+}
+
+/* The same versions from 64 nodes, one node after the other, so that they come in another order than their stamps. */
+static void measure_nodes(uint64_t versions)
+{
+    hlc_store store = HLC_CLOSED_STORE;
+    uint64_t word, each = versions / 64;
+    must(hlc_open(&store, 64));
+    begin();
+    for (uint16_t node = 0; node < 64; node++) {
+        for (uint64_t i = 0; i < each; i++) {
+            must(hlc_accept_write(&store, node, i, STAMP(i + 1), (const uint8_t *)"k", 1, (const uint8_t *)"v", 1,
+                                  &word));
+        }
+    }
+    end("push-by-nodes", versions, versions);
+    hlc_close(&store);
+}
+
+/* The newest of so many open snapshots is found at once. */
+static void measure_snapshots(uint64_t snapshots)
+{
+    hlc_store store = HLC_CLOSED_STORE;
+    uint64_t id = 0;
+    fill(&store, FEW_KEYS, true);
+    for (uint64_t i = 0; i < snapshots; i++) id = open_at_floor(&store);
+    begin();
+    for (int i = 0; i < TIMES; i++) read_key(&store, id, 7);
+    end("snapshot", snapshots, TIMES);
+    hlc_close(&store);
+}
+
+/* A restore in small pieces costs what its bytes cost. */
+static void measure_pieces(uint64_t keys)
+{
+    hlc_store store = HLC_CLOSED_STORE;
+    hlc_output output = HLC_NO_OUTPUT;
+    hlc_restoring restoring = HLC_NO_RESTORING;
+    size_t len, at = 0, read;
+    uint64_t word;
+    fill(&store, keys, false);
+    must(hlc_checkpoint(&store, 0, &output, &len));
+    hlc_close(&store);
+    must(hlc_restore_start(&restoring));
+    begin();
+    while (at < len) {
+        uint8_t piece[512];
+        must(hlc_output_read(&output, at, piece, sizeof piece, &read));
+        must(hlc_restore_feed(&restoring, piece, read));
+        at += read;
+    }
+    must(hlc_restore_finish(&restoring, &store, &word));
+    end("pieces", keys, keys);
+    hlc_output_drop(&output);
+    hlc_close(&store);
+}
+
+/* Prints what a store of so many keys takes. */
+static void print_memory(const char *name, uint64_t keys, bool scatter)
+{
+    hlc_store store = HLC_CLOSED_STORE;
+    uint64_t before = live;
+    fill(&store, keys, scatter);
+    printf("%s %" PRIu64 "\n", name, live - before);
+    hlc_close(&store);
+    if (live != before) exit(1);
+}
+
+int main(void)
+{
+    CALLGRIND_STOP_INSTRUMENTATION;
+    measure_keys(FEW_KEYS);
+    measure_keys(MANY_KEYS);
+    measure_versions(1024);
+    measure_versions(65536);
+    measure_nodes(6400);
+    measure_nodes(64000);
+    measure_snapshots(1);
+    measure_snapshots(1024);
+    measure_pieces(1024);
+    measure_pieces(16384);
+    print_memory("rising", MANY_KEYS, false);
+    print_memory("scattered", MANY_KEYS, true);
+    return 0;
+}
