@@ -64,10 +64,12 @@ static void end(const char *name, uint64_t size, uint64_t calls)
     CALLGRIND_STOP_INSTRUMENTATION;
 }
 
-/* Writes a key of twelve bytes, which rises with its number. */
+/* Writes a key of twelve bytes, which rises with its number, by few instructions. */
 static size_t key_of(uint64_t number, uint8_t *key)
 {
-    return (size_t)snprintf((char *)key, 16, "key:%08" PRIu64, number);
+    memcpy(key, "key:", 4);
+    for (int at = 11; at >= 4; at--, number /= 16) key[at] = (uint8_t)('a' + number % 16);
+    return 12;
 }
 
 /* The place of a number in a scattered order; `size` is a power of 2. */
@@ -168,6 +170,18 @@ static void measure_part(hlc_store *store, uint64_t keys)
                          &more));
     end("part", keys, 1);
     if (kept != 100 || dropped != 0) exit(1);
+}
+
+/* Keys that rise fill leaves of 128, so these are the first of their leaves. */
+static void measure_first_keys(uint64_t keys)
+{
+    hlc_store store = HLC_CLOSED_STORE;
+    fill(&store, keys, false);
+    uint64_t id = open_at_floor(&store);
+    begin();
+    for (uint64_t i = 0; i < TIMES; i++) read_key(&store, id, i * 128 % keys);
+    end("first-key", keys, TIMES);
+    hlc_close(&store);
 }
 
 static void measure_keys(uint64_t keys)
@@ -274,6 +288,8 @@ int main(void)
     CALLGRIND_STOP_INSTRUMENTATION;
     measure_keys(FEW_KEYS);
     measure_keys(MANY_KEYS);
+    measure_first_keys(FEW_KEYS);
+    measure_first_keys(MANY_KEYS);
     measure_versions(1024);
     measure_versions(65536);
     measure_nodes(6400);

@@ -26,6 +26,7 @@ FIXED = 800
 SECONDS_ON_A_TERMINAL = 5
 SECONDS = 120
 DONE = re.compile(r"^rt: (\w+) (?:proved|is kept)", re.M)
+EDITS = re.compile(r"^rt: (\w+): trying its must-fail edits", re.M)
 # Of `rt lib`, which names a crate where it begins with it.
 BEGUN = re.compile(r"^rt: chose --jobs \d+ for (\w+)", re.M)
 FAILED = re.compile(r"^rt: (\w+)(?:: its tests)? NOT PROVED|^(logic=not-proved)", re.M)
@@ -85,10 +86,12 @@ def line_of(log, crates, minutes, guess):
     begun = [name for name in BEGUN.findall(log) if name in crates]
     done = {name for name in DONE.findall(log) + begun[:-1] if name in crates}
     now = begun[-1:] if begun else under_way(crates, done)
+    edits = set(EDITS.findall(log))
+    begun_edits = f", edits of {len(edits)} crates begun" if edits else ""
     if len(done) == len(crates):
-        return f"{len(done)} crates, {minutes:.0f} min so far"
+        return f"all {len(done)} crates are proved{begun_edits}, {minutes:.0f} min so far"
     waits = [name for name in WAITING.findall(log) if name not in done]
-    said = f"{len(done)} of {len(crates)} crates, {minutes:.0f} min so far, about "
+    said = f"{len(done)} of {len(crates)} crates{begun_edits}, {minutes:.0f} min so far, about "
     said += f"{max(1, minutes_left(crates, done, minutes, guess)):.0f} left; now {', '.join(now)}"
     return said + (f"; another build is proving {waits[-1]}, and this one waits for it" if waits else "")
 
