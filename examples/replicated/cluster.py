@@ -38,11 +38,11 @@ def free_ports(many):
 
 
 class Cluster:
-    def __init__(self, folder, quota=QUOTA):
+    def __init__(self, folder, quota=QUOTA, members=MEMBERS):
         self.folder, self.quota = pathlib.Path(folder), quota
         self.folder.mkdir(parents=True, exist_ok=True)
-        ports = [f"127.0.0.1:{port}" for port in free_ports(2 * MEMBERS)]
-        self.addresses, self.peers = ports[:MEMBERS], ports[MEMBERS:]
+        ports = [f"127.0.0.1:{port}" for port in free_ports(2 * members)]
+        self.addresses, self.peers = ports[:members], ports[members:]
         self.running = {}
 
     def start(self, member, state="new"):
@@ -57,7 +57,7 @@ class Cluster:
             self.running[member] = subprocess.Popen(words, stdin=subprocess.DEVNULL, stdout=output, stderr=output)
 
     def start_all(self, state="new"):
-        for member in range(MEMBERS):
+        for member in range(len(self.addresses)):
             self.start(member, state)
         self.wait()
 

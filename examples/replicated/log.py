@@ -21,10 +21,15 @@ from etcd import Compacted, Unavailable, delete, get, pairs_of, prefix_end, pref
 
 LOG, PLAN, CUT = b"log/", b"log/plan/", b"cut"
 PAGE = 64  # entries in an answer
+COORDINATOR = 0  # the coordinator's node
 
 
 class Fenced(Exception):
     """Another process took the link over. This one has to end."""
+
+
+class Retired(Exception):
+    """The node of the link retired: no replica could apply a further item of it."""
 
 
 class Cut(Exception):
@@ -62,46 +67,68 @@ def entry_of(pair):
 
 
 class Link:
-    """The end of a node's link at which one process appends."""
+    """The end of a node's link at which one process appends.
+
+    An append takes place only while the head is as this process left it, which is never the head of a retired node. So
+    nothing comes after a retirement, and a node retires once.
+    """
 
     def __init__(self, etcd, node):
         self.etcd = etcd
         self.key = link_key(node)
         self.owner = secrets.token_hex(8)
         self.revision = 0
+        self.has_retired = False
 
-    def claim(self, new):
+    def claim(self, new, conditions=()):
         """Takes the link over, and returns the state that the last append left, or `new` if there is no such link.
 
-        From now on an append of any other process is refused, also one that is on its way to etcd.
+        From now on an append of any other process is refused, also one that is on its way to etcd. The link of a node
+        that retired stays as it is: nobody takes it over.
         """
         while True:
             head = self.etcd.get(self.key)
             state = json.loads(head.value) if head else new
-            mine = to_json(state | {"owner": self.owner})
-            answer = self.etcd.transact([unchanged(self.key, head.revision if head else 0)], [put(self.key, mine)])
-            if answer.get("succeeded"):
-                self.revision = revision_of(answer)
+            if state.get("retired"):
+                raise Retired(f"the node of {self.key.decode()} retired")
+            is_as_read = unchanged(self.key, head.revision if head else 0)
+            if self.change([is_as_read, *conditions], state):
                 return state
+            if self.etcd.get(self.key) == head:
+                raise Fenced(f"{self.key.decode()} cannot be taken over under these conditions")
 
-    def append(self, key, value, state, also=()):
+    def append(self, key, value, state, also=(), conditions=()):
         """Appends an entry, with the link's new state and other changes, and returns the entry's revision.
 
-        All is one transaction, whose condition is that the head is as this process left it. So if the answer is lost
-        and the transaction is sent again, it takes place once. The states of a link are all different: a head that
-        already has this one was left by this very append.
+        All is one transaction, whose condition is that the head is as this process left it. Further conditions are
+        those of the caller.
+        """
+        if self.has_retired:
+            raise Retired(f"the node of {self.key.decode()} retired")
+        if not self.change([self.is_mine(), *conditions], state, [put(key, value), *also]):
+            head = self.etcd.get(self.key)
+            if head.revision == self.revision:
+                raise Fenced(f"nothing can be appended to {self.key.decode()} under these conditions")
+            raise Fenced(f"{self.key.decode()} belongs to {json.loads(head.value)['owner']}")
+        self.has_retired = bool(state.get("retired"))
+        return self.revision
+
+    def change(self, conditions, state, changes=()):
+        """Leaves a head with this state, together with other changes, and returns whether the conditions were true.
+
+        If the answer is lost and the transaction is sent again, it takes place once. The states that a process leaves
+        are all different: a head that already has this one was left by this very transaction.
         """
         mine = to_json(state | {"owner": self.owner})
-        changes = [put(self.key, mine), put(key, value), *also]
-        answer = self.etcd.transact([self.is_mine()], changes, [get(self.key)])
+        answer = self.etcd.transact(conditions, [put(self.key, mine), *changes], [get(self.key)])
         if answer.get("succeeded"):
             self.revision = revision_of(answer)
-            return self.revision
-        head = pairs_of(answer["responses"][0]["response_range"])[0]
-        if head.value != mine:
-            raise Fenced(f"{self.key.decode()} belongs to {json.loads(head.value)['owner']}")
-        self.revision = head.revision
-        return self.revision
+            return True
+        for head in pairs_of(answer["responses"][0]["response_range"]):
+            if head.value == mine:
+                self.revision = head.revision
+                return True
+        return False
 
     def is_mine(self):
         """A condition for other transactions: no other process has taken the link over."""
@@ -150,8 +177,7 @@ def cut(etcd, link, revision):
     `cut` is written first, so that a replica that needs what is deleted next sees that it is too late. The rest may be
     done twice, or be left to the next time.
     """
-    if not etcd.transact([link.is_mine()], [put(CUT, to_json(revision))]).get("succeeded"):
-        raise Fenced("another process cuts the log")
+    revision = raise_cut(etcd, link, revision)
     wish = {"keys_only": True, "max_mod_revision": str(revision), "sort_target": "KEY", "sort_order": "ASCEND"}
     last = {}
     for pair in pairs_of(etcd.call("kv/range", prefix_of(LOG, **wish))):
@@ -162,3 +188,20 @@ def cut(etcd, link, revision):
         etcd.call("kv/compaction", {"revision": str(revision)})
     except Compacted:
         pass
+
+
+def raise_cut(etcd, link, revision):
+    """Raises `cut` to a revision, and returns what it is then: it never falls.
+
+    The least checkpoint of the replicas can fall, as one that was away comes back with old ones. But what is deleted
+    stays so: a lower `cut` would hide that from a replica that needs it.
+    """
+    while True:
+        found = etcd.get(CUT)
+        if found and json.loads(found.value) >= revision:
+            return json.loads(found.value)
+        conditions = [link.is_mine(), unchanged(CUT, found.revision if found else 0)]
+        if etcd.transact(conditions, [put(CUT, to_json(revision))]).get("succeeded"):
+            return revision
+        if etcd.get(link.key).revision != link.revision:
+            raise Fenced("another process cuts the log")

@@ -4,26 +4,28 @@
 
 BATCH is the most items in a batch, RATE the items a second, or 0 for as many as there is time for, and KEYS the number
 of keys. The coordinator has a node for each name. A writer that comes again under its name goes on behind the last item
-of the log. Lines of standard input: `clock MS` sets its clock off by so many milliseconds, and `retire` ends it. So does
+of the log, and one for which there is no node ends with a text that says why. Lines of standard input: `clock MS` sets its clock off by so many milliseconds, and `retire` ends it. So does
 the end of the input, without a retirement. Its output has its node, and after each append the next number: what is
 below is in the log for good.
 """
 
+import argparse
 import json
 import os
 import random
+import re
 import sys
 import threading
 import time
 
 from hlcstore import Node, split
 
+import clock
 import log
 from etcd import Etcd, delete, put
 
 MOST_BYTES = 1_000_000  # in a batch: etcd takes transactions of at most 1.5 MiB
 AHEAD = 10_000  # milliseconds: stamps that are further ahead of this node come from a wrong clock
-FULL = 65_000  # of the 65,536 stamps that one reading has
 LINGER = 0.02  # seconds from one append to the next, unless a batch is full
 IDLE = 0.05  # seconds without an item after which it reports, so that the floor does not wait for it
 
@@ -36,9 +38,10 @@ class Writer:
         self.chance = random.Random(name)
         self.number = self.find_node()
         self.link = log.Link(self.etcd, self.number)
-        state = self.link.claim(None)
-        if state.get("retired"):
-            raise SystemExit(f"node {self.number} of {name} retired")
+        try:
+            state = self.link.claim(None)
+        except log.Retired:
+            raise SystemExit(f"node {self.number} of {name} retired") from None
         self.node = Node.restore(self.number, state["last"], state["next"])
         print("node", self.number, flush=True)
 
@@ -48,19 +51,23 @@ class Writer:
         if not self.etcd.get(b"node/" + name):
             self.etcd.transact([], [put(b"ask/join/" + name, b"")])
         while not (found := self.etcd.get(b"node/" + name)):
+            self.end_if_refused(b"ask/join/" + name)
             time.sleep(0.02)
         return json.loads(found.value)
+
+    def end_if_refused(self, request):
+        """Ends the program if no node can join any more."""
+        answer, coordinator = self.etcd.get(request), self.etcd.get(log.link_key(log.COORDINATOR))
+        if answer and answer.value:
+            self.etcd.transact([], [delete(request)])
+            raise SystemExit(f"no node for {self.name}: {json.loads(answer.value)['refused']}")
+        if coordinator and json.loads(coordinator.value).get("retired"):
+            raise SystemExit(f"no node for {self.name}: the coordinator retired")
 
     # ---- The clock ----
 
     def reading(self):
-        """Returns the reading of the clock; or a later one if the clock stays behind and its stamps are used up.
-
-        A node whose clock is set back goes on with the counter of its last stamp, which has 65,536 places.
-        """
-        now = time.time_ns() // 1_000_000 + self.offset
-        physical, counter = split(self.node.last)
-        return physical + 1 if now <= physical and counter >= FULL else now
+        return clock.reading(self.node, self.offset)
 
     def listen(self):
         """Receives the last stamp of another writer's link, as a message would bring it.
@@ -117,24 +124,47 @@ class Writer:
             rounds += 1
             if rounds % 10 == 0:
                 self.listen()
-        # With the last item the name is free again: the next writer of this name joins as another node.
-        first = self.node.next
-        self.append(first, bytes(self.node.retire(self.reading())), [delete(b"node/" + self.name.encode())])
+        self.retire()
+
+    def retire(self):
+        """Appends the last item. With it the name is free again: the next writer of this name joins as another node."""
+        first, name = self.node.next, self.name.encode()
+        also = [delete(b"node/" + name), delete(b"ask/lost/" + name)]
+        self.append(first, bytes(self.node.retire(self.reading())), also)
 
     def obey(self):
         for line in sys.stdin:
-            word, *more = line.split()
-            if word == "clock":
-                self.offset = int(more[0])
-            elif word == "retire":
-                self.retires = True
+            match line.split():
+                case ["clock", offset] if re.fullmatch(r"-?[0-9]+", offset):
+                    self.offset = int(offset)
+                case ["retire"]:
+                    self.retires = True
+                case _:
+                    print("unknown:", line.strip(), file=sys.stderr, flush=True)
         if not self.retires:
             os._exit(0)
 
 
+def positive(word):
+    number = int(word)
+    if number < 1:
+        raise ValueError
+    return number
+
+
+def options():
+    parser = argparse.ArgumentParser(description=__doc__, formatter_class=argparse.RawDescriptionHelpFormatter)
+    parser.add_argument("name")
+    parser.add_argument("batch", type=positive)
+    parser.add_argument("rate", type=int)
+    parser.add_argument("keys", type=positive)
+    parser.add_argument("members", nargs="+", metavar="member")
+    return parser.parse_args()
+
+
 def main():
-    name, batch, rate, keys, *members = sys.argv[1:]
-    writer = Writer(name, int(batch), int(rate), int(keys), members)
+    words = options()
+    writer = Writer(words.name, words.batch, words.rate, words.keys, words.members)
     threading.Thread(target=writer.obey, daemon=True).start()
     try:
         writer.write()

@@ -1,0 +1,212 @@
+"""What the tests share: an etcd in memory, a member of etcd, and interleavings of transactions."""
+
+import atexit
+import base64
+import contextlib
+import functools
+import io
+import pathlib
+import shutil
+import signal
+import sys
+import tempfile
+import unittest
+from unittest import mock
+
+sys.path.insert(0, str(pathlib.Path(__file__).resolve().parent.parent))
+
+import hlcstore
+import log
+from cluster import Cluster
+from coordinator import Coordinator
+from etcd import Compacted, Etcd, Pair, delete, encode, put
+from replica import Replica
+from writer import Writer
+
+QUOTA = 64 << 20  # bytes of the member's database
+RETENTION = 6000  # milliseconds
+PATIENCE = 30  # seconds after which a test fails that waits for what does not come
+
+
+class Interleaved(Etcd):
+    """An Etcd whose transactions can take place twice, or after what others do meanwhile."""
+
+    def __init__(self, members):
+        super().__init__(members)
+        self.before = []  # calls: the first one is made before the next transaction, and so on
+        self.answers_are_lost = False  # then each transaction is sent again
+
+    def transact(self, conditions, then, otherwise=()):
+        if self.before:
+            self.before.pop(0)()
+        if self.answers_are_lost:
+            super().transact(conditions, then, otherwise)
+        return super().transact(conditions, then, otherwise)
+
+
+# ---- An etcd in memory ----
+
+
+class Memory:
+    """What a cluster keeps: the pair of each key, and all that was put, by revisions."""
+
+    def __init__(self):
+        self.revision, self.compacted = 1, 0
+        self.pairs = {}
+        self.puts = []
+
+    def call(self, path, request):
+        calls = {"kv/txn": self.transact, "kv/range": self.range, "kv/compaction": self.compact}
+        return calls[path](request) | {"header": {"revision": str(self.revision)}}
+
+    def transact(self, request):
+        succeeded = all(map(self.is_true, request["compare"]))
+        revision, responses = self.revision + 1, []
+        for operation in request["success" if succeeded else "failure"]:
+            ((kind, words),) = operation.items()
+            if kind == "request_put":
+                self.put(Pair(decode(words["key"]), decode(words["value"]), revision))
+            elif kind == "request_delete_range":
+                self.delete(self.keys(words), revision)
+            responses.append({"response_range": self.range(words)} if kind == "request_range" else {})
+        return {"responses": responses} | ({"succeeded": True} if succeeded else {})
+
+    def is_true(self, condition):
+        assert (condition["target"], condition["result"]) == ("MOD", "EQUAL")
+        pair = self.pairs.get(decode(condition["key"]))
+        return int(condition["mod_revision"]) == (pair.revision if pair else 0)
+
+    def put(self, pair):
+        self.revision = pair.revision
+        self.pairs[pair.key] = pair
+        self.puts.append(pair)
+
+    def delete(self, keys, revision):
+        for key in keys:
+            self.revision = revision
+            del self.pairs[key]
+
+    def keys(self, words):
+        first, end = decode(words["key"]), decode(words.get("range_end", ""))
+        return sorted(key for key in self.pairs if (first <= key < end if end else key == first))
+
+    def range(self, words):
+        low, high = int(words.get("min_mod_revision", 0)), int(words.get("max_mod_revision", self.revision))
+        pairs = [self.pairs[key] for key in self.keys(words)]
+        pairs = [pair for pair in pairs if low <= pair.revision <= high]
+        if words.get("sort_target") == "MOD":
+            pairs.sort(key=lambda pair: pair.revision)
+        return {"kvs": [texts(pair) for pair in pairs[: int(words.get("limit", 0)) or None]]}
+
+    def compact(self, request):
+        revision = int(request["revision"])
+        assert revision <= self.revision
+        if revision <= self.compacted:
+            raise Compacted
+        self.compacted = revision
+        return {}
+
+
+def decode(text):
+    return base64.b64decode(text)
+
+
+def texts(pair):
+    return {"key": encode(pair.key), "value": encode(pair.value), "mod_revision": str(pair.revision)}
+
+
+class MemoryEtcd(Interleaved):
+    def __init__(self, memory):
+        super().__init__(["memory"])
+        self.memory = memory
+
+    def call(self, path, request):
+        return self.memory.call(path, request)
+
+    def watch(self, prefix, revision):
+        if revision < self.memory.compacted:
+            raise Compacted
+        for pair in self.memory.puts:
+            if pair.key.startswith(prefix) and pair.revision >= revision:
+                yield [pair]
+        raise AssertionError("a test follows the log beyond its end")
+
+
+# ---- Cases ----
+
+
+def fail(*_):
+    raise AssertionError(f"the test has taken {PATIENCE} s")
+
+
+class Case(unittest.TestCase):
+    """A test whose programs print nothing. `new_etcd()` returns a further connection to its etcd."""
+
+    def setUp(self):
+        signal.signal(signal.SIGALRM, fail)
+        signal.alarm(PATIENCE)
+        self.addCleanup(signal.alarm, 0)
+        self.printed = self.enterContext(contextlib.redirect_stdout(io.StringIO()))
+        self.folder = pathlib.Path(self.enterContext(tempfile.TemporaryDirectory()))
+
+    def start_coordinator(self):
+        with mock.patch("coordinator.Etcd", lambda _: self.new_etcd()):
+            return Coordinator(RETENTION, ["member"])
+
+    def start_writer(self, name):
+        with mock.patch("writer.Etcd", lambda _: self.new_etcd()):
+            return Writer(name, 10, 0, 100, ["member"])
+
+    def put(self, key, value=b""):
+        self.new_etcd().transact([], [put(key, value)])
+
+    def value(self, key):
+        """Returns the value of a key, or None."""
+        pair = self.new_etcd().get(key)
+        return pair.value if pair else None
+
+    def new_replica(self):
+        """Returns a replica with an empty store, which does nothing by itself."""
+        replica = Replica("r1", self.folder / "r1", 1, ["member"])
+        replica.store = hlcstore.Store(1)
+        return replica
+
+    def replay(self):
+        """Returns a replica that has applied the whole log. It raises what the store refuses."""
+        replica, etcd = self.new_replica(), self.new_etcd()
+        while entries := log.page(etcd, replica.revision)[0]:
+            for entry in entries:
+                replica.apply(entry)
+        return replica
+
+
+class MemoryCase(Case):
+    def setUp(self):
+        super().setUp()
+        self.memory = Memory()
+
+    def new_etcd(self):
+        return MemoryEtcd(self.memory)
+
+
+@functools.cache
+def started_member():
+    """Returns the address of a member that ends with this process."""
+    folder = tempfile.mkdtemp()
+    atexit.register(shutil.rmtree, folder)
+    cluster = Cluster(folder, QUOTA, members=1)
+    atexit.register(cluster.stop)
+    cluster.start_all()
+    return cluster.addresses
+
+
+@unittest.skipUnless(shutil.which("etcd"), "no etcd")
+class MemberCase(Case):
+    def setUp(self):
+        super().setUp()
+        self.new_etcd().transact([], [delete(b"\0", b"\0")])
+
+    def new_etcd(self):
+        etcd = Interleaved(started_member())
+        self.addCleanup(lambda: etcd.connection and etcd.connection.close())
+        return etcd
