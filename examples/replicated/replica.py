@@ -8,6 +8,7 @@ continues, it takes one from another replica. Its first line of output says wher
 input ends.
 """
 
+import argparse
 import contextlib
 import http.client
 import json
@@ -114,6 +115,8 @@ class Replica:
             return self.store.snapshot(stamp)
 
     def certificate(self, stamp):
+        if stamp is None:
+            raise serve.Refused(400, "a stamp is missing")
         with refusals():
             return self.store.vacuum_to_certified(stamp)[1]
 
@@ -168,6 +171,8 @@ def refusals():
         raise serve.Refused(425, str(refused)) from None
     except hlcstore.BelowHorizon as refused:
         raise serve.Refused(410, str(refused)) from None
+    except (hlcstore.TooManySnapshots, hlcstore.NoMemory) as refused:
+        raise serve.Refused(503, str(refused)) from None
 
 
 def report(**words):
@@ -187,9 +192,18 @@ def essential(call, *words):
     threading.Thread(target=run, daemon=True).start()
 
 
+def options():
+    parser = argparse.ArgumentParser(description=__doc__, formatter_class=argparse.RawDescriptionHelpFormatter)
+    parser.add_argument("name")
+    parser.add_argument("folder")
+    parser.add_argument("seconds", type=float)
+    parser.add_argument("members", nargs="+", metavar="member")
+    return parser.parse_args()
+
+
 def main():
-    name, folder, seconds, *members = sys.argv[1:]
-    replica = Replica(name, folder, float(seconds), members)
+    words = options()
+    replica = Replica(words.name, words.folder, words.seconds, words.members)
     replica.begin_from_disk()
     address = serve.start(replica)
     essential(replica.follow)

@@ -8,7 +8,8 @@
     GET /checkpoint                            the newest checkpoint, as bytes
 
 Without a stamp a read is at the floor. Keys are percent-encoded, and bytes are in hexadecimal digits in an answer. The
-status is 425 for a stamp above the floor, 410 for one below the horizon, and 404 for what is not there.
+status is 425 for a stamp above the floor, 410 for one below the horizon, 404 for what is not there, 400 for a request
+that makes no sense, and 503 for one that may be answered later. With it comes a text, as `refused`.
 
 Whoever answers has `state()`, `snapshot(stamp)`, which is used in a `with`, and calls for other paths in `others`.
 """
@@ -16,8 +17,12 @@ Whoever answers has `state()`, `snapshot(stamp)`, which is used in a `with`, and
 import http.client
 import http.server
 import json
+import re
 import threading
+import traceback
 import urllib.parse
+
+STAMPS = 1 << 64
 
 
 class Refused(Exception):
@@ -43,21 +48,65 @@ def value_text(value):
 def answer(answerer, path, words):
     """Returns the answer to a request: bytes, or what becomes JSON."""
     if path == "/state":
+        refuse_unknown(words)
         return answerer.state()
-    stamp = int(words["stamp"][0]) if "stamp" in words else None
     if path in answerer.others:
-        return answerer.others[path](stamp)
-    ends = [words.get(name, [""])[0].encode("latin-1") for name in ("from", "to")]
-    with answerer.snapshot(stamp) as snapshot:
-        if path == "/read":
-            keys = [key.encode("latin-1") for key in words["key"]]
-            return {"stamp": snapshot.stamp, "values": [value_text(value) for value in snapshot.read_all(keys)]}
-        if path == "/range":
-            pairs = [[key.hex(), value.hex()] for key, value in snapshot.items(*ends)]
-            return {"stamp": snapshot.stamp, "pairs": pairs}
-        if path == "/digest":
-            return {"stamp": snapshot.stamp, "digest": snapshot.digest(*ends).hex(), "keys": snapshot.count(*ends)}
-    raise Refused(404, "there is no such path")
+        refuse_unknown(words, "stamp")
+        return answerer.others[path](stamp_of(words))
+    if path not in READS:
+        raise Refused(404, "there is no such path")
+    read, *names = READS[path]
+    refuse_unknown(words, "stamp", *names)
+    with answerer.snapshot(stamp_of(words)) as snapshot:
+        return {"stamp": snapshot.stamp} | read(snapshot, words)
+
+
+def read_keys(snapshot, words):
+    keys = [key.encode("latin-1") for key in words.get("key", [])]
+    if not keys:
+        raise Refused(400, "a key is missing")
+    return {"values": [value_text(value) for value in snapshot.read_all(keys)]}
+
+
+def read_range(snapshot, words):
+    return {"pairs": [[key.hex(), value.hex()] for key, value in snapshot.items(*ends(words))]}
+
+
+def read_digest(snapshot, words):
+    return {"digest": snapshot.digest(*ends(words)).hex(), "keys": snapshot.count(*ends(words))}
+
+
+READS = {"/read": (read_keys, "key"), "/range": (read_range, "from", "to"), "/digest": (read_digest, "from", "to")}
+
+
+# ---- Words of a request ----
+
+
+def refuse_unknown(words, *names):
+    """Refuses words that the path does not have."""
+    for name in words:
+        if name not in names:
+            raise Refused(400, f"there is no such word here: {name}")
+
+
+def only(words, name):
+    """Returns a word that may be there once, or None."""
+    if len(words.get(name, [])) > 1:
+        raise Refused(400, f"{name} is there more than once")
+    return words[name][0] if name in words else None
+
+
+def stamp_of(words):
+    text = only(words, "stamp")
+    if text is None:
+        return None
+    if not re.fullmatch("[0-9]{1,20}", text) or int(text) >= STAMPS:
+        raise Refused(400, f"no stamp: {text!r}. It is a decimal number below 2^64")
+    return int(text)
+
+
+def ends(words):
+    return [(only(words, name) or "").encode("latin-1") for name in ("from", "to")]
 
 
 class Request(http.server.BaseHTTPRequestHandler):
@@ -68,12 +117,14 @@ class Request(http.server.BaseHTTPRequestHandler):
         path, _, query = self.path.partition("?")
         words = urllib.parse.parse_qs(query, keep_blank_values=True, encoding="latin-1")
         try:
-            self.send(200, answer(self.server.answerer, path, words))
+            status, content = 200, answer(self.server.answerer, path, words)
         except Refused as refused:
             status, text = refused.args
-            self.send(status, {"refused": text})
-        except (KeyError, ValueError) as bad:
-            self.send(400, {"refused": f"a bad request: {bad!r}"})
+            content = {"refused": text}
+        except Exception as failure:  # whoever asks gets an answer in any case
+            traceback.print_exc()
+            status, content = 500, {"refused": f"the answer failed: {failure!r}"}
+        self.send(status, content)
 
     def send(self, status, content):
         body = content if isinstance(content, bytes) else json.dumps(content).encode()

@@ -1,0 +1,158 @@
+"""The replica: checkpoints between two entries of the log, and beginnings."""
+
+import json
+import threading
+import unittest
+from unittest import mock
+
+from support import MemoryCase
+
+import hlcstore
+import log
+import serve
+
+
+class Between:
+    """A lock that notes whether the store and the revision fit together when it is taken, and when it is given back."""
+
+    def __init__(self, fits):
+        self.lock, self.fits, self.seen = threading.Lock(), fits, []
+
+    def __enter__(self):
+        self.lock.acquire()
+        self.seen.append(self.fits())
+
+    def __exit__(self, *_):
+        self.seen.append(self.fits())
+        self.lock.release()
+
+
+class NotedStore:
+    """A store that notes whether the lock is held at each call which changes or saves it."""
+
+    def __init__(self, replica):
+        self.store, self.replica = replica.store, replica
+        self.entries, self.held, self.saved = 0, [], []
+
+    def __getattr__(self, name):
+        self.held.append((name, self.replica.between.lock.locked()))
+        return getattr(self.store, name)
+
+    def accept_items(self, items):
+        self.entries += 1
+        return self.__getattr__("accept_items")(items)
+
+    def join_at(self, start):
+        self.entries += 1
+        return self.__getattr__("join_at")(start)
+
+    def checkpoint(self, word):
+        self.saved.append((word, self.entries))
+        return self.__getattr__("checkpoint")(word)
+
+
+class Applying(MemoryCase):
+    """Three entries, at the revisions 1 to 3, which a replica applies and saves."""
+
+    def setUp(self):
+        super().setUp()
+        self.replica = self.new_replica()
+        self.store = self.replica.store = NotedStore(self.replica)
+        self.replica.between = Between(lambda: self.store.entries == self.replica.revision)
+        items = bytes(hlcstore.Node(0).report(5))
+        self.entries = [log.Entry(1, None, items), log.Entry(2, {"join": 1, "start": 5 << 16}, b"")]
+        self.entries.append(log.Entry(3, None, bytes(hlcstore.Node(1, 5 << 16).report(6))))
+
+    def test_an_entry_and_its_revision_come_at_once(self):
+        for entry in self.entries:
+            self.replica.apply(entry)
+        self.assertEqual(self.replica.between.seen, [True] * 6)
+        self.assertEqual(self.store.held, [("accept_items", True), ("join_at", True), ("accept_items", True)])
+
+    def test_a_checkpoint_is_made_between_two_entries(self):
+        for entry in self.entries:
+            self.replica.apply(entry)
+            self.replica.save()
+        self.assertEqual(self.store.saved, [(1, 1), (2, 2), (3, 3)])
+        self.assertIn(("checkpoint", True), self.store.held)
+        self.assertNotIn(("checkpoint", False), self.store.held)
+
+    def test_a_checkpoint_waits_for_an_entry(self):
+        """Nor is its revision read before the entry is whole."""
+        save = threading.Thread(target=self.replica.save)
+        accept = self.store.accept_items
+
+        def accept_beside_a_save(items):
+            save.start()
+            save.join(0.05)
+            accept(items)
+
+        self.store.accept_items = accept_beside_a_save
+        self.replica.apply(self.entries[0])
+        save.join()
+        self.assertEqual(self.store.saved, [(1, 1)])
+        self.assertEqual(hlcstore.Store.restore(self.replica.newest(None)).word, 1)
+
+
+class Beginning(MemoryCase):
+    def setUp(self):
+        super().setUp()
+        self.coordinator = self.start_coordinator()
+        for _ in range(3):
+            self.coordinator.append_item(self.coordinator.node.report)
+
+    def test_snapshots_of_a_checkpoint_are_closed(self):
+        """Their readers are gone, and nobody else would close them."""
+        old = self.replay()
+        with old.store.snapshot():
+            saved = old.store.checkpoint(old.revision)
+        new = self.new_replica()
+        new.begin("test", lambda: saved)
+        self.assertEqual(len(hlcstore.Store.restore(saved).snapshots()), 1)
+        self.assertEqual(new.store.snapshots(), [])
+        self.assertEqual((new.revision, new.store.floor), (old.revision, old.store.floor))
+
+    def test_it_goes_on_behind_its_checkpoint(self):
+        old = self.replay()
+        old.save()
+        self.coordinator.append_item(self.coordinator.node.report)
+        new = self.new_replica()
+        new.begin_from_disk()
+        self.assertEqual(new.revision, old.revision)
+        for entry in log.page(self.new_etcd(), new.revision)[0]:
+            new.apply(entry)
+        self.assertEqual(new.store.floor, self.coordinator.node.last)
+
+    def test_a_damaged_checkpoint_is_removed(self):
+        old = self.replay()
+        old.save()
+        (old.checkpoints.folder / "ffffffffffffffff.checkpoint").write_bytes(b"damaged")
+        new = self.new_replica()
+        new.begin_from_disk()
+        self.assertEqual(new.revision, old.revision)
+        self.assertEqual(len(new.checkpoints.paths()), 1)
+
+    def test_it_begins_from_another_where_the_log_was_cut(self):
+        other = self.replay()
+        other.save()
+        words = {"name": "r2", "address": serve.start(other), "checkpoint": other.revision}
+        self.put(b"replica/r2", log.to_json(words))
+        log.cut(self.new_etcd(), self.coordinator.link, other.revision)
+        late = self.new_replica()
+        with self.assertRaises(log.Cut):
+            log.page(self.new_etcd(), late.revision)
+        late.begin_from_another(self.new_etcd())
+        self.assertEqual((late.revision, late.store.floor), (other.revision, other.store.floor))
+
+    def test_it_publishes_its_oldest_checkpoint(self):
+        replica, etcd = self.replay(), self.new_etcd()
+        replica.checkpoints.save(3, b"old")
+        replica.checkpoints.save(4, b"new")
+        with mock.patch.object(etcd, "lease", lambda _: 0):
+            replica.publish(etcd, None, "address")
+        words = {"name": "r1", "address": "address", "floor": replica.store.floor, "checkpoint": 3}
+        self.assertEqual(json.loads(self.value(b"replica/r1")), words)
+
+
+if __name__ == "__main__":
+    unittest.main()
