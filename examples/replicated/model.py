@@ -8,6 +8,7 @@ no gap and no double, that stamps rise, and that the value of each write names t
 line of output has its address. It ends when its standard input ends.
 """
 
+import argparse
 import bisect
 import hashlib
 import json
@@ -153,13 +154,19 @@ class Snapshot:
         return digest.digest()
 
 
+def options():
+    parser = argparse.ArgumentParser(description=__doc__, formatter_class=argparse.RawDescriptionHelpFormatter)
+    parser.add_argument("members", nargs="+", metavar="member")
+    return parser.parse_args()
+
+
 def main():
-    model = Model()
+    words, model = options(), Model()
     print(json.dumps({"address": serve.start(model)}), flush=True)
 
     def follow():
         try:
-            model.follow(sys.argv[1:])
+            model.follow(words.members)
         except BaseException:
             traceback.print_exc()
             os._exit(1)
