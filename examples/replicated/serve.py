@@ -79,20 +79,20 @@ def read_digest(snapshot, words):
 READS = {"/read": (read_keys, "key"), "/range": (read_range, "from", "to"), "/digest": (read_digest, "from", "to")}
 
 
-# ---- Words of a request ----
+# ---- Parameters ----
 
 
 def refuse_unknown(words, *names):
-    """Refuses words that the path does not have."""
+    """Refuses parameters that the path does not have."""
     for name in words:
         if name not in names:
-            raise Refused(400, f"there is no such word here: {name}")
+            raise Refused(400, f"unknown parameter: {name}")
 
 
 def only(words, name):
-    """Returns a word that may be there once, or None."""
+    """Returns a parameter that may be given once, or None."""
     if len(words.get(name, [])) > 1:
-        raise Refused(400, f"{name} is there more than once")
+        raise Refused(400, f"{name} is given more than once")
     return words[name][0] if name in words else None
 
 
@@ -101,11 +101,12 @@ def stamp_of(words):
     if text is None:
         return None
     if not re.fullmatch("[0-9]{1,20}", text) or int(text) >= STAMPS:
-        raise Refused(400, f"no stamp: {text!r}. It is a decimal number below 2^64")
+        raise Refused(400, f"stamp: expected a decimal number below 2^64, got {text!r}")
     return int(text)
 
 
 def ends(words):
+    """Returns the ends of a range of keys. One that is not given is empty."""
     return [(only(words, name) or "").encode("latin-1") for name in ("from", "to")]
 
 

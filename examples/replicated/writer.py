@@ -4,9 +4,9 @@
 
 BATCH is the most items in a batch, RATE the items a second, or 0 for as many as there is time for, and KEYS the number
 of keys. The coordinator has a node for each name. A writer that comes again under its name goes on behind the last item
-of the log, and one for which there is no node ends with a text that says why. Lines of standard input: `clock MS` sets its clock off by so many milliseconds, and `retire` ends it. So does
-the end of the input, without a retirement. Its output has its node, and after each append the next number: what is
-below is in the log for good.
+of the log. If no node can join for its name, it ends with a text that says why. Lines of standard input: `clock MS`
+sets its clock off by so many milliseconds, and `retire` ends it. So does the end of the input, without a retirement.
+Its output has its node, and after each append the next number: what is below is in the log for good.
 """
 
 import argparse

@@ -149,6 +149,13 @@ class Case(unittest.TestCase):
         self.printed = self.enterContext(contextlib.redirect_stdout(io.StringIO()))
         self.folder = pathlib.Path(self.enterContext(tempfile.TemporaryDirectory()))
 
+    def obey(self, program, text):
+        """Gives a program its standard input, and returns what it prints as an error. It must not end the process."""
+        ends = mock.patch("os._exit", side_effect=AssertionError("the program has ended"))
+        with ends, mock.patch("sys.stdin", io.StringIO(text)), contextlib.redirect_stderr(io.StringIO()) as errors:
+            program.obey()
+        return errors.getvalue()
+
     def start_coordinator(self):
         with mock.patch("coordinator.Etcd", lambda _: self.new_etcd()):
             return Coordinator(RETENTION, ["member"])

@@ -1,7 +1,6 @@
 """The coordinator: it appends nothing that a replica cannot apply, and takes no replica's entries away."""
 
 import contextlib
-import io
 import json
 import time
 import unittest
@@ -278,11 +277,9 @@ class InMemory(CoordinatorCases, MemoryCase):
         self.assertEqual(self.memory.revision, revision)
 
     def test_its_input(self):
-        lines = io.StringIO("\nretire now\nretire\nretired\n")
-        with mock.patch("sys.stdin", lines), contextlib.redirect_stderr(io.StringIO()) as errors:
-            self.coordinator.obey()
+        errors = self.obey(self.coordinator, "\nretire now\nretire\nretired\n")
         self.assertTrue(self.coordinator.retires)
-        self.assertEqual(errors.getvalue(), "unknown: \nunknown: retire now\nunknown: retired\n")
+        self.assertEqual(errors, "unknown: \nunknown: retire now\nunknown: retired\n")
 
 
 class OfAMember(CoordinatorCases, MemberCase):

@@ -28,14 +28,14 @@ class Between:
 
 
 class NotedStore:
-    """A store that notes whether the lock is held at each call which changes or saves it."""
+    """A store that notes whether the lock is taken at each call that changes or saves it."""
 
     def __init__(self, replica):
         self.store, self.replica = replica.store, replica
-        self.entries, self.held, self.saved = 0, [], []
+        self.entries, self.locked, self.saved = 0, [], []
 
     def __getattr__(self, name):
-        self.held.append((name, self.replica.between.lock.locked()))
+        self.locked.append((name, self.replica.between.lock.locked()))
         return getattr(self.store, name)
 
     def accept_items(self, items):
@@ -67,15 +67,15 @@ class Applying(MemoryCase):
         for entry in self.entries:
             self.replica.apply(entry)
         self.assertEqual(self.replica.between.seen, [True] * 6)
-        self.assertEqual(self.store.held, [("accept_items", True), ("join_at", True), ("accept_items", True)])
+        self.assertEqual(self.store.locked, [("accept_items", True), ("join_at", True), ("accept_items", True)])
 
     def test_a_checkpoint_is_made_between_two_entries(self):
         for entry in self.entries:
             self.replica.apply(entry)
             self.replica.save()
         self.assertEqual(self.store.saved, [(1, 1), (2, 2), (3, 3)])
-        self.assertIn(("checkpoint", True), self.store.held)
-        self.assertNotIn(("checkpoint", False), self.store.held)
+        self.assertIn(("checkpoint", True), self.store.locked)
+        self.assertNotIn(("checkpoint", False), self.store.locked)
 
     def test_a_checkpoint_waits_for_an_entry(self):
         """Nor is its revision read before the entry is whole."""

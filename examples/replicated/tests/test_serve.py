@@ -16,7 +16,7 @@ from model import Model
 
 VALUE = b"0.0."  # names its node and number, as the model expects
 WRITTEN, REPORTED, FURTHER = (hlcstore.stamp(reading) for reading in (5, 6, 7))
-NO_STAMPS = ["-1", str(1 << 64), "1" + "0" * 30, "", "+1", "1_0", " 1", "1.5", "0x10", "1e3", "ten", "%FF", "%B2", "%00"]
+NO_STAMPS = ["-1", str(1 << 64), "1" + "0" * 30, "", "+1", "1_0", "%201", "1.5", "0x10", "1e3", "%FF", "%B2", "%00"]
 
 
 class Answers:
@@ -63,21 +63,21 @@ class Answers:
     def test_stamps_that_are_none(self):
         for path in "/read?key=key", "/range?from=a", "/digest?to=z":
             for text in NO_STAMPS:
-                said = self.refused(f"{path}&stamp={text}".replace(" ", "%20"), 400)
-                self.assertRegex(said, "no stamp: .* decimal number below 2.64")
+                said = self.refused(f"{path}&stamp={text}", 400)
+                self.assertRegex(said, "stamp: expected a decimal number below 2.64, got ")
 
     def test_stamps_that_cannot_be_read(self):
         self.refused(f"/read?key=key&stamp={FURTHER}", 425)
         self.refused(f"/digest?stamp={(1 << 64) - 1}", 425)
 
-    def test_words_that_are_none(self):
+    def test_parameters_that_are_none(self):
         self.assertEqual(self.refused("/read", 400), "a key is missing")
         self.assertEqual(self.refused("/read?stamp=1", 400), "a key is missing")
-        self.assertEqual(self.refused("/read?kee=key", 400), "there is no such word here: kee")
-        self.assertEqual(self.refused("/range?key=key", 400), "there is no such word here: key")
-        self.assertEqual(self.refused("/state?stamp=1", 400), "there is no such word here: stamp")
-        self.assertEqual(self.refused("/digest?stamp=1&stamp=2", 400), "stamp is there more than once")
-        self.assertEqual(self.refused("/range?from=a&from=b", 400), "from is there more than once")
+        self.assertEqual(self.refused("/read?kee=key", 400), "unknown parameter: kee")
+        self.assertEqual(self.refused("/range?key=key", 400), "unknown parameter: key")
+        self.assertEqual(self.refused("/state?stamp=1", 400), "unknown parameter: stamp")
+        self.assertEqual(self.refused("/digest?stamp=1&stamp=2", 400), "stamp is given more than once")
+        self.assertEqual(self.refused("/range?from=a&from=b", 400), "from is given more than once")
 
     def test_paths_that_are_none(self):
         for path in "/", "/stat", "/state/", "/read/?key=key", "/nothing?stamp=-1":
@@ -104,7 +104,7 @@ class OfAReplica(Answers, MemoryCase):
     def test_certificates(self):
         self.assertEqual(self.refused("/certificate", 400), "a stamp is missing")
         for text in "-1", str(1 << 64), "", "x":
-            self.assertIn("no stamp", self.refused(f"/certificate?stamp={text}", 400))
+            self.assertIn("decimal number", self.refused(f"/certificate?stamp={text}", 400))
         self.refused(f"/certificate?stamp={FURTHER}", 425)
         self.assertEqual(self.ask(f"/certificate?stamp={REPORTED}")[0], 200)
         self.refused(f"/certificate?stamp={WRITTEN}", 410)
@@ -115,7 +115,7 @@ class OfAReplica(Answers, MemoryCase):
         self.answerer.save()
         status, saved = self.ask("/checkpoint")
         self.assertEqual((status, hlcstore.Store.restore(saved).word), (200, 1))
-        self.assertIn("no such word", self.refused("/checkpoint?from=a", 400))
+        self.assertIn("unknown parameter", self.refused("/checkpoint?from=a", 400))
 
     def test_too_many_snapshots_are_open(self):
         snapshots = [self.answerer.store.snapshot() for _ in range(1024)]

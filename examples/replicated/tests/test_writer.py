@@ -1,7 +1,5 @@
 """The writer: its clock beside wrong ones, its node, and its end."""
 
-import contextlib
-import io
 import json
 import unittest
 from unittest import mock
@@ -136,11 +134,9 @@ class Nodes(MemoryCase):
 
     def test_its_input(self):
         writer = self.start_beside(self.coordinator.answer)
-        lines = io.StringIO("\nclock\nclock soon\nclock -5\nstop\nretire\n")
-        with mock.patch("sys.stdin", lines), contextlib.redirect_stderr(io.StringIO()) as errors:
-            writer.obey()
+        errors = self.obey(writer, "\nclock\nclock soon\nclock -5\nstop\nretire\n")
         self.assertEqual((writer.offset, writer.retires), (-5, True))
-        self.assertEqual(errors.getvalue(), "unknown: \nunknown: clock\nunknown: clock soon\nunknown: stop\n")
+        self.assertEqual(errors, "unknown: \nunknown: clock\nunknown: clock soon\nunknown: stop\n")
 
 
 if __name__ == "__main__":
