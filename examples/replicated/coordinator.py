@@ -152,9 +152,16 @@ class Coordinator:
             os._exit(0)
 
 
+def milliseconds(word):
+    number = int(word)
+    if number < 0:
+        raise ValueError
+    return number
+
+
 def options():
     parser = argparse.ArgumentParser(description=__doc__, formatter_class=argparse.RawDescriptionHelpFormatter)
-    parser.add_argument("retention", type=int)
+    parser.add_argument("retention", type=milliseconds)
     parser.add_argument("members", nargs="+", metavar="member")
     return parser.parse_args()
 

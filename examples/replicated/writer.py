@@ -48,21 +48,24 @@ class Writer:
     def find_node(self):
         """Returns the node of this name. If there is none, the coordinator is asked to let one join."""
         name = self.name.encode()
-        if not self.etcd.get(b"node/" + name):
-            self.etcd.transact([], [put(b"ask/join/" + name, b"")])
         while not (found := self.etcd.get(b"node/" + name)):
-            self.end_if_refused(b"ask/join/" + name)
+            self.ask(b"ask/join/" + name)
             time.sleep(0.02)
         return json.loads(found.value)
 
-    def end_if_refused(self, request):
-        """Ends the program if no node can join any more."""
+    def ask(self, request):
+        """Makes a request if it is not there, and ends the program if no node can join any more.
+
+        Another process of this name may have made the same request, and have taken it back.
+        """
         answer, coordinator = self.etcd.get(request), self.etcd.get(log.link_key(log.COORDINATOR))
-        if answer and answer.value:
-            self.etcd.transact([], [delete(request)])
-            raise SystemExit(f"no node for {self.name}: {json.loads(answer.value)['refused']}")
         if coordinator and json.loads(coordinator.value).get("retired"):
             raise SystemExit(f"no node for {self.name}: the coordinator retired")
+        if not answer:
+            self.etcd.transact([], [put(request, b"")])
+        elif answer.value:
+            self.etcd.transact([], [delete(request)])
+            raise SystemExit(f"no node for {self.name}: {json.loads(answer.value)['refused']}")
 
     # ---- The clock ----
 

@@ -10,6 +10,7 @@ from support import RETENTION, MemberCase, MemoryCase
 
 import log
 from coordinator import MOST_NODES
+from etcd import delete
 from hlcstore import Node, split, stamp
 
 HOUR = 3_600_000  # milliseconds
@@ -268,6 +269,21 @@ class InMemory(CoordinatorCases, MemoryCase):
         self.assertIsNone(self.value(b"node/late"))
         self.coordinator.append_item(self.coordinator.node.report)
         self.assertEqual(len(self.links()), 1024)
+
+    def test_a_request_is_refused_for_two_writers_of_one_name(self):
+        """The first one takes the request back as it ends, and the second one asks again."""
+        self.coordinator.head["nodes"] = MOST_NODES
+        waits = []
+
+        def wait(_):
+            self.coordinator.answer()
+            if not waits:
+                self.new_etcd().transact([], [delete(b"ask/join/late")])
+            waits.append(1)
+
+        with mock.patch("writer.time.sleep", wait), self.assertRaisesRegex(SystemExit, "no node for late"):
+            self.start_writer("late")
+        self.assertIsNone(self.value(b"ask/join/late"))
 
     def test_a_refused_request_is_answered_once(self):
         self.coordinator.head["nodes"] = MOST_NODES

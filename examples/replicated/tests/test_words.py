@@ -8,7 +8,7 @@ import unittest
 HERE = pathlib.Path(__file__).resolve().parent.parent
 MEMBER = "127.0.0.1:1"
 PROGRAMS = {
-    "coordinator.py": ["six", MEMBER],
+    "coordinator.py": ["-6000", MEMBER],
     "model.py": [],
     "replica.py": ["r1", "folder", "often", MEMBER],
     "writer.py": ["w1", "0", "0", "1", MEMBER],
