@@ -4,9 +4,12 @@
 // std::string. A refusal is thrown as hlcstore::error. Where there is no memory outside the library, std::bad_alloc is
 // thrown.
 //
+// Lifetimes. A store must outlive its snapshots, and a snapshot its ranges and their iterators; else their calls throw
+// HLC_CLOSED and HLC_NO_SNAPSHOT. The range of a temporary snapshot owns it.
+//
 // Threads. Methods that are const only ask: they may run beside each other on one store, while nothing changes the
-// store. All other methods need the store alone, and so do the destructors of a store and of its snapshots.
-// hlcstore::shared_store orders the calls of several threads.
+// store. All other methods need the store alone, and so do the destructors of a store, of its snapshots, and of ranges
+// that own one. hlcstore::shared_store orders the calls of several threads.
 #ifndef HLCSTORE_HPP
 #define HLCSTORE_HPP
 #include <cstdint>

@@ -1,10 +1,11 @@
-// What the story does not show of hlcstore.hpp: moving and closing, ranges in pieces, large values and certificates,
-// batches, and refusals as exceptions.
+// What the story does not show of hlcstore.hpp: moving and closing, ranges in pieces and of temporary snapshots, the
+// longest keys and values, long certificates, batches, restores that are given up, and refusals as exceptions.
 #include <algorithm>
 #include <cstdio>
 #include <hlcstore.hpp>
 #include <map>
 #include <optional>
+#include <stdexcept>
 #include <string>
 #include <string_view>
 #include <type_traits>
@@ -58,6 +59,12 @@ std::map<string, string> many_pairs() {
   return pairs;
 }
 
+// Pairs of the longest keys and values at the ends and in the middle, with short ones between.
+std::map<string, string> longest_pairs() {
+  const string key(254, 'k'), value(65535, 'v');
+  return {{'a' + key, value}, {"b", "x"}, {'c' + key, value}, {'d' + key, ""}, {"e", value}, {'f' + key, value}};
+}
+
 store filled(const std::map<string, string>& pairs) {
   store filled(1);
   node writer(0);
@@ -86,6 +93,60 @@ void ranges() {
   EXPECT((*place++).first == "key00001" && place->first == "key00002");
   const auto none = snapshot.range("l");
   EXPECT(none.begin() == none.end());
+}
+
+void longest() {
+  const std::map<string, string> pairs = longest_pairs();
+  store store = filled(pairs);
+  const hlcstore::snapshot snapshot = store.open_snapshot();
+  EXPECT((std::map<string, string>(snapshot.begin(), snapshot.end()) == pairs));
+  auto expected = pairs.begin();
+  for (const string& key : snapshot.keys()) EXPECT(key == (expected++)->first);
+  EXPECT(expected == pairs.end());
+  std::vector<string_view> keys;
+  for (const auto& pair : pairs) keys.push_back(pair.first);
+  const auto values = snapshot.get_all(keys);
+  for (std::size_t at = 0; at < keys.size(); at++) EXPECT(values[at] == pairs.at(string(keys[at])));
+  for (const auto& [key, value] : pairs) EXPECT(snapshot.get(key) == value);
+  // A pair takes its bytes and two lengths of eight bytes, and an answer its bytes, a length and a byte.
+  EXPECT(snapshot.scan("", "", 65806).many == 1 && snapshot.scan("", "", 65805).many == 0);
+}
+
+template <class Type, class = void>
+constexpr bool has_begin = false;
+template <class Type>
+constexpr bool has_begin<Type, std::void_t<decltype(std::declval<Type>().begin())>> = true;
+template <class Type, class = void>
+constexpr bool opens_snapshots = false;
+template <class Type>
+constexpr bool opens_snapshots<Type, std::void_t<decltype(std::declval<Type>().open_snapshot(timestamp()))>> = true;
+
+// What refers to a temporary object does not compile, or owns it.
+void temporaries() {
+  static_assert(has_begin<const hlcstore::snapshot&> && !has_begin<hlcstore::snapshot>);
+  static_assert(has_begin<hlcstore::pair_range> && has_begin<hlcstore::key_range>);
+  static_assert(has_begin<hlcstore::owning_key_range&> && !has_begin<hlcstore::owning_key_range>);
+  static_assert(opens_snapshots<store&> && !opens_snapshots<store>);
+  static_assert(opens_snapshots<hlcstore::shared_store&> && !opens_snapshots<hlcstore::shared_store>);
+  const std::map<string, string> pairs = many_pairs();
+  const std::map<string, string> some(pairs.lower_bound("key00100"), pairs.lower_bound("key00900"));
+  store store = filled(pairs);
+  std::map<string, string> found;
+  for (const auto& pair : store.open_snapshot().range("key00100", "key00900")) found.insert(pair);
+  EXPECT(found == some && store.snapshots().empty());
+  found.clear();
+  for (const auto& pair : store.open_snapshot()) found.insert(pair);
+  EXPECT(found == pairs && store.snapshots().empty());
+  auto expected = pairs.begin();
+  for (const string& key : store.open_snapshot().keys()) EXPECT(key == (expected++)->first);
+  EXPECT(expected == pairs.end() && store.snapshots().empty());
+  {
+    hlcstore::snapshot snapshot = store.open_snapshot();
+    const hlcstore::owning_pair_range owned = std::move(snapshot).range("key00100", "key00900");
+    EXPECT((store.snapshots().size() == 1 && std::map<string, string>(owned.begin(), owned.end()) == some));
+    EXPECT(refusal_of([&] { snapshot.get("key00100"); }) == HLC_NO_SNAPSHOT);
+  }
+  EXPECT(store.snapshots().empty());
 }
 
 void reads() {
@@ -142,6 +203,50 @@ void ownership() {
   moved.close();
   moved.close();
   EXPECT(moved.raw() == nullptr && refusal_of([&] { moved.rows(); }) == HLC_CLOSED);
+}
+
+// A snapshot of a store that was closed, and opened again with a snapshot of the same number.
+void reopened() {
+  store store(1);
+  node writer(0);
+  write(store, writer, 1, "a", "one");
+  hlcstore::snapshot old = store.open_snapshot();
+  hlcstore::store other(1);
+  node other_writer(0);
+  write(other, other_writer, 1, "a", "two");
+  EXPECT(other.open_snapshot().release() == old.id());
+  const auto place = old.begin();
+  store.close();
+  EXPECT(store.restore(other.checkpoint(7)) == 7 && store.snapshots().size() == 1);
+  EXPECT(refusal_of([&] { old.get("a"); }) == HLC_CLOSED && refusal_of([&] { old.list(); }) == HLC_CLOSED);
+  EXPECT(place->second == "one");
+  old.close();
+  EXPECT(store.snapshots().size() == 1 && store.attach_snapshot(1).get("a") == "two");
+}
+
+// Restores that are given up, or refused. Valgrind looks for what they leave.
+void restores_that_fail() {
+  store store = filled(longest_pairs());
+  const string saved = store.checkpoint(7);
+  {
+    hlcstore::restoring begun;
+    hlcstore::restoring fed;
+    fed.feed(saved.substr(0, saved.size() / 2));
+  }
+  hlcstore::store copy;
+  {
+    hlcstore::restoring cut;
+    cut.feed(saved.substr(0, saved.size() - 1));
+    EXPECT(refusal_of([&] { copy.restore(cut); }) == HLC_BAD_BYTES);
+    EXPECT(refusal_of([&] { cut.feed("more"); }) == HLC_CLOSED);
+  }
+  {
+    hlcstore::restoring whole;
+    whole.feed(saved);
+    EXPECT(refusal_of([&] { store.restore(whole); }) == HLC_IS_OPEN);
+  }
+  EXPECT(refusal_of([&] { copy.restore(string_view(saved).substr(1)); }) == HLC_BAD_BYTES);
+  EXPECT(copy.restore(saved) == 7 && copy.checkpoint(7) == saved);
 }
 
 void refusals() {
@@ -232,6 +337,24 @@ void parts() {
   EXPECT(refusal_of([&] { store.vacuum_part(timestamp::of(1)); }) == HLC_BELOW_HORIZON);
 }
 
+// Parts that end at the longest keys. Each key has two rows, and a part leaves one.
+void parts_of_longest_keys() {
+  const std::map<string, string> pairs = longest_pairs();
+  store store = filled(pairs);
+  node writer = node::restore(0, store.link(0).head, store.link(0).next);
+  for (const auto& [key, value] : pairs) write(store, writer, 2, key, "y");
+  const timestamp stamp = store.floor();
+  std::optional<string> after = "";
+  auto last = pairs.begin();
+  for (std::size_t left = pairs.size(); left > 0; left--, last++) {
+    const hlcstore::partial_vacuum made = store.vacuum_part(stamp, *after, 1);
+    after = made.next;
+    EXPECT(made.dropped == 1 && after.value_or(last->first) == last->first && after.has_value() == (left > 1));
+    if (!after) break;
+  }
+  EXPECT(!after && store.rows() == pairs.size());
+}
+
 void restarts() {
   hlcstore::store store = filled(many_pairs());
   store.open_snapshot().release();
@@ -244,6 +367,15 @@ void restarts() {
   EXPECT(copy.snapshots().empty() && store.snapshots().size() == 1);
 }
 
+bool is_out_of_range(std::uint64_t physical, std::uint64_t counter) {
+  try {
+    timestamp::of(physical, counter);
+  } catch (const std::out_of_range&) {
+    return true;
+  }
+  return false;
+}
+
 void stamps() {
   node writer(3, timestamp::of(5, 9));
   const timestamp sent = writer.send(5);
@@ -251,18 +383,27 @@ void stamps() {
   EXPECT(writer.receive(timestamp::of(8), 6) == timestamp::of(8, 1) && writer.id() == 3 && writer.next() == 0);
   writer.raise(timestamp::of(9));
   EXPECT(writer.report(1).stamp == timestamp::of(9, 1) && writer.next() == 1 && !writer.retired());
+  static_assert(timestamp::of(1, 2).word == 65538);
+  EXPECT(timestamp::of((std::uint64_t{1} << 48) - 1, 65535).word == UINT64_MAX);
+  EXPECT(is_out_of_range(std::uint64_t{1} << 48, 0) && is_out_of_range(std::uint64_t{1} << 50, 0));
+  EXPECT(is_out_of_range(UINT64_MAX, 0) && is_out_of_range(1, 65536) && is_out_of_range(1, UINT64_MAX));
 }
 
 }  // namespace
 
 int main() {
   ranges();
+  longest();
+  temporaries();
   reads();
   ownership();
+  reopened();
+  restores_that_fail();
   refusals();
   partly_accepted();
   certificates();
   parts();
+  parts_of_longest_keys();
   restarts();
   stamps();
   std::puts(wrong == 0 ? "all right" : "wrong");

@@ -1,33 +1,49 @@
 // Four threads read a shared store, each in snapshots of its own, while a fifth one writes and vacuums. Each answer is
-// checked. The word, if there is one, is how often a reader looks.
+// checked. Then eight readers let a writer pass, and stores end beside their readers. The word, if there is one, is how
+// often a reader looks.
 //
 // In round r the value of each key is r, and one batch writes them all. So in a snapshot all values are the same.
+#include <atomic>
+#include <chrono>
 #include <cstdio>
 #include <cstdlib>
 #include <hlcstore.hpp>
+#include <memory>
 #include <string>
 #include <thread>
+#include <utility>
 #include <vector>
 
 namespace {
 
+using namespace std::chrono_literals;
+using hlcstore::shared_snapshot;
+using hlcstore::shared_store;
+using hlcstore::timestamp;
+using std::chrono::steady_clock;
+
 constexpr int keys = 50;
 
+// Writes so many keys in one batch, with the value of a round, and returns whether the store accepted them.
+bool write_round(hlcstore::store& store, hlcstore::node& writer, int many, std::uint64_t round) {
+  hlcstore::batch batch;
+  for (int key = 0; key < many; key++) {
+    const std::string name = "key" + std::to_string(key), value = std::to_string(round);
+    batch.write(writer.write(round, name, value), name, value);
+  }
+  return static_cast<bool>(store.accept(batch));
+}
+
 // Writes all keys again until the readers have ended.
-void write_rounds(hlcstore::shared_store& shared, hlcstore::node writer, const bool& ended, std::mutex& guard) {
-  for (std::uint64_t round = 1;; round++) {
-    hlcstore::batch batch;
-    for (int key = 0; key < keys; key++) {
-      const std::string name = "key" + std::to_string(key), value = std::to_string(round);
-      batch.write(writer.write(round, name, value), name, value);
-    }
-    const bool accepted = shared.change([&](hlcstore::store& store) {
-      const hlcstore::batch_answer made = store.accept(batch);
+void write_rounds(shared_store& shared, const std::atomic<bool>& ended) {
+  hlcstore::node writer(0);
+  bool accepted = true;
+  for (std::uint64_t round = 1; accepted && !ended; round++) {
+    accepted = shared.change([&](hlcstore::store& store) {
+      const bool made = write_round(store, writer, keys, round);
       if (round % 4 == 0) store.vacuum();
-      return static_cast<bool>(made);
+      return made;
     });
-    const std::lock_guard lock(guard);
-    if (ended || !accepted) return;
   }
 }
 
@@ -43,37 +59,111 @@ bool is_whole(const hlcstore::snapshot& snapshot) {
   return many == keys && snapshot.count() == keys;
 }
 
-void look(hlcstore::shared_store& shared, int rounds, int& wrong) {
-  for (int round = 0; round < rounds; round++) {
-    const hlcstore::shared_snapshot snapshot = shared.open_snapshot();
-    const std::string before = snapshot.read([](const auto& open) { return open.digest(); });
-    if (!snapshot.read(is_whole)) wrong++;
-    const auto floor = shared.read([](const hlcstore::store& store) { return store.floor(); });
-    const auto stamp = snapshot.read([](const auto& open) { return open.stamp(); });
-    if (floor < stamp) wrong++;
-    if (snapshot.read([](const auto& open) { return open.digest(); }) != before) wrong++;
+timestamp floor_of(const hlcstore::store& store) { return store.floor(); }
+
+std::string digest_of(const hlcstore::snapshot& snapshot) { return snapshot.digest(); }
+
+// Opens a snapshot at the stamp of the floor; at a later one where a vacuum went past that before.
+shared_snapshot open_at_stamp(shared_store& shared) {
+  for (;;) {
+    try {
+      return shared.open_snapshot(shared.read(floor_of));
+    } catch (const hlcstore::error& refused) {
+      if (refused.code() != HLC_BELOW_HORIZON) throw;
+    }
   }
+}
+
+// Checks snapshots, of which half were opened at a stamp.
+void look(shared_store& shared, int rounds, int& wrong) {
+  for (int round = 0; round < rounds; round++) {
+    const shared_snapshot snapshot = round % 2 == 0 ? shared.open_snapshot() : open_at_stamp(shared);
+    const std::string before = snapshot.read(digest_of);
+    if (!snapshot.read(is_whole)) wrong++;
+    if (shared.read(floor_of) < snapshot.read([](const auto& open) { return open.stamp(); })) wrong++;
+    if (snapshot.read(digest_of) != before) wrong++;
+  }
+}
+
+// Returns how many answers were wrong.
+int read_beside_a_writer(int rounds) {
+  shared_store shared{hlcstore::store(1)};
+  std::vector<int> wrong(4, 0);
+  std::vector<std::thread> readers;
+  std::atomic<bool> ended = false;
+  std::thread writer([&] { write_rounds(shared, ended); });
+  for (int& mistakes : wrong) readers.emplace_back([&] { look(shared, rounds, mistakes); });
+  for (std::thread& reader : readers) reader.join();
+  ended = true;
+  writer.join();
+  int all = shared.read([](const hlcstore::store& store) { return store.snapshots().empty() ? 0 : 1; });
+  for (const int mistakes : wrong) all += mistakes;
+  return all;
+}
+
+// Eight threads always read, in turns that overlap. A writer makes ten changes meanwhile. Returns whether it did before
+// the readers gave up.
+bool readers_let_a_writer_pass(int many) {
+  hlcstore::store filled(1);
+  hlcstore::node writer(0);
+  write_round(filled, writer, many, 1);
+  shared_store shared(std::move(filled));
+  const shared_snapshot snapshot = shared.open_snapshot();
+  const std::string digest = snapshot.read(digest_of);
+  const auto end = steady_clock::now() + 20s;
+  std::atomic<bool> ended = false, wrong = false;
+  std::vector<std::thread> readers;
+  for (int number = 0; number < 8; number++) {
+    readers.emplace_back([&] {
+      while (!ended && steady_clock::now() < end) wrong = wrong || snapshot.read(digest_of) != digest;
+    });
+  }
+  for (std::uint64_t reading = 2; reading < 12; reading++) {
+    shared.change([&](hlcstore::store& store) { store.accept_report(writer.report(reading)); });
+  }
+  ended = true;
+  const bool in_time = steady_clock::now() < end;
+  for (std::thread& reader : readers) reader.join();
+  return in_time && !wrong && shared.read(floor_of) == timestamp::of(11);
+}
+
+// Ends a store beside a reader. Returns whether the reader's answers were right, and refused from then on.
+bool store_ends_beside_a_reader() {
+  auto shared = std::make_unique<shared_store>(hlcstore::store(1));
+  shared->change([](hlcstore::store& store) {
+    hlcstore::node writer(0);
+    return write_round(store, writer, keys, 1);
+  });
+  const shared_snapshot snapshot = shared->open_snapshot();
+  std::atomic<int> looks = 0;
+  std::uint32_t refusal = HLC_OK;
+  std::thread reader([&] {
+    try {
+      while (looks < 100000 && snapshot.read(is_whole)) looks++;
+    } catch (const hlcstore::error& refused) {
+      refusal = refused.code();
+    }
+  });
+  while (looks == 0) std::this_thread::yield();
+  shared = nullptr;
+  reader.join();
+  return refusal == HLC_CLOSED;
+}
+
+bool report(const char* what, bool is_right) {
+  if (!is_right) std::printf("wrong: %s\n", what);
+  return is_right;
 }
 
 }  // namespace
 
 int main(int count, char** words) {
   const int rounds = count > 1 ? std::atoi(words[1]) : 500;
-  hlcstore::shared_store shared{hlcstore::store(1)};
-  std::vector<int> wrong(4, 0);
-  std::vector<std::thread> readers;
-  std::mutex guard;
-  bool ended = false;
-  std::thread writer([&] { write_rounds(shared, hlcstore::node(0), ended, guard); });
-  for (int& mistakes : wrong) readers.emplace_back([&] { look(shared, rounds, mistakes); });
-  for (std::thread& reader : readers) reader.join();
-  {
-    const std::lock_guard lock(guard);
-    ended = true;
+  bool right = report("reads beside a writer", read_beside_a_writer(rounds) == 0);
+  right = report("readers that let a writer pass", readers_let_a_writer_pass(20 * rounds)) && right;
+  for (int store = 0; store <= rounds / 10; store++) {
+    right = report("a store that ends beside a reader", store_ends_beside_a_reader()) && right;
   }
-  writer.join();
-  int all = shared.read([](const hlcstore::store& store) { return store.snapshots().empty() ? 0 : 1; });
-  for (const int mistakes : wrong) all += mistakes;
-  std::puts(all == 0 ? "all right" : "wrong");
-  return all != 0;
+  if (right) std::puts("all right");
+  return right ? 0 : 1;
 }

@@ -10,6 +10,11 @@
 
 namespace hlcstore::detail {
 
+// How many bytes a key and a value have at most, and a length before them.
+inline constexpr std::size_t longest_key = 255;
+inline constexpr std::size_t longest_value = 65535;
+inline constexpr std::size_t length_size = 8;
+
 inline const std::uint8_t* bytes(std::string_view text) noexcept {
   return reinterpret_cast<const std::uint8_t*>(text.data());
 }
@@ -82,12 +87,12 @@ class output {
   hlc_output raw_ = HLC_NO_OUTPUT;
 };
 
-// Takes a length of eight bytes, the low one first, from the front of some bytes, and so many bytes behind it.
+// Takes a length of eight bytes, the low one first, from the front of some bytes, and so many bytes after it.
 inline std::string_view take_text(std::string_view& rest) {
   std::uint64_t len = 0;
-  for (std::size_t at = 8; at > 0; at--) len = len << 8 | static_cast<unsigned char>(rest[at - 1]);
-  const std::string_view text = rest.substr(8, len);
-  rest.remove_prefix(8 + len);
+  for (std::size_t at = length_size; at > 0; at--) len = len << 8 | static_cast<unsigned char>(rest[at - 1]);
+  const std::string_view text = rest.substr(length_size, len);
+  rest.remove_prefix(length_size + len);
   return text;
 }
 

@@ -3,6 +3,7 @@
 #define HLCSTORE_NODE_HPP
 #include <cstddef>
 #include <cstdint>
+#include <stdexcept>
 #include <string>
 #include <string_view>
 #include <vector>
@@ -11,11 +12,14 @@
 
 namespace hlcstore {
 
-// A stamp: a physical part below 2^48, and a counter.
+// A stamp: a physical part below 2^48, and a counter below 2^16.
 struct timestamp {
   std::uint64_t word = 0;
 
-  static constexpr timestamp of(std::uint64_t physical, std::uint16_t counter = 0) noexcept {
+  // The stamp with these parts. Throws std::out_of_range where one is too large.
+  static constexpr timestamp of(std::uint64_t physical, std::uint64_t counter = 0) {
+    if (physical >> 48 != 0) throw std::out_of_range("the physical part of a stamp is 2^48 or more");
+    if (counter >> 16 != 0) throw std::out_of_range("the counter of a stamp is 2^16 or more");
     return {physical << 16 | counter};
   }
   constexpr std::uint64_t physical() const noexcept { return word >> 16; }

@@ -75,47 +75,68 @@ template <class Entries>
 class cursor {
  public:
   cursor(const view& view, std::string_view from, std::string_view to) : view_(view), from_(from), to_(to) {}
+  cursor(const cursor&) = delete;
+  cursor& operator=(const cursor&) = delete;
 
   const typename Entries::value_type& entry() const noexcept { return entry_; }
 
-  // Goes to the next entry, and returns whether there is one.
+  // Goes to the next entry, and returns whether there is one. Where it throws, it stays at the entry.
   bool advance() {
     while (left_ == 0) {
       if (!more_) return false;
       fetch();
     }
-    Entries::take(rest_, entry_);
+    std::string_view rest = rest_;
+    Entries::take(rest, spare_);
+    // Nothing is thrown from here on.
+    std::swap(entry_, spare_);
+    has_entry_ = true;
+    rest_ = rest;
     left_--;
-    if (left_ == 0) from_.assign(Entries::key(entry_)).push_back('\0');
     return true;
   }
 
  private:
+  static constexpr std::size_t room_for_any = 2 * length_size + longest_key + longest_value;
+
+  // Fetches the piece after the entry.
   void fetch() {
+    if (has_entry_) from_.assign(Entries::key(entry_)).push_back('\0');
     part next = view_.scan(Entries::scan, from_, to_, room_);
+    if (!goes_on(next)) throw error(HLC_MORE);
+    // Nothing is thrown from here on.
     piece_ = std::move(next.bytes);
     rest_ = piece_;
     left_ = next.many;
     more_ = next.more;
-    room_ = 65806;
+    room_ = room_for_any;
+  }
+
+  // Whether a piece begins after the entry, or has none for a good reason. So each loop over a range ends.
+  bool goes_on(const part& piece) const {
+    if (piece.many == 0) return !piece.more || room_ < room_for_any;
+    std::string_view bytes = piece.bytes;
+    return !has_entry_ || take_text(bytes) > Entries::key(entry_);
   }
 
   view view_;
   std::string from_, to_, piece_;
   std::string_view rest_;
   std::size_t left_ = 0, room_ = 4096;
-  bool more_ = true;
-  typename Entries::value_type entry_;
+  bool more_ = true, has_entry_ = false;
+  // The spare one keeps its memory for the entry after this one.
+  typename Entries::value_type entry_, spare_;
 };
 
 }  // namespace detail
 
 // The pairs, or the keys, of a range of a snapshot, in byte order. They are fetched in pieces while a loop goes on: a
-// range of any size takes little memory, and the store may change in between. Each step may be a call that asks.
+// range of any size takes little memory, and the store may change in between. Each step may be a call that asks. The
+// snapshot must stay open meanwhile.
 template <class Entries>
 class range {
  public:
-  // Copies of an iterator go on together.
+  // Copies of an iterator go on together. Where `++` throws, the iterator stays where it is, and may go on later.
   class iterator {
    public:
     using iterator_category = std::input_iterator_tag;
@@ -162,11 +183,17 @@ class range {
   std::string from_, to_;
 };
 
+template <class Entries>
+class owning_range;
+
 using pair_range = range<detail::pairs>;
 using key_range = range<detail::keys>;
+using owning_pair_range = owning_range<detail::pairs>;
+using owning_key_range = owning_range<detail::keys>;
 
 // An open snapshot, which closes itself. A range goes from the key `from` on, up to the key `to` and without it, or to
-// the end if `to` has no bytes. The calls of a snapshot that outlives its store throw HLC_CLOSED.
+// the end if `to` has no bytes. That of a temporary snapshot owns it. The calls of a snapshot that outlives its store
+// throw HLC_CLOSED.
 class snapshot {
  public:
   snapshot(snapshot&&) noexcept = default;
@@ -201,14 +228,18 @@ class snapshot {
       bytes.append(key);
     }
     std::vector<std::optional<std::string>> values;
+    values.reserve(keys.size());
     while (values.size() < keys.size()) read_piece(places, bytes, values);
     return values;
   }
 
-  pair_range::iterator begin() const { return range().begin(); }
+  pair_range::iterator begin() const& { return range().begin(); }
+  pair_range::iterator begin() && = delete;
   pair_range::iterator end() const noexcept { return {}; }
-  pair_range range(std::string_view from = {}, std::string_view to = {}) const { return {view_, from, to}; }
-  key_range keys(std::string_view from = {}, std::string_view to = {}) const { return {view_, from, to}; }
+  pair_range range(std::string_view from = {}, std::string_view to = {}) const& { return {view_, from, to}; }
+  key_range keys(std::string_view from = {}, std::string_view to = {}) const& { return {view_, from, to}; }
+  owning_pair_range range(std::string_view from = {}, std::string_view to = {}) &&;
+  owning_key_range keys(std::string_view from = {}, std::string_view to = {}) &&;
 
   // As many pairs, or keys, of a range as fit into so many bytes.
   part scan(std::string_view from, std::string_view to, std::size_t room) const {
@@ -254,16 +285,17 @@ class snapshot {
   snapshot(std::shared_ptr<hlc_store> handle, std::uint64_t id, timestamp stamp) noexcept
       : view_{std::move(handle), id}, stamp_(stamp) {}
 
-  // Reads the keys that have no answer yet, as many as fit. There is room for one of any length.
+  // Reads the keys that have no answer yet, as many as fit. There is room for the longest answer.
   void read_piece(const std::vector<hlc_place>& places, std::string_view bytes,
                   std::vector<std::optional<std::string>>& values) const {
     hlc_store mine = view_.copy();
-    std::string piece(65544, '\0');
+    std::string piece(1 + detail::length_size + detail::longest_value, '\0');
     std::size_t len, many;
     const std::uint32_t code = hlc_read_all(&mine, id(), places.data() + values.size(), places.size() - values.size(),
                                             detail::bytes(bytes), bytes.size(), detail::bytes(piece), piece.size(),
                                             &len, &many);
     if (code != HLC_MORE) detail::check(code);
+    if (many == 0) throw error(HLC_MORE);
     std::string_view rest = piece;
     for (std::size_t at = 0; at < many; at++) {
       const bool has_value = rest.front() == 1;
@@ -275,6 +307,34 @@ class snapshot {
   detail::view view_;
   timestamp stamp_;
 };
+
+// A range that owns its snapshot, and closes it.
+template <class Entries>
+class owning_range {
+ public:
+  using iterator = typename range<Entries>::iterator;
+
+  owning_range(snapshot owned, range<Entries> listed) noexcept
+      : snapshot_(std::move(owned)), range_(std::move(listed)) {}
+
+  iterator begin() const& { return range_.begin(); }
+  iterator begin() && = delete;
+  iterator end() const noexcept { return {}; }
+
+ private:
+  snapshot snapshot_;
+  range<Entries> range_;
+};
+
+inline owning_pair_range snapshot::range(std::string_view from, std::string_view to) && {
+  pair_range listed = range(from, to);
+  return {std::move(*this), std::move(listed)};
+}
+
+inline owning_key_range snapshot::keys(std::string_view from, std::string_view to) && {
+  key_range listed = keys(from, to);
+  return {std::move(*this), std::move(listed)};
+}
 
 }  // namespace hlcstore
 #endif

@@ -1,6 +1,7 @@
 // Part of hlcstore.hpp: the store, and what it answers and reports.
 #ifndef HLCSTORE_STORE_HPP
 #define HLCSTORE_STORE_HPP
+#include <algorithm>
 #include <cstddef>
 #include <cstdint>
 #include <memory>
@@ -141,8 +142,8 @@ class store {
     handle_ = nullptr;
   }
 
-  // The handle, for calls of hlcstore.h; null where the store is closed.
-  hlc_store* raw() noexcept { return handle_.get(); }
+  // The handle, for calls of hlcstore.h other than hlc_close; null where the store is closed.
+  hlc_store* raw() & noexcept { return handle_.get(); }
 
   // ---- Items ----
 
@@ -205,18 +206,21 @@ class store {
 
   // ---- Snapshots ----
 
-  // Opens a snapshot: at the floor, or at a stamp.
-  snapshot open_snapshot() {
+  // Opens a snapshot: at the floor, or at a stamp. The store must outlive it, so a temporary one has no such call.
+  snapshot open_snapshot() & {
     std::uint64_t id;
     const std::uint64_t stamp = detail::word_of(hlc_open_snapshot_at_floor, own(), &id);
     return {handle_, id, {stamp}};
   }
-  snapshot open_snapshot(timestamp stamp) {
+  snapshot open_snapshot(timestamp stamp) & {
     return {handle_, detail::word_of(hlc_open_snapshot, own(), stamp.word), stamp};
   }
+  snapshot open_snapshot() && = delete;
+  snapshot open_snapshot(timestamp stamp) && = delete;
 
   // The open snapshot of this id: one that was released, or was open when the store was saved.
-  snapshot attach_snapshot(std::uint64_t id) {
+  snapshot attach_snapshot(std::uint64_t id) && = delete;
+  snapshot attach_snapshot(std::uint64_t id) & {
     for (const snapshot_info& open : snapshots()) {
       if (open.id == id) return {handle_, id, open.stamp};
     }
@@ -291,13 +295,15 @@ class store {
   partial_vacuum vacuum_part(timestamp stamp, std::string_view after = {}, std::size_t most = 1024) {
     partial_vacuum made;
     // A part of no keys ends where it begins.
-    std::string next(after.size() < 255 ? 255 : after.size(), '\0');
+    std::string next(std::max(detail::longest_key, after.size()), '\0');
     std::size_t len = 0;
     bool more = false;
     const std::uint32_t code = hlc_vacuum_part(
         own(), stamp.word, detail::bytes(after), after.size(), most, &made.stamp.word, &made.kept, &made.bytes,
         &made.dropped, detail::bytes(next), next.size(), &len, &more);
     detail::check(code, made.stamp.word);
+    // A key that did not fit would let the caller's loop begin again.
+    if (len > next.size()) throw error(HLC_MORE);
     next.resize(len);
     if (more) made.next = std::move(next);
     return made;
