@@ -159,7 +159,7 @@ impl std::error::Error for Error {}
 pub struct Stopped {
     /// How many items were accepted, or passed over, before the refused one.
     pub items: usize,
-    /// How many bytes of a log these items have, so that a later call can continue behind them; 0 of
+    /// How many bytes of a log these items have, so that a later call can continue after them; 0 of
     /// [`Store::accept_all`](crate::Store::accept_all).
     pub bytes: usize,
     /// Why the next item was refused.

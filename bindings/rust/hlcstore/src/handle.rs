@@ -342,6 +342,7 @@ impl Handle {
                 store, to, at, at_len, most, word, kept, bytes, dropped, out, room, &mut len, &mut more,
             )
         })?;
+        assert!(len <= room, "a stored key has at most {KEY_ROOM} bytes");
         // SAFETY: there was room for the key, so the call has written these bytes.
         unsafe { next.set_len(len) };
         Ok(VacuumPart { vacuumed: made.vacuumed(), next: more.then_some(next) })

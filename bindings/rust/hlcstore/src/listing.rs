@@ -133,7 +133,7 @@ impl fmt::Debug for KeyPage {
 struct Listing<'a, S: Access> {
     snapshot: &'a Snapshot<S>,
     listed: Listed,
-    /// What is left of the range behind the page; or an error, until it is returned.
+    /// What is left of the range after the page; or an error, until it is returned.
     range: Result<Bounds>,
     room: usize,
     page: Part,
@@ -148,7 +148,7 @@ impl<'a, S: Access> Listing<'a, S> {
         Listing { snapshot, listed, range, room: FIRST_ROOM, page, last: 0, next: 0 }
     }
 
-    /// Returns the next entry, which is copied from the page; or an error, after which no entry comes.
+    /// Returns the next entry, which is copied from the page; or an error, once. After it the listing is at its end.
     fn next_entry<T>(&mut self, copy: impl FnOnce(&mut Strings<'_>) -> Option<Result<T>>) -> Option<Result<T>> {
         let entry = self.find_next().and_then(|()| {
             let mut strings = Strings { rest: &self.page.bytes[self.next..] };
@@ -170,7 +170,7 @@ impl<'a, S: Access> Listing<'a, S> {
             let range = self.range.as_mut().map_err(|error| *error)?;
             let last_key = Strings { rest: &self.page.bytes[self.last..] }.next();
             if let Some(key) = last_key {
-                range.move_behind(key)?;
+                range.move_after(key)?;
             }
             (self.last, self.next) = (0, 0);
             self.page.fill(self.snapshot, self.listed, range, self.room)?;
@@ -182,7 +182,8 @@ impl<'a, S: Access> Listing<'a, S> {
 
 /// Iterates over the pairs of a key and its value in a range of a snapshot, in the byte order of the keys.
 ///
-/// It reads some pairs at a time, so that a shared store is not locked between.
+/// It reads some pairs at a time, so that a shared store is not locked between. It returns an error once, also one of
+/// the kind `NoMemory`, and is at its end then: it returns none from then on.
 pub struct Pairs<'a, S: Access>(Listing<'a, S>);
 
 impl<'a, S: Access> Pairs<'a, S> {
@@ -212,7 +213,8 @@ impl<S: Access> fmt::Debug for Pairs<'_, S> {
 
 /// Iterates over the keys with a value in a range of a snapshot, in byte order.
 ///
-/// It reads some keys at a time, so that a shared store is not locked between.
+/// It reads some keys at a time, so that a shared store is not locked between. It returns an error once, also one of
+/// the kind `NoMemory`, and is at its end then: it returns none from then on.
 pub struct Keys<'a, S: Access>(Listing<'a, S>);
 
 impl<'a, S: Access> Keys<'a, S> {

@@ -39,8 +39,8 @@ impl Bounds {
         (self.from.as_ptr(), self.from.len(), self.to.as_ptr(), self.to.len())
     }
 
-    /// Goes on behind a key: the range begins with the next key that there can be.
-    pub(crate) fn move_behind(&mut self, key: &[u8]) -> Result<()> {
+    /// Goes on after a key: the range begins with the next key that there can be.
+    pub(crate) fn move_after(&mut self, key: &[u8]) -> Result<()> {
         self.from = next_key(key)?;
         Ok(())
     }

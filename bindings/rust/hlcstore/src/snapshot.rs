@@ -53,7 +53,7 @@ pub struct OpenSnapshot {
 ///
 /// `Snapshot<&Store>` borrows its store; `Snapshot<SharedStore>` is one of the store's clones, and any thread may use
 /// it. Each call returns `Closed` after [`Store::close`], and `NoSnapshot` after [`Store::close_all`] or where the
-/// store was opened again.
+/// store was opened again, whatever snapshots it has then.
 ///
 /// ```
 /// use hlcstore::{Node, Stamp, Store};

@@ -9,6 +9,7 @@ use std::fmt;
 /// assert_eq!((stamp.physical(), stamp.counter()), (12, 1));
 /// assert_eq!(stamp.to_string(), "12.1");
 /// assert!(stamp < Stamp::new(13, 0));
+/// assert_eq!(Stamp::checked_new(1 << 48, 0), None);
 /// ```
 #[derive(Clone, Copy, Debug, Default, PartialEq, Eq, PartialOrd, Ord, Hash)]
 pub struct Stamp(u64);
@@ -24,10 +25,21 @@ impl Stamp {
     ///
     /// # Panics
     ///
-    /// If the physical part is 2^48 or more.
+    /// If the physical part is 2^48 or more. Of a constant, it does not compile:
+    ///
+    /// ```compile_fail,E0080
+    /// const NONE: hlcstore::Stamp = hlcstore::Stamp::new(1 << 48, 0);
+    /// ```
     pub const fn new(physical: u64, counter: u16) -> Stamp {
-        assert!(physical < 1 << 48, "the physical part of a stamp has 48 bits");
-        Stamp(physical << 16 | counter as u64)
+        match Stamp::checked_new(physical, counter) {
+            Some(stamp) => stamp,
+            None => panic!("the physical part of a stamp is 2^48 or more"),
+        }
+    }
+
+    /// Returns the stamp with these parts, or none if the physical part is 2^48 or more.
+    pub const fn checked_new(physical: u64, counter: u16) -> Option<Stamp> {
+        if physical >> 48 == 0 { Some(Stamp(physical << 16 | counter as u64)) } else { None }
     }
 
     /// Returns the stamp that this word represents, physical part * 65536 + counter.

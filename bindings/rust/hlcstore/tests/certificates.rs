@@ -62,6 +62,29 @@ fn parts_of_a_vacuum_leave_one_row_of_each_key() {
 }
 
 #[test]
+fn parts_end_at_the_longest_keys() {
+    let store = Store::open(1).unwrap();
+    let mut node = Node::new(0, Stamp::ZERO);
+    let keys = [vec![b'a'; 255], b"b".to_vec(), vec![b'c'; 255], vec![b'd'; 254], vec![b'e'; 255]];
+    for reading in 1..=2 {
+        for key in &keys {
+            store.accept(node.write(reading, key, b"value").unwrap()).unwrap();
+        }
+    }
+    let (mut after, mut ends) = (Vec::new(), Vec::new());
+    while ends.len() < keys.len() {
+        let part = store.vacuum_part(store.floor().unwrap(), &after, 1).unwrap();
+        assert_eq!((part.vacuumed.kept, part.vacuumed.dropped), (1, 1));
+        let Some(next) = part.next else { break };
+        after = next;
+        ends.push(after.clone());
+    }
+    // The last part ends without a key.
+    assert_eq!(ends, keys[..4]);
+    assert_eq!(store.rows(), Ok(5));
+}
+
+#[test]
 fn part_of_no_keys_ends_where_it_begins() {
     let (store, after) = (store(), vec![7; 300]);
     let part = store.vacuum_part(Stamp::new(1, 0), &after, 0).unwrap();
