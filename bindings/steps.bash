@@ -1,4 +1,4 @@
-# What the checks of the C and the C++ package share; bash reads it. It needs `archive`, the archive to check.
+# What the checks of the packages and of the callers share; bash reads it. It needs `archive`, the archive to check.
 bindings=$(cd "$(dirname "${BASH_SOURCE[0]}")" && pwd)
 top=$(dirname "$bindings")
 header=$top/include/hlcstore.h
@@ -8,10 +8,32 @@ trap 'rm -rf "$scratch"' EXIT
 prefix=$scratch/prefix
 passed=0
 failed=0
+# How many seconds a step may take; and in KiB, how much address space each of its programs may use, and how long a file
+# may get.
+step_seconds=200
+step_memory=$((4 << 20))
+step_file=$((1 << 20))
+# The address sanitiser needs more address space than there is memory, and has a limit of its own, in MiB. Valgrind looks
+# for leaks: not every machine allows the sanitiser to search for them.
+export ASAN_OPTIONS=detect_leaks=0:hard_rss_limit_mb=4096
+
+# limited COMMAND..: runs a command or a function, without input, and within these limits. It is ended in time with all
+# that it started, so that a program that does not end fails its own step alone.
+limited() (
+    ulimit -S -v "$step_memory"
+    ulimit -S -f "$step_file"
+    set -m
+    "$@" </dev/null &
+    step=$!
+    { sleep "$step_seconds"; echo "it did not end in $step_seconds seconds"; kill -KILL -- "-$step"; } &
+    timer=$!
+    trap 'kill -KILL -- "-$step" "-$timer" 2>/dev/null' EXIT
+    wait "$step"
+)
 
 # check NAME COMMAND..: counts whether the command ends with status 0, and prints what it says where it does not.
 check() {
-    if "${@:2}" >"$scratch/said" 2>&1; then
+    if limited "${@:2}" >"$scratch/said" 2>&1; then
         passed=$((passed + 1))
     else
         failed=$((failed + 1))
@@ -35,6 +57,16 @@ is_printed() {
 prints_line() {
     echo "$2" >"$scratch/line"
     prints "$1" "$scratch/line" "${@:3}"
+}
+
+# watched CHECK..: makes a check of a program that has the address sanitiser.
+watched() {
+    step_memory=unlimited "$@"
+}
+
+# leaks_nothing COMMAND..: runs a program under valgrind, which must find no bad access and no leak.
+leaks_nothing() {
+    valgrind -q --error-exitcode=9 --leak-check=full --show-leak-kinds=all "$@"
 }
 
 # has TOOL: whether the machine has this tool. Where it does not, what needs it is left out, and that is printed.

@@ -1,0 +1,171 @@
+/* A vacuum in parts, in which keys lose all their rows, and one that ends at the longest key; and restores from pieces
+ * that are given up or refused. Keys and values are longer than 22 bytes, so each of them has an allocation. */
+#include "hlcstore.h"
+#include <inttypes.h>
+#include <stdio.h>
+#include <string.h>
+
+#define AT(l) ((uint64_t)(l) << 16)
+
+enum { VALUE = 30, LONGEST = 255, ROOM = 4096 };
+
+/* A key is one letter, again and again. */
+static const struct { char letter; size_t len; } KEYS[] = {
+    { 'a', 23 }, { 'b', LONGEST }, { 'c', LONGEST }, { 'd', 24 },
+};
+enum { A, B, C, D };
+
+/* What a part of a vacuum is expected to write. `last` is the place of its last key, where a key is left. */
+struct part {
+    uint64_t kept, bytes, dropped;
+    bool more;
+    int last;
+};
+
+static hlc_store store = HLC_CLOSED_STORE;
+static uint64_t number;
+static int wrong;
+
+/* Checks that a call returned, and wrote, what is expected. */
+static void expect(const char *call, uint32_t code, uint64_t returned, uint32_t expected_code, uint64_t expected)
+{
+    if (code == expected_code && returned == expected) return;
+    printf("%s %" PRIu32 " %" PRIu64 "\n", call, code, returned);
+    wrong++;
+}
+
+static void fill(uint8_t *key, int place)
+{
+    memset(key, KEYS[place].letter, KEYS[place].len);
+}
+
+/* Accepts the node's next item. Its stamp is its number and 1. */
+static void write_key(int place)
+{
+    uint8_t key[LONGEST], value[VALUE];
+    uint64_t word, stamp = AT(number + 1);
+    fill(key, place);
+    memset(value, 'v', sizeof value);
+    uint32_t code = hlc_accept_write(&store, 0, number++, stamp, key, KEYS[place].len, value, sizeof value, &word);
+    expect("write", code, word, HLC_OK, stamp);
+}
+
+static void delete_key(int place)
+{
+    uint8_t key[LONGEST];
+    uint64_t word, stamp = AT(number + 1);
+    fill(key, place);
+    uint32_t code = hlc_accept_delete(&store, 0, number++, stamp, key, KEYS[place].len, &word);
+    expect("delete", code, word, HLC_OK, stamp);
+}
+
+static void expect_sizes(uint64_t rows, uint64_t keys, uint64_t key_bytes, uint64_t value_bytes)
+{
+    uint64_t found[4];
+    uint32_t code = hlc_sizes(&store, &found[0], &found[1], &found[2], &found[3]);
+    expect("rows", code, found[0], HLC_OK, rows);
+    expect("keys", code, found[1], HLC_OK, keys);
+    expect("bytes of keys", code, found[2], HLC_OK, key_bytes);
+    expect("bytes of values", code, found[3], HLC_OK, value_bytes);
+}
+
+/* Vacuums so many keys after a key, or the first ones where `after` has no bytes. Puts the last key of the part there,
+ * if a key is left, and returns its length. */
+static size_t vacuum_part(uint64_t stamp, uint8_t *after, size_t after_len, size_t most, struct part expected)
+{
+    uint8_t out[LONGEST] = { 0 }, key[LONGEST];
+    uint64_t found[4];
+    size_t len, expected_len = expected.more ? KEYS[expected.last].len : 0;
+    bool more;
+    uint32_t code = hlc_vacuum_part(&store, stamp, after, after_len, most, &found[0], &found[1], &found[2], &found[3],
+                                    out, sizeof out, &len, &more);
+    expect("part", code, found[0], HLC_OK, stamp);
+    expect("kept", code, found[1], HLC_OK, expected.kept);
+    expect("their cost", code, found[2], HLC_OK, expected.bytes);
+    expect("dropped", code, found[3], HLC_OK, expected.dropped);
+    expect("more", code, more, HLC_OK, expected.more);
+    expect("length of the last key", code, len, HLC_OK, expected_len);
+    fill(key, expected.last);
+    if (memcmp(out, key, expected_len) != 0) wrong++;
+    memcpy(after, out, expected_len);
+    return expected_len;
+}
+
+/* At 7.0 a and c are deleted, b has its second value, and d has its first. */
+static void vacuum_in_parts(void)
+{
+    uint8_t after[LONGEST];
+    expect_sizes(8, 4, 23 + 255 + 255 + 24, 5 * VALUE);
+    size_t len = vacuum_part(AT(7), after, 0, 2, (struct part){ 1, 255 + VALUE + 10, 3, true, B });
+    expect_sizes(5, 3, 255 + 255 + 24, 3 * VALUE);
+    len = vacuum_part(AT(7), after, len, 1, (struct part){ 0, 0, 2, true, C });
+    expect_sizes(3, 2, 255 + 24, 2 * VALUE);
+    vacuum_part(AT(7), after, len, 9, (struct part){ 1, 24 + VALUE + 10, 0, false, D });
+    expect_sizes(3, 2, 255 + 24, 2 * VALUE);
+    /* At 8.0 d is deleted too. */
+    vacuum_part(AT(8), after, 0, 9, (struct part){ 1, 255 + VALUE + 10, 2, false, D });
+    expect_sizes(1, 1, 255, VALUE);
+}
+
+/* A key that lost all its rows is written again. */
+static void write_again(void)
+{
+    write_key(C);
+    expect_sizes(2, 2, 255 + 255, 2 * VALUE);
+}
+
+static void feed(hlc_restoring *restoring, const uint8_t *bytes, size_t len)
+{
+    expect("start", hlc_restore_start(restoring), 0, HLC_OK, 0);
+    for (size_t at = 0; at < len; at += 100) {
+        size_t piece = len - at < 100 ? len - at : 100;
+        expect("feed", hlc_restore_feed(restoring, bytes + at, piece), 0, HLC_OK, 0);
+    }
+}
+
+/* Gives a restore up at its start, in the middle and at the end. Then one is refused since a byte is missing, and one
+ * since the store is open. */
+static void restore_in_vain(void)
+{
+    hlc_restoring restoring = HLC_NO_RESTORING;
+    hlc_store copy = HLC_CLOSED_STORE;
+    hlc_output output = HLC_NO_OUTPUT;
+    uint8_t saved[ROOM];
+    uint64_t word;
+    size_t saved_len, len;
+    uint32_t code = hlc_checkpoint(&store, 7, &output, &saved_len);
+    if (code == HLC_OK) code = hlc_output_read(&output, 0, saved, sizeof saved, &len);
+    hlc_output_drop(&output);
+    expect("checkpoint", code, len, HLC_OK, saved_len);
+    for (int part = 0; part < 3; part++) {
+        feed(&restoring, saved, saved_len * part / 2);
+        hlc_restore_drop(&restoring);
+        expect("dropped", hlc_restore_feed(&restoring, saved, 1), 0, HLC_CLOSED, 0);
+    }
+    feed(&restoring, saved, saved_len - 1);
+    code = hlc_restore_finish(&restoring, &copy, &word);
+    expect("refused", code, word, HLC_BAD_BYTES, 1);
+    expect("ended", hlc_restore_feed(&restoring, saved, 1), 0, HLC_CLOSED, 0);
+    feed(&restoring, saved, saved_len);
+    code = hlc_restore_finish(&restoring, &store, &word);
+    expect("open", code, word, HLC_IS_OPEN, 0);
+    hlc_restore_drop(&restoring);
+    code = hlc_rows(&copy, &word);
+    expect("the copy", code, word, HLC_CLOSED, 0);
+}
+
+int main(void)
+{
+    expect("open", hlc_open(&store, 1), 0, HLC_OK, 0);
+    for (int place = A; place <= D; place++) write_key(place);
+    delete_key(A);
+    write_key(B);
+    delete_key(C);
+    delete_key(D);
+    vacuum_in_parts();
+    write_again();
+    restore_in_vain();
+    hlc_close(&store);
+    printf("%s\n", wrong ? "wrong" : "all right");
+    return wrong != 0;
+}
