@@ -203,6 +203,11 @@ void ownership() {
   moved.close();
   moved.close();
   EXPECT(moved.raw() == nullptr && refusal_of([&] { moved.rows(); }) == HLC_CLOSED);
+  hlcstore::shared_store shared{store(1)};
+  hlcstore::shared_snapshot left = shared.open_snapshot();
+  const hlcstore::shared_snapshot taken = std::move(left);
+  const auto count = [](const hlcstore::snapshot& open) { return open.count(); };
+  EXPECT(taken.read(count) == 0 && refusal_of([&] { left.read(count); }) == HLC_NO_SNAPSHOT);
 }
 
 // A snapshot of a store that was closed, and opened again with a snapshot of the same number.

@@ -1,6 +1,6 @@
 // Four threads read a shared store, each in snapshots of its own, while a fifth one writes and vacuums. Each answer is
-// checked. Then eight readers let a writer pass, and stores end beside their readers. The word, if there is one, is how
-// often a reader looks.
+// checked. Then eight readers let a writer pass, readers run beside each other, changes wait for readers, and stores end
+// beside their readers. The word, if there is one, is how often a reader looks.
 //
 // In round r the value of each key is r, and one batch writes them all. So in a snapshot all values are the same.
 #include <atomic>
@@ -9,6 +9,7 @@
 #include <cstdlib>
 #include <hlcstore.hpp>
 #include <memory>
+#include <optional>
 #include <string>
 #include <thread>
 #include <utility>
@@ -127,6 +128,51 @@ bool readers_let_a_writer_pass(int many) {
   return in_time && !wrong && shared.read(floor_of) == timestamp::of(11);
 }
 
+// Whether readers run beside each other: each waits for the other one.
+bool readers_meet() {
+  shared_store shared{hlcstore::store(1)};
+  const shared_snapshot snapshot = shared.open_snapshot();
+  const auto end = steady_clock::now() + 20s;
+  std::atomic<int> here = 0;
+  const auto meet = [&](const auto&) {
+    here++;
+    while (here < 2 && steady_clock::now() < end) std::this_thread::yield();
+  };
+  std::thread reader([&] { snapshot.read(meet); });
+  shared.read(meet);
+  reader.join();
+  return steady_clock::now() < end;
+}
+
+// Whether a call waits for a reader that is there before it.
+template <class Call>
+bool waits_for_a_reader(const shared_snapshot& snapshot, Call call) {
+  std::atomic<bool> here = false, left = false;
+  std::thread reader([&] {
+    snapshot.read([&](const hlcstore::snapshot&) {
+      here = true;
+      std::this_thread::sleep_for(20ms);
+      left = true;
+    });
+  });
+  while (!here) std::this_thread::yield();
+  call();
+  const bool waited = left;
+  reader.join();
+  return waited;
+}
+
+bool changes_wait_for_readers() {
+  auto shared = std::make_unique<shared_store>(hlcstore::store(1));
+  const shared_snapshot snapshot = shared->open_snapshot();
+  std::optional<shared_snapshot> other;
+  const auto waits = [&](auto call) { return waits_for_a_reader(snapshot, call); };
+  return waits([&] { shared->change([](hlcstore::store&) {}); }) &&
+         waits([&] { other.emplace(shared->open_snapshot()); }) && waits([&] { other = std::nullopt; }) &&
+         waits([&] { other.emplace(shared->open_snapshot(timestamp())); }) && waits([&] { other = std::nullopt; }) &&
+         waits([&] { shared = nullptr; });
+}
+
 // Ends a store beside a reader. Returns whether the reader's answers were right, and refused from then on.
 bool store_ends_beside_a_reader() {
   auto shared = std::make_unique<shared_store>(hlcstore::store(1));
@@ -161,6 +207,8 @@ int main(int count, char** words) {
   const int rounds = count > 1 ? std::atoi(words[1]) : 500;
   bool right = report("reads beside a writer", read_beside_a_writer(rounds) == 0);
   right = report("readers that let a writer pass", readers_let_a_writer_pass(20 * rounds)) && right;
+  right = report("readers beside each other", readers_meet()) && right;
+  right = report("changes that wait for readers", changes_wait_for_readers()) && right;
   for (int store = 0; store <= rounds / 10; store++) {
     right = report("a store that ends beside a reader", store_ends_beside_a_reader()) && right;
   }
