@@ -342,7 +342,8 @@ void parts() {
   EXPECT(refusal_of([&] { store.vacuum_part(timestamp::of(1)); }) == HLC_BELOW_HORIZON);
 }
 
-// Parts that end at the longest keys. Each key has two rows, and a part leaves one.
+// Parts that end at the longest keys. Each key has two rows, and a part leaves one. The part after the last key is
+// empty.
 void parts_of_longest_keys() {
   const std::map<string, string> pairs = longest_pairs();
   store store = filled(pairs);
@@ -350,14 +351,12 @@ void parts_of_longest_keys() {
   for (const auto& [key, value] : pairs) write(store, writer, 2, key, "y");
   const timestamp stamp = store.floor();
   std::optional<string> after = "";
-  auto last = pairs.begin();
-  for (std::size_t left = pairs.size(); left > 0; left--, last++) {
-    const hlcstore::partial_vacuum made = store.vacuum_part(stamp, *after, 1);
+  for (const auto& pair : pairs) {
+    const hlcstore::partial_vacuum made = store.vacuum_part(stamp, after.value_or("z"), 1);
     after = made.next;
-    EXPECT(made.dropped == 1 && after.value_or(last->first) == last->first && after.has_value() == (left > 1));
-    if (!after) break;
+    EXPECT(made.kept == 1 && made.dropped == 1 && after == pair.first);
   }
-  EXPECT(!after && store.rows() == pairs.size());
+  EXPECT(after && !store.vacuum_part(stamp, *after, 1).next && store.rows() == pairs.size());
 }
 
 void restarts() {

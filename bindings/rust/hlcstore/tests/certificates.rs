@@ -71,16 +71,15 @@ fn parts_end_at_the_longest_keys() {
             store.accept(node.write(reading, key, b"value").unwrap()).unwrap();
         }
     }
-    let (mut after, mut ends) = (Vec::new(), Vec::new());
-    while ends.len() < keys.len() {
-        let part = store.vacuum_part(store.floor().unwrap(), &after, 1).unwrap();
+    let (stamp, mut after) = (store.floor().unwrap(), Vec::new());
+    for key in &keys {
+        let part = store.vacuum_part(stamp, &after, 1).unwrap();
         assert_eq!((part.vacuumed.kept, part.vacuumed.dropped), (1, 1));
-        let Some(next) = part.next else { break };
-        after = next;
-        ends.push(after.clone());
+        after = part.next.unwrap();
+        assert_eq!(&after, key);
     }
-    // The last part ends without a key.
-    assert_eq!(ends, keys[..4]);
+    let last = store.vacuum_part(stamp, &after, 1).unwrap();
+    assert_eq!((last.vacuumed.kept, last.vacuumed.dropped, last.next), (0, 0, None));
     assert_eq!(store.rows(), Ok(5));
 }
 

@@ -6,8 +6,8 @@ use hlcstore::{ErrorKind, Node, Restoring, Stamp, Store};
 fn saved() -> Vec<u8> {
     let store = Store::open(1).unwrap();
     let mut node = Node::new(0, Stamp::ZERO);
-    for number in 0..20 {
-        store.accept(node.write(1, &[number + 1; 255], &[7; 5000]).unwrap()).unwrap();
+    for number in 0..5 {
+        store.accept(node.write(1, &[number + 1; 255], &[7; 500]).unwrap()).unwrap();
     }
     store.checkpoint(7).unwrap()
 }
@@ -18,7 +18,7 @@ fn restore_is_given_up() {
     drop(Restoring::start().unwrap());
     for len in [1, saved.len() / 2, saved.len()] {
         let mut restoring = Restoring::start().unwrap();
-        for piece in saved[..len].chunks(1000) {
+        for piece in saved[..len].chunks(300) {
             restoring.feed(piece).unwrap();
         }
         drop(restoring);
@@ -34,7 +34,7 @@ fn restore_is_refused() {
     let cases = [(saved[..saved.len() - 1].to_vec(), 1), (damaged, 7), ([&saved[..], &b"more"[..]].concat(), 6)];
     for (bytes, fault) in cases {
         let mut restoring = Restoring::start().unwrap();
-        for piece in bytes.chunks(1000) {
+        for piece in bytes.chunks(300) {
             restoring.feed(piece).unwrap();
         }
         let error = restoring.finish().unwrap_err();
