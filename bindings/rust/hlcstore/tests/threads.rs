@@ -3,6 +3,7 @@
 use hlcstore::{Error, Keys, Node, Pairs, Result, SharedStore, Snapshot, Stamp, Store};
 use std::sync::atomic::{AtomicBool, Ordering};
 use std::thread;
+use std::time::{Duration, Instant};
 
 const KEYS: u64 = 50;
 const WRITES: u64 = 20_000;
@@ -110,6 +111,34 @@ fn readers_run_beside_a_writer_that_vacuums() {
     assert_eq!(store.snapshots().unwrap(), []);
     store.vacuum().unwrap();
     assert_eq!(store.rows(), Ok(KEYS));
+}
+
+/// Eight threads always read, in turns that overlap. A writer makes ten changes before they give up.
+#[test]
+fn readers_let_a_writer_pass() {
+    let store = SharedStore::open(1).unwrap();
+    let mut node = Node::new(0, Stamp::ZERO);
+    for number in 0..10_000 {
+        store.accept(node.write(1, &key(number), b"value").unwrap()).unwrap();
+    }
+    let snapshot = store.snapshot().unwrap();
+    let (end, is_written) = (Instant::now() + Duration::from_secs(20), AtomicBool::new(false));
+    thread::scope(|scope| {
+        for _ in 0..8 {
+            scope.spawn(|| {
+                let digest = snapshot.digest(..).unwrap();
+                while !is_written.load(Ordering::Relaxed) && Instant::now() < end {
+                    assert_eq!(snapshot.digest(..), Ok(digest));
+                }
+            });
+        }
+        for reading in 2..12 {
+            store.accept(node.report(reading).unwrap()).unwrap();
+        }
+        is_written.store(true, Ordering::Relaxed);
+        assert!(Instant::now() < end);
+    });
+    assert_eq!(store.floor(), Ok(Stamp::new(11, 0)));
 }
 
 #[test]
