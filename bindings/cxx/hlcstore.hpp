@@ -4,8 +4,8 @@
 // std::string. A refusal is thrown as hlcstore::error. Where there is no memory outside the library, std::bad_alloc is
 // thrown.
 //
-// Lifetimes. A store must outlive its snapshots, and a snapshot its ranges and their iterators; else their calls throw
-// HLC_CLOSED and HLC_NO_SNAPSHOT. The range of a temporary snapshot owns it.
+// Lifetimes. The calls of a snapshot that outlives its store throw HLC_CLOSED, and so do those of its ranges and their
+// iterators. Where they outlive the snapshot, they throw HLC_NO_SNAPSHOT. The range of a temporary snapshot owns it.
 //
 // Threads. Methods that are const only ask: they may run beside each other on one store, while nothing changes the
 // store. All other methods need the store alone, and so do the destructors of a store, of its snapshots, and of ranges
