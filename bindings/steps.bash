@@ -13,8 +13,8 @@ failed=0
 step_seconds=120
 step_memory=$((4 << 20))
 step_file=$((1 << 20))
-# The address sanitiser needs more address space than there is memory, and has a limit of its own, in MiB. Valgrind looks
-# for leaks: not every machine allows the sanitiser to search for them.
+# The address sanitiser needs more address space than there is memory, and has a limit of its own, in MiB. Valgrind
+# looks for leaks: not every machine allows the sanitiser to search for them.
 export ASAN_OPTIONS=detect_leaks=0:hard_rss_limit_mb=4096
 
 # limited COMMAND..: runs a command or a function, without input, and within these limits. It is ended in time with all

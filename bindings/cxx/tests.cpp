@@ -279,7 +279,7 @@ void refusals() {
   EXPECT(refusal_of([&] { store.link(1); }) == HLC_NO_NODE && store.link(0).next == 1);
 }
 
-// A batch whose third item is refused, and a log of the same items, which goes on behind those that were accepted.
+// A batch whose third item is refused, and a log of the same items, which goes on after those that were accepted.
 void partly_accepted() {
   store store(1);
   node writer(0);

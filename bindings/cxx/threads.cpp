@@ -1,6 +1,6 @@
 // Four threads read a shared store, each in snapshots of its own, while a fifth one writes and vacuums. Each answer is
-// checked. Then eight readers let a writer pass, readers run beside each other, changes wait for readers, and stores end
-// beside their readers. The word, if there is one, is how often a reader looks.
+// checked. Then eight readers let a writer pass, readers run beside each other, changes wait for readers, and stores
+// end beside their readers. The word, if there is one, is how often a reader looks.
 //
 // In round r the value of each key is r, and one batch writes them all. So in a snapshot all values are the same.
 #include <atomic>

@@ -82,7 +82,7 @@ class shared_snapshot {
   snapshot snapshot_;
 };
 
-// A store for several threads, behind a lock: readers run beside each other, and a change alone. A change that waits
+// A store for several threads, under a lock: readers run beside each other, and a change alone. A change that waits
 // comes before later readers. So a function that gets the store, or one of its snapshots, uses these alone: to lock
 // again would be to wait for itself.
 class shared_store {
