@@ -1,0 +1,118 @@
+/* Which answer comes first where more than one reason applies, what the answers say, and handles that were moved. */
+#include "hlcstore.h"
+#include <inttypes.h>
+#include <stdio.h>
+#include <string.h>
+
+#define BYTES(s) (const uint8_t *)(s), sizeof(s) - 1
+#define AT(l) ((uint64_t)(l) << 16)
+
+static int wrong;
+
+/* Checks that a call returned, and wrote, what is expected. */
+static void expect(const char *call, uint32_t code, uint64_t returned, uint32_t expected_code, uint64_t expected)
+{
+    if (code == expected_code && returned == expected) return;
+    printf("%s %" PRIu32 " %" PRIu64 "\n", call, code, returned);
+    wrong++;
+}
+
+static void expect_text(uint32_t answer, const char *text)
+{
+    uint8_t out[100];
+    size_t len;
+    hlc_error_text(answer, out, sizeof out, &len);
+    expect("text", answer, len, answer, strlen(text));
+    if (len == strlen(text) && memcmp(out, text, len) != 0) wrong++;
+}
+
+/* An open store is refused before the number of nodes, or the bytes, are looked at. */
+static void open_first(hlc_store *open)
+{
+    uint64_t word;
+    expect("open", hlc_open(open, 0), 0, HLC_IS_OPEN, 0);
+    uint32_t code = hlc_restore(open, BYTES("no checkpoint"), &word);
+    expect("restore", code, word, HLC_IS_OPEN, 0);
+}
+
+/* A closed store, or a restore that is not under way, is refused before all else. */
+static void closed_first(hlc_output *with_bytes)
+{
+    hlc_store closed = HLC_CLOSED_STORE;
+    hlc_restoring none = HLC_NO_RESTORING;
+    uint64_t word;
+    size_t len;
+    uint32_t code = hlc_checkpoint(&closed, 0, with_bytes, &len);
+    expect("checkpoint", code, len, HLC_CLOSED, 0);
+    code = hlc_open_snapshot(&closed, UINT64_MAX, &word);
+    expect("open snapshot", code, word, HLC_CLOSED, 0);
+    code = hlc_restore_finish(&none, &closed, &word);
+    expect("finish", code, word, HLC_CLOSED, 0);
+    expect("feed", hlc_restore_feed(&none, BYTES("bytes")), 0, HLC_CLOSED, 0);
+}
+
+/* A restore into an open store is refused, and goes on. A second start is refused too. */
+static void restore_into_open(hlc_store *open)
+{
+    hlc_restoring restoring = HLC_NO_RESTORING;
+    uint64_t word;
+    expect("start", hlc_restore_start(&restoring), 0, HLC_OK, 0);
+    expect("start again", hlc_restore_start(&restoring), 0, HLC_IS_OPEN, 0);
+    uint32_t code = hlc_restore_finish(&restoring, open, &word);
+    expect("finish", code, word, HLC_IS_OPEN, 0);
+    expect("feed", hlc_restore_feed(&restoring, BYTES("x")), 0, HLC_OK, 0);
+    hlc_restore_drop(&restoring);
+}
+
+/* A store, and an output, go on at the place that they were moved to. */
+static void move(hlc_store *store, hlc_output *output)
+{
+    hlc_store moved = *store;
+    hlc_output moved_output = *output;
+    uint64_t rows;
+    uint8_t byte;
+    size_t len;
+    *store = (hlc_store)HLC_CLOSED_STORE;
+    *output = (hlc_output)HLC_NO_OUTPUT;
+    uint32_t code = hlc_rows(&moved, &rows);
+    expect("rows", code, rows, HLC_OK, 1);
+    code = hlc_output_read(&moved_output, 0, &byte, 1, &len);
+    expect("read", code, len, HLC_MORE, 1);
+    hlc_output_drop(&moved_output);
+    hlc_close(&moved);
+}
+
+/* A part of no keys ends where it begins, however long that is. */
+static void empty_part(hlc_store *store)
+{
+    uint8_t after[300] = { 0 }, out[300];
+    uint64_t word, kept, bytes, dropped;
+    size_t len;
+    bool more = false;
+    uint32_t code = hlc_vacuum_part(store, AT(1), after, sizeof after, 0, &word, &kept, &bytes, &dropped, out,
+                                    sizeof out, &len, &more);
+    expect("part", code, len, HLC_OK, sizeof after);
+    if (!more || memcmp(out, after, sizeof after) != 0) wrong++;
+}
+
+int main(void)
+{
+    hlc_store store = HLC_CLOSED_STORE;
+    hlc_output output = HLC_NO_OUTPUT;
+    uint64_t word;
+    size_t len;
+    expect_text(HLC_CLOSED, "the store is closed, or no restore is under way");
+    expect_text(HLC_IS_OPEN, "the store is open already, or a restore is under way");
+    expect("open", hlc_open(&store, 1), 0, HLC_OK, 0);
+    uint32_t code = hlc_accept_write(&store, 0, 0, AT(1), BYTES("k"), BYTES("v"), &word);
+    expect("accept", code, word, HLC_OK, AT(1));
+    code = hlc_checkpoint(&store, 0, &output, &len);
+    expect("checkpoint", code, len > 0, HLC_OK, 1);
+    open_first(&store);
+    closed_first(&output);
+    restore_into_open(&store);
+    empty_part(&store);
+    move(&store, &output);
+    printf("%s\n", wrong ? "wrong" : "all right");
+    return wrong != 0;
+}
