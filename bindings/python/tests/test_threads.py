@@ -3,6 +3,7 @@
 import collections
 import faulthandler
 import gc
+import operator
 import random
 import subprocess
 import sys
@@ -202,10 +203,16 @@ class LongCalls(unittest.TestCase):
         cls.store.accept_all(cls.items)
         cls.store.accept(Item.report(1, 0, node.last))
         cls.snapshot = cls.store.snapshot()
+        cls.wide = Store(1)
+        cls.wide.accept_all([Item.write(0, i, i + 1, b"%06d" % i, b"") for i in range(100_000)])
+
+    @classmethod
+    def tearDownClass(cls):
+        del cls.items, cls.store, cls.snapshot, cls.wide
 
     def setUp(self):
-        """Lets a thread note the time as often as it can."""
-        self.ticks, self.is_done = collections.deque(maxlen=1_000_000), threading.Event()
+        """Lets a thread note the time every ten microseconds, where it can."""
+        self.ticks, self.is_done = collections.deque([0], maxlen=1_000_000), threading.Event()
         self.ticking = threading.Thread(target=self.tick)
         self.ticking.start()
 
@@ -215,11 +222,12 @@ class LongCalls(unittest.TestCase):
 
     def tick(self):
         while not self.is_done.is_set():
-            self.ticks.append(time.perf_counter())
+            now = time.perf_counter()
+            if now - self.ticks[-1] > 1e-5:
+                self.ticks.append(now)
 
     def pause_in(self, call, *args):
         """How long a call takes, and the part of this time in which the other thread waits longest."""
-        self.ticks.clear()
         started = time.perf_counter()
         call(*args)
         ended = time.perf_counter()
@@ -231,6 +239,7 @@ class LongCalls(unittest.TestCase):
         allowed."""
         saved, log = self.store.checkpoint(), b"".join(map(bytes, self.items))
         certificate = self.store.vacuum_certified()[1]
+        wide, floor = self.wide, self.wide.floor
         calls = {
             "accept_all": lambda: Store(1).accept_all(self.items),
             "accept_items": lambda: Store(1).accept_items(log),
@@ -238,11 +247,33 @@ class LongCalls(unittest.TestCase):
             "checkpoint": self.store.checkpoint,
             "digest": self.snapshot.digest,
             "restore": lambda: Store.restore(saved),
+            "restore in pieces": lambda: Store.restore([saved]),
+            "vacuum": wide.vacuum,
             "vacuum_certified": self.store.vacuum_certified,
+            "vacuum_part": lambda: wide.vacuum_part(floor, most=100_000),
+            "vacuum_to": lambda: wide.vacuum_to(floor),
+            "vacuum_to_certified": lambda: wide.vacuum_to_certified(floor),
         }
         for name, call in calls.items():
             tries = (self.pause_in(call) for _ in range(30))
             self.assertTrue(any(pause < 0.5 for _, pause in tries), name)
+
+    def test_the_interpreter_runs_while_an_output_is_copied(self):
+        """The copy is the last part of a call, and short beside the others. If it kept the interpreter, the other
+        thread would not run at the end of the call for as long as such a copy takes."""
+        store, value = Store(1), bytes(65535)
+        store.accept_all([Item.write(0, i, i + 1, b"%d" % i, value) for i in range(1000)])
+        saved, before = store.checkpoint(), time.thread_time()
+        copy = bytes(memoryview(saved))
+        seconds = time.thread_time() - before
+        del copy
+        tries = (self.end_without_ticks(store.checkpoint) for _ in range(20))
+        self.assertTrue(any(end < seconds / 2 for end in tries), f"{seconds:.3f} s")
+
+    def end_without_ticks(self, call):
+        """How long the other thread does not run before a call returns. No other thread runs between the two calls."""
+        _, ended = map(operator.call, (call, time.perf_counter))
+        return ended - max(tick for tick in list(self.ticks) if tick < ended)
 
     def test_the_interpreter_runs_while_a_call_waits(self):
         """One thread always reads. Where a call waits for it, the other thread goes on."""

@@ -1,16 +1,17 @@
 /* The arguments of calls, and the bytes of their answers. */
 #include "native.h"
 
-/* Makes an integer of any object that is one. Returns false with an exception where it is none, or does not fit. */
+/* Makes an integer of any object that is one. Returns false with an exception where it is none, or does not fit. The
+ * number is not in the text: Python refuses to print very long ones. */
 static bool take_number(PyObject *from, uint64_t most, uint64_t *to)
 {
     PyObject *number = PyNumber_Index(from);
     if (!number) return false;
     *to = PyLong_AsUnsignedLongLong(number);
     Py_DECREF(number);
-    if (*to == UINT64_MAX && PyErr_Occurred()) return false;
-    if (*to <= most) return true;
-    PyErr_Format(PyExc_OverflowError, "the number is above %llu", (unsigned long long)most);
+    bool is_word = *to != UINT64_MAX || !PyErr_Occurred();
+    if (is_word && *to <= most) return true;
+    PyErr_Format(PyExc_OverflowError, "the number must be from 0 to %llu", (unsigned long long)most);
     return false;
 }
 
@@ -60,14 +61,24 @@ void drop_bytes(Bytes *bytes)
 
 PyObject *number_object(uint64_t number) { return PyLong_FromUnsignedLongLong(number); }
 
-/* Nobody else has the bytes object yet, so it is filled without the interpreter. */
+/* Work on fewer bytes is shorter than the 5 ms for which Python lets a thread run at a time. */
+enum { MANY_BYTES = 1 << 20 };
+
+PyThreadState *let_go_for(size_t len) { return len < MANY_BYTES ? NULL : PyEval_SaveThread(); }
+
+void take_back(PyThreadState *thread)
+{
+    if (thread) PyEval_RestoreThread(thread);
+}
+
+/* Nobody else has the bytes object yet, so it may be filled without the interpreter. */
 PyObject *output_object(hlc_output *output, size_t len)
 {
     PyObject *bytes = PyBytes_FromStringAndSize(NULL, (Py_ssize_t)len);
     uint8_t *at = bytes ? (uint8_t *)PyBytes_AsString(bytes) : NULL;
-    Py_BEGIN_ALLOW_THREADS
+    PyThreadState *thread = let_go_for(len);
     if (at) hlc_output_read(output, 0, at, len, &len);
     hlc_output_drop(output);
-    Py_END_ALLOW_THREADS
+    take_back(thread);
     return bytes;
 }

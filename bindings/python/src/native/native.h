@@ -60,8 +60,12 @@ int take_bytes(PyObject *from, void *to);
 
 PyObject *number_object(uint64_t number);
 
-/* Returns the bytes of an output, len of them, and drops it. It is called after unlock, and lets other threads of Python
- * run meanwhile. */
+/* Lets go of the interpreter for work on so many bytes, if they are many. Returns what take_back needs: the thread, or
+ * NULL. Where other threads of Python run, taking it back may last milliseconds. */
+PyThreadState *let_go_for(size_t len);
+void take_back(PyThreadState *thread);
+
+/* Returns the bytes of an output, len of them, and drops it. It is called after unlock. */
 PyObject *output_object(hlc_output *output, size_t len);
 
 /* ---- refusals.c ---- */
@@ -72,7 +76,7 @@ PyObject *refuse(uint32_t code, uint64_t word);
 /* Raises the exception of a refusal of one of many items: so many were accepted before it, in so many bytes. */
 PyObject *refuse_after(uint32_t code, uint64_t word, size_t accepted, size_t used);
 
-/* Returns a named tuple of hlcstore/_results.py, of these numbers, and of an object behind them unless it is NULL. */
+/* Returns a named tuple of hlcstore/_results.py, of these numbers, and of an object after them unless it is NULL. */
 PyObject *result_of(const char *name, const uint64_t *numbers, Py_ssize_t many, PyObject *last);
 
 extern PyMethodDef refusal_functions[];

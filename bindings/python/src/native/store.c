@@ -65,6 +65,18 @@ static PyObject *store_new(PyTypeObject *type, PyObject *args, PyObject *words)
     return refuse(code, 0);
 }
 
+/* Feeds a piece. Returns the answer, or -1 with an exception. */
+static int feed_piece(hlc_restoring *restoring, PyObject *piece)
+{
+    Bytes bytes;
+    if (!take_bytes(piece, &bytes)) return -1;
+    PyThreadState *thread = let_go_for(bytes.len);
+    uint32_t code = hlc_restore_feed(restoring, bytes.at, bytes.len);
+    take_back(thread);
+    drop_bytes(&bytes);
+    return (int)code;
+}
+
 /* Feeds all pieces of an iterable. Returns the answer, or -1 with an exception. */
 static int feed_pieces(hlc_restoring *restoring, PyObject *pieces)
 {
@@ -72,9 +84,7 @@ static int feed_pieces(hlc_restoring *restoring, PyObject *pieces)
     int code = HLC_OK;
     if (!iterator) return -1;
     while (code == HLC_OK && (piece = PyIter_Next(iterator))) {
-        Bytes bytes;
-        code = take_bytes(piece, &bytes) ? (int)hlc_restore_feed(restoring, bytes.at, bytes.len) : -1;
-        if (code >= 0) drop_bytes(&bytes);
+        code = feed_piece(restoring, piece);
         Py_DECREF(piece);
     }
     Py_DECREF(iterator);
@@ -121,11 +131,13 @@ static PyObject *store_restore(PyObject *type, PyObject *from)
     return refuse(code, word);
 }
 
-/* Nobody else has the store any more. */
+/* Nobody else has the store any more. A large one takes long to free. */
 static void store_dealloc(PyObject *self)
 {
     Store *store = (Store *)self;
+    Py_BEGIN_ALLOW_THREADS
     hlc_close(&store->handle);
+    Py_END_ALLOW_THREADS
     if (store->has_lock) pthread_rwlock_destroy(&store->lock);
     release_object(self);
 }
