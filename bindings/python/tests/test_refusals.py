@@ -80,6 +80,20 @@ REFUSED = {
     hlcstore.BadBytes: (lambda: Store.restore(bytes(60)), 2),
     hlcstore.NoCheckpoint: (lambda: Store.restore(checkpoint_without_nodes()), 1),
 }
+# How the text of a refusal has its word.
+WORDS = {
+    # Of these the word is a stamp.
+    hlcstore.CounterFull: "5.65535",
+    hlcstore.StampNotRising: "2.0",
+    hlcstore.AboveFloor: "2.0",
+    hlcstore.BelowHorizon: "2.0",
+    # Of these it is another number.
+    hlcstore.NotNext: "1",
+    hlcstore.BadLine: "2",
+    hlcstore.NotShown: "7",
+    hlcstore.BadBytes: "2",
+    hlcstore.NoCheckpoint: "1",
+}
 
 
 def class_name(name):
@@ -95,9 +109,16 @@ class Refusals(unittest.TestCase):
             refused, text = met.exception, hlcstore.error_text(kind.code)
             self.assertIs(type(refused), kind)
             self.assertEqual((refused.word, refused.accepted, refused.used), (word, 0, 0), kind)
-            self.assertEqual(str(refused), f"{text} ({word})" if word else text)
+            self.assertEqual(str(refused), f"{text} ({WORDS[kind]})" if word else text)
             copy = pickle.loads(pickle.dumps(refused))
             self.assertEqual((type(copy), copy.word, str(copy)), (kind, word, str(refused)))
+
+    def test_a_word_of_0(self):
+        """A stamp of 0 is printed, and a number of 0 is none."""
+        with self.assertRaisesRegex(hlcstore.AboveFloor, r"\(0\.0\)$"):
+            Store(1).snapshot(1)
+        with self.assertRaisesRegex(hlcstore.BadKey, r"[a-z]$"):
+            Node(0).delete(1, b"")
 
     def test_each_number_has_a_class(self):
         names = {code: hlcstore.error_name(code) for code in range(1000)}
@@ -147,7 +168,8 @@ class Refusals(unittest.TestCase):
             assert store.snapshot()[b"key"] == value
             print("all right")
         """
-        done = subprocess.run([sys.executable, "-c", textwrap.dedent(program)], capture_output=True, text=True)
+        words = [sys.executable, "-c", textwrap.dedent(program)]
+        done = subprocess.run(words, capture_output=True, text=True, timeout=60)
         self.assertEqual((done.stdout, done.stderr), ("all right\n", ""))
 
 

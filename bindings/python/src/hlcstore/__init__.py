@@ -8,9 +8,12 @@
 ...         print(snapshot[b"city"])
 b'Lyon'
 
-Any thread may call anything, but an iterator belongs to one thread at a time. A refusal of the library is an exception
-below `Error`. A number that has too many bits is an OverflowError.
+Any thread may call anything, but an iterator belongs to one thread at a time. After a fork of a process with threads
+the child must make no call: another thread may have been in the middle of one. A refusal of the library is an exception
+below `Error`. A number that is negative or has too many bits is an OverflowError.
 """
+
+from operator import index as _index
 
 from ._errors import (
     AboveFloor,
@@ -87,10 +90,18 @@ __all__ = [
 
 
 def stamp(physical: int, counter: int = 0) -> int:
-    """Return the word of a stamp with this physical part and this counter."""
+    """Return the word of a stamp with this physical part, below 2^48, and this counter, below 2^16."""
+    physical, counter = _index(physical), _index(counter)
+    if not 0 <= physical < 1 << 48:
+        raise OverflowError("the physical part must be from 0 to 281474976710655")
+    if not 0 <= counter < 1 << 16:
+        raise OverflowError("the counter must be from 0 to 65535")
     return physical << 16 | counter
 
 
 def split(stamp: int) -> tuple[int, int]:
     """Return the physical part and the counter of a stamp."""
+    stamp = _index(stamp)
+    if not 0 <= stamp < 1 << 64:
+        raise OverflowError("the stamp must be from 0 to 18446744073709551615")
     return stamp >> 16, stamp & 0xFFFF

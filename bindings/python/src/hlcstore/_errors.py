@@ -16,6 +16,7 @@ class Error(Exception):
     """How many items `accept_all` or `accept_items` accepted before the refusal."""
     used: int
     """How many bytes of the log these items have. The next call of `accept_items` goes on from there."""
+    _word_is_stamp: ClassVar[bool] = False
 
     def __init__(self, word: int = 0, accepted: int = 0, used: int = 0) -> None:
         super().__init__(word, accepted, used)
@@ -25,6 +26,8 @@ class Error(Exception):
 
     def __str__(self) -> str:
         text = _native.error_text(self.code)
+        if self._word_is_stamp:
+            return f"{text} ({self.word >> 16}.{self.word & 0xFFFF})"
         return f"{text} ({self.word})" if self.word else text
 
 
@@ -38,6 +41,7 @@ class ReadingTooLarge(Error):
 
 class CounterFull(Error):
     code = _native.HLC_COUNTER_FULL
+    _word_is_stamp = True
 
 
 class NotNext(Error):
@@ -46,14 +50,17 @@ class NotNext(Error):
 
 class StampNotRising(Error):
     code = _native.HLC_STAMP_NOT_RISING
+    _word_is_stamp = True
 
 
 class AboveFloor(Error):
     code = _native.HLC_ABOVE_FLOOR
+    _word_is_stamp = True
 
 
 class BelowHorizon(Error):
     code = _native.HLC_BELOW_HORIZON
+    _word_is_stamp = True
 
 
 class NoSnapshot(Error):

@@ -56,7 +56,7 @@ PyObject *refuse_after(uint32_t code, uint64_t word, size_t accepted, size_t use
 
 PyObject *refuse(uint32_t code, uint64_t word) { return refuse_after(code, word, 0, 0); }
 
-/* A tuple of the numbers, and of another object behind them, if there is one. */
+/* A tuple of the numbers, and of another object after them, if there is one. */
 static PyObject *values_of(const uint64_t *numbers, Py_ssize_t many, PyObject *last)
 {
     PyObject *values = PyTuple_New(many + (last != NULL));
@@ -87,8 +87,8 @@ static PyObject *words_of(PyObject *from, void (*call)(uint32_t, uint8_t *, size
 {
     uint8_t out[256];
     size_t len;
-    unsigned long answer = PyLong_AsUnsignedLong(from);
-    if (answer == (unsigned long)-1 && PyErr_Occurred()) return NULL;
+    uint64_t answer;
+    if (!take_u64(from, &answer)) return NULL;
     if (answer > UINT32_MAX) return PyUnicode_FromString("");
     call((uint32_t)answer, out, sizeof out, &len);
     return PyUnicode_FromStringAndSize((const char *)out, (Py_ssize_t)(len <= sizeof out ? len : 0));
