@@ -5,7 +5,11 @@ import hashlib
 import importlib.metadata
 import pickle
 import struct
+import subprocess
+import sys
+import textwrap
 import unittest
+from unittest import mock
 
 import hlcstore
 from hlcstore import Checked, Item, Link, Node, Sizes, Store, Vacuum, VacuumPart, split, stamp
@@ -23,6 +27,13 @@ def digest_of(pairs):
     """The digest that a snapshot with these pairs has."""
     parts = (struct.pack("<Q", len(part)) + part for pair in pairs for part in pair)
     return hashlib.sha256(b"".join(parts)).digest()
+
+
+def run(program):
+    """Runs a program in a process of its own. Returns what it prints, its errors, and its status."""
+    words = [sys.executable, "-c", textwrap.dedent(program)]
+    done = subprocess.run(words, capture_output=True, text=True, timeout=60)
+    return done.stdout, done.stderr, done.returncode
 
 
 class Items(unittest.TestCase):
@@ -68,6 +79,8 @@ class Items(unittest.TestCase):
     def test_stamps(self):
         self.assertEqual((stamp(1), stamp(2, 3)), (65536, 131075))
         self.assertEqual(split(stamp(2, 3)), (2, 3))
+        self.assertEqual((stamp(0), stamp(2**48 - 1, counter=65535)), (0, 2**64 - 1))
+        self.assertEqual((split(0), split(2**64 - 1)), ((0, 0), (2**48 - 1, 65535)))
 
 
 class Feeding(unittest.TestCase):
@@ -219,6 +232,92 @@ class Snapshots(unittest.TestCase):
             with self.assertRaises(hlcstore.NoSnapshot):
                 closed[b"a"]
 
+    def test_all_open_snapshots_are_listed(self):
+        store, node = filled([(b"a", b"x")])
+        for reading in range(2, 1025):
+            store.accept(node.report(reading))
+        opened = [store.snapshot(stamp(reading)) for reading in range(1, 1025)]
+        listed = [(each.id, each.stamp) for each in store.snapshots()]
+        self.assertEqual(listed, [(number, stamp(number)) for number in range(1, 1025)])
+        self.assertEqual(listed, [(each.id, each.stamp) for each in opened])
+
+    def test_a_finalizer_uses_the_iterator(self):
+        """Garbage may be collected while a pair is made. Its finalizers call the same iterator, which gives each pair
+        once, or refuses them."""
+        program = """
+            import gc
+            import hlcstore
+
+            class Ring:
+                def __init__(self):
+                    self.ring = self
+
+                def __del__(self):
+                    for _ in range(3):
+                        try:
+                            found.append(next(items))
+                        except (ValueError, StopIteration):
+                            pass
+
+            store, node = hlcstore.Store(1), hlcstore.Node(0)
+            pairs = [(b"%05d" % i, b"%d" % i * 50) for i in range(5000)]
+            store.accept_all([node.write(1, *pair) for pair in pairs])
+            for read in store.snapshot().items, store.snapshot().keys:
+                items, found = read(), []
+                gc.set_threshold(1, 1, 1)
+                for item in items:
+                    Ring()
+                    found.append(item)
+                gc.set_threshold(700, 10, 10)
+                gc.collect()
+                assert sorted(found) == list(read())
+            print("all right")
+        """
+        self.assertEqual(run(program), ("all right\n", "", 0))
+
+    def test_a_finalizer_of_a_start_uses_the_iterator(self):
+        """A start may be of a subclass of bytes. It is dropped when the buffer is filled again."""
+
+        class Start(bytes):
+            def __del__(self):
+                next(items)
+
+        pairs = [(b"%05d" % i, bytes(1000)) for i in range(1000)]
+        items = filled(pairs)[0].snapshot().items(Start(b"0"))
+        with mock.patch("sys.unraisablehook") as refused:
+            self.assertEqual(list(items), pairs)
+        self.assertEqual([call.args[0].exc_type for call in refused.call_args_list], [ValueError])
+
+    def test_a_list_of_values_has_no_empty_place(self):
+        """Another thread looks at each list that there is, while values are read in several calls."""
+        program = """
+            import gc
+            import sys
+            import threading
+            import hlcstore
+
+            sys.setswitchinterval(1e-5)
+            store, node = hlcstore.Store(1), hlcstore.Node(0)
+            keys = [b"%03d" % i for i in range(100)]
+            store.accept_all([node.write(1, key, bytes(5000)) for key in keys])
+            snapshot, is_done = store.snapshot(), threading.Event()
+
+            def read():
+                for _ in range(300):
+                    assert snapshot.read_all(keys) == [bytes(5000)] * 100
+                is_done.set()
+
+            reading = threading.Thread(target=read)
+            reading.start()
+            while not is_done.is_set():
+                for each in gc.get_objects(generation=0):
+                    if type(each) is list:
+                        list(each)
+            reading.join()
+            print("all right")
+        """
+        self.assertEqual(run(program), ("all right\n", "", 0))
+
     def test_a_snapshot_keeps_its_store(self):
         snapshot = filled([(b"a", b"x")])[0].snapshot()
         items = snapshot.items()
@@ -251,6 +350,13 @@ class Vacuums(unittest.TestCase):
         self.assertEqual(self.store.vacuum_part(stamp=stamp(4), after=b"b"), (stamp(4), 0, 0, 0, None))
         self.assertEqual(self.store.vacuum_part(stamp(4)), (stamp(4), 2, 26, 0, None))
         self.assertEqual(self.store.vacuum_to(stamp(4)), (stamp(4), 2, 26, 0))
+
+    def test_a_part_ends_at_the_longest_key(self):
+        keys = [bytes([i]) * 255 for i in b"abc"]
+        store, _ = filled([(key, b"x") for key in keys])
+        self.assertEqual(store.vacuum_part(stamp(3), most=1), (stamp(3), 1, 266, 0, keys[0]))
+        self.assertEqual(store.vacuum_part(stamp(3), keys[0], 1), (stamp(3), 1, 266, 0, keys[1]))
+        self.assertEqual(store.vacuum_part(stamp(3), keys[1], 2), (stamp(3), 1, 266, 0, None))
 
     def test_a_part_of_no_keys(self):
         for after in b"", b"b", b"c" * 255, b"c" * 300:
@@ -314,6 +420,7 @@ class Arguments(unittest.TestCase):
         store, node = Store(1), Node(0)
         snapshot, item = store.snapshot(), node.report(1)
         calls = [
+            (stamp, 1.0), (stamp, "1"), (stamp, 1, None), (split, 1.5), (split, b"1"), (hlcstore.error_name, "1"),
             (Store, "1"), (Store,), (Store, 1, 2), (Node, None), (Node.restore, 1, 2), (Item,), (hlcstore.Snapshot,),
             (Item.write, 0, 0, 0, "a", b""), (Item.write, 0, 0, 0, b"a", 5), (Item.report, 0.5, 0, 0),
             (node.write, 1, "a", b""), (node.write, 1, b"a", None), (node.write, 1, b"a"), (node.report, "1"),
@@ -331,15 +438,38 @@ class Arguments(unittest.TestCase):
         self.assertEqual((store.rows, store.link(0).next, node.next), (0, 0, 1))
 
     def test_numbers_that_do_not_fit(self):
+        """The text says which numbers fit."""
         store, node = Store(1), Node(0)
+        words, halves, parts = "from 0 to 18446744073709551615$", "from 0 to 65535$", "from 0 to 281474976710655$"
         calls = [
             (Store, 65536), (Store, -1), (Node, 65536), (Node, 0, 2**64), (Item.report, 65536, 0, 0),
             (Item.report, 0, -1, 0), (node.report, 2**64), (node.send, -1), (store.snapshot, 2**64),
             (store.link, 65536), (store.checkpoint, 2**64), (store.vacuum_to, -1), (hlcstore.error_text, -1),
         ]  # fmt: skip
         for call, *args in calls:
-            with self.assertRaises(OverflowError, msg=f"{call} {args}"):
+            with self.assertRaisesRegex(OverflowError, f"{words}|{halves}", msg=f"{call} {args}"):
                 call(*args)
+        texts = {
+            words: [
+                (Node, 0, -1), (Node.restore, 0, -1, 0), (Node.restore, 0, 0, 2**64), (Item.write, 0, 0, -1, b"a", b""),
+                (Item.delete, 0, 2**64, 0, b"a"), (Item.retire, 0, 0, -(2**64)), (node.write, -1, b"a", b""),
+                (node.delete, 2**80, b"a"), (node.retire, -1), (node.receive, -1, 0), (node.receive, 0, 2**64),
+                (node.raise_to, -1), (store.accept_write, 0, -1, 1, b"a", b""), (store.accept_delete, 0, 0, -1, b"a"),
+                (store.accept_report, 0, 0, 2**64), (store.accept_retire, 0, -1, 0), (store.check_report, 0, 0, -1),
+                (store.check_write, 0, 0, -1, b"a", b""), (store.check_delete, 0, -1, 0, b"a"), (store.join_at, -1),
+                (store.snapshot, -1), (store.close_snapshot, -1), (store.vacuum_to, 10**5000), (store.checkpoint, -1),
+                (store.vacuum_to_certified, -1), (store.vacuum_part, -1), (store.vacuum_part, 0, b"", -1),
+                (store.check_vacuum, 2**64), (split, -1), (split, 2**64), (hlcstore.error_name, 2**64),
+            ],
+            halves: [(Store, -1), (Node, -1), (store.link, -1), (Item.report, 2**64, 0, 0), (stamp, 1, 70000),
+                     (stamp, 1, -1), (store.check_report, 65536, 0, 0), (Node.restore, -1, 0, 0)],
+            parts: [(stamp, -1), (stamp, 2**48), (stamp, 2**50, 1), (stamp, 10**5000)],
+        }  # fmt: skip
+        for text, calls in texts.items():
+            for call, *args in calls:
+                with self.subTest(call=call), self.assertRaisesRegex(OverflowError, text):
+                    call(*args)
+        self.assertEqual((store.link(0), store.nodes, node.last, node.next), (Link(0, 0, False), 1, 0, 0))
 
     def test_classes_are_final(self):
         for kind in Store, Node, Item, hlcstore.Snapshot:

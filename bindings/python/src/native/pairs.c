@@ -12,8 +12,8 @@ typedef struct {
     Bytes start;
     Bytes end;
     bool with_values;
-    bool is_busy;  /* whether a thread fills the buffer, without the interpreter */
-    bool has_more; /* whether pairs are left behind those of the buffer */
+    bool is_busy;  /* whether a call of next runs */
+    bool has_more; /* whether pairs are left after those of the buffer */
     uint8_t *buffer;
     size_t len;
     size_t at;   /* the next pair's place in the buffer */
@@ -71,8 +71,8 @@ static size_t length_at(const uint8_t *at)
     return len;
 }
 
-/* Lets the next scan start behind the last pair of the buffer: at its key with a byte 0 after it. */
-static bool start_behind_last(Pairs *pairs)
+/* Lets the next scan start after the last pair of the buffer: at its key with a byte 0 after it. */
+static bool start_after_last(Pairs *pairs)
 {
     const uint8_t *key = pairs->buffer + pairs->last;
     size_t len = length_at(key);
@@ -89,10 +89,8 @@ static bool start_behind_last(Pairs *pairs)
 /* Fills the buffer with the next pairs. Returns false with an exception where that is refused. */
 static bool fill(Pairs *pairs)
 {
-    if (pairs->len > 0 && !start_behind_last(pairs)) return false;
-    pairs->is_busy = true;
+    if (pairs->len > 0 && !start_after_last(pairs)) return false;
     uint32_t code = scan(pairs);
-    pairs->is_busy = false;
     pairs->at = 0;
     pairs->has_more = code != HLC_OK;
     if (code == HLC_OK || code == HLC_MORE) return true;
@@ -118,13 +116,8 @@ static PyObject *pair_at(const Pairs *pairs, size_t *at)
     return pair;
 }
 
-static PyObject *pairs_next(PyObject *self)
+static PyObject *take_next(Pairs *pairs)
 {
-    Pairs *pairs = (Pairs *)self;
-    if (pairs->is_busy) {
-        PyErr_SetString(PyExc_ValueError, "another thread uses this iterator");
-        return NULL;
-    }
     if (pairs->at == pairs->len && !(pairs->has_more && fill(pairs) && pairs->len > 0)) return NULL;
     size_t at = pairs->at;
     PyObject *next = pairs->with_values ? pair_at(pairs, &at) : part_at(pairs, &at);
@@ -134,8 +127,23 @@ static PyObject *pairs_next(PyObject *self)
     return next;
 }
 
+/* Other code of Python may run in the middle of a call: other threads while the buffer is filled, and finalizers where
+ * an object is made or dropped. It must not change the buffer, or the places in it. */
+static PyObject *pairs_next(PyObject *self)
+{
+    Pairs *pairs = (Pairs *)self;
+    if (pairs->is_busy) {
+        PyErr_SetString(PyExc_ValueError, "another call uses this iterator");
+        return NULL;
+    }
+    pairs->is_busy = true;
+    PyObject *next = take_next(pairs);
+    pairs->is_busy = false;
+    return next;
+}
+
 static PyType_Slot pairs_slots[] = {
-    { Py_tp_doc, "An iterator over a snapshot. Threads must not use one at the same time." },
+    { Py_tp_doc, "An iterator over a snapshot, for one call at a time." },
     { Py_tp_dealloc, pairs_dealloc },
     { Py_tp_iter, PyObject_SelfIter },
     { Py_tp_iternext, pairs_next },

@@ -6,7 +6,7 @@
 /* Room for the longest answer: a byte, a length of eight bytes, and a value of 65,535. */
 enum { ROOM = 65544, LENGTH = 8 };
 
-/* The keys of a call, one behind the other, and the answers of those that were read last. */
+/* The keys of a call, one after the other, and the answers of those that were read last. */
 typedef struct {
     hlc_place *places;
     size_t many;
@@ -85,28 +85,30 @@ static PyObject *value_at(const uint8_t **at)
     return PyBytes_FromStringAndSize((const char *)*at - len, (Py_ssize_t)len);
 }
 
-/* Puts the values of the answers into the list, from a place on. */
-static bool put_values(const Batch *batch, PyObject *list, size_t from, size_t many)
+/* Appends the values of the answers to the list. */
+static bool append_values(const Batch *batch, PyObject *list, size_t many)
 {
     const uint8_t *at = batch->answers;
     for (size_t i = 0; i < many; i++) {
         PyObject *value = value_at(&at);
-        if (!value || PyList_SetItem(list, (Py_ssize_t)(from + i), value)) return false;
+        bool is_appended = value && PyList_Append(list, value) == 0;
+        Py_XDECREF(value);
+        if (!is_appended) return false;
     }
     return true;
 }
 
-/* The list is still this call's own, so its empty places are no harm. */
+/* The list never has an empty place: gc.get_objects shows it to other threads, which run between the calls. */
 static PyObject *values_of(Snapshot *snapshot, Batch *batch)
 {
-    PyObject *list = PyList_New((Py_ssize_t)batch->many);
+    PyObject *list = PyList_New(0);
     uint32_t code = HLC_MORE;
     size_t many;
     for (size_t from = 0; list && code == HLC_MORE; from += many) {
         code = read_from(snapshot, batch, from, &many);
         bool is_answered = code == HLC_OK || code == HLC_MORE;
         if (!is_answered) refuse(code, 0);
-        if (!is_answered || !put_values(batch, list, from, many)) Py_CLEAR(list);
+        if (!is_answered || !append_values(batch, list, many)) Py_CLEAR(list);
     }
     return list;
 }
