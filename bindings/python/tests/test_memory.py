@@ -10,6 +10,7 @@ import hlcstore
 from hlcstore import Error, Item, Node, Store, stamp
 
 KEY, VALUE = b"a key of many", b"a value " * 300
+LONG_KEY = b"a long key " * 20
 TOO_LONG = bytes(65536)
 
 
@@ -69,7 +70,23 @@ def keep(store):
     saved = store.checkpoint()
     with Store.restore(saved) as copy:
         copy.snapshots(), copy.link(0), copy.floor, copy.join(), copy.join_at(2**50), copy.floor_node()
+    with Store.restore(saved[at : at + 500] for at in range(0, len(saved), 500)) as copy:
+        empty_a_key(copy)
     refuse(Error, Store.restore, saved[:-1])
+    refuse(Error, Store.restore, [saved[:-1]])
+    refuse(TypeError, Store.restore, [saved[:-1], None])
+
+
+def empty_a_key(store):
+    """Deletes a long key, of which a vacuum in parts then drops all rows."""
+    node = Node.restore(0, store.link(0).head, store.link(0).next)
+    store.accept_all([node.write(9, LONG_KEY, VALUE), node.delete(10, LONG_KEY)])
+    store.close_all()
+    keys, part = store.sizes.keys, store.vacuum_part(store.floor, most=1)
+    while part.next is not None:
+        part = store.vacuum_part(store.floor, part.next, most=1)
+    if store.sizes.keys != keys - 1:
+        raise AssertionError("the key has rows")
 
 
 def play():
