@@ -1,6 +1,7 @@
 #!/usr/bin/env python3
-"""Makes random calls of the C library, and compares every answer with a model that keeps all writes. The arguments are
-the shared object, linked with grant.c, and a seed. Prints `all right` at the end, and fails at the first difference."""
+"""Makes random calls of the C library, and compares every answer with a model that keeps all writes. Then checks which
+calls take no memory (no_memory.py). The arguments are the shared object, linked with grant.c, and a seed. Prints
+`all right` at the end, and fails at the first difference."""
 import hashlib
 import random
 import struct
@@ -8,6 +9,7 @@ import sys
 from collections import Counter
 from urllib.parse import unquote_to_bytes
 
+import no_memory
 from raw_calls import PLACE, Handle, Library
 
 ROUNDS = 300
@@ -400,4 +402,5 @@ library = Library(sys.argv[1])
 pick = random.Random(int(sys.argv[2]))
 for _ in range(ROUNDS):
     play(pick)
+no_memory.check(library)
 print("all right")

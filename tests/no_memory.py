@@ -1,0 +1,390 @@
+"""Checks which calls of the C library take no memory, as the table of its header says.
+
+`check(library)` makes calls while each request for memory would be refused, and sees whether there is one (grant.c). A
+call without memory makes none, whatever it answers; nor does a call with memory that is refused by a number which the
+table has before 15. Every call of the header, and each of these refusals, must be met: a new call that is missing here
+is an error. The stores are large, and their keys and values are too long to be kept in place, so that a copy of any of
+them is a request.
+"""
+import hashlib
+import re
+import struct
+from collections import defaultdict
+
+from raw_calls import ENTRY, HEADER, PLACE, Handle, RawNode
+
+OK, CLOSED, MORE = 0, 100, 104
+TOP = 2**64 - 1
+KEYS = 10_000
+KEY, VALUE = b"key %06d, which is longer than 22 bytes", b"value %d of key %06d, which is longer than 22 bytes"
+ABSENT = b"no key of a store, and longer than 22 bytes"
+PLENTY = 3_000_000
+# Refusals that these calls find in what they take memory for.
+LATE = {"check": {16}, "restore": {107}, "restore_finish": {107}}
+
+
+# ---- The table of the header ----
+
+
+class Row:
+    """A call of the table: its refusals, but those after 15, and whether it takes memory."""
+
+    def __init__(self, refusals, takes_memory):
+        self.refusals, self.takes_memory = refusals, takes_memory
+
+
+def lines_of_table():
+    """The columns of each line of the table: names, refusals and memory."""
+    lines = HEADER.read_text().split("\n")
+    start = next(i for i, line in enumerate(lines) if line.startswith(" *   call "))
+    columns = [lines[start].index(word) for word in ("call", "refusals", "memory", "beside")]
+    for line in lines[start + 1 : lines.index(" */", start)]:
+        names, refusals, memory = (line[a:b].strip() for a, b in zip(columns, columns[1:]))
+        assert names.startswith("hlc_") and memory in ("", "yes"), line
+        yield full_names(names), refusals, memory == "yes"
+
+
+def full_names(text):
+    """The names of a line, without hlc_. A part such as _delete takes the place of the last part of the name before."""
+    names = []
+    for part in text.split(", "):
+        names.append(names[-1].rpartition("_")[0] + part if part.startswith("_") else part)
+    return [name.removeprefix("hlc_") for name in names]
+
+
+def table():
+    """The rows of the table by name."""
+    texts, memory = {}, {}
+    for names, refusals, takes_memory in lines_of_table():
+        parts = refusals.split("; ")
+        for place, name in enumerate(names):
+            texts[name], memory[name] = parts[min(place, len(parts) - 1)], takes_memory
+    on_stores = set(re.findall(r"hlc_(\w+)\(hlc_store \*store", HEADER.read_text())) - {"open", "restore", "close"}
+
+    def refusals_of(name):
+        found = {int(number) for number in re.findall(r"\d+", re.split(r"\b15\b", texts[name])[0])}
+        if "those of hlc_accept" in texts[name]:
+            found |= refusals_of("accept_write" if name == "accept_all" else name.replace("check", "accept"))
+        # A deletion has no value that could be too long.
+        found -= {13} if name.endswith("_delete") else LATE.get(name, set())
+        return found | ({CLOSED} if name in on_stores else set())
+
+    return {name: Row(refusals_of(name), memory[name]) for name in texts}
+
+
+# ---- Calls that are counted ----
+
+
+class Counted:
+    """Makes calls, with or without memory, and collects what those without answered."""
+
+    def __init__(self, library):
+        self.library = library
+        self.answers = defaultdict(set)
+
+    def ok(self, name, *args):
+        """Makes a call that has memory and is not refused, and returns what it wrote."""
+        answer, *written = self.library.call(name, *args)
+        assert answer == OK, (name, answer)
+        return written
+
+    def starved(self, name, *args):
+        """Makes a call without memory. Returns its answer, and whether it made a request."""
+        self.library.granted.value = 0
+        answer, *_ = self.library.call(name, *args)
+        has_asked = self.library.granted.value < 0
+        self.library.granted.value = -1
+        return answer, has_asked
+
+    def count(self, expected, name, *args):
+        """Makes a call that must make no request, and must answer so if an answer is given."""
+        answer, has_asked = self.starved(name, *args)
+        assert not has_asked, f"hlc_{name} asked for memory, and answered {answer}"
+        assert expected is None or answer == expected, (name, expected, answer)
+        self.answers[name].add(answer if isinstance(answer, int) else None)
+
+    def check_all(self):
+        """Checks that all calls of the header were counted, with each answer that the table names."""
+        rows = table()
+        assert set(rows) == set(self.library.calls), set(rows) ^ set(self.library.calls)
+        for name, row in rows.items():
+            assert row.takes_memory or name in self.answers, f"hlc_{name} was not counted"
+            expected = row.refusals if row.takes_memory or not row.refusals else row.refusals | {OK}
+            assert expected <= self.answers[name], (name, expected - self.answers[name])
+            assert not row.takes_memory or OK not in self.answers[name], name
+
+
+# ---- Stores ----
+
+
+def entry(number, stamp, key, value, deletes=False, node=0, at=0):
+    """An entry whose key is at this place, with the value after it."""
+    return ENTRY.pack(node, deletes, number, stamp, at, len(key), at + len(key), len(value))
+
+
+def filled_store(calls):
+    """Returns a store, and how many items node 0 wrote, at the stamps from 1 on: two values of each key, and then a
+    deletion of every seventh. Node 1 has retired. Snapshots are open after each of these turns, and in the first."""
+    store, number = Handle(), 0
+    calls.ok("open", store, 2)
+    calls.ok("accept_retire", store, 1, 0, 3 * KEYS)
+    for turn, step in (0, 1), (1, 1), (2, 7):
+        entries, texts = [], bytearray()
+        for i in range(0, KEYS, step):
+            key, value = KEY % i, VALUE % (turn, i)
+            entries.append(entry(number, number + 1, key, value, deletes=turn == 2, at=len(texts)))
+            texts += key + value
+            number += 1
+        assert calls.ok("accept_all", store, b"".join(entries), bytes(texts)) == [len(entries), 0]
+        calls.ok("open_snapshot_at_floor", store)
+    calls.ok("open_snapshot", store, KEYS // 2)
+    return store, number
+
+
+def checkpoint_of(nodes, next, opened):
+    """The bytes of a checkpoint of so many nodes at the start, of which there is one, and of so many snapshots that
+    were opened."""
+    body = struct.pack(">HHQQBHQQQ", nodes, 1, next, TOP, 0, 0, opened, 0, 0)
+    front = struct.pack(">IQQ", 1, len(body), 0) + body
+    return front + hashlib.sha256(front).digest()
+
+
+def spent_store(calls):
+    """A store in which no number of node 0 is left, and no id of a snapshot."""
+    store = Handle()
+    calls.ok("restore", store, checkpoint_of(1, TOP, TOP - 1))
+    return store
+
+
+def full_output(calls, store):
+    output = Handle()
+    calls.ok("checkpoint", store, 5, output)
+    return output
+
+
+def restoring_of(calls, saved):
+    restoring = Handle()
+    calls.ok("restore_start", restoring)
+    calls.ok("restore_feed", restoring, saved)
+    return restoring
+
+
+# ---- Calls without memory ----
+
+
+def count_reads(calls, store):
+    """Counts the calls that ask a snapshot."""
+    texts = b"".join(KEY % i for i in range(3000))
+    places = b"".join(PLACE.pack(i * len(KEY % 0), len(KEY % 0)) for i in range(3000))
+    for id in 1, 2, 3, 4:
+        for room in 0, 100, PLENTY:
+            calls.count(OK, "list", store, id, room)
+            for start, end in (b"", b""), (KEY % 5, KEY % 9000), (ABSENT, b""):
+                calls.count(OK if room == PLENTY else None, "scan", store, id, start, end, room)
+                calls.count(OK if room == PLENTY else None, "scan_keys", store, id, start, end, room)
+                calls.count(OK, "digest", store, id, start, end, room)
+                calls.count(OK, "count", store, id, start, end)
+            calls.count(OK, "read", store, id, KEY % 1, room)
+            calls.count(102, "read", store, id, ABSENT, room)
+            calls.count(OK if room == PLENTY else MORE, "read_all", store, id, places, texts, room)
+        calls.count(103, "read_all", store, id, PLACE.pack(len(texts), 1), texts, PLENTY)
+        calls.count(OK, "snapshot", store, id - 1)
+    whole = b"", b"", PLENTY
+    words = {"list": whole[2:], "count": whole[:2], "digest": whole, "scan": whole, "scan_keys": whole}
+    words |= {"read": (KEY % 1, PLENTY), "read_all": (places, texts, PLENTY), "snapshot": ()}
+    for name, args in words.items():
+        calls.count(10, name, store, 9, *args)
+        calls.count(CLOSED, name, Handle(), 1, *args)
+
+
+def count_questions(calls, store, floor, retired):
+    """Counts the calls that ask what a store has. In another one all nodes have retired."""
+    for each, answer in (store, OK), (Handle(), CLOSED):
+        for name in "floor", "rows", "sizes", "horizon", "nodes", "floor_node":
+            calls.count(answer, name, each)
+        calls.count(answer, "link", each, 1)
+        calls.count(answer, "check_vacuum", each, floor)
+    calls.count(1, "floor_node", retired)
+    calls.count(1, "link", store, 2)
+    calls.count(8, "check_vacuum", store, floor + 1)
+    calls.count(9, "check_vacuum", store, floor - 1)
+
+
+def item_refusals(kind, store, next, spent):
+    """The refusals of an item of a kind: for each a store, and the item."""
+
+    def item(node, number, stamp, key=KEY % 1, value=VALUE % (1, 1)):
+        return node, number, stamp, *{"write": (key, value), "delete": (key,)}.get(kind, ())
+
+    found = {
+        1: (store, item(2, 0, next + 1)),
+        6: (store, item(0, next + 1, next + 1)),
+        7: (store, item(0, next, next)),
+        14: (spent, item(0, TOP, TOP)),
+        27: (store, item(1, 1, TOP)),
+        CLOSED: (Handle(), item(0, next, next + 1)),
+    }
+    if kind in ("write", "delete"):
+        found[12] = store, item(0, next, next + 1, key=bytes(256))
+    if kind == "write":
+        found[13] = store, item(0, next, next + 1, value=bytes(65536))
+    return found
+
+
+def count_items(calls, store, next, spent):
+    """Counts the checks of items, and each refusal of one."""
+    for kind, parts in ("write", (KEY % 1, VALUE % (1, 1))), ("delete", (KEY % 1,)), ("report", ()), ("retire", ()):
+        for answer, (each, item) in item_refusals(kind, store, next, spent).items():
+            calls.count(answer, "accept_" + kind, each, *item)
+            if kind != "retire":
+                calls.count(answer, "check_" + kind, each, *item)
+        if kind != "retire":
+            calls.count(OK, "check_" + kind, store, 0, next, next + 1, *parts)
+    for answer, (each, (*numbers, key, value)) in item_refusals("write", store, next, spent).items():
+        packed = entry(numbers[1], numbers[2], key, value, node=numbers[0])
+        calls.count(answer, "accept_all", each, packed, key + value)
+    calls.count(103, "accept_all", store, entry(next, next + 1, KEY % 1, b"12"), KEY % 1 + b"1")
+
+
+def count_outputs(calls, store):
+    output = full_output(calls, store)
+    length = len(calls.ok("output_read", output, 0, PLENTY)[1])
+    for answer, place, room in (OK, 0, length), (MORE, 0, length - 1), (MORE, 5, 0), (OK, length, 5), (OK, TOP, 5):
+        calls.count(answer, "output_read", output, place, room)
+    for _ in range(2):
+        calls.count(None, "output_drop", output)
+        calls.count(OK, "output_read", output, 0, 5)
+
+
+def count_ends(calls, store):
+    """Counts the calls that close snapshots, restores and stores, also where these are closed."""
+    output = full_output(calls, store)
+    restoring = restoring_of(calls, calls.ok("output_read", output, 0, PLENTY)[1])
+    calls.library.call("output_drop", output)
+    calls.count(OK, "close_snapshot", store, 2)
+    calls.count(10, "close_snapshot", store, 2)
+    calls.count(CLOSED, "close_snapshot", Handle(), 2)
+    calls.count(OK, "close_all", store)
+    calls.count(CLOSED, "close_all", Handle())
+    for _ in range(2):
+        calls.count(None, "restore_drop", restoring)
+        calls.count(None, "close", store)
+
+
+def count_nodes(calls):
+    """Counts the calls of nodes, and those without a store."""
+    calls.count(None, "version")
+    for number in 0, 6, 107, 999:
+        for room in 0, 200:
+            calls.count(None, "error_name", number, room)
+            calls.count(None, "error_text", number, room)
+    calls.count(None, "node_open", 3, 7)
+    calls.count(None, "node_raise", RawNode(), 7)
+    calls.count(OK, "node_restore", 0, 3, 2, RawNode())
+    calls.count(105, "node_restore", 0, 2, 3, RawNode())
+    before = {"receive": (5,)}
+    after = {"write": (KEY % 1, VALUE % (1, 1)), "delete": (KEY % 1,)}
+    for kind in "write", "delete", "report", "retire", "send", "receive":
+        nodes = {OK: RawNode(), 2: RawNode(), 3: RawNode(0, TOP, 1), 27: RawNode(0, 1, 1, True)}
+        if kind not in ("send", "receive"):
+            nodes[14] = RawNode(0, TOP, TOP)
+        for answer, node in nodes.items():
+            reading = 2**48 if answer == 2 else 3
+            calls.count(answer, "node_" + kind, node, *before.get(kind, ()), reading, *after.get(kind, ()))
+    calls.count(12, "node_write", RawNode(), 3, bytes(256), b"")
+    calls.count(12, "node_delete", RawNode(), 3, bytes(256))
+    calls.count(13, "node_write", RawNode(), 3, KEY % 1, bytes(65536))
+
+
+# ---- Refusals of calls with memory ----
+
+
+def count_opening(calls, store, floor, spent):
+    """Counts the refusals of calls that open a store or a snapshot, or let a node join."""
+    nodes, snapshots = Handle(), Handle()
+    calls.ok("open", nodes, 64)
+    for _ in range(1024 - 64):
+        calls.ok("join", nodes)
+    calls.ok("open", snapshots, 1)
+    for _ in range(1024):
+        calls.ok("open_snapshot_at_floor", snapshots)
+    calls.count(1, "open", Handle(), 65)
+    calls.count(101, "open", store, 1)
+    for answer, each in (26, nodes), (CLOSED, Handle()):
+        calls.count(answer, "join", each)
+        calls.count(answer, "join_at", each, TOP)
+    calls.count(9, "join_at", store, floor - 1)
+    for answer, each in (11, snapshots), (14, spent), (CLOSED, Handle()):
+        calls.count(answer, "open_snapshot", each, 0)
+        calls.count(answer, "open_snapshot_at_floor", each)
+    calls.count(8, "open_snapshot", store, floor + 1)
+    calls.count(9, "open_snapshot", store, floor - 1)
+    for each in nodes, snapshots:
+        calls.library.call("close", each)
+
+
+def count_outputs_refused(calls, store, floor):
+    """Counts the refusals of vacuums, checkpoints and certificates."""
+    full = full_output(calls, store)
+    calls.count(CLOSED, "vacuum", Handle())
+    for answer, each, stamp in (8, store, floor + 1), (9, store, floor - 1), (CLOSED, Handle(), floor):
+        calls.count(answer, "vacuum_to", each, stamp)
+        calls.count(answer, "vacuum_to_certified", each, stamp, Handle())
+        calls.count(answer, "vacuum_part", each, stamp, KEY % 1, TOP, 255)
+    calls.count(108, "vacuum_to_certified", store, floor, full)
+    for answer, each, output in (108, store, full), (CLOSED, Handle(), Handle()):
+        calls.count(answer, "vacuum_certified", each, output)
+        calls.count(answer, "checkpoint", each, 5, output)
+    calls.library.call("output_drop", full)
+    calls.count(20, "check", bytes(2**24 + 1))
+    assert calls.starved("check", b"point 1.0\npoint")[0] == 16
+
+
+def count_logs(calls, store, next, spent):
+    """Counts the refusals of items as bytes."""
+    calls.count(12, "item_write", 0, 0, 1, bytes(256), b"", PLENTY)
+    calls.count(12, "item_delete", 0, 0, 1, bytes(256), PLENTY)
+    calls.count(13, "item_write", 0, 0, 1, KEY % 1, bytes(65536), PLENTY)
+    for answer, (each, item) in item_refusals("report", store, next, spent).items():
+        calls.count(answer, "items_accept", each, calls.ok("item_report", *item, PLENTY)[1])
+    calls.count(106, "items_accept", store, b"\1")
+
+
+def count_restores(calls, store):
+    """Counts the refusals of restores."""
+    damaged, no_nodes = bytes(60), checkpoint_of(0, 0, 0)
+    calls.count(101, "restore", store, no_nodes)
+    calls.count(106, "restore", Handle(), damaged)
+    calls.count(100, "restore_feed", Handle(), KEY)
+    calls.count(100, "restore_finish", Handle(), Handle())
+    restoring = restoring_of(calls, damaged)
+    calls.count(101, "restore_start", restoring)
+    calls.count(101, "restore_finish", restoring, store)
+    calls.count(106, "restore_finish", restoring, Handle())
+
+
+def check(library):
+    """Checks all calls of the header."""
+    calls = Counted(library)
+    spent = spent_store(calls)
+    store, next = filled_store(calls)
+    retired = Handle()
+    calls.ok("open", retired, 1)
+    calls.ok("accept_retire", retired, 0, 0, 1)
+    count_nodes(calls)
+    count_reads(calls, store)
+    calls.ok("vacuum_to", store, next)
+    count_reads(calls, store)
+    count_questions(calls, store, next, retired)
+    count_items(calls, store, next, spent)
+    count_opening(calls, store, next, spent)
+    count_outputs_refused(calls, store, next)
+    count_logs(calls, store, next, spent)
+    count_restores(calls, store)
+    count_outputs(calls, store)
+    calls.count(OK, "accept_report", store, 0, next, next + 1)
+    calls.count(OK, "accept_retire", store, 0, next + 1, next + 2)
+    count_ends(calls, store)
+    calls.check_all()
+    for each in spent, retired:
+        library.call("close", each)
