@@ -316,6 +316,7 @@ static Bytes checkpoint(bool is_vacuumed)
     return made;
 }
 
+/* The text of a stamp, after a space. */
 static void put_stamp(Bytes *to, uint64_t stamp)
 {
     char text[48];
@@ -357,6 +358,24 @@ static Bytes certificate(void)
             put_text(&made, "\n");
         }
     return made;
+}
+
+/* What is expected several times: the bytes of a checkpoint before a vacuum and after it, the digest of each snapshot,
+ * how many rows the vacuum keeps, and what they cost. */
+static Bytes expected_checkpoint[2];
+static uint8_t expected_digest[2][32];
+static uint64_t expected_kept, expected_cost;
+
+static void prepare(void)
+{
+    for (int i = 0; i < 2; i++) {
+        Bytes pairs = listing(points[i], 0, keys, true);
+        digest(&pairs, expected_digest[i]);
+        free(pairs.at);
+        free(expected_checkpoint[i].at);
+        expected_checkpoint[i] = checkpoint(i == 1);
+    }
+    free(stored(true, &expected_kept, &expected_cost).at);
 }
 
 /* ---- The calls ---- */
@@ -446,13 +465,10 @@ static bool has_pages(hlc_store *store, uint64_t id, const Bytes *expected, uint
 
 static void check_digest(hlc_store *store, uint64_t id, const char *what)
 {
-    Bytes expected = listing(points[id - 1], 0, keys, true);
-    uint8_t sum[32], got[32];
+    uint8_t got[32];
     size_t len;
-    digest(&expected, sum);
     uint32_t code = hlc_digest(store, id, NULL, 0, NULL, 0, got, sizeof got, &len);
-    expect(code == HLC_OK && len == 32 && memcmp(got, sum, 32) == 0, what);
-    free(expected.at);
+    expect(code == HLC_OK && len == sizeof got && memcmp(got, expected_digest[id - 1], sizeof got) == 0, what);
 }
 
 static void check_reads(hlc_store *store, uint64_t id)
@@ -519,10 +535,9 @@ static Bytes saved(hlc_store *store)
 
 static void check_saved(hlc_store *store, bool is_vacuumed, const char *what)
 {
-    Bytes got = saved(store), expected = checkpoint(is_vacuumed);
-    expect(are_same(&got, &expected), what);
+    Bytes got = saved(store);
+    expect(are_same(&got, &expected_checkpoint[is_vacuumed]), what);
     free(got.at);
-    free(expected.at);
 }
 
 static void restore_pieces(hlc_store *store, const Bytes *from)
@@ -538,44 +553,45 @@ static void restore_pieces(hlc_store *store, const Bytes *from)
     hlc_restore_drop(&restoring);
 }
 
-/* Vacuums a store that was restored whole, and one that was restored in pieces, and this one at once. */
+/* Whether these are the numbers of a vacuum to the floor: the stamp, and the numbers of rows and of bytes. */
+static bool has_numbers(const uint64_t numbers[4])
+{
+    return numbers[0] == rows && numbers[1] == expected_kept && numbers[2] == expected_cost
+           && numbers[3] == rows - expected_kept;
+}
+
 static void vacuum_whole(hlc_store *store)
 {
-    uint64_t kept, cost, got[4];
-    free(stored(true, &kept, &cost).at);
+    uint64_t got[4];
     uint32_t code = hlc_vacuum(store, &got[0], &got[1], &got[2], &got[3]);
-    expect(code == HLC_OK && got[0] == rows && got[1] == kept && got[2] == cost && got[3] == rows - kept, "a vacuum");
+    expect(code == HLC_OK && has_numbers(got), "a vacuum");
 }
 
 static void vacuum_in_one_part(hlc_store *store)
 {
-    uint64_t kept, cost, got[4];
+    uint64_t got[4];
     uint8_t key[255];
     size_t len;
     bool more;
-    free(stored(true, &kept, &cost).at);
     uint32_t code = hlc_vacuum_part(store, rows, NULL, 0, SIZE_MAX, &got[0], &got[1], &got[2], &got[3], key,
                                     sizeof key, &len, &more);
-    expect(code == HLC_OK && got[0] == rows && got[1] == kept && got[2] == cost && got[3] == rows - kept && !more
-               && len == 0, "a vacuum in one part");
+    expect(code == HLC_OK && has_numbers(got) && !more && len == 0, "a vacuum in one part");
 }
 
-/* Vacuums, and checks the certificate, which may be too long for that. */
+/* Vacuums, and checks the certificate, which is too long for that where the store is too large. */
 static void certify(hlc_store *store)
 {
     hlc_output output = HLC_NO_OUTPUT;
     Bytes expected = certificate();
-    uint64_t kept, cost, got[4], checked[2], word;
+    uint64_t got[4], checked[2], word;
     size_t len;
-    free(stored(true, &kept, &cost).at);
     uint32_t code = hlc_vacuum_to_certified(store, rows, &got[0], &got[1], &got[2], &got[3], &output, &len);
-    expect(code == HLC_OK && got[0] == rows && got[1] == kept && got[2] == cost && got[3] == rows - kept,
-           "a vacuum with a certificate");
+    expect(code == HLC_OK && has_numbers(got), "a vacuum with a certificate");
     Bytes text = taken(&output, len);
     expect(are_same(&text, &expected), "a certificate");
     code = hlc_check(text.at, text.len, &checked[0], &checked[1], &word);
     if (expected.len > 16777216) expect(code == HLC_TOO_LONG, "a certificate that is too long");
-    else expect(code == HLC_OK && checked[0] == kept && checked[1] == cost, "a certificate that is checked");
+    else expect(code == HLC_OK && checked[0] == expected_kept && checked[1] == expected_cost, "a checked certificate");
     free(text.at);
     free(expected.at);
 }
@@ -614,6 +630,7 @@ static void play(uint32_t many_keys, uint32_t many_rows)
 {
     hlc_store store = HLC_CLOSED_STORE;
     plan(many_keys, many_rows);
+    prepare();
     expect(hlc_open(&store, 1) == HLC_OK, "a store");
     accept_entries(&store);
     open_snapshots(&store);
