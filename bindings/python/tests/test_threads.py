@@ -12,6 +12,7 @@ import threading
 import time
 import unittest
 from concurrent.futures import ThreadPoolExecutor
+from functools import partial
 
 import hlcstore
 from hlcstore import Item, Node, Store, split, stamp
@@ -226,11 +227,15 @@ class LongCalls(unittest.TestCase):
             if now - self.ticks[-1] > 1e-5:
                 self.ticks.append(now)
 
-    def pause_in(self, call, *args):
+    def timed(self, call):
+        """When a call begins, and when it ends. No other thread of Python runs between these calls, unless the call
+        lets it."""
+        started, _, ended = map(operator.call, (time.perf_counter, call, time.perf_counter))
+        return started, ended
+
+    def pause_in(self, call):
         """How long a call takes, and the part of this time in which the other thread waits longest."""
-        started = time.perf_counter()
-        call(*args)
-        ended = time.perf_counter()
+        started, ended = self.timed(call)
         times = [started, *(tick for tick in list(self.ticks) if started < tick < ended), ended]
         return ended - started, max(late - early for early, late in zip(times, times[1:])) / (ended - started)
 
@@ -243,20 +248,29 @@ class LongCalls(unittest.TestCase):
         calls = {
             "accept_all": lambda: Store(1).accept_all(self.items),
             "accept_items": lambda: Store(1).accept_items(log),
-            "check": lambda: hlcstore.check(certificate),
+            "check": partial(hlcstore.check, certificate),
             "checkpoint": self.store.checkpoint,
             "digest": self.snapshot.digest,
-            "restore": lambda: Store.restore(saved),
-            "restore in pieces": lambda: Store.restore([saved]),
+            "restore": partial(Store.restore, saved),
+            "restore in pieces": partial(Store.restore, [saved]),
             "vacuum": wide.vacuum,
             "vacuum_certified": self.store.vacuum_certified,
-            "vacuum_part": lambda: wide.vacuum_part(floor, most=100_000),
-            "vacuum_to": lambda: wide.vacuum_to(floor),
-            "vacuum_to_certified": lambda: wide.vacuum_to_certified(floor),
+            "vacuum_part": partial(wide.vacuum_part, floor, most=100_000),
+            "vacuum_to": partial(wide.vacuum_to, floor),
+            "vacuum_to_certified": partial(wide.vacuum_to_certified, floor),
         }
         for name, call in calls.items():
             tries = (self.pause_in(call) for _ in range(30))
             self.assertTrue(any(pause < 0.5 for _, pause in tries), name)
+
+    def test_the_interpreter_runs_while_a_store_is_dropped(self):
+        saved = self.wide.checkpoint()
+
+        def pause():
+            stores = [Store.restore(saved)]
+            return self.pause_in(stores.clear)[1]
+
+        self.assertTrue(any(pause() < 0.5 for _ in range(30)))
 
     def test_the_interpreter_runs_while_an_output_is_copied(self):
         """The copy is the last part of a call, and short beside the others. If it kept the interpreter, the other
@@ -271,8 +285,8 @@ class LongCalls(unittest.TestCase):
         self.assertTrue(any(end < seconds / 2 for end in tries), f"{seconds:.3f} s")
 
     def end_without_ticks(self, call):
-        """How long the other thread does not run before a call returns. No other thread runs between the two calls."""
-        _, ended = map(operator.call, (call, time.perf_counter))
+        """How long the other thread does not run before a call returns."""
+        _, ended = self.timed(call)
         return ended - max(tick for tick in list(self.ticks) if tick < ended)
 
     def test_the_interpreter_runs_while_a_call_waits(self):
