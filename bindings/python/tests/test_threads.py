@@ -245,6 +245,7 @@ class LongCalls(unittest.TestCase):
         saved, log = self.store.checkpoint(), b"".join(map(bytes, self.items))
         certificate = self.store.vacuum_certified()[1]
         wide, floor = self.wide, self.wide.floor
+        pieces = [saved[at : at + 50_000] for at in range(0, len(saved), 50_000)]
         calls = {
             "accept_all": lambda: Store(1).accept_all(self.items),
             "accept_items": lambda: Store(1).accept_items(log),
@@ -252,7 +253,8 @@ class LongCalls(unittest.TestCase):
             "checkpoint": self.store.checkpoint,
             "digest": self.snapshot.digest,
             "restore": partial(Store.restore, saved),
-            "restore in pieces": partial(Store.restore, [saved]),
+            "restore from a piece": partial(Store.restore, [saved]),
+            "restore from pieces": partial(Store.restore, pieces),
             "vacuum": wide.vacuum,
             "vacuum_certified": self.store.vacuum_certified,
             "vacuum_part": partial(wide.vacuum_part, floor, most=100_000),

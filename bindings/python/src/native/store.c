@@ -65,14 +65,17 @@ static PyObject *store_new(PyTypeObject *type, PyObject *args, PyObject *words)
     return refuse(code, 0);
 }
 
-/* Feeds a piece. Returns the answer, or -1 with an exception. */
-static int feed_piece(hlc_restoring *restoring, PyObject *piece)
+/* Feeds a piece. Returns the answer, or -1 with an exception. fed: how many bytes were fed since this call let go of the
+ * interpreter, since pieces of a list let no other thread run between them. */
+static int feed_piece(hlc_restoring *restoring, PyObject *piece, size_t *fed)
 {
     Bytes bytes;
     if (!take_bytes(piece, &bytes)) return -1;
-    PyThreadState *thread = let_go_for(bytes.len);
+    *fed += bytes.len;
+    PyThreadState *thread = let_go_for(*fed);
     uint32_t code = hlc_restore_feed(restoring, bytes.at, bytes.len);
     take_back(thread);
+    if (thread) *fed = 0;
     drop_bytes(&bytes);
     return (int)code;
 }
@@ -81,10 +84,11 @@ static int feed_piece(hlc_restoring *restoring, PyObject *piece)
 static int feed_pieces(hlc_restoring *restoring, PyObject *pieces)
 {
     PyObject *iterator = PyObject_GetIter(pieces), *piece;
+    size_t fed = 0;
     int code = HLC_OK;
     if (!iterator) return -1;
     while (code == HLC_OK && (piece = PyIter_Next(iterator))) {
-        code = feed_piece(restoring, piece);
+        code = feed_piece(restoring, piece, &fed);
         Py_DECREF(piece);
     }
     Py_DECREF(iterator);
