@@ -29,8 +29,9 @@ DONE = re.compile(r"^rt: (\w+) (?:proved|is kept)", re.M)
 EDITS = re.compile(r"^rt: (\w+): trying its must-fail edits", re.M)
 # Of `rt lib`, which names a crate where it begins with it.
 BEGUN = re.compile(r"^rt: chose --jobs \d+ for (\w+)", re.M)
-FAILED = re.compile(r"^rt: (\w+)(?:: its tests)? NOT PROVED|^(logic=not-proved)", re.M)
-FUNCTION = re.compile(r"^fn (\S+): (?:not proved|no proof)", re.M)
+FAILED = re.compile(r"^rt: (\w+)(?:: its tests are)? NOT PROVED|^(logic=not-proved)", re.M)
+# The function that is not proved, or where the sources are no program.
+FUNCTION = re.compile(r"^fn (\S+): (?:not proved|no proof)|^(\S+:\d+:\d+: error.*)", re.M)
 WAITING = re.compile(r"^rt: (\w+).*(?:another run on this machine|another copy of the repository)", re.M)
 
 
@@ -97,11 +98,11 @@ def line_of(log, crates, minutes, guess):
 
 
 def failure_of(log):
-    """The crate and the function whose proof failed, or none."""
+    """The crate and the function, or the place, of what failed, or none."""
     failed = FAILED.search(log)
     if not failed:
         return None
-    functions = FUNCTION.findall(log[: failed.end()])
+    functions = ["".join(found) for found in FUNCTION.findall(log[: failed.end()])]
     begun = BEGUN.findall(log[: failed.end()])
     crate = failed.group(1) or (begun[-1] if begun else "a crate")
     return f"{crate} is not proved" + (f": {functions[-1]}" if functions else "")
