@@ -30,8 +30,8 @@ EDITS = re.compile(r"^rt: (\w+): trying its must-fail edits", re.M)
 # Of `rt lib`, which names a crate where it begins with it.
 BEGUN = re.compile(r"^rt: chose --jobs \d+ for (\w+)", re.M)
 FAILED = re.compile(r"^rt: (\w+)(?:: its tests are)? NOT PROVED|^(logic=not-proved)", re.M)
-# The function that is not proved, or where the sources are no program.
-FUNCTION = re.compile(r"^fn (\S+): (?:not proved|no proof)|^(\S+:\d+:\d+: error.*)", re.M)
+# The function that is not proved, but for those that only call it; or where the sources are no program.
+FUNCTION = re.compile(r"^fn (\S+): (?:not proved|no proof: (?!it calls))|^(src/\S+:\d+:\d+: error.*)", re.M)
 WAITING = re.compile(r"^rt: (\w+).*(?:another run on this machine|another copy of the repository)", re.M)
 
 
