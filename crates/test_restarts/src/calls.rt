@@ -1,6 +1,7 @@
 //! The calls of a store.
 use crate::items::item_of;
 use crate::player::say;
+use crate::quiet::quiet;
 use crate::restart::{copy, restart, restart_in_pieces, restore, save_as_text};
 use crate::timing::{fill, time};
 use crate::verbs::{Verb, verb_of};
@@ -35,6 +36,7 @@ pub(crate) fn call_core(
         Verb::Restart => restart(rt, core, next_number(words)),
         Verb::CopyByBytes => copy(rt, core),
         Verb::Restore => restore(rt, core),
+        Verb::Quiet => quiet(rt, core, next_number(words) == 1),
         Verb::Pieces => {
             let word = next_number(words);
             restart_in_pieces(rt, core, word, next_number(words))

@@ -7,6 +7,7 @@
 mod calls;
 mod items;
 mod player;
+mod quiet;
 mod restart;
 mod timing;
 mod verbs;

@@ -30,6 +30,8 @@ pub(crate) enum Verb {
     Resume,
     Close,
     CloseAll,
+    /// Calls that take no memory.
+    Quiet,
     StampOf,
     Count,
     Floor,
@@ -67,6 +69,7 @@ const VERBS: &[(&str, Verb)] = &[
     ("resume", Verb::Resume),
     ("close", Verb::Close),
     ("close_all", Verb::CloseAll),
+    ("quiet", Verb::Quiet),
     ("stamp_of", Verb::StampOf),
     ("count", Verb::Count),
     ("floor", Verb::Floor),
