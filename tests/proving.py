@@ -2,16 +2,18 @@
 """Shows on standard error how far a command of rt is that proves crates, until it ends; and ends it where a proof
 failed.
 
-    tests/proving.py LOG CRATE MINUTES PID
+    tests/proving.py LOG CRATE MINUTES PID [RUNS]
 
 LOG is the file that the command writes to, CRATE the crate that it proves with all below it, PID its process group, and
-MINUTES how long it takes where nothing is proved yet. The line is written over itself on a terminal, and otherwise
+MINUTES how long it takes where nothing is proved yet. RUNS is how many runs of rt it makes beside each other: these
+wait for each other, so another build is proving a crate only where all of them wait for it. The line is written over itself on a terminal, and otherwise
 every two minutes. The status is 1 where a proof failed: the line then names the crate, the function and the log.
 
 How much time is left follows from the longest chain of crates, each weighed by its lines, since crates that do not
 depend on each other are proved side by side: the count of crates says little of it.
 """
 
+import collections
 import functools
 import os
 import pathlib
@@ -82,8 +84,8 @@ def under_way(crates, done):
     return sorted(ready, key=weight, reverse=True)[: os.cpu_count() or 1]
 
 
-def line_of(log, crates, minutes, guess):
-    """How far the command is that wrote this log."""
+def line_of(log, crates, minutes, guess, runs=1):
+    """How far the command is that wrote this log, by so many runs beside each other."""
     begun = [name for name in BEGUN.findall(log) if name in crates]
     done = {name for name in DONE.findall(log) + begun[:-1] if name in crates}
     now = begun[-1:] if begun else under_way(crates, done)
@@ -91,7 +93,8 @@ def line_of(log, crates, minutes, guess):
     begun_edits = f", edits of {len(edits)} crates begun" if edits else ""
     if len(done) == len(crates):
         return f"all {len(done)} crates are proved{begun_edits}, {minutes:.0f} min so far"
-    waits = [name for name in WAITING.findall(log) if name not in done]
+    waits = [name for name, times in collections.Counter(WAITING.findall(log)).items()
+             if times >= runs and name not in done]
     said = f"{len(done)} of {len(crates)} crates{begun_edits}, {minutes:.0f} min so far, about "
     said += f"{max(1, minutes_left(crates, done, minutes, guess)):.0f} left; now {', '.join(now)}"
     return said + (f"; another build is proving {waits[-1]}, and this one waits for it" if waits else "")
@@ -137,7 +140,7 @@ def is_running(group):
         return False
 
 
-def watch(log, crate, guess, group):
+def watch(log, crate, guess, group, runs):
     """Shows how far the command is until it ends, and returns the status."""
     crates, shown, began = crates_below(crate), Shown(crate), time.monotonic()
     while is_running(group):
@@ -147,7 +150,7 @@ def watch(log, crate, guess, group):
             os.killpg(group, signal.SIGTERM)
             shown.end(f"{failure}: see {log}")
             return 1
-        shown.show(line_of(text, crates, (time.monotonic() - began) / 60, guess))
+        shown.show(line_of(text, crates, (time.monotonic() - began) / 60, guess, runs))
         time.sleep(1)
     shown.end()
     return 0
@@ -155,9 +158,10 @@ def watch(log, crate, guess, group):
 
 def main():
     log, crate, guess, group = pathlib.Path(sys.argv[1]), sys.argv[2], float(sys.argv[3]), int(sys.argv[4])
+    runs = int(sys.argv[5]) if len(sys.argv) > 5 else 1
     signal.signal(signal.SIGTERM, signal.default_int_handler)
     try:
-        return watch(log, crate, guess, group)
+        return watch(log, crate, guess, group, runs)
     except KeyboardInterrupt:
         # The group is not that of the terminal, so nothing else ends it.
         os.killpg(group, signal.SIGTERM)
