@@ -6,8 +6,9 @@ failed.
 
 LOG is the file that the command writes to, CRATE the crate that it proves with all below it, PID its process group, and
 MINUTES how long it takes where nothing is proved yet. RUNS is how many runs of rt it makes beside each other: these
-wait for each other, so another build is proving a crate only where all of them wait for it. The line is written over itself on a terminal, and otherwise
-every two minutes. The status is 1 where a proof failed: the line then names the crate, the function and the log.
+wait for each other, so another build is proving a crate only where all of them wait for it. The line is written over
+itself on a terminal, and otherwise every two minutes. The status is 1 where a proof failed: the line then names the
+crate, the function and the log.
 
 How much time is left follows from the longest chain of crates, each weighed by its lines, since crates that do not
 depend on each other are proved side by side: the count of crates says little of it.
