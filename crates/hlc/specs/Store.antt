@@ -8,5 +8,5 @@ pub use Rattle.hlc_core.specs.Calls.{IsWrite, IsRefusal, IsListed, AreRowsTo, Ar
 pub use Rattle.hlc_core.specs.Parts.{rows_of_keys, IsPartReport, Trims, EndsAt, VacuumsPart}
 pub use Rattle.hlc_core.specs.Stored.{AreVacuumPoints, IsReport}
 pub use Rattle.hlc_passes.specs.Pass.{Part, ArePass, left_by, together, report_of}
-pub use Rattle.hlc_core.specs.Faults.{core_code, core_word}
-pub use Rattle.hlc_core.specs.declared.fault.CoreFault.{CoreFault}
+pub use Rattle.hlc_events.specs.Faults.{core_code, core_word}
+pub use Rattle.hlc_events.specs.declared.fault.CoreFault.{CoreFault}

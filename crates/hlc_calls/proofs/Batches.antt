@@ -5,10 +5,10 @@ use Rattle.std.specs.Prelude.{Option, Some, None}
 use Rattle.std.proofs.lemmas.List.{take_more, map-append}
 use Rattle.hlc_node.specs.declared.item.BodyFault.TheVariants.{BadKey, ValueTooLong}
 use Rattle.hlc_node.specs.declared.item.Item.{Item}
-use Rattle.hlc_core.specs.declared.fault.CoreFault.{CoreFault}
-use Rattle.hlc_core.specs.declared.fault.CoreFault.TheVariants.{NoNode, Link, Body, Join, AboveFloor, BelowHorizon}
-use Rattle.hlc_core.specs.declared.fault.CoreFault.TheVariants.{Snapshot, NoSnapshot, NoMemory}
-use Rattle.hlc_core.specs.Faults.{core_code}
+use Rattle.hlc_events.specs.declared.fault.CoreFault.{CoreFault}
+use Rattle.hlc_events.specs.declared.fault.CoreFault.TheVariants.{NoNode, Link, Body, Join, AboveFloor, BelowHorizon}
+use Rattle.hlc_events.specs.declared.fault.CoreFault.TheVariants.{Snapshot, NoSnapshot, NoMemory}
+use Rattle.hlc_events.specs.Faults.{core_code}
 use Rattle.hlc_intake.specs.Faults.{link_code}
 use Rattle.hlc_intake.specs.declared.intake.LinkFault.{LinkFault}
 use Rattle.hlc_intake.specs.declared.intake.LinkFault.TheVariants.{Retired, NotNext, NumbersSpent, StampNotRising}

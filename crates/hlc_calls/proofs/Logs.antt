@@ -12,8 +12,8 @@ use Rattle.hlc_wire.proofs.ItemLemmas.{item_reader}
 use Rattle.hlc_node.specs.declared.item.Body.{Body}
 use Rattle.hlc_node.specs.declared.item.Body.TheVariants.{Write, Report, Retire}
 use Rattle.hlc_node.specs.Items.{an_item}
-use Rattle.hlc_core.specs.declared.fault.CoreFault.{CoreFault}
-use Rattle.hlc_core.specs.Faults.{core_code, core_word}
+use Rattle.hlc_events.specs.declared.fault.CoreFault.{CoreFault}
+use Rattle.hlc_events.specs.Faults.{core_code, core_word}
 use Rattle.hlc_core.specs.Calls.{IsRefusal, IsWrite}
 use Rattle.hlc_core.specs.Past.{Step, Took, item_refusal}
 use Rattle.hlc_core.specs.StoreView.{StoreView, Represents}

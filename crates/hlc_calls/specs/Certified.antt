@@ -1,7 +1,7 @@
 -- How a vacuum's certificate is returned.
 use Rattle.std.specs.Prelude.{◌≡◌, ◌⊎◌, ℕ, List, ◌∷◌, None}
 use Rattle.hlc_node.specs.declared.row.Row.{Row}
-use Rattle.hlc_vacuum.specs.declared.report.Report.{Report}
+use Rattle.hlc_draft.specs.declared.report.Report.{Report}
 use Rattle.hlc_core.specs.Past.{Step, Vacuumed, floor, vacuum_refusal}
 use Rattle.hlc_core.specs.StoreView.{StoreView, nodes, Represents}
 use Rattle.hlc_core.specs.Calls.{Vacuums, AreRowsTo}

@@ -14,8 +14,8 @@ use Rattle.hlc_wire.specs.declared.fault.WireFault.{WireFault}
 use Rattle.hlc_wire.specs.Faults.{fault_code}
 use Rattle.hlc_wire.specs.Spelling.{item_bytes}
 use Rattle.hlc_wire.specs.Reading.{item_at}
-use Rattle.hlc_core.specs.declared.fault.CoreFault.{CoreFault}
-use Rattle.hlc_core.specs.Faults.{core_code, core_word}
+use Rattle.hlc_events.specs.declared.fault.CoreFault.{CoreFault}
+use Rattle.hlc_events.specs.Faults.{core_code, core_word}
 use Rattle.hlc_core.specs.Past.{Step, Took, numbered, count, item_refusal}
 use Rattle.hlc_core.specs.StoreView.{StoreView, Represents}
 use Rattle.hlc_calls.specs.Answers.{IsCopied}

@@ -1,7 +1,7 @@
 -- What C gets from a call.
 use Rattle.std.specs.Prelude.{◌≡◌, ◌⊎◌, ℕ, Option, Some, None}
-use Rattle.hlc_core.specs.declared.fault.CoreFault.{CoreFault}
-use Rattle.hlc_core.specs.Faults.{core_code, core_word}
+use Rattle.hlc_events.specs.declared.fault.CoreFault.{CoreFault}
+use Rattle.hlc_events.specs.Faults.{core_code, core_word}
 
 -- Where a refusal is expected, C gets its number and its word. Where none is, the call was made; or, if it may need
 -- memory, it was refused because it ran out of memory.

@@ -1,6 +1,6 @@
 //! Answers as the numbers that C gets: 0 or the number of a refusal, and a word with it.
 ghost use Rattle.std.specs.Prelude.{◌≡◌, MatchResult};
-ghost use Rattle.hlc_core.specs.Faults.{core_code, core_word};
+ghost use Rattle.hlc_events.specs.Faults.{core_code, core_word};
 
 use hlc_core::CoreFault;
 

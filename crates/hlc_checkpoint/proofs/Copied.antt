@@ -8,8 +8,8 @@ use Rattle.std.proofs.lemmas.Option.{slice_get_within, get_or_from_slice_get, sl
 use Rattle.std.proofs.lemmas.Bool.{le-leb, lt-leb}
 use Rattle.std.proofs.lemmas.Grind.{flat_map-append}
 use Rattle.hlc_node.specs.declared.row.Row.{Row}
-use Rattle.hlc_columns.specs.Cells.{Cell}
-use Rattle.hlc_columns.specs.Rows.{KeyCells, row_of, rows_of, rows_to, rows_in_one, rows_in}
+use Rattle.hlc_column.specs.Cells.{Cell}
+use Rattle.hlc_column.specs.Rows.{KeyCells, row_of, rows_of, rows_to, rows_in_one, rows_in}
 
 row_more : (rows : List Row) (i : ℕ) (row : Row) → slice_get rows i ≡ Some row
     → take (i + 1) rows ≡ take i rows ++ row ∷ []

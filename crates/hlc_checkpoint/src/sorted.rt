@@ -3,7 +3,7 @@ ghost use Rattle.std.specs.Prelude.{◌≡◌, ◌++◌, IfOk, OnOk};
 ghost use Rattle.std.specs.List.Sorted.{IsPermutation};
 ghost use Rattle.hlc_node.specs.Rows.{IsRowSet};
 ghost use Rattle.hlc_witness.specs.Certificate.{RowsAscend};
-ghost use Rattle.hlc_columns.specs.Rows.{rows_of, rows_in, rows_to};
+ghost use Rattle.hlc_column.specs.Rows.{rows_of, rows_in, rows_to};
 ghost use Rattle.hlc_checkpoint.specs.Sorted.{AreRowsTo};
 
 use hlc_clock::Stamp;

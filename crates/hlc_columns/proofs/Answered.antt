@@ -18,7 +18,7 @@ use Rattle.hlc_node.specs.declared.row.Row.{Row}
 use Rattle.hlc_node.specs.Rows.{newest, answer}
 use Rattle.hlc_node.proofs.NewestLemmas.{newest_is_greatest}
 use Rattle.hlc_index.specs.Entries.{key_cmp}
-use Rattle.hlc_columns.specs.Rows.{rows_of}
+use Rattle.hlc_column.specs.Rows.{rows_of}
 use Rattle.hlc_columns.specs.Table.{table_rows}
 use Rattle.hlc_columns.specs.Answers.{answers_in, pair_of, is_below, IsBetween, AreAnswers}
 use Rattle.hlc_columns.proofs.FoundLemmas.{newest_alone}

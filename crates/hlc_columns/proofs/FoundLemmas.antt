@@ -18,10 +18,10 @@ use Rattle.std.proofs.lemmas.Slice.Eq.{bytes_eq-Decides}
 use Rattle.hlc_node.specs.declared.row.Row.{Row}
 use Rattle.hlc_node.specs.Rows.{newest, answer}
 use Rattle.hlc_node.proofs.NewestLemmas.{newest_after_others, newest_before_others}
-use Rattle.hlc_columns.proofs.First.{newest_nil}
-use Rattle.hlc_columns.proofs.RowLemmas.{row_key}
-use Rattle.hlc_columns.specs.Cells.{Cell}
-use Rattle.hlc_columns.specs.Rows.{row_of, rows_of, rows_with, KeyCells, rows_in_one}
+use Rattle.hlc_column.proofs.FirstLemmas.{newest_nil}
+use Rattle.hlc_column.proofs.RowLemmas.{row_key}
+use Rattle.hlc_column.specs.Cells.{Cell}
+use Rattle.hlc_column.specs.Rows.{row_of, rows_of, rows_with, KeyCells, rows_in_one}
 use Rattle.hlc_columns.specs.Table.{table_rows, keyed}
 use Rattle.std.specs.Str.{bytes_eq}
 use Rattle.hlc_values.proofs.MemberLemmas.{Contains-none, Contains-cons_cases}

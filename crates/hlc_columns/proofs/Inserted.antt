@@ -15,8 +15,8 @@ use Rattle.std.proofs.lemmas.List.{append_assoc, length-append, map-append}
 use Rattle.std.proofs.lemmas.List.Elements.{All-from_recursion, recursion_from_All}
 use Rattle.hlc_node.specs.declared.row.Row.{Row}
 use Rattle.hlc_node.specs.Rows.{IsRowSet}
-use Rattle.hlc_columns.specs.Cells.{Cell}
-use Rattle.hlc_columns.specs.Rows.{row_of, rows_of}
+use Rattle.hlc_column.specs.Cells.{Cell}
+use Rattle.hlc_column.specs.Rows.{row_of, rows_of}
 use Rattle.std.specs.List.Sorted.{IsPermutation}
 use Rattle.std.proofs.lemmas.List.Sorted.{IsPermutation-append_right, IsPermutation-append_comm}
 use Rattle.std.proofs.lemmas.List.Elements.{Contains-append_cases, Contains-append_left, Contains-append_right}

@@ -7,11 +7,11 @@ use Rattle.std.specs.List.Sorted.{IsStrictlySortedBy}
 use Rattle.std.specs.Map.{keys_of}
 use Rattle.hlc_values.proofs.MemberLemmas.{Contains-rest, Contains-cons_cases}
 use Rattle.hlc_node.specs.declared.row.Row.{Row}
-use Rattle.hlc_columns.specs.Cells.{Cell}
-use Rattle.hlc_columns.specs.Rows.{row_of, rows_of, rows_in, keys_in, KeysAscend}
+use Rattle.hlc_column.specs.Cells.{Cell}
+use Rattle.hlc_column.specs.Rows.{row_of, rows_of, rows_in, keys_in, KeysAscend}
 use Rattle.std.proofs.lemmas.List.Elements.{Contains-append_cases, Contains-append_left, Contains-append_right}
 use Rattle.hlc_columns.specs.Table.{table_rows, keyed}
-use Rattle.hlc_columns.proofs.RowLemmas.{row_key}
+use Rattle.hlc_column.proofs.RowLemmas.{row_key}
 
 pub rows_keyed : (es : List (List ℕ × List Cell)) → rows_in (keyed es) ≡ table_rows es
 rows_keyed [] = refl

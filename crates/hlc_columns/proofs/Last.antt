@@ -12,8 +12,8 @@ use Rattle.std.proofs.lemmas.Map.{lookup-none, NonePasses}
 use Rattle.std.proofs.lemmas.Option.{none-some, same_Some}
 use Rattle.std.proofs.lemmas.Map.Keys.{Less-from_sorted, sorted_tail}
 use Rattle.hlc_index.specs.Entries.{key_cmp, is_key, keys_in}
-use Rattle.hlc_columns.specs.Cells.{Cell}
-use Rattle.hlc_columns.specs.Rows.{row_of, rows_of}
+use Rattle.hlc_column.specs.Cells.{Cell}
+use Rattle.hlc_column.specs.Rows.{row_of, rows_of}
 use Rattle.hlc_columns.proofs.FoundLemmas.{cells_in}
 
 -- the key of the entry at a slot

@@ -18,7 +18,7 @@ use Rattle.hlc_index.specs.Entries.{keys_in, key_cmp}
 use Rattle.hlc_index.proofs.SlotLemmas.{itself, other}
 use Rattle.hlc_columns.specs.Answers.{AreAbove, starts_at}
 use Rattle.hlc_columns.proofs.FoundLemmas.{same_key}
-use Rattle.hlc_columns.specs.Rows.{KeyCells}
+use Rattle.hlc_column.specs.Rows.{KeyCells}
 use Rattle.hlc_columns.specs.Table.{keyed}
 use Rattle.hlc_columns.proofs.WalkLemmas.{Entry, one_of}
 

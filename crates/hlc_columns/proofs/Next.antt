@@ -15,8 +15,8 @@ use Rattle.std.proofs.lemmas.List.Elements.{filter-append, All-map, All-take, Al
 use Rattle.hlc_node.specs.declared.row.Row.{Row}
 use Rattle.hlc_index.specs.Entries.{keys_in, key_cmp}
 use Rattle.hlc_index.proofs.SlotLemmas.{itself}
-use Rattle.hlc_columns.specs.Cells.{Cell}
-use Rattle.hlc_columns.specs.Rows.{KeyCells, rows_of, row_of, KeysAscend}
+use Rattle.hlc_column.specs.Cells.{Cell}
+use Rattle.hlc_column.specs.Rows.{KeyCells, rows_of, row_of, KeysAscend}
 use Rattle.hlc_columns.specs.Table.{table_rows, keyed}
 use Rattle.hlc_columns.specs.Answers.{AreAbove, AreNext, in_part, is_upto, part_end, last_key}
 use Rattle.hlc_columns.proofs.Keys.{rows_keyed, keys_keyed}

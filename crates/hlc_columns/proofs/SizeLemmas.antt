@@ -16,8 +16,8 @@ use Rattle.std.proofs.lemmas.List.Concat.{flat_map-append}
 use Rattle.hlc_node.specs.declared.row.Row.{Row}
 use Rattle.hlc_index.specs.Entries.{entries_in, keys_in}
 use Rattle.hlc_index.proofs.EntryLemmas.{taken, entries_more}
-use Rattle.hlc_columns.specs.Cells.{Cell, cells_of, AreBeside, value_bytes, cell_bytes}
-use Rattle.hlc_columns.specs.Rows.{row_of, rows_of}
+use Rattle.hlc_column.specs.Cells.{Cell, cells_of, AreBeside, value_bytes, cell_bytes}
+use Rattle.hlc_column.specs.Rows.{row_of, rows_of}
 use Rattle.hlc_columns.specs.Table.{table_rows, kept_in}
 use Rattle.hlc_columns.specs.Sizes.{sizes_of, plus, with_row, with_key, Fit, row_bytes, AreSizes}
 use Rattle.hlc_columns.specs.Sizes.{Sizes}
@@ -130,20 +130,6 @@ leaf_alone leaves i leaf lt own fit =
     fit_rest (entries_in (take i leaves)) leaf
     (subst (λ l. Fit (sizes_of (entries_in (take i leaves) ++ l))) (sym own)
     (subst (λ es. Fit (sizes_of es)) (entries_more leaves i lt) (first_fit leaves (i + 1) fit)))
-
--- the values of a column
-pub cells_values : (ss ns : List ℕ) (vs : List (Option (List ℕ))) → AreBeside ss ns vs
-    → sum_by value_bytes vs ≡ sum_by cell_bytes (cells_of ss ns vs)
-cells_values [] [] [] b = refl
-cells_values [] [] (v ∷ vs) b = absurd (let e = b.1 in omega (arith, e))
-cells_values [] (n ∷ ns) vs b = absurd (let e = b.0 in omega (arith, e))
-cells_values (s ∷ ss) [] vs b = absurd (let e = b.0 in omega (arith, e))
-cells_values (s ∷ ss) (n ∷ ns) [] b = absurd (let e = b.1 in omega (arith, e))
-cells_values (s ∷ ss) (n ∷ ns) (v ∷ vs) b =
-    sum_by-cons value_bytes v vs
-    ∙ ap (λ m. value_bytes v + m)
-    (cells_values ss ns vs (let e = b.0 in omega (arith, e), let e = b.1 in omega (arith, e)))
-    ∙ sym (sum_by-cons cell_bytes (record { stamp = s; node = n; value = v }) (cells_of ss ns vs))
 
 -- the rows of some columns, their bytes, and the bytes of their keys
 pub rows_counted : (es : List Entry) → sum_by (λ e. length e.1) es ≡ length (table_rows es)

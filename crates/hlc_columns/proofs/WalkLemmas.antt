@@ -8,8 +8,8 @@ use Rattle.std.proofs.lemmas.List.Elements.{filter-append}
 use Rattle.hlc_node.specs.declared.row.Row.{Row}
 use Rattle.hlc_index.specs.Entries.{entries_in, keys_in}
 use Rattle.hlc_index.proofs.EntryLemmas.{taken, entries_more}
-use Rattle.hlc_columns.specs.Cells.{Cell}
-use Rattle.hlc_columns.specs.Rows.{KeyCells, rows_of}
+use Rattle.hlc_column.specs.Cells.{Cell}
+use Rattle.hlc_column.specs.Rows.{KeyCells, rows_of}
 use Rattle.hlc_columns.specs.Table.{indexed_rows, table_rows, keyed}
 
 abbrev pub Entry : Type 0

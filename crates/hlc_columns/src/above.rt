@@ -3,7 +3,7 @@ ghost use Rattle.std.specs.Prelude.{◌≡◌, ◌≢◌, ◌++◌, All, IfOk, O
 ghost use Rattle.std.specs.declared.cmp.Ordering.TheVariants.{Greater};
 ghost use Rattle.std.specs.List.Sorted.{IsStrictlySortedBy};
 ghost use Rattle.hlc_index.specs.Entries.{entries_in, keys_in, key_cmp};
-ghost use Rattle.hlc_columns.specs.Cells.{Cell};
+ghost use Rattle.hlc_column.specs.Cells.{Cell};
 ghost use Rattle.hlc_columns.specs.Table.{keyed};
 ghost use Rattle.hlc_columns.specs.Answers.{entries_left, AreAbove};
 

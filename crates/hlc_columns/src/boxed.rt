@@ -1,12 +1,12 @@
 //! A column in a block of memory of its own.
 ghost use Rattle.std.specs.Prelude.{◌≡◌, ◌<◌, ◌∷◌, [], length, nat_lt, IfOk, IfErr};
 ghost use Rattle.std.specs.Borrow.{Lends, sem};
-ghost use Rattle.hlc_columns.specs.Cells.{Cell};
+ghost use Rattle.hlc_column.specs.Cells.{Cell};
 ghost use Rattle.hlc_columns.specs.contracts.boxed.BoxedColumn.{the_row as boxed_row};
-ghost use Rattle.hlc_columns.specs.contracts.column.Column.{the_row as column_row};
+ghost use Rattle.hlc_column.specs.contracts.column.Column.{the_row as column_row};
 
-use crate::column::Column;
 use hlc_clock::Stamp;
+use hlc_column::Column;
 use hlc_node::Bytes;
 use hlc_values::NoMemory;
 use std::alloc::Global;
@@ -20,7 +20,7 @@ pub struct BoxedColumn {
 
 impl Model for BoxedColumn {
     ghost use Rattle.std.specs.Prelude.{List};
-    ghost use Rattle.hlc_columns.specs.Cells.{Cell};
+    ghost use Rattle.hlc_column.specs.Cells.{Cell};
 
     ghost Value = { List Cell };
 

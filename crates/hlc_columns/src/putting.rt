@@ -5,7 +5,7 @@ ghost use Rattle.std.specs.Map.{lookup};
 ghost use Rattle.hlc_index.specs.Entries.{is_key, keys_in, entries_in, IsEntryAt, IsPlace};
 ghost use Rattle.hlc_columns.specs.Parts.{new_row};
 ghost use Rattle.hlc_columns.specs.Table.{indexed_rows, AreFilled, Inserted};
-ghost use Rattle.hlc_columns.specs.Cells.{value_bytes};
+ghost use Rattle.hlc_column.specs.Cells.{value_bytes};
 ghost use Rattle.hlc_columns.specs.Sizes.{sizes_of, with_row, with_key, Fit};
 
 use crate::boxed::BoxedColumn;

@@ -4,7 +4,7 @@ ghost use Rattle.hlc_index.specs.Entries.{entries_in};
 ghost use Rattle.hlc_columns.specs.Sizes.{sizes_of, Fit};
 
 use crate::boxed::BoxedColumn;
-use crate::column::Column;
+use hlc_column::Column;
 use hlc_index::Index;
 use hlc_node::Bytes;
 use hlc_sizes::Sizes;

@@ -8,7 +8,7 @@ use Rattle.hlc_node.specs.Items.{body_refusal}
 use Rattle.hlc_intake.specs.IntakeView.{IntakeView, IsNextItem, IsFirstRefusal}
 use Rattle.hlc_intake.specs.declared.intake.LinkFault.{LinkFault}
 use Rattle.hlc_intake.specs.declared.intake.LinkFault.TheVariants.{Retired, NotNext, NumbersSpent, StampNotRising}
-use Rattle.hlc_core.specs.declared.fault.CoreFault.TheVariants.{Link}
+use Rattle.hlc_events.specs.declared.fault.CoreFault.TheVariants.{Link}
 use Rattle.hlc_core.specs.Past.{link_refusal, of_body}
 
 pub refused_first : (link : IntakeView) (item : Item) (fault : LinkFault)

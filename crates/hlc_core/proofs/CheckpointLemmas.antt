@@ -18,9 +18,10 @@ use Rattle.hlc_snapshot.proofs.RegisterLemmas.{closed-is_register}
 use Rattle.hlc_witness.specs.Certificate.{RowsAscend}
 use Rattle.hlc_witness.specs.Cost.{IsInLimits}
 use Rattle.hlc_core.specs.Past.{Step, Took, Opened, Closed, Vacuumed, Trimmed, Joined, numbered, count, head, retired}
-use Rattle.hlc_core.specs.Past.{top, floor, horizon, opened, open_snapshots, of_registry, of_room}
+use Rattle.hlc_core.specs.Past.{top, floor, horizon, opened, open_snapshots, of_room}
+use Rattle.hlc_events.specs.Faults.{of_registry}
 use Rattle.hlc_core.specs.Past.{IsLegal, writes, greatest_accepted}
-use Rattle.hlc_core.specs.declared.fault.CoreFault.TheVariants.{Join}
+use Rattle.hlc_events.specs.declared.fault.CoreFault.TheVariants.{Join}
 use Rattle.hlc_heads.specs.declared.heads.JoinFault.TheVariants.{TooManyNodes}
 use Rattle.hlc_core.specs.StoreView.{StoreView, nodes, greatest_head, HasNodes, HasStamps, HasLastItem}
 use Rattle.hlc_core.specs.StoreView.{Represents}

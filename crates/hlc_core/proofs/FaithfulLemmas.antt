@@ -7,12 +7,12 @@ use Rattle.hlc_witness.specs.Cost.{changes_cost, rows_cost}
 use Rattle.hlc_witness.proofs.ChangeLemmas.{changes_force_rows}
 use Rattle.hlc_witness.proofs.CostLemmas.{changes_force_bytes}
 use Rattle.hlc_core.specs.Past.{Step, floor, stamp_of, writes}
-use Rattle.hlc_vacuum.specs.declared.report.Report.{Report}
+use Rattle.hlc_draft.specs.declared.report.Report.{Report}
 use Rattle.hlc_core.specs.Stored.{IsReport, LeavesFewest}
 use Rattle.hlc_core.specs.StoreView.{StoreView, nodes, Represents}
-use Rattle.hlc_core.specs.declared.event.CoreEvent.{CoreEvent}
-use Rattle.hlc_core.specs.declared.event.CoreEvent.TheVariants.{Accept, Join, OpenAt, OpenFloor, Read, List as ListAll}
-use Rattle.hlc_core.specs.declared.event.CoreEvent.TheVariants.{Close, Vacuum, JoinAt, VacuumTo}
+use Rattle.hlc_events.specs.declared.event.CoreEvent.{CoreEvent}
+use Rattle.hlc_events.specs.declared.event.CoreEvent.TheVariants.{Accept, Join, OpenAt, OpenFloor, Read, List as ListAll}
+use Rattle.hlc_events.specs.declared.event.CoreEvent.TheVariants.{Close, Vacuum, JoinAt, VacuumTo}
 use Rattle.hlc_core.specs.declared.reply.CoreReply.{CoreReply}
 use Rattle.hlc_core.specs.declared.reply.CoreReply.TheVariants.{Answer, Vacuumed}
 use Rattle.hlc_core.specs.History.{past_of, IsAnswer, IsExpected, IsLegalHistory, RepresentsHistory}

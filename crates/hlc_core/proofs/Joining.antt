@@ -7,7 +7,7 @@ use Rattle.std.proofs.lemmas.Bool.{cond-true, cond-false, le-leb, lt-leb, le-ltb
 use Rattle.std.proofs.lemmas.Bool.{cases_eq}
 use Rattle.hlc_intake.specs.IntakeView.{IntakeView}
 use Rattle.hlc_heads.specs.declared.heads.TheConstants.{MOST_NUMBERS}
-use Rattle.hlc_core.specs.declared.fault.CoreFault.TheVariants.{Join}
+use Rattle.hlc_events.specs.declared.fault.CoreFault.TheVariants.{Join}
 use Rattle.hlc_heads.specs.declared.heads.JoinFault.TheVariants.{TooManyNodes}
 use Rattle.hlc_core.specs.Past.{Step, Joined, numbered, count, head, retired, top, floor, horizon}
 use Rattle.hlc_core.specs.Past.{opened}

@@ -16,8 +16,8 @@ use Rattle.hlc_intake.specs.IntakeView.{IntakeView}
 use Rattle.hlc_heads.specs.Heads.{HeadsView, IsFloor, a_head, head_at, marked as raised, joined as grown, floor_of}
 use Rattle.hlc_heads.specs.declared.heads.TheConstants.{MOST_NUMBERS}
 use Rattle.hlc_heads.specs.declared.heads.Head.{Head}
-use Rattle.hlc_core.specs.declared.fault.CoreFault.{CoreFault}
-use Rattle.hlc_core.specs.declared.fault.CoreFault.TheVariants.{NoNode}
+use Rattle.hlc_events.specs.declared.fault.CoreFault.{CoreFault}
+use Rattle.hlc_events.specs.declared.fault.CoreFault.TheVariants.{NoNode}
 use Rattle.hlc_core.specs.Past.{Step, Took, numbered, count, head, retired, top, floor, horizon}
 use Rattle.hlc_core.specs.Past.{opened, item_rows, link_refusal, item_refusal}
 use Rattle.hlc_core.specs.StoreView.{StoreView, nodes, HaveHeads, Represents}

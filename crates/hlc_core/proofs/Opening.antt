@@ -9,7 +9,8 @@ use Rattle.hlc_values.proofs.MemberLemmas.{Contains-first, Contains-rest, Contai
 use Rattle.hlc_node.specs.declared.row.Row.{Row}
 use Rattle.hlc_core.specs.Past.{Step, Opened, Closed, top, horizon}
 use Rattle.hlc_core.specs.Past.{opened, writes, open_snapshots}
-use Rattle.hlc_core.specs.Past.{of_registry, of_room, room_refusal, open_refusal}
+use Rattle.hlc_core.specs.Past.{of_room, room_refusal, open_refusal}
+use Rattle.hlc_events.specs.Faults.{of_registry}
 use Rattle.hlc_core.specs.Past.{stamp_of}
 use Rattle.hlc_core.specs.StoreView.{StoreView, nodes, Represents}
 use Rattle.hlc_snapshot.specs.declared.fault.SnapshotFault.{SnapshotFault}

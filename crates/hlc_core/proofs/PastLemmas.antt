@@ -13,8 +13,8 @@ use Rattle.hlc_node.specs.declared.item.Item.{Item}
 use Rattle.hlc_node.specs.declared.item.Body.{Body}
 use Rattle.hlc_node.specs.declared.item.Body.TheVariants.{Write, Report, Retire}
 use Rattle.hlc_intake.specs.declared.intake.LinkFault.TheVariants.{NotNext, NumbersSpent, StampNotRising}
-use Rattle.hlc_core.specs.declared.fault.CoreFault.TheVariants.{NoNode, Link, AboveFloor, BelowHorizon}
-use Rattle.hlc_core.specs.declared.fault.CoreFault.TheVariants.{Body as bad_body}
+use Rattle.hlc_events.specs.declared.fault.CoreFault.TheVariants.{NoNode, Link, AboveFloor, BelowHorizon}
+use Rattle.hlc_events.specs.declared.fault.CoreFault.TheVariants.{Body as bad_body}
 use Rattle.hlc_node.specs.declared.item.BodyFault.{BodyFault}
 use Rattle.hlc_node.specs.Items.{body_refusal, retires}
 use Rattle.hlc_node.specs.Rows.{IsSameVersion, IsRowSet}

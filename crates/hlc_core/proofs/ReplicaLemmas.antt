@@ -10,10 +10,10 @@ use Rattle.hlc_node.specs.declared.item.Item.{Item}
 use Rattle.hlc_node.specs.Items.{retires}
 use Rattle.hlc_node.specs.Rows.{answer}
 use Rattle.hlc_heads.specs.Low.{least_left, or_else, low}
-use Rattle.hlc_vacuum.proofs.PartLemmas.{same_rows}
+use Rattle.hlc_draft.proofs.PartLemmas.{same_rows}
 use Rattle.hlc_heads.specs.declared.heads.TheConstants.{MOST_NUMBERS}
-use Rattle.hlc_core.specs.declared.fault.CoreFault.{CoreFault}
-use Rattle.hlc_core.specs.declared.fault.CoreFault.TheVariants.{Join}
+use Rattle.hlc_events.specs.declared.fault.CoreFault.{CoreFault}
+use Rattle.hlc_events.specs.declared.fault.CoreFault.TheVariants.{Join}
 use Rattle.hlc_heads.specs.declared.heads.JoinFault.TheVariants.{TooManyNodes, BelowFloor}
 use Rattle.hlc_core.specs.Past.{Step, Took, Opened, Closed, Vacuumed, Trimmed, Joined, numbered, count, head, retired}
 use Rattle.hlc_core.specs.Past.{top, floor, horizon, writes, item_rows, item_refusal, join_at_refusal, IsLegal}

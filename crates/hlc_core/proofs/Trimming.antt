@@ -7,14 +7,14 @@ use Rattle.hlc_clock.specs.Points.{PointsAscend}
 use Rattle.hlc_clock.proofs.PointLemmas.{points-ascend, points-last}
 use Rattle.hlc_node.specs.declared.row.Row.{Row}
 use Rattle.hlc_node.specs.Rows.{IsRowSet}
-use Rattle.hlc_columns.proofs.FlagLemmas.{filter-IsRowSet}
+use Rattle.hlc_column.proofs.FlagLemmas.{filter-IsRowSet}
 use Rattle.hlc_snapshot.specs.RegistryView.{stamps, stamps_to}
 use Rattle.hlc_witness.specs.Fewest.{Fewest}
 use Rattle.hlc_witness.specs.Cost.{Cheapest, IsInLimits, rows_cost, changes_cost}
 use Rattle.hlc_witness.proofs.CostLemmas.{fewest_rows_are_cheapest, fewest_rows_cost}
-use Rattle.hlc_vacuum.specs.Vacuumed.{IsVacuumOf, rows_to}
+use Rattle.hlc_draft.specs.Vacuumed.{IsVacuumOf, rows_to}
 use Rattle.hlc_vacuum.specs.Representing.{RowsRepresent, RepresentsAfterVacuum, count_above}
-use Rattle.hlc_vacuum.specs.declared.report.Report.{Report}
+use Rattle.hlc_draft.specs.declared.report.Report.{Report}
 use Rattle.hlc_vacuum.proofs.RepresentingLemmas.{vacuums_compose, vacuums_are_certified}
 use Rattle.hlc_core.specs.Past.{Step, Trimmed, horizon, vacuumed, trimmed, open_snapshots, writes, vacuum_refusal}
 use Rattle.hlc_core.specs.Stored.{AreVacuumPoints}

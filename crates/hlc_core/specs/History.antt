@@ -3,10 +3,10 @@
 use Rattle.std.specs.Prelude.{◌≡◌, ◌≢◌, ℕ, ◌+◌, List, [], ◌∷◌, Option, Some, None, Result, Ok, Err, ⊤}
 use Rattle.hlc_node.specs.Rows.{answer}
 use Rattle.hlc_node.specs.Items.{retires}
-use Rattle.hlc_core.specs.declared.fault.CoreFault.{CoreFault}
-use Rattle.hlc_core.specs.declared.event.CoreEvent.{CoreEvent}
-use Rattle.hlc_core.specs.declared.event.CoreEvent.TheVariants.{Accept, Join, OpenAt, OpenFloor, Read, List as ListAll}
-use Rattle.hlc_core.specs.declared.event.CoreEvent.TheVariants.{Close, Vacuum, JoinAt, VacuumTo}
+use Rattle.hlc_events.specs.declared.fault.CoreFault.{CoreFault}
+use Rattle.hlc_events.specs.declared.event.CoreEvent.{CoreEvent}
+use Rattle.hlc_events.specs.declared.event.CoreEvent.TheVariants.{Accept, Join, OpenAt, OpenFloor, Read, List as ListAll}
+use Rattle.hlc_events.specs.declared.event.CoreEvent.TheVariants.{Close, Vacuum, JoinAt, VacuumTo}
 use Rattle.hlc_core.specs.declared.reply.CoreReply.{CoreReply}
 use Rattle.hlc_core.specs.declared.reply.CoreReply.TheVariants.{Accepted, Joined, Opened, Answer, Listing, Closed}
 use Rattle.hlc_core.specs.declared.reply.CoreReply.TheVariants.{Vacuumed, Refused}

@@ -9,18 +9,16 @@ use Rattle.hlc_node.specs.declared.item.BodyFault.{BodyFault}
 use Rattle.hlc_node.specs.Items.{body_refusal, retires}
 use Rattle.hlc_heads.specs.Low.{low}
 use Rattle.hlc_heads.specs.declared.heads.TheConstants.{MOST_NUMBERS}
-use Rattle.hlc_heads.specs.declared.heads.JoinFault.{JoinFault}
 use Rattle.hlc_heads.specs.declared.heads.JoinFault.TheVariants.{TooManyNodes, BelowFloor}
-use Rattle.hlc_heads.specs.declared.heads.JoinFault.TheVariants as join_fault
 use Rattle.hlc_intake.specs.declared.intake.LinkFault.TheVariants.{Retired, NotNext, NumbersSpent, StampNotRising}
 use Rattle.hlc_values.specs.declared.bounds.TheConstants.{NUMBER_BOUND}
-use Rattle.hlc_core.specs.declared.fault.CoreFault.{CoreFault}
+use Rattle.hlc_events.specs.Faults.{of_registry}
+use Rattle.hlc_events.specs.declared.fault.CoreFault.{CoreFault}
 use Rattle.hlc_snapshot.specs.declared.snapshot.Snapshot.{Snapshot}
 use Rattle.hlc_snapshot.specs.declared.fault.SnapshotFault.{SnapshotFault}
-use Rattle.hlc_snapshot.specs.declared.fault.SnapshotFault.TheVariants as snapshot_fault
 use Rattle.hlc_snapshot.specs.RegistryView.{stamp_in, without, room_refusal as room_in}
-use Rattle.hlc_core.specs.declared.fault.CoreFault.TheVariants.{NoNode, Link, Body as bad_body, Join, AboveFloor}
-use Rattle.hlc_core.specs.declared.fault.CoreFault.TheVariants.{BelowHorizon, Snapshot as snapshot_refused, NoMemory}
+use Rattle.hlc_events.specs.declared.fault.CoreFault.TheVariants.{NoNode, Link, Body as bad_body, Join, AboveFloor}
+use Rattle.hlc_events.specs.declared.fault.CoreFault.TheVariants.{BelowHorizon}
 
 -- an event that took place: an item was accepted; a snapshot was opened at a stamp; the snapshot with an id was closed;
 -- rows were vacuumed up to this stamp; a node with this number joined, and starts at this stamp; the horizon was moved
@@ -168,16 +166,6 @@ join_at_refusal nodes past start =
     if nat_le MOST_NUMBERS (numbered nodes past) then Some (Join TooManyNodes)
     else if nat_lt start (floor nodes past) then Some (Join (BelowFloor (floor nodes past)))
     else None
-
--- why no node joins, as a fault of the core: out of memory is the core's own
-abbrev pub of_join : JoinFault → CoreFault
-of_join join_fault.NoMemory = NoMemory
-of_join fault = Join fault
-
--- a registry's fault, as a fault of the core: out of memory is the core's own
-abbrev pub of_registry : SnapshotFault → CoreFault
-of_registry snapshot_fault.NoMemory = NoMemory
-of_registry fault = snapshot_refused fault
 
 -- a registry's refusal, if there is one, as a refusal of the core
 abbrev pub of_room : Option SnapshotFault → Option CoreFault

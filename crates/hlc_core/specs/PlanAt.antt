@@ -2,7 +2,7 @@
 use Rattle.std.specs.Prelude.{ℕ}
 use Rattle.hlc_snapshot.specs.RegistryView.{stamps_to}
 use Rattle.hlc_clock.specs.Points.{ArePoints}
-use Rattle.hlc_vacuum.specs.Plan.{PlanView, IsPlanOf}
+use Rattle.hlc_draft.specs.Plan.{PlanView, IsPlanOf}
 use Rattle.hlc_core.specs.StoreView.{StoreView}
 
 -- the plan was made of the stored rows, at the stamps of the open snapshots up to a stamp and at the stamp itself

@@ -8,9 +8,9 @@ ghost use Rattle.hlc_core.specs.Past.{greatest_accepted, horizon, vacuum_refusal
 ghost use Rattle.hlc_core.specs.Replicas.{AreReplicas, items_of, joins_of};
 ghost use Rattle.hlc_clock.specs.Points.{ArePoints};
 ghost use Rattle.hlc_snapshot.specs.RegistryView.{stamps};
-ghost use Rattle.hlc_vacuum.specs.Vacuumed.{IsVacuumOf, rows_to};
+ghost use Rattle.hlc_draft.specs.Vacuumed.{IsVacuumOf, rows_to};
 ghost use Rattle.hlc_witness.specs.Cost.{rows_cost};
-ghost use Rattle.hlc_vacuum.specs.declared.report.Report.{Report as AReport};
+ghost use Rattle.hlc_draft.specs.declared.report.Report.{Report as AReport};
 ghost use Rattle.hlc_core.specs.Stored.{AreVacuumPoints, IsReport, IsStoredCount, LeavesFewest};
 ghost use Rattle.hlc_core.specs.StoreView.{StoreView, nodes, with_rows_left, Represents};
 ghost use Rattle.hlc_core.specs.Calls.{Vacuums};
@@ -23,7 +23,7 @@ ghost use Rattle.hlc_checkpoint.specs.declared.checkpoint.RestoreFault.TheVarian
 ghost use Rattle.hlc_core.specs.Listing.{IsListing};
 ghost use Rattle.hlc_core.specs.History.{RepresentsHistory};
 ghost use Rattle.hlc_core.specs.Headline.{IsFaithful};
-ghost use Rattle.hlc_core.specs.declared.event.CoreEvent.{CoreEvent as AnEvent};
+ghost use Rattle.hlc_events.specs.declared.event.CoreEvent.{CoreEvent as AnEvent};
 ghost use Rattle.hlc_core.specs.declared.reply.CoreReply.{CoreReply as AReply};
 ghost use Rattle.hlc_core.specs.declared.listing.Pair.{Pair as APair};
 ghost use Rattle.hlc_node.specs.declared.item.Item.{Item as AnItem};

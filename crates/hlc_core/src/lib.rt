@@ -3,9 +3,7 @@
 //! the same answers.
 #![tactic(auto)]
 
-mod event;
 mod exact;
-mod fault;
 mod laws;
 mod link;
 mod listing;
@@ -14,11 +12,10 @@ mod rows;
 mod step;
 mod store;
 
-pub use event::CoreEvent;
-pub use fault::{CoreFault, NoNode};
 pub use hlc_checkpoint::{Checkpoint, RestoreFault};
 pub use hlc_clock::Stamp;
 pub use hlc_columns::{Answers, Sizes, View};
+pub use hlc_events::{CoreEvent, CoreFault, NoNode};
 pub use hlc_heads::{Accepted, JoinFault};
 pub use hlc_intake::{Intake, LinkFault};
 pub use hlc_node::{Body, BodyFault, Bytes, Item, ItemRef, Row};

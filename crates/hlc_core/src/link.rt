@@ -4,8 +4,8 @@ ghost use Rattle.hlc_node.specs.Items.{retires};
 ghost use Rattle.hlc_heads.specs.Heads.{head_at, marked};
 ghost use Rattle.hlc_core.specs.Past.{link_refusal};
 
-use crate::fault::CoreFault;
 use hlc_clock::Stamp;
+use hlc_events::CoreFault;
 use hlc_heads::{Accepted, Heads};
 use hlc_intake::Intake;
 use hlc_node::ItemRef;

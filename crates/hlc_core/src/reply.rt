@@ -3,15 +3,15 @@ ghost use Rattle.std.specs.Prelude.{◌≡◌, ◌↔◌, IsTrue, List};
 ghost use Rattle.std.specs.Cmp.Lexicographic.{pointwise_decides};
 ghost use Rattle.std.proofs.Common.{rules};
 ghost use Rattle.std.proofs.lemmas.Grind.{common_steps};
-ghost use Rattle.hlc_vacuum.specs.declared.report.Report.{Report as AReport};
-ghost use Rattle.hlc_vacuum.specs.contracts.exact.ReportExact.TheImpl.Laws.{equal-law as report_equal};
+ghost use Rattle.hlc_draft.specs.declared.report.Report.{Report as AReport};
+ghost use Rattle.hlc_draft.specs.contracts.exact.ReportExact.TheImpl.Laws.{equal-law as report_equal};
 ghost use Rattle.hlc_core.specs.declared.listing.Pair.{Pair as APair};
 ghost use Rattle.hlc_core.specs.contracts.exact.PairExact.TheImpl.Laws.{equal-law as pair_equal};
 ghost use Rattle.hlc_core.specs.History.{IsPlain};
 
-use crate::fault::CoreFault;
 use crate::listing::Listing;
 use hlc_clock::Stamp;
+use hlc_events::CoreFault;
 use hlc_heads::Accepted;
 use hlc_node::Bytes;
 use hlc_vacuum::BoxedReport;

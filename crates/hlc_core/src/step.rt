@@ -2,15 +2,14 @@
 ghost use Rattle.std.specs.Prelude.{◌≡◌, ◌≢◌, List, IfOk, IfErr, OnErr};
 ghost use Rattle.hlc_core.specs.StoreView.{nodes};
 ghost use Rattle.hlc_core.specs.History.{RepresentsHistory, Steps, IsQuestion, IsVacuum, IsRefused, IsPlain, IsReplyTo};
-ghost use Rattle.hlc_core.specs.declared.event.CoreEvent.{CoreEvent as AnEvent};
+ghost use Rattle.hlc_events.specs.declared.event.CoreEvent.{CoreEvent as AnEvent};
 ghost use Rattle.hlc_core.specs.declared.reply.CoreReply.{CoreReply as AReply};
-ghost use Rattle.hlc_vacuum.specs.Report.{blank_report};
+ghost use Rattle.hlc_draft.specs.Report.{blank_report};
 
-use crate::event::CoreEvent;
-use crate::fault::CoreFault;
 use crate::reply::CoreReply;
 use crate::store::Core;
 use hlc_clock::Stamp;
+use hlc_events::{CoreEvent, CoreFault};
 use hlc_node::Bytes;
 use hlc_vacuum::BoxedReport;
 use hlc_values::NoMemory;
@@ -75,11 +74,7 @@ impl Core {
                 Ok(stamp) => Ok(CoreReply::Closed(stamp)),
                 Err(_) => Ok(CoreReply::Refused(CoreFault::NoSnapshot)),
             },
-            CoreEvent::Vacuum => {
-                let block = self.report_block()?;
-                let report = self.vacuum()?;
-                Ok(CoreReply::Vacuumed(block.with(report)))
-            }
+            CoreEvent::Vacuum => self.vacuum_boxed(),
             CoreEvent::JoinAt(start) => match self.join_at(*start) {
                 Ok(node) => Ok(CoreReply::Joined {
                     node,
@@ -96,6 +91,20 @@ impl Core {
         ensures { IfOk result (λ boxed. boxed ≡ blank_report) }
     {
         BoxedReport::blank(self.alloc)
+    }
+
+    /// Returns the reply to a vacuum. The block of its report is allocated before anything changes.
+    fn vacuum_boxed(&mut self) -> Result<CoreReply, NoMemory>
+        ensures represents { (history : List (AnEvent × AReply)) → RepresentsHistory self.old history
+            → Steps self.old self.new CoreEvent.Vacuum history result }
+        ensures err { OnErr result (self.new ≡ self.old) }
+        ensures refused { IfOk result (λ reply. IsRefused reply → self.new ≡ self.old) }
+        ensures form { IfOk result (λ reply. IsReplyTo CoreEvent.Vacuum reply) }
+        ensures nodes { nodes self.new ≡ nodes self.old }
+    {
+        let block = self.report_block()?;
+        let report = self.vacuum()?;
+        Ok(CoreReply::Vacuumed(block.with(report)))
     }
 
     /// Returns the reply to a vacuum to a stamp. The block of its report is allocated before anything changes.

@@ -18,11 +18,11 @@ use Rattle.hlc_node.specs.declared.row.Row.{Row}
 use Rattle.hlc_node.specs.declared.item.Body.TheVariants.{Write}
 use Rattle.hlc_node.specs.Items.{body_refusal}
 use Rattle.hlc_columns.specs.Answers.{in_part, part_end, last_key}
-use Rattle.hlc_columns.specs.Rows.{KeyCells, rows_to}
+use Rattle.hlc_column.specs.Rows.{KeyCells, rows_to}
 use Rattle.hlc_snapshot.specs.RegistryView.{stamps_to}
 use Rattle.hlc_witness.specs.Changes.{AreChanges}
 use Rattle.hlc_witness.specs.Cost.{IsInLimits, changes_cost}
-use Rattle.hlc_vacuum.specs.declared.report.Report.{Report}
+use Rattle.hlc_draft.specs.declared.report.Report.{Report}
 use Rattle.hlc_vacuum.specs.Representing.{count_above, count_between}
 use Rattle.hlc_vacuum.proofs.CountLemmas.{split_count, same_above}
 use Rattle.hlc_vacuum.proofs.RepresentingLemmas.{rows_above_are_counted}

@@ -1,6 +1,6 @@
 -- A pass: parts of a vacuum one after another, with nothing in between, from the first key to the last.
 use Rattle.std.specs.Prelude.{◌≡◌, ℕ, ◌+◌, List, [], ◌∷◌, ◌++◌, Option, None, Ok, MatchOption}
-use Rattle.hlc_vacuum.specs.declared.report.Report.{Report}
+use Rattle.hlc_draft.specs.declared.report.Report.{Report}
 use Rattle.hlc_core.specs.Past.{Step, Trimmed}
 use Rattle.hlc_core.specs.StoreView.{StoreView}
 use Rattle.hlc_core.specs.Parts.{VacuumsPart}

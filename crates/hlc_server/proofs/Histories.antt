@@ -5,10 +5,10 @@ use Rattle.std.proofs.Common.{sym}
 use Rattle.std.proofs.Common.{◌∙◌, subst, arith, length-append}
 use Rattle.std.specs.Prelude.{if◌then◌else◌}
 use Rattle.std.specs.Option.{ForSome}
-use Rattle.hlc_core.specs.declared.event.CoreEvent.{CoreEvent}
+use Rattle.hlc_events.specs.declared.event.CoreEvent.{CoreEvent}
 use Rattle.hlc_core.specs.declared.reply.CoreReply.{CoreReply}
-use Rattle.hlc_vacuum.specs.declared.report.Report.{Report}
-use Rattle.hlc_core.specs.declared.event.CoreEvent.TheVariants.{VacuumTo}
+use Rattle.hlc_draft.specs.declared.report.Report.{Report}
+use Rattle.hlc_events.specs.declared.event.CoreEvent.TheVariants.{VacuumTo}
 use Rattle.hlc_core.specs.declared.reply.CoreReply.TheVariants.{Vacuumed}
 use Rattle.hlc_core.specs.Past.{vacuum_refusal}
 use Rattle.hlc_core.specs.StoreView.{StoreView, nodes, Represents}

@@ -1,7 +1,7 @@
 -- What happens while a call has the lock, and what it returns to the caller.
 use Rattle.std.specs.Prelude.{◌≡◌, ◌↔◌, ◌+◌, ◌-◌, ◌^◌, ◌≤◌, ℕ, List, Option, Result, MatchResult}
 use Rattle.std.specs.Option.{ForSome}
-use Rattle.hlc_core.specs.declared.event.CoreEvent.{CoreEvent}
+use Rattle.hlc_events.specs.declared.event.CoreEvent.{CoreEvent}
 use Rattle.hlc_core.specs.declared.reply.CoreReply.{CoreReply}
 use Rattle.std.specs.declared.alloc.AllocError.{AllocError}
 use Rattle.hlc_core.specs.StoreView.{StoreView, nodes}

@@ -1,7 +1,7 @@
 -- What the lock protects, and the history that a trail has.
 use Rattle.std.specs.Prelude.{◌≡◌, ℕ, List, [], ◌∷◌, ◌++◌, length, Option}
 use Rattle.std.specs.Option.{option_map}
-use Rattle.hlc_core.specs.declared.event.CoreEvent.{CoreEvent}
+use Rattle.hlc_events.specs.declared.event.CoreEvent.{CoreEvent}
 use Rattle.hlc_core.specs.declared.reply.CoreReply.{CoreReply}
 use Rattle.hlc_core.specs.StoreView.{StoreView, nodes}
 use Rattle.hlc_core.specs.History.{IsLegalHistory, RepresentsHistory}

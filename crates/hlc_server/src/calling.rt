@@ -1,6 +1,6 @@
 //! Calls on what the lock protects, for one thread.
 ghost use Rattle.std.specs.Prelude.{◌≡◌, ◌<◌, ◌≤◌, ◌+◌, ◌-◌, ◌^◌};
-ghost use Rattle.hlc_core.specs.declared.event.CoreEvent.{CoreEvent as AnEvent};
+ghost use Rattle.hlc_events.specs.declared.event.CoreEvent.{CoreEvent as AnEvent};
 ghost use Rattle.hlc_server.specs.Calls.{IsResultFor, IsLockedCall};
 
 use crate::caller::{Called, Caller};

@@ -1,5 +1,5 @@
 //! `==` of these types is true exactly on equal values, and each copy is equal.
-ghost use Rattle.hlc_core.specs.contracts.exact.CoreEventExact.TheImpl.Laws.{equal-law as event_equal};
+ghost use Rattle.hlc_events.specs.contracts.exact.CoreEventExact.TheImpl.Laws.{equal-law as event_equal};
 ghost use Rattle.hlc_core.specs.contracts.reply.CoreReplyExact.TheImpl.Laws.{equal-law as reply_equal};
 ghost use Rattle.std.proofs.Common.{rules, ap};
 ghost use Rattle.std.proofs.lemmas.Bool.Decides.{Decides-and, Decides-eqb};

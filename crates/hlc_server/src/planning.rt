@@ -1,6 +1,6 @@
 //! Vacuums that several threads plan, and their entries in the trail.
 ghost use Rattle.std.specs.Prelude.{◌≡◌, Some};
-ghost use Rattle.hlc_core.specs.declared.event.CoreEvent.{CoreEvent as AnEvent};
+ghost use Rattle.hlc_events.specs.declared.event.CoreEvent.{CoreEvent as AnEvent};
 ghost use Rattle.hlc_server.specs.Trails.{entries_of};
 ghost use Rattle.hlc_server.specs.Calls.{Enters, RepliesTwice};
 

@@ -1,9 +1,9 @@
 //! Calls of the core, and their entries in the trail.
-ghost use Rattle.std.specs.Prelude.{◌≡◌, ◌≢◌, Some, IfOk, OnErr};
-ghost use Rattle.hlc_core.specs.History.{IsVacuum};
-ghost use Rattle.hlc_core.specs.declared.event.CoreEvent.{CoreEvent as AnEvent};
+ghost use Rattle.std.specs.Prelude.{◌≡◌, ◌≢◌, ◌+◌, ◌≤◌, ◌++◌, ◌∷◌, [], Some, IfOk, OnOk, OnErr, vec_len, vec_capacity};
+ghost use Rattle.hlc_core.specs.History.{IsVacuum, IsPlain};
+ghost use Rattle.hlc_events.specs.declared.event.CoreEvent.{CoreEvent as AnEvent};
 ghost use Rattle.hlc_core.specs.declared.reply.CoreReply.{CoreReply as AReply};
-ghost use Rattle.hlc_core.specs.declared.fault.CoreFault.{CoreFault as AFault};
+ghost use Rattle.hlc_events.specs.declared.fault.CoreFault.{CoreFault as AFault};
 ghost use Rattle.hlc_server.specs.Trails.{entries_of};
 ghost use Rattle.hlc_server.specs.Calls.{Enters, RepliesTwice};
 
@@ -44,22 +44,49 @@ fn write_call(
     ensures { Enters core.old core.new (Some trail.old.entries.items) (Some trail.new.entries.items)
         caller event.now result }
 {
-    let Ok(written) = event.clone() else {
+    let written = prepare(trail, event)?;
+    let reply = core.step_ref(event)?;
+    write(trail, caller, written, &reply)?;
+    Ok(reply)
+}
+
+/// Makes room for an entry, and returns a copy of the event for it.
+fn prepare(trail: &mut Trail, event: &CoreEvent) -> Result<CoreEvent, NoMemory>
+    ensures entries { trail.new.entries.items ≡ trail.old.entries.items }
+    ensures room { OnOk result
+        (vec_len trail.new.entries + 1 ≤ vec_capacity trail.new.entries) }
+    ensures copy { IfOk result (λ copy. copy ≡ event.now) }
+{
+    let Ok(copy) = event.clone() else {
         return Err(NoMemory);
     };
     let Ok(()) = trail.entries.reserve(1) else {
         return Err(NoMemory);
     };
-    let reply = core.step_ref(event)?;
-    let Ok(returned) = reply.clone() else {
+    Ok(copy)
+}
+
+/// Writes the entry of a call, with a copy of the reply, into a trail that has room for it.
+fn write(
+    trail: &mut Trail,
+    caller: u16,
+    event: CoreEvent,
+    reply: &CoreReply,
+) -> Result<(), NoMemory>
+    requires { vec_len trail.old.entries + 1 ≤ vec_capacity trail.old.entries }
+    ensures ok { OnOk result (trail.new.entries.items ≡ trail.old.entries.items
+        ++ record { caller = caller; event = event; reply = reply.now } ∷ []) }
+    ensures err { OnErr result ((trail.new ≡ trail.old) × (IsPlain reply.now → ⊥)) }
+{
+    let Ok(reply) = reply.clone() else {
         return Err(NoMemory);
     };
     trail.entries.push_reserved(Entry {
         caller,
-        event: written,
-        reply: returned,
+        event,
+        reply,
     });
-    Ok(reply)
+    Ok(())
 }
 
 /// Vacuums the core, and makes the entry of the call. Both reports are made before anything changes.

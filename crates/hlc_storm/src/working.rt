@@ -4,7 +4,7 @@ ghost use Rattle.hlc_node.specs.declared.item.Item.{Item as AnItem};
 ghost use Rattle.std.specs.Prelude.{Option};
 ghost use Rattle.hlc_floor.specs.Views.{FloorPassView};
 ghost use Rattle.hlc_link.specs.Ends.{ReceiverView};
-ghost use Rattle.hlc_core.specs.declared.event.CoreEvent.{CoreEvent as AnEvent};
+ghost use Rattle.hlc_events.specs.declared.event.CoreEvent.{CoreEvent as AnEvent};
 ghost use Rattle.hlc_server.specs.declared.end.WorkEnd.{WorkEnd};
 ghost use Rattle.hlc_workers.specs.Paid.{IsPaid, event_of};
 ghost use Rattle.hlc_workers.specs.Feeding.{TookAll, fed_all};

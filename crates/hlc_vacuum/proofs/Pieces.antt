@@ -7,11 +7,11 @@ use Rattle.std.specs.List.{AllZip}
 use Rattle.std.specs.declared.alloc.AllocError.{AllocError}
 use Rattle.std.proofs.lemmas.List.{append-nil}
 use Rattle.std.proofs.lemmas.Grind.{flat_map-append}
-use Rattle.hlc_columns.specs.Rows.{KeyCells, KeysAscend}
-use Rattle.hlc_vacuum.specs.declared.draft.Draft.{Draft}
-use Rattle.hlc_vacuum.specs.KeyPlan.{IsJoined}
+use Rattle.hlc_column.specs.Rows.{KeyCells, KeysAscend}
+use Rattle.hlc_draft.specs.declared.draft.Draft.{Draft}
+use Rattle.hlc_draft.specs.KeyPlan.{IsJoined}
 use Rattle.hlc_vacuum.specs.Parallel.{DraftsPiece, columns_of}
-use Rattle.hlc_vacuum.proofs.Joined.{ascend_front, ascend_back, joined_append, joined_none}
+use Rattle.hlc_draft.proofs.JoinedLemmas.{ascend_front, ascend_back, joined_append, joined_none}
 
 -- the pieces of columns whose keys ascend
 pub piece_ascends : (pieces : List (List KeyCells)) (k : ℕ) (d : List KeyCells) → KeysAscend (columns_of pieces)

@@ -2,16 +2,15 @@
 ghost use Rattle.std.specs.Prelude.{◌≡◌, ℕ, List, IfOk};
 ghost use Rattle.hlc_clock.specs.Points.{PointsAscend};
 ghost use Rattle.hlc_columns.specs.Answers.{in_part, part_end};
-ghost use Rattle.hlc_columns.specs.Rows.{KeyCells, keys_in};
+ghost use Rattle.hlc_column.specs.Rows.{KeyCells, keys_in};
 ghost use Rattle.hlc_vacuum.specs.Part.{all_kept, HaveFlags, IsPartOf, IsPartVacuum};
-ghost use Rattle.hlc_vacuum.specs.Report.{report_of};
+ghost use Rattle.hlc_draft.specs.Report.{report_of};
 
 use crate::plan::{Plan, dropped_of};
 use crate::planner::{plan_columns, plan_of};
-use crate::points::last_of;
-use crate::report::Report;
 use hlc_clock::Stamp;
 use hlc_columns::{Keyed, Table};
+use hlc_draft::{Report, last_of};
 use hlc_node::Bytes;
 use hlc_values::NoMemory;
 use std::alloc::Global;

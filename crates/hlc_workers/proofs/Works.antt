@@ -17,8 +17,8 @@ use Rattle.hlc_floor.specs.Views.{FeederView, post}
 use Rattle.hlc_workers.specs.declared.session.Work.{Work}
 use Rattle.hlc_workers.specs.Paid.{event_of, IsPaid, Passed, HasCalled, HasStayed, IsStopped, MadeSome}
 use Rattle.hlc_workers.specs.Feeding.{accept_of, TookAll, raised_by, highest, fed_by, fed_all}
-use Rattle.hlc_core.specs.declared.event.CoreEvent.{CoreEvent}
-use Rattle.hlc_core.specs.declared.event.CoreEvent.TheVariants.{Read, Vacuum}
+use Rattle.hlc_events.specs.declared.event.CoreEvent.{CoreEvent}
+use Rattle.hlc_events.specs.declared.event.CoreEvent.TheVariants.{Read, Vacuum}
 use Rattle.hlc_server.specs.declared.end.WorkEnd.{WorkEnd}
 use Rattle.hlc_workers.specs.declared.session.Opening.{Opening}
 use Rattle.hlc_workers.specs.Rounds.{opening_of, IsOpening, IsRound, AreRounds}

@@ -2,7 +2,7 @@
 use Rattle.std.specs.Prelude.{◌≡◌, ◌≢◌, ◌+◌, ◌<◌, ◌≤◌, ℕ, List, [], ◌∷◌, ◌++◌}
 use Rattle.std.specs.Prelude.{length, Bool, true, false, All}
 use Rattle.std.specs.Prelude.{Result, MatchResult}
-use Rattle.hlc_core.specs.declared.event.CoreEvent.{CoreEvent}
+use Rattle.hlc_events.specs.declared.event.CoreEvent.{CoreEvent}
 use Rattle.hlc_server.specs.declared.entry.Receipt.{Receipt}
 use Rattle.hlc_server.specs.Seats.{CallerView}
 use Rattle.hlc_workers.specs.declared.session.Work.{Work}

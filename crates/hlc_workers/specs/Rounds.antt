@@ -1,8 +1,8 @@
 -- What a reader's worker has done.
 use Rattle.std.specs.Prelude.{◌≡◌, ℕ, ◌+◌, ◌-◌, ◌<◌, ◌≤◌, List, [], ◌∷◌, ◌++◌, map, length, slice_index}
-use Rattle.hlc_core.specs.declared.fault.CoreFault.TheVariants.{AboveFloor, BelowHorizon}
-use Rattle.hlc_core.specs.declared.event.CoreEvent.{CoreEvent}
-use Rattle.hlc_core.specs.declared.event.CoreEvent.TheVariants.{OpenAt, OpenFloor, Read, Close}
+use Rattle.hlc_events.specs.declared.fault.CoreFault.TheVariants.{AboveFloor, BelowHorizon}
+use Rattle.hlc_events.specs.declared.event.CoreEvent.{CoreEvent}
+use Rattle.hlc_events.specs.declared.event.CoreEvent.TheVariants.{OpenAt, OpenFloor, Read, Close}
 use Rattle.hlc_core.specs.declared.reply.CoreReply.{CoreReply}
 use Rattle.hlc_core.specs.declared.reply.CoreReply.TheVariants.{Opened, Refused}
 use Rattle.hlc_server.specs.declared.entry.Receipt.{Receipt}

@@ -1,6 +1,6 @@
 //! The worker of a reader.
 ghost use Rattle.std.specs.Prelude.{◌≡◌, ◌≢◌, ◌<◌, ℕ, map, false, true, length, vec_len};
-ghost use Rattle.hlc_core.specs.declared.event.CoreEvent.TheVariants.{Read as ARead};
+ghost use Rattle.hlc_events.specs.declared.event.CoreEvent.TheVariants.{Read as ARead};
 ghost use Rattle.hlc_workers.specs.Paid.{IsPaid, MadeSome, event_of};
 ghost use Rattle.hlc_workers.specs.Rounds.{reads_of, IsRound, AtFloor, HasServed};
 

@@ -1,6 +1,6 @@
 //! The worker of the vacuum.
 ghost use Rattle.std.specs.Prelude.{◌≡◌, ◌≢◌, ◌<◌, ℕ, map, replicate, false, true, length, vec_len};
-ghost use Rattle.hlc_core.specs.declared.event.CoreEvent.{CoreEvent as AnEvent};
+ghost use Rattle.hlc_events.specs.declared.event.CoreEvent.{CoreEvent as AnEvent};
 ghost use Rattle.hlc_workers.specs.Paid.{IsPaid, MadeOne, MadeSome, event_of};
 
 use crate::end::end_of;

@@ -6,9 +6,9 @@ use Rattle.std.specs.Prelude.{not, MatchResult, slice_get}
 use Rattle.std.proofs.lemmas.Bool.{cond-true, cond-false, lt-leb, eq-eqb, ne_eqb, cases_eq, cases_Bool}
 use Rattle.hlc_node.specs.declared.item.Item.{Item}
 use Rattle.hlc_node.specs.Items.{retires}
-use Rattle.hlc_core.specs.declared.fault.CoreFault.{CoreFault}
+use Rattle.hlc_events.specs.declared.fault.CoreFault.{CoreFault}
 use Rattle.hlc_intake.specs.declared.intake.LinkFault.TheVariants as link_fault
-use Rattle.hlc_core.specs.declared.fault.CoreFault.TheVariants as core_fault
+use Rattle.hlc_events.specs.declared.fault.CoreFault.TheVariants as core_fault
 use Rattle.hlc_heads.specs.Heads.{AcceptedView}
 use Rattle.hlc_core.specs.Past.{Took, numbered, retired, count, head, of_body as body_fault, item_refusal}
 use Rattle.hlc_core.specs.StoreView.{StoreView, nodes, Represents as CoreRepresents}

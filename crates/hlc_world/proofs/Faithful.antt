@@ -2,7 +2,7 @@
 -- history, which is legal, so the core is faithful to it; each moment of the schedule is one of that history; and each
 -- moment of a legal schedule is legal, so what can be read there is closed.
 use Rattle.std.proofs.Common.{ℕ, List, [], ◌∷◌, ◌++◌, Some, None, Option, refl, ap, sym, subst}
-use Rattle.hlc_core.specs.declared.event.CoreEvent.{CoreEvent}
+use Rattle.hlc_events.specs.declared.event.CoreEvent.{CoreEvent}
 use Rattle.hlc_core.specs.declared.reply.CoreReply.{CoreReply}
 use Rattle.hlc_core.specs.History.{RepresentsHistory}
 use Rattle.hlc_core.specs.Headline.{IsMoment as IsStoreMoment}

@@ -3,13 +3,13 @@
 use Rattle.std.proofs.Common.{◌≡◌, ℕ, ◌≤◌, List, [], ◌∷◌, Some, None, Option, ◌∙◌, sym, subst, inl, inr, arith}
 use Rattle.std.proofs.lemmas.Bool.{cond-true, cond-false, lt-leb, le-leb, lt-ltb, cases_lt}
 use Rattle.hlc_node.specs.declared.item.Item.{Item}
-use Rattle.hlc_core.specs.declared.event.CoreEvent.{CoreEvent}
-use Rattle.hlc_core.specs.declared.event.CoreEvent.TheVariants as core_event
+use Rattle.hlc_events.specs.declared.event.CoreEvent.{CoreEvent}
+use Rattle.hlc_events.specs.declared.event.CoreEvent.TheVariants as core_event
 use Rattle.hlc_core.specs.declared.reply.CoreReply.{CoreReply}
 use Rattle.hlc_core.specs.declared.reply.CoreReply.TheVariants as core_reply
 use Rattle.hlc_heads.specs.declared.heads.TheConstants.{MOST_NUMBERS}
 use Rattle.hlc_heads.specs.declared.heads.JoinFault.TheVariants.{TooManyNodes, BelowFloor}
-use Rattle.hlc_core.specs.declared.fault.CoreFault.TheVariants.{Join as joining}
+use Rattle.hlc_events.specs.declared.fault.CoreFault.TheVariants.{Join as joining}
 use Rattle.hlc_core.specs.Past.{Step, numbered, floor, horizon, stamp_of, join_refusal, join_at_refusal, open_refusal}
 use Rattle.hlc_core.specs.Past.{IsLegal as IsLegalPast}
 use Rattle.hlc_core.proofs.PastLemmas.{open-room, vacuum-none, horizon-low}

@@ -5,7 +5,7 @@ use Rattle.std.specs.Prelude.{⊤, slice_get}
 use Rattle.std.proofs.lemmas.Bool.{cond-true, cond-false, lt-leb, le-leb, cases_eq}
 use Rattle.hlc_node.specs.declared.item.Item.{Item}
 use Rattle.hlc_heads.specs.declared.heads.TheConstants.{MOST_NUMBERS}
-use Rattle.hlc_core.specs.declared.fault.CoreFault.{CoreFault}
+use Rattle.hlc_events.specs.declared.fault.CoreFault.{CoreFault}
 use Rattle.hlc_core.specs.Past.{Joined as JoinedOf, numbered, floor, join_refusal}
 use Rattle.hlc_core.specs.StoreView.{StoreView, nodes, Represents as CoreRepresents}
 use Rattle.hlc_core.specs.Calls.{IsRefusal}
@@ -13,7 +13,7 @@ use Rattle.hlc_world.specs.declared.event.Event.TheVariants.{Join}
 use Rattle.hlc_world.specs.declared.reply.Reply.{Reply}
 use Rattle.hlc_world.specs.declared.reply.Reply.TheVariants.{Joined, Refused}
 use Rattle.hlc_heads.specs.declared.heads.JoinFault.TheVariants.{TooManyNodes}
-use Rattle.hlc_core.specs.declared.fault.CoreFault.TheVariants.{Join as joining}
+use Rattle.hlc_events.specs.declared.fault.CoreFault.TheVariants.{Join as joining}
 use Rattle.hlc_world.specs.declared.refusal.Refusal.TheVariants.{Store, NoMemory}
 use Rattle.hlc_world.specs.Schedule.{Event, item_made, with_item, ends, stamp_or, issued, has_retired, last_stamp}
 use Rattle.hlc_world.specs.Store.{core_past}

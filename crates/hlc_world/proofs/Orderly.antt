@@ -20,8 +20,8 @@ use Rattle.hlc_node.specs.declared.node.NodeFault.{NodeFault}
 use Rattle.hlc_node.specs.declared.node.NodeFault.TheVariants.{NumbersSpent}
 use Rattle.hlc_node.specs.Items.{an_item, body_refusal}
 use Rattle.hlc_node.specs.Node.{NodeView, clocked, unless_retired, unless_bad, expected_issue}
-use Rattle.hlc_core.specs.declared.fault.CoreFault.{CoreFault}
-use Rattle.hlc_core.specs.declared.event.CoreEvent.{CoreEvent}
+use Rattle.hlc_events.specs.declared.fault.CoreFault.{CoreFault}
+use Rattle.hlc_events.specs.declared.event.CoreEvent.{CoreEvent}
 use Rattle.hlc_core.specs.declared.reply.CoreReply.{CoreReply}
 use Rattle.hlc_core.specs.Past.{Step, Took, Joined as JoinedOf, numbered, retired, count, head, item_refusal}
 use Rattle.hlc_core.proofs.PastLemmas.{inside, on_link as on_its_link, admissible, count-other, head-same, head-other}

@@ -27,7 +27,7 @@ use Rattle.hlc_world.specs.declared.reply.Reply.TheVariants.{Refused}
 use Rattle.hlc_world.specs.declared.refusal.Refusal.{Refusal}
 use Rattle.hlc_intake.specs.declared.intake.LinkFault.TheVariants as link_fault
 use Rattle.hlc_heads.specs.declared.heads.JoinFault.TheVariants.{TooManyNodes}
-use Rattle.hlc_core.specs.declared.fault.CoreFault.TheVariants.{Link, Join as joining, AboveFloor, BelowHorizon}
+use Rattle.hlc_events.specs.declared.fault.CoreFault.TheVariants.{Link, Join as joining, AboveFloor, BelowHorizon}
 use Rattle.hlc_world.specs.declared.refusal.Refusal.TheVariants.{NoNode, Node as at_node, Store, NoMemory}
 use Rattle.hlc_world.specs.Schedule.{Event, has_retired, item_at, last_stamp, message_at, node_of}
 use Rattle.hlc_world.specs.Store.{core_past}

@@ -1,7 +1,7 @@
 -- The number of a refusal, the word that comes with it, and its text.
 use Rattle.std.specs.Prelude.{ℕ, List, codes}
 use Rattle.hlc_node.specs.Faults.{node_code, node_word, node_text}
-use Rattle.hlc_core.specs.Faults.{core_code, core_word, core_text}
+use Rattle.hlc_events.specs.Faults.{core_code, core_word, core_text}
 use Rattle.hlc_world.specs.declared.refusal.Refusal.{Refusal}
 use Rattle.hlc_world.specs.declared.refusal.Refusal.TheVariants.{NoNode, Node, NoMessage, NoItem, Store, NoMemory}
 

@@ -1,7 +1,7 @@
 -- The item at the front was read, and came before or was accepted.
 use Rattle.std.proofs.Common.{◌∙◌, ℕ, sym, subst, arith}
 use Rattle.hlc_core.specs.StoreView.{nodes}
-use Rattle.hlc_core.specs.Faults.{core_code}
+use Rattle.hlc_events.specs.Faults.{core_code}
 use Rattle.hlc_calls.specs.Log.{IsStopped}
 use Rattle.hlc_calls.proofs.Logs.{front_is, front_shortens, passed_over, taken, refused_here}
 use Rattle.hlc_calls.proofs.log.take_front.Goals as goal

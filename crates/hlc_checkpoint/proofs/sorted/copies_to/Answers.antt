@@ -1,8 +1,8 @@
 -- One more column is copied.
 use Rattle.std.proofs.Common.{◌++◌, ◌∙◌, ap, ℕ, List}
-use Rattle.hlc_columns.specs.Rows.{rows_to}
-use Rattle.hlc_columns.specs.Cells.{Cell}
-use Rattle.hlc_columns.specs.Rows.{rows_of}
+use Rattle.hlc_column.specs.Rows.{rows_to}
+use Rattle.hlc_column.specs.Cells.{Cell}
+use Rattle.hlc_column.specs.Rows.{rows_of}
 use Rattle.hlc_checkpoint.proofs.Copied.{column_on, columns_all}
 use Rattle.hlc_checkpoint.proofs.sorted.copies_to.Goals as goal
 

@@ -1,5 +1,5 @@
 -- One more row is copied.
-use Rattle.hlc_columns.specs.Rows.{rows_of}
+use Rattle.hlc_column.specs.Rows.{rows_of}
 use Rattle.hlc_checkpoint.proofs.Copied.{whole-on}
 use Rattle.hlc_checkpoint.proofs.sorted.copy_whole.Goals as goal
 

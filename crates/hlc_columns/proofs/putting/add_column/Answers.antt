@@ -3,7 +3,7 @@ use Rattle.std.proofs.Common.{◌≡◌, ◌<◌, refl, sym, ap, subst, length, 
 use Rattle.std.specs.Map.{lookup}
 use Rattle.hlc_index.specs.Entries.{entries_in}
 use Rattle.hlc_columns.specs.Parts.{new_row}
-use Rattle.hlc_columns.specs.Cells.{value_bytes}
+use Rattle.hlc_column.specs.Cells.{value_bytes}
 use Rattle.hlc_columns.specs.Sizes.{sizes_of, with_row, with_key}
 use Rattle.hlc_columns.specs.Table.{indexed_rows}
 use Rattle.hlc_columns.proofs.FoundLemmas.{test}

@@ -1,6 +1,6 @@
 -- One more entry.
 use Rattle.std.proofs.Common.{◌≡◌, ◌+◌, ◌∙◌, ap, arith, take, length, filter}
-use Rattle.hlc_columns.specs.Rows.{rows_of}
+use Rattle.hlc_column.specs.Rows.{rows_of}
 use Rattle.hlc_columns.specs.Table.{table_rows}
 use Rattle.hlc_columns.proofs.WalkLemmas.{within, few_first, count_entry, whole}
 use Rattle.hlc_columns.proofs.walks.count_in_leaf.Goals as goal

@@ -4,7 +4,7 @@ use Rattle.std.specs.Prelude.{Ok, Err}
 use Rattle.std.proofs.lemmas.Option.{slice_get-get_or}
 use Rattle.std.proofs.lemmas.Result.{err_from_is_err_and}
 use Rattle.hlc_node.specs.Items.{body_refusal}
-use Rattle.hlc_core.specs.declared.fault.CoreFault.TheVariants.{Link, Body}
+use Rattle.hlc_events.specs.declared.fault.CoreFault.TheVariants.{Link, Body}
 use Rattle.hlc_core.specs.Past.{of_body}
 use Rattle.hlc_core.proofs.Admits.{refused_first, next_admitted}
 use Rattle.hlc_core.proofs.Links.{LooksUp}

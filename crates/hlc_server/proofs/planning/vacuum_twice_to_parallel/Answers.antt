@@ -1,7 +1,7 @@
 -- The two reports are alike, and the vacuum is a step of each history.
 use Rattle.std.proofs.Common.{ap, sym, subst, ◌∙◌}
 use Rattle.hlc_core.specs.declared.reply.CoreReply.TheVariants.{Vacuumed}
-use Rattle.hlc_core.specs.declared.event.CoreEvent.TheVariants.{VacuumTo}
+use Rattle.hlc_events.specs.declared.event.CoreEvent.TheVariants.{VacuumTo}
 use Rattle.hlc_core.specs.History.{IsStep, past_of}
 use Rattle.hlc_server.proofs.Histories.{vacuum_is_step}
 use Rattle.hlc_server.proofs.planning.vacuum_twice_to_parallel.Goals as goal

@@ -1,6 +1,6 @@
 -- The receipts settle, so the store represents the history in its trail; the report is found in that past.
 use Rattle.std.proofs.Common.{◌≡◌, List, Result, Ok, Err, IfOk, IfErr}
-use Rattle.hlc_core.specs.declared.event.CoreEvent.{CoreEvent}
+use Rattle.hlc_events.specs.declared.event.CoreEvent.{CoreEvent}
 use Rattle.hlc_core.specs.declared.reply.CoreReply.{CoreReply}
 use Rattle.hlc_core.specs.Past.{Step}
 use Rattle.hlc_core.specs.StoreView.{StoreView, nodes, Represents}

@@ -2,9 +2,9 @@
 use Rattle.std.proofs.Common.{◌≡◌, ◌∙◌, ◌++◌, ◌∷◌, [], sym, ap, subst, append_assoc, arith, rules}
 use Rattle.std.specs.List.{AllZip}
 use Rattle.std.proofs.lemmas.Grind.{common_steps}
-use Rattle.hlc_columns.specs.Rows.{KeysAscend}
+use Rattle.hlc_column.specs.Rows.{KeysAscend}
 use Rattle.hlc_vacuum.specs.Parallel.{DraftsPiece}
-use Rattle.hlc_vacuum.specs.KeyPlan.{IsJoined}
+use Rattle.hlc_draft.specs.KeyPlan.{IsJoined}
 use Rattle.hlc_vacuum.proofs.Pieces.{JoinsPieces, pieces_on, pieces_none}
 use Rattle.hlc_vacuum.proofs.parallel.join_drafts.Goals as goal
 

@@ -1,10 +1,10 @@
 -- The plan is of the columns listed.
 use Rattle.std.proofs.Common.{◌∙◌, ap, subst}
 use Rattle.hlc_node.specs.Rows.{IsRowSet}
-use Rattle.hlc_columns.proofs.FlagLemmas.{filter-IsRowSet}
+use Rattle.hlc_column.proofs.FlagLemmas.{filter-IsRowSet}
 use Rattle.hlc_columns.specs.Answers.{in_part, part_end}
-use Rattle.hlc_columns.specs.Rows.{keys_in}
-use Rattle.hlc_vacuum.specs.KeyPlan.{IsJoined}
+use Rattle.hlc_column.specs.Rows.{keys_in}
+use Rattle.hlc_draft.specs.KeyPlan.{IsJoined}
 use Rattle.hlc_vacuum.proofs.part.plan_part.Goals as goal
 
 pub returns-clause-made : goal.returns-clause-made

@@ -5,7 +5,7 @@ use Rattle.hlc_clock.proofs.PointLemmas.{points-last}
 use Rattle.hlc_snapshot.specs.RegistryView.{stamps_to}
 use Rattle.hlc_columns.specs.Answers.{in_part}
 use Rattle.hlc_vacuum.specs.Part.{IsPartVacuum}
-use Rattle.hlc_vacuum.specs.declared.report.Report.{Report}
+use Rattle.hlc_draft.specs.declared.report.Report.{Report}
 use Rattle.hlc_core.specs.Past.{floor, horizon}
 use Rattle.hlc_core.proofs.PastLemmas.{vacuum-none}
 use Rattle.hlc_core.proofs.Consistent.{consistent-fewer}

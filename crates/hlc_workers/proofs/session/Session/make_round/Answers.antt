@@ -2,7 +2,7 @@
 -- the first.
 use Rattle.std.proofs.Common.{[]}
 use Rattle.std.proofs.lemmas.Result.{err_from_is_err_and}
-use Rattle.hlc_core.specs.declared.event.CoreEvent.TheVariants.{OpenAt}
+use Rattle.hlc_events.specs.declared.event.CoreEvent.TheVariants.{OpenAt}
 use Rattle.hlc_workers.specs.declared.session.Opening.TheVariants.{Opened as opened, Outside as outside}
 use Rattle.hlc_workers.specs.Rounds.{GoesOnOrAgain, IsRound}
 use Rattle.hlc_workers.proofs.Works.{called-none, opening_then}

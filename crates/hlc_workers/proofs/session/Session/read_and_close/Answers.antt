@@ -1,7 +1,7 @@
 -- The close comes after the reads.
 use Rattle.std.proofs.Common.{[], ◌∷◌, ◌++◌, ◌∙◌, ap, map}
 use Rattle.std.proofs.lemmas.List.{map-append}
-use Rattle.hlc_core.specs.declared.event.CoreEvent.TheVariants.{Read}
+use Rattle.hlc_events.specs.declared.event.CoreEvent.TheVariants.{Read}
 use Rattle.hlc_workers.specs.Paid.{event_of}
 use Rattle.hlc_workers.proofs.Works.{called_on}
 use Rattle.hlc_workers.proofs.session.Session.read_and_close.Goals as goal

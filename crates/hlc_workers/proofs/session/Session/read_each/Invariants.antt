@@ -1,6 +1,6 @@
 -- The keys before this one were read, in turn.
 use Rattle.std.proofs.Common.{◌≡◌, List, map, take}
-use Rattle.hlc_core.specs.declared.event.CoreEvent.TheVariants.{Read}
+use Rattle.hlc_events.specs.declared.event.CoreEvent.TheVariants.{Read}
 use Rattle.hlc_server.specs.declared.entry.Receipt.{Receipt}
 use Rattle.hlc_workers.specs.Paid.{event_of, HasCalled}
 use Rattle.hlc_workers.proofs.session.Session.read_each.Given as goal

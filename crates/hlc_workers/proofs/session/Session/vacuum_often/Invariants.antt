@@ -1,6 +1,6 @@
 -- So many vacuums were made.
 use Rattle.std.proofs.Common.{◌≡◌, List, map, replicate}
-use Rattle.hlc_core.specs.declared.event.CoreEvent.TheVariants.{Vacuum}
+use Rattle.hlc_events.specs.declared.event.CoreEvent.TheVariants.{Vacuum}
 use Rattle.hlc_server.specs.declared.entry.Receipt.{Receipt}
 use Rattle.hlc_workers.specs.Paid.{event_of, HasCalled}
 use Rattle.hlc_workers.proofs.session.Session.vacuum_often.Given as goal

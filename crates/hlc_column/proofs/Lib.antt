@@ -1,0 +1,6 @@
+pub mod RowLemmas
+pub mod FlagLemmas
+pub mod FirstLemmas
+pub mod Beside
+pub mod NewestRow
+pub mod Chosen

@@ -1,0 +1,71 @@
+-- The same rows are kept in each of the three lists, so they stay side by side. The index is rebuilt; if as many rows
+-- remain, none was dropped, and it is the old one.
+use Rattle.std.proofs.Common.{◌≤◌, sym, ap, ◌∙◌, subst, length, arith}
+use Rattle.std.specs.List.{items_where_true}
+use Rattle.hlc_column.proofs.Beside.{length_cells, cells_chosen, length_chosen_same, beside_chosen}
+use Rattle.hlc_column.proofs.Chosen.{all_chosen}
+use Rattle.hlc_order.proofs.PlaceLemmas.{index_as}
+use Rattle.hlc_column.proofs.column.Column.keep.Goals as goal
+
+pub keep_flagged-requires : goal.keep_flagged-requires
+keep_flagged-requires c =
+    (omega arith, c.requires ∙ ap length (sym c.self.view_is) ∙ length_cells _ _ _ c.self.invariant.0)
+
+pub keep_flagged-requires-2 : goal.keep_flagged-requires-2
+keep_flagged-requires-2 c = (
+  omega arith,
+  c.requires ∙ ap length (sym c.self.view_is) ∙ length_cells _ _ _ c.self.invariant.0 ∙ sym c.self.invariant.0.0,
+)
+
+pub keep_flagged-requires-3 : goal.keep_flagged-requires-3
+keep_flagged-requires-3 c = (
+  omega arith,
+  c.requires ∙ ap length (sym c.self.view_is) ∙ length_cells _ _ _ c.self.invariant.0 ∙ sym c.self.invariant.0.1,
+)
+
+pub invariant_of-self : goal.invariant_of-self
+invariant_of-self c =
+    let b = c.self.invariant in (
+      rw (c.keep_flagged.ensures.items, c.keep_flagged-2.ensures.items, c.keep_flagged-3.ensures.items) (beside_chosen
+          c.args.keep.now c.self.inside.stamps.items c.self.inside.nodes.items c.self.inside.values.items b.0),
+      subst (λ n. 4 ≤ n) (sym c.keep_flagged.ensures.capacity) b.1,
+      subst (λ n. 4 ≤ n) (sym c.keep_flagged-2.ensures.capacity) b.2,
+      subst (λ n. 4 ≤ n) (sym c.keep_flagged-3.ensures.capacity) b.3,
+      index_as c.as_slice.result.now c.as_slice-then-len-count.result.now c.keep_flagged.new.items.items
+          c.keep_flagged-2.new.items.items c.index_again.new.order.items (sym c.as_slice.ensures)
+          (sym c.as_slice-then-len-count.ensures) c.index_again.ensures.index,
+    )
+
+pub invariant_of-self-else-len-count : goal.invariant_of-self-else-len-count
+invariant_of-self-else-len-count c =
+    let b = c.self.invariant in
+    let i = c.self.inside in
+    let bs = c.args.keep.now in
+    let many = c.if-len-count.false in
+    let was = c.len-count.ensures.value in
+    let is = c.len.ensures.value ∙ ap length c.keep_flagged.ensures.items in
+    let alike = length_chosen_same bs i.nodes.items i.stamps.items b.0.0 in
+    let same = b.0.0 in (
+      rw (c.keep_flagged.ensures.items, c.keep_flagged-2.ensures.items, c.keep_flagged-3.ensures.items) (beside_chosen
+          c.args.keep.now c.self.inside.stamps.items c.self.inside.nodes.items c.self.inside.values.items b.0),
+      subst (λ n. 4 ≤ n) (sym c.keep_flagged.ensures.capacity) b.1,
+      subst (λ n. 4 ≤ n) (sym c.keep_flagged-2.ensures.capacity) b.2,
+      subst (λ n. 4 ≤ n) (sym c.keep_flagged-3.ensures.capacity) b.3,
+      index_as i.stamps.items i.nodes.items c.keep_flagged.new.items.items
+          c.keep_flagged-2.new.items.items i.order.items
+          (c.keep_flagged.ensures.items ∙ all_chosen bs i.stamps.items (omega (arith, many, was, is)))
+          (c.keep_flagged-2.ensures.items
+          ∙ all_chosen bs i.nodes.items (omega (arith, many, was, is, alike, same))) b.4,
+    )
+
+pub returns-then-len-count : goal.returns-then-len-count
+returns-then-len-count c =
+    rw (c.keep_flagged.ensures.items, c.keep_flagged-2.ensures.items, c.keep_flagged-3.ensures.items)
+    (cells_chosen c.args.keep.now c.self.inside.stamps.items c.self.inside.nodes.items c.self.inside.values.items
+    c.self.invariant.0 ∙ ap (items_where_true c.args.keep.now) c.self.view_is)
+
+pub returns-else-len-count : goal.returns-else-len-count
+returns-else-len-count c =
+    rw (c.keep_flagged.ensures.items, c.keep_flagged-2.ensures.items, c.keep_flagged-3.ensures.items)
+    (cells_chosen c.args.keep.now c.self.inside.stamps.items c.self.inside.nodes.items c.self.inside.values.items
+    c.self.invariant.0 ∙ ap (items_where_true c.args.keep.now) c.self.view_is)

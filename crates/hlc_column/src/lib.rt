@@ -1,0 +1,10 @@
+//! The rows of one key as columns side by side, the first four in place.
+#![tactic(auto)]
+
+mod column;
+mod flags;
+
+pub use column::{Column, copy_of};
+pub use hlc_clock::Stamp;
+pub use hlc_node::{Bytes, Row};
+pub use hlc_values::NoMemory;

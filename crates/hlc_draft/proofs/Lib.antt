@@ -1,0 +1,10 @@
+pub mod PartLemmas
+pub mod Kept
+pub mod VacuumLemmas
+pub mod ChosenLemmas
+pub mod Drafts
+pub mod SoFar
+pub mod Steps
+pub mod Quiet
+pub mod JoinedLemmas
+pub mod Costs

@@ -1,0 +1,190 @@
+-- At each point either nothing is recorded, or a change is and the newest row is marked.
+use Rattle.std.proofs.Common.{◌≡◌, ◌<◌, ◌+◌, ◌++◌, ◌∷◌, [], ℕ, List, length, map, sym, ap, ◌∙◌, refl, subst, ltb}
+use Rattle.std.proofs.Common.{get_or, option_copied, Option, Some, None, Bool, true, set, ap₂, true≢false, rules, arith}
+use Rattle.std.specs.Prelude.{IfSome, MatchOption}
+use Rattle.std.proofs.lemmas.List.{length-map, get_or_default, length-append, length-set, append-nil}
+use Rattle.hlc_node.specs.Rows.{answer, newest}
+use Rattle.hlc_witness.specs.Changes.{answer_at}
+use Rattle.hlc_witness.specs.Cost.{cost_of}
+use Rattle.hlc_clock.specs.Points.{last_point}
+use Rattle.hlc_column.specs.Cells.{Cell}
+use Rattle.hlc_column.specs.Rows.{row_of, rows_of}
+use Rattle.hlc_node.specs.declared.row.Row.{Row}
+use Rattle.hlc_draft.specs.declared.draft.Draft.{Draft}
+use Rattle.hlc_draft.proofs.SoFar.{point_before, AddedSoFar}
+use Rattle.hlc_draft.proofs.Costs.{cost-none}
+use Rattle.hlc_draft.proofs.Drafts.{draft-above}
+use Rattle.hlc_draft.proofs.Steps.{same_added, change_added, added_done, added_all, next_before}
+use Rattle.hlc_draft.proofs.Quiet.{IsQuiet, quiet_answer, quiet_on, quiet_from, quiet_first, quiet_rest, before_below}
+use Rattle.hlc_draft.proofs.draft.Draft.add.Goals as goal
+use Rattle.hlc_draft.proofs.draft.Draft.add.Goals.{then-not-are_equal+in_ok-note_change, else-not-are_equal}
+
+-- marking a row does not change the number of flags
+marked_length : (flags more : List Bool) (from : ℕ) (place : Option ℕ)
+    → MatchOption place (more ≡ flags) (λ j. more ≡ set flags (from + j) true) → length more ≡ length flags
+marked_length flags more from None e = ap length e
+marked_length flags more from (Some j) e = ap length e ∙ length-set flags (from + j) true
+
+abbrev Kept : List Row → List ℕ → List ℕ → ℕ → ℕ → Draft → Draft → Option ℕ → Option (List ℕ) → ℕ → Type 0
+Kept rows key points i many old new before value_here next = record {
+  long : length new.keep.items ≡ many;
+  before : before ≡ point_before points i;
+  value_here : value_here ≡ answer_at rows key (point_before points i);
+  quiet : IsQuiet rows (point_before points i) next;
+  added : AddedSoFar rows key points i old.witnesses.items new.witnesses.items old.keep.items new.keep.items
+      old.bytes new.bytes;
+}
+
+from_is : (c : goal.After-gap_end-next) → c.len-from.result ≡ length c.args.self.now.keep.items
+from_is c = search rules
+
+from_here : (c : goal.After-gap_end-next-in-loop-point) → c.len-from.result ≡ length c.args.self.now.keep.items
+from_here c = search rules
+
+pub loop-point-init : goal.loop-point-init
+loop-point-init c =
+    let column = c.args.column.now in
+    let bound = last_point c.args.points.now in
+    let above = map (λ s. ltb bound s) (map (λ (x : Cell). x.stamp) column) in
+    let flags : c.add_flags.new.flags.items ≡ c.args.self.now.keep.items ++ above =
+    c.in_ok-add_flags.ensures ∙ ap (λ ss. c.args.self.now.keep.items ++ map (λ s. ltb c.bits-last.result s) ss)
+    c.stamps-stamps.ensures ∙ ap (λ b. c.args.self.now.keep.items
+    ++ map (λ s. ltb b s) (map (λ (x : Cell). x.stamp) column)) (c.bits-last.ensures.value ∙ c.last_of.ensures) in
+    let long : length above ≡ length column =
+    length-map (map (λ (x : Cell). x.stamp) column) (λ s. ltb bound s) ∙ length-map column (λ (x : Cell). x.stamp) in
+    record {
+      long = ap length flags ∙ length-append c.args.self.now.keep.items above
+          ∙ ap₂ (λ m n. m + n) (sym (from_is c)) long;
+      before = refl;
+      value_here = refl;
+      quiet = quiet_first c.args.key.now column c.stamps-stamps.result.now c.gap_end-next.result
+          c.stamps-stamps.ensures c.gap_end-next.ensures;
+      added = record {
+        found = [];
+        keep = above;
+        news = sym (append-nil c.args.self.now.witnesses.items);
+        mores = flags;
+        cost = cost-none (rows_of c.args.key.now column) c.args.self.now.bytes;
+        so = record { rest = refl; draft = draft-above c.args.key.now bound column };
+      };
+    }
+
+-- no row is in the gap, so nothing changes at a point there
+pub loop-point-preserved-then-bits-next : goal.loop-point-preserved-then-bits-next
+loop-point-preserved-then-bits-next c =
+    let key = c.args.key.now in
+    let points = c.args.points.now in
+    let rows = rows_of key c.args.column.now in
+    let i = c.loop-point.point-index in
+    let inv = c.loop-point.invariant in
+    let old = c.args.self.now in
+    let on = c.loop-point.self in
+    let p = c.point-item.result in
+    let at : p ≡ get_or points i 0 = c.point-item.is ∙ get_or_default points i p 0 c.loop-point-test.true in
+    let below : get_or points i 0 < c.loop-point.next =
+    let bits = c.bits.ensures.value in let lt = c.if-bits-next.true in omega arith in
+    let before = before_below points i i c.requires (omega arith) c.loop-point-test.true in
+    let same : answer rows key (get_or points i 0) ≡ answer_at rows key (point_before points i) =
+    quiet_answer rows key (point_before points i) c.loop-point.next (get_or points i 0) inv.quiet below before in
+    record {
+      long = inv.long;
+      before = ap Some at ∙ sym (next_before points i);
+      value_here = inv.value_here ∙ sym same ∙ ap (answer_at rows key) (sym (next_before points i));
+      quiet = subst (λ b. IsQuiet rows b c.loop-point.next) (sym (next_before points i))
+          (quiet_on rows (point_before points i) c.loop-point.next (get_or points i 0) inv.quiet before);
+      added = same_added rows key points i c.loop-point-test.true old.witnesses.items on.witnesses.items
+          old.keep.items on.keep.items old.bytes on.bytes same inv.added;
+    }
+
+-- no point is left after the gap
+pub returns-then-last-next : goal.returns-then-last-next
+returns-then-last-next c =
+    let key = c.args.key.now in
+    let points = c.args.points.now in
+    let rows = rows_of key c.args.column.now in
+    let i = c.loop-point.point-index in
+    let inv = c.loop-point.invariant in
+    let old = c.args.self.now in
+    let on = c.loop-point.self in
+    let past : last_point points < c.loop-point.next =
+    let last = c.last_of.ensures in let bits = c.bits-last.ensures.value in let lt = c.if-last-next.true in
+    omega arith in
+    added_all rows key points i old.witnesses.items on.witnesses.items old.keep.items on.keep.items old.bytes on.bytes
+    (quiet_rest rows key points i c.loop-point.next c.requires inv.quiet past) inv.added
+
+pub loop-point-preserved : goal.loop-point-preserved
+loop-point-preserved c =
+    let column = c.args.column.now in
+    let key = c.args.key.now in
+    let points = c.args.points.now in
+    let rows = rows_of key column in
+    let i = c.loop-point.point-index in
+    let inv = c.loop-point.invariant in
+    let p = c.point-item.result in
+    let old = c.args.self.now in
+    let on = c.loop-point.self in
+    let now = c.if-not-are_equal.self in
+    let place = c.newest_on-place.result.0 in
+    let from = c.len-from.result in
+    let at : p ≡ get_or points i 0 = c.point-item.is ∙ get_or_default points i p 0 c.loop-point-test.true in
+    let value_here : option_copied c.value_of-value_here.result ≡ answer rows key (get_or points i 0) =
+    c.value_of-value_here.ensures key p c.newest_on-place.ensures.within (c.newest_on-place.ensures.newest key)
+    ∙ ap (answer rows key) at in
+    let quiet : IsQuiet rows (point_before points (i + 1)) c.gap_end-next-in-loop-point.result =
+    subst (λ before. IsQuiet rows before c.gap_end-next-in-loop-point.result) (sym (next_before points i))
+    (quiet_from key column c.stamps-stamps.result.now c.saturating_add-above.result c.gap_end-next-in-loop-point.result
+    (get_or points i 0) c.stamps-stamps.ensures
+    (let sum = c.saturating_add-above.ensures in let bits = c.bits-in-loop-point.ensures.value in omega arith)
+    c.gap_end-next-in-loop-point.ensures) in
+    let fields : AddedSoFar rows key points (i + 1) old.witnesses.items now.witnesses.items old.keep.items
+    now.keep.items old.bytes now.bytes → length now.keep.items ≡ length on.keep.items
+    → Kept rows key points (i + 1) (from + length column) old now (Some p) (option_copied c.value_of-value_here.result)
+    c.gap_end-next-in-loop-point.result =
+    λ added long. record {
+      long = long ∙ inv.long;
+      before = ap Some at ∙ sym (next_before points i);
+      value_here = value_here ∙ ap (answer_at rows key) (sym (next_before points i));
+      quiet = quiet;
+      added = added;
+    } in
+    elim c.if-not-are_equal.branch [
+      | then-not-are_equal+in_ok-note_change w ↦
+          let noted = w.in_ok-note_change.ensures in
+          let between = w.note_change.new.self.keep.items in
+          let marks : MatchOption place (now.keep.items ≡ on.keep.items)
+          (λ j. now.keep.items ≡ set on.keep.items (from + j) true) =
+          subst (λ flags. MatchOption place (now.keep.items ≡ flags) (λ j. now.keep.items ≡ set flags (from + j) true))
+          noted.keep
+          (subst (λ flags. MatchOption place (flags ≡ between) (λ j. flags ≡ set between (from + j) true))
+          (sym (ap (λ (draft : Draft). draft.keep.items) w.self-is)) w.mark.ensures) in
+          fields
+          (change_added rows key points i c.loop-point-test.true old.witnesses.items on.witnesses.items
+          now.witnesses.items old.keep.items on.keep.items now.keep.items old.bytes on.bytes now.bytes place
+          (λ e. true≢false (sym (c.are_equal.ensures.1 (value_here ∙ e ∙ sym inv.value_here))
+          ∙ w.if-not-are_equal.true))
+          (subst (λ n. IfSome place (λ j. j < n)) (sym (length-map column (row_of key)))
+          c.newest_on-place.ensures.within)
+          (c.newest_on-place.ensures.newest key ∙ ap (newest rows key) at)
+          (ap (λ (draft : Draft). draft.witnesses.items) w.self-is ∙ noted.witnesses
+          ∙ ap₂ (λ (b : Option ℕ) (q : ℕ). on.witnesses.items ++ record { key = key; before = b; at = q } ∷ [])
+          inv.before at)
+          (subst (λ n. MatchOption place (now.keep.items ≡ on.keep.items)
+          (λ j. now.keep.items ≡ set on.keep.items (n + j) true)) (from_here c) marks)
+          (ap (λ (draft : Draft). draft.bytes) w.self-is ∙ noted.bytes ∙ ap (λ v. on.bytes + cost_of key v) value_here)
+          inv.added)
+          (marked_length on.keep.items now.keep.items from place marks)
+      | else-not-are_equal w ↦
+          fields
+          (subst (λ (draft : Draft). AddedSoFar rows key points (i + 1) old.witnesses.items draft.witnesses.items
+          old.keep.items draft.keep.items old.bytes draft.bytes) (sym w.self-is)
+          (same_added rows key points i c.loop-point-test.true old.witnesses.items on.witnesses.items
+          old.keep.items on.keep.items old.bytes on.bytes
+          (sym value_here ∙ c.are_equal.ensures.0 w.if-not-are_equal.false ∙ inv.value_here) inv.added))
+          (ap (λ (draft : Draft). length draft.keep.items) w.self-is)
+    ]
+
+pub returns : goal.returns
+returns c = added_done (rows_of c.args.key.now c.args.column.now) c.args.key.now c.args.points.now
+    c.loop-point.point-index c.args.self.now.witnesses.items c.loop-point.self.witnesses.items
+    c.args.self.now.keep.items c.loop-point.self.keep.items c.args.self.now.bytes c.loop-point.self.bytes
+    c.loop-point-test.false c.loop-point.invariant.added
