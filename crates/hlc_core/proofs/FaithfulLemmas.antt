@@ -1,23 +1,30 @@
 -- What is promised of a whole history is true since the core represents it: each moment of a legal history is legal, so
--- each read and each vacuum got the expected reply there; each change forces a row and its bytes; and a core that
--- represents a vacuum was left with the fewest rows.
-use Rattle.std.proofs.Common.{◌≡◌, ℕ, ◌≤◌, List, [], ◌∷◌, ◌++◌, length, Option, Some, None, refl, sym, subst, arith}
+-- each read and each vacuum got the expected reply there; an open snapshot's answers stay; each change forces a row and
+-- its bytes; and a core that represents a vacuum was left with the fewest rows.
+use Rattle.std.proofs.Common.{◌≡◌, ℕ, ◌≤◌, List, [], ◌∷◌, ◌++◌, length, Option, Some, None, refl, ap, sym, ◌∙◌, subst}
+use Rattle.std.proofs.Common.{arith}
+use Rattle.hlc_node.specs.declared.row.Row.{Row}
 use Rattle.hlc_node.specs.Rows.{answer}
 use Rattle.hlc_witness.specs.Cost.{changes_cost, rows_cost}
 use Rattle.hlc_witness.proofs.ChangeLemmas.{changes_force_rows}
 use Rattle.hlc_witness.proofs.CostLemmas.{changes_force_bytes}
-use Rattle.hlc_core.specs.Past.{Step, floor, stamp_of, writes}
+use Rattle.hlc_core.specs.Past.{Step, floor, stamp_of, writes, IsLegal}
 use Rattle.hlc_draft.specs.declared.report.Report.{Report}
 use Rattle.hlc_core.specs.Stored.{IsReport, LeavesFewest}
 use Rattle.hlc_core.specs.StoreView.{StoreView, nodes, Represents}
 use Rattle.hlc_events.specs.declared.event.CoreEvent.{CoreEvent}
 use Rattle.hlc_events.specs.declared.event.CoreEvent.TheVariants.{Accept, Join, OpenAt, OpenFloor, Read, List as ListAll}
 use Rattle.hlc_events.specs.declared.event.CoreEvent.TheVariants.{Close, Vacuum, JoinAt, VacuumTo}
+use Rattle.hlc_core.specs.declared.listing.Pair.{Pair}
 use Rattle.hlc_core.specs.declared.reply.CoreReply.{CoreReply}
-use Rattle.hlc_core.specs.declared.reply.CoreReply.TheVariants.{Answer, Vacuumed}
-use Rattle.hlc_core.specs.History.{past_of, IsAnswer, IsExpected, IsLegalHistory, RepresentsHistory}
+use Rattle.hlc_core.specs.declared.reply.CoreReply.TheVariants.{Answer, Listing, Vacuumed}
+use Rattle.hlc_core.specs.Listing.{IsListing}
+use Rattle.hlc_core.specs.Calls.{IsListed}
+use Rattle.hlc_core.specs.History.{step_of, with_step, past_of, IsAnswer, IsExpected, IsLegalHistory, RepresentsHistory}
 use Rattle.hlc_core.specs.Headline.{IsMoment, ReadsAreNewest, VacuumsAreFewest, VacuumsAreCheapest, FewestAreLeft}
-use Rattle.hlc_core.specs.Headline.{IsFaithful, vacuum_stamp}
+use Rattle.hlc_core.specs.Headline.{IsFaithful, SnapshotsStay, vacuum_stamp}
+use Rattle.hlc_core.proofs.ListingLemmas.{one-listing}
+use Rattle.hlc_core.proofs.StayLemmas.{legal-before, snapshots-stay}
 use Rattle.hlc_core.proofs.VacuumLemmas.{leaves-fewest}
 
 before-legal : (nodes : ℕ) (later before : List (CoreEvent × CoreReply)) → IsLegalHistory nodes (later ++ before)
@@ -41,6 +48,84 @@ reads-newest nodes h legal = λ before id key value moment.
     let expected : IsExpected nodes (past_of before) (Read id key) (Answer value) =
     (moment-legal nodes h ((Read id key, Answer value) ∷ before) legal moment).0 in
     answered (stamp_of id (past_of before)) (answer (writes (past_of before)) key) value expected.1
+
+one-step : (step : Option Step) (more past : List Step)
+    → (all : List Step) × (with_step step (more ++ past) ≡ all ++ past)
+one-step None more past = (more, refl)
+one-step (Some step) more past = (step ∷ more, refl)
+
+-- what took place up to a moment of a history comes first in what took place in all of it
+past-before : (later before : List (CoreEvent × CoreReply))
+    → (more : List Step) × (past_of (later ++ before) ≡ more ++ past_of before)
+past-before [] before = ([], refl)
+past-before (entry ∷ later) before =
+    let rest = past-before later before in
+    let all = one-step (step_of entry.0 entry.1) rest.0 (past_of before) in
+    (all.0, ap (with_step (step_of entry.0 entry.1)) rest.1 ∙ all.1)
+
+-- so it is legal
+moment-past : (nodes : ℕ) (h before : List (CoreEvent × CoreReply)) → IsLegal nodes (past_of h) → IsMoment h before
+    → IsLegal nodes (past_of before)
+moment-past nodes h before legal moment =
+    let rest = past-before moment.later before in
+    legal-before nodes (past_of before) rest.0
+    (subst (λ past. IsLegal nodes past) (ap past_of moment.order ∙ rest.1) legal)
+
+-- and a snapshot that is open at both moments has the same answers
+still-answers : (nodes : ℕ) (later before : List (CoreEvent × CoreReply)) (id stamp again : ℕ)
+    → IsLegal nodes (past_of (later ++ before)) → stamp_of id (past_of before) ≡ Some stamp
+    → stamp_of id (past_of (later ++ before)) ≡ Some again → (key : List ℕ)
+    → answer (writes (past_of (later ++ before))) key again ≡ answer (writes (past_of before)) key stamp
+still-answers nodes later before id stamp again =
+    let rest = past-before later before in
+    subst (λ all. IsLegal nodes all → stamp_of id (past_of before) ≡ Some stamp → stamp_of id all ≡ Some again
+    → (key : List ℕ) → answer (writes all) key again ≡ answer (writes (past_of before)) key stamp) (sym rest.1)
+    (λ legal is there. (snapshots-stay nodes (past_of before) rest.0 id stamp again legal is there).1)
+
+listed : (o : Option ℕ) (rows : List Row) (listing : List Pair) → IsListed o rows listing
+    → (stamp : ℕ) × (o ≡ Some stamp) × IsListing rows stamp listing
+listed None rows listing is = absurd is
+listed (Some stamp) rows listing is = (stamp, refl, is)
+
+-- rows with the same answers have the same listing
+same-listing : (rows others : List Row) (stamp other : ℕ) (listing : List Pair)
+    → ((key : List ℕ) → answer rows key stamp ≡ answer others key other) → IsListing rows stamp listing
+    → IsListing others other listing
+same-listing rows others stamp other listing same is = record {
+  ascending = is.ascending;
+  exact = λ key value. (
+    λ m. sym (same key) ∙ (is.exact key value).0 m,
+    λ e. (is.exact key value).1 (same key ∙ e),
+  );
+}
+
+-- no answer of a snapshot changes
+stays : (nodes : ℕ) (h : List (CoreEvent × CoreReply)) → IsLegalHistory nodes h → IsLegal nodes (past_of h)
+    → SnapshotsStay h
+stays nodes h legal past = record {
+  reads = λ before between id key value again moment.
+      let first : List (CoreEvent × CoreReply) = (Read id key, Answer value) ∷ before in
+      let all = moment-legal nodes h ((Read id key, Answer again) ∷ (between ++ first)) legal moment in
+      let one = answered (stamp_of id (past_of before)) (answer (writes (past_of before)) key) value
+      (before-legal nodes between first all.1).0.1 in
+      let two = answered (stamp_of id (past_of (between ++ first))) (answer (writes (past_of (between ++ first))) key)
+      again all.0.1 in
+      two.2
+      ∙ still-answers nodes between first id one.0 two.0
+      (moment-past nodes h ((Read id key, Answer again) ∷ (between ++ first)) past moment) one.1 two.1 key
+      ∙ sym one.2;
+  listings = λ before between id listing again moment.
+      let first : List (CoreEvent × CoreReply) = (ListAll id, Listing listing) ∷ before in
+      let all = moment-legal nodes h ((ListAll id, Listing again) ∷ (between ++ first)) legal moment in
+      let one = listed (stamp_of id (past_of before)) (writes (past_of before)) listing
+      (before-legal nodes between first all.1).0.1 in
+      let two = listed (stamp_of id (past_of (between ++ first))) (writes (past_of (between ++ first))) again
+      all.0.1 in
+      one-listing (writes (past_of before)) one.0 again listing
+      (same-listing (writes (past_of (between ++ first))) (writes (past_of before)) two.0 one.0 again
+      (still-answers nodes between first id one.0 two.0
+      (moment-past nodes h ((ListAll id, Listing again) ∷ (between ++ first)) past moment) one.1 two.1) two.2) one.2;
+}
 
 -- only an event that asks for a vacuum has a report as its reply
 reported : (nodes : ℕ) (past : List Step) (event : CoreEvent) (report : Report)
@@ -114,6 +199,7 @@ pub histories_are_faithful : (kept : StoreView) (h : List (CoreEvent × CoreRepl
     → RepresentsHistory kept h → IsFaithful (nodes kept) h kept.rows
 histories_are_faithful kept h represents = record {
   reads = reads-newest (nodes kept) h represents.legal;
+  stays = stays (nodes kept) h represents.legal represents.core.legal;
   vacuums = vacuums-least (nodes kept) h represents.legal;
   bytes = vacuums-cheapest (nodes kept) h represents.legal;
   fewest = fewest-left kept h represents;

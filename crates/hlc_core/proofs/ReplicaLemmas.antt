@@ -1,6 +1,7 @@
--- A node's link follows from its items and its start, so it is alike in all replicas, as are the floor and the rows.
+-- A node's link follows from its items and its start, so it is alike in all replicas, as are the floor and the rows. Of
+-- replicas that lag both can go on until they are replicas, and no answer up to the floor of either changes on the way.
 use Rattle.std.proofs.Common.{◌≡◌, ℕ, zero, suc, ◌+◌, ◌<◌, ◌≤◌, List, [], ◌∷◌, length, Contains, None, Bool, false}
-use Rattle.std.proofs.Common.{refl, ap, sym, ◌∙◌, subst, inl, inr, arith}
+use Rattle.std.proofs.Common.{◌⊎◌, ◌++◌, refl, ap, sym, ◌∙◌, subst, inl, inr, arith}
 use Rattle.std.specs.Prelude.{◌==◌, if◌then◌else◌, Option, Some, nat_le, nat_lt}
 use Rattle.std.proofs.lemmas.Bool.{cond-true, cond-false, eq-eqb, ne_eqb, cases_eq}
 use Rattle.std.proofs.lemmas.List.Elements.{Contains-append_left, Contains-append_right, Contains-append_cases}
@@ -10,6 +11,7 @@ use Rattle.hlc_node.specs.declared.item.Item.{Item}
 use Rattle.hlc_node.specs.Items.{retires}
 use Rattle.hlc_node.specs.Rows.{answer}
 use Rattle.hlc_heads.specs.Low.{least_left, or_else, low}
+use Rattle.hlc_snapshot.specs.RegistryView.{stamps}
 use Rattle.hlc_draft.proofs.PartLemmas.{same_rows}
 use Rattle.hlc_heads.specs.declared.heads.TheConstants.{MOST_NUMBERS}
 use Rattle.hlc_events.specs.declared.fault.CoreFault.{CoreFault}
@@ -17,11 +19,13 @@ use Rattle.hlc_events.specs.declared.fault.CoreFault.TheVariants.{Join}
 use Rattle.hlc_heads.specs.declared.heads.JoinFault.TheVariants.{TooManyNodes, BelowFloor}
 use Rattle.hlc_core.specs.Past.{Step, Took, Opened, Closed, Vacuumed, Trimmed, Joined, numbered, count, head, retired}
 use Rattle.hlc_core.specs.Past.{top, floor, horizon, writes, item_rows, item_refusal, join_at_refusal, IsLegal}
+use Rattle.hlc_core.specs.Past.{open_snapshots}
 use Rattle.hlc_core.specs.StoreView.{StoreView, nodes, Represents}
-use Rattle.hlc_core.specs.Replicas.{items_of, joins_of, AreReplicas}
+use Rattle.hlc_core.specs.Replicas.{items_of, joins_of, AreReplicas, CanMeet}
 use Rattle.hlc_core.proofs.PastLemmas.{inside, head-same, head-other, head-joined, head-joined_other}
 use Rattle.hlc_core.proofs.PastLemmas.{retired-same, retired-other, count-other, body_rows-are, writes-row_set}
 use Rattle.hlc_core.proofs.CheckpointLemmas.{heads-low, top-at}
+use Rattle.hlc_core.proofs.StayLemmas.{answers-stay}
 
 items-same : (n : ℕ) (item : Item) (past : List Step) → item.node ≡ n
     → items_of n (Took item ∷ past) ≡ item ∷ items_of n past
@@ -279,3 +283,30 @@ pub stores-agree : (kept copy : StoreView) (past other : List Step) → Represen
 stores-agree kept copy past other h h' are key stamp up up' =
     h.rows.from_horizon key stamp up ∙ answers-agree (nodes kept) past other h.legal are key stamp
     ∙ sym (h'.rows.from_horizon key stamp up')
+
+-- pasts that can meet answer alike up to the lesser floor
+pub lagging-agree : (nodes : ℕ) (past other : List Step) → CanMeet nodes past other → (key : List ℕ) (stamp : ℕ)
+    → stamp ≤ floor nodes past → stamp ≤ floor nodes other
+    → answer (writes past) key stamp ≡ answer (writes other) key stamp
+lagging-agree nodes past other meet key stamp low low' =
+    sym (answers-stay nodes past meet.more meet.legal key stamp low)
+    ∙ answers-agree nodes (meet.more ++ past) (meet.rest ++ other) meet.legal meet.meet key stamp
+    ∙ answers-stay nodes other meet.rest meet.other_legal key stamp low'
+
+-- a store answers as all accepted writes do where it may be read
+answers-there : (kept : StoreView) (past : List Step) → Represents kept past → (key : List ℕ) (stamp : ℕ)
+    → (horizon past ≤ stamp) ⊎ Contains (stamps (open_snapshots past)) stamp
+    → answer kept.rows key stamp ≡ answer (writes past) key stamp
+answers-there kept past h key stamp (inl up) = h.rows.from_horizon key stamp up
+answers-there kept past h key stamp (inr is_open) = h.rows.at_open key stamp is_open
+
+-- and so do their stores, at each stamp from its horizon on or at which it has a snapshot open
+pub lagging_stores-agree : (kept copy : StoreView) (past other : List Step) → Represents kept past
+    → Represents copy other → CanMeet (nodes kept) past other → (key : List ℕ) (stamp : ℕ)
+    → stamp ≤ floor (nodes kept) past → stamp ≤ floor (nodes kept) other
+    → (horizon past ≤ stamp) ⊎ Contains (stamps (open_snapshots past)) stamp
+    → (horizon other ≤ stamp) ⊎ Contains (stamps (open_snapshots other)) stamp
+    → answer kept.rows key stamp ≡ answer copy.rows key stamp
+lagging_stores-agree kept copy past other h h' meet key stamp low low' may may' =
+    answers-there kept past h key stamp may ∙ lagging-agree (nodes kept) past other meet key stamp low low'
+    ∙ sym (answers-there copy other h' key stamp may')

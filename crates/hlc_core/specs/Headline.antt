@@ -7,9 +7,10 @@ use Rattle.hlc_witness.specs.Fewest.{Alike}
 use Rattle.hlc_witness.specs.Cost.{rows_cost}
 use Rattle.hlc_draft.specs.declared.report.Report.{Report}
 use Rattle.hlc_events.specs.declared.event.CoreEvent.{CoreEvent}
-use Rattle.hlc_events.specs.declared.event.CoreEvent.TheVariants.{Read, Vacuum, VacuumTo}
+use Rattle.hlc_events.specs.declared.event.CoreEvent.TheVariants.{Read, List as ListAll, Vacuum, VacuumTo}
+use Rattle.hlc_core.specs.declared.listing.Pair.{Pair}
 use Rattle.hlc_core.specs.declared.reply.CoreReply.{CoreReply}
-use Rattle.hlc_core.specs.declared.reply.CoreReply.TheVariants.{Answer, Vacuumed}
+use Rattle.hlc_core.specs.declared.reply.CoreReply.TheVariants.{Answer, Listing, Vacuumed}
 use Rattle.hlc_core.specs.Past.{Step, floor, stamp_of, writes}
 use Rattle.hlc_core.specs.Stored.{IsReport, LeavesFewest}
 use Rattle.hlc_core.specs.History.{past_of}
@@ -26,6 +27,16 @@ ReadsAreNewest history =
     (before : List (CoreEvent × CoreReply)) (id : ℕ) (key : List ℕ) (value : Option (List ℕ))
     → IsMoment history ((Read id key, Answer value) ∷ before)
     → (stamp : ℕ) × (stamp_of id (past_of before) ≡ Some stamp) × (value ≡ answer (writes (past_of before)) key stamp)
+
+-- The answers of a snapshot never change: whatever came between, two reads of one key in it returned the same, and so
+-- did two listings. No id is used again, so one id is one snapshot.
+pub record SnapshotsStay (history : List (CoreEvent × CoreReply)) : Type 0 where
+  pub reads : (before between : List (CoreEvent × CoreReply)) (id : ℕ) (key : List ℕ) (value again : Option (List ℕ))
+      → IsMoment history ((Read id key, Answer again) ∷ (between ++ ((Read id key, Answer value) ∷ before)))
+      → again ≡ value
+  pub listings : (before between : List (CoreEvent × CoreReply)) (id : ℕ) (listing again : List Pair)
+      → IsMoment history ((ListAll id, Listing again) ∷ (between ++ ((ListAll id, Listing listing) ∷ before)))
+      → again ≡ listing
 
 -- the stamp up to which an event asks to vacuum, if it does
 abbrev pub vacuum_stamp : ℕ → List Step → CoreEvent → Option ℕ
@@ -62,6 +73,7 @@ FewestAreLeft history rows =
 -- all of this is true of a history with this many nodes at the start, after which these rows are stored
 pub record IsFaithful (nodes : ℕ) (history : List (CoreEvent × CoreReply)) (rows : List Row) : Type 0 where
   pub reads : ReadsAreNewest history
+  pub stays : SnapshotsStay history
   pub vacuums : VacuumsAreFewest nodes history
   pub bytes : VacuumsAreCheapest history
   pub fewest : FewestAreLeft history rows

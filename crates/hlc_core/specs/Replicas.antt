@@ -1,8 +1,8 @@
 -- What replicas of one log have in common: the same items of each node, and the same nodes that joined at the same
 -- starts, in any order between the links, with any snapshots and vacuums between.
-use Rattle.std.specs.Prelude.{◌≡◌, ℕ, List, [], ◌∷◌, ◌==◌, if◌then◌else◌}
+use Rattle.std.specs.Prelude.{◌≡◌, ℕ, List, [], ◌∷◌, ◌++◌, ◌==◌, if◌then◌else◌}
 use Rattle.hlc_node.specs.declared.item.Item.{Item}
-use Rattle.hlc_core.specs.Past.{Step, Took, Joined}
+use Rattle.hlc_core.specs.Past.{Step, Took, Joined, IsLegal}
 
 -- the accepted items of a node, the last one first
 abbrev pub items_of : ℕ → List Step → List Item
@@ -20,3 +20,12 @@ joins_of (_ ∷ past) = joins_of past
 pub record AreReplicas (past other : List Step) : Type 0 where
   pub joins : joins_of past ≡ joins_of other
   pub items : (n : ℕ) → items_of n past ≡ items_of n other
+
+-- two pasts of one log, each perhaps further than the other on some links: without a refusal each can go on until they
+-- are replicas
+pub record CanMeet (nodes : ℕ) (past other : List Step) : Type 0 where
+  pub more : List Step
+  pub rest : List Step
+  pub legal : IsLegal nodes (more ++ past)
+  pub other_legal : IsLegal nodes (rest ++ other)
+  pub meet : AreReplicas (more ++ past) (rest ++ other)

@@ -1,11 +1,11 @@
 //! What is true of every legal past, and of cores that represent one.
 ghost use Rattle.std.specs.Prelude.{◌≡◌, ◌≢◌, ◌+◌, ◌<◌, ◌≤◌, ◌⊎◌, ◌↔◌, true, false, ℕ, List, ◌∷◌, None, All, length};
-ghost use Rattle.std.specs.Prelude.{Bool, not};
+ghost use Rattle.std.specs.Prelude.{Bool, not, ◌++◌, Contains, Some};
 ghost use Rattle.hlc_node.specs.Rows.{IsRowSet, answer};
 ghost use Rattle.hlc_core.specs.Past.{Step, Took, Joined, Vacuumed, IsLegal, numbered, retired, top, writes, head};
 ghost use Rattle.hlc_core.specs.Past.{floor, open_snapshots, item_refusal, join_refusal, join_at_refusal};
-ghost use Rattle.hlc_core.specs.Past.{greatest_accepted, horizon, vacuum_refusal};
-ghost use Rattle.hlc_core.specs.Replicas.{AreReplicas, items_of, joins_of};
+ghost use Rattle.hlc_core.specs.Past.{greatest_accepted, horizon, stamp_of, vacuum_refusal};
+ghost use Rattle.hlc_core.specs.Replicas.{AreReplicas, CanMeet, items_of, joins_of};
 ghost use Rattle.hlc_clock.specs.Points.{ArePoints};
 ghost use Rattle.hlc_snapshot.specs.RegistryView.{stamps};
 ghost use Rattle.hlc_draft.specs.Vacuumed.{IsVacuumOf, rows_to};
@@ -47,6 +47,19 @@ pub fn open_snapshots_are_at_most_the_floor()
         → All (λ snapshot. snapshot.stamp ≤ floor nodes past) (open_snapshots past) }
 {}
 
+/// What is read at or below the floor is final: whatever takes place later, no answer there changes. So a snapshot
+/// keeps its stamp and its answers for as long as it is open.
+pub fn answers_stay()
+    ensures floor { (nodes : ℕ) (past more : List Step) → IsLegal nodes (more ++ past)
+        → (key : List ℕ) (stamp : ℕ) → stamp ≤ floor nodes past
+        → answer (writes (more ++ past)) key stamp ≡ answer (writes past) key stamp }
+    ensures snapshots { (nodes : ℕ) (past more : List Step) (id stamp again : ℕ)
+        → IsLegal nodes (more ++ past)
+        → stamp_of id past ≡ Some stamp → stamp_of id (more ++ past) ≡ Some again
+        → (again ≡ stamp) × ((key : List ℕ)
+        → answer (writes (more ++ past)) key again ≡ answer (writes past) key stamp) }
+{}
+
 /// The floor is the head of some node that has not retired, or, if all have, the greatest head; and no head of a node
 /// that has not retired is below it.
 pub fn floor_is_the_least_head()
@@ -60,7 +73,7 @@ pub fn floor_is_the_least_head()
 {}
 
 /// The floor never falls: neither when an item is accepted, a node's last one or not, nor when a node joins. No other
-/// step moves it.
+/// step moves it, so no later one is lower.
 pub fn the_floor_never_falls()
     ensures took { (nodes : ℕ) (past : List Step) (item : AnItem)
         → item_refusal nodes past item ≡ None
@@ -68,6 +81,8 @@ pub fn the_floor_never_falls()
     ensures joined { (nodes : ℕ) (past : List Step) (node start : ℕ)
         → IsLegal nodes (Joined node start ∷ past)
         → floor nodes past ≤ floor nodes (Joined node start ∷ past) }
+    ensures later { (nodes : ℕ) (past more : List Step) → IsLegal nodes (more ++ past)
+        → floor nodes past ≤ floor nodes (more ++ past) }
 {}
 
 /// A node that joins does not move the floor, if some node has not retired.
@@ -133,6 +148,20 @@ pub fn replicas_answer_alike()
         → answer kept.rows key stamp ≡ answer copy.rows key stamp }
 {}
 
+/// Stores that accept the items of one log answer alike at each stamp up to the floors of both, however far each came,
+/// from their horizons on and at snapshots that they have open.
+pub fn lagging_replicas_answer_alike()
+    ensures accepted { (nodes : ℕ) (past other : List Step) → CanMeet nodes past other
+        → (key : List ℕ) (stamp : ℕ) → stamp ≤ floor nodes past → stamp ≤ floor nodes other
+        → answer (writes past) key stamp ≡ answer (writes other) key stamp }
+    ensures stored { (kept copy : StoreView) (past other : List Step) → Represents kept past
+        → Represents copy other → CanMeet (nodes kept) past other → (key : List ℕ) (stamp : ℕ)
+        → stamp ≤ floor (nodes kept) past → stamp ≤ floor (nodes kept) other
+        → (horizon past ≤ stamp) ⊎ Contains (stamps (open_snapshots past)) stamp
+        → (horizon other ≤ stamp) ⊎ Contains (stamps (open_snapshots other)) stamp
+        → answer kept.rows key stamp ≡ answer copy.rows key stamp }
+{}
+
 /// There is one listing of some rows at a stamp.
 pub fn there_is_one_listing()
     ensures { (rows : List ARow) (stamp : ℕ) (listing other : List APair)
@@ -188,9 +217,9 @@ pub fn there_is_one_report()
         → IsStoredCount past other → count ≡ other }
 {}
 
-/// A core is faithful to each history that it represents: its reads returned the newest accepted values, no vacuum
-/// could have kept fewer or cheaper rows, and just after a vacuum the stored rows up to its stamp are the fewest and
-/// the cheapest.
+/// A core is faithful to each history that it represents: its reads returned the newest accepted values, and no answer
+/// of a snapshot changed; no vacuum could have kept fewer or cheaper rows, and just after a vacuum the stored rows up
+/// to its stamp are the fewest and the cheapest.
 pub fn histories_are_faithful()
     ensures { (kept : StoreView) (history : List (AnEvent × AReply)) → RepresentsHistory kept history
         → IsFaithful (nodes kept) history kept.rows }

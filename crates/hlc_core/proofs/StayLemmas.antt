@@ -1,0 +1,133 @@
+-- What is accepted after a past lies above its floor, so no answer at or below that changes. An id is never used again,
+-- so an open snapshot keeps its stamp, which is not above the floor, and with it its answers.
+use Rattle.std.proofs.Common.{◌≡◌, ℕ, ◌+◌, ◌<◌, ◌≤◌, List, [], ◌∷◌, ◌++◌, Some, None, refl, ap, sym, ◌∙◌, inl, inr}
+use Rattle.std.proofs.Common.{arith, append-nil}
+use Rattle.std.specs.Prelude.{nat_le}
+use Rattle.std.proofs.lemmas.Bool.{cond-false, lt-leb, cases_eq}
+use Rattle.std.proofs.lemmas.List.Elements.{filter-append}
+use Rattle.hlc_node.specs.declared.row.Row.{Row}
+use Rattle.hlc_node.specs.declared.item.Body.{Body}
+use Rattle.hlc_node.specs.declared.item.Body.TheVariants.{Write, Report, Retire}
+use Rattle.hlc_node.specs.Rows.{answer, IsRowSet}
+use Rattle.hlc_snapshot.specs.RegistryView.{RegistryView, Follows, at_once, opening, closing}
+use Rattle.hlc_snapshot.proofs.RegisterLemmas.{open_before, stamp_in-push_cases, stamp_in-all}
+use Rattle.hlc_snapshot.proofs.RegisterLemmas.{stamp_in-without_itself, stamp_in-without_other}
+use Rattle.hlc_draft.specs.Vacuumed.{rows_to}
+use Rattle.hlc_draft.proofs.PartLemmas.{answer-rows_to}
+use Rattle.hlc_core.specs.Past.{Step, Took, Opened, Closed, Vacuumed, Trimmed, Joined, floor, opened, open_snapshots}
+use Rattle.hlc_core.specs.Past.{stamp_of, writes, body_rows, IsLegal}
+use Rattle.hlc_core.proofs.PastLemmas.{writes-row_set, above_floor, floor-grows, floor-joins, open-low}
+
+-- what took place before a legal past's last steps is legal
+pub legal-before : (nodes : ℕ) (past more : List Step) → IsLegal nodes (more ++ past) → IsLegal nodes past
+legal-before nodes past [] legal = legal
+legal-before nodes past (Took item ∷ more) legal = legal-before nodes past more legal.1
+legal-before nodes past (Opened stamp ∷ more) legal = legal-before nodes past more legal.1
+legal-before nodes past (Closed id ∷ more) legal = legal-before nodes past more legal.1
+legal-before nodes past (Vacuumed at ∷ more) legal = legal-before nodes past more legal.1
+legal-before nodes past (Trimmed at dropped ∷ more) legal = legal-before nodes past more legal.1
+legal-before nodes past (Joined node start ∷ more) legal = legal-before nodes past more legal.3
+
+-- however much takes place later, the floor never falls
+pub floor-never_falls : (nodes : ℕ) (past more : List Step) → IsLegal nodes (more ++ past)
+    → floor nodes past ≤ floor nodes (more ++ past)
+floor-never_falls nodes past [] legal = omega arith
+floor-never_falls nodes past (Took item ∷ more) legal =
+    let low : floor nodes past ≤ floor nodes (more ++ past) = floor-never_falls nodes past more legal.1 in
+    let up : floor nodes (more ++ past) ≤ floor nodes (Took item ∷ (more ++ past)) =
+    floor-grows nodes (more ++ past) item legal.0 in omega arith
+floor-never_falls nodes past (Opened stamp ∷ more) legal = floor-never_falls nodes past more legal.1
+floor-never_falls nodes past (Closed id ∷ more) legal = floor-never_falls nodes past more legal.1
+floor-never_falls nodes past (Vacuumed at ∷ more) legal = floor-never_falls nodes past more legal.1
+floor-never_falls nodes past (Trimmed at dropped ∷ more) legal = floor-never_falls nodes past more legal.1
+floor-never_falls nodes past (Joined node start ∷ more) legal =
+    let low : floor nodes past ≤ floor nodes (more ++ past) = floor-never_falls nodes past more legal.3 in
+    let up : floor nodes (more ++ past) ≤ floor nodes (Joined node start ∷ (more ++ past)) =
+    floor-joins nodes (more ++ past) node start legal.1 legal.2 in omega arith
+
+-- the row of an item above a stamp changes no answer there
+above-misses : (node at : ℕ) (body : Body) (rows : List Row) (key : List ℕ) (stamp : ℕ) → IsRowSet rows
+    → IsRowSet (rows ++ body_rows node at body) → stamp < at
+    → answer (rows ++ body_rows node at body) key stamp ≡ answer rows key stamp
+above-misses node at (Write k value) rows key stamp set' pushed up =
+    let row : Row = record { key = k; stamp = at; node = node; value = value } in
+    let out : rows_to stamp (rows ++ row ∷ []) ≡ rows_to stamp rows =
+    filter-append (λ (r : Row). nat_le r.stamp stamp) rows (row ∷ [])
+    ∙ ap (λ rs. rows_to stamp rows ++ rs) (cond-false _ _ _ (lt-leb at stamp up)) ∙ append-nil (rows_to stamp rows) in
+    let same : stamp ≤ stamp = omega arith in
+    sym (answer-rows_to (rows ++ row ∷ []) stamp key stamp pushed same)
+    ∙ ap (λ rs. answer rs key stamp) out ∙ answer-rows_to rows stamp key stamp set' same
+above-misses node at Report rows key stamp set' pushed up = ap (λ rs. answer rs key stamp) (append-nil rows)
+above-misses node at Retire rows key stamp set' pushed up = ap (λ rs. answer rs key stamp) (append-nil rows)
+
+-- no answer at or below the floor changes
+pub answers-stay : (nodes : ℕ) (past more : List Step) → IsLegal nodes (more ++ past) → (key : List ℕ) (stamp : ℕ)
+    → stamp ≤ floor nodes past → answer (writes (more ++ past)) key stamp ≡ answer (writes past) key stamp
+answers-stay nodes past [] legal key stamp low = refl
+answers-stay nodes past (Opened at ∷ more) legal key stamp low = answers-stay nodes past more legal.1 key stamp low
+answers-stay nodes past (Closed id ∷ more) legal key stamp low = answers-stay nodes past more legal.1 key stamp low
+answers-stay nodes past (Vacuumed at ∷ more) legal key stamp low = answers-stay nodes past more legal.1 key stamp low
+answers-stay nodes past (Trimmed at dropped ∷ more) legal key stamp low =
+    answers-stay nodes past more legal.1 key stamp low
+answers-stay nodes past (Joined node start ∷ more) legal key stamp low =
+    answers-stay nodes past more legal.3 key stamp low
+answers-stay nodes past (Took item ∷ more) legal key stamp low =
+    let up : floor nodes (more ++ past) < item.stamp = above_floor nodes (more ++ past) item legal.0 in
+    let rose : floor nodes past ≤ floor nodes (more ++ past) = floor-never_falls nodes past more legal.1 in
+    above-misses item.node item.stamp item.body (writes (more ++ past)) key stamp
+    (writes-row_set nodes (more ++ past) legal.1) (writes-row_set nodes (Took item ∷ (more ++ past)) legal)
+    (omega arith)
+    ∙ answers-stay nodes past more legal.1 key stamp low
+
+-- the register of a past
+abbrev register : List Step → RegistryView
+register past = record { snapshots = open_snapshots past; opened = opened past }
+
+-- later steps only open and close snapshots
+follows : (past more : List Step) → Follows (register past) (register (more ++ past))
+follows past [] = at_once
+follows past (Opened stamp ∷ more) = opening stamp (follows past more)
+follows past (Closed id ∷ more) = closing id (follows past more)
+follows past (Took item ∷ more) = follows past more
+follows past (Vacuumed at ∷ more) = follows past more
+follows past (Trimmed at dropped ∷ more) = follows past more
+follows past (Joined node start ∷ more) = follows past more
+
+-- no open snapshot has an id above the number of those that were opened
+id-low : (past : List Step) (id stamp : ℕ) → stamp_of id past ≡ Some stamp → id ≤ opened past
+id-low [] id stamp is = absurd (cc)
+id-low (Opened at ∷ past) id stamp is =
+    elim (stamp_in-push_cases id stamp (record { id = opened past + 1; stamp = at }) (open_snapshots past) is) [
+      | inl before ↦ (let low = id-low past id stamp before in omega (arith, low))
+      | inr last ↦ (let same : opened past + 1 ≡ id = last.0 in omega (arith, same))
+    ]
+id-low (Closed other ∷ past) id stamp is =
+    elim (cases_eq id other) [
+      | inl same ↦ absurd (let none : stamp_of id (Closed id ∷ past) ≡ None =
+          stamp_in-without_itself id (open_snapshots past) in
+          let e : stamp_of id (Closed id ∷ past) ≡ Some stamp =
+          ap (λ k. stamp_of id (Closed k ∷ past)) same ∙ is in
+          let f : None ≡ Some stamp = sym none ∙ e in cc)
+      | inr differs ↦ id-low past id stamp (sym (stamp_in-without_other other id (open_snapshots past) differs) ∙ is)
+    ]
+id-low (Took item ∷ past) id stamp is = id-low past id stamp is
+id-low (Vacuumed at ∷ past) id stamp is = id-low past id stamp is
+id-low (Trimmed at dropped ∷ past) id stamp is = id-low past id stamp is
+id-low (Joined node start ∷ past) id stamp is = id-low past id stamp is
+
+-- a snapshot that is open later has the stamp and the answers that it had
+pub snapshots-stay : (nodes : ℕ) (past more : List Step) (id stamp again : ℕ) → IsLegal nodes (more ++ past)
+    → stamp_of id past ≡ Some stamp → stamp_of id (more ++ past) ≡ Some again
+    → (again ≡ stamp)
+    × ((key : List ℕ) → answer (writes (more ++ past)) key again ≡ answer (writes past) key stamp)
+snapshots-stay nodes past more id stamp again legal is later =
+    let before : stamp_of id past ≡ Some again =
+    open_before id again (follows past more) (id-low past id stamp is) later in
+    let e : Some again ≡ Some stamp = sym before ∙ is in
+    let same : again ≡ stamp = cc in
+    let low : stamp ≤ floor nodes past =
+    stamp_in-all (λ at. at ≤ floor nodes past) id stamp (open_snapshots past)
+    (open-low nodes past (legal-before nodes past more legal)) is in (
+      same,
+      λ key. ap (answer (writes (more ++ past)) key) same ∙ answers-stay nodes past more legal key stamp low,
+    )
