@@ -2,7 +2,8 @@
 pub use Rattle.hlc_core.specs.Past.{Step, Took, Joined, Opened, Closed, Vacuumed, numbered, count, head, floor, horizon}
 pub use Rattle.hlc_core.specs.Past.{Trimmed, vacuumed, trimmed}
 pub use Rattle.hlc_core.specs.Past.{opened, open_snapshots, writes, stamp_of, item_refusal, join_refusal, open_refusal}
-pub use Rattle.hlc_core.specs.Past.{join_at_refusal, room_refusal, vacuum_refusal}
+pub use Rattle.hlc_core.specs.Past.{join_at_refusal, room_refusal, vacuum_refusal, IsLegal}
+pub use Rattle.hlc_core.specs.Replicas.{items_of, joins_of, AreReplicas, CanMeet}
 pub use Rattle.hlc_core.specs.StoreView.{StoreView, nodes, Represents}
 pub use Rattle.hlc_core.specs.Calls.{IsWrite, IsRefusal, IsListed, AreRowsTo, AreSizes, Vacuums}
 pub use Rattle.hlc_core.specs.Parts.{rows_of_keys, IsPartReport, Trims, EndsAt, VacuumsPart}

@@ -15,6 +15,7 @@ pub use hlc_core::{
     Accepted, Answers, Body, BodyFault, Bytes, Checkpoint, Core, CoreEvent, CoreFault, CoreReply,
     Item, ItemRef, JoinFault, LinkFault, Listing, NoMemory, NoNode, NoSnapshot, Pair, Points,
     Report, RestoreFault, Row, Sizes, Snapshot, SnapshotFault, Stamp, View, Witness, Witnesses,
+    answers_stay, lagging_replicas_answer_alike,
 };
 pub use hlc_node::{Message, NodeCore, NodeFault, RefusedWrite, Written};
 pub use hlc_passes::parts_are_a_vacuum;
