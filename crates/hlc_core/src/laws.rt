@@ -148,8 +148,8 @@ pub fn replicas_answer_alike()
         → answer kept.rows key stamp ≡ answer copy.rows key stamp }
 {}
 
-/// Stores that accept the items of one log answer alike at each stamp up to the floors of both, however far each came,
-/// from their horizons on and at snapshots that they have open.
+/// Stores at different places of one log answer alike at each stamp up to the floors of both, if each can go on until
+/// they are replicas: from their horizons on, and at snapshots that they have open.
 pub fn lagging_replicas_answer_alike()
     ensures accepted { (nodes : ℕ) (past other : List Step) → CanMeet nodes past other
         → (key : List ℕ) (stamp : ℕ) → stamp ≤ floor nodes past → stamp ≤ floor nodes other
