@@ -1,6 +1,6 @@
 -- The sizes of columns: of some and of others after them, of the first of them, with one more row, with one more key.
 use Rattle.std.proofs.Common.{◌≡◌, ℕ, suc, ◌+◌, ◌<◌, ◌≤◌, Bool, true, false, cond, List, [], ◌∷◌}
-use Rattle.std.proofs.Common.{◌++◌, Option, Some, None}
+use Rattle.std.proofs.Common.{◌++◌, Some, None}
 use Rattle.std.proofs.Common.{refl, sym, ap, ◌∙◌, inl, inr, arith, take, drop, length, get_or, subst, true≢false}
 use Rattle.std.proofs.Common.{Less, Equal, Greater, nat_cmp}
 use Rattle.std.specs.Prelude.{sum_by}
@@ -16,7 +16,7 @@ use Rattle.std.proofs.lemmas.List.Concat.{flat_map-append}
 use Rattle.hlc_node.specs.declared.row.Row.{Row}
 use Rattle.hlc_index.specs.Entries.{entries_in, keys_in}
 use Rattle.hlc_index.proofs.EntryLemmas.{taken, entries_more}
-use Rattle.hlc_column.specs.Cells.{Cell, cells_of, AreBeside, value_bytes, cell_bytes}
+use Rattle.hlc_column.specs.Cells.{Cell, value_bytes, cell_bytes}
 use Rattle.hlc_column.specs.Rows.{row_of, rows_of}
 use Rattle.hlc_columns.specs.Table.{table_rows, kept_in}
 use Rattle.hlc_columns.specs.Sizes.{sizes_of, plus, with_row, with_key, Fit, row_bytes, AreSizes}

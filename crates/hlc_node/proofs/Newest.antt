@@ -1,7 +1,7 @@
 -- The newest row is the greatest one. It is found by going down the list: a row that is no candidate changes nothing,
 -- and for a candidate the result is the later of it and the newest of the rest. Two greatest rows are one version, so
 -- in a row set they are one row.
-use Rattle.std.proofs.Common.{◌≡◌, ◌≢◌, ℕ, ◌<◌, ◌≤◌, List, [], ◌∷◌, true, false, Some}
+use Rattle.std.proofs.Common.{◌≡◌, ℕ, ◌<◌, ◌≤◌, List, [], ◌∷◌, true, false, Some}
 use Rattle.std.proofs.Common.{None, Option, refl, ap, sym, ◌∙◌, subst, inl, inr, arith}
 use Rattle.std.specs.Prelude.{Contains, ◌==◌, nat_lt}
 use Rattle.std.proofs.lemmas.Bool.{cases_Bool, cond-true, cond-false, and_parts, and_from, or_cases}
