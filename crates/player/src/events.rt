@@ -1,0 +1,68 @@
+//! The items, rows and events of lines.
+use crate::lines::{next_name, next_node, next_number, next_stamp, next_text};
+use hlc_core::{Body, CoreEvent, Item, Row};
+use hlc_text::words::LineWords;
+use std::alloc::Global;
+
+/// Returns the item of this name and of the next words, or none where memory ran out.
+pub(crate) fn item_of(alloc: Global, name: &str, words: &mut LineWords<'_>) -> Option<Item> {
+    Some(Item {
+        node: next_node(words),
+        number: next_number(words),
+        stamp: next_stamp(words),
+        body: body_of(alloc, name, words)?,
+    })
+}
+
+/// Returns the body of the item: a report, unless the name is that of another kind.
+fn body_of(alloc: Global, name: &str, words: &mut LineWords<'_>) -> Option<Body> {
+    match name {
+        "write" => Some(Body::Write {
+            key: next_text(alloc, words)?,
+            value: Some(next_text(alloc, words)?),
+        }),
+        "delete" => Some(Body::Write {
+            key: next_text(alloc, words)?,
+            value: None,
+        }),
+        "retire" => Some(Body::Retire),
+        _ => Some(Body::Report),
+    }
+}
+
+/// Returns the row of the item of these words, if that is a write or a deletion.
+pub(crate) fn row_of(alloc: Global, name: &str, words: &mut LineWords<'_>) -> Option<Row> {
+    let Item {
+        node,
+        stamp,
+        body,
+        ..
+    } = item_of(alloc, name, words)?;
+    let Body::Write { key, value } = body else {
+        return None;
+    };
+    Some(Row {
+        key,
+        stamp,
+        node,
+        value,
+    })
+}
+
+/// Returns the event of the next words, or none where memory ran out.
+pub(crate) fn event_of(alloc: Global, words: &mut LineWords<'_>) -> Option<CoreEvent> {
+    match next_name(words) {
+        "join" => Some(CoreEvent::Join),
+        "join_at" => Some(CoreEvent::JoinAt(next_stamp(words))),
+        "open_floor" => Some(CoreEvent::OpenFloor),
+        "list" => Some(CoreEvent::List(next_number(words))),
+        "close" => Some(CoreEvent::Close(next_number(words))),
+        "vacuum" => Some(CoreEvent::Vacuum),
+        "vacuum_to" => Some(CoreEvent::VacuumTo(next_stamp(words))),
+        "read" => Some(CoreEvent::Read {
+            id: next_number(words),
+            key: next_text(alloc, words)?,
+        }),
+        name => Some(CoreEvent::Accept(item_of(alloc, name, words)?)),
+    }
+}

@@ -1,0 +1,84 @@
+//! Plays the calls of a store, and of what is below and around it, from standard input, and prints their answers.
+//!
+//! `tests/restarts` and `tests/sweep` write the input and judge what is printed. Some lines have a request for memory
+//! refused, which the run does (`tests/refuse.c`): the product does not know of that.
+#![tactic(auto)]
+
+mod desk;
+mod events;
+mod fill;
+mod host;
+mod lines;
+mod play;
+mod quiet;
+mod refusing;
+mod registry;
+mod saved;
+mod settling;
+mod spelled;
+mod stored;
+mod table;
+mod texts;
+mod workers;
+
+use crate::host::Host;
+use crate::lines::{Lines, next_name, next_number};
+use crate::play::play;
+use crate::stored::Stored;
+use crate::table::Tabled;
+use crate::texts::GivesOnce;
+use hlc_snapshot::Registry;
+use hlc_text::input::read_input;
+use hlc_text::watched::Watched;
+use hlc_text::words::LineWords;
+use std::process::ExitCode;
+use std::sync::Wait;
+use std::thread::Threads;
+
+fn main(rt: HostRuntime) -> ExitCode {
+    let mut reader = Watched::new(rt.stdin());
+    let Ok(text) = read_input(rt.alloc(), &mut reader) else {
+        return ExitCode::from(2);
+    };
+    let host = Host {
+        rt: &rt,
+        threads: &rt,
+    };
+    play_parts(&host, text.as_slice());
+    ExitCode::from(0)
+}
+
+/// Plays the parts of the input, each of which begins with a line that says what it is for.
+fn play_parts<R: Wait + Threads + Sync>(host: &Host<'_, R>, text: &[u8]) {
+    let mut lines = Lines::of(text);
+    for _ in 0..lines.most() {
+        let Some(line) = lines.next() else {
+            return;
+        };
+        let mut words = LineWords::of(line);
+        let name = next_name(&mut words);
+        play_part(host, &mut lines, name, next_number(&mut words));
+    }
+}
+
+/// Plays a part. The number is of the request that is refused in a whole run.
+fn play_part<R: Wait + Threads + Sync>(
+    host: &Host<'_, R>,
+    lines: &mut Lines<'_>,
+    name: &str,
+    number: u64,
+) {
+    let rt = host.rt;
+    match name {
+        "store" => play(host, lines, &mut Stored::of(None)),
+        "table" => play(host, lines, &mut Tabled::new(rt.alloc())),
+        "registry" => play(host, lines, &mut Registry::new(rt.alloc())),
+        "guarded" => desk::play_desk(host, lines, false),
+        "audited" => desk::play_desk(host, lines, true),
+        "script" => texts::answer_script(rt, number, lines.up_to(b';')),
+        "loaded" => texts::answer_script(rt, number, GivesOnce { returned: false }),
+        "certificate" => texts::answer_check(rt, number, lines.up_to(b';')),
+        "feed" | "reader" | "vacuums" => workers::answer(host, name, number),
+        _ => quiet::answer(host, name),
+    }
+}

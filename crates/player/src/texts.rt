@@ -1,0 +1,49 @@
+//! Whole runs of a script and of a certificate, answered on standard output.
+use crate::play::say_refused;
+use crate::refusing::refuse;
+use hlc_certificate::run_check;
+use hlc_script::run_script;
+use hlc_text::watched::Watched;
+use std::io;
+use std::io::{ErrorKind, Read};
+
+/// Returns one block, and then fails: a script that can't be read to its end.
+#[derive(Drop)]
+pub(crate) struct GivesOnce {
+    pub(crate) returned: bool,
+}
+
+impl Read for GivesOnce {
+    fn read(&mut self, buf: &mut [u8]) -> io::Result<usize> {
+        if self.returned {
+            return Err(io::Error::from(ErrorKind::Other));
+        }
+        self.returned = true;
+        buf.fill(b'x');
+        Ok(buf.len())
+    }
+}
+
+/// Answers a script while the request of this number is refused, and prints the exit status.
+pub(crate) fn answer_script<I: Read + Drop>(rt: &HostRuntime, number: u64, script: I) {
+    let mut script = Watched::new(script);
+    let mut writer = Watched::new(rt.stdout());
+    refuse(rt, number);
+    let end = run_script(rt.alloc(), &mut script, &mut writer);
+    say_end(rt, end.status());
+}
+
+/// Answers a certificate, in the same way.
+pub(crate) fn answer_check(rt: &HostRuntime, number: u64, text: &[u8]) {
+    let mut text = Watched::new(text);
+    let mut writer = Watched::new(rt.stdout());
+    refuse(rt, number);
+    let end = run_check(rt.alloc(), &mut text, &mut writer);
+    say_end(rt, end.status());
+}
+
+/// Prints the exit status of a run, and whether a request was refused.
+fn say_end(rt: &HostRuntime, status: u8) {
+    let _ = println!(rt; "status {status}");
+    say_refused(rt);
+}
