@@ -1,7 +1,5 @@
-//! Plays the calls of a store, and of what is below and around it, from standard input, and prints their answers.
-//!
-//! `tests/restarts` and `tests/sweep` write the input and judge what is printed. Some lines have a request for memory
-//! refused, which the run does (`tests/refuse.c`): the product does not know of that.
+//! Plays the calls of a store, and of what is below and around it, from standard input, and prints their answers, which
+//! `tests/restarts` and `tests/sweep` judge. The run refuses requests for memory (`tests/refuse.c`).
 #![tactic(auto)]
 
 mod desk;
@@ -57,16 +55,16 @@ fn play_parts<R: Wait + Threads + Sync>(host: &Host<'_, R>, text: &[u8]) {
         };
         let mut words = LineWords::of(line);
         let name = next_name(&mut words);
-        play_part(host, &mut lines, name, next_number(&mut words));
+        play_part(host, &mut lines, name, &mut words);
     }
 }
 
-/// Plays a part. The number is of the request that is refused in a whole run.
+/// Plays a part. The words end with the number of the request that is refused in a whole run.
 fn play_part<R: Wait + Threads + Sync>(
     host: &Host<'_, R>,
     lines: &mut Lines<'_>,
     name: &str,
-    number: u64,
+    words: &mut LineWords<'_>,
 ) {
     let rt = host.rt;
     match name {
@@ -75,10 +73,10 @@ fn play_part<R: Wait + Threads + Sync>(
         "registry" => play(host, lines, &mut Registry::new(rt.alloc())),
         "guarded" => desk::play_desk(host, lines, false),
         "audited" => desk::play_desk(host, lines, true),
-        "script" => texts::answer_script(rt, number, lines.up_to(b';')),
-        "loaded" => texts::answer_script(rt, number, GivesOnce { returned: false }),
-        "certificate" => texts::answer_check(rt, number, lines.up_to(b';')),
-        "feed" | "reader" | "vacuums" => workers::answer(host, name, number),
+        "script" => texts::answer_script(rt, next_number(words), lines.up_to(b';')),
+        "loaded" => texts::answer_script(rt, next_number(words), GivesOnce { returned: false }),
+        "certificate" => texts::answer_check(rt, next_number(words), lines.up_to(b';')),
+        "worker" => workers::answer(host, words),
         _ => quiet::answer(host, name),
     }
 }

@@ -3,7 +3,7 @@ ghost use Rattle.std.specs.Prelude.{◌≡◌, IfSome};
 
 use crate::events::item_of;
 use crate::host::Host;
-use crate::lines::Lines;
+use crate::lines::{Lines, next_name, next_number};
 use crate::play::{say, say_refused};
 use crate::refusing::refuse;
 use crate::settling::{lists_of, play_settled};
@@ -32,19 +32,18 @@ struct Yard<'a, 'b, L: Ledger, R> {
     shared: &'a Shared<L>,
 }
 
-/// Runs a worker in a new store while the request of this number is refused, and settles. `feed` passes a link of three
-/// writes to the store; after that, and with no request refused in it, `reader` makes one round over two keys, and
-/// `vacuums` one vacuum.
-pub(crate) fn answer<R: Wait + Threads + Sync>(host: &Host<'_, R>, name: &str, number: u64) {
-    answer_in::<Brand, R>(host, Blank::new(1), name, number);
+/// Runs the worker of these words in a new store while the request of their number is refused, and settles. `feed`
+/// passes a link of three writes to the store; after that, and with no request refused in it, `reader` makes one round
+/// over two keys, and `vacuums` one vacuum.
+pub(crate) fn answer<R: Wait + Threads + Sync>(host: &Host<'_, R>, words: &mut LineWords<'_>) {
+    answer_in::<Brand, R>(host, Blank::new(1), words);
 }
 
 /// Does the same with a store of this ledger.
 fn answer_in<L: Ledger, R: Wait + Threads + Sync>(
     host: &Host<'_, R>,
     blank: Blank,
-    name: &str,
-    number: u64,
+    words: &mut LineWords<'_>,
 )
     requires { (blank.name ≡ L.name) × (blank.parts ≡ L.parts) × (blank.parts ≡ 1) }
 {
@@ -56,7 +55,11 @@ fn answer_in<L: Ledger, R: Wait + Threads + Sync>(
         host: &*host,
         shared: &shared,
     };
-    if let Some((caller, receipts)) = yard.work(callers.pop(), name, number) {
+    if let Some((caller, receipts)) = yard.work(
+        callers.pop(),
+        next_name(words),
+        next_number(words),
+    ) {
         let lists = lists_of(alloc, Some(caller), receipts);
         play_settled(host, &mut Lines::of(b""), shared.settle(lists));
     }
