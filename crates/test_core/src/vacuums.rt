@@ -78,19 +78,6 @@ fn is_certified<R: Abort>(rt: &R, core: &Core, report: &Report) {
     );
 }
 
-/// Checks that the store accepts x at 1.0, another value or none at 2.0, and a value at 3.0.
-fn take_three<R: Abort>(
-    rt: &R,
-    alloc: Global,
-    core: &mut Core,
-    second: Option<&[u8]>,
-    third: &[u8],
-) {
-    takes(rt, alloc, core, (0, 0, 1), Some(b"x"));
-    takes(rt, alloc, core, (0, 1, 2), second);
-    takes(rt, alloc, core, (0, 2, 3), Some(third));
-}
-
 /// Checks that a snapshot opens at a reading, with this id.
 pub(crate) fn opens<R: Abort>(rt: &R, core: &mut Core, reading: u64, id: u64) {
     must_be(rt, core.open(stamp(reading)), Ok(id));
@@ -114,64 +101,6 @@ pub(crate) fn has_changes<R: Abort>(
         let expected = witness(rt, alloc, change.0, change.1);
         assert!(rt; report.witnesses.as_slice()[place] == expected);
     }
-}
-
-#[test]
-fn a_value_written_twice_is_kept_once(rt: HostRuntime) {
-    let mut core = Core::new(rt.alloc(), 1).expect(&rt, "a store");
-    keeps_it_once(&rt, rt.alloc(), &mut core);
-}
-
-fn keeps_it_once<R: Abort>(rt: &R, alloc: Global, core: &mut Core) {
-    take_three(rt, alloc, core, Some(b"x"), b"y");
-    opens(rt, core, 1, 1);
-    opens(rt, core, 2, 2);
-    let report = leaves(rt, core, 3, (2, 24), 1);
-    has_changes(rt, alloc, &report, &[(None, 1), (Some(2), 3)]);
-    assert!(rt; report.points.as_slice() == [stamp(1), stamp(2), stamp(3)].as_slice());
-    must_be(rt, core.rows(), 2);
-    let again = leaves(rt, core, 3, (2, 24), 0);
-    assert!(rt; again.witnesses == report.witnesses);
-}
-
-#[test]
-fn a_leading_deletion_mark_is_dropped(rt: HostRuntime) {
-    let mut core = Core::new(rt.alloc(), 2).expect(&rt, "a store");
-    drops_the_mark(&rt, rt.alloc(), &mut core);
-}
-
-fn drops_the_mark<R: Abort>(rt: &R, alloc: Global, core: &mut Core) {
-    takes(rt, alloc, core, (0, 0, 1), None);
-    takes(rt, alloc, core, (1, 0, 9), Some(b"y"));
-    leaves(rt, core, 1, (0, 0), 1);
-    must_be(rt, core.rows(), 1);
-    // The row above the floor does not belong to the rows up to it, and all rows are those up to 9.0.
-    has_rows_to(rt, core, 8, 0);
-    has_rows_to(rt, core, 9, 1);
-}
-
-/// Checks that there are so many rows up to a reading.
-fn has_rows_to<R: Abort>(rt: &R, core: &Core, reading: u64, count: usize) {
-    let rows = core.rows_to(stamp(reading)).expect(rt, "memory");
-    must_be(rt, rows.len(), count);
-}
-
-#[test]
-fn snapshots_hold_what_they_see(rt: HostRuntime) {
-    let mut core = Core::new(rt.alloc(), 1).expect(&rt, "a store");
-    hold_what_they_see(&rt, rt.alloc(), &mut core);
-}
-
-fn hold_what_they_see<R: Abort>(rt: &R, alloc: Global, core: &mut Core) {
-    take_three(rt, alloc, core, None, b"x");
-    opens(rt, core, 1, 1);
-    opens(rt, core, 2, 2);
-    let report = leaves(rt, core, 3, (3, 35), 0);
-    has_changes(rt, alloc, &report, &[(None, 1), (Some(1), 2), (Some(2), 3)]);
-    must_be(rt, core.close(2), Ok(stamp(2)));
-    leaves(rt, core, 3, (1, 12), 2);
-    must_be(rt, core.read(1, b"a"), Ok(Some(b"x".as_slice())));
-    least_rows(rt, core, 1);
 }
 
 #[test]
@@ -249,6 +178,7 @@ fn twenty_thousand_rows(rt: HostRuntime) {
     take_turns(&rt, rt.alloc(), &mut core);
     leaves(&rt, &mut core, 20_000, (10_000, 130_000), 10_000);
     must_be(&rt, core.rows(), 10_000);
+    least_rows(&rt, &mut core, 10_000);
 }
 
 /// Checks that the store accepts 20,000 turns, and that a snapshot opens after every 312 of them.
