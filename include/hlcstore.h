@@ -9,7 +9,8 @@
  * call is total: it checks lengths and numbers itself, and is proved to answer as described here, whatever is passed to
  * it by the rules below. Where hlc_restore took bytes that no hlc_checkpoint made, calls are proved to be safe, but not
  * to answer as described. After any answer but HLC_OK the store, and the node, is unchanged; hlc_accept_all,
- * hlc_items_accept, hlc_node_restore, hlc_vacuum_certified and hlc_vacuum_to_certified describe exceptions.
+ * hlc_items_accept, hlc_records_apply, hlc_node_restore, hlc_vacuum_certified and hlc_vacuum_to_certified describe
+ * exceptions.
  * Every answer writes to every pointer, with 0 where there is nothing to return. A buffer that an answer does not fill
  * keeps its bytes.
  *
@@ -75,6 +76,8 @@
  *   hlc_item_write, _delete             12 13 15                          yes     all
  *   hlc_item_report, _retire            15                                yes     all
  *   hlc_items_accept                    106 1 27 6 14 7 15                yes     other stores
+ *   hlc_record_join, _threshold         15                                yes     all
+ *   hlc_records_apply                   106 1 27 6 26 9 14 7 15           yes     other stores
  *   hlc_checkpoint                      108 15                            yes     reads, with other outputs
  *   hlc_restore                         101 106 107 15                    yes     other stores
  *   hlc_restore_start                   101 15                            yes     other restores
@@ -133,7 +136,8 @@ enum {
     HLC_NO_NODE = 1,            /* no node has this number; of hlc_open: the count is not 1 to 64 */
     HLC_READING_TOO_LARGE = 2,  /* the reading is 2^48 or more */
     HLC_COUNTER_FULL = 3,       /* word: the greatest earlier stamp, whose counter is 65,535 */
-    HLC_NOT_NEXT = 6,           /* word: the number that is next on the node's link */
+    HLC_NOT_NEXT = 6,           /* word: the number that is next on the node's link; of a join of hlc_records_apply, the
+                                   number that the next node is assigned */
     HLC_STAMP_NOT_RISING = 7,   /* word: the stamp of the node's last accepted item */
     HLC_ABOVE_FLOOR = 8,        /* word: the floor */
     HLC_BELOW_HORIZON = 9,      /* word: the horizon; of hlc_join_at: the start is below the floor, word: the floor */
@@ -142,8 +146,9 @@ enum {
     HLC_BAD_KEY = 12,           /* the key has no bytes, or more than 255 */
     HLC_VALUE_TOO_LONG = 13,    /* the value has more than 65,535 bytes */
     HLC_NUMBERS_SPENT = 14,     /* no link number, or id of a snapshot, is left */
-    HLC_NO_MEMORY = 15,         /* out of memory, and no other refusal is expected; of hlc_restore, hlc_restore_finish
-                                   and hlc_items_accept it may come in place of another refusal */
+    HLC_NO_MEMORY = 15,         /* out of memory, and no other refusal is expected; of hlc_restore, hlc_restore_finish,
+                                   hlc_items_accept and hlc_records_apply it may come in place of another refusal,
+                                   but of a restore not of bytes that are damaged, cut or no frame at all */
     HLC_BAD_LINE = 16,          /* of hlc_check; word: the number of the first bad line */
     HLC_TOO_LONG = 20,          /* of hlc_check: the text has more than 16,777,216 bytes */
     HLC_NOT_SHOWN = 22,         /* of hlc_check; word: the number of the first reason of docs/formats.md, 1 to 8 */
@@ -158,7 +163,8 @@ enum {
     HLC_MORE = 104,             /* of hlc_scan, _scan_keys, hlc_read_all, hlc_output_read: a part is left, which did
                                    not fit */
     HLC_NO_SUCH_NODE = 105,     /* of hlc_node_restore: no node has issued so many items up to this stamp */
-    HLC_BAD_BYTES = 106,        /* of hlc_restore, hlc_items_accept; word: the number of the first fault, 1 to 7 */
+    HLC_BAD_BYTES = 106,        /* of hlc_restore, hlc_items_accept, hlc_records_apply; word: the number of the first
+                                   fault, 1 to 7 */
     HLC_NO_CHECKPOINT = 107,    /* of hlc_restore; word: the number of the first reason of docs/formats.md, 1 to 9 */
     HLC_HAS_BYTES = 108         /* the output has bytes, and keeps them; nothing took place */
 };
@@ -374,6 +380,20 @@ uint32_t hlc_item_retire(uint16_t node, uint64_t number, uint64_t stamp, uint8_t
  * where there is no memory for a copy of its key and its value. */
 uint32_t hlc_items_accept(hlc_store *store, const uint8_t *bytes, size_t bytes_len, size_t *used, size_t *many,
                           uint64_t *word);
+
+/* Writes a record of a log that is no item, as bytes: the join of a node, with the number that it is assigned and its
+ * start; or a retention threshold, a stamp below which no more snapshot is opened. An item's own bytes are a record
+ * too. len: how many bytes it has, as in hlc_read: 11, or 9. Refusal: 15. Takes memory for a copy. */
+uint32_t hlc_record_join(uint16_t node, uint64_t start, uint8_t *out, size_t out_len, size_t *len);
+uint32_t hlc_record_threshold(uint64_t stamp, uint8_t *out, size_t out_len, size_t *len);
+
+/* Applies the records of a log that replicas share, one after another, until one is not applied: items are accepted,
+ * and nodes join at their starts. Records that came before are passed over, so that a log can be read again from any
+ * place. A threshold changes nothing: threshold is the greatest stamp of one among these records, or 0, and the caller
+ * may vacuum to it. many, used and word are as in hlc_items_accept. Refusals, of each item those of hlc_items_accept;
+ * of each join in this order: 6 where its node is not the next one, word: the number that is next; 26, 9, 15. */
+uint32_t hlc_records_apply(hlc_store *store, const uint8_t *bytes, size_t bytes_len, size_t *used, size_t *many,
+                           uint64_t *threshold, uint64_t *word);
 
 /* Saves the whole state of a store, with a word of the caller's: for example the place in a log up to which the store
  * applied it. The bytes go into an output that has none; len: how many they are. docs/formats.md describes them; they

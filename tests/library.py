@@ -13,7 +13,7 @@ import no_memory
 from raw_calls import PLACE, Handle, Library
 
 ROUNDS = 300
-OK, ABOVE_FLOOR, BELOW_HORIZON, NO_SNAPSHOT, NO_MEMORY = 0, 8, 9, 10, 15
+OK, NOT_NEXT, ABOVE_FLOOR, BELOW_HORIZON, NO_SNAPSHOT, NO_MEMORY = 0, 6, 8, 9, 10, 15
 CLOSED, MORE, BAD_BYTES, HAS_BYTES = 100, 104, 106, 108
 
 
@@ -185,10 +185,20 @@ def vacuum(pick, store, model):
     assert Counter(certified_rows(text)) == Counter(row[2:] for row in model.rows if row[0] <= at)
 
 
+def shared_record(pick, store, nodes, reading):
+    """Returns a record that is no item, with its threshold or 0: a node joins at the floor or above, and is one of the
+    nodes from then on; or the reading is a threshold."""
+    if len(nodes) > 7 or pick.random() < 0.7:
+        return whole("record_threshold", reading), reading
+    start = ok("floor", store) + pick.randint(0, 2)
+    nodes += library.call("node_open", len(nodes), start)
+    return whole("record_join", len(nodes) - 1, start), 0
+
+
 def feed(pick, store, nodes, keys):
     """Lets the nodes issue items, which the store takes as bytes, and opens snapshots and vacuums between. Returns the
-    model, and the bytes of all items."""
-    model, log, reading = Model(), b"", 1
+    model, and the records of the log, each with its threshold or 0."""
+    model, log, reading = Model(), [], 1
     snapshots = model.snapshots
     for _ in range(pick.randint(5, 60)):
         reading += pick.randint(0, 2)
@@ -202,7 +212,11 @@ def feed(pick, store, nodes, keys):
             model.write((stamp, node, key, value))
         encoded = whole("item_" + kind, node, number, stamp, *parts)
         assert ok("items_accept", store, encoded) == (len(encoded), 1, 0)
-        log += encoded
+        log.append((encoded, 0))
+        if pick.random() < 0.1:
+            entry = shared_record(pick, store, nodes, reading)
+            assert ok("records_apply", store, entry[0]) == (len(entry[0]), 1, entry[1], 0)
+            log.append(entry)
         if pick.random() < 0.1:
             library.call("node_raise", nodes[node], max(other.last for other in nodes))
         if pick.random() < 0.2 and len(snapshots) < 6:
@@ -286,6 +300,36 @@ def restore_in_pieces(pick, store, saved):
     return returned
 
 
+def apply_all(store, log):
+    """Applies records, of which none is refused."""
+    data = b"".join(entry for entry, _ in log)
+    greatest = max((threshold for _, threshold in log), default=0)
+    assert ok("records_apply", store, data) == (len(data), len(log), greatest, 0)
+
+
+def read_again(pick, store, log, nodes, saved):
+    """Reads a log again from a place by lot, which changes nothing; and as a whole into a new store of so many nodes,
+    and into the same, saved in the middle: then they have the same links, and the same answers at the floor."""
+    apply_all(store, log[pick.randint(0, len(log)) :])
+    assert whole_state(pick, store) == saved
+    copy, middle = opened(nodes), pick.randint(0, len(log))
+    apply_all(copy, log[:middle])
+    early = restored(whole_state(pick, copy))
+    apply_all(copy, log[middle:])
+    apply_all(early, log[pick.randint(0, middle) :])
+    assert whole_state(pick, early) == whole_state(pick, copy)
+    for node in range(ok("nodes", store)):
+        assert ok("link", copy, node) == ok("link", store, node)
+    ids = [ok("open_snapshot_at_floor", each) for each in (store, copy)]
+    assert whole("list", store, ids[0][0]) == whole("list", copy, ids[1][0]) and ids[0][1] == ids[1][1]
+    ok("close_snapshot", store, ids[0][0])
+    next = ok("nodes", store)
+    gap = whole("record_join", next + 1, ids[0][1])
+    assert library.call("records_apply", store, gap) == [NOT_NEXT, 0, 0, 0, next]
+    for each in copy, early:
+        library.call("close", each)
+
+
 def refuse(pick, saved, log, nodes):
     """Checks that changed and cut bytes are refused, by a restore in pieces too."""
     changed = bytearray(saved)
@@ -296,7 +340,7 @@ def refuse(pick, saved, log, nodes):
     assert restore_in_pieces(pick, Handle(), cut) == library.call("restore", Handle(), cut)
     for end in range(0, len(log), len(log) // 20 + 1):
         other = opened(nodes)
-        code, used, _, word = library.call("items_accept", other, log[:end])
+        code, used, _, _, word = library.call("records_apply", other, log[:end])
         assert (code, used, word) == (OK, end, 0) or (code, word) == (BAD_BYTES, 1)
         library.call("close", other)
 
@@ -368,14 +412,13 @@ def play(pick):
     nodes = [library.call("node_open", node, 0)[0] for node in range(many)]
     model, log = feed(pick, store, nodes, keys)
     saved = whole_state(pick, store)
-    assert ok("items_accept", store, log)[0] == len(log) and whole_state(pick, store) == saved
     assert ok("restore", copy, saved) == 5 and whole_state(pick, copy) == saved
     library.call("close", copy)
     assert tuple(restore_in_pieces(pick, copy, saved)) == (OK, 5) and whole_state(pick, copy) == saved
     for each in store, copy:
-        compare(pick, each, model, keys, many)
+        compare(pick, each, model, keys, len(nodes))
     assert ok("rows", store) == ok("sizes", store)[0]
-    refuse(pick, saved, log, many)
+    refuse(pick, saved, b"".join(entry for entry, _ in log), many)
     refuse_full(pick, store)
     if pick.random() < 0.1:
         refuse_memory(pick, saved, "checkpoint", 5)
@@ -394,6 +437,7 @@ def play(pick):
     assert ok("sizes", copy) == ok("sizes", store)
     ok("close_all", store)
     assert open_snapshots(store) == []
+    read_again(pick, store, log, many, whole_state(pick, store))
     library.call("close", store)
     library.call("close", copy)
 

@@ -348,6 +348,7 @@ def count_logs(calls, store, next, spent):
     for answer, (each, item) in item_refusals("report", store, next, spent).items():
         calls.count(answer, "items_accept", each, calls.ok("item_report", *item, PLENTY)[1])
     calls.count(106, "items_accept", store, b"\1")
+    calls.count(106, "records_apply", store, b"\4")
 
 
 def count_restores(calls, store):

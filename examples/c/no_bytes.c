@@ -115,7 +115,7 @@ static void save(hlc_store *store)
 static void read_back(hlc_store *store)
 {
     hlc_store copy = HLC_CLOSED_STORE;
-    uint64_t id, word, kept, cost, dropped;
+    uint64_t id, word, kept, cost, dropped, threshold;
     size_t len, many;
     bool more;
     uint32_t code = hlc_open_snapshot_at_floor(store, &id, &word);
@@ -147,6 +147,8 @@ static void read_back(hlc_store *store)
     expect("read all, no keys", code, len + many, HLC_OK, 0);
     code = hlc_items_accept(store, NONE, &len, &many, &word);
     expect("items, no bytes", code, len + many + word, HLC_OK, 0);
+    code = hlc_records_apply(store, NONE, &len, &many, &threshold, &word);
+    expect("records, no bytes", code, len + many + threshold + word, HLC_OK, 0);
     code = hlc_count(store, 2, NONE, NONE, &word);
     expect("count", code, word, HLC_OK, 2);
     save(store);

@@ -102,6 +102,13 @@ inline std::string encode_retire(const item& item) {
   return detail::fetch(hlc_item_retire, item.node, item.number, item.stamp.word);
 }
 
+// The records of a log that replicas share, other than items, as bytes: a node joins, with the number that it is
+// assigned and its start; and a retention threshold, below which no more snapshot is opened.
+inline std::string encode_join(std::uint16_t node, timestamp start) {
+  return detail::fetch(hlc_record_join, node, start.word);
+}
+inline std::string encode_threshold(timestamp stamp) { return detail::fetch(hlc_record_threshold, stamp.word); }
+
 // Writes and deletions to pass to a store in one call.
 class batch {
  public:

@@ -30,6 +30,11 @@ struct log_answer : answer {
   std::size_t used = 0;
 };
 
+// The same of the records of a log, and the greatest retention threshold among them, or 0.
+struct records_answer : log_answer {
+  timestamp threshold;
+};
+
 // An open snapshot of a store: its id, and its stamp.
 struct snapshot_info {
   std::uint64_t id = 0;
@@ -173,6 +178,15 @@ class store {
   [[nodiscard]] log_answer accept_log(std::string_view bytes) {
     log_answer made;
     made.code = hlc_items_accept(own(), detail::bytes(bytes), bytes.size(), &made.used, &made.many, &made.word);
+    return made;
+  }
+
+  // Applies encoded records in turn until one is refused, and passes over those that were applied before: items are
+  // accepted, and nodes join at their starts. A threshold changes nothing: the caller may vacuum to it.
+  [[nodiscard]] records_answer apply_records(std::string_view bytes) {
+    records_answer made;
+    made.code = hlc_records_apply(own(), detail::bytes(bytes), bytes.size(), &made.used, &made.many,
+                                  &made.threshold.word, &made.word);
     return made;
   }
 

@@ -142,6 +142,25 @@ class Feeding(unittest.TestCase):
         self.assertEqual(store.accept_items(log[first:]), 4)
         self.assert_fed(store)
 
+    def test_records(self):
+        first, *rest = map(bytes, self.items)
+        log = first + hlcstore.threshold_record(stamp(2)) + hlcstore.join_record(2, stamp(9)) + b"".join(rest)
+        self.assertEqual(hlcstore.join_record(node=2, start=9), b"\2\0\2" + bytes(7) + b"\x09")
+        self.assertEqual(hlcstore.threshold_record(stamp(1)), b"\3\0\0\0\0\0\1\0\0")
+        store = Store(2)
+        for kind in bytes, bytearray, memoryview:
+            self.assertEqual(store.apply_records(kind(log)), hlcstore.Applied(7, stamp(2)))
+        self.assertEqual((store.nodes, store.link(2).head), (3, stamp(9)))
+        with self.assertRaises(hlcstore.BadBytes) as met:
+            Store(2).apply_records(log[: len(first) + 9 + 3])
+        error = met.exception
+        self.assertEqual((error.accepted, error.used, error.threshold, error.word), (2, len(first) + 9, stamp(2), 1))
+        with self.assertRaises(hlcstore.NotNext) as met:
+            store.apply_records(hlcstore.join_record(4, stamp(9)))
+        self.assertEqual((met.exception.word, store.nodes), (3, 3))
+        with self.assertRaises(OverflowError):
+            hlcstore.join_record(1 << 16, 0)
+
     def test_nodes_join(self):
         store, node = filled([(b"a", b"x")])
         joined = store.join()

@@ -181,7 +181,8 @@ class AfterClose(unittest.TestCase):
         calls = [
             (store.accept, item), (store.accept_write, 0, 0, 1, b"a", b""), (store.accept_delete, 0, 0, 1, b"a"),
             (store.accept_report, 0, 0, 1), (store.accept_retire, 0, 0, 1), (store.accept_all, [item]),
-            (store.accept_all, []), (store.accept_items, bytes(item)), (store.check_item, item),
+            (store.accept_all, []), (store.accept_items, bytes(item)), (store.apply_records, bytes(item)),
+            (store.check_item, item),
             (store.check_write, 0, 0, 1, b"a", b""), (store.check_delete, 0, 0, 1, b"a"), (store.check_report, 0, 0, 1),
             (store.join,), (store.join_at, 5), (store.link, 0), (store.floor_node,), (store.snapshot,),
             (store.snapshot, 0), (store.snapshots,), (store.close_snapshot, 1), (store.close_all,), (store.vacuum,),

@@ -249,6 +249,7 @@ class LongCalls(unittest.TestCase):
         calls = {
             "accept_all": lambda: Store(1).accept_all(self.items),
             "accept_items": lambda: Store(1).accept_items(log),
+            "apply_records": lambda: Store(1).apply_records(log),
             "check": partial(hlcstore.check, certificate),
             "checkpoint": self.store.checkpoint,
             "digest": self.snapshot.digest,

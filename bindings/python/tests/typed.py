@@ -4,7 +4,7 @@ from collections.abc import Iterator
 from typing import assert_type
 
 import hlcstore
-from hlcstore import AboveFloor, Checked, Item, Link, Node, NotNext, Sizes, Snapshot, Store, Vacuum, VacuumPart
+from hlcstore import AboveFloor, Applied, Checked, Item, Link, Node, NotNext, Sizes, Snapshot, Store, Vacuum, VacuumPart
 from hlcstore import check, split, stamp
 
 node = Node(0)
@@ -13,6 +13,8 @@ with Store(1) as store:
     store.accept(item)
     assert_type(store.accept_all([item, node.report(2)]), int)
     assert_type(store.accept_items(memoryview(bytes(item))), int)
+    assert_type(store.apply_records(bytes(item)), Applied)
+    assert_type(hlcstore.threshold_record(stamp(2)), bytes)
     assert_type(store.join_at(stamp(5)), Node)
     assert_type(store.link(0), Link)
     assert_type(store.sizes, Sizes)

@@ -2,12 +2,13 @@
 //! contracts, so that the program lists no other crate.
 //!
 //! Here are the store (`Core`), what it takes and returns, and the nodes that write to it (`NodeCore`). `certificate`
-//! prints and checks what a vacuum left, `bytes` has items and checkpoints as bytes, and `threads` has a store that
-//! several threads share.
+//! prints and checks what a vacuum left, `bytes` has items and checkpoints as bytes, `log` a log that replicas share,
+//! and `threads` a store that several threads share.
 #![tactic(auto)]
 
 pub mod bytes;
 pub mod certificate;
+pub mod log;
 pub mod threads;
 
 pub use hlc_clock::{ClockFault, ReadingTooLarge};

@@ -24,7 +24,7 @@ LeavesPast saved past result word =
 
 not_made : (bytes : List ℕ) (error : ResumeError) (word : ℕ) → Resumes bytes (Err error) → word ≡ resume_word error
     → IsNotMade bytes (resume_code error) word
-not_made bytes NoMemory word none w = inl (refl, w)
+not_made bytes NoMemory word none w = inl (refl, w, none)
 not_made bytes (Bytes fault) word first w = inr (inl (fault, first, refl, w))
 not_made bytes (Parts fault) word first w = inr (inr (fault, first, refl, w))
 

@@ -9,6 +9,7 @@ pub mod Scan
 pub mod Status
 pub mod Saved
 pub mod Log
+pub mod Records
 pub mod ReadAll
 pub mod Digest
 pub mod Check

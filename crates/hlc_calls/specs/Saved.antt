@@ -6,7 +6,7 @@ use Rattle.hlc_checkpoint.specs.Checkpoint.{IsCopyOf}
 use Rattle.hlc_checkpoint.specs.RestoreFaults.{fault_code as reason_code}
 use Rattle.hlc_checkpoint.specs.declared.checkpoint.RestoreFault.{RestoreFault}
 use Rattle.hlc_core.specs.StoreView.{StoreView}
-use Rattle.hlc_saved.specs.Saved.{AreOf, SpellNone}
+use Rattle.hlc_saved.specs.Saved.{AreFrame, AreOf, SpellNone}
 use Rattle.hlc_saved.specs.Reading.{saved}
 use Rattle.hlc_saved.specs.declared.fault.ResumeError.{ResumeError}
 use Rattle.hlc_saved.specs.declared.fault.ResumeError.TheVariants.{NoMemory, Bytes, Parts}
@@ -15,11 +15,11 @@ use Rattle.hlc_saved.specs.declared.fault.ResumeError.TheVariants.{NoMemory, Byt
 abbrev pub IsMade : List ℕ → ℕ → StoreView → Type 0
 IsMade bytes word core = (kept : StoreView) × AreOf bytes word kept × IsCopyOf kept core
 
--- no store was made: out of memory; or the first fault of the bytes is returned, or the first reason why their content
+-- no store was made: out of memory, and all of the bytes are a frame; or the first fault of the bytes is returned, or the first reason why their content
 -- is no checkpoint
 abbrev pub IsNotMade : List ℕ → ℕ → ℕ → Type 0
 IsNotMade bytes code word =
-    ((code ≡ 15) × (word ≡ 0))
+    ((code ≡ 15) × (word ≡ 0) × AreFrame bytes)
     ⊎ (((fault : WireFault) × (saved bytes ≡ Err fault) × (code ≡ 106) × (word ≡ fault_code fault))
     ⊎ ((fault : RestoreFault) × SpellNone bytes (Parts fault) × (code ≡ 107) × (word ≡ reason_code fault)))
 

@@ -14,6 +14,7 @@ pub mod node;
 pub mod open_store;
 pub mod output;
 pub mod read_all;
+pub mod records;
 pub mod saved;
 pub mod scan;
 pub mod status;

@@ -3,6 +3,7 @@ use Rattle.std.proofs.Common.{◌≡◌, ℕ, List, sym, subst, ◌∙◌, inl}
 use Rattle.std.specs.Prelude.{Option, Some, None, MatchOption, Result, Ok, Err, MatchResult}
 use Rattle.hlc_core.specs.Past.{Step}
 use Rattle.hlc_core.specs.StoreView.{StoreView, Represents}
+use Rattle.hlc_saved.proofs.SaveLemmas.{of_frame}
 use Rattle.hlc_calls.specs.Saved.{IsMade, IsNotMade}
 use Rattle.hlc_calls.proofs.ResumedLemmas.{Restores, LeavesPast}
 use Rattle.hlc_ffi.specs.Handle.{IsRestoring, RestoresPast}
@@ -14,7 +15,7 @@ Opens made new code was word =
 
 pub restores : (bytes : List ℕ) (made : Result StoreView ℕ) (new : Option StoreView) (code was word : ℕ)
     → Restores bytes made was → Opens made new code was word → IsRestoring None new bytes code word
-restores bytes (Ok core) None code was word of short = inl short
+restores bytes (Ok core) None code was word of short = inl (short.0, short.1, of_frame bytes was of.0 of.1)
 restores bytes (Ok core) (Some kept) code was word of (zero, same, is) = (
   zero,
   subst (λ (it : StoreView). IsMade bytes word it) (sym is)

@@ -13,6 +13,7 @@ pub mod node;
 pub mod output;
 pub mod pieces;
 pub mod read;
+pub mod records;
 pub mod saved;
 pub mod status;
 pub mod texts;

@@ -18,6 +18,7 @@ use Rattle.hlc_wire.specs.Reading.{◌>>=◌, Gives, whole}
 use Rattle.hlc_wire.proofs.FieldLemmas.{IsBytes, bind_ok, ok_is, whole_takes, whole_again}
 use Rattle.hlc_frame.specs.Frame.{front_bytes, frame_bytes, FrameFits}
 use Rattle.hlc_frame.specs.Opening.{opened}
+use Rattle.hlc_frame.specs.Reading.{word_of}
 use Rattle.hlc_frame.proofs.FrameLemmas.{opened_is_frame, frame_is_opened}
 use Rattle.hlc_saved.specs.declared.decode.Decoded.{Decoded}
 use Rattle.hlc_saved.specs.declared.saving.Resumed.{Resumed}
@@ -25,7 +26,7 @@ use Rattle.hlc_saved.specs.declared.fault.ResumeError.{ResumeError}
 use Rattle.hlc_saved.specs.declared.fault.ResumeError.TheVariants.{NoMemory, Bytes, Parts}
 use Rattle.hlc_saved.specs.Spelling.{checkpoint_bytes, saved_bytes, CheckpointFits, SavedFits}
 use Rattle.hlc_saved.specs.Reading.{checkpoint_at, saved}
-use Rattle.hlc_saved.specs.Saved.{AreOf, BytesRepresent, Resumes, Restored}
+use Rattle.hlc_saved.specs.Saved.{AreFrame, AreOf, BytesRepresent, Resumes, Restored}
 use Rattle.hlc_saved.proofs.PartLemmas.{checkpoint_reader}
 
 first_bytes : (xs ys : List ℕ) → IsBytes (xs ++ ys) → IsBytes xs
@@ -76,6 +77,16 @@ pub found : (r : Result Decoded DecodeError) (bytes : List ℕ) → IsBytes byte
 found (Ok made) bytes fits e = saved_takes bytes made.word made.checkpoint fits e
 found (Err error) bytes fits e = tt
 
+-- bytes that are read are a frame
+pub is_frame : (bytes : List ℕ) (word : ℕ) (kept : StoreView) → saved bytes ≡ Ok (word, kept) → AreFrame bytes
+is_frame bytes word kept e =
+    let a = bind_ok (opened bytes) (λ frame. with_word frame.0 (whole (checkpoint_at frame.1))) (word, kept) e in
+    (a.0, a.1)
+
+-- so are bytes whose frame gave a word
+pub framed : (bytes : List ℕ) (word : ℕ) → word_of bytes ≡ Ok word → AreFrame bytes
+framed bytes word e = (let a = bind_ok (opened bytes) (λ frame. Ok frame.0) word e in (a.0, a.1))
+
 -- ---- stores
 
 -- a store was made from what was read
@@ -85,13 +96,17 @@ resumes (Ok made) kept word bytes fits e is =
     let t = saved_takes bytes word kept fits e in
     let of : AreOf bytes word kept = record { spelled = t.1; fits = t.0; sound = is.0 } in
     (kept, subst (λ (n : ℕ). AreOf bytes n kept) (sym is.2) of, is.1)
-resumes (Err NoMemory) kept word bytes fits e is = tt
+resumes (Err NoMemory) kept word bytes fits e is = is_frame bytes word kept e
 resumes (Err (Bytes fault)) kept word bytes fits e is = absurd is
 resumes (Err (Parts fault)) kept word bytes fits e is = (word, kept, e, is.0, is.1)
 
 -- there is one word and one checkpoint
 of_saved : (bytes : List ℕ) (word : ℕ) (kept : StoreView) → AreOf bytes word kept → saved bytes ≡ Ok (word, kept)
 of_saved bytes word kept of = ap saved of.spelled ∙ saved_again word kept of.fits
+
+-- the bytes of a checkpoint are a frame
+pub of_frame : (bytes : List ℕ) (word : ℕ) (kept : StoreView) → AreOf bytes word kept → AreFrame bytes
+of_frame bytes word kept of = is_frame bytes word kept (of_saved bytes word kept of)
 
 same_saved : (bytes : List ℕ) (word other : ℕ) (kept copy : StoreView) → saved bytes ≡ Ok (word, kept)
     → saved bytes ≡ Ok (other, copy) → (other ≡ word) × (copy ≡ kept)

@@ -4,6 +4,7 @@ use Rattle.hlc_core.specs.Past.{Step}
 use Rattle.hlc_core.specs.StoreView.{StoreView, Represents}
 use Rattle.hlc_checkpoint.specs.Checkpoint.{IsCheckpoint, IsCheckpointOf, IsCopyOf, IsFirstReason}
 use Rattle.hlc_checkpoint.specs.declared.checkpoint.RestoreFault.TheVariants as reasons
+use Rattle.hlc_frame.specs.Opening.{opened}
 use Rattle.hlc_saved.specs.declared.fault.ResumeError.{ResumeError}
 use Rattle.hlc_saved.specs.declared.fault.ResumeError.TheVariants.{NoMemory, Bytes, Parts}
 use Rattle.hlc_saved.specs.declared.saving.Resumed.{Resumed}
@@ -24,16 +25,21 @@ BytesRepresent bytes word past = (kept : StoreView) × AreOf bytes word kept × 
 abbrev pub AreOfStore : List ℕ → ℕ → StoreView → Type 0
 AreOfStore bytes word kept = (made : StoreView) × AreOf bytes word made × IsCheckpointOf kept made
 
--- the bytes contain no checkpoint, first for this reason
+-- all of the bytes are one frame, whatever its body is
+abbrev pub AreFrame : List ℕ → Type 0
+AreFrame bytes = (frame : ℕ × List ℕ) × (opened bytes ≡ Ok frame)
+
+-- the bytes contain no checkpoint, first for this reason; memory runs out only after all of them were found to be a
+-- frame
 abbrev pub SpellNone : List ℕ → ResumeError → Type 0
-SpellNone bytes NoMemory = Unit {0}
+SpellNone bytes NoMemory = AreFrame bytes
 SpellNone bytes (Bytes fault) = saved bytes ≡ Err fault
 SpellNone bytes (Parts fault) =
     (word : ℕ) × (kept : StoreView) × (saved bytes ≡ Ok (word, kept)) × IsFirstReason kept fault
     × (fault ≢ reasons.NoMemory)
 
 -- A store was made from the bytes, with exactly the state in them; or why not: the first fault of the bytes, or else
--- the first reason why their content is no checkpoint. Out of memory is not specified further.
+-- the first reason why their content is no checkpoint; or, of a frame, out of memory.
 abbrev pub Resumes : List ℕ → Result Resumed ResumeError → Type 0
 Resumes bytes (Ok made) = (kept : StoreView) × AreOf bytes made.word kept × IsCopyOf kept made.core
 Resumes bytes (Err error) = SpellNone bytes error

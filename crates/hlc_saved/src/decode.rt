@@ -1,9 +1,10 @@
 //! A checkpoint read from bytes.
-ghost use Rattle.std.specs.Prelude.{◌≡◌, ℕ, IfOk, Ok};
+ghost use Rattle.std.specs.Prelude.{◌≡◌, ℕ, IfOk, IsErrOf, Ok};
 ghost use Rattle.hlc_core.specs.StoreView.{StoreView};
 ghost use Rattle.hlc_wire.specs.Reading.{Gives};
 ghost use Rattle.hlc_saved.specs.Spelling.{saved_bytes, SavedFits};
 ghost use Rattle.hlc_saved.specs.Reading.{saved};
+ghost use Rattle.hlc_saved.specs.Saved.{AreFrame};
 
 use crate::stage::{Stage, finish};
 use hlc_core::Checkpoint;
@@ -23,7 +24,7 @@ pub struct Decoded {
 /// Reads the checkpoint and the word from their encoding, which is all of the bytes.
 ///
 /// The frame is checked first: `Short`, `Version`, `Damaged` or `Trailing`. Then comes the first
-/// fault of its body from the left, `Trailing` at last.
+/// fault of its body from the left, `Trailing` at last. Memory runs out only where the frame is whole.
 pub fn decode_checkpoint(alloc: Global, bytes: &[u8]) -> Result<Decoded, DecodeError>
     // The bytes are the encoding of the result.
     ensures found { IfOk result (λ made. SavedFits made.word made.checkpoint
@@ -34,13 +35,16 @@ pub fn decode_checkpoint(alloc: Global, bytes: &[u8]) -> Result<Decoded, DecodeE
         → Gives {Y = ℕ × StoreView} (λ made. (made.word, made.checkpoint)) result (Ok (word, kept)) }
     // The fault is exactly this one.
     ensures exact { Gives (λ made. (made.word, made.checkpoint)) result (saved bytes.now) }
+    // Memory runs out only after the frame was found whole.
+    ensures memory { IsErrOf result DecodeError.NoMemory → AreFrame bytes.now }
 {
     all(alloc, bytes)
 }
 
 /// Reads a checkpoint and a word from all of the bytes.
 fn all(alloc: Global, bytes: &[u8]) -> Result<Decoded, DecodeError>
-    ensures { Gives (λ made. (made.word, made.checkpoint)) result (saved bytes.now) }
+    ensures read { Gives (λ made. (made.word, made.checkpoint)) result (saved bytes.now) }
+    ensures memory { IsErrOf result DecodeError.NoMemory → AreFrame bytes.now }
 {
     let frame = match open_frame(bytes) {
         Ok(frame) => frame,

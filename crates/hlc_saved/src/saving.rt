@@ -35,8 +35,9 @@ pub fn save(alloc: Global, core: &Core, word: u64) -> Result<Vec<u8>, NoMemory>
 
 /// Makes a store from bytes, whoever wrote them: it represents every past that they represent.
 ///
-/// The bytes are checked first, as by `decode_checkpoint`; then their content, as by
-/// `Core::restore`. Bytes that `save` returned are refused only if memory runs out.
+/// The bytes are checked first, as by `decode_checkpoint`; then their content, as by `Core::restore`. Memory runs out
+/// only where all of the bytes are a frame, so a damaged file is always reported as one. Bytes that `save` returned are
+/// refused only if memory runs out.
 pub fn resume(alloc: Global, bytes: &[u8]) -> Result<Resumed, ResumeError>
     ensures exact { Resumes bytes.now result }
     ensures word { (word : ℕ) (kept : StoreView) → AreOf bytes.now word kept

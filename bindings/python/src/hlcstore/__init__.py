@@ -42,11 +42,23 @@ from ._errors import (
     ValueTooLong,
 )
 from ._native import VERSION as __version__
-from ._native import Item, Node, Snapshot, Store, check, error_name, error_text, version
-from ._results import Checked, Link, Sizes, Vacuum, VacuumPart
+from ._native import (
+    Item,
+    Node,
+    Snapshot,
+    Store,
+    check,
+    error_name,
+    error_text,
+    join_record,
+    threshold_record,
+    version,
+)
+from ._results import Applied, Checked, Link, Sizes, Vacuum, VacuumPart
 
 __all__ = [
     "AboveFloor",
+    "Applied",
     "BadBytes",
     "BadKey",
     "BadLine",
@@ -83,8 +95,10 @@ __all__ = [
     "check",
     "error_name",
     "error_text",
+    "join_record",
     "split",
     "stamp",
+    "threshold_record",
     "version",
 ]
 

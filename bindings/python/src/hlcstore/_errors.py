@@ -13,16 +13,19 @@ class Error(Exception):
     word: int
     """The word that hlcstore.h names with the refusal, or 0."""
     accepted: int
-    """How many items `accept_all` or `accept_items` accepted before the refusal."""
+    """How many items `accept_all` or `accept_items`, or records `apply_records`, accepted before the refusal."""
     used: int
-    """How many bytes of the log these items have. The next call of `accept_items` goes on from there."""
+    """How many bytes of the log these have. The next call of `accept_items` or `apply_records` goes on from there."""
+    threshold: int
+    """The greatest retention threshold among the records before the refusal, or 0."""
     _word_is_stamp: ClassVar[bool] = False
 
-    def __init__(self, word: int = 0, accepted: int = 0, used: int = 0) -> None:
-        super().__init__(word, accepted, used)
+    def __init__(self, word: int = 0, accepted: int = 0, used: int = 0, threshold: int = 0) -> None:
+        super().__init__(word, accepted, used, threshold)
         self.word = word
         self.accepted = accepted
         self.used = used
+        self.threshold = threshold
 
     def __str__(self) -> str:
         text = _native.error_text(self.code)
@@ -134,6 +137,6 @@ for _class in (Error, *REFUSALS.values()):
     _class.__module__ = "hlcstore"
 
 
-def refusal(code: int, word: int, accepted: int, used: int) -> Error:
+def refusal(code: int, word: int, accepted: int, used: int, threshold: int) -> Error:
     """Return the exception of a refusal. The extension calls it."""
-    return REFUSALS[code](word, accepted, used)
+    return REFUSALS[code](word, accepted, used, threshold)

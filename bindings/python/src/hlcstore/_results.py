@@ -31,6 +31,15 @@ class VacuumPart(NamedTuple):
     """The key after which the next part goes on, or None where no key is left."""
 
 
+class Applied(NamedTuple):
+    """How far the records of a log were applied."""
+
+    records: int
+    """How many were applied, or had been before."""
+    threshold: int
+    """The greatest retention threshold among them, or 0."""
+
+
 class Link(NamedTuple):
     """What a store accepted from a node."""
 

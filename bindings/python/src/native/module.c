@@ -44,7 +44,8 @@ static int fill_module(PyObject *module)
         return -1;
     }
     bool is_filled = PyModule_AddStringConstant(module, "VERSION", HLC_VERSION) == 0 && add_refusal_numbers(module)
-                     && PyModule_AddFunctions(module, refusal_functions) == 0 && add_classes(module);
+                     && PyModule_AddFunctions(module, refusal_functions) == 0
+                     && PyModule_AddFunctions(module, record_functions) == 0 && add_classes(module);
     return is_filled ? 0 : -1;
 }
 

@@ -74,7 +74,7 @@ PyObject *output_object(hlc_output *output, size_t len);
 PyObject *refuse(uint32_t code, uint64_t word);
 
 /* Raises the exception of a refusal of one of many items: so many were accepted before it, in so many bytes. */
-PyObject *refuse_after(uint32_t code, uint64_t word, size_t accepted, size_t used);
+PyObject *refuse_after(uint32_t code, uint64_t word, size_t accepted, size_t used, uint64_t threshold);
 
 /* Returns a named tuple of hlcstore/_results.py, of these numbers, and of an object after them unless it is NULL. */
 PyObject *result_of(const char *name, const uint64_t *numbers, Py_ssize_t many, PyObject *last);
@@ -106,6 +106,10 @@ bool take_content(Content *content, Kind kind, PyObject *args, PyObject *words);
 void drop_content(Content *content);
 
 extern PyType_Spec item_spec;
+
+/* ---- record.c ---- */
+
+extern PyMethodDef record_functions[];
 
 /* ---- node.c ---- */
 

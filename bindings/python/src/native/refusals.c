@@ -41,12 +41,12 @@ bool add_refusal_numbers(PyObject *module)
     return true;
 }
 
-PyObject *refuse_after(uint32_t code, uint64_t word, size_t accepted, size_t used)
+PyObject *refuse_after(uint32_t code, uint64_t word, size_t accepted, size_t used, uint64_t threshold)
 {
     PyObject *errors = PyImport_ImportModule("hlcstore._errors");
     if (!errors) return NULL;
-    PyObject *error = PyObject_CallMethod(errors, "refusal", "IKnn", (unsigned int)code, (unsigned long long)word,
-                                          (Py_ssize_t)accepted, (Py_ssize_t)used);
+    PyObject *error = PyObject_CallMethod(errors, "refusal", "IKnnK", (unsigned int)code, (unsigned long long)word,
+                                          (Py_ssize_t)accepted, (Py_ssize_t)used, (unsigned long long)threshold);
     Py_DECREF(errors);
     if (!error) return NULL;
     PyErr_SetObject((PyObject *)Py_TYPE(error), error);
@@ -54,7 +54,7 @@ PyObject *refuse_after(uint32_t code, uint64_t word, size_t accepted, size_t use
     return NULL;
 }
 
-PyObject *refuse(uint32_t code, uint64_t word) { return refuse_after(code, word, 0, 0); }
+PyObject *refuse(uint32_t code, uint64_t word) { return refuse_after(code, word, 0, 0, 0); }
 
 /* A tuple of the numbers, and of another object after them, if there is one. */
 static PyObject *values_of(const uint64_t *numbers, Py_ssize_t many, PyObject *last)

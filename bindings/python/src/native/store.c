@@ -299,7 +299,7 @@ static PyObject *store_accept_all(PyObject *self, PyObject *from)
         uint64_t word;
         size_t accepted;
         uint32_t code = accept_contents((Store *)self, contents, (size_t)PyTuple_Size(items), &accepted, &word);
-        result = code == HLC_OK ? PyLong_FromSize_t(accepted) : refuse_after(code, word, accepted, 0);
+        result = code == HLC_OK ? PyLong_FromSize_t(accepted) : refuse_after(code, word, accepted, 0, 0);
         free(contents);
     }
     Py_DECREF(items);
@@ -317,7 +317,22 @@ static PyObject *store_accept_items(PyObject *self, PyObject *from)
     uint32_t code = hlc_items_accept(&store->handle, log.at, log.len, &used, &many, &word);
     unlock(store, thread);
     drop_bytes(&log);
-    return code == HLC_OK ? PyLong_FromSize_t(many) : refuse_after(code, word, many, used);
+    return code == HLC_OK ? PyLong_FromSize_t(many) : refuse_after(code, word, many, used, 0);
+}
+
+static PyObject *store_apply_records(PyObject *self, PyObject *from)
+{
+    Store *store = (Store *)self;
+    Bytes log;
+    uint64_t word, threshold;
+    size_t used, many;
+    if (!take_bytes(from, &log)) return NULL;
+    PyThreadState *thread = lock_to_change(store, LONG);
+    uint32_t code = hlc_records_apply(&store->handle, log.at, log.len, &used, &many, &threshold, &word);
+    unlock(store, thread);
+    drop_bytes(&log);
+    uint64_t numbers[] = { many, threshold };
+    return code == HLC_OK ? result_of("Applied", numbers, 2, NULL) : refuse_after(code, word, many, used, threshold);
 }
 
 /* ---- Nodes ---- */
@@ -460,6 +475,13 @@ static PyMethodDef store_methods[] = {
       "Accept items that follow each other as bytes, and return how many.\n\n"
       "Items that were accepted before are passed over, and counted. If one is refused, the exception's accepted is\n"
       "how many were accepted before it, and its used is how many bytes these have." },
+    { "apply_records", store_apply_records, METH_O,
+      "apply_records($self, log, /)\n--\n\n"
+      "Apply the records of a log that replicas share: items, joins and retention thresholds, one after another as\n"
+      "bytes. Return how many they are, and the greatest threshold among them, or 0: no more snapshot is opened below\n"
+      "it, so the caller may vacuum to it.\n\n"
+      "Records that were applied before are passed over, and counted. If one is refused, the exception's accepted,\n"
+      "used and threshold are of those before it." },
     { "check_item", store_check_item, METH_O,
       "check_item($self, item, /)\n--\n\nRaise what accept would raise, except NoMemory." },
     METHOD("check_write", store_check_write,

@@ -306,6 +306,17 @@ unsafe extern "C" {
         many: *mut usize,
         word: *mut u64,
     ) -> u32;
+    pub fn hlc_record_join(node: u16, start: u64, out: *mut u8, out_len: usize, len: *mut usize) -> u32;
+    pub fn hlc_record_threshold(stamp: u64, out: *mut u8, out_len: usize, len: *mut usize) -> u32;
+    pub fn hlc_records_apply(
+        store: *mut hlc_store,
+        bytes: *const u8,
+        bytes_len: usize,
+        used: *mut usize,
+        many: *mut usize,
+        threshold: *mut u64,
+        word: *mut u64,
+    ) -> u32;
     pub fn hlc_checkpoint(store: *mut hlc_store, word: u64, output: *mut hlc_output, len: *mut usize) -> u32;
     pub fn hlc_restore(store: *mut hlc_store, bytes: *const u8, bytes_len: usize, word: *mut u64) -> u32;
     pub fn hlc_restore_start(restoring: *mut hlc_restoring) -> u32;

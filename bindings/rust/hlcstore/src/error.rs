@@ -154,7 +154,8 @@ impl fmt::Display for Error {
 
 impl std::error::Error for Error {}
 
-/// Why a call that takes many items stopped before the last one. The items before the refused one stay accepted.
+/// Why a call that takes many items, or records, stopped before the last one. Those before the refused one stay
+/// accepted.
 #[derive(Clone, Copy, Debug, PartialEq, Eq, Hash)]
 pub struct Stopped {
     /// How many items were accepted, or passed over, before the refused one.
@@ -162,6 +163,9 @@ pub struct Stopped {
     /// How many bytes of a log these items have, so that a later call can continue after them; 0 of
     /// [`Store::accept_all`](crate::Store::accept_all).
     pub bytes: usize,
+    /// The greatest retention threshold among the records before the refused one, of
+    /// [`Store::apply_records`](crate::Store::apply_records); otherwise 0.0.
+    pub threshold: Stamp,
     /// Why the next item was refused.
     pub error: Error,
 }

@@ -8,7 +8,7 @@ use crate::error::answer;
 use crate::output::{Certificate, Output};
 use crate::range::Bounds;
 use crate::vacuum::{VacuumPart, Vacuumed};
-use crate::{Content, Error, Item, Link, Node, OpenSnapshot, Result, Sizes, Stamp, Stopped};
+use crate::{Applied, Content, Error, Item, Link, Node, OpenSnapshot, Result, Sizes, Stamp, Stopped};
 use hlcstore_sys as sys;
 
 /// How many bytes of a value are made room for at first.
@@ -127,7 +127,7 @@ impl Handle {
 
     pub(crate) fn accept_all(&mut self, items: &[Item<'_>]) -> std::result::Result<(), Stopped> {
         for (accepted, item) in items.iter().enumerate() {
-            self.accept(*item).map_err(|error| Stopped { items: accepted, bytes: 0, error })?;
+            self.accept(*item).map_err(|error| Stopped { items: accepted, bytes: 0, threshold: Stamp::ZERO, error })?;
         }
         Ok(())
     }
@@ -137,7 +137,19 @@ impl Handle {
         let accepted = self.change(|store, word| unsafe {
             sys::hlc_items_accept(store, log.as_ptr(), log.len(), &mut bytes, &mut items, word)
         });
-        accepted.map(|_| items).map_err(|error| Stopped { items, bytes, error })
+        accepted.map(|_| items).map_err(|error| Stopped { items, bytes, threshold: Stamp::ZERO, error })
+    }
+
+    pub(crate) fn apply_records(&mut self, log: &[u8]) -> std::result::Result<Applied, Stopped> {
+        let (mut bytes, mut records, mut threshold) = (0, 0, 0);
+        let applied = self.change(|store, word| unsafe {
+            sys::hlc_records_apply(store, log.as_ptr(), log.len(), &mut bytes, &mut records, &mut threshold, word)
+        });
+        let threshold = Stamp::from_bits(threshold);
+        match applied {
+            Ok(_) => Ok(Applied { records, bytes, threshold }),
+            Err(error) => Err(Stopped { items: records, bytes, threshold, error }),
+        }
     }
 
     pub(crate) fn join(&mut self) -> Result<Node> {

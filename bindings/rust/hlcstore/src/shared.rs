@@ -1,6 +1,7 @@
 use crate::handle::Handle;
 use crate::{
-    Certified, Item, Link, Node, OpenSnapshot, Result, Sizes, Snapshot, Stamp, Stopped, Store, VacuumPart, Vacuumed,
+    Applied, Certified, Item, Link, Node, OpenSnapshot, Result, Sizes, Snapshot, Stamp, Stopped, Store, VacuumPart,
+    Vacuumed,
 };
 use std::fmt;
 use std::sync::{Arc, PoisonError, RwLock, RwLockReadGuard, RwLockWriteGuard};
@@ -83,6 +84,11 @@ impl SharedStore {
     /// Accepts the items of a log, as [`Store::accept_items`] does. The store is locked once for all of them.
     pub fn accept_items(&self, log: &[u8]) -> std::result::Result<usize, Stopped> {
         self.write().accept_items(log)
+    }
+
+    /// Applies the records of a log, as [`Store::apply_records`] does. The store is locked once for all of them.
+    pub fn apply_records(&self, log: &[u8]) -> std::result::Result<Applied, Stopped> {
+        self.write().apply_records(log)
     }
 
     /// Lets a node join at the floor, as [`Store::join`] does.

@@ -1,6 +1,6 @@
 use crate::handle::Handle;
 use crate::snapshot::{OpenSnapshot, Snapshot};
-use crate::{Certified, Item, Node, Result, SharedStore, Stamp, Stopped, VacuumPart, Vacuumed};
+use crate::{Applied, Certified, Item, Node, Result, SharedStore, Stamp, Stopped, VacuumPart, Vacuumed};
 use std::cell::{Ref, RefCell, RefMut};
 use std::fmt;
 
@@ -127,6 +127,17 @@ impl Store {
     /// `NoNode`, `Retired`, `NotNext`, `NumbersSpent`, `StampNotRising`, `NoMemory`.
     pub fn accept_items(&self, log: &[u8]) -> std::result::Result<usize, Stopped> {
         self.write().accept_items(log)
+    }
+
+    /// Applies the records of a log that replicas share, one after another as bytes ([`Item::encode`],
+    /// [`Record::encode`](crate::Record::encode)), until one is refused: items are accepted, and nodes join at their
+    /// starts. Records that were applied before are passed over, so that a log can be read again from any place. A
+    /// retention threshold changes nothing here; the greatest is returned, and the caller may vacuum to it.
+    ///
+    /// Refusals, of each item those of [`accept_items`](Store::accept_items); of each join in this order: `NotNext`,
+    /// with the number of the next node; `TooManyNodes`; `BelowHorizon`, with the floor; `NoMemory`.
+    pub fn apply_records(&self, log: &[u8]) -> std::result::Result<Applied, Stopped> {
+        self.write().apply_records(log)
     }
 
     /// Lets a node join, and returns it. Its clock starts at the floor.

@@ -88,9 +88,9 @@ fn batches_and_logs_stop_at_the_refused_item() {
     item(2, 7).encode_into(&mut log).unwrap();
     let whole = log.len();
     item(4, 8).encode_into(&mut log).unwrap();
-    let Stopped { items, bytes, error } = store.accept_items(&log).unwrap_err();
+    let Stopped { items, bytes, error, .. } = store.accept_items(&log).unwrap_err();
     assert_eq!((items, bytes, error.kind(), error.word()), (2, whole, ErrorKind::NotNext, 3));
-    let Stopped { items, bytes, error } = store.accept_items(&log[..whole - 1]).unwrap_err();
+    let Stopped { items, bytes, error, .. } = store.accept_items(&log[..whole - 1]).unwrap_err();
     assert_eq!((items, bytes, error.kind(), error.word()), (1, whole / 2, ErrorKind::BadBytes, 1));
     assert_eq!(Error::from(store.accept_items(b"\x07").unwrap_err()).kind(), ErrorKind::BadBytes);
 }

@@ -1,6 +1,6 @@
 //! Replicas: a log of items as bytes, checkpoints, and nodes after a restart.
 
-use hlcstore::{Item, Node, Result, Stamp, Store};
+use hlcstore::{Applied, ErrorKind, Item, Node, Record, Result, Stamp, Stopped, Store};
 
 /// Appends the items of two nodes to a log: writes, deletions, reports and, at the end, a retirement.
 fn make_log() -> Result<Vec<u8>> {
@@ -71,7 +71,10 @@ fn replica_goes_on_from_a_checkpoint() {
     assert_eq!(same.keep(), protected.id());
     assert_alike(&store, &replica);
 
-    // Reading the log again changes nothing.
+    // Reading the log again changes nothing, whichever call reads it.
+    let all = Applied { records: 601, bytes: log.len(), threshold: Stamp::ZERO };
+    assert_eq!(replica.apply_records(&log), Ok(all));
+    assert_alike(&store, &replica);
     assert_eq!(replica.accept_items(&log), Ok(601));
     assert_alike(&store, &replica);
     assert!(replica.link(1).unwrap().is_retired);
@@ -127,4 +130,32 @@ fn shared_store_takes_a_newer_checkpoint_in_its_place() {
     assert_eq!(replica.reload(&ahead.checkpoint(9).unwrap()), Ok(9));
     assert_eq!(clone.floor(), ahead.floor());
     assert_eq!(clone.snapshot().unwrap().digest(..), ahead.snapshot().unwrap().digest(..));
+}
+
+#[test]
+fn records_are_applied_and_passed_over() {
+    let mut log = Item::write(0, 0, Stamp::new(5, 0), b"a", b"x").encode().unwrap();
+    let first = log.len();
+    Record::Threshold(Stamp::new(3, 0)).encode_into(&mut log).unwrap();
+    Record::Join { node: 1, start: Stamp::new(5, 0) }.encode_into(&mut log).unwrap();
+    Record::Threshold(Stamp::new(2, 0)).encode_into(&mut log).unwrap();
+    assert_eq!(log.len(), first + 9 + 11 + 9);
+    let store = Store::open(1).unwrap();
+    let all = Applied { records: 4, bytes: log.len(), threshold: Stamp::new(3, 0) };
+    for _ in 0..2 {
+        assert_eq!(store.apply_records(&log), Ok(all));
+        assert_eq!((store.nodes(), store.rows()), (Ok(2), Ok(1)));
+    }
+    assert_eq!(store.apply_records(&[]), Ok(Applied { records: 0, bytes: 0, threshold: Stamp::ZERO }));
+
+    // A cut log ends with a record before, and a join that leaves out a number is refused with the next one.
+    let Stopped { items, bytes, threshold, error } = store.apply_records(&log[..first + 9 + 4]).unwrap_err();
+    assert_eq!((items, bytes, threshold), (2, first + 9, Stamp::new(3, 0)));
+    assert_eq!((error.kind(), error.word()), (ErrorKind::BadBytes, 1));
+    let gap = Record::Join { node: 3, start: Stamp::new(9, 0) }.encode().unwrap();
+    let error = store.apply_records(&gap).unwrap_err().error;
+    assert_eq!((error.kind(), error.word()), (ErrorKind::NotNext, 2));
+    let early = Record::Join { node: 2, start: Stamp::new(4, 0) }.encode().unwrap();
+    assert_eq!(store.apply_records(&early).unwrap_err().error.kind(), ErrorKind::BelowHorizon);
+    assert_eq!(store.nodes(), Ok(2));
 }

@@ -7,9 +7,9 @@ use Rattle.hlc_saved.proofs.SaveLemmas.{found, saved_again}
 use Rattle.hlc_saved.proofs.decode.decode_checkpoint.Goals as goal
 
 pub returns-clause-found : goal.returns-clause-found
-returns-clause-found c = found c.all.result c.args.bytes.now (λ i. omega (arith, c.type_inv.bytes i)) c.all.ensures
+returns-clause-found c = found c.all.result c.args.bytes.now (λ i. omega (arith, c.type_inv.bytes i)) c.all.ensures.read
 
 pub returns-clause-only : goal.returns-clause-only
 returns-clause-only c = λ word kept fits e.
     subst (λ r. Gives (λ (made : Decoded). (made.word, made.checkpoint)) c.all.result r)
-    (ap saved e ∙ saved_again word kept fits) c.all.ensures
+    (ap saved e ∙ saved_again word kept fits) c.all.ensures.read

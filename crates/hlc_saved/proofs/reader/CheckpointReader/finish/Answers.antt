@@ -3,8 +3,12 @@ use Rattle.std.proofs.Common.{[], sym, subst, ◌∙◌}
 use Rattle.hlc_wire.specs.Reading.{Fails, whole}
 use Rattle.hlc_saved.specs.Blocks.{parts_left}
 use Rattle.hlc_saved.proofs.Blocks.{saved_ok, saved_err}
-use Rattle.hlc_saved.proofs.SaveLemmas.{resumes}
+use Rattle.hlc_saved.proofs.SaveLemmas.{resumes, framed}
 use Rattle.hlc_saved.proofs.reader.CheckpointReader.finish.Goals as goal
+
+pub returns-in-Err-NoMemory : goal.returns-in-Err-NoMemory
+returns-in-Err-NoMemory c = λ fed has.
+    framed fed c.in-Ok.word (sym (c.finish.ensures fed has.frame) ∙ c.in-Ok.is)
 
 pub returns-in-Err-Fault : goal.returns-in-Err-Fault
 returns-in-Err-Fault c = λ fed has.

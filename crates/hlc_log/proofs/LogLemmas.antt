@@ -1,0 +1,273 @@
+-- The records of a log, read one after another; and what comes again is passed over.
+use Rattle.std.proofs.Common.{◌≡◌, ◌⊎◌, ℕ, ◌+◌, ◌-◌, ◌<◌, ◌≤◌, ◌∙◌, sym, ap, subst, List, [], ◌∷◌, ◌++◌}
+use Rattle.std.proofs.Common.{length, max, true, false, cond, refl, arith, length-append, Option, None, Ok}
+use Rattle.std.proofs.Common.{inl, inr}
+use Rattle.std.specs.Bool.{⊤}
+use Rattle.std.proofs.lemmas.Bool.{cases_Bool, cond-true, cond-false, and_parts, and_from, cases_eq, eq-eqb, ne_eqb}
+use Rattle.std.proofs.lemmas.Bool.{ltb-true, lt-ltb}
+use Rattle.std.proofs.lemmas.List.{append-nil, append_assoc}
+use Rattle.std.proofs.lemmas.Grind.{flat_map-append}
+use Rattle.hlc_node.specs.declared.item.Item.{Item as AnItem}
+use Rattle.hlc_wire.proofs.FieldLemmas.{IsBytes}
+use Rattle.hlc_core.specs.Past.{Step, Took, Opened, Closed, Vacuumed, Trimmed, Joined, numbered, count, item_refusal}
+use Rattle.hlc_core.specs.Past.{IsLegal}
+use Rattle.hlc_core.specs.StoreView.{StoreView, Represents}
+use Rattle.hlc_core.proofs.PastLemmas.{IsAdmissible, admissible, inside, on_link}
+use Rattle.hlc_core.proofs.StayLemmas.{legal-before}
+use Rattle.hlc_log.specs.declared.record.Record.{Record}
+use Rattle.hlc_log.specs.declared.record.Record.TheVariants.{Item, Join, Threshold}
+use Rattle.hlc_log.specs.declared.apply.RecordFault.{RecordFault}
+use Rattle.hlc_log.specs.declared.apply.Applied.{Applied}
+use Rattle.hlc_log.specs.Record.{record_bytes, record_at}
+use Rattle.hlc_log.specs.Log.{came_before, step_of, with_record, with_records, log_bytes, greatest_threshold}
+use Rattle.hlc_log.specs.Log.{IsLogEnd, AreApplied}
+use Rattle.hlc_log.proofs.RecordLemmas.{record_reader}
+
+pub front_is : (bytes : List ℕ) (entry : Record) (rest : List ℕ) → IsBytes bytes → record_at bytes ≡ Ok (entry, rest)
+    → bytes ≡ record_bytes entry ++ rest
+front_is bytes entry rest fits is = (record_reader.takes bytes (entry, rest) fits is).0.parts
+
+some_bytes : (entry : Record) → 0 < length (record_bytes entry)
+some_bytes (Item item) = omega arith
+some_bytes (Join node start) = omega arith
+some_bytes (Threshold at) = omega arith
+
+pub front_shortens : (bytes : List ℕ) (entry : Record) (rest : List ℕ) → IsBytes bytes
+    → record_at bytes ≡ Ok (entry, rest) → length rest < length bytes
+front_shortens bytes entry rest fits is =
+    let long : length bytes ≡ length (record_bytes entry) + length rest =
+    ap length (front_is bytes entry rest fits is) ∙ length-append (record_bytes entry) rest in
+    let some : 0 < length (record_bytes entry) = some_bytes entry in
+    omega (arith, long, some)
+
+-- a record that came before leaves the past, and another one is applied
+pub passed_over : (core : StoreView) (nodes : ℕ) (past : List Step) (entry : Record)
+    → came_before nodes past entry ≡ true → Represents core past → Represents core (with_record nodes entry past)
+passed_over core nodes past entry came h =
+    subst (λ b. Represents core (cond b past (step_of entry ++ past))) (sym came) h
+
+pub applied : (core : StoreView) (nodes : ℕ) (past : List Step) (entry : Record)
+    → came_before nodes past entry ≡ false → Represents core (step_of entry ++ past)
+    → Represents core (with_record nodes entry past)
+applied core nodes past entry new h =
+    subst (λ b. Represents core (cond b past (step_of entry ++ past))) (sym new) h
+
+-- ---- one record after another
+
+-- the records before the rest of the bytes were applied
+abbrev pub AppliedSoFar : ℕ → StoreView → List ℕ → List ℕ → List Step → ℕ → ℕ → ℕ → Type 0
+AppliedSoFar nodes core bytes rest past least many greatest =
+    (records : List Record) × (bytes ≡ log_bytes records ++ rest) × (many ≡ length records)
+    × (greatest ≡ greatest_threshold least records) × Represents core (with_records nodes records past)
+
+pub records-append : (nodes : ℕ) (records more : List Record) (past : List Step)
+    → with_records nodes (records ++ more) past ≡ with_records nodes more (with_records nodes records past)
+records-append nodes [] more past = refl
+records-append nodes (entry ∷ records) more past = records-append nodes records more (with_record nodes entry past)
+
+threshold-append : (least : ℕ) (records more : List Record)
+    → greatest_threshold least (records ++ more) ≡ greatest_threshold (greatest_threshold least records) more
+threshold-append least [] more = refl
+threshold-append least (Item item ∷ records) more = threshold-append least records more
+threshold-append least (Join node start ∷ records) more = threshold-append least records more
+threshold-append least (Threshold at ∷ records) more = threshold-append (max least at) records more
+
+log-last : (records : List Record) (entry : Record)
+    → log_bytes (records ++ entry ∷ []) ≡ log_bytes records ++ record_bytes entry
+log-last records entry =
+    flat_map-append record_bytes records (entry ∷ [])
+    ∙ ap (λ xs. log_bytes records ++ xs) (append-nil (record_bytes entry))
+
+-- one more record
+pub one_more : (nodes : ℕ) (core : StoreView) (bytes rest after : List ℕ) (past : List Step)
+    (least many greatest raised : ℕ) (before : StoreView)
+    → (so : AppliedSoFar nodes before bytes rest past least many greatest)
+    → (entry : Record) × (rest ≡ record_bytes entry ++ after) × (raised ≡ greatest_threshold greatest (entry ∷ []))
+    × Represents core (with_record nodes entry (with_records nodes so.0 past))
+    → AppliedSoFar nodes core bytes after past least (many + 1) raised
+one_more nodes core bytes rest after past least many greatest raised before so (entry, front, up, h) = (
+  so.0 ++ entry ∷ [],
+  so.1 ∙ ap (λ (xs : List ℕ). log_bytes so.0 ++ xs) front
+      ∙ sym (append_assoc (log_bytes so.0) (record_bytes entry) after)
+      ∙ ap (λ (xs : List ℕ). xs ++ after) (sym (log-last so.0 entry)),
+  (let n = length-append so.0 (entry ∷ []) in omega (arith, n, so.2)),
+  up ∙ ap (λ (g : ℕ). greatest_threshold g (entry ∷ [])) so.3 ∙ sym (threshold-append least so.0 (entry ∷ [])),
+  subst (λ (p : List Step). Represents core p) (sym (records-append nodes so.0 (entry ∷ []) past)) h,
+)
+
+-- the state of the loop, with why it ended
+pub applied_all : (nodes : ℕ) (core : StoreView) (bytes rest : List ℕ) (past : List Step) (least many greatest : ℕ)
+    (end : Option RecordFault) (result : Applied)
+    → (so : AppliedSoFar nodes core bytes rest past least many greatest)
+    → IsLogEnd nodes rest (with_records nodes so.0 past) end
+    → result ≡ record { records = many; bytes = length bytes - length rest; threshold = greatest; end = end }
+    → AreApplied nodes core bytes past least result
+applied_all nodes core bytes rest past least many greatest end result so is made =
+    subst (λ r. AreApplied nodes core bytes past least r) (sym made) (record {
+      records = so.0;
+      rest = rest;
+      bytes_are = so.1;
+      used =
+          let long : length bytes ≡ length (log_bytes so.0) + length rest =
+          ap length so.1 ∙ length-append (log_bytes so.0) rest in
+          omega (arith, long);
+      many = so.2;
+      threshold = so.3;
+      represents = so.4;
+      end = is;
+    })
+
+-- ---- read again
+
+numbered-grows : (nodes : ℕ) (past : List Step) (step : Step) → numbered nodes past ≤ numbered nodes (step ∷ past)
+numbered-grows nodes past (Took item) = omega arith
+numbered-grows nodes past (Opened stamp) = omega arith
+numbered-grows nodes past (Closed id) = omega arith
+numbered-grows nodes past (Vacuumed at) = omega arith
+numbered-grows nodes past (Trimmed at dropped) = omega arith
+numbered-grows nodes past (Joined node start) = omega arith
+
+count-grows : (n : ℕ) (past : List Step) (step : Step) → count n past ≤ count n (step ∷ past)
+count-grows n past (Took item) =
+    elim (cases_eq item.node n) [
+      | inl same ↦
+          let e : count n (Took item ∷ past) ≡ count n past + 1 = cond-true _ _ _ (eq-eqb _ _ same) in
+          omega (arith, e)
+      | inr other ↦
+          let e : count n (Took item ∷ past) ≡ count n past = cond-false _ _ _ (ne_eqb _ _ other) in
+          omega (arith, e)
+    ]
+count-grows n past (Opened stamp) = omega arith
+count-grows n past (Closed id) = omega arith
+count-grows n past (Vacuumed at) = omega arith
+count-grows n past (Trimmed at dropped) = omega arith
+count-grows n past (Joined node start) = omega arith
+
+-- a record that came before has still come before after any more steps
+came-stays : (nodes : ℕ) (past more : List Step) (entry : Record) → came_before nodes past entry ≡ true
+    → came_before nodes (more ++ past) entry ≡ true
+came-stays nodes past [] entry came = came
+came-stays nodes past (step ∷ more) (Item item) came =
+    let before = and_parts _ _ (came-stays nodes past more (Item item) came) in
+    let low : item.node < numbered nodes (more ++ past) = ltb-true _ _ before.0 in
+    let old : item.number < count item.node (more ++ past) = ltb-true _ _ before.1 in
+    let wide = numbered-grows nodes (more ++ past) step in
+    let long = count-grows item.node (more ++ past) step in
+    let here : item.node < numbered nodes (step ∷ (more ++ past)) = omega (arith, low, wide) in
+    let past' : item.number < count item.node (step ∷ (more ++ past)) = omega (arith, old, long) in
+    and_from _ _ (lt-ltb _ _ here) (lt-ltb _ _ past')
+came-stays nodes past (step ∷ more) (Join node start) came =
+    let low : node < numbered nodes (more ++ past) =
+    ltb-true _ _ (came-stays nodes past more (Join node start) came) in
+    let wide = numbered-grows nodes (more ++ past) step in
+    let here : node < numbered nodes (step ∷ (more ++ past)) = omega (arith, low, wide) in
+    lt-ltb _ _ here
+came-stays nodes past (step ∷ more) (Threshold at) came = came
+
+-- a record is passed over: it came before, or is no step
+abbrev IsPassed : ℕ → List Step → Record → Type 0
+IsPassed nodes past entry = (came_before nodes past entry ≡ true) ⊎ (step_of entry ≡ [])
+
+passed-stays : (nodes : ℕ) (past more : List Step) (entry : Record) → IsPassed nodes past entry
+    → IsPassed nodes (more ++ past) entry
+passed-stays nodes past more entry (inl came) = inl (came-stays nodes past more entry came)
+passed-stays nodes past more entry (inr none) = inr none
+
+passed-is : (nodes : ℕ) (past : List Step) (entry : Record) → IsPassed nodes past entry
+    → with_record nodes entry past ≡ past
+passed-is nodes past entry (inl came) = cond-true _ _ _ came
+passed-is nodes past entry (inr none) =
+    elim (cases_Bool (came_before nodes past entry)) [
+      | inl came ↦ cond-true _ _ _ came
+      | inr new ↦ cond-false _ _ _ new ∙ ap (λ steps. steps ++ past) none
+    ]
+
+-- an item that was taken came before
+took-passed : (nodes : ℕ) (past : List Step) (item : AnItem) → item_refusal nodes past item ≡ None
+    → came_before nodes (Took item ∷ past) (Item item) ≡ true
+took-passed nodes past item none =
+    let low : item.node < numbered nodes past = inside nodes past item none in
+    let is : IsAdmissible _ (count item.node past) _ item =
+    admissible _ _ _ item (sym (on_link nodes past item low) ∙ none) in
+    let same : item.number ≡ count item.node past = is.number in
+    let up : count item.node (Took item ∷ past) ≡ count item.node past + 1 =
+    cond-true _ _ _ (eq-eqb item.node item.node refl) in
+    let below : item.number < count item.node (Took item ∷ past) = omega (arith, same, up) in
+    and_from _ _ (lt-ltb _ _ low) (lt-ltb _ _ below)
+
+-- a record is passed over right after it was read
+after-itself : (nodes : ℕ) (past : List Step) (entry : Record) → IsLegal nodes (with_record nodes entry past)
+    → IsPassed nodes (with_record nodes entry past) entry
+after-itself nodes past (Threshold at) legal = inr refl
+after-itself nodes past (Item item) legal =
+    elim (cases_Bool (came_before nodes past (Item item))) [
+      | inl came ↦
+          let same : with_record nodes (Item item) past ≡ past = cond-true _ _ _ came in
+          inl (subst (λ (p : List Step). came_before nodes p (Item item) ≡ true) (sym same) came)
+      | inr new ↦
+          let taken : with_record nodes (Item item) past ≡ Took item ∷ past = cond-false _ _ _ new in
+          let ok : IsLegal nodes (Took item ∷ past) = subst (IsLegal nodes) taken legal in
+          inl (subst (λ (p : List Step). came_before nodes p (Item item) ≡ true) (sym taken)
+          (took-passed nodes past item ok.0))
+    ]
+after-itself nodes past (Join node start) legal =
+    elim (cases_Bool (came_before nodes past (Join node start))) [
+      | inl came ↦
+          let same : with_record nodes (Join node start) past ≡ past = cond-true _ _ _ came in
+          inl (subst (λ (p : List Step). came_before nodes p (Join node start) ≡ true) (sym same) came)
+      | inr new ↦
+          let joined : with_record nodes (Join node start) past ≡ Joined node start ∷ past = cond-false _ _ _ new in
+          let ok : IsLegal nodes (Joined node start ∷ past) = subst (IsLegal nodes) joined legal in
+          let is : node ≡ numbered nodes past = ok.1 in
+          let below : node < numbered nodes (Joined node start ∷ past) = omega (arith, is) in
+          inl (subst (λ (p : List Step). came_before nodes p (Join node start) ≡ true) (sym joined) (lt-ltb _ _ below))
+    ]
+
+-- records put their steps before the past
+steps-of : (nodes : ℕ) (records : List Record) (past : List Step)
+    → (more : List Step) × (with_records nodes records past ≡ more ++ past)
+steps-of nodes [] past = ([], refl)
+steps-of nodes (entry ∷ records) past =
+    let later = steps-of nodes records (with_record nodes entry past) in
+    elim (cases_Bool (came_before nodes past entry)) [
+      | inl came ↦ (later.0, later.1 ∙ ap (λ p. later.0 ++ p) (cond-true _ _ _ came))
+      | inr new ↦ (
+        later.0 ++ step_of entry,
+        later.1 ∙ ap (λ p. later.0 ++ p) (cond-false _ _ _ new) ∙ sym (append_assoc later.0 (step_of entry) past),
+      )
+    ]
+
+abbrev ArePassed : ℕ → List Step → List Record → Type 0
+ArePassed nodes past [] = ⊤
+ArePassed nodes past (entry ∷ records) = IsPassed nodes past entry × ArePassed nodes past records
+
+-- each record that was read is passed over
+all-passed : (nodes : ℕ) (records : List Record) (past : List Step) → IsLegal nodes (with_records nodes records past)
+    → ArePassed nodes (with_records nodes records past) records
+all-passed nodes [] past legal = tt
+all-passed nodes (entry ∷ records) past legal =
+    let here : List Step = with_record nodes entry past in
+    let later = steps-of nodes records here in
+    let ok : IsLegal nodes here = legal-before nodes here later.0 (subst (IsLegal nodes) later.1 legal) in (
+      subst (λ (p : List Step). IsPassed nodes p entry) (sym later.1)
+          (passed-stays nodes here later.0 entry (after-itself nodes past entry ok)),
+      all-passed nodes records here legal,
+    )
+
+passed-all : (nodes : ℕ) (past : List Step) (again rest : List Record) → ArePassed nodes past again
+    → with_records nodes (again ++ rest) past ≡ with_records nodes rest past
+passed-all nodes past [] rest passed = refl
+passed-all nodes past (entry ∷ again) rest passed =
+    ap (λ (p : List Step). with_records nodes (again ++ rest) p) (passed-is nodes past entry passed.0)
+    ∙ passed-all nodes past again rest passed.1
+
+-- what was read changes nothing when it is read again
+pub read-again : (nodes : ℕ) (past : List Step) (before again rest : List Record)
+    → IsLegal nodes (with_records nodes (before ++ again) past)
+    → with_records nodes (again ++ rest) (with_records nodes (before ++ again) past)
+    ≡ with_records nodes rest (with_records nodes (before ++ again) past)
+read-again nodes past before again rest legal =
+    let e = records-append nodes before again past in
+    passed-all nodes (with_records nodes (before ++ again) past) again rest
+    (subst (λ (p : List Step). ArePassed nodes p again) (sym e)
+    (all-passed nodes again (with_records nodes before past) (subst (IsLegal nodes) e legal)))

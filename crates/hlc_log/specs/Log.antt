@@ -1,0 +1,99 @@
+-- The records of a log as bytes, one after another, and what a store makes of them.
+use Rattle.std.specs.Prelude.{◌≡◌, ◌⊎◌, ◌&&◌, ◌==◌, ℕ, List, [], ◌∷◌, ◌++◌, Bool, false, nat_lt, length, max}
+use Rattle.std.specs.Prelude.{Option, Some, None, Result, Ok, Err, if◌then◌else◌, ⊤}
+use Rattle.std.specs.List.{flat_map}
+use Rattle.hlc_intake.specs.declared.intake.LinkFault.TheVariants.{NotNext}
+use Rattle.hlc_events.specs.declared.fault.CoreFault.{CoreFault}
+use Rattle.hlc_events.specs.declared.fault.CoreFault.TheVariants.{Link, NoMemory}
+use Rattle.hlc_core.specs.Past.{Step, Took, Joined, numbered, count, item_refusal, join_at_refusal}
+use Rattle.hlc_core.specs.Calls.{IsRefusal, IsWrite}
+use Rattle.hlc_core.specs.StoreView.{StoreView, nodes, Represents}
+use Rattle.hlc_log.specs.declared.record.Record.{Record}
+use Rattle.hlc_log.specs.declared.record.Record.TheVariants.{Item, Join, Threshold}
+use Rattle.hlc_log.specs.declared.apply.RecordFault.{RecordFault}
+use Rattle.hlc_log.specs.declared.apply.RecordFault.TheVariants.{Bytes, Refused}
+use Rattle.hlc_log.specs.declared.apply.Applied.{Applied}
+use Rattle.hlc_log.specs.Record.{record_bytes, record_at, StartsWithWrite}
+
+-- the bytes of some records, one after another
+abbrev pub log_bytes : List Record → List ℕ
+log_bytes records = flat_map record_bytes records
+
+-- the record came before: an item of this number was accepted, or a node of this number has joined
+abbrev pub came_before : ℕ → List Step → Record → Bool
+came_before nodes past (Item item) = nat_lt item.node (numbered nodes past) && nat_lt item.number (count item.node past)
+came_before nodes past (Join node start) = nat_lt node (numbered nodes past)
+came_before nodes past (Threshold at) = false
+
+-- the step of a record; a threshold is none
+abbrev pub step_of : Record → List Step
+step_of (Item item) = Took item ∷ []
+step_of (Join node start) = Joined node start ∷ []
+step_of (Threshold at) = []
+
+-- the past after a record: unchanged if it came before
+abbrev pub with_record : ℕ → Record → List Step → List Step
+with_record nodes entry past = if came_before nodes past entry then past else step_of entry ++ past
+
+-- the past after some records, one after another
+abbrev pub with_records : ℕ → List Record → List Step → List Step
+with_records nodes [] past = past
+with_records nodes (entry ∷ records) past = with_records nodes records (with_record nodes entry past)
+
+-- the greatest threshold of some records and of this one
+abbrev pub greatest_threshold : ℕ → List Record → ℕ
+greatest_threshold least [] = least
+greatest_threshold least (Threshold at ∷ records) = greatest_threshold (max least at) records
+greatest_threshold least (_ ∷ records) = greatest_threshold least records
+
+-- why a record that did not come before is refused, apart from memory: an item as `Core::accept` refuses it; a join
+-- first if its node is not the next one
+abbrev pub record_refusal : ℕ → List Step → Record → Option CoreFault
+record_refusal nodes past (Item item) = item_refusal nodes past item
+record_refusal nodes past (Join node start) =
+    if node == numbered nodes past then join_at_refusal nodes past start
+    else Some (Link (NotNext (numbered nodes past)))
+record_refusal nodes past (Threshold at) = None
+
+-- a record that is applied may need memory: a write, a deletion or a join
+abbrev pub MayGrow : Record → Type 0
+MayGrow (Item item) = IsWrite item.body
+MayGrow (Join node start) = ⊤
+MayGrow (Threshold at) = ⊥
+
+-- a record that did not come before was applied, or refused
+abbrev pub Applies : StoreView → StoreView → Record → List Step → Result Unit CoreFault → Type 0
+Applies old new entry past (Ok done) = (record_refusal (nodes old) past entry ≡ None)
+    × Represents new (step_of entry ++ past)
+Applies old new entry past (Err fault) = IsRefusal (record_refusal (nodes old) past entry) (MayGrow entry) fault
+
+-- the record at the front of some bytes was refused; or out of memory for the copy of a write
+abbrev pub IsRefusedAt : ℕ → List ℕ → List Step → CoreFault → Type 0
+IsRefusedAt nodes bytes past fault =
+    ((fault ≡ NoMemory) × StartsWithWrite bytes)
+    ⊎ ((entry : Record) × (rest : List ℕ) × (record_at bytes ≡ Ok (entry, rest))
+    × (came_before nodes past entry ≡ false)
+    × IsRefusal (record_refusal nodes past entry) (MayGrow entry) fault)
+
+-- why the record at the front of some bytes was not applied: the first fault of the bytes, or a refusal
+abbrev pub IsStopped : ℕ → List ℕ → List Step → RecordFault → Type 0
+IsStopped nodes bytes past (Bytes fault) = record_at bytes ≡ Err fault
+IsStopped nodes bytes past (Refused fault) = IsRefusedAt nodes bytes past fault
+
+-- no bytes are left; or the record at their front was not applied
+abbrev pub IsLogEnd : ℕ → List ℕ → List Step → Option RecordFault → Type 0
+IsLogEnd nodes [] past end = end ≡ None
+IsLogEnd nodes (byte ∷ bytes) past None = ⊥
+IsLogEnd nodes (byte ∷ bytes) past (Some fault) = IsStopped nodes (byte ∷ bytes) past fault
+
+-- The first records of the bytes were applied, as far as possible: what they are, and what the result says of them.
+pub record AreApplied (nodes : ℕ) (new : StoreView) (bytes : List ℕ) (past : List Step) (least : ℕ) (applied : Applied)
+    : Type 0 where
+  pub records : List Record
+  pub rest : List ℕ
+  pub bytes_are : bytes ≡ log_bytes records ++ rest
+  pub used : applied.bytes ≡ length (log_bytes records)
+  pub many : applied.records ≡ length records
+  pub threshold : applied.threshold ≡ greatest_threshold least records
+  pub represents : Represents new (with_records nodes records past)
+  pub end : IsLogEnd nodes rest (with_records nodes records past) applied.end

@@ -1,0 +1,190 @@
+//! What a store makes of the records of a log.
+ghost use Rattle.std.specs.Prelude.{◌≡◌, ◌<◌, ◌++◌, ◌∷◌, [], List, length, false, IfOk, OnOk, OnErr};
+ghost use Rattle.std.specs.Prelude.{MatchResult};
+ghost use Rattle.hlc_core.specs.Past.{Step};
+ghost use Rattle.hlc_core.specs.StoreView.{nodes, Represents};
+ghost use Rattle.hlc_core.specs.Calls.{IsRefusal};
+ghost use Rattle.hlc_log.specs.declared.record.Record.{Record as ARecord};
+ghost use Rattle.hlc_log.specs.Record.{record_bytes};
+ghost use Rattle.hlc_log.specs.Log.{came_before, with_record, greatest_threshold, record_refusal};
+ghost use Rattle.hlc_log.specs.Log.{MayGrow, Applies, IsStopped, AreApplied};
+
+use crate::record::{Record, record_at};
+use hlc_core::{Core, CoreFault, Item, LinkFault, Stamp};
+use hlc_wire::{DecodeError, WireFault};
+use std::alloc::Global;
+
+/// Why a record was not applied.
+#[derive(Clone, Copy, PartialEq, Eq, Debug)]
+pub enum RecordFault {
+    /// The bytes are not those of a record.
+    Bytes(WireFault),
+    /// The store refuses the record. Out of memory is `CoreFault::NoMemory`; a join whose node is not the next one is
+    /// `LinkFault::NotNext` with the number that is next.
+    Refused(CoreFault),
+}
+
+/// How far records were applied.
+#[derive(Clone, Copy, PartialEq, Eq, Debug)]
+pub struct Applied {
+    /// The number of records that were applied, or that came before and were passed over.
+    pub records: usize,
+    /// The number of their bytes.
+    pub bytes: usize,
+    /// The greatest threshold among them, or the one that was passed in.
+    pub threshold: Stamp,
+    /// Why the next record was not applied; none at the end of the bytes.
+    pub end: Option<RecordFault>,
+}
+
+/// Applies the records of a log in turn, and passes over those that came before, until one is not applied.
+///
+/// Items are accepted, and nodes join at their starts. A threshold changes nothing here: its stamp is returned, and the
+/// caller may vacuum to it. `threshold` is the greatest one so far, or 0.0. The store has what was applied, whatever
+/// stopped it. A write's key and value are copied.
+pub fn apply_records(alloc: Global, core: &mut Core, bytes: &[u8], threshold: Stamp) -> Applied
+    ensures represents { (past : List Step) → Represents core.old past
+        → AreApplied (nodes core.old) core.new bytes.now past threshold result }
+    ensures nodes { nodes core.new ≡ nodes core.old }
+{
+    let mut rest = bytes;
+    let mut records = 0usize;
+    let mut greatest = threshold;
+    while !rest.is_empty() {
+        match apply_front(alloc, core, rest, &mut greatest) {
+            Ok(after) => {
+                rest = after;
+                records += 1;
+            }
+            Err(fault) => {
+                return Applied {
+                    records,
+                    bytes: bytes.len() - rest.len(),
+                    threshold: greatest,
+                    end: Some(fault),
+                };
+            }
+        }
+    }
+    Applied {
+        records,
+        bytes: bytes.len(),
+        threshold: greatest,
+        end: None,
+    }
+}
+
+/// Applies the record at the front of the bytes, unless it came before, and raises the greatest threshold by it. Returns
+/// the bytes after it, or why it was not applied.
+fn apply_front<'a>(
+    alloc: Global,
+    core: &mut Core,
+    bytes: &'a [u8],
+    greatest: &mut Stamp,
+) -> Result<&'a [u8], RecordFault>
+    ensures represents { (past : List Step) → Represents core.old past → MatchResult result
+        (λ rest. (entry : ARecord) × (bytes.now ≡ record_bytes entry ++ rest.now)
+        × (greatest.new ≡ greatest_threshold greatest.old (entry ∷ []))
+        × Represents core.new (with_record (nodes core.old) entry past))
+        (IsStopped (nodes core.old) bytes.now past) }
+    ensures shorter { IfOk result (λ rest. length rest.now < length bytes.now) }
+    ensures same { OnErr result ((core.new ≡ core.old) × (greatest.new ≡ greatest.old)) }
+    ensures nodes { nodes core.new ≡ nodes core.old }
+{
+    let (record, rest) = match record_at(alloc, bytes) {
+        Ok(found) => found,
+        Err(DecodeError::NoMemory) => return Err(RecordFault::Refused(CoreFault::NoMemory)),
+        Err(DecodeError::Fault(fault)) => return Err(RecordFault::Bytes(fault)),
+    };
+    match enter(core, &record, greatest) {
+        Ok(()) => Ok(rest),
+        Err(fault) => Err(RecordFault::Refused(fault)),
+    }
+}
+
+/// Applies a record, unless it came before, and raises the greatest threshold by it.
+fn enter(core: &mut Core, record: &Record, greatest: &mut Stamp) -> Result<(), CoreFault>
+    ensures represents { (past : List Step) → Represents core.old past → MatchResult result
+        (λ _. Represents core.new (with_record (nodes core.old) record.now past))
+        (λ fault. (came_before (nodes core.old) past record.now ≡ false)
+        × IsRefusal (record_refusal (nodes core.old) past record.now) (MayGrow record.now) fault) }
+    ensures raised { OnOk result
+        (greatest.new ≡ greatest_threshold greatest.old (record.now ∷ [])) }
+    ensures same { OnErr result ((core.new ≡ core.old) × (greatest.new ≡ greatest.old)) }
+    ensures nodes { nodes core.new ≡ nodes core.old }
+{
+    if !came(core, record) {
+        if let Err(fault) = apply(core, record) {
+            return Err(fault);
+        }
+    }
+    *greatest = raised(*greatest, record);
+    Ok(())
+}
+
+/// Returns whether a record came before.
+fn came(core: &Core, record: &Record) -> bool
+    ensures { (past : List Step) → Represents core.now past
+        → result ≡ came_before (nodes core.now) past record.now }
+{
+    match record {
+        Record::Item(item) => match core.count(item.node) {
+            Ok(next) => item.number < next,
+            Err(_) => false,
+        },
+        Record::Join { node, start: _ } => (*node as usize) < core.links().len(),
+        Record::Threshold(_) => false,
+    }
+}
+
+/// Applies a record that did not come before.
+fn apply(core: &mut Core, record: &Record) -> Result<(), CoreFault>
+    ensures represents { (past : List Step) → Represents core.old past
+        → Applies core.old core.new record.now past result }
+    ensures same { OnErr result (core.new ≡ core.old) }
+    ensures nodes { nodes core.new ≡ nodes core.old }
+{
+    match record {
+        Record::Item(item) => accept(core, item),
+        Record::Join { node, start } => join(core, *node, *start),
+        Record::Threshold(_) => Ok(()),
+    }
+}
+
+/// Accepts an item.
+fn accept(core: &mut Core, item: &Item) -> Result<(), CoreFault>
+    ensures represents { (past : List Step) → Represents core.old past
+        → Applies core.old core.new (ARecord.Item item.now) past result }
+    ensures same { OnErr result (core.new ≡ core.old) }
+    ensures nodes { nodes core.new ≡ nodes core.old }
+{
+    match core.accept_copy(item) {
+        Ok(_) => Ok(()),
+        Err(fault) => Err(fault),
+    }
+}
+
+/// Lets a node of this number join, if it is the next one.
+fn join(core: &mut Core, node: u16, start: Stamp) -> Result<(), CoreFault>
+    ensures represents { (past : List Step) → Represents core.old past
+        → Applies core.old core.new (ARecord.Join node start) past result }
+    ensures same { OnErr result (core.new ≡ core.old) }
+    ensures nodes { nodes core.new ≡ nodes core.old }
+{
+    let next = core.links().len();
+    if node as usize != next {
+        return Err(CoreFault::Link(LinkFault::NotNext { next: next as u64 }));
+    }
+    core.join_at(start)?;
+    Ok(())
+}
+
+/// Returns the greatest threshold, after one more record.
+fn raised(greatest: Stamp, record: &Record) -> Stamp
+    ensures { result ≡ greatest_threshold greatest (record.now ∷ []) }
+{
+    match record {
+        Record::Threshold(at) => greatest.max(*at),
+        _ => greatest,
+    }
+}

@@ -1,0 +1,15 @@
+//! What is true of every log.
+ghost use Rattle.std.specs.Prelude.{◌≡◌, ◌++◌, ℕ, List};
+ghost use Rattle.hlc_core.specs.Past.{Step, IsLegal};
+ghost use Rattle.hlc_log.specs.declared.record.Record.{Record as ARecord};
+ghost use Rattle.hlc_log.specs.Log.{with_records};
+
+/// A log may be read again from any place before that of the store: records that were applied before change nothing.
+///
+/// So a store that is restored from a checkpoint needs no exact place in its log, only one that is not after its own.
+pub fn a_log_may_be_read_again()
+    ensures { (nodes : ℕ) (past : List Step) (before again rest : List ARecord)
+        → IsLegal nodes (with_records nodes (before ++ again) past)
+        → with_records nodes (again ++ rest) (with_records nodes (before ++ again) past)
+        ≡ with_records nodes rest (with_records nodes (before ++ again) past) }
+{}
