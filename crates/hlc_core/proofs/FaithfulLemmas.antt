@@ -14,15 +14,18 @@ use Rattle.hlc_core.specs.Stored.{IsReport, LeavesFewest}
 use Rattle.hlc_core.specs.StoreView.{StoreView, nodes, Represents}
 use Rattle.hlc_events.specs.declared.event.CoreEvent.{CoreEvent}
 use Rattle.hlc_events.specs.declared.event.CoreEvent.TheVariants.{Accept, Join, OpenAt, OpenFloor, Read, List as ListAll}
-use Rattle.hlc_events.specs.declared.event.CoreEvent.TheVariants.{Close, Vacuum, JoinAt, VacuumTo}
+use Rattle.hlc_events.specs.declared.event.CoreEvent.TheVariants.{Close, Vacuum, JoinAt, VacuumTo, VacuumPart}
 use Rattle.hlc_core.specs.declared.listing.Pair.{Pair}
 use Rattle.hlc_core.specs.declared.reply.CoreReply.{CoreReply}
-use Rattle.hlc_core.specs.declared.reply.CoreReply.TheVariants.{Answer, Listing, Vacuumed}
+use Rattle.hlc_core.specs.declared.reply.CoreReply.TheVariants.{Answer, Listing, Vacuumed, VacuumedPart}
 use Rattle.hlc_core.specs.Listing.{IsListing}
 use Rattle.hlc_core.specs.Calls.{IsListed}
 use Rattle.hlc_core.specs.History.{step_of, with_step, past_of, IsAnswer, IsExpected, IsLegalHistory, RepresentsHistory}
+use Rattle.hlc_core.specs.History.{IsLeft}
 use Rattle.hlc_core.specs.Headline.{IsMoment, ReadsAreNewest, VacuumsAreFewest, VacuumsAreCheapest, FewestAreLeft}
-use Rattle.hlc_core.specs.Headline.{IsFaithful, SnapshotsStay, vacuum_stamp}
+use Rattle.hlc_core.specs.Headline.{IsFaithful, SnapshotsStay, PartsAreFewest, FewestAreLeftByParts, vacuum_stamp}
+use Rattle.hlc_core.specs.Parts.{IsPartReport, rows_of_keys}
+use Rattle.hlc_columns.specs.Answers.{in_part}
 use Rattle.hlc_core.proofs.ListingLemmas.{one-listing}
 use Rattle.hlc_core.proofs.StayLemmas.{legal-before, snapshots-stay}
 use Rattle.hlc_core.proofs.VacuumLemmas.{leaves-fewest}
@@ -141,6 +144,7 @@ reported nodes past (Close id) report expected = absurd expected.1
 reported nodes past (JoinAt start) report expected = absurd expected.1
 reported nodes past Vacuum report expected = (floor nodes past, refl, expected.1)
 reported nodes past (VacuumTo at) report expected = (at, refl, expected.1)
+reported nodes past (VacuumPart at after most) report expected = absurd expected.1
 
 vacuums-least : (nodes : ℕ) (h : List (CoreEvent × CoreReply)) → IsLegalHistory nodes h
     → VacuumsAreFewest nodes h
@@ -186,6 +190,7 @@ left kept before Vacuum report expected core =
     leaves-fewest kept report.floor (past_of before) report core
     (subst (λ at. IsReport at (past_of before) report) (sym expected.1.at_stamp) expected.1)
 left kept before (VacuumTo at) report expected core = leaves-fewest kept at (past_of before) report core expected.1
+left kept before (VacuumPart at after most) report expected core = absurd expected.1
 
 fewest-left : (kept : StoreView) (h : List (CoreEvent × CoreReply)) → RepresentsHistory kept h
     → FewestAreLeft h kept.rows
@@ -193,6 +198,32 @@ fewest-left kept h represents = λ before event report is.
     let legal : IsLegalHistory (nodes kept) ((event, Vacuumed report) ∷ before) =
     subst (λ x. IsLegalHistory (nodes kept) x) is represents.legal in
     left kept before event report legal.0 (subst (λ x. Represents kept (past_of x)) is represents.core)
+
+-- each change of the keys of a part forces a row of them
+parts-least : (nodes : ℕ) (h : List (CoreEvent × CoreReply)) → IsLegalHistory nodes h → PartsAreFewest h
+parts-least nodes h legal = λ before at after most report end moment.
+    let expected : IsExpected nodes (past_of before) (VacuumPart at after most) (VacuumedPart report end) =
+    (moment-legal nodes h ((VacuumPart at after most, VacuumedPart report end) ∷ before) legal moment).0 in
+    let part : IsPartReport at (past_of before) (in_part after end) report = expected.1.made.2.expected in
+    let all : List Row = rows_of_keys (in_part after end) (writes (past_of before)) in (
+      part,
+      λ others set' alike. (
+        (let few : length report.witnesses ≤ length others =
+            changes_force_rows all others report.points report.witnesses part.witnesses.ascend part.witnesses.each
+            alike in
+            let kept : report.kept ≡ length report.witnesses = part.kept in omega arith),
+        (let few : changes_cost all report.witnesses ≤ rows_cost others =
+            changes_force_bytes all others report.points report.witnesses part.witnesses.ascend part.witnesses.each
+            alike in
+            let is : report.bytes ≡ changes_cost all report.witnesses = part.bytes in omega arith),
+      ),
+    )
+
+-- the rows that a part left of its keys are the fewest
+parts-left : (kept : StoreView) (h : List (CoreEvent × CoreReply)) → RepresentsHistory kept h
+    → FewestAreLeftByParts h kept.rows
+parts-left kept h represents = λ before at after most report end is.
+    subst (λ x. IsLeft x kept.rows) is represents.left
 
 -- a core is faithful to each history that it represents
 pub histories_are_faithful : (kept : StoreView) (h : List (CoreEvent × CoreReply))
@@ -203,4 +234,6 @@ histories_are_faithful kept h represents = record {
   vacuums = vacuums-least (nodes kept) h represents.legal;
   bytes = vacuums-cheapest (nodes kept) h represents.legal;
   fewest = fewest-left kept h represents;
+  parts = parts-least (nodes kept) h represents.legal;
+  left_by_parts = parts-left kept h represents;
 }

@@ -1,6 +1,7 @@
--- What is promised of a whole history: each read and each vacuum, against everything that was accepted before it,
--- whatever vacuums dropped.
+-- What is promised of a whole history: each read, each vacuum and each part of one, against everything that was
+-- accepted before it, whatever vacuums dropped.
 use Rattle.std.specs.Prelude.{◌≡◌, ℕ, ◌≤◌, List, ◌∷◌, ◌++◌, length, Option, Some, None}
+use Rattle.hlc_columns.specs.Answers.{in_part}
 use Rattle.hlc_node.specs.declared.row.Row.{Row}
 use Rattle.hlc_node.specs.Rows.{answer, IsRowSet}
 use Rattle.hlc_witness.specs.Fewest.{Alike}
@@ -8,11 +9,13 @@ use Rattle.hlc_witness.specs.Cost.{rows_cost}
 use Rattle.hlc_draft.specs.declared.report.Report.{Report}
 use Rattle.hlc_events.specs.declared.event.CoreEvent.{CoreEvent}
 use Rattle.hlc_events.specs.declared.event.CoreEvent.TheVariants.{Read, List as ListAll, Vacuum, VacuumTo}
+use Rattle.hlc_events.specs.declared.event.CoreEvent.TheVariants.{VacuumPart}
 use Rattle.hlc_core.specs.declared.listing.Pair.{Pair}
 use Rattle.hlc_core.specs.declared.reply.CoreReply.{CoreReply}
-use Rattle.hlc_core.specs.declared.reply.CoreReply.TheVariants.{Answer, Listing, Vacuumed}
+use Rattle.hlc_core.specs.declared.reply.CoreReply.TheVariants.{Answer, Listing, Vacuumed, VacuumedPart}
 use Rattle.hlc_core.specs.Past.{Step, floor, stamp_of, writes}
 use Rattle.hlc_core.specs.Stored.{IsReport, LeavesFewest}
+use Rattle.hlc_core.specs.Parts.{IsPartReport, rows_of_keys}
 use Rattle.hlc_core.specs.History.{past_of}
 
 -- at some moment of the history it was exactly this one
@@ -70,6 +73,29 @@ FewestAreLeft history rows =
     → history ≡ (event, Vacuumed report) ∷ before
     → LeavesFewest rows (writes (past_of before)) report
 
+-- each part of a vacuum reported its points up to the requested stamp, the changes there of all accepted writes of its
+-- keys and their number; and no row set that answers alike for these keys at the points is smaller than the number of
+-- rows that it kept of them, or costs less
+abbrev pub PartsAreFewest : List (CoreEvent × CoreReply) → Type 0
+PartsAreFewest history =
+    (before : List (CoreEvent × CoreReply)) (at : ℕ) (after : List ℕ) (most : ℕ) (report : Report)
+    (end : Option (List ℕ))
+    → IsMoment history ((VacuumPart at after most, VacuumedPart report end) ∷ before)
+    → IsPartReport at (past_of before) (in_part after end) report
+    × ((others : List Row) → IsRowSet others
+    → Alike others (rows_of_keys (in_part after end) (writes (past_of before))) report.points
+    → (report.kept ≤ length others) × (report.bytes ≤ rows_cost others))
+
+-- just after part of a vacuum the stored rows of its keys at or below its stamp answer alike at its points, are as many
+-- as it kept and cost what it reported, and are the fewest and the cheapest
+abbrev pub FewestAreLeftByParts : List (CoreEvent × CoreReply) → List Row → Type 0
+FewestAreLeftByParts history rows =
+    (before : List (CoreEvent × CoreReply)) (at : ℕ) (after : List ℕ) (most : ℕ) (report : Report)
+    (end : Option (List ℕ))
+    → history ≡ (VacuumPart at after most, VacuumedPart report end) ∷ before
+    → LeavesFewest (rows_of_keys (in_part after end) rows)
+    (rows_of_keys (in_part after end) (writes (past_of before))) report
+
 -- all of this is true of a history with this many nodes at the start, after which these rows are stored
 pub record IsFaithful (nodes : ℕ) (history : List (CoreEvent × CoreReply)) (rows : List Row) : Type 0 where
   pub reads : ReadsAreNewest history
@@ -77,3 +103,5 @@ pub record IsFaithful (nodes : ℕ) (history : List (CoreEvent × CoreReply)) (r
   pub vacuums : VacuumsAreFewest nodes history
   pub bytes : VacuumsAreCheapest history
   pub fewest : FewestAreLeft history rows
+  pub parts : PartsAreFewest history
+  pub left_by_parts : FewestAreLeftByParts history rows

@@ -1,21 +1,24 @@
 -- What a store is expected to return: the reply to an event after what took place, and the histories in which each
 -- event got the expected reply.
 use Rattle.std.specs.Prelude.{◌≡◌, ◌≢◌, ℕ, ◌+◌, List, [], ◌∷◌, Option, Some, None, Result, Ok, Err, ⊤}
+use Rattle.hlc_node.specs.declared.row.Row.{Row}
 use Rattle.hlc_node.specs.Rows.{answer}
+use Rattle.hlc_columns.specs.Answers.{in_part}
 use Rattle.hlc_node.specs.Items.{retires}
 use Rattle.hlc_events.specs.declared.fault.CoreFault.{CoreFault}
 use Rattle.hlc_events.specs.declared.event.CoreEvent.{CoreEvent}
 use Rattle.hlc_events.specs.declared.event.CoreEvent.TheVariants.{Accept, Join, OpenAt, OpenFloor, Read, List as ListAll}
-use Rattle.hlc_events.specs.declared.event.CoreEvent.TheVariants.{Close, Vacuum, JoinAt, VacuumTo}
+use Rattle.hlc_events.specs.declared.event.CoreEvent.TheVariants.{Close, Vacuum, JoinAt, VacuumTo, VacuumPart}
 use Rattle.hlc_core.specs.declared.reply.CoreReply.{CoreReply}
 use Rattle.hlc_core.specs.declared.reply.CoreReply.TheVariants.{Accepted, Joined, Opened, Answer, Listing, Closed}
-use Rattle.hlc_core.specs.declared.reply.CoreReply.TheVariants.{Vacuumed, Refused}
+use Rattle.hlc_core.specs.declared.reply.CoreReply.TheVariants.{Vacuumed, VacuumedPart, Refused}
 use Rattle.hlc_core.specs.Past.{Step, Took, Joined as JoinedAt, Opened as OpenedAt, Closed as ClosedOf}
-use Rattle.hlc_core.specs.Past.{Vacuumed as VacuumedTo, numbered, floor, opened, stamp_of, writes}
+use Rattle.hlc_core.specs.Past.{Vacuumed as VacuumedTo, Trimmed, numbered, floor, opened, stamp_of, writes}
 use Rattle.hlc_core.specs.Past.{item_refusal, join_refusal, join_at_refusal, room_refusal, open_refusal, vacuum_refusal}
-use Rattle.hlc_core.specs.Stored.{IsReport}
+use Rattle.hlc_core.specs.Stored.{IsReport, LeavesFewest}
 use Rattle.hlc_core.specs.StoreView.{StoreView, nodes, Represents}
 use Rattle.hlc_core.specs.Calls.{IsWrite, IsListed, list_refusal}
+use Rattle.hlc_core.specs.Parts.{MayVacuumPart, VacuumsPart, rows_of_keys}
 
 -- Below, a history is the list of the events with their replies, the last one first. Out of memory is no reply: an
 -- event that is returned for it leaves no trace.
@@ -30,6 +33,7 @@ step_of (Close id) (Closed stamp) = Some (ClosedOf id)
 step_of (JoinAt at) (Joined node start) = Some (JoinedAt node start)
 step_of Vacuum (Vacuumed report) = Some (VacuumedTo report.floor)
 step_of (VacuumTo at) (Vacuumed report) = Some (VacuumedTo at)
+step_of (VacuumPart at after most) (VacuumedPart report end) = Some (Trimmed at report.dropped)
 step_of _ _ = None
 
 -- the past, and this step after it
@@ -54,6 +58,7 @@ expected_refusal nodes past (Close id) = list_refusal (stamp_of id past)
 expected_refusal nodes past Vacuum = None
 expected_refusal nodes past (JoinAt start) = join_at_refusal nodes past start
 expected_refusal nodes past (VacuumTo at) = vacuum_refusal nodes past at
+expected_refusal nodes past (VacuumPart at after most) = vacuum_refusal nodes past at
 
 -- the value is that of these answers at the snapshot's stamp
 abbrev pub IsAnswer : Option ℕ → (ℕ → Option (List ℕ)) → Option (List ℕ) → Type 0
@@ -73,6 +78,8 @@ IsExpectedReply nodes past (Close id) (Closed stamp) = stamp_of id past ≡ Some
 IsExpectedReply nodes past Vacuum (Vacuumed report) = IsReport (floor nodes past) past report
 IsExpectedReply nodes past (JoinAt at) (Joined node start) = (node ≡ numbered nodes past) × (start ≡ at)
 IsExpectedReply nodes past (VacuumTo at) (Vacuumed report) = IsReport at past report
+IsExpectedReply nodes past (VacuumPart at after most) (VacuumedPart report end) =
+    MayVacuumPart nodes at after most past report end
 IsExpectedReply nodes past _ _ = ⊥
 
 -- the reply is the expected refusal; or, if none is expected, an expected reply
@@ -86,10 +93,23 @@ IsLegalHistory nodes [] = ⊤
 IsLegalHistory nodes (entry ∷ history) = IsExpected nodes (past_of history) entry.0 entry.1
     × IsLegalHistory nodes history
 
--- the core represents the history: each reply was expected, and the core represents what took place
+-- where part of a vacuum took place after this past, the fewest and cheapest rows of its keys are among these rows
+abbrev pub LeavesPart : List Step → CoreEvent → CoreReply → List Row → Type 0
+LeavesPart past (VacuumPart at after most) (VacuumedPart report end) rows =
+    LeavesFewest (rows_of_keys (in_part after end) rows) (rows_of_keys (in_part after end) (writes past)) report
+LeavesPart past _ _ rows = ⊤
+
+-- if the last event was part of a vacuum, these are the rows just after it
+abbrev pub IsLeft : List (CoreEvent × CoreReply) → List Row → Type 0
+IsLeft [] rows = ⊤
+IsLeft (entry ∷ history) rows = LeavesPart (past_of history) entry.0 entry.1 rows
+
+-- the core represents the history: each reply was expected, the core represents what took place, and just after part of
+-- a vacuum it has the rows that this leaves
 pub record RepresentsHistory (kept : StoreView) (history : List (CoreEvent × CoreReply)) : Type 0 where
   pub legal : IsLegalHistory (nodes kept) history
   pub core : Represents kept (past_of history)
+  pub left : IsLeft history kept.rows
 
 -- the answer is a value, which is copied out of the store
 abbrev pub TakesValue : Option ℕ → (ℕ → Option (List ℕ)) → Type 0
@@ -97,17 +117,25 @@ TakesValue None answers = ⊥
 TakesValue (Some stamp) answers = answers stamp ≢ None
 
 -- the event may run out of memory: it stores a row, lets a node join, opens a snapshot, returns a value or a listing,
--- or is a vacuum
+-- or is a vacuum or part of one
 abbrev pub MayRunOutOfMemory : List Step → CoreEvent → Type 0
 MayRunOutOfMemory past (Accept item) = IsWrite item.body
 MayRunOutOfMemory past (Read id key) = TakesValue (stamp_of id past) (answer (writes past) key)
 MayRunOutOfMemory past (Close id) = ⊥
 MayRunOutOfMemory past _ = ⊤
 
+-- where part of a vacuum took place, it was one of these very stored rows, and ended where the reply says
+abbrev pub IsPartMade : StoreView → StoreView → List Step → CoreEvent → CoreReply → Type 0
+IsPartMade old new past (VacuumPart at after most) (VacuumedPart report end) =
+    VacuumsPart old new at after most past (Ok (report, end))
+IsPartMade old new past _ _ = ⊤
+
 -- after a history that the core represented, the reply is expected, and the core represents the history with it
 abbrev pub IsStep : StoreView → StoreView → CoreEvent → List (CoreEvent × CoreReply) → CoreReply → Type 0
 IsStep old new event history reply =
-    IsExpected (nodes old) (past_of history) event reply × RepresentsHistory new ((event, reply) ∷ history)
+    IsExpected (nodes old) (past_of history) event reply
+    × RepresentsHistory new ((event, reply) ∷ history)
+    × IsPartMade old new (past_of history) event reply
 
 -- the event had its step; or no refusal is expected, and it ran out of memory, which it may
 abbrev pub Steps : {E : Type 0} → StoreView → StoreView → CoreEvent → List (CoreEvent × CoreReply)
@@ -122,10 +150,11 @@ IsQuestion (Read id key) = ⊤
 IsQuestion (ListAll id) = ⊤
 IsQuestion _ = ⊥
 
--- the event asks for a vacuum
+-- the event asks for a vacuum or part of one
 abbrev pub IsVacuum : CoreEvent → Type 0
 IsVacuum Vacuum = ⊤
 IsVacuum (VacuumTo at) = ⊤
+IsVacuum (VacuumPart at after most) = ⊤
 IsVacuum _ = ⊥
 
 -- the reply is a refusal
@@ -138,6 +167,7 @@ abbrev pub IsPlain : CoreReply → Type 0
 IsPlain (Answer (Some value)) = ⊥
 IsPlain (Listing pairs) = ⊥
 IsPlain (Vacuumed report) = ⊥
+IsPlain (VacuumedPart report end) = ⊥
 IsPlain _ = ⊤
 
 -- the event may get a reply of this form, whatever took place
@@ -154,5 +184,6 @@ IsReplyTo Vacuum (Vacuumed report) = ⊤
 IsReplyTo Vacuum (Refused fault) = ⊥
 IsReplyTo (JoinAt at) (Joined node start) = start ≡ at
 IsReplyTo (VacuumTo at) (Vacuumed report) = ⊤
+IsReplyTo (VacuumPart at after most) (VacuumedPart report end) = ⊤
 IsReplyTo event (Refused fault) = ⊤
 IsReplyTo _ _ = ⊥

@@ -53,3 +53,22 @@ VacuumsPart old new at after most past (Ok made) =
     (vacuum_refusal (nodes old) past at ≡ None) × EndsAt old after most made.1
     × Trims old new at past (in_part after made.1) made.0
 VacuumsPart old new at after most past (Err fault) = IsRefusal (vacuum_refusal (nodes old) past at) ⊤ fault
+
+-- the same with the report and the end made twice
+abbrev pub VacuumsPartPair
+    : StoreView → StoreView → ℕ → List ℕ → ℕ → List Step
+    → Result ((Report × Option (List ℕ)) × (Report × Option (List ℕ))) CoreFault → Type 0
+VacuumsPartPair old new at after most past (Ok made) =
+    (made.0 ≡ made.1) × VacuumsPart old new at after most past (Ok made.0)
+VacuumsPartPair old new at after most past (Err fault) = VacuumsPart old new at after most past (Err fault)
+
+-- After this past, with this many nodes at the start, part of a vacuum may have this report and end there: in some
+-- store that represents the past it does. Which keys have stored rows also depends on the keys of the parts before it,
+-- which a past does not have.
+pub record MayVacuumPart (start at : ℕ) (after : List ℕ) (most : ℕ) (past : List Step) (report : Report)
+    (end : Option (List ℕ)) : Type 0 where
+  pub old : StoreView
+  pub new : StoreView
+  pub start_is : nodes old ≡ start
+  pub represents : Represents old past
+  pub made : VacuumsPart old new at after most past (Ok (report, end))

@@ -1,11 +1,18 @@
--- A plan of the stored rows.
-use Rattle.std.specs.Prelude.{ℕ}
+-- A plan of the stored rows, or of those of some keys.
+use Rattle.std.specs.Prelude.{ℕ, List}
 use Rattle.hlc_snapshot.specs.RegistryView.{stamps_to}
 use Rattle.hlc_clock.specs.Points.{ArePoints}
 use Rattle.hlc_draft.specs.Plan.{PlanView, IsPlanOf}
+use Rattle.hlc_vacuum.specs.declared.part.PartPlan.{PartPlan}
+use Rattle.hlc_vacuum.specs.Part.{IsPartOf}
 use Rattle.hlc_core.specs.StoreView.{StoreView}
 
 -- the plan was made of the stored rows, at the stamps of the open snapshots up to a stamp and at the stamp itself
 pub record IsPlanAt (kept : StoreView) (at : ℕ) (plan : PlanView) : Type 0 where
   pub made : IsPlanOf plan kept.rows
   pub points : ArePoints (stamps_to at kept.snapshots) at plan.points
+
+-- the plan was made of the stored rows of the first keys above one, at most so many, at these stamps
+pub record IsPartPlanAt (kept : StoreView) (at : ℕ) (after : List ℕ) (most : ℕ) (part : PartPlan) : Type 0 where
+  pub made : IsPartOf part kept.rows after most
+  pub points : ArePoints (stamps_to at kept.snapshots) at part.plan.points

@@ -23,9 +23,15 @@ pub enum CoreReply {
     /// The item was accepted.
     Accepted(Accepted),
     /// The node with this number joined, and its clock starts at this stamp.
-    Joined { node: u16, start: Stamp },
+    Joined {
+        node: u16,
+        start: Stamp,
+    },
     /// The snapshot with this id was opened, at this stamp.
-    Opened { id: u64, stamp: Stamp },
+    Opened {
+        id: u64,
+        stamp: Stamp,
+    },
     /// The value of the key, or none.
     Answer(Option<Bytes>),
     /// All keys that have a value, in byte order, with their values.
@@ -34,6 +40,12 @@ pub enum CoreReply {
     Closed(Stamp),
     /// The vacuum took place; this is its report, in a block of its own, so that all replies are small.
     Vacuumed(BoxedReport),
+    /// The part of a vacuum took place; this is its report, and the last of its keys, above which the next part begins,
+    /// or none if no key is left.
+    VacuumedPart {
+        report: BoxedReport,
+        end: Option<Bytes>,
+    },
     /// The event did not take place.
     Refused(CoreFault),
 }
@@ -60,6 +72,10 @@ impl Clone for CoreReply {
             CoreReply::Listing(pairs) => Ok(CoreReply::Listing(pairs.clone()?)),
             CoreReply::Closed(stamp) => Ok(CoreReply::Closed(*stamp)),
             CoreReply::Vacuumed(report) => Ok(CoreReply::Vacuumed(report.clone()?)),
+            CoreReply::VacuumedPart { report, end } => Ok(CoreReply::VacuumedPart {
+                report: report.clone()?,
+                end: end.clone()?,
+            }),
             CoreReply::Refused(fault) => Ok(CoreReply::Refused(*fault)),
         }
     }

@@ -83,6 +83,9 @@ impl Core {
                 Err(fault) => returned(fault),
             },
             CoreEvent::VacuumTo(at) => self.vacuum_to_boxed(*at),
+            CoreEvent::VacuumPart { at, after, most } => {
+                self.vacuum_part_boxed(*at, after.as_slice(), *most)
+            }
         }
     }
 
@@ -122,6 +125,34 @@ impl Core {
         let block = self.report_block()?;
         match self.vacuum_to(at) {
             Ok(report) => Ok(CoreReply::Vacuumed(block.with(report))),
+            Err(fault) => returned(fault),
+        }
+    }
+
+    /// Returns the reply to a part of a vacuum. The block of its report is allocated before anything changes.
+    fn vacuum_part_boxed(
+        &mut self,
+        at: Stamp,
+        after: &[u8],
+        most: usize,
+    ) -> Result<CoreReply, NoMemory>
+        ensures represents { (history : List (AnEvent × AReply)) → RepresentsHistory self.old history
+            → Steps self.old self.new (CoreEvent.VacuumPart at after.now most) history result }
+        ensures err { OnErr result (self.new ≡ self.old) }
+        ensures refused { IfOk result (λ reply. IsRefused reply → self.new ≡ self.old) }
+        ensures form { IfOk result
+            (λ reply. IsReplyTo (CoreEvent.VacuumPart at after.now most) reply) }
+        ensures nodes { nodes self.new ≡ nodes self.old }
+    {
+        if let Err(fault) = self.check_vacuum(at) {
+            return Ok(CoreReply::Refused(fault));
+        }
+        let block = self.report_block()?;
+        match self.vacuum_part(at, after, most) {
+            Ok((report, end)) => Ok(CoreReply::VacuumedPart {
+                report: block.with(report),
+                end,
+            }),
             Err(fault) => returned(fault),
         }
     }

@@ -15,7 +15,10 @@ pub enum CoreEvent {
     /// A snapshot is opened at the floor.
     OpenFloor,
     /// A key is read in an open snapshot.
-    Read { id: u64, key: Bytes },
+    Read {
+        id: u64,
+        key: Bytes,
+    },
     /// All keys with a value are read in the open snapshot with this id.
     List(u64),
     /// The open snapshot with this id is closed.
@@ -26,4 +29,11 @@ pub enum CoreEvent {
     JoinAt(Stamp),
     /// Rows up to this stamp that no reader needs any more are dropped.
     VacuumTo(Stamp),
+    /// Part of a vacuum to the stamp: such rows of the first stored keys above `after`, at most so many, are dropped. The
+    /// first part begins with the empty key.
+    VacuumPart {
+        at: Stamp,
+        after: Bytes,
+        most: usize,
+    },
 }

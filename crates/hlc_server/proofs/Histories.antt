@@ -78,7 +78,7 @@ audited_first core audit trail total represents is none = λ t some. first t (sy
     first t are =
         let empty : t ≡ [] = cond-empty audit t are in
         subst (λ l. IsAudited core l total) (sym empty)
-        (record { legal = tt; represents = record { legal = tt; core = represents }; counted = sym none })
+        (record { legal = tt; represents = record { legal = tt; core = represents; left = tt }; counted = sym none })
 
 -- A vacuum to a stamp is a step of each history that the core represented.
 pub vacuum_is_step : (old new : StoreView) (at : ℕ) (history : List (CoreEvent × CoreReply)) (report : Report)
@@ -91,5 +91,7 @@ vacuum_is_step old new at history report same represents none made = (
         (sym same)
         ((none, made.expected), represents.legal);
     core = made.represents;
+    left = tt;
   },
+  tt,
 )

@@ -202,4 +202,23 @@ impl<L: Ledger> Shared<L> {
         let returned = self.call_by_threads(rt, &mut caller, CoreEvent::VacuumTo(at));
         (caller, returned)
     }
+
+    /// Does a part of `vacuum_to`, for the first keys above `after`, at most `most` keys, so that the store is locked
+    /// for a short time only. The reply has the report of these keys and the last of them, above which the next part
+    /// begins, or none if no key is left. The first part begins with the empty key. Any thread's calls may come between
+    /// two parts.
+    ///
+    /// The reply is a refusal in the same cases as that to `vacuum_to`. Where it runs out of memory, no call is made.
+    pub fn vacuum_part<R: Wait>(
+        &self,
+        rt: &R,
+        caller: Caller<L>,
+        at: Stamp,
+        after: Bytes,
+        most: usize,
+    ) -> Called<L>
+        ensures { IsResultFor caller (AnEvent.VacuumPart at after most) result }
+    {
+        self.step(rt, caller, CoreEvent::VacuumPart { at, after, most })
+    }
 }

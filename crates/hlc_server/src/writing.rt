@@ -9,7 +9,9 @@ ghost use Rattle.hlc_server.specs.Calls.{Enters, RepliesTwice};
 
 use crate::entry::Entry;
 use crate::trail::Trail;
-use hlc_core::{Core, CoreEvent, CoreFault, CoreReply, NoMemory, Stamp};
+use hlc_core::{
+    BoxedReport, Bytes, Core, CoreEvent, CoreFault, CoreReply, NoMemory, Report, Stamp,
+};
 
 /// Makes a call of the core, and writes it into the trail.
 #[inline(always)]
@@ -27,6 +29,9 @@ pub(crate) fn make_call(
         Some(trail) => match event {
             CoreEvent::Vacuum => write_vacuum(core, trail, caller),
             CoreEvent::VacuumTo(at) => write_vacuum_to(core, trail, caller, *at),
+            CoreEvent::VacuumPart { at, after, most } => {
+                write_vacuum_part(core, trail, caller, *at, after, *most)
+            }
             _ => write_call(core, trail, caller, event),
         },
     }
@@ -142,6 +147,65 @@ fn vacuum_twice_to(core: &mut Core, at: Stamp) -> Result<(CoreReply, CoreReply),
             CoreReply::Vacuumed(other.with(copy)),
         )),
         Err(fault) => refuse_twice(fault),
+    }
+}
+
+/// Makes a part of a vacuum of the core, and the entry of the call. Both replies are made before anything changes.
+fn write_vacuum_part(
+    core: &mut Core,
+    trail: &mut Trail,
+    caller: u16,
+    at: Stamp,
+    after: &Bytes,
+    most: usize,
+) -> Result<CoreReply, NoMemory>
+    ensures { Enters core.old core.new (Some trail.old.entries.items) (Some trail.new.entries.items)
+        caller (AnEvent.VacuumPart at after.now most) result }
+{
+    let Ok(key) = after.clone() else {
+        return Err(NoMemory);
+    };
+    let Ok(()) = trail.entries.reserve(1) else {
+        return Err(NoMemory);
+    };
+    let (reply, copy) = vacuum_part_twice(core, at, after.as_slice(), most)?;
+    trail.entries.push_reserved(Entry {
+        caller,
+        event: CoreEvent::VacuumPart {
+            at,
+            after: key,
+            most,
+        },
+        reply: copy,
+    });
+    Ok(reply)
+}
+
+/// Makes a part of a vacuum of the core, and returns the reply twice.
+fn vacuum_part_twice(
+    core: &mut Core,
+    at: Stamp,
+    after: &[u8],
+    most: usize,
+) -> Result<(CoreReply, CoreReply), NoMemory>
+    ensures { RepliesTwice core.old core.new (AnEvent.VacuumPart at after.now most) result }
+{
+    let block = core.report_block()?;
+    let other = core.report_block()?;
+    match core.vacuum_part_pair(at, after, most) {
+        Ok((made, copy)) => Ok((part_reply(block, made), part_reply(other, copy))),
+        Err(fault) => refuse_twice(fault),
+    }
+}
+
+/// Returns the reply to a part of a vacuum, with its report in this block.
+fn part_reply(block: BoxedReport, made: (Report, Option<Bytes>)) -> CoreReply
+    ensures { result ≡ AReply.VacuumedPart made.0 made.1 }
+{
+    let (report, end) = made;
+    CoreReply::VacuumedPart {
+        report: block.with(report),
+        end,
     }
 }
 

@@ -13,7 +13,7 @@ use Rattle.hlc_world.specs.Store.{share, with_entry, store_history}
 use Rattle.hlc_world.specs.Expected.{IsLegal}
 use Rattle.hlc_world.specs.WorldView.{WorldView, world_nodes, Represents}
 use Rattle.hlc_world.specs.Headline.{MomentsAreReported, ReadsAreClosed, IsFaithful}
-use Rattle.hlc_world.proofs.Histories.{history-legal}
+use Rattle.hlc_world.proofs.Histories.{history-legal, left-by-none}
 use Rattle.hlc_world.proofs.Closure.{closed}
 
 moment-stays : (o : Option (CoreEvent × CoreReply)) (h before : List (CoreEvent × CoreReply)) → IsStoreMoment h before
@@ -49,7 +49,11 @@ reads-closed nodes s legal =
 -- the core represents the store's history
 represents : (state : WorldView) (s : List (Event × Reply)) → Represents state s
     → RepresentsHistory state.core (store_history s)
-represents state s h = record { legal = history-legal (world_nodes state) s h.legal; core = h.core }
+represents state s h = record {
+  legal = history-legal (world_nodes state) s h.legal;
+  core = h.core;
+  left = left-by-none s state.core.rows;
+}
 
 -- a world is faithful to each schedule that it represents
 pub faithful : (state : WorldView) (s : List (Event × Reply)) → Represents state s

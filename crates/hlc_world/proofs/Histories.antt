@@ -3,6 +3,7 @@
 use Rattle.std.proofs.Common.{◌≡◌, ℕ, ◌≤◌, List, [], ◌∷◌, Some, None, Option, ◌∙◌, sym, subst, inl, inr, arith}
 use Rattle.std.proofs.lemmas.Bool.{cond-true, cond-false, lt-leb, le-leb, lt-ltb, cases_lt}
 use Rattle.hlc_node.specs.declared.item.Item.{Item}
+use Rattle.hlc_node.specs.declared.row.Row.{Row}
 use Rattle.hlc_events.specs.declared.event.CoreEvent.{CoreEvent}
 use Rattle.hlc_events.specs.declared.event.CoreEvent.TheVariants as core_event
 use Rattle.hlc_core.specs.declared.reply.CoreReply.{CoreReply}
@@ -14,7 +15,7 @@ use Rattle.hlc_core.specs.Past.{Step, numbered, floor, horizon, stamp_of, join_r
 use Rattle.hlc_core.specs.Past.{IsLegal as IsLegalPast}
 use Rattle.hlc_core.proofs.PastLemmas.{open-room, vacuum-none, horizon-low}
 use Rattle.hlc_core.specs.Calls.{list_refusal}
-use Rattle.hlc_core.specs.History.{step_of, with_step, past_of, IsExpected, IsLegalHistory}
+use Rattle.hlc_core.specs.History.{step_of, with_step, past_of, IsExpected, IsLegalHistory, IsLeft}
 use Rattle.hlc_world.specs.declared.event.Event.TheVariants.{Deliver, OpenAt, OpenFloor, Read, List as ListAll, Close}
 use Rattle.hlc_world.specs.declared.event.Event.TheVariants.{Join, Vacuum}
 use Rattle.hlc_world.specs.declared.reply.Reply.{Reply}
@@ -50,6 +51,28 @@ history-entry nodes s _ _ allowed legal = legal
 pub history-legal : (nodes : ℕ) (s : List (Event × Reply)) → IsLegal nodes s → IsLegalHistory nodes (store_history s)
 history-legal nodes [] legal = tt
 history-legal nodes (entry ∷ s) legal = history-entry nodes s entry.0 entry.1 legal.0 (history-legal nodes s legal.1)
+
+left-taken : (h : List (CoreEvent × CoreReply)) (p st : ℕ) (o : Option Item) (rows : List Row) → IsLeft h rows
+    → IsLeft (with_entry (paired (accepted p st o) (accepting o)) h) rows
+left-taken h p st None rows left = left
+left-taken h p st (Some item) rows left = tt
+
+left-entry : (s : List (Event × Reply)) (event : Event) (reply : Reply) (rows : List Row)
+    → IsLeft (store_history s) rows → IsLeft (store_history ((event, reply) ∷ s)) rows
+left-entry s (Deliver p k) (Accepted st) rows left = left-taken (store_history s) p st (item_at p k s) rows left
+left-entry s Join (Joined node start) rows left = tt
+left-entry s (OpenAt at) (Snapshot id st) rows left = tt
+left-entry s OpenFloor (Snapshot id st) rows left = tt
+left-entry s (Read id key) (Answer value) rows left = tt
+left-entry s (ListAll id) (Listing pairs) rows left = tt
+left-entry s (Close id) (Closed st) rows left = tt
+left-entry s Vacuum (Vacuumed report) rows left = tt
+left-entry s _ _ rows left = left
+
+-- no event of a schedule is part of a vacuum, so none leaves rows just after it
+pub left-by-none : (s : List (Event × Reply)) (rows : List Row) → IsLeft (store_history s) rows
+left-by-none [] rows = tt
+left-by-none (entry ∷ s) rows = left-entry s entry.0 entry.1 rows (left-by-none s rows)
 
 no-list : (o : Option ℕ) → list_refusal o ≡ None → o ≡ None → ⊥
 no-list None h e = absurd (cc)
@@ -95,6 +118,8 @@ past-step nodes past core_event.Vacuum (core_reply.Vacuumed report) expected leg
     let low : horizon past ≤ floor nodes past = horizon-low nodes past legal in
     (vacuum-none nodes past report.floor (omega arith) (omega arith), legal)
 past-step nodes past (core_event.VacuumTo at) (core_reply.Vacuumed report) expected legal = (expected.0, legal)
+past-step nodes past (core_event.VacuumPart at after most) (core_reply.VacuumedPart report end) expected legal =
+    (expected.0, legal)
 past-step nodes past _ _ expected legal = legal
 
 past-legal : (nodes : ℕ) (h : List (CoreEvent × CoreReply)) → IsLegalHistory nodes h → IsLegalPast nodes (past_of h)

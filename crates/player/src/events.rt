@@ -59,6 +59,11 @@ pub(crate) fn event_of(alloc: Global, words: &mut LineWords<'_>) -> Option<CoreE
         "close" => Some(CoreEvent::Close(next_number(words))),
         "vacuum" => Some(CoreEvent::Vacuum),
         "vacuum_to" => Some(CoreEvent::VacuumTo(next_stamp(words))),
+        "vacuum_part" => Some(CoreEvent::VacuumPart {
+            at: next_stamp(words),
+            after: next_text(alloc, words)?,
+            most: next_number(words) as usize,
+        }),
         "read" => Some(CoreEvent::Read {
             id: next_number(words),
             key: next_text(alloc, words)?,

@@ -34,6 +34,9 @@ fn call<L: Ledger, R: Wait + Threads + Sync>(
         CoreEvent::Vacuum => shared.vacuum(rt, caller),
         CoreEvent::JoinAt(start) => shared.join_at(rt, caller, start),
         CoreEvent::VacuumTo(at) => shared.vacuum_to(rt, caller, at),
+        CoreEvent::VacuumPart { at, after, most } => {
+            shared.vacuum_part(rt, caller, at, after, most)
+        }
     }
 }
 

@@ -1,11 +1,11 @@
-//! Vacuums to a stamp and joins at a stamp, on a shared store.
+//! Vacuums to a stamp, in parts and whole, and joins at a stamp, on a shared store.
 ghost use Rattle.std.specs.Prelude.{◌≡◌};
 
 use crate::clients::{Client, lists_of, settled_calls};
 use crate::expected::must_be;
 use crate::threads::shows;
 use hlc_core::{CoreEvent, CoreFault, CoreReply, JoinFault, LinkFault, Stamp};
-use hlc_server::{Caller, SettleFault, Shared};
+use hlc_server::{Bytes, Caller, SettleFault, Shared};
 use std::alloc::Global;
 use std::marker::Brand;
 use std::process::Abort;
@@ -65,14 +65,57 @@ fn fills<L: Ledger, R: Wait + Threads + Abort + Sync>(
     writes(rt, alloc, shared, client, (0, 2, at_second(3)))
 }
 
-/// Checks that the last reply is the report of a vacuum to 2.0: the write at 2.0 is kept, and that at 1.0 dropped.
+/// Makes a part of a vacuum to 2.0, of one key.
+fn part<L: Ledger, R: Wait + Threads + Abort + Sync>(
+    rt: &R,
+    alloc: Global,
+    shared: &Shared<L>,
+    client: Client<L>,
+    after: &[u8],
+) -> Client<L> {
+    let event = CoreEvent::VacuumPart {
+        at: at_second(2),
+        after: Bytes::from_slice(alloc, after).expect(rt, "memory"),
+        most: 1,
+    };
+    client.asks(rt, shared, event)
+}
+
+/// Checks that the last reply is the report of such a part, with these numbers of rows kept and dropped, and whether it
+/// ends at a key.
+fn has_part<L: Ledger, R: Abort>(rt: &R, client: &Client<L>, expected: (u64, u128, bool)) {
+    let receipt = client.receipts.last().expect(rt, "a call that was made");
+    match &receipt.reply {
+        CoreReply::VacuumedPart { report, end } => {
+            let counts = (report.get().kept, report.get().dropped, end.is_some());
+            must_be(rt, counts, expected)
+        }
+        _ => panic!(rt; "there is no part of a vacuum"),
+    }
+}
+
+/// The first part drops the write at 1.0 and keeps that at 2.0; above its key there is no other.
+fn parts<L: Ledger, R: Wait + Threads + Abort + Sync>(
+    rt: &R,
+    alloc: Global,
+    shared: &Shared<L>,
+    client: Client<L>,
+) -> Client<L> {
+    let client = part(rt, alloc, shared, client, b"");
+    has_part(rt, &client, (1, 1, true));
+    let client = part(rt, alloc, shared, client, b"k");
+    has_part(rt, &client, (0, 0, false));
+    client
+}
+
+/// Checks that the last reply is the report of a vacuum to 2.0: the write at 2.0 is kept; parts dropped that at 1.0.
 fn has_vacuumed<L: Ledger, R: Abort>(rt: &R, client: &Client<L>) {
     let receipt = client.receipts.last().expect(rt, "a call that was made");
     match &receipt.reply {
         CoreReply::Vacuumed(boxed) => {
             let report = boxed.get();
             let counts = (report.floor, report.kept, report.dropped);
-            must_be(rt, counts, (at_second(2), 1, 1))
+            must_be(rt, counts, (at_second(2), 1, 0))
         }
         _ => panic!(rt; "there is no vacuum"),
     }
@@ -176,13 +219,14 @@ fn called<L: Ledger, R: Wait + Threads + Abort + Sync>(
     let mut callers = callers;
     let client = Client::new(alloc, callers.pop().expect(rt, "a caller"));
     let client = fills(rt, alloc, shared, client);
+    let client = parts(rt, alloc, shared, client);
     let client = vacuums(rt, shared, client);
     let client = reads(rt, alloc, shared, client);
     let client = joins(rt, shared, client);
     starts(rt, alloc, shared, client)
 }
 
-/// Makes the calls of one caller to a store of one node, and checks that with a trail all sixteen settle.
+/// Makes the calls of one caller to a store of one node, and checks that with a trail all eighteen settle.
 fn by_one<L: Ledger, R: Wait + Threads + Abort + Sync>(
     rt: &R,
     alloc: Global,
@@ -200,7 +244,7 @@ fn by_one<L: Ledger, R: Wait + Threads + Abort + Sync>(
 
 #[test]
 fn stamps_of_vacuums_and_joins(rt: HostRuntime) {
-    by_one::<Brand, _>(&rt, rt.alloc(), Blank::new(1), true, Ok(16));
+    by_one::<Brand, _>(&rt, rt.alloc(), Blank::new(1), true, Ok(18));
 }
 
 #[test]

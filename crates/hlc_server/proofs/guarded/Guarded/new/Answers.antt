@@ -11,7 +11,7 @@ invariant_of-guarded g c = (
       c.new_trail.ensures c.open-book.ensures.total,
   record {
     history = [];
-    represents = record { legal = tt; core = c.in_ok-core.ensures.2 };
+    represents = record { legal = tt; core = c.in_ok-core.ensures.2; left = tt };
     counted = sym c.open-book.ensures.total;
   },
 )
