@@ -5,7 +5,8 @@ pub use Rattle.hlc_core.specs.Past.{opened, open_snapshots, writes, stamp_of, it
 pub use Rattle.hlc_core.specs.Past.{join_at_refusal, room_refusal, vacuum_refusal, IsLegal}
 pub use Rattle.hlc_core.specs.Replicas.{items_of, joins_of, AreReplicas, CanMeet}
 pub use Rattle.hlc_core.specs.StoreView.{StoreView, nodes, Represents}
-pub use Rattle.hlc_core.specs.Calls.{IsWrite, IsRefusal, IsListed, AreRowsTo, AreSizes, Vacuums}
+pub use Rattle.hlc_core.specs.Calls.{IsWrite, IsRefusal, IsListed, AreRowsTo, AreSizes, AreVersions, Vacuums}
+pub use Rattle.hlc_core.specs.Differences.{AreDifferences, Compares, patched}
 pub use Rattle.hlc_core.specs.Parts.{rows_of_keys, IsPartReport, Trims, EndsAt, VacuumsPart}
 pub use Rattle.hlc_core.specs.Stored.{AreVacuumPoints, IsReport}
 pub use Rattle.hlc_passes.specs.Pass.{Part, ArePass, left_by, together, report_of}

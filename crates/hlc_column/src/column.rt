@@ -167,6 +167,15 @@ impl Column {
         value.as_slice()
     }
 
+    /// Returns the stamp and the node of the row at a position.
+    pub fn version_at(&self, place: usize) -> (Stamp, u16)
+        requires { place < length self.now }
+        ensures { (cell : Cell) → slice_get self.now place ≡ Some cell → result ≡ (cell.stamp, cell.node) }
+    {
+        let stamp = Stamp::from_bits(item_at(self.stamps(), place));
+        (stamp, item_at(self.nodes.as_slice(), place))
+    }
+
     /// Returns the value that a reader at the bound sees, or None for a deletion mark or if there
     /// is no row.
     pub fn answer(&self, bound: Stamp) -> Option<&[u8]>

@@ -32,7 +32,7 @@ abbrev firsts : List Pair → List (List ℕ)
 firsts pairs = map (λ pair. pair.0) pairs
 
 -- the answer of an entry's column alone
-abbrev own : Entry → ℕ → Option (List ℕ)
+abbrev pub own : Entry → ℕ → Option (List ℕ)
 own e bound = answer (rows_of e.0 e.1) e.0 bound
 
 -- ---- keys
@@ -75,7 +75,7 @@ entry_of (e ∷ es) key m = elim (Contains-cons_cases e.0 key (names es) m) [
 ]
 
 -- ---- the answer of a column alone is that of the table
-alone : (es : List Entry) → IsStrictlySortedBy key_cmp (names es) → (e : Entry) → Contains es e → (bound : ℕ)
+pub alone : (es : List Entry) → IsStrictlySortedBy key_cmp (names es) → (e : Entry) → Contains es e → (bound : ℕ)
     → answer (table_rows es) e.0 bound ≡ own e bound
 alone es up e m bound =
     ap (option_and_then (λ (row : Row). row.value)) (newest_alone es up (one_of e) (Contains-map one_of es e m) bound)
@@ -86,7 +86,7 @@ some_row None value is = absurd (cc)
 some_row (Some row) value is = (row, refl)
 
 -- a key with an answer has an entry
-answered : (es : List Entry) (key value : List ℕ) (bound : ℕ) → answer (table_rows es) key bound ≡ Some value
+pub answered : (es : List Entry) (key value : List ℕ) (bound : ℕ) → answer (table_rows es) key bound ≡ Some value
     → (e : Entry) × Contains es e × (e.0 ≡ key)
 answered es key value bound is =
     let top = some_row (newest (table_rows es) key bound) value is in

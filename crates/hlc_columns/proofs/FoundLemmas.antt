@@ -23,6 +23,7 @@ use Rattle.hlc_column.proofs.RowLemmas.{row_key}
 use Rattle.hlc_column.specs.Cells.{Cell}
 use Rattle.hlc_column.specs.Rows.{row_of, rows_of, rows_with, KeyCells, rows_in_one}
 use Rattle.hlc_columns.specs.Table.{table_rows, keyed}
+pub use Rattle.hlc_columns.specs.Table.{cells_in}
 use Rattle.std.specs.Str.{bytes_eq}
 use Rattle.hlc_values.proofs.MemberLemmas.{Contains-none, Contains-cons_cases}
 
@@ -31,10 +32,6 @@ same_key a b e = (bytes_eq-Decides a b).0 (texts_ties a b ∙ e)
 
 pub other_key : (a b : List ℕ) → is_eq (slice_cmp nat_cmp a b) ≡ false → a ≢ b
 other_key a b e same = true≢false (sym ((bytes_eq-Decides a b).1 same) ∙ texts_ties a b ∙ e)
-
-abbrev pub cells_in : Option (List Cell) → List Cell
-cells_in None = []
-cells_in (Some cells) = cells
 
 -- the test for a key
 abbrev pub test : List ℕ → List ℕ → Bool

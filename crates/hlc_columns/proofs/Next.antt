@@ -1,5 +1,5 @@
 -- The first columns above a key are all those of a range of keys.
-use Rattle.std.proofs.Common.{◌≡◌, ◌≢◌, ℕ, zero, suc, ◌+◌, ◌<◌, ◌≤◌, Bool, true, false, cond, List}
+use Rattle.std.proofs.Common.{◌≡◌, ◌≢◌, ℕ, zero, suc, ◌<◌, ◌≤◌, Bool, true, false, cond, List}
 use Rattle.std.proofs.Common.{[], ◌∷◌, ◌++◌}
 use Rattle.std.proofs.Common.{refl, sym, ap, ap₂, ◌∙◌, inl, inr, arith, take, drop, filter, length, subst, All, Some}
 use Rattle.std.proofs.Common.{None, Option, Ordering, Less, Equal, Greater, ltb, ◌&&◌, get_or}

@@ -28,7 +28,7 @@ pub(crate) struct Walk<'a> {
 
 impl<'a> Walk<'a> {
     /// Returns a walk over all columns.
-    fn new(columns: &'a Index<BoxedColumn>) -> Walk<'a>
+    pub(crate) fn new(columns: &'a Index<BoxedColumn>) -> Walk<'a>
         ensures { entries_left result ≡ entries_in columns.now }
     {
         Walk {

@@ -9,8 +9,7 @@ use Rattle.hlc_intake.specs.IntakeView.{IntakeView}
 use Rattle.hlc_heads.specs.declared.heads.TheConstants.{MOST_NUMBERS}
 use Rattle.hlc_events.specs.declared.fault.CoreFault.TheVariants.{Join}
 use Rattle.hlc_heads.specs.declared.heads.JoinFault.TheVariants.{TooManyNodes}
-use Rattle.hlc_core.specs.Past.{Step, Joined, numbered, count, head, retired, top, floor, horizon}
-use Rattle.hlc_core.specs.Past.{opened}
+use Rattle.hlc_core.specs.Past.{Step, Joined, numbered, count, head, retired, floor}
 use Rattle.hlc_core.specs.Past.{join_refusal, join_at_refusal}
 use Rattle.hlc_core.specs.StoreView.{StoreView, nodes, Represents}
 use Rattle.hlc_core.proofs.PastLemmas.{fresh, head-joined}

@@ -18,8 +18,8 @@ use Rattle.hlc_heads.specs.declared.heads.TheConstants.{MOST_NUMBERS}
 use Rattle.hlc_heads.specs.declared.heads.Head.{Head}
 use Rattle.hlc_events.specs.declared.fault.CoreFault.{CoreFault}
 use Rattle.hlc_events.specs.declared.fault.CoreFault.TheVariants.{NoNode}
-use Rattle.hlc_core.specs.Past.{Step, Took, numbered, count, head, retired, top, floor, horizon}
-use Rattle.hlc_core.specs.Past.{opened, item_rows, link_refusal, item_refusal}
+use Rattle.hlc_core.specs.Past.{Step, Took, numbered, count, head, retired, top, floor}
+use Rattle.hlc_core.specs.Past.{item_rows, link_refusal, item_refusal}
 use Rattle.hlc_core.specs.StoreView.{StoreView, nodes, HaveHeads, Represents}
 use Rattle.hlc_checkpoint.proofs.CheckpointLemmas.{heads-length, head-of}
 use Rattle.hlc_core.proofs.PastLemmas.{admissible, on_link, retired-same, retired-other}

@@ -8,8 +8,6 @@ use Rattle.hlc_intake.specs.IntakeView.{IntakeView}
 use Rattle.hlc_heads.specs.Heads.{a_head}
 use Rattle.hlc_heads.specs.declared.heads.TheConstants.{MOST_NODES}
 use Rattle.hlc_heads.specs.declared.heads.Head.{Head}
-use Rattle.hlc_core.specs.Past.{count, top, horizon}
-use Rattle.hlc_core.specs.Past.{opened}
 use Rattle.hlc_core.specs.StoreView.{StoreView, nodes, HaveHeads, Represents}
 use Rattle.hlc_core.specs.Calls.{new_refusal}
 use Rattle.hlc_core.proofs.Links.{a_link, head_of}

@@ -11,7 +11,7 @@ use Rattle.hlc_node.specs.declared.item.Body.TheVariants.{Write, Report, Retire}
 use Rattle.hlc_node.specs.Items.{retires}
 use Rattle.hlc_node.specs.Rows.{IsRowSet}
 use Rattle.hlc_intake.specs.IntakeView.{IntakeView}
-use Rattle.hlc_core.specs.Past.{Step, Took, numbered, count, head, retired, top, horizon, vacuumed, trimmed}
+use Rattle.hlc_core.specs.Past.{Step, Took, numbered, count, head, retired, horizon, vacuumed, trimmed}
 use Rattle.hlc_core.specs.Past.{opened, writes, body_rows, open_snapshots, item_refusal}
 use Rattle.hlc_core.specs.Past.{IsLegal}
 use Rattle.hlc_core.specs.StoreView.{StoreView, nodes, Represents}

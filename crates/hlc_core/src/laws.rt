@@ -21,6 +21,7 @@ ghost use Rattle.hlc_heads.specs.declared.heads.TheConstants.{MOST_NODES};
 ghost use Rattle.hlc_checkpoint.specs.declared.checkpoint.RestoreFault.{RestoreFault as AFault};
 ghost use Rattle.hlc_checkpoint.specs.declared.checkpoint.RestoreFault.TheVariants.{NoMemory as no_memory};
 ghost use Rattle.hlc_core.specs.Listing.{IsListing};
+ghost use Rattle.hlc_core.specs.Differences.{Difference, AreDifferences, patched};
 ghost use Rattle.hlc_core.specs.History.{RepresentsHistory};
 ghost use Rattle.hlc_core.specs.Headline.{IsFaithful};
 ghost use Rattle.hlc_events.specs.declared.event.CoreEvent.{CoreEvent as AnEvent};
@@ -167,6 +168,21 @@ pub fn there_is_one_listing()
     ensures { (rows : List ARow) (stamp : ℕ) (listing other : List APair)
         → IsListing rows stamp listing
         → IsListing rows stamp other → listing ≡ other }
+{}
+
+/// The differences between two stamps lead from the listing at the first to that at the second, and they are the fewest
+/// changes that do: any others, in any order, are at least as many.
+pub fn differences_lead_on()
+    ensures leads { (rows : List ARow) (from to : ℕ) (differences : List Difference)
+        (listing next : List APair)
+        → AreDifferences rows from to differences
+        → IsListing rows from listing → IsListing rows to next
+        → patched differences listing ≡ next }
+    ensures least { (rows : List ARow) (from to : ℕ) (differences others : List Difference)
+        (listing next : List APair)
+        → AreDifferences rows from to differences
+        → IsListing rows from listing → IsListing rows to next
+        → patched others listing ≡ next → length differences ≤ length others }
 {}
 
 /// After a vacuum of the stored rows up to a stamp, at the points of the past, the core represents the past with the

@@ -14,7 +14,7 @@ mod store;
 
 pub use hlc_checkpoint::{Checkpoint, RestoreFault};
 pub use hlc_clock::Stamp;
-pub use hlc_columns::{Answers, Sizes, View};
+pub use hlc_columns::{Answers, Changes, Sizes, Versions, View};
 pub use hlc_events::{CoreEvent, CoreFault, NoNode};
 pub use hlc_heads::{Accepted, JoinFault};
 pub use hlc_intake::{Intake, LinkFault};
@@ -25,11 +25,12 @@ pub use hlc_values::NoMemory;
 pub use hlc_witness::Witness;
 pub use laws::{
     a_join_is_one_at_the_floor, a_vacuum_is_one_to_the_floor, accepted_writes_are_a_row_set,
-    answers_stay, checkpoints_restore, floor_is_the_least_head, histories_are_faithful,
-    joins_keep_the_floor, lagging_replicas_answer_alike, later_items_are_above_the_floor,
-    open_snapshots_are_at_most_the_floor, parts_keep_representing, replicas_accept_alike,
-    replicas_answer_alike, retired_nodes_leave_the_greatest_stamp, the_floor_never_falls,
-    there_is_one_listing, there_is_one_report, vacuums_keep_representing, vacuums_leave_the_fewest,
+    answers_stay, checkpoints_restore, differences_lead_on, floor_is_the_least_head,
+    histories_are_faithful, joins_keep_the_floor, lagging_replicas_answer_alike,
+    later_items_are_above_the_floor, open_snapshots_are_at_most_the_floor, parts_keep_representing,
+    replicas_accept_alike, replicas_answer_alike, retired_nodes_leave_the_greatest_stamp,
+    the_floor_never_falls, there_is_one_listing, there_is_one_report, vacuums_keep_representing,
+    vacuums_leave_the_fewest,
 };
 pub use listing::{Listing, Pair};
 pub use reply::CoreReply;

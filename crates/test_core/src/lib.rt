@@ -6,6 +6,8 @@
 #[cfg(test)]
 mod callers;
 #[cfg(test)]
+mod changes;
+#[cfg(test)]
 mod checkpoints;
 #[cfg(test)]
 mod expected;
@@ -23,3 +25,5 @@ mod sizes;
 mod vacuums;
 #[cfg(test)]
 mod vacuums_to;
+#[cfg(test)]
+mod versions;

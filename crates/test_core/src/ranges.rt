@@ -10,7 +10,7 @@ use std::test::*;
 type Pair<'a> = (&'a [u8], &'a [u8]);
 
 /// Lets the node write a key, or delete it where there is no value, as its item of this number, a second later each.
-fn says<R: Abort>(
+pub(crate) fn says<R: Abort>(
     rt: &R,
     alloc: Global,
     core: &mut Core,

@@ -1,0 +1,44 @@
+-- The differences between the answers at two bounds.
+use Rattle.std.specs.Prelude.{◌≡◌, ◌≢◌, ◌↔◌, ℕ, List, [], ◌∷◌, ◌++◌, Bool, true, false, Option, Some, None}
+use Rattle.std.specs.Prelude.{map, Contains, if◌then◌else◌, option_copied}
+use Rattle.std.specs.Borrow.{Bor}
+use Rattle.std.specs.List.Sorted.{IsStrictlySortedBy}
+use Rattle.std.specs.Cmp.Lexicographic.{slice_cmp}
+use Rattle.std.specs.Ordering.{nat_cmp}
+use Rattle.std.specs.Str.{bytes_eq}
+use Rattle.hlc_node.specs.declared.row.Row.{Row}
+use Rattle.hlc_node.specs.Rows.{answer}
+use Rattle.hlc_column.specs.Cells.{Cell}
+use Rattle.hlc_column.specs.Rows.{rows_of}
+
+-- a key with its value at the second bound, or none if it has none there
+abbrev pub Difference : Type 0
+Difference = List ℕ × Option (List ℕ)
+
+-- the keys whose answers at two bounds differ, each once, in byte order, with the answer at the second
+pub record AreDifferences (rows : List Row) (from to : ℕ) (differences : List Difference) : Type 0 where
+  pub ascending : IsStrictlySortedBy (slice_cmp nat_cmp) (map (λ one. one.0) differences)
+  pub exact : (key : List ℕ) (value : Option (List ℕ)) → Contains differences (key, value)
+      ↔ ((answer rows key to ≡ value) × (answer rows key from ≢ value))
+
+-- the two answers are the same
+abbrev pub is_same : Option (List ℕ) → Option (List ℕ) → Bool
+is_same None None = true
+is_same None (Some b) = false
+is_same (Some a) None = false
+is_same (Some a) (Some b) = bytes_eq a b
+
+-- a key with its second answer, if the first is another
+abbrev pub difference_of : List ℕ → Option (List ℕ) → Option (List ℕ) → List Difference
+difference_of key before after = if is_same before after then [] else (key, after) ∷ []
+
+-- for some columns in turn, the keys whose answers at two bounds differ
+abbrev pub differences_in : List (List ℕ × List Cell) → ℕ → ℕ → List Difference
+differences_in [] from to = []
+differences_in (e ∷ es) from to =
+    difference_of e.0 (answer (rows_of e.0 e.1) e.0 from) (answer (rows_of e.0 e.1) e.0 to)
+    ++ differences_in es from to
+
+-- a key and a value behind references
+abbrev pub difference_read : Bor (List ℕ) × Option (Bor (List ℕ)) → Difference
+difference_read one = (one.0.now, option_copied one.1)
