@@ -195,6 +195,17 @@ def shared_record(pick, store, nodes, reading):
     return whole("record_join", len(nodes) - 1, start), 0
 
 
+def item_bytes(kind, node, number, stamp, key=b"", value=b""):
+    """The bytes of an item, as docs/formats.md has them."""
+    body = {
+        "write": b"\0%c%s\1" % (len(key), key) + struct.pack(">H", len(value)) + value,
+        "delete": b"\0%c%s\0" % (len(key), key),
+        "report": b"\1",
+        "retire": b"\2",
+    }[kind]
+    return struct.pack(">BHQQ", 1, node, number, stamp) + body
+
+
 def feed(pick, store, nodes, keys):
     """Lets the nodes issue items, which the store takes as bytes, and opens snapshots and vacuums between. Returns the
     model, and the records of the log, each with its threshold or 0."""
@@ -211,6 +222,7 @@ def feed(pick, store, nodes, keys):
         if parts:
             model.write((stamp, node, key, value))
         encoded = whole("item_" + kind, node, number, stamp, *parts)
+        assert encoded == item_bytes(kind, node, number, stamp, *parts)
         assert ok("items_accept", store, encoded) == (len(encoded), 1, 0)
         log.append((encoded, 0))
         if pick.random() < 0.1:
@@ -226,6 +238,7 @@ def feed(pick, store, nodes, keys):
             vacuum(pick, store, model)
         if pick.random() < 0.3:
             vacuum_part(pick, store, model)
+    assert whole("item_retire", 263, 3, 131_077) == item_bytes("retire", 263, 3, 131_077)
     return model, log
 
 

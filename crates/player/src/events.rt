@@ -54,6 +54,7 @@ pub(crate) fn event_of(alloc: Global, words: &mut LineWords<'_>) -> Option<CoreE
     match next_name(words) {
         "join" => Some(CoreEvent::Join),
         "join_at" => Some(CoreEvent::JoinAt(next_stamp(words))),
+        "open" => Some(CoreEvent::OpenAt(next_stamp(words))),
         "open_floor" => Some(CoreEvent::OpenFloor),
         "list" => Some(CoreEvent::List(next_number(words))),
         "close" => Some(CoreEvent::Close(next_number(words))),

@@ -127,7 +127,7 @@ fn ask(rt: &HostRuntime, core: &Core, name: &str, words: &mut LineWords<'_>) -> 
         "floor" => say(rt, "floor", &core.floor()),
         "horizon" => say(rt, "horizon", &core.horizon()),
         "rows" => say(rt, "rows", &core.rows()),
-        "keys" => say(rt, "keys", &core.sizes().keys),
+        "sizes" => say(rt, "sizes", &core.sizes()),
         _ => Some(()),
     }
 }

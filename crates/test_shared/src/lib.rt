@@ -1,27 +1,16 @@
-//! Tests of links, of the board, of a core's calls as events, of vacuums that several threads plan and of the shared
-//! store, by their public calls, and the small callers in the READMEs of `hlc_link`, `hlc_floor`, `hlc_server` and
-//! `hlc_workers`. There is nothing else here.
+//! Tests of links and of the shared store, by their public calls, and the small callers in the READMEs of `hlc_link`,
+//! `hlc_floor`, `hlc_server` and `hlc_workers`. There is nothing else here.
 #![tactic(auto)]
 
-#[cfg(test)]
-mod boards;
 #[cfg(test)]
 mod callers;
 #[cfg(test)]
 mod clients;
 #[cfg(test)]
-mod events;
-#[cfg(test)]
 mod expected;
-#[cfg(test)]
-mod forged;
-#[cfg(test)]
-mod joins;
 #[cfg(test)]
 mod links;
 #[cfg(test)]
 mod stamps;
 #[cfg(test)]
 mod threads;
-#[cfg(test)]
-mod vacuums;

@@ -1,11 +1,12 @@
-//! Vacuums to a stamp, in parts and whole, and joins at a stamp, on a shared store.
+//! Vacuums to a stamp, in parts and whole, and joins at a stamp, on a shared store; and receipts that were changed
+//! before they settle.
 ghost use Rattle.std.specs.Prelude.{◌≡◌};
 
 use crate::clients::{Client, lists_of, settled_calls};
 use crate::expected::must_be;
 use crate::threads::shows;
 use hlc_core::{CoreEvent, CoreFault, CoreReply, JoinFault, LinkFault, Stamp};
-use hlc_server::{Bytes, Caller, SettleFault, Shared};
+use hlc_server::{Bytes, Caller, Receipt, SettleFault, Shared};
 use std::alloc::Global;
 use std::marker::Brand;
 use std::process::Abort;
@@ -226,29 +227,52 @@ fn called<L: Ledger, R: Wait + Threads + Abort + Sync>(
     starts(rt, alloc, shared, client)
 }
 
-/// Makes the calls of one caller to a store of one node, and checks that with a trail all eighteen settle.
+/// Changes the reply in the receipt of this number, or drops the last receipt where there is none of this number.
+fn change(receipts: &mut Vec<Receipt>, number: usize) {
+    match receipts.get_mut(number) {
+        Some(receipt) => receipt.reply = CoreReply::Answer(None),
+        None => drop(receipts.pop()),
+    }
+}
+
+/// Makes the calls of one caller to a store of one node, changes its receipts if it is to, and checks that this is the
+/// result of settling them.
 fn by_one<L: Ledger, R: Wait + Threads + Abort + Sync>(
     rt: &R,
     alloc: Global,
     blank: Blank,
     audit: bool,
+    changed: Option<usize>,
     expected: Result<u64, SettleFault>,
 )
     requires { (blank.name ≡ L.name) × (blank.parts ≡ L.parts) × (blank.parts ≡ 1) }
 {
     let (shared, callers) = Shared::<L>::new(alloc, blank, 1, 1, audit).expect(rt, "a store");
-    let clients = vec![in alloc; called(rt, alloc, &shared, callers)];
-    let lists = lists_of(rt, alloc, clients.ok().expect(rt, "memory"));
+    let mut client = called(rt, alloc, &shared, callers);
+    if let Some(number) = changed {
+        change(&mut client.receipts, number);
+    }
+    let lists = lists_of(rt, alloc, vec![in alloc; client].ok().expect(rt, "memory"));
     must_be(rt, settled_calls(shared, lists), expected);
 }
 
+/// With a trail all eighteen calls settle.
 #[test]
 fn stamps_of_vacuums_and_joins(rt: HostRuntime) {
-    by_one::<Brand, _>(&rt, rt.alloc(), Blank::new(1), true, Ok(18));
+    by_one::<Brand, _>(&rt, rt.alloc(), Blank::new(1), true, None, Ok(18));
 }
 
 #[test]
 fn stamps_without_a_trail(rt: HostRuntime) {
     let none = Err(SettleFault::NoTrail);
-    by_one::<Brand, _>(&rt, rt.alloc(), Blank::new(1), false, none);
+    by_one::<Brand, _>(&rt, rt.alloc(), Blank::new(1), false, None, none);
+}
+
+/// A reply that is another, and the last receipt left out.
+#[test]
+fn changed_receipts_do_not_settle(rt: HostRuntime) {
+    for (number, index) in [(3, 3), (16, 15)] {
+        let refused = Err(SettleFault::ReceiptMismatch { index });
+        by_one::<Brand, _>(&rt, rt.alloc(), Blank::new(1), true, Some(number), refused);
+    }
 }

@@ -9,21 +9,14 @@ ghost use Rattle.hlc_core.specs.StoreView.{Represents};
 ghost use Rattle.hlc_world.specs.Schedule.{Event as AnEvent};
 ghost use Rattle.hlc_script.specs.Line.{HasLine, event_line};
 
-use crate::expected::must_be;
-use crate::items::item;
-use crate::scripts::CERTIFICATE;
-use crate::streams::Taking;
-use hlc_certificate::{CheckEnd, check_input, printed_certificates_show_fewest, put_certificate};
+use hlc_certificate::{printed_certificates_show_fewest, put_certificate};
 use hlc_core::{Core, NoMemory, Row, Stamp, Witness};
 use hlc_script::read_line;
 use hlc_text::number::number;
 use hlc_text::printer::Printer;
 use hlc_text::watched::Watched;
 use hlc_witness::{NotShown, Shown, check};
-use std::alloc::Global;
 use std::io::Write;
-use std::process::Abort;
-use std::test::*;
 
 /// Prints the number that the word spells, and returns it.
 pub(crate) fn echo<W: Write>(writer: &mut Watched<W>, word: &[u8]) -> Option<u64>
@@ -79,51 +72,4 @@ pub(crate) fn write_vacuum<W: Write>(
     let rows = core.rows_to(report.floor)?;
     let points = report.points.as_slice();
     Ok(write_certificate(writer, points, rows.as_slice(), report.witnesses.as_slice()))
-}
-
-#[test]
-fn callers(rt: HostRuntime) {
-    let alloc = rt.alloc();
-    assert!(rt; is_bad(b"write 0") && !is_bad(b"open floor"));
-    let mut writer = Watched::new(Taking::whole(alloc));
-    assert_eq!(rt; echo(&mut writer, b"1024"), Some(1024));
-    let writer = writer.into_inner();
-    assert_eq!(rt; writer.taken.as_slice(), b"1024".as_slice());
-}
-
-/// Checks that the write of x at key `a`, with stamp 1.0, is accepted.
-fn accepts_one<R: Abort>(rt: &R, alloc: Global, core: &mut Core) {
-    let write = item(rt, alloc, (0, 0, 65_536), b"a", Some(b"x"));
-    core.accept(write).ok().expect(rt, "a write");
-}
-
-/// Checks that a vacuum's rows are certified: one row of 12 bytes.
-fn certifies_one<R: Abort>(rt: &R, core: &mut Core, writer: &mut Watched<Taking>) {
-    let shown = write_vacuum(core, writer).ok().expect(rt, "memory");
-    must_be(
-        rt,
-        shown.map(|shown| (shown.count(), shown.cost())),
-        Ok((1, 12)),
-    );
-}
-
-/// Checks that a check of that certificate finds the same.
-fn checks_one<R: Abort>(rt: &R, alloc: Global) {
-    let expected = CheckEnd::Fewest {
-        count: 1,
-        bytes: 12,
-    };
-    must_be(rt, check_input(alloc, CERTIFICATE), expected);
-}
-
-#[test]
-fn a_vacuum_is_certified_in_text(rt: HostRuntime) {
-    let alloc = rt.alloc();
-    let mut core = Core::new(alloc, 1).ok().expect(&rt, "a store");
-    accepts_one(&rt, alloc, &mut core);
-    let mut writer = Watched::new(Taking::whole(alloc));
-    certifies_one(&rt, &mut core, &mut writer);
-    let writer = writer.into_inner();
-    assert_eq!(rt; writer.taken.as_slice(), CERTIFICATE);
-    checks_one(&rt, alloc);
 }

@@ -1,9 +1,9 @@
 //! Readers and writers that fail once, also after a storm, the longest input, and the blocks of what is written.
-use crate::items::{bytes, stamp};
+use crate::items::bytes;
 use crate::scripts::{CERTIFICATE, REPLIES, SCRIPT};
 use crate::streams::{Calls, Fault, Giving, Taking};
 use hlc_certificate::run_check;
-use hlc_core::{Listing, Pair};
+use hlc_core::{Listing, Pair, Stamp};
 use hlc_script::run_script;
 use hlc_storm_report::{StormFault, StormReport, print_storm};
 use hlc_text::watched::Watched;
@@ -188,7 +188,7 @@ fn found<H: AllocGlobal + Abort>(rt: &H) -> StormReport {
     let pairs = vec![in rt.alloc(); pair(rt, b"k0", b"1.2"), pair(rt, b"k1", b"1.3")];
     StormReport {
         accepted: vec![in rt.alloc(); 5, 5].ok().expect(rt, "memory"),
-        floor: stamp(5),
+        floor: Stamp::from_bits(5 * 65_536),
         pairs: Listing::from_vec(pairs.ok().expect(rt, "memory")),
         kept: 2,
     }

@@ -1,20 +1,30 @@
-//! Tests of single calls of the store, of a whole run of a world, of scripts and certificates, with streams that fail,
-//! by their public calls. There is nothing else here.
+//! Tests of a whole run of a world, of streams that fail, of copies and of bytes, by public calls; and the small callers
+//! in the READMEs of the libraries that need no thread. There is nothing else here.
 #![tactic(auto)]
 
 #[cfg(test)]
+mod bytes;
+#[cfg(test)]
+mod callers;
+#[cfg(test)]
 mod certified;
 #[cfg(test)]
-mod expected;
+mod changes;
+#[cfg(test)]
+mod encoded;
 #[cfg(test)]
 mod failures;
 #[cfg(test)]
 mod items;
 #[cfg(test)]
+mod keys;
+#[cfg(test)]
 mod run;
 #[cfg(test)]
 mod scripts;
 #[cfg(test)]
-mod store;
+mod stamps;
+#[cfg(test)]
+mod stores;
 #[cfg(test)]
 mod streams;

@@ -1,36 +1,37 @@
-//! A run of events with its replies, by hand.
-use crate::items::bytes;
-use hlc_core::{CoreFault, LinkFault};
-use hlc_world::{Event, Points, Refusal, Reply, Report, Stamp, Witness, Witnesses, World};
+//! A run of a world's events with its replies, and copies of events, of replies, of items and of rows.
+use crate::items::{bytes, item};
+use hlc_core::Row;
+use hlc_world::{Event, Points, Reply, Report, Stamp, Witness, Witnesses, World};
 use std::alloc::Global;
 use std::process::Abort;
 use std::test::*;
 
-/// Returns two writes of a key, deliveries early, repeated and unknown, and a vacuum.
-fn deliveries<R: Abort>(rt: &R, alloc: Global) -> Vec<Event> {
-    let mut events = Vec::new(alloc);
-    for (reading, text) in [(1, b"x"), (2, b"y")] {
-        let write = Event::Write {
+/// The stamp of the one write.
+const ONE: u64 = 65_536;
+
+/// Returns a write, its delivery, and a read and a vacuum after it.
+fn events<R: Abort>(rt: &R, alloc: Global) -> Vec<Event> {
+    let events = vec![in alloc;
+        Event::Write {
             node: 0,
-            reading,
+            reading: 1,
             key: bytes(rt, alloc, b"a"),
-            value: bytes(rt, alloc, text),
-        };
-        events.push(write).ok().expect(rt, "memory");
-    }
-    for (node, number) in [(0, 1), (0, 0), (0, 0), (0, 1), (0, 2), (1, 0)] {
-        events
-            .push(Event::Deliver { node, number })
-            .ok()
-            .expect(rt, "memory");
-    }
-    events.push(Event::Vacuum).ok().expect(rt, "memory");
-    events
+            value: bytes(rt, alloc, b"x"),
+        },
+        Event::Deliver { node: 0, number: 0 },
+        Event::OpenFloor,
+        Event::Read {
+            id: 1,
+            key: bytes(rt, alloc, b"a"),
+        },
+        Event::Vacuum,
+    ];
+    events.ok().expect(rt, "memory")
 }
 
-/// Returns the report of the vacuum after them: at the floor (closed timestamp), the only point, the later write is
-/// read, and the earlier one is dropped.
-fn report_of_them<R: Abort>(rt: &R, alloc: Global, floor: Stamp) -> Report {
+/// Returns the report of the vacuum: the write is read at the floor (closed timestamp), which is the only point.
+fn report<R: Abort>(rt: &R, alloc: Global) -> Report {
+    let floor = Stamp::from_bits(ONE);
     let witness = Witness {
         key: bytes(rt, alloc, b"a"),
         before: None,
@@ -41,50 +42,69 @@ fn report_of_them<R: Abort>(rt: &R, alloc: Global, floor: Stamp) -> Report {
         points: Points::from_vec(vec![in alloc; floor].ok().expect(rt, "memory")),
         kept: 1,
         bytes: 12,
-        dropped: 1,
+        dropped: 0,
         witnesses: Witnesses::from_vec(vec![in alloc; witness].ok().expect(rt, "memory")),
     }
 }
 
-/// Returns the refusal by which the store expects this number of the node next.
-fn not_next(next: u64) -> Reply {
-    Reply::Refused(Refusal::Store(CoreFault::Link(LinkFault::NotNext { next })))
-}
-
 /// Returns the expected replies, in turn.
-fn replies_to_them<R: Abort>(rt: &R, alloc: Global) -> Vec<Reply> {
-    let first = Stamp::from_bits(65_536);
-    let second = Stamp::from_bits(131_072);
-    let report = report_of_them(rt, alloc, second);
+fn replies<R: Abort>(rt: &R, alloc: Global) -> Vec<Reply> {
+    let stamp = Stamp::from_bits(ONE);
     let replies = vec![in alloc;
-        Reply::Stamped {
-            stamp: first,
-            item: 0,
+        Reply::Stamped { stamp, item: 0 },
+        Reply::Accepted { stamp },
+        Reply::Snapshot { id: 1, stamp },
+        Reply::Answer {
+            value: Some(bytes(rt, alloc, b"x")),
         },
-        Reply::Stamped {
-            stamp: second,
-            item: 1,
+        Reply::Vacuumed {
+            report: report(rt, alloc),
         },
-        not_next(0),
-        Reply::Accepted { stamp: first },
-        not_next(1),
-        Reply::Accepted { stamp: second },
-        Reply::Refused(Refusal::NoItem),
-        Reply::Refused(Refusal::NoNode),
-        Reply::Vacuumed { report },
     ];
     replies.ok().expect(rt, "memory")
 }
 
-#[test]
-fn a_run_is_its_events_in_turn(rt: HostRuntime) {
-    let replies = run_them(&rt, rt.alloc());
-    let expected = replies_to_them(&rt, rt.alloc());
-    assert!(rt; replies.as_slice() == expected.as_slice());
+/// Returns the replies of a world of one node to the events.
+fn run<R: Abort>(rt: &R, alloc: Global) -> Vec<Reply> {
+    let mut world = World::new(alloc, 1).ok().expect(rt, "a world");
+    world.run(events(rt, alloc)).ok().expect(rt, "room")
 }
 
-/// Returns the replies of a world of one node to them.
-fn run_them<R: Abort>(rt: &R, alloc: Global) -> Vec<Reply> {
-    let mut world = World::new(alloc, 1).ok().expect(rt, "a world");
-    world.run(deliveries(rt, alloc)).ok().expect(rt, "room")
+/// Checks that a copy of each value equals it.
+fn are_copied<T: Clone + PartialEq + Drop, R: Abort>(rt: &R, values: &[T]) {
+    for value in values {
+        assert!(rt; value.clone().expect(rt, "memory") == *value);
+    }
+}
+
+#[test]
+fn a_run_is_its_events_in_turn(rt: HostRuntime) {
+    let expected = replies(&rt, rt.alloc());
+    let returned = run(&rt, rt.alloc());
+    assert!(rt; returned.as_slice() == expected.as_slice());
+    are_copied(&rt, returned.as_slice());
+}
+
+#[test]
+fn copies_of_events_and_rows(rt: HostRuntime) {
+    let events = events(&rt, rt.alloc());
+    are_copied(&rt, events.as_slice());
+    are_copied(
+        &rt,
+        &[
+            item(&rt, rt.alloc(), b"a", None),
+            item(&rt, rt.alloc(), b"a", Some(b"x")),
+        ],
+    );
+    are_copied(&rt, &[row(&rt, rt.alloc())]);
+}
+
+/// Returns the row of the write.
+fn row<R: Abort>(rt: &R, alloc: Global) -> Row {
+    Row {
+        key: bytes(rt, alloc, b"a"),
+        stamp: Stamp::from_bits(ONE),
+        node: 0,
+        value: Some(bytes(rt, alloc, b"x")),
+    }
 }

@@ -8,8 +8,6 @@ mod expected;
 #[cfg(test)]
 mod feeds;
 #[cfg(test)]
-mod gates;
-#[cfg(test)]
 mod joins;
 #[cfg(test)]
 mod newcomers;

@@ -1,6 +1,0 @@
--- The second step continues where the first one ended.
-use Rattle.test_parts.proofs.callers.deliver_twice.Goals as goal
-
-pub returns : goal.returns
-returns c = λ schedule represents. c.step-second.ensures.represents _
-    (c.step-first.ensures.represents schedule represents)

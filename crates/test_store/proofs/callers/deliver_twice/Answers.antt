@@ -1,0 +1,6 @@
+-- The second step continues where the first one ended.
+use Rattle.test_store.proofs.callers.deliver_twice.Goals as goal
+
+pub returns : goal.returns
+returns c = λ schedule represents. c.step-second.ensures.represents _
+    (c.step-first.ensures.represents schedule represents)

@@ -1,0 +1,119 @@
+//! The changes between open snapshots, and the versions of a key, compared with values by hand.
+use crate::items::bytes;
+use hlc_core::{Body, Changes, Core, Item, Stamp, Versions};
+use std::alloc::Global;
+use std::process::Abort;
+use std::test::*;
+
+/// A key and its value, or none if it was deleted.
+type Change<'a> = (&'a [u8], Option<&'a [u8]>);
+
+/// A row: its stamp, its node and its value, or none for a deletion.
+type Version<'a> = (Stamp, u16, Option<&'a [u8]>);
+
+/// Returns a stamp of this many seconds.
+fn second(seconds: u64) -> Stamp {
+    Stamp::from_bits(seconds.wrapping_mul(65_536))
+}
+
+/// Lets the node write a key, or delete it where there is no value, as its item of this number, a second later each.
+fn says<R: Abort>(
+    rt: &R,
+    alloc: Global,
+    core: &mut Core,
+    number: u64,
+    key: &[u8],
+    value: Option<&[u8]>,
+) {
+    let value = match value {
+        None => None,
+        Some(text) => Some(bytes(rt, alloc, text)),
+    };
+    let key = bytes(rt, alloc, key);
+    let item = Item {
+        node: 0,
+        number,
+        stamp: second(number.wrapping_add(1)),
+        body: Body::Write { key, value },
+    };
+    assert!(rt; core.accept(item).is_ok());
+}
+
+/// Checks that these changes come next, and then none.
+fn are<R: Abort>(rt: &R, mut changes: Changes<'_>, expected: &[Change<'_>]) {
+    for change in expected {
+        assert!(rt; changes.next() == Some(*change));
+    }
+    assert!(rt; changes.next().is_none());
+}
+
+/// Checks what differs between the two snapshots, either way, and in one of them.
+fn differ<R: Abort>(rt: &R, core: &Core, early: u64, late: u64) {
+    are(
+        rt,
+        core.changes(early, late).expect(rt, "changes"),
+        &[(b"b", None), (b"c", Some(b"6")), (b"d", Some(b"7"))],
+    );
+    are(
+        rt,
+        core.changes(late, early).expect(rt, "changes"),
+        &[(b"b", Some(b"2")), (b"c", Some(b"3")), (b"d", None)],
+    );
+    are(rt, core.changes(late, late).expect(rt, "changes"), &[]);
+}
+
+#[test]
+fn changes_are_those_between_two_snapshots(rt: HostRuntime) {
+    let alloc = rt.alloc();
+    let mut core = Core::new(alloc, 1).ok().expect(&rt, "a store");
+    says(&rt, alloc, &mut core, 0, b"a", Some(b"1"));
+    says(&rt, alloc, &mut core, 1, b"b", Some(b"2"));
+    says(&rt, alloc, &mut core, 2, b"c", Some(b"3"));
+    let early = core.open(second(3)).ok().expect(&rt, "a snapshot");
+    says(&rt, alloc, &mut core, 3, b"b", None);
+    says(&rt, alloc, &mut core, 4, b"a", Some(b"1"));
+    says(&rt, alloc, &mut core, 5, b"c", Some(b"6"));
+    says(&rt, alloc, &mut core, 6, b"d", Some(b"7"));
+    let late = core.open(second(7)).ok().expect(&rt, "a snapshot");
+    differ(&rt, &core, early, late);
+    assert!(&rt; core.vacuum().is_ok());
+    differ(&rt, &core, early, late);
+    assert!(&rt; core.close(early) == Ok(second(3)));
+    assert!(&rt; core.changes(early, late).is_none());
+    assert!(&rt; core.changes(late, early).is_none());
+}
+
+/// Checks that these rows come next, and then none.
+fn list<R: Abort>(rt: &R, mut versions: Versions<'_>, expected: &[Version<'_>]) {
+    for version in expected {
+        assert!(rt; versions.next() == Some(*version));
+    }
+    assert!(rt; versions.next().is_none());
+}
+
+#[test]
+fn versions_come_newest_first(rt: HostRuntime) {
+    let alloc = rt.alloc();
+    let mut core = Core::new(alloc, 1).ok().expect(&rt, "a store");
+    says(&rt, alloc, &mut core, 0, b"a", Some(b"1"));
+    says(&rt, alloc, &mut core, 1, b"b", Some(b"2"));
+    says(&rt, alloc, &mut core, 2, b"a", None);
+    says(&rt, alloc, &mut core, 3, b"a", Some(b"4"));
+    let first = (second(1), 0, Some(b"1".as_slice()));
+    let second_one = (second(3), 0, None);
+    let third = (second(4), 0, Some(b"4".as_slice()));
+    list(
+        &rt,
+        core.versions(b"a", Stamp::ZERO, second(4)),
+        &[third, second_one, first],
+    );
+    list(
+        &rt,
+        core.versions(b"a", second(1), second(3)),
+        &[second_one],
+    );
+    list(&rt, core.versions(b"a", second(4), second(9)), &[]);
+    list(&rt, core.versions(b"c", Stamp::ZERO, second(9)), &[]);
+    assert!(&rt; core.vacuum().is_ok());
+    list(&rt, core.versions(b"a", Stamp::ZERO, second(4)), &[third]);
+}

@@ -1,0 +1,66 @@
+//! The small callers in the READMEs of `hlc_wire`, `hlc_frame` and `hlc_saved`, and a message compared with bytes that
+//! were written by hand.
+ghost use Rattle.std.specs.Prelude.{◌≡◌, ◌++◌, ◌<◌, List, ℕ, IfSome, OnOk, length};
+ghost use Rattle.hlc_frame.specs.Frame.{frame_bytes};
+ghost use Rattle.hlc_frame.specs.Reading.{word_of};
+ghost use Rattle.hlc_saved.specs.Saved.{Resumes};
+
+use hlc_clock::Stamp;
+use hlc_frame::{FrameReader, FrameWriter, WireFault};
+use hlc_saved::{CheckpointReader, ResumeError, Resumed};
+use hlc_wire::{Message, decode_item, decode_message, encode_item, encode_message};
+use std::alloc::{AllocError, Global};
+use std::test::*;
+
+/// Decodes the bytes as an item, and returns its encoding.
+pub(crate) fn written_again(alloc: Global, bytes: &[u8]) -> Option<Vec<u8>>
+    ensures { IfSome result (λ again. again.items ≡ bytes.now) }
+{
+    let item = decode_item(alloc, bytes).ok()?;
+    encode_item(alloc, &item).ok()
+}
+
+/// Writes the frame of a body that is in memory.
+pub(crate) fn put_frame(out: &mut Vec<u8>, word: u64, body: &[u8]) -> Result<(), AllocError>
+    ensures { OnOk result (out.new.items ≡ out.old.items ++ frame_bytes word body.now) }
+{
+    let mut writer = FrameWriter::begin(out, body.len() as u64, word)?;
+    out.extend_from_slice(body)?;
+    writer.put(body);
+    writer.end(out)?;
+    Ok(())
+}
+
+/// Returns the word of a frame that comes in two blocks.
+pub(crate) fn word_of_two(first: &[u8], second: &[u8]) -> Result<u64, WireFault>
+    ensures { result ≡ word_of (first.now ++ second.now) }
+{
+    let mut reader = FrameReader::new();
+    let _ = reader.feed(first);
+    let _ = reader.feed(second);
+    reader.finish()
+}
+
+/// Returns a store made of bytes that come in two blocks.
+pub(crate) fn resume_two(alloc: Global, first: &[u8], second: &[u8]) -> Result<Resumed, ResumeError>
+    ensures { Resumes (first.now ++ second.now) result }
+{
+    let mut reader = CheckpointReader::new(alloc);
+    reader.feed(first)?;
+    reader.feed(second)?;
+    reader.finish()
+}
+
+/// A message of node 263 at stamp 2.5.
+const MESSAGE: [u8; 11] = [1, 1, 7, 0, 0, 0, 0, 0, 2, 0, 5];
+
+#[test]
+fn a_message_as_bytes(rt: HostRuntime) {
+    let message = Message {
+        from: 263,
+        stamp: Stamp::from_bits(131_077),
+    };
+    let written = encode_message(rt.alloc(), &message).expect(&rt, "memory");
+    assert_eq!(rt; written.as_slice(), MESSAGE.as_slice());
+    assert_eq!(rt; decode_message(&MESSAGE), Ok(message));
+}

@@ -1,5 +1,0 @@
--- The ledger is the one that the blank was made for.
-use Rattle.test_workers.proofs.gates.both_reads_answer_the_same.Given as goal
-
-abbrev pub ghosts-by_three : goal.ghosts-by_three
-ghosts-by_three g a = record { name = a.blank.name; parts = a.blank.parts }
