@@ -19,7 +19,7 @@ import sys
 import threading
 import time
 
-from hlcstore import Node
+from hlcstore import Node, join_record, threshold_record
 
 import log
 from clock import reading
@@ -57,10 +57,10 @@ class Coordinator:
         number = self.node.next
         self.append(log.batch_key(NUMBER, number), bytes(issue(reading(self.node))))
 
-    def append_plan(self, plan, also=(), **changed):
-        """Appends an entry that is no item, together with what changes by it."""
+    def append_plan(self, record, also=(), **changed):
+        """Appends a record that is no item, together with what changes by it."""
         number = self.head["plans"]
-        self.append(log.plan_key(number), log.to_json(plan), also, plans=number + 1, **changed)
+        self.append(log.plan_key(number), record, also, plans=number + 1, **changed)
 
     # ---- Nodes that come and go ----
 
@@ -78,7 +78,7 @@ class Coordinator:
             put(b"node/" + name, log.to_json(number)),
             delete(JOIN + name),
         ]
-        self.append_plan({"join": number, "start": start}, also, nodes=number + 1)
+        self.append_plan(join_record(number, start), also, nodes=number + 1)
 
     def refuse_join(self, name, text):
         """Replaces a request by its answer, for the writer that asked."""
@@ -126,7 +126,7 @@ class Coordinator:
             return
         threshold = min(words["floor"] for words in replicas) - (self.retention << 16)
         if threshold > self.head["threshold"]:
-            self.append_plan({"threshold": threshold}, threshold=threshold)
+            self.append_plan(threshold_record(threshold), threshold=threshold)
         revision = min(words["checkpoint"] for words in replicas)
         if revision:
             log.cut(self.etcd, self.link, revision)

@@ -3,7 +3,7 @@
 Keys in etcd:
 
     log/NODE/NUMBER   a batch of a node's items, as the bytes of hlcstore; NUMBER is that of the first one
-    log/plan/NUMBER   an entry of the coordinator, in JSON: a join, or a retention threshold
+    log/plan/NUMBER   a record of the coordinator, as such bytes: a join, or a retention threshold
     link/NODE         the head of a link, in JSON: who may append to it, and where the next process goes on
     cut               in JSON: the revision up to which entries were deleted
 
@@ -19,7 +19,7 @@ from typing import NamedTuple
 
 from etcd import Compacted, Unavailable, delete, get, pairs_of, prefix_end, prefix_of, put, revision_of, unchanged
 
-LOG, PLAN, CUT = b"log/", b"log/plan/", b"cut"
+LOG, CUT = b"log/", b"cut"
 PAGE = 64  # entries in an answer
 COORDINATOR = 0  # the coordinator's node
 
@@ -37,11 +37,10 @@ class Cut(Exception):
 
 
 class Entry(NamedTuple):
-    """A part of the log: a batch of items, or a plan of the coordinator."""
+    """A part of the log: a batch of items, or a record of the coordinator."""
 
     revision: int
-    plan: dict | None
-    items: bytes
+    records: bytes
 
 
 def batch_key(node, number):
@@ -61,9 +60,7 @@ def to_json(value):
 
 
 def entry_of(pair):
-    if pair.key.startswith(PLAN):
-        return Entry(pair.revision, json.loads(pair.value), b"")
-    return Entry(pair.revision, None, pair.value)
+    return Entry(pair.revision, pair.value)
 
 
 class Link:

@@ -23,6 +23,7 @@ import serve
 from etcd import Etcd
 
 ITEM = struct.Struct(">BHQQB")  # version, node, number, stamp, kind: docs/formats.md
+JOINED, THRESHOLD = struct.Struct(">BHQ"), struct.Struct(">BQ")  # what else a record is, by its first byte
 WRITE, REPORT, RETIRE = 0, 1, 2
 
 
@@ -63,17 +64,20 @@ class Model:
 
     def apply(self, entry):
         with self.lock:
-            if entry.plan is None:
-                for item in items_of(entry.items):
-                    self.accept(*item)
-            elif "join" in entry.plan:
-                start = entry.plan["start"]
-                expect(entry.plan["join"] == len(self.links) and start >= self.floor(), f"a bad join: {entry.plan}")
-                self.links.append([0, start, False])
+            if entry.records[:1] == b"\2":
+                self.join(*JOINED.unpack(entry.records)[1:])
+            elif entry.records[:1] == b"\3":
+                _, threshold = THRESHOLD.unpack(entry.records)
+                expect(threshold > self.threshold, "the threshold falls")
+                self.threshold = threshold
             else:
-                expect(entry.plan["threshold"] > self.threshold, "the threshold falls")
-                self.threshold = entry.plan["threshold"]
+                for item in items_of(entry.records):
+                    self.accept(*item)
             self.revision = entry.revision
+
+    def join(self, node, start):
+        expect(node == len(self.links) and start >= self.floor(), f"a bad join of node {node} at {start}")
+        self.links.append([0, start, False])
 
     def accept(self, node, number, stamp, kind, key, value):
         link = self.links[node]

@@ -41,20 +41,12 @@ class Replica:
     # ---- Applying the log ----
 
     def apply(self, entry):
+        """Accepts items, and lets nodes join: all replicas do it at the same place of the log, with the same start. What
+        was applied before is passed over."""
         with self.between:
-            if entry.plan is None:
-                self.store.accept_items(entry.items)  # passes over items that were accepted before
-            elif "join" in entry.plan:
-                self.join(**entry.plan)
-            else:
-                self.threshold = entry.plan["threshold"]
+            applied = self.store.apply_records(entry.records)
+            self.threshold = max(self.threshold, applied.threshold)
             self.revision = entry.revision
-
-    def join(self, join, start):
-        """Lets a node join where the log says so: all replicas do it at the same place, and with the same start."""
-        joined = self.store.join_at(start).id
-        if joined != join:
-            raise SystemExit(f"node {join} of the log joined as {joined}")
 
     def follow(self):
         etcd = Etcd(self.members)

@@ -11,7 +11,7 @@ from support import RETENTION, MemberCase, MemoryCase
 import log
 from coordinator import MOST_NODES
 from etcd import delete
-from hlcstore import Node, split, stamp
+from hlcstore import Node, split, stamp, threshold_record
 
 HOUR = 3_600_000  # milliseconds
 
@@ -46,7 +46,7 @@ class CoordinatorCases:
         self.retire(self.coordinator)
         with self.assertRaisesRegex(SystemExit, "the coordinator's node retired"):
             self.start_coordinator()
-        self.assertRaises(log.Retired, self.coordinator.append_plan, {"threshold": 1}, threshold=1)
+        self.assertRaises(log.Retired, self.coordinator.append_plan, threshold_record(1), threshold=1)
         self.assertEqual(self.links(), [(2, True)])
 
     def test_one_that_was_killed_is_followed_by_another(self):

@@ -32,10 +32,10 @@ class LogCases:
 
     def page(self, after):
         """Returns the numbers in the entries of a page."""
-        return [int(entry.items) for entry in log.page(self.new_etcd(), after)[0]]
+        return [int(entry.records) for entry in log.page(self.new_etcd(), after)[0]]
 
     def follow(self, after, many):
-        return [int(entry.items) for entry in itertools.islice(log.follow(self.new_etcd(), after), many)]
+        return [int(entry.records) for entry in itertools.islice(log.follow(self.new_etcd(), after), many)]
 
     # ---- Who may append ----
 
@@ -108,9 +108,9 @@ class LogCases:
         self.drop_history(revisions[-1])
         self.assertEqual(self.page(0), list(range(log.PAGE)))
         following = log.follow(self.new_etcd(), 0)
-        self.assertEqual([int(next(following).items) for _ in range(many)], list(range(many)))
+        self.assertEqual([int(next(following).records) for _ in range(many)], list(range(many)))
         append(link, many)
-        self.assertEqual(int(next(following).items), many)
+        self.assertEqual(int(next(following).records), many)
 
     # ---- Cutting ----
 

@@ -59,15 +59,22 @@ class Applying(MemoryCase):
         self.replica = self.new_replica()
         self.store = self.replica.store = NotedStore(self.replica)
         self.replica.between = Between(lambda: self.store.entries == self.replica.revision)
-        items = bytes(hlcstore.Node(0).report(5))
-        self.entries = [log.Entry(1, None, items), log.Entry(2, {"join": 1, "start": 5 << 16}, b"")]
-        self.entries.append(log.Entry(3, None, bytes(hlcstore.Node(1, 5 << 16).report(6))))
+        first, start = bytes(hlcstore.Node(0).report(5)), 5 << 16
+        second = hlcstore.threshold_record(3) + hlcstore.join_record(1, start)
+        third = hlcstore.threshold_record(2) + bytes(hlcstore.Node(1, start).report(6))
+        self.entries = [log.Entry(number, records) for number, records in enumerate((first, second, third), 1)]
 
     def test_an_entry_and_its_revision_come_at_once(self):
         for entry in self.entries:
             self.replica.apply(entry)
         self.assertEqual(self.replica.between.seen, [True] * 6)
-        self.assertEqual(self.store.locked, [("accept_items", True), ("join_at", True), ("accept_items", True)])
+        self.assertEqual(self.store.locked, [("apply_records", True)] * 3)
+        self.assertEqual((self.replica.threshold, self.store.nodes), (3, 2))
+
+    def test_entries_that_come_again_change_nothing(self):
+        for entry in self.entries + self.entries:
+            self.replica.apply(entry)
+        self.assertEqual((self.replica.threshold, self.store.nodes, self.store.link(1).next), (3, 2, 1))
 
     def test_a_checkpoint_is_made_between_two_entries(self):
         for entry in self.entries:
