@@ -338,7 +338,7 @@ def read_again(pick, store, log, nodes, saved):
     ok("close_snapshot", store, ids[0][0])
     next = ok("nodes", store)
     gap = whole("record_join", next + 1, ids[0][1])
-    assert library.call("records_apply", store, gap) == [NOT_NEXT, 0, 0, 0, next]
+    assert tuple(library.call("records_apply", store, gap)) == (NOT_NEXT, 0, 0, 0, next)
     for each in copy, early:
         library.call("close", each)
 

@@ -314,6 +314,8 @@ def count_opening(calls, store, floor, spent):
         calls.count(answer, "join", each)
         calls.count(answer, "join_at", each, TOP)
     calls.count(9, "join_at", store, floor - 1)
+    for answer, each, join in (26, nodes, (1024, TOP)), (9, store, (2, floor - 1)), (6, store, (3, TOP)):
+        calls.count(answer, "records_apply", each, calls.ok("record_join", *join, PLENTY)[1])
     for answer, each in (11, snapshots), (14, spent), (CLOSED, Handle()):
         calls.count(answer, "open_snapshot", each, 0)
         calls.count(answer, "open_snapshot_at_floor", each)
@@ -346,7 +348,8 @@ def count_logs(calls, store, next, spent):
     calls.count(12, "item_delete", 0, 0, 1, bytes(256), PLENTY)
     calls.count(13, "item_write", 0, 0, 1, KEY % 1, bytes(65536), PLENTY)
     for answer, (each, item) in item_refusals("report", store, next, spent).items():
-        calls.count(answer, "items_accept", each, calls.ok("item_report", *item, PLENTY)[1])
+        for name in "items_accept", "records_apply":
+            calls.count(answer, name, each, calls.ok("item_report", *item, PLENTY)[1])
     calls.count(106, "items_accept", store, b"\1")
     calls.count(106, "records_apply", store, b"\4")
 

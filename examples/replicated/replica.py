@@ -41,8 +41,8 @@ class Replica:
     # ---- Applying the log ----
 
     def apply(self, entry):
-        """Accepts items, and lets nodes join: all replicas do it at the same place of the log, with the same start. What
-        was applied before is passed over."""
+        """Accepts items, and lets nodes join: all replicas do so at the same place of the log, with the same start.
+        What was applied before is passed over."""
         with self.between:
             applied = self.store.apply_records(entry.records)
             self.threshold = max(self.threshold, applied.threshold)

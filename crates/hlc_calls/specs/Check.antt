@@ -12,8 +12,8 @@ use Rattle.hlc_calls.specs.Answers.{narrowed}
 abbrev pub IsBare : ℕ → ℕ → Type 0
 IsBare rows bytes = (rows ≡ 0) × (bytes ≡ 0)
 
--- the rows that the lines show to be the fewest and cheapest are counted; or the first reason against it is returned, or
--- the first bad line; or out of memory
+-- the rows that the lines show to be the fewest and cheapest are counted; or the first reason against it is returned,
+-- or the first bad line; or out of memory
 abbrev pub ReturnsShown : List (List ℕ) → ℕ → ℕ → ℕ → ℕ → Type 0
 ReturnsShown lines code rows bytes word =
     ((code ≡ 0) × (word ≡ 0) × ((cost : ℕ) × ShowsFewest lines rows cost × (bytes ≡ narrowed cost)))

@@ -2,7 +2,6 @@ pub mod Answers
 pub mod Batch
 pub mod Certified
 pub mod Listing
-pub mod Nodes
 pub mod Outcome
 pub mod Output
 pub mod Scan

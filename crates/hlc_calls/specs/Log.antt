@@ -41,8 +41,8 @@ with_items nodes (item ∷ items) past = with_items nodes items (with_item nodes
 abbrev pub StartsWithWrite : List ℕ → Type 0
 StartsWithWrite bytes = slice_get bytes 19 ≡ Some 0
 
--- why the item at the front of some bytes was not taken: out of memory, which only a write needs; the first fault of the
--- bytes; or the expected refusal of an item that did not come before
+-- why the item at the front of some bytes was not taken: out of memory, which only a write needs; the first fault of
+-- the bytes; or the expected refusal of an item that did not come before
 abbrev pub IsStopped : ℕ → List ℕ → List Step → ℕ → ℕ → Type 0
 IsStopped nodes bytes past code word =
     ((code ≡ 15) × (word ≡ 0) × StartsWithWrite bytes)

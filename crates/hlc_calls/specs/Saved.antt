@@ -15,8 +15,8 @@ use Rattle.hlc_saved.specs.declared.fault.ResumeError.TheVariants.{NoMemory, Byt
 abbrev pub IsMade : List ℕ → ℕ → StoreView → Type 0
 IsMade bytes word core = (kept : StoreView) × AreOf bytes word kept × IsCopyOf kept core
 
--- no store was made: out of memory, and all of the bytes are a frame; or the first fault of the bytes is returned, or the first reason why their content
--- is no checkpoint
+-- no store was made: out of memory, and all of the bytes are a frame; or the first fault of the bytes is returned, or
+-- the first reason why their content is no checkpoint
 abbrev pub IsNotMade : List ℕ → ℕ → ℕ → Type 0
 IsNotMade bytes code word =
     ((code ≡ 15) × (word ≡ 0) × AreFrame bytes)

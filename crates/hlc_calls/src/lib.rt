@@ -1,5 +1,5 @@
-//! What the calls of the C library do with an open store and with a node. Each answer is 0, the number of a refusal, or
-//! a number above 100. What else it has to say is in a word or in bytes.
+//! What the calls of the C library do with an open store. Each answer is 0, the number of a refusal, or a number above
+//! 100. What else it has to say is in a word or in bytes.
 #![tactic(auto)]
 
 pub mod batch;
@@ -10,7 +10,6 @@ pub mod digest;
 pub mod items;
 pub mod list;
 pub mod log;
-pub mod node;
 pub mod open_store;
 pub mod output;
 pub mod read_all;

@@ -39,11 +39,9 @@ pub fn apply_all(
 fn end_of(end: Option<RecordFault>, word: &mut u64) -> u32
     ensures { (result ≡ end_code end) × (word.new ≡ end_word end) }
 {
+    *word = 0;
     match end {
-        None => {
-            *word = 0;
-            0
-        }
+        None => 0,
         Some(RecordFault::Bytes(fault)) => {
             *word = fault.code() as u64;
             106
@@ -53,12 +51,12 @@ fn end_of(end: Option<RecordFault>, word: &mut u64) -> u32
 }
 
 /// Writes a record as bytes. Returns 0, the length of the bytes and, where they fit, the bytes; or 15.
-fn put(alloc: Global, record: &Record, out: &mut [u8], len: &mut usize) -> u32
-    requires { record_refusal record.now ≡ None }
-    ensures { ReturnsRecord record.now result len.new out.old out.new }
+fn put(alloc: Global, entry: &Record, out: &mut [u8], len: &mut usize) -> u32
+    requires { record_refusal entry.now ≡ None }
+    ensures { ReturnsRecord entry.now result len.new out.old out.new }
 {
     *len = 0;
-    match encode_record(alloc, record) {
+    match encode_record(alloc, entry) {
         Ok(bytes) => {
             fill(bytes.as_slice(), out, len);
             0

@@ -61,8 +61,7 @@ pub extern "C" fn hlc_accept_delete(
     on_core!(alloc, store, |core| items::accept(core, &item, word))
 }
 
-/// Accepts the report that a node issued under this number. Returns 0 and its stamp, or a refusal and its word. It
-/// takes no memory.
+/// Accepts a node's report of this number. Returns 0 and its stamp, or a refusal and its word. It takes no memory.
 #[unsafe(no_mangle)]
 pub extern "C" fn hlc_accept_report(
     alloc: Global,
@@ -84,8 +83,7 @@ pub extern "C" fn hlc_accept_report(
     on_core!(alloc, store, |core| items::accept(core, &item, word))
 }
 
-/// Accepts a node's last item, which it issued under this number. Returns 0 and its stamp, or a refusal and its word.
-/// It takes no memory.
+/// Accepts a node's last item, of this number. Returns 0 and its stamp, or a refusal and its word. No memory.
 #[unsafe(no_mangle)]
 pub extern "C" fn hlc_accept_retire(
     alloc: Global,
@@ -191,8 +189,7 @@ pub extern "C" fn hlc_join(alloc: Global, store: &mut Store, node: &mut u16, sta
     on_core!(alloc, store, |core| open_store::join(core, node, start))
 }
 
-/// Lets a node join at a start. Returns 0, its number and the start; or 26, or 9 with the floor where the start is
-/// below it, or 15.
+/// Lets a node join at a start. Returns 0, its number and the start; or 26, or 9 and the floor, or 15.
 #[unsafe(no_mangle)]
 pub extern "C" fn hlc_join_at(
     alloc: Global,

@@ -38,10 +38,9 @@ pub extern "C" fn hlc_accept_all(
     )
 }
 
-/// Reads keys in a snapshot in turn, each at a place among the bytes. For each the answer is a byte 0, or 1 and the
-/// value after its length of eight bytes, the low one first. Returns 0; or 103 where the bytes do not contain the next
-/// key, or 104 where its answer does not fit; with the length of the answers before it, and how many they are. Or
-/// returns 10. It takes no memory.
+/// Reads keys in a snapshot in turn, each at a place among the bytes, and writes for each a byte 0, or 1 and the value
+/// after its length of eight bytes. Returns 0; or 103 where the bytes do not have the next key, or 104 where its answer
+/// does not fit; with the length and the number of the answers before it; or 10. It takes no memory.
 #[unsafe(no_mangle)]
 pub extern "C" fn hlc_read_all(
     store: &mut Reader,

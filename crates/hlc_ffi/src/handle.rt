@@ -31,8 +31,7 @@ macro_rules! of_core {
     };
 }
 
-/// Makes a call that returns boxed bytes, and puts them into an output that has none. Returns 108 for one that has
-/// some, and makes no call.
+/// Makes a call that returns boxed bytes, for an output that has none. Returns 108, and makes no call, if it has.
 macro_rules! into_output {
     ($alloc:expr, $output:expr, $len:expr, $call:expr) => {
         match $output.take($alloc) {

@@ -23,8 +23,7 @@ use hlc_core::Core;
 pub use hlc_handle::{Output, Reader, Restoring, Store};
 use std::alloc::Global;
 
-/// Opens a closed store of so many nodes, 1 to 64, in which nothing took place. Returns 0, 1, 15, or 101 for an open
-/// store, which stays unchanged.
+/// Opens a closed store of 1 to 64 nodes. Returns 0, 1, 15, or 101 for an open store, which stays unchanged.
 #[unsafe(no_mangle)]
 pub extern "C" fn hlc_open(alloc: Global, store: &mut Store, count: u16) -> u32
     ensures { IsOpening store.old.room.value store.new.room.value count result }

@@ -14,8 +14,7 @@ use hlc_core::Stamp;
 use hlc_handle::Store;
 use std::alloc::Global;
 
-/// Writes the write that a node issued as bytes. Returns 0, the length of the bytes and, where they fit, the bytes; or
-/// 12, 13 or 15.
+/// Writes a node's write as bytes. Returns 0, how many there are and, where they fit, the bytes; or 12, 13 or 15.
 #[unsafe(no_mangle)]
 pub extern "C" fn hlc_item_write(
     alloc: Global,
@@ -34,8 +33,7 @@ pub extern "C" fn hlc_item_write(
     log::put_write(alloc, node, number, stamp, key, Some(value), out, len)
 }
 
-/// Writes the deletion that a node issued as bytes. Returns 0, the length of the bytes and, where they fit, the bytes;
-/// or 12 or 15.
+/// Writes a node's deletion as bytes. Returns 0, how many there are and, where they fit, the bytes; or 12 or 15.
 #[unsafe(no_mangle)]
 pub extern "C" fn hlc_item_delete(
     alloc: Global,
@@ -53,8 +51,7 @@ pub extern "C" fn hlc_item_delete(
     log::put_write(alloc, node, number, stamp, key, None, out, len)
 }
 
-/// Writes the report that a node issued as bytes. Returns 0, the length of the bytes and, where they fit, the bytes; or
-/// 15.
+/// Writes a node's report as bytes. Returns 0, how many there are and, where they fit, the bytes; or 15.
 #[unsafe(no_mangle)]
 pub extern "C" fn hlc_item_report(
     alloc: Global,
@@ -70,8 +67,7 @@ pub extern "C" fn hlc_item_report(
     log::put_plain(alloc, node, number, stamp, false, out, len)
 }
 
-/// Writes the retirement that a node issued as bytes. Returns 0, the length of the bytes and, where they fit, the
-/// bytes; or 15.
+/// Writes a node's retirement as bytes. Returns 0, how many there are and, where they fit, the bytes; or 15.
 #[unsafe(no_mangle)]
 pub extern "C" fn hlc_item_retire(
     alloc: Global,
@@ -87,9 +83,8 @@ pub extern "C" fn hlc_item_retire(
     log::put_plain(alloc, node, number, stamp, true, out, len)
 }
 
-/// Accepts the items of a log in turn, and passes over those whose numbers were accepted before, until one is refused.
-/// Returns 0, or the answer for that one and its word: its refusal, or 106 and the number of the first fault of the
-/// bytes, or 15. With each answer it returns how many items were accepted or passed over, and how many bytes they have.
+/// Accepts the items of a log in turn, and passes over those that came before, until one is refused. Returns 0, or its
+/// refusal and word, 106 and the first fault of the bytes, or 15; and how many items were taken, and their bytes.
 #[unsafe(no_mangle)]
 pub extern "C" fn hlc_items_accept(
     alloc: Global,

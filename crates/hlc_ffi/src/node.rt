@@ -3,9 +3,8 @@ ghost use Rattle.std.specs.Prelude.{◌≡◌, ◌<◌, ◌≤◌, [], ◌∷◌
 ghost use Rattle.hlc_node.specs.Node.{expected_event, stamped};
 ghost use Rattle.hlc_node.specs.declared.item.Body.TheVariants.{Write as a_write, Report as a_report};
 ghost use Rattle.hlc_node.specs.declared.item.Body.TheVariants.{Retire as a_retire};
-ghost use Rattle.hlc_calls.specs.Nodes.{ReturnsStamped, ReturnsIssued};
+ghost use Rattle.hlc_node_calls.specs.Nodes.{ReturnsStamped, ReturnsIssued};
 
-use hlc_calls::node;
 use hlc_clock::Stamp;
 use hlc_node::NodeCore;
 
@@ -17,8 +16,7 @@ pub extern "C" fn hlc_node_open(id: u16, start: u64) -> NodeCore
     NodeCore::new(id, Stamp::from_bits(start))
 }
 
-/// Returns 0 and the node after a restart, from its number, the stamp of its last event, and the number of its next
-/// item; or 105, where no node has issued so many items up to that stamp, and a node as `hlc_node_open` makes it.
+/// Returns 0 and the node after a restart; or 105, where no node issued so many items up to that stamp, and a new node.
 #[unsafe(no_mangle)]
 pub extern "C" fn hlc_node_restore(id: u16, last: u64, next: u64, node: &mut NodeCore) -> u32
     ensures restored { next ≤ last → (result ≡ 0)
@@ -60,7 +58,7 @@ pub extern "C" fn hlc_node_write(
     ensures { ReturnsIssued node.old node.new (a_write key.now (Some value.now)) reading
         result number.new word.new }
 {
-    node::write(node, reading, key, Some(value), number, word)
+    hlc_node_calls::write(node, reading, key, Some(value), number, word)
 }
 
 /// Issues the item of a deletion. Returns 0, its number and its stamp, or a refusal and its word.
@@ -75,11 +73,10 @@ pub extern "C" fn hlc_node_delete(
     ensures { ReturnsIssued node.old node.new (a_write key.now None) reading
         result number.new word.new }
 {
-    node::write(node, reading, key, None, number, word)
+    hlc_node_calls::write(node, reading, key, None, number, word)
 }
 
-/// Issues a report of how far the node's stamps have come. Returns 0, its number and its stamp, or a refusal and its
-/// word.
+/// Issues a report. Returns 0, its number and its stamp, or a refusal and its word.
 #[unsafe(no_mangle)]
 pub extern "C" fn hlc_node_report(
     node: &mut NodeCore,
@@ -89,7 +86,7 @@ pub extern "C" fn hlc_node_report(
 ) -> u32
     ensures { ReturnsIssued node.old node.new a_report reading result number.new word.new }
 {
-    node::report(node, reading, number, word)
+    hlc_node_calls::report(node, reading, number, word)
 }
 
 /// Issues the node's last item. Returns 0, its number and its stamp, or a refusal and its word.
@@ -102,7 +99,7 @@ pub extern "C" fn hlc_node_retire(
 ) -> u32
     ensures { ReturnsIssued node.old node.new a_retire reading result number.new word.new }
 {
-    node::retire(node, reading, number, word)
+    hlc_node_calls::retire(node, reading, number, word)
 }
 
 /// Sends a message. Returns 0 and its stamp, or a refusal and its word.
@@ -111,11 +108,10 @@ pub extern "C" fn hlc_node_send(node: &mut NodeCore, reading: u64, word: &mut u6
     ensures { ReturnsStamped node.old node.new (expected_event node.old (node.old.last ∷ []) reading)
         result word.new }
 {
-    node::send(node, reading, word)
+    hlc_node_calls::send(node, reading, word)
 }
 
-/// Receives a message with this stamp, or observes a snapshot at it. Returns 0 and the event's stamp, or a refusal and
-/// its word.
+/// Receives a message with this stamp, or observes a snapshot at it. Returns 0 and the event's stamp, or a refusal.
 #[unsafe(no_mangle)]
 pub extern "C" fn hlc_node_receive(
     node: &mut NodeCore,
@@ -126,5 +122,5 @@ pub extern "C" fn hlc_node_receive(
     ensures { ReturnsStamped node.old node.new
         (expected_event node.old (node.old.last ∷ seen ∷ []) reading) result word.new }
 {
-    node::receive(node, seen, reading, word)
+    hlc_node_calls::receive(node, seen, reading, word)
 }

@@ -7,8 +7,7 @@ use hlc_calls::output::read_piece;
 use hlc_handle::Output;
 use std::alloc::Global;
 
-/// Reads bytes from a place on, as many as the buffer has room for, and writes how many these are. Returns 0 where they
-/// are the last, or 104 where bytes are left.
+/// Reads bytes from a place on, as many as fit, and writes how many these are. Returns 0, or 104 if some are left.
 #[unsafe(no_mangle)]
 pub extern "C" fn hlc_output_read(
     alloc: Global,

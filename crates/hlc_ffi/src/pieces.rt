@@ -5,9 +5,8 @@ ghost use Rattle.hlc_saved.specs.Saved.{BytesRepresent};
 ghost use Rattle.hlc_ffi.specs.Handle.{RestoresPast};
 ghost use Rattle.hlc_ffi.specs.Pieces.{HasStarted, HasFed, HasReadAll, HasFinished};
 
-use crate::saved::opened;
 use hlc_calls::saved::answered;
-use hlc_handle::{Restoring, Store};
+use hlc_handle::{Restoring, Store, opened};
 use hlc_saved::CheckpointReader;
 use std::alloc::Global;
 
@@ -48,8 +47,7 @@ pub extern "C" fn hlc_restore_feed(alloc: Global, restoring: &mut Restoring, byt
     }
 }
 
-/// Ends a restore, and opens a closed store from all bytes that were added, as `hlc_restore` does. Returns what that
-/// returns; or 100 where no restore is under way; or 101 for an open store, and the restore goes on.
+/// Ends a restore as `hlc_restore` of all its bytes; or returns 100 for none under way; or 101, and it goes on.
 #[unsafe(no_mangle)]
 pub extern "C" fn hlc_restore_finish(
     alloc: Global,

@@ -61,8 +61,7 @@ pub extern "C" fn hlc_open_snapshot_at_floor(
     on_core!(alloc, store, |core| open_store::open_floor(core, id, stamp))
 }
 
-/// Reads a key in a snapshot. Returns 0, the value's length and, where it fits, the value; 102 where there is none; or
-/// 10. It takes no memory.
+/// Reads a key in a snapshot. Returns 0, the value's length and, where it fits, the value; 102 for none; or 10.
 #[unsafe(no_mangle)]
 pub extern "C" fn hlc_read(
     store: &mut Reader,
@@ -143,8 +142,7 @@ pub extern "C" fn hlc_rows(store: &mut Reader, rows: &mut u64) -> u32
     })
 }
 
-/// Returns 0, in constant time, and how many rows and keys are stored, the bytes of the keys, each counted once, and
-/// those of the values of all rows. A number is 2^64 - 1 where it would be greater. It takes no memory.
+/// Returns 0, in constant time, how many rows and keys are stored, the bytes of the keys, and those of all values.
 #[unsafe(no_mangle)]
 pub extern "C" fn hlc_sizes(
     store: &mut Reader,
@@ -168,9 +166,8 @@ pub extern "C" fn hlc_sizes(
     })
 }
 
-/// Lists the keys with a value in a snapshot, in byte order. Returns 0, the length of the listing in bytes and, where
-/// they fit, the bytes: for each key its length, the key, its value's length and the value; or 10. A length has eight
-/// bytes, the low one first. The length of the listing is 2^64 - 1 where it would be greater. It takes no memory.
+/// Lists the keys with a value in a snapshot, in byte order. Returns 0, how many bytes the listing has and, where they
+/// fit, the bytes: of each key its length in eight bytes, the key, and the same of its value; or 10. No memory.
 #[unsafe(no_mangle)]
 pub extern "C" fn hlc_list(store: &mut Reader, id: u64, out: &mut [u8], len: &mut usize) -> u32
     ensures answer { OnReader store.old.room.value
@@ -184,9 +181,8 @@ pub extern "C" fn hlc_list(store: &mut Reader, id: u64, out: &mut [u8], len: &mu
     of_core!(store, |core| list(core, id, out, len))
 }
 
-/// Lists the keys with a value in a snapshot, from one key on and below another, if that has bytes, as `hlc_list` does,
-/// but only as many whole pairs as fit. Returns 0, or 104 where a pair is left; with the length of the bytes, and how
-/// many pairs they are. Or returns 10. It takes no memory.
+/// Lists keys from one on and below another, if that has bytes, as `hlc_list`, but only as many whole pairs as fit.
+/// Returns 0, or 104 where a pair is left, with the length and the number of the pairs; or 10. It takes no memory.
 #[unsafe(no_mangle)]
 pub extern "C" fn hlc_scan(
     store: &mut Reader,
@@ -233,8 +229,7 @@ pub extern "C" fn hlc_scan_keys(
     of_core!(store, |core| scan(core, id, from, to, true, out, len, many))
 }
 
-/// Returns 0 and how many keys of such a range have a value in a snapshot, or 2^64 - 1 where there are more; or 10. It
-/// takes no memory.
+/// Returns 0 and how many keys of such a range have a value in a snapshot, 2^64 - 1 for more; or 10. No memory.
 #[unsafe(no_mangle)]
 pub extern "C" fn hlc_count(
     store: &mut Reader,
@@ -252,8 +247,7 @@ pub extern "C" fn hlc_count(
     of_core!(store, |core| count(core, id, from, to, many))
 }
 
-/// Digests such a range of a snapshot: returns 0, 32 and, where they fit, the bytes of the SHA-256 of what `hlc_list`
-/// would return for it; or 10. It takes no memory.
+/// Returns 0, 32 and, where it fits, the SHA-256 of what `hlc_list` would return for such a range; or 10. No memory.
 #[unsafe(no_mangle)]
 pub extern "C" fn hlc_digest(
     store: &mut Reader,

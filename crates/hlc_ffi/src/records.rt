@@ -12,8 +12,7 @@ use hlc_core::Stamp;
 use hlc_handle::Store;
 use std::alloc::Global;
 
-/// Writes the join of a node at a start as bytes. Returns 0, the length of the bytes and, where they fit, the bytes; or
-/// 15.
+/// Writes a join as bytes. Returns 0, how many there are and, where they fit, the bytes; or 15.
 #[unsafe(no_mangle)]
 pub extern "C" fn hlc_record_join(
     alloc: Global,
@@ -27,7 +26,7 @@ pub extern "C" fn hlc_record_join(
     records::put_join(alloc, node, Stamp::from_bits(start), out, len)
 }
 
-/// Writes a retention threshold as bytes. Returns 0, the length of the bytes and, where they fit, the bytes; or 15.
+/// Writes a retention threshold as bytes. Returns 0, how many there are and, where they fit, the bytes; or 15.
 #[unsafe(no_mangle)]
 pub extern "C" fn hlc_record_threshold(
     alloc: Global,
@@ -40,10 +39,9 @@ pub extern "C" fn hlc_record_threshold(
     records::put_threshold(alloc, Stamp::from_bits(stamp), out, len)
 }
 
-/// Applies the records of a log in turn, and passes over those that came before, until one is not applied. Returns 0,
-/// or the answer for that one and its word: its refusal, or 106 and the number of the first fault of the bytes, or 15.
-/// With each answer it returns how many records were applied or passed over, how many bytes they have, and the greatest
-/// threshold among them, or 0.
+/// Applies the records of a log in turn, and passes over those that came before, until one is refused. Returns 0, or
+/// its refusal and word, 106 and the first fault of the bytes, or 15; and how many were taken, their bytes and greatest
+/// threshold.
 #[unsafe(no_mangle)]
 pub extern "C" fn hlc_records_apply(
     alloc: Global,

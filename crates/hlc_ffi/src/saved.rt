@@ -8,12 +8,10 @@ ghost use Rattle.hlc_ffi.specs.Outputs.{OnOutput};
 
 use crate::handle::{into_output, of_core};
 use hlc_calls::saved;
-use hlc_core::Core;
-use hlc_handle::{Output, Reader, Store};
+use hlc_handle::{Output, Reader, Store, opened};
 use std::alloc::Global;
 
-/// Saves the whole state of a store, with a word of the caller's, as bytes in an output. Returns 0 and the length of
-/// the bytes; or 108 where the output has bytes; or 15.
+/// Saves a store and a word of the caller's as bytes in an output. Returns 0 and how many they are; or 108, or 15.
 #[unsafe(no_mangle)]
 pub extern "C" fn hlc_checkpoint(
     alloc: Global,
@@ -40,9 +38,8 @@ pub extern "C" fn hlc_checkpoint(
     )
 }
 
-/// Opens a closed store from the bytes of `hlc_checkpoint`. Returns 0 and the word that they were saved with; or 101
-/// for an open store, which stays unchanged; or 106 and the number of the first fault of the bytes, 107 and the number
-/// of the first reason why their content is no checkpoint, or 15.
+/// Opens a closed store from the bytes of `hlc_checkpoint`. Returns 0 and their word; or 101 for an open store, which
+/// stays as it is; or 106 and the first fault of the bytes, 107 and the first reason against their content, or 15.
 #[unsafe(no_mangle)]
 pub extern "C" fn hlc_restore(alloc: Global, store: &mut Store, bytes: &[u8], word: &mut u64) -> u32
     ensures answer { IsRestoring store.old.room.value store.new.room.value bytes.now result word.new }
@@ -56,32 +53,4 @@ pub extern "C" fn hlc_restore(alloc: Global, store: &mut Store, bytes: &[u8], wo
     }
     let made = saved::restore(alloc, bytes, word);
     opened(alloc, store, made, word)
-}
-
-/// Puts a store that was made into a closed handle. Returns 0; or the answer why none was made; or 15.
-pub(crate) fn opened(
-    alloc: Global,
-    store: &mut Store,
-    made: Result<Core, u32>,
-    word: &mut u64,
-) -> u32
-    requires { store.old.room.value ≡ None }
-    ensures { MatchResult made (λ core. MatchOption store.new.room.value ((result ≡ 15) × (word.new ≡ 0))
-        (λ kept. (result ≡ 0) × (word.new ≡ word.old) × (kept ≡ core)))
-        (λ code. (result ≡ code) × (word.new ≡ word.old) × (store.new.room.value ≡ None)) }
-{
-    let core = match made {
-        Ok(core) => core,
-        Err(code) => return code,
-    };
-    match Box::new(alloc, core) {
-        Ok(handle) => {
-            store.put(handle);
-            0
-        }
-        Err(_) => {
-            *word = 0;
-            15
-        }
-    }
 }

@@ -9,8 +9,7 @@ use crate::handle::of_core;
 use hlc_calls::status;
 use hlc_handle::Reader;
 
-/// Returns 0 and the horizon (GC threshold): the stamp of the last vacuum, or part of one, or 0 before
-/// the first.
+/// Returns 0 and the horizon (GC threshold): the stamp of the last vacuum, or part of one, or 0 before the first.
 #[unsafe(no_mangle)]
 pub extern "C" fn hlc_horizon(store: &mut Reader, stamp: &mut u64) -> u32
     ensures answer { OnReader store.old.room.value
@@ -61,8 +60,7 @@ pub extern "C" fn hlc_link(
     of_core!(store, |core| status::link(core, node, next, head, retired))
 }
 
-/// Returns 0 and the first node that holds the floor back: it has not retired, and its head is the floor. Or returns 1,
-/// where all nodes have retired.
+/// Returns 0 and the first node that holds the floor back: its head is the floor. Or 1, where all nodes have retired.
 #[unsafe(no_mangle)]
 pub extern "C" fn hlc_floor_node(store: &mut Reader, node: &mut u64) -> u32
     ensures answer { OnReader store.old.room.value

@@ -6,19 +6,15 @@ ghost use Rattle.hlc_answers.specs.Texts.{answer_name, answer_text};
 use hlc_answers::{name, text};
 use hlc_calls::open_store::fill;
 
-/// The version, as 10,000 times the first number, 100 times the second, and the third.
-const VERSION: u32 = 100;
-
-/// Returns the version of the library.
+/// Returns the version of the library: 10,000 times its first number, 100 times the second, and the third.
 #[unsafe(no_mangle)]
 pub extern "C" fn hlc_version() -> u32
     ensures { result ≡ 100 }
 {
-    VERSION
+    100
 }
 
-/// Writes the name of an answer in the header: its length and, where they fit, its bytes. The length is 0 for a number
-/// that is no answer.
+/// Writes the name of an answer in the header: its length, 0 for no answer, and, where they fit, its bytes.
 #[unsafe(no_mangle)]
 pub extern "C" fn hlc_error_name(answer: u32, out: &mut [u8], len: &mut usize)
     ensures len { len.new ≡ length (answer_name answer) }

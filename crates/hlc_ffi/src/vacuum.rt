@@ -17,8 +17,7 @@ use hlc_core::Stamp;
 use hlc_handle::{Output, Reader, Store};
 use std::alloc::Global;
 
-/// Drops the rows that no reader needs. Returns 0, the floor, how many rows at or below it were kept, what they cost in
-/// bytes, and how many were dropped; or 15.
+/// Drops the rows that no reader needs. Returns 0, the floor, the rows kept up to it, their cost, those dropped; or 15.
 #[unsafe(no_mangle)]
 pub extern "C" fn hlc_vacuum(
     alloc: Global,
@@ -50,8 +49,7 @@ pub extern "C" fn hlc_vacuum(
 }
 
 /// Does the same, and puts the certificate of the rows that are left up to the floor into an output. Returns 0, these
-/// numbers and the length of the certificate in bytes; or 108 where the output has bytes; or 15, where the vacuum may
-/// have taken place.
+/// numbers and its length in bytes; or 108 where the output has bytes; or 15, where the vacuum may have taken place.
 #[unsafe(no_mangle)]
 pub extern "C" fn hlc_vacuum_certified(
     alloc: Global,
@@ -91,8 +89,7 @@ pub extern "C" fn hlc_vacuum_certified(
     )
 }
 
-/// Returns why `hlc_vacuum_to` would refuse a stamp, apart from out of memory: 0, or 8 and the floor, or 9 and the
-/// horizon (GC threshold). It takes no memory.
+/// Returns why `hlc_vacuum_to` would refuse: 0, or 8 and the floor, or 9 and the horizon (GC threshold). No memory.
 #[unsafe(no_mangle)]
 pub extern "C" fn hlc_check_vacuum(store: &mut Reader, at: u64, word: &mut u64) -> u32
     ensures answer { OnReader store.old.room.value
@@ -105,9 +102,8 @@ pub extern "C" fn hlc_check_vacuum(store: &mut Reader, at: u64, word: &mut u64) 
     of_core!(store, |core| open_store::check_vacuum(core, at, word))
 }
 
-/// Drops the rows at or below a stamp that no reader needs. Returns 0, the stamp, how many rows at or below it were
-/// kept, what they cost in bytes, and how many were dropped; or 8 and the floor, 9 and the horizon, or 15. Rows above
-/// the stamp stay.
+/// Drops the rows at or below a stamp that no reader needs. Returns 0, the stamp, how many rows up to it were kept,
+/// what they cost in bytes, and how many were dropped; or 8 and the floor, 9 and the horizon, or 15.
 #[unsafe(no_mangle)]
 pub extern "C" fn hlc_vacuum_to(
     alloc: Global,
@@ -138,8 +134,7 @@ pub extern "C" fn hlc_vacuum_to(
 }
 
 /// Does the same, and puts the certificate of the rows that are left up to the stamp into an output. Returns 0, these
-/// numbers and the length of the certificate in bytes; or 108 where the output has bytes; or a refusal and its word; or
-/// 15, where the vacuum may have taken place all the same.
+/// numbers and its length in bytes; or 108 where the output has bytes; or a refusal; or 15, maybe after the vacuum.
 #[unsafe(no_mangle)]
 pub extern "C" fn hlc_vacuum_to_certified(
     alloc: Global,
@@ -183,10 +178,8 @@ pub extern "C" fn hlc_vacuum_to_certified(
     )
 }
 
-/// Makes a part of `hlc_vacuum_to`, of the first keys above one, at most so many. Returns 0, the stamp, how many rows
-/// of these keys at or below it were kept, what they cost in bytes, how many were dropped, the length of the last of
-/// these keys and, where it fits, the key, and whether a key is left above it; or 8 and the floor, 9 and the horizon,
-/// or 15.
+/// Makes a part of `hlc_vacuum_to`, of the first keys above one, at most so many. Returns what that returns, of these
+/// keys; the length of the last one and, where it fits, the key; and whether a key is left above it.
 #[unsafe(no_mangle)]
 pub extern "C" fn hlc_vacuum_part(
     alloc: Global,
@@ -227,9 +220,9 @@ pub extern "C" fn hlc_vacuum_part(
     )
 }
 
-/// Checks the text of a certificate, whoever made it. Returns 0, how many rows it shows to be the fewest, and what they
-/// cost in bytes, or 2^64 - 1 where that is greater; or 22 and the number of the first reason against it, 16 and the
-/// number of the first bad line, 15, or 20 where the text has more than 16,777,216 bytes.
+/// Checks the text of a certificate, whoever made it. Returns 0, how many rows it shows to be the fewest, and their
+/// cost in bytes; or 22 and the first reason against it, 16 and the first bad line, 15, or 20 for over 16,777,216
+/// bytes.
 #[unsafe(no_mangle)]
 pub extern "C" fn hlc_check(
     alloc: Global,

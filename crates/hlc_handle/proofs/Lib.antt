@@ -3,3 +3,4 @@ pub mod LentValues
 pub mod Promise
 pub mod Rooms
 pub mod Values
+mod Crossing

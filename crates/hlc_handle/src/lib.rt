@@ -7,12 +7,14 @@ mod loose;
 mod output;
 mod reader;
 mod restoring;
+mod sends;
 mod store;
 
 pub use output::{Output, OutputRoom};
 pub use reader::{LentCore, LentRoom, Reader};
 pub use restoring::{RestoreRoom, Restoring};
-pub use store::{Room, Store};
+pub use sends::handles_may_change_threads;
+pub use store::{Room, Store, opened};
 
 /// The type that C sees at the pointer.
 #[repr(C)]

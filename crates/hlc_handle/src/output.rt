@@ -21,6 +21,9 @@ impl Model for OutputRoom {
     ghost also_owns = { λ r. room_owns bytes_row r.at r.value };
 }
 
+// SAFETY: a room owns a box of plain data, or nothing, in whichever thread it is.
+unsafe impl Send for OutputRoom {}
+
 impl OutputRoom {
     /// Returns an empty room, with a null pointer.
     pub(crate) fn empty() -> OutputRoom

@@ -44,6 +44,9 @@ impl Model for LentRoom {
     ghost also_owns = { λ r. lent_room_owns the_row r.at r.value };
 }
 
+// SAFETY: a room owns a part of the token of a lifetime for which a `Sync` core is shared, or nothing.
+unsafe impl Send for LentRoom {}
+
 impl LentRoom {
     /// Returns an empty room, with a null pointer.
     pub(crate) fn empty() -> LentRoom

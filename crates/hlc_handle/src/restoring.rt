@@ -23,6 +23,9 @@ impl Model for RestoreRoom {
     ghost also_owns = { λ r. room_owns the_row r.at r.value };
 }
 
+// SAFETY: a room owns a box of plain data, or nothing, in whichever thread it is.
+unsafe impl Send for RestoreRoom {}
+
 impl RestoreRoom {
     /// Returns an empty room, with a null pointer.
     pub(crate) fn empty() -> RestoreRoom

@@ -1,5 +1,5 @@
 //! What C has of a store: an opaque pointer, and a flag.
-ghost use Rattle.std.specs.Prelude.{◌≡◌, Option, Some, None, IsSome, MatchOption, is_some};
+ghost use Rattle.std.specs.Prelude.{◌≡◌, Option, Some, None, IsSome, MatchOption, MatchResult, is_some};
 ghost use Rattle.hlc_core.specs.StoreView.{StoreView};
 
 use crate::Opaque;
@@ -22,6 +22,9 @@ impl Model for Room {
 
     ghost also_owns = { λ r. room_owns the_row r.at r.value };
 }
+
+// SAFETY: a room owns a box of plain data, or nothing, in whichever thread it is.
+unsafe impl Send for Room {}
 
 impl Room {
     /// Returns an empty room, with a null pointer.
@@ -102,5 +105,28 @@ impl Store {
         };
         let Store { room, live: _ } = std::mem::replace(self, full);
         let Room { at: _ } = room;
+    }
+}
+
+/// Puts a store that was made into a closed handle. Returns 0; or the answer why none was made; or 15.
+pub fn opened(alloc: Global, store: &mut Store, made: Result<Core, u32>, word: &mut u64) -> u32
+    requires { store.old.room.value ≡ None }
+    ensures { MatchResult made (λ core. MatchOption store.new.room.value ((result ≡ 15) × (word.new ≡ 0))
+        (λ kept. (result ≡ 0) × (word.new ≡ word.old) × (kept ≡ core)))
+        (λ code. (result ≡ code) × (word.new ≡ word.old) × (store.new.room.value ≡ None)) }
+{
+    let core = match made {
+        Ok(core) => core,
+        Err(code) => return code,
+    };
+    match Box::new(alloc, core) {
+        Ok(handle) => {
+            store.put(handle);
+            0
+        }
+        Err(_) => {
+            *word = 0;
+            15
+        }
     }
 }

@@ -271,3 +271,22 @@ read-again nodes past before again rest legal =
     passed-all nodes (with_records nodes (before ++ again) past) again rest
     (subst (λ (p : List Step). ArePassed nodes p again) (sym e)
     (all-passed nodes again (with_records nodes before past) (subst (IsLegal nodes) e legal)))
+
+-- ---- a whole log
+
+no-rest : (nodes : ℕ) (rest : List ℕ) (past : List Step) → IsLogEnd nodes rest past None → rest ≡ []
+no-rest nodes [] past end = refl
+no-rest nodes (byte ∷ rest) past end = absurd end
+
+-- where nothing stopped, all of the bytes were applied
+pub whole-log : (nodes : ℕ) (new : StoreView) (bytes : List ℕ) (past : List Step) (least : ℕ) (applied : Applied)
+    → AreApplied nodes new bytes past least applied → applied.end ≡ None
+    → (records : List Record) × (bytes ≡ log_bytes records) × Represents new (with_records nodes records past)
+whole-log nodes new bytes past least applied is none =
+    let past' : List Step = with_records nodes is.records past in
+    let none_left : is.rest ≡ [] =
+    no-rest nodes is.rest past' (subst (λ (e : Option RecordFault). IsLogEnd nodes is.rest past' e) none is.end) in (
+      is.records,
+      is.bytes_are ∙ ap (λ (xs : List ℕ). log_bytes is.records ++ xs) none_left ∙ append-nil (log_bytes is.records),
+      is.represents,
+    )

@@ -74,8 +74,8 @@ pub fn apply_records(alloc: Global, core: &mut Core, bytes: &[u8], threshold: St
     }
 }
 
-/// Applies the record at the front of the bytes, unless it came before, and raises the greatest threshold by it. Returns
-/// the bytes after it, or why it was not applied.
+/// Applies the record at the front of the bytes, unless it came before, and raises the greatest threshold by it.
+/// Returns the bytes after it, or why it was not applied.
 fn apply_front<'a>(
     alloc: Global,
     core: &mut Core,
@@ -91,43 +91,43 @@ fn apply_front<'a>(
     ensures same { OnErr result ((core.new ≡ core.old) × (greatest.new ≡ greatest.old)) }
     ensures nodes { nodes core.new ≡ nodes core.old }
 {
-    let (record, rest) = match record_at(alloc, bytes) {
+    let (entry, rest) = match record_at(alloc, bytes) {
         Ok(found) => found,
         Err(DecodeError::NoMemory) => return Err(RecordFault::Refused(CoreFault::NoMemory)),
         Err(DecodeError::Fault(fault)) => return Err(RecordFault::Bytes(fault)),
     };
-    match enter(core, &record, greatest) {
+    match enter(core, &entry, greatest) {
         Ok(()) => Ok(rest),
         Err(fault) => Err(RecordFault::Refused(fault)),
     }
 }
 
 /// Applies a record, unless it came before, and raises the greatest threshold by it.
-fn enter(core: &mut Core, record: &Record, greatest: &mut Stamp) -> Result<(), CoreFault>
+fn enter(core: &mut Core, entry: &Record, greatest: &mut Stamp) -> Result<(), CoreFault>
     ensures represents { (past : List Step) → Represents core.old past → MatchResult result
-        (λ _. Represents core.new (with_record (nodes core.old) record.now past))
-        (λ fault. (came_before (nodes core.old) past record.now ≡ false)
-        × IsRefusal (record_refusal (nodes core.old) past record.now) (MayGrow record.now) fault) }
+        (λ _. Represents core.new (with_record (nodes core.old) entry.now past))
+        (λ fault. (came_before (nodes core.old) past entry.now ≡ false)
+        × IsRefusal (record_refusal (nodes core.old) past entry.now) (MayGrow entry.now) fault) }
     ensures raised { OnOk result
-        (greatest.new ≡ greatest_threshold greatest.old (record.now ∷ [])) }
+        (greatest.new ≡ greatest_threshold greatest.old (entry.now ∷ [])) }
     ensures same { OnErr result ((core.new ≡ core.old) × (greatest.new ≡ greatest.old)) }
     ensures nodes { nodes core.new ≡ nodes core.old }
 {
-    if !came(core, record) {
-        if let Err(fault) = apply(core, record) {
+    if !came(core, entry) {
+        if let Err(fault) = apply(core, entry) {
             return Err(fault);
         }
     }
-    *greatest = raised(*greatest, record);
+    *greatest = raised(*greatest, entry);
     Ok(())
 }
 
 /// Returns whether a record came before.
-fn came(core: &Core, record: &Record) -> bool
+fn came(core: &Core, entry: &Record) -> bool
     ensures { (past : List Step) → Represents core.now past
-        → result ≡ came_before (nodes core.now) past record.now }
+        → result ≡ came_before (nodes core.now) past entry.now }
 {
-    match record {
+    match entry {
         Record::Item(item) => match core.count(item.node) {
             Ok(next) => item.number < next,
             Err(_) => false,
@@ -138,13 +138,13 @@ fn came(core: &Core, record: &Record) -> bool
 }
 
 /// Applies a record that did not come before.
-fn apply(core: &mut Core, record: &Record) -> Result<(), CoreFault>
+fn apply(core: &mut Core, entry: &Record) -> Result<(), CoreFault>
     ensures represents { (past : List Step) → Represents core.old past
-        → Applies core.old core.new record.now past result }
+        → Applies core.old core.new entry.now past result }
     ensures same { OnErr result (core.new ≡ core.old) }
     ensures nodes { nodes core.new ≡ nodes core.old }
 {
-    match record {
+    match entry {
         Record::Item(item) => accept(core, item),
         Record::Join { node, start } => join(core, *node, *start),
         Record::Threshold(_) => Ok(()),
@@ -180,10 +180,10 @@ fn join(core: &mut Core, node: u16, start: Stamp) -> Result<(), CoreFault>
 }
 
 /// Returns the greatest threshold, after one more record.
-fn raised(greatest: Stamp, record: &Record) -> Stamp
-    ensures { result ≡ greatest_threshold greatest (record.now ∷ []) }
+fn raised(greatest: Stamp, entry: &Record) -> Stamp
+    ensures { result ≡ greatest_threshold greatest (entry.now ∷ []) }
 {
-    match record {
+    match entry {
         Record::Threshold(at) => greatest.max(*at),
         _ => greatest,
     }

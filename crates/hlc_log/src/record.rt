@@ -44,11 +44,11 @@ fn all(alloc: Global, bytes: &[u8]) -> Result<Record, DecodeError>
     ensures read { Gives (λ made. made) result (whole (record_at bytes.now)) }
     ensures memory { IsErrOf result DecodeError.NoMemory → StartsWithWrite bytes.now }
 {
-    let (record, rest) = record_at(alloc, bytes)?;
+    let (entry, rest) = record_at(alloc, bytes)?;
     if !rest.is_empty() {
         return Err(DecodeError::Fault(WireFault::Trailing));
     }
-    Ok(record)
+    Ok(entry)
 }
 
 /// Reads the record at the front of some bytes, and returns it with the bytes after it.
@@ -105,28 +105,28 @@ fn threshold_at(bytes: &[u8]) -> Result<(Record, &[u8]), DecodeError>
 /// Returns the one encoding of a record, of at most `MOST_ITEM_BYTES` bytes.
 ///
 /// Refused, in this order: an item with a bad key, or with a value that is too long; out of memory.
-pub fn encode_record(alloc: Global, record: &Record) -> Result<Vec<u8>, EncodeError>
+pub fn encode_record(alloc: Global, entry: &Record) -> Result<Vec<u8>, EncodeError>
     ensures ok { IfOk result
-        (λ bytes. RecordFits record.now × (bytes.items ≡ record_bytes record.now)) }
-    ensures err { IfErr result (λ fault. IsRefusal (record_refusal record.now) fault) }
+        (λ bytes. RecordFits entry.now × (bytes.items ≡ record_bytes entry.now)) }
+    ensures err { IfErr result (λ fault. IsRefusal (record_refusal entry.now) fault) }
 {
-    if let Record::Item(item) = record {
+    if let Record::Item(item) = entry {
         if let Some(fault) = body_fault(&item.body) {
             return Err(EncodeError::BadBody(fault));
         }
     }
     let mut out = Vec::new(alloc);
-    put_record(&mut out, record)?;
+    put_record(&mut out, entry)?;
     Ok(out)
 }
 
 /// Writes a record at the end of `out`. The only error is out of memory; the content of `out` is then not specified.
-pub fn put_record(out: &mut Vec<u8>, record: &Record) -> Result<(), AllocError>
-    requires { record_refusal record.now ≡ None }
-    ensures ok { OnOk result (out.new.items ≡ out.old.items ++ record_bytes record.now) }
-    ensures fits { RecordFits record.now }
+pub fn put_record(out: &mut Vec<u8>, entry: &Record) -> Result<(), AllocError>
+    requires { record_refusal entry.now ≡ None }
+    ensures ok { OnOk result (out.new.items ≡ out.old.items ++ record_bytes entry.now) }
+    ensures fits { RecordFits entry.now }
 {
-    match record {
+    match entry {
         Record::Item(item) => put_item(out, item),
         Record::Join { node, start } => put_join(out, *node, *start),
         Record::Threshold(at) => put_threshold(out, *at),

@@ -66,15 +66,9 @@ fn play_on<L: Ledger, R: Threads + Sync>(host: &Host<'_, R>, lines: &mut Lines<'
     let (rt, mut desk) = (host.rt, desk);
     let _ = desk.receipts.reserve(ROOM);
     play(host, lines, &mut desk);
-    let Desk {
-        guarded,
-        caller,
-        receipts,
-        ..
-    } = desk;
-    let lists = lists_of(rt.alloc(), caller, receipts);
+    let lists = lists_of(rt.alloc(), desk.caller, desk.receipts);
     refuse(rt, 1);
-    let settled = settle_guarded(guarded, lists);
+    let settled = settle_guarded(desk.guarded, lists);
     let _ = say(rt, "memory refused", &end_refusing(rt));
     play_settled(host, lines, settled);
 }

@@ -32,13 +32,9 @@ fn body_of(alloc: Global, name: &str, words: &mut LineWords<'_>) -> Option<Body>
 
 /// Returns the row of the item of these words, if that is a write or a deletion.
 pub(crate) fn row_of(alloc: Global, name: &str, words: &mut LineWords<'_>) -> Option<Row> {
-    let Item {
-        node,
-        stamp,
-        body,
-        ..
-    } = item_of(alloc, name, words)?;
-    let Body::Write { key, value } = body else {
+    let item = item_of(alloc, name, words)?;
+    let (stamp, node) = (item.stamp, item.node);
+    let Body::Write { key, value } = item.body else {
         return None;
     };
     Some(Row {

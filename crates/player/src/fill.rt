@@ -13,11 +13,7 @@ pub(crate) fn fill(rt: &HostRuntime, core: &mut Core, words: &mut LineWords<'_>)
     let rows = next_number(words);
     let size = next_number(words) as usize;
     let step = next_number(words);
-    feed_rows(rt.alloc(), core, rows, size, step)
-}
-
-/// Accepts the writes of so many rows.
-fn feed_rows(alloc: Global, core: &mut Core, rows: u64, size: usize, step: u64) -> Option<()> {
+    let alloc = rt.alloc();
     let keys = (rows / VERSIONS).max(1);
     for at in 0..rows {
         let key = match step {

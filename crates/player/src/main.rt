@@ -21,7 +21,7 @@ mod workers;
 
 use crate::host::Host;
 use crate::lines::{Lines, next_name, next_number};
-use crate::play::play;
+use crate::play::play_new;
 use crate::stored::Stored;
 use crate::table::Tabled;
 use crate::texts::GivesOnce;
@@ -68,9 +68,9 @@ fn play_part<R: Wait + Threads + Sync>(
 ) {
     let rt = host.rt;
     match name {
-        "store" => play(host, lines, &mut Stored::of(None)),
-        "table" => play(host, lines, &mut Tabled::new(rt.alloc())),
-        "registry" => play(host, lines, &mut Registry::new(rt.alloc())),
+        "store" => play_new(host, lines, Stored::of(None)),
+        "table" => play_new(host, lines, Tabled::new(rt.alloc())),
+        "registry" => play_new(host, lines, Registry::new(rt.alloc())),
         "guarded" => desk::play_desk(host, lines, false),
         "audited" => desk::play_desk(host, lines, true),
         "script" => texts::answer_script(rt, next_number(words), lines.up_to(b';')),

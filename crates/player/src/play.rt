@@ -20,6 +20,15 @@ pub(crate) trait Played {
     }
 }
 
+/// Plays the calls of something new, up to the line `end`.
+pub(crate) fn play_new<P: Played + Drop, R: Threads + Sync>(
+    host: &Host<'_, R>,
+    lines: &mut Lines<'_>,
+    mut played: P,
+) {
+    play(host, lines, &mut played);
+}
+
 /// Plays lines up to the line `end`.
 ///
 /// Where a call runs out of memory, the answer ends with the line `no memory`, and the line `again` makes the call once
@@ -70,10 +79,10 @@ fn play_line<'a, P: Played, R: Threads + Sync>(
 
 /// Vacuums a store by threads.
 fn vacuum<R: Threads + Sync>(host: &Host<'_, R>, core: Option<&mut Core>) -> Option<()> {
-    say(
+    say_made(
         host.rt,
         "vacuumed",
-        &core?.vacuum_parallel(host.threads).ok()?,
+        core?.vacuum_parallel(host.threads).ok(),
     )
 }
 
@@ -98,6 +107,15 @@ pub(crate) fn say_refused(rt: &HostRuntime) {
 pub(crate) fn say<T: Debug>(rt: &HostRuntime, name: &str, answer: &T) -> Option<()> {
     let _ = println!(rt; "{name} {answer:?}");
     Some(())
+}
+
+/// Does the same with the answer of a call that was made. Returns none where it ran out of memory.
+pub(crate) fn say_made<T: Debug + Drop>(
+    rt: &HostRuntime,
+    name: &str,
+    answer: Option<T>,
+) -> Option<()> {
+    say(rt, name, &answer?)
 }
 
 /// Does the same for calls that were to take no memory, and prints before whether a request was refused.

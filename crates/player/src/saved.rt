@@ -22,10 +22,14 @@ pub(crate) struct Saved {
 
 impl Saved {
     /// Holds a checkpoint.
-    pub(crate) fn hold(&mut self, rt: &HostRuntime, made: Checkpoint) -> Option<()> {
-        let _ = say(rt, "checkpoint", &made.rows().len());
-        self.checkpoint = Some(made);
-        Some(())
+    pub(crate) fn hold(&mut self, rt: &HostRuntime, made: Option<Checkpoint>) -> Option<()> {
+        self.checkpoint = Some(made?);
+        say(rt, "checkpoint", &self.checkpoint.as_ref()?.rows().len())
+    }
+
+    /// Prints why the checkpoint is none.
+    pub(crate) fn fault(&self, rt: &HostRuntime) -> Option<()> {
+        say(rt, "fault", &self.checkpoint.as_ref()?.fault())
     }
 
     /// Holds the bytes of a store, and prints them.
@@ -45,7 +49,7 @@ impl Saved {
     pub(crate) fn decode(&mut self, rt: &HostRuntime) -> Option<()> {
         self.checkpoint = None;
         let decoded = decode_checkpoint(rt.alloc(), self.bytes.as_ref()?.as_slice()).ok()?;
-        self.hold(rt, decoded.checkpoint)
+        self.hold(rt, Some(decoded.checkpoint))
     }
 
     /// Hashes the bytes.

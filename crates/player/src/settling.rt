@@ -1,7 +1,7 @@
 //! Settles all calls of a store.
 use crate::host::Host;
 use crate::lines::Lines;
-use crate::play::{play, say};
+use crate::play::{play_new, say};
 use crate::stored::Stored;
 use hlc_server::{Caller, Receipt, SettleFault, Settled};
 use std::alloc::Global;
@@ -31,5 +31,5 @@ pub(crate) fn play_settled<R: Threads + Sync>(
         Err(fault) => say(host.rt, "unsettled", &fault).and(None),
         Ok(settled) => say(host.rt, "settled", &settled.entries).and(Some(settled.core)),
     };
-    play(host, lines, &mut Stored::of(core));
+    play_new(host, lines, Stored::of(core));
 }

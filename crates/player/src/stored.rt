@@ -2,7 +2,7 @@
 use crate::events::item_of;
 use crate::fill::fill;
 use crate::lines::{LONGEST, next_key, next_name, next_node, next_number, next_stamp};
-use crate::play::{Played, say};
+use crate::play::{Played, say, say_made};
 use crate::saved::Saved;
 use crate::spelled::{spell_item, spell_message, spell_node};
 use hlc_core::{Core, CoreFault, Item};
@@ -53,33 +53,17 @@ impl Stored {
         }
     }
 
-    /// Makes a call of the store.
+    /// Makes a call of the store, or of what it is saved as.
     fn call_core(&mut self, rt: &HostRuntime, name: &str, words: &mut LineWords<'_>) -> Option<()> {
         let core = self.core.as_mut()?;
         match name {
-            "write" | "delete" | "report" | "retire" => {
-                answer(
-                    rt,
-                    "accepted",
-                    core.accept_copy(&item_of(rt.alloc(), name, words)?),
-                )
-            }
-            "join" => answer(rt, "joined", core.join()),
-            "join_at" => answer(rt, "joined", core.join_at(next_stamp(words))),
-            "open" => answer(rt, "snapshot", core.open(next_stamp(words))),
-            "open_floor" => answer(rt, "snapshot", core.open_floor()),
-            "close" => say(rt, "closed", &core.close(next_number(words))),
-            "close_all" => Some(core.close_all()),
-            "vacuum" => say(rt, "vacuumed", &core.vacuum().ok()?),
-            "vacuum_to" => answer(rt, "vacuumed", core.vacuum_to(next_stamp(words))),
-            "fill" => fill(rt, core, words),
-            "checkpoint" => self.saved.hold(rt, core.checkpoint().ok()?),
+            "checkpoint" => self.saved.hold(rt, core.checkpoint().ok()),
             "save" => self.saved.save(rt, core, next_number(words)),
             "encode" => self.saved.encode(rt, next_number(words)),
             "decode" => self.saved.decode(rt),
             "digest" => self.saved.digest(rt),
-            "fault" => say(rt, "fault", &self.saved.checkpoint.as_ref()?.fault()),
-            _ => ask(rt, core, name, words),
+            "fault" => self.saved.fault(rt),
+            _ => change(rt, core, name, words),
         }
     }
 }
@@ -108,20 +92,47 @@ impl Played for Stored {
     }
 }
 
+/// Makes a call that may change a store.
+fn change(rt: &HostRuntime, core: &mut Core, name: &str, words: &mut LineWords<'_>) -> Option<()> {
+    match name {
+        "write" | "delete" | "report" | "retire" => {
+            accept_copy(rt, core, item_of(rt.alloc(), name, words))
+        },
+        "join" => answer(rt, "joined", core.join()),
+        "join_at" => answer(rt, "joined", core.join_at(next_stamp(words))),
+        "open" => answer(rt, "snapshot", core.open(next_stamp(words))),
+        "open_floor" => answer(rt, "snapshot", core.open_floor()),
+        "close" => say(rt, "closed", &core.close(next_number(words))),
+        "close_all" => Some(core.close_all()),
+        "vacuum" => say_made(rt, "vacuumed", core.vacuum().ok()),
+        "vacuum_to" => answer(rt, "vacuumed", core.vacuum_to(next_stamp(words))),
+        "fill" => fill(rt, core, words),
+        _ => ask(rt, core, name, words),
+    }
+}
+
+/// Lets a store accept a copy of an item.
+fn accept_copy(rt: &HostRuntime, core: &mut Core, item: Option<Item>) -> Option<()> {
+    answer(rt, "accepted", core.accept_copy(&item?))
+}
+
+/// Asks whether a store accepts an item.
+fn check(rt: &HostRuntime, core: &Core, item: Option<Item>) -> Option<()> {
+    answer(rt, "accepted", core.check_item(&item?))
+}
+
 /// Asks a store what changes nothing.
 fn ask(rt: &HostRuntime, core: &Core, name: &str, words: &mut LineWords<'_>) -> Option<()> {
     match name {
-        "check" => {
-            let item = item_of(rt.alloc(), next_name(words), words)?;
-            answer(rt, "accepted", core.check_item(&item))
-        }
+        "check" => check(rt, core, item_of(rt.alloc(), next_name(words), words)),
         "read" => {
             let (id, mut room) = (next_number(words), [0; LONGEST]);
             say(rt, "value", &core.read(id, next_key(words, &mut room)))
         }
         "list" => answer(rt, "listing", core.list(next_number(words))),
-        "rows_to" => say(rt, "rows", &core.rows_to(next_stamp(words)).ok()?),
+        "rows_to" => say_made(rt, "rows", core.rows_to(next_stamp(words)).ok()),
         "first" => say(rt, "first", &first_of(core, next_number(words))),
+        "differ" => say(rt, "differ", &core.changes(1, next_number(words))?.next()),
         "stamp_of" => say(rt, "stamp", &core.stamp_of(next_number(words))),
         "count" => say(rt, "count", &core.count(next_node(words))),
         "floor" => say(rt, "floor", &core.floor()),

@@ -5,7 +5,7 @@ ghost use Rattle.hlc_vacuum.specs.Part.{IsPartOf};
 
 use crate::events::row_of;
 use crate::lines::{LONGEST, next_key, next_name, next_stamp};
-use crate::play::{Played, say};
+use crate::play::{Played, say, say_made};
 use crate::refusing::{end_refusing, refuse};
 use hlc_columns::{Row, Stamp, Table};
 use hlc_text::words::LineWords;
@@ -48,24 +48,38 @@ impl Tabled {
 
 impl Played for Tabled {
     fn call(&mut self, rt: &HostRuntime, name: &str, words: &mut LineWords<'_>) -> Option<()> {
-        let table = &mut self.table;
         match name {
             "hold" => self.hold(rt, words),
             "insert" => self.insert(rt),
-            "plan" => say(rt, "report", &plan(rt.alloc(), table).ok()?.report().ok()?),
-            "vacuum" => say(rt, "vacuumed", &vacuum(rt, table).ok()?),
-            "vacuum_part" => say(rt, "vacuumed", &vacuum_part(rt, table).ok()?),
-            "keys" => say(rt, "keys", &table.keys().ok()?),
-            "rows" => say(rt, "rows", &table.rows()),
-            "rows_at" => say(rt, "rows", &table.rows_at(next_stamp(words))),
-            "answer" => {
-                let (stamp, mut room) = (next_stamp(words), [0; LONGEST]);
-                let key = next_key(words, &mut room);
-                say(rt, "value", &table.answer(key, stamp))
-            }
-            _ => Some(()),
+            "plan" => say_made(rt, "report", report(rt.alloc(), &self.table)),
+            "vacuum" => say_made(rt, "vacuumed", vacuum(rt, &mut self.table).ok()),
+            "vacuum_part" => say_made(rt, "vacuumed", vacuum_part(rt, &mut self.table).ok()),
+            _ => ask(rt, &self.table, name, words),
         }
     }
+}
+
+/// Asks a table what changes nothing.
+fn ask(rt: &HostRuntime, table: &Table, name: &str, words: &mut LineWords<'_>) -> Option<()> {
+    match name {
+        "keys" => say_made(rt, "keys", table.keys().ok()),
+        "rows" => say(rt, "rows", &table.rows()),
+        "rows_at" => say(rt, "rows", &table.rows_at(next_stamp(words))),
+        "answer" => {
+            let (stamp, mut room) = (next_stamp(words), [0; LONGEST]);
+            say(
+                rt,
+                "value",
+                &table.answer(next_key(words, &mut room), stamp),
+            )
+        }
+        _ => Some(()),
+    }
+}
+
+/// Returns the report of a plan.
+fn report(alloc: Global, table: &Table) -> Option<Report> {
+    plan(alloc, table).ok()?.report().ok()
 }
 
 /// Adds a row that is below all others, and returns whether it is. Where it runs out of memory, the row is returned.

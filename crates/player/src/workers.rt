@@ -12,7 +12,7 @@ use hlc_floor::{Board, Feeder, FloorPass};
 use hlc_link::{LinkReceiver, link};
 use hlc_server::{Caller, Receipt, Shared};
 use hlc_text::words::LineWords;
-use hlc_workers::{Fed, FreeGate, Reader, Served, WorkEnd, feed, serve_reader, serve_vacuum};
+use hlc_workers::{FreeGate, WorkEnd, feed, serve_reader, serve_vacuum};
 use std::alloc::{AllocError, Global};
 use std::marker::Brand;
 use std::sync::Wait;
@@ -82,33 +82,20 @@ impl<L: Ledger, R: Wait + Threads + Sync> Yard<'_, '_, L, R> {
 
     /// Feeds a link of three writes to its end.
     fn feed_all(&self, caller: Caller<L>, number: u64) -> Option<Work<L>> {
+        let (rt, shared, gate) = (self.host.threads, self.shared, &FreeGate);
         let alloc = self.host.rt.alloc();
         let (board, feeder, _) = new_board(alloc)?;
         let (feeder, link) = (Some(feeder), self.full_link().ok()?);
         refuse(self.host.rt, number);
-        let Fed {
-            caller,
-            receipts,
-            left,
-            end,
-            ..
-        } = feed(
-            self.host.threads,
-            alloc,
-            self.shared,
-            caller,
-            link,
-            &board,
-            feeder,
-            &FreeGate,
-        );
-        print_end(self.host.rt, end, &receipts);
-        let _ = say(self.host.rt, "left", &left);
-        Some((caller, receipts))
+        let fed = feed(rt, alloc, shared, caller, link, &board, feeder, gate);
+        print_end(self.host.rt, fed.end, &fed.receipts);
+        let _ = say(self.host.rt, "left", &fed.left);
+        Some((fed.caller, fed.receipts))
     }
 
     /// Makes one round of a reader over two keys.
     fn read_once(&self, caller: Caller<L>, number: u64) -> Option<Work<L>> {
+        let (rt, shared, gate) = (self.host.threads, self.shared, &FreeGate);
         let alloc = self.host.rt.alloc();
         let (board, _, pass) = new_board(alloc)?;
         let keys = [
@@ -116,43 +103,18 @@ impl<L: Ledger, R: Wait + Threads + Sync> Yard<'_, '_, L, R> {
             Bytes::from_slice(alloc, b"b").ok()?,
         ];
         refuse(self.host.rt, number);
-        let Reader {
-            caller,
-            receipts,
-            end,
-            ..
-        } = serve_reader(
-            self.host.threads,
-            alloc,
-            self.shared,
-            caller,
-            &board,
-            pass,
-            &keys,
-            1,
-            &FreeGate,
-        );
-        print_end(self.host.rt, end, &receipts);
-        Some((caller, receipts))
+        let read = serve_reader(rt, alloc, shared, caller, &board, pass, &keys, 1, gate);
+        print_end(self.host.rt, read.end, &read.receipts);
+        Some((read.caller, read.receipts))
     }
 
     /// Makes one vacuum.
     fn vacuum_once(&self, caller: Caller<L>, number: u64) -> Work<L> {
+        let (rt, alloc) = (self.host.threads, self.host.rt.alloc());
         refuse(self.host.rt, number);
-        let Served {
-            caller,
-            receipts,
-            end,
-        } = serve_vacuum(
-            self.host.threads,
-            self.host.rt.alloc(),
-            self.shared,
-            caller,
-            1,
-            &FreeGate,
-        );
-        print_end(self.host.rt, end, &receipts);
-        (caller, receipts)
+        let served = serve_vacuum(rt, alloc, self.shared, caller, 1, &FreeGate);
+        print_end(self.host.rt, served.end, &served.receipts);
+        (served.caller, served.receipts)
     }
 
     /// Returns the receiving end of a link that carries the three writes and its end.

@@ -1,12 +1,18 @@
-//! The small callers in the READMEs of `hlc_wire`, `hlc_frame` and `hlc_saved`, and a message compared with bytes that
-//! were written by hand.
-ghost use Rattle.std.specs.Prelude.{◌≡◌, ◌++◌, ◌<◌, List, ℕ, IfSome, OnOk, length};
+//! The small callers in the READMEs of `hlc_wire`, `hlc_frame`, `hlc_saved` and `hlc_log`, and a message compared with
+//! bytes that were written by hand.
+ghost use Rattle.std.specs.Prelude.{◌≡◌, ◌⊎◌, ◌++◌, ◌<◌, List, ℕ, IfSome, OnOk, IsErrOf, length};
 ghost use Rattle.hlc_frame.specs.Frame.{frame_bytes};
 ghost use Rattle.hlc_frame.specs.Reading.{word_of};
-ghost use Rattle.hlc_saved.specs.Saved.{Resumes};
+ghost use Rattle.hlc_core.specs.Past.{Step};
+ghost use Rattle.hlc_core.specs.StoreView.{nodes, Represents};
+ghost use Rattle.hlc_saved.specs.Saved.{BytesRepresent, Resumes};
+ghost use Rattle.hlc_log.specs.declared.record.Record.{Record as ARecord};
+ghost use Rattle.hlc_log.specs.Log.{log_bytes, with_records};
 
 use hlc_clock::Stamp;
+use hlc_core::Core;
 use hlc_frame::{FrameReader, FrameWriter, WireFault};
+use hlc_log::recover;
 use hlc_saved::{CheckpointReader, ResumeError, Resumed};
 use hlc_wire::{Message, decode_item, decode_message, encode_item, encode_message};
 use std::alloc::{AllocError, Global};
@@ -43,12 +49,27 @@ pub(crate) fn word_of_two(first: &[u8], second: &[u8]) -> Result<u64, WireFault>
 
 /// Returns a store made of bytes that come in two blocks.
 pub(crate) fn resume_two(alloc: Global, first: &[u8], second: &[u8]) -> Result<Resumed, ResumeError>
-    ensures { Resumes (first.now ++ second.now) result }
+    ensures { IsErrOf result ResumeError.NoMemory ⊎ Resumes (first.now ++ second.now) result }
 {
     let mut reader = CheckpointReader::new(alloc);
     reader.feed(first)?;
     reader.feed(second)?;
     reader.finish()
+}
+
+/// Restores a store from a checkpoint and a log, if all of the log was applied.
+pub(crate) fn restart(alloc: Global, checkpoint: &[u8], log: &[u8]) -> Option<Core>
+    ensures { (word : ℕ) (past : List Step) → BytesRepresent checkpoint.now word past
+        → IfSome result (λ core. (records : List ARecord) × (log.now ≡ log_bytes records)
+        × Represents core (with_records (nodes core) records past)) }
+{
+    let Ok(made) = recover(alloc, checkpoint, log) else {
+        return None;
+    };
+    match made.applied.end {
+        Some(_) => None,
+        None => Some(made.core),
+    }
 }
 
 /// A message of node 263 at stamp 2.5.

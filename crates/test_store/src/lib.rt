@@ -1,5 +1,5 @@
-//! Tests of a whole run of a world, of streams that fail, of copies and of bytes, by public calls; and the small callers
-//! in the READMEs of the libraries that need no thread. There is nothing else here.
+//! Tests of a whole run of a world, of streams that fail, of copies and of bytes, by public calls; and the small
+//! callers in the READMEs of the libraries that need no thread. There is nothing else here.
 #![tactic(auto)]
 
 #[cfg(test)]

@@ -38,13 +38,9 @@ class NotedStore:
         self.locked.append((name, self.replica.between.lock.locked()))
         return getattr(self.store, name)
 
-    def accept_items(self, items):
+    def apply_records(self, records):
         self.entries += 1
-        return self.__getattr__("accept_items")(items)
-
-    def join_at(self, start):
-        self.entries += 1
-        return self.__getattr__("join_at")(start)
+        return self.__getattr__("apply_records")(records)
 
     def checkpoint(self, word):
         self.saved.append((word, self.entries))
@@ -69,12 +65,13 @@ class Applying(MemoryCase):
             self.replica.apply(entry)
         self.assertEqual(self.replica.between.seen, [True] * 6)
         self.assertEqual(self.store.locked, [("apply_records", True)] * 3)
-        self.assertEqual((self.replica.threshold, self.store.nodes), (3, 2))
+        self.assertEqual((self.replica.threshold, self.store.store.nodes), (3, 2))
 
     def test_entries_that_come_again_change_nothing(self):
         for entry in self.entries + self.entries:
             self.replica.apply(entry)
-        self.assertEqual((self.replica.threshold, self.store.nodes, self.store.link(1).next), (3, 2, 1))
+        store = self.store.store
+        self.assertEqual((self.replica.threshold, store.nodes, store.link(1).next), (3, 2, 1))
 
     def test_a_checkpoint_is_made_between_two_entries(self):
         for entry in self.entries:

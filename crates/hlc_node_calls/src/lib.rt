@@ -1,10 +1,13 @@
-//! The calls of a node, which need no memory and no store.
+//! What the calls of the C library do with a node. They need no memory and no store. Each answer is 0 or the number of
+//! a refusal, and the stamp of the event or the word of the refusal.
+#![tactic(auto)]
+
 ghost use Rattle.std.specs.Prelude.{◌≡◌, [], ◌∷◌, MatchResult, option_copied};
 ghost use Rattle.hlc_node.specs.Node.{expected_event};
 ghost use Rattle.hlc_node.specs.Faults.{node_code, node_word};
 ghost use Rattle.hlc_node.specs.declared.item.Body.TheVariants.{Write as a_write, Report as a_report};
 ghost use Rattle.hlc_node.specs.declared.item.Body.TheVariants.{Retire as a_retire};
-ghost use Rattle.hlc_calls.specs.Nodes.{ReturnsStamped, ReturnsIssued};
+ghost use Rattle.hlc_node_calls.specs.Nodes.{ReturnsStamped, ReturnsIssued};
 
 use hlc_clock::Stamp;
 use hlc_node::{ItemRef, NodeCore, NodeFault};
