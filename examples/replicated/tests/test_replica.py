@@ -84,14 +84,14 @@ class Applying(MemoryCase):
     def test_a_checkpoint_waits_for_an_entry(self):
         """Nor is its revision read before the entry is whole."""
         save = threading.Thread(target=self.replica.save)
-        accept = self.store.accept_items
+        apply = self.store.apply_records
 
-        def accept_beside_a_save(items):
+        def apply_beside_a_save(records):
             save.start()
             save.join(0.05)
-            accept(items)
+            return apply(records)
 
-        self.store.accept_items = accept_beside_a_save
+        self.store.apply_records = apply_beside_a_save
         self.replica.apply(self.entries[0])
         save.join()
         self.assertEqual(self.store.saved, [(1, 1)])

@@ -30,7 +30,7 @@ class Answers:
     def fill(self, applies):
         node = hlcstore.Node(0)
         items = bytes(node.write(5, b"key", VALUE)) + bytes(node.report(6))
-        applies.apply(log.Entry(1, None, items))
+        applies.apply(log.Entry(1, items))
         return applies
 
     def ask(self, path):
