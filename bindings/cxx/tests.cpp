@@ -294,15 +294,15 @@ void partly_accepted() {
   EXPECT(!some && some.code == HLC_NOT_NEXT && some.many == 2 && some.word == 2);
   const hlcstore::log_answer rest = store.accept_log(log);
   EXPECT(rest && rest.many == 3 && rest.used == log.size() && store.rows() == 3);
+  batch.clear();
+  EXPECT(store.accept(batch) && batch.size() == 0);
+  store.accept_retire(writer.retire(3));
+  EXPECT(store.floor_node() == std::nullopt && store.link(0).retired);
   const string more = hlcstore::encode_threshold(timestamp::of(2)) + hlcstore::encode_join(1, timestamp::of(9));
   const hlcstore::records_answer again = store.apply_records(log + more);
   EXPECT(again && again.many == 5 && again.used == log.size() + more.size() && again.threshold == timestamp::of(2));
   const hlcstore::records_answer gap = store.apply_records(hlcstore::encode_join(3, timestamp::of(9)));
   EXPECT(!gap && gap.code == HLC_NOT_NEXT && gap.word == 2 && gap.many == 0 && store.nodes() == 2);
-  batch.clear();
-  EXPECT(store.accept(batch) && batch.size() == 0);
-  store.accept_retire(writer.retire(3));
-  EXPECT(store.floor_node() == std::nullopt && store.link(0).retired);
 }
 
 // A long certificate, with the numbers of the vacuum that made it.
