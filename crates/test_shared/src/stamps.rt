@@ -271,7 +271,7 @@ fn stamps_without_a_trail(rt: HostRuntime) {
 /// A reply that is another, and the last receipt left out.
 #[test]
 fn changed_receipts_do_not_settle(rt: HostRuntime) {
-    for (number, index) in [(3, 3), (16, 15)] {
+    for (number, index) in [(3, 3), (18, 17)] {
         let refused = Err(SettleFault::ReceiptMismatch { index });
         by_one::<Brand, _>(&rt, rt.alloc(), Blank::new(1), true, Some(number), refused);
     }
