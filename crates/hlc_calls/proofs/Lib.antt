@@ -1,9 +1,7 @@
 pub mod Batches
-pub mod Bytes
-pub mod Pairs
-pub mod Scans
 pub mod Refusals
 pub mod Holders
 pub mod Logs
 pub mod Readings
 pub mod ResumedLemmas
+pub mod Digests

@@ -1,5 +1,5 @@
 -- What each call returns to C, for one past that the store represented.
-use Rattle.std.specs.Prelude.{◌≡◌, ℕ, ◌+◌, ◌<◌, ◌≤◌, List, ◌∷◌, ◌++◌, length, drop, min, Option}
+use Rattle.std.specs.Prelude.{◌≡◌, ℕ, ◌+◌, List, ◌∷◌, length, Option}
 use Rattle.std.specs.Prelude.{Some, None, ⊤, Bool, true}
 use Rattle.std.specs.Prelude.{false}
 use Rattle.hlc_node.specs.declared.item.Item.{Item}
@@ -14,6 +14,7 @@ use Rattle.hlc_core.specs.StoreView.{StoreView, nodes, Represents}
 use Rattle.hlc_core.specs.Calls.{IsWrite, AreSizes, Vacuums}
 use Rattle.hlc_core.specs.Parts.{EndsAt, Trims}
 use Rattle.hlc_calls.specs.Outcome.{IsAnswered}
+pub use Rattle.hlc_range_calls.specs.Listing.{IsCopied, narrowed}
 
 -- the item was accepted, and its stamp is returned; or it was refused
 abbrev pub ReturnsAccepted : StoreView → StoreView → Item → List Step → ℕ → ℕ → Type 0
@@ -61,11 +62,6 @@ abbrev pub ReturnsClosed : StoreView → ℕ → List Step → ℕ → ℕ → T
 ReturnsClosed new id past code returned = ReturnsClosedAt (stamp_of id past) (Represents new (Closed id ∷ past)) code
     returned
 
--- the value is at the start of the buffer; or, where it does not fit, the buffer is unchanged
-abbrev pub IsCopied : List ℕ → List ℕ → List ℕ → Type 0
-IsCopied value old new =
-    (length value ≤ length old → new ≡ value ++ drop (length value) old) × (length old < length value → new ≡ old)
-
 -- 0, the length and the value; or 102, where there is none
 abbrev pub ReturnsAnswer : Option (List ℕ) → ℕ → ℕ → List ℕ → List ℕ → Type 0
 ReturnsAnswer None code len old new = (code ≡ 102) × (len ≡ 0) × (new ≡ old)
@@ -75,10 +71,6 @@ ReturnsAnswer (Some value) code len old new = (code ≡ 0) × (len ≡ length va
 abbrev pub ReturnsRead : Option ℕ → List Row → List ℕ → ℕ → ℕ → List ℕ → List ℕ → Type 0
 ReturnsRead None rows key code len old new = (code ≡ 10) × (len ≡ 0) × (new ≡ old)
 ReturnsRead (Some stamp) rows key code len old new = ReturnsAnswer (answer rows key stamp) code len old new
-
--- a number in 64 bits: the greatest number of 64 bits in place of a greater one
-abbrev pub narrowed : ℕ → ℕ
-narrowed number = min number 18446744073709551615
 
 -- the sizes of the rows, each narrowed: how many rows and keys there are, the bytes of the keys, those of the values
 abbrev pub ReturnsSizes : List Row → ℕ → ℕ → ℕ → ℕ → Type 0

@@ -1,10 +1,8 @@
 pub mod Answers
 pub mod Batch
 pub mod Certified
-pub mod Listing
 pub mod Outcome
 pub mod Output
-pub mod Scan
 pub mod Status
 pub mod Saved
 pub mod Log

@@ -1,17 +1,14 @@
 -- How the answers of many keys are returned: each as a byte 0 for none, or 1 and the value after its length.
-use Rattle.std.specs.Prelude.{◌≡◌, ◌≢◌, ◌⊎◌, ℕ, ◌+◌, ◌<◌, ◌≤◌, List, []}
-use Rattle.std.specs.Prelude.{◌∷◌, true, false, length, take, get_or}
+use Rattle.std.specs.Prelude.{◌≡◌, ◌≢◌, ◌⊎◌, ℕ, ◌+◌, ◌<◌, ◌≤◌, List}
+use Rattle.std.specs.Prelude.{true, false, length, take, get_or}
 use Rattle.std.specs.Prelude.{Option, Some, None}
 use Rattle.std.specs.List.{flat_map}
 use Rattle.hlc_node.specs.declared.row.Row.{Row}
 use Rattle.hlc_node.specs.Rows.{answer}
 use Rattle.hlc_calls.specs.declared.read_all.Place.{Place}
 use Rattle.hlc_calls.specs.Batch.{piece, lies}
-use Rattle.hlc_calls.specs.Listing.{sized, with_bytes}
-
-abbrev pub answer_bytes : Option (List ℕ) → List ℕ
-answer_bytes None = 0 ∷ []
-answer_bytes (Some value) = 1 ∷ sized value
+use Rattle.hlc_range_calls.specs.Listing.{with_bytes}
+pub use Rattle.hlc_range_calls.specs.Listing.{answer_bytes}
 
 -- the answer of the key at a place, as bytes
 abbrev pub answer_at : List Row → ℕ → List ℕ → Place → List ℕ

@@ -4,12 +4,12 @@ ghost use Rattle.sha2.specs.Sha256.{sha256};
 ghost use Rattle.sha2.specs.Hashers.{Holds256};
 ghost use Rattle.hlc_core.specs.Past.{Step, stamp_of, writes};
 ghost use Rattle.hlc_core.specs.StoreView.{Represents};
-ghost use Rattle.hlc_calls.specs.Listing.{sized, pair_bytes, listing_bytes};
+ghost use Rattle.hlc_range_calls.specs.Listing.{sized, pair_bytes, listing_bytes};
 ghost use Rattle.hlc_calls.specs.Digest.{ReturnsDigest};
 
 use crate::open_store::fill;
-use crate::scan::end;
 use hlc_core::{Answers, Core};
+use hlc_range_calls::scan::end;
 use sha2::{Digest, Sha256};
 
 /// Adds bytes, preceded by their number.

@@ -8,14 +8,12 @@ pub mod check;
 pub mod codes;
 pub mod digest;
 pub mod items;
-pub mod list;
 pub mod log;
 pub mod open_store;
 pub mod output;
 pub mod read_all;
 pub mod records;
 pub mod saved;
-pub mod scan;
 pub mod status;
 
 pub use hlc_core::Stamp;

@@ -3,12 +3,12 @@ ghost use Rattle.std.specs.Prelude.{◌≡◌, ◌≤◌, ◌<◌, ◌+◌, List
 ghost use Rattle.std.specs.Prelude.{option_copied, MatchOption, MatchResult};
 ghost use Rattle.hlc_core.specs.Past.{Step, stamp_of, writes};
 ghost use Rattle.hlc_core.specs.StoreView.{Represents};
-ghost use Rattle.hlc_calls.specs.Listing.{with_bytes};
+ghost use Rattle.hlc_range_calls.specs.Listing.{with_bytes};
 ghost use Rattle.hlc_calls.specs.ReadAll.{answer_at, answer_bytes, IsLeftOut, ReturnsAll, ReturnsAnswers};
 
 use crate::batch::piece_of;
-use crate::list::{put, put_sized};
 use hlc_core::{Core, View};
+use hlc_range_calls::list::{put, put_sized};
 
 /// The place of a key among some bytes.
 #[repr(C)]

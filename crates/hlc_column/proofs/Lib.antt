@@ -4,3 +4,5 @@ pub mod FirstLemmas
 pub mod Beside
 pub mod NewestRow
 pub mod Chosen
+pub mod Newer
+pub mod OfKey

@@ -6,12 +6,15 @@ use Rattle.std.specs.List.Sorted.{IsStrictlySortedBy}
 use Rattle.std.proofs.lemmas.Bool.{cases_Bool}
 use Rattle.std.proofs.lemmas.List.Elements.{Contains-append_cases, Contains-append_left, Contains-append_right}
 use Rattle.hlc_values.proofs.MemberLemmas.{Contains-none, Contains-first, Contains-rest, Contains-cons_cases}
+use Rattle.hlc_node.specs.declared.row.Row.{Row}
 use Rattle.hlc_node.specs.Rows.{answer}
 use Rattle.hlc_index.specs.Entries.{key_cmp}
 use Rattle.hlc_columns.specs.Table.{table_rows}
+use Rattle.hlc_columns.specs.Answers.{IsBetween}
 use Rattle.hlc_columns.specs.Differences.{Difference, AreDifferences, is_same, difference_of, differences_in}
 use Rattle.hlc_columns.proofs.Answered.{own, alone, answered}
 use Rattle.hlc_columns.proofs.Keys.{names}
+use Rattle.hlc_columns.proofs.Ranged.{within, sorted_within, from_within, is_within, any_between}
 use Rattle.hlc_columns.proofs.SameLemmas.{other_is, apart_is}
 use Rattle.hlc_columns.proofs.WalkLemmas.{Entry}
 
@@ -113,24 +116,41 @@ entry_either es key from to None None p q apart = absurd (apart refl)
 entry_either es key from to (Some value) after p q apart = answered es key value from p
 entry_either es key from to None (Some value) p q apart = answered es key value to q
 
--- ---- so they are those of the table
-pub differences_are : (es : List Entry) (from to : ℕ) → IsStrictlySortedBy key_cmp (names es)
-    → AreDifferences (table_rows es) from to (differences_in es from to)
-differences_are es from to up = record {
-  ascending = sorted_differences es from to up;
+-- ---- those of the columns in a range are the differences of the keys in it
+pub differences_are : (es : List Entry) (from to : ℕ) (first : List ℕ) (end : Option (List ℕ))
+    → IsStrictlySortedBy key_cmp (names es)
+    → AreDifferences (table_rows es) from to (IsBetween first end) (differences_in (within first end es) from to)
+differences_are es from to first end up = record {
+  ascending = sorted_differences (within first end es) from to (sorted_within first end es up);
   exact = λ key value. (
     λ m.
-        let r = value_of es from to key value m in (
-          subst (λ k. answer (table_rows es) k to ≡ value) r.2 (alone es up r.0 r.1 to ∙ r.3),
+        let r = value_of (within first end es) from to key value m in
+        let at = from_within first end es r.0 r.1 in (
+          subst (IsBetween first end) r.2 at.1,
+          subst (λ k. answer (table_rows es) k to ≡ value) r.2 (alone es up r.0 at.0 to ∙ r.3),
           subst (λ k. answer (table_rows es) k from ≢ value) r.2
-              (λ same. r.4 (sym (alone es up r.0 r.1 from) ∙ same ∙ sym r.3)),
+              (λ same. r.4 (sym (alone es up r.0 at.0 from) ∙ same ∙ sym r.3)),
         ),
-    λ (is, apart).
+    λ (wanted, is, apart).
         let e = entry_either es key from to (answer (table_rows es) key from) value refl is apart in
         let at : (bound : ℕ) → answer (table_rows es) key bound ≡ own e.0 bound =
         λ bound. ap (λ k. answer (table_rows es) k bound) (sym e.2) ∙ alone es up e.0 e.1 bound in
-        subst (Contains (differences_in es from to))
+        subst (Contains (differences_in (within first end es) from to))
         (ap₂ (λ k v. (k, v)) e.2 (sym (at to) ∙ is))
-        (listed es from to e.0 e.1 (λ same. apart (at from ∙ same ∙ sym (at to) ∙ is))),
+        (listed (within first end es) from to e.0
+        (is_within first end es e.0 e.1 (subst (IsBetween first end) (sym e.2) wanted))
+        (λ same. apart (at from ∙ same ∙ sym (at to) ∙ is))),
+  );
+}
+
+-- those of the range of all keys are those of all keys
+pub all_differ : (rows : List Row) (from to : ℕ) (differences : List Difference)
+    → AreDifferences rows from to (IsBetween [] None) differences
+    → AreDifferences rows from to (λ key. Unit {0}) differences
+all_differ rows from to differences those = record {
+  ascending = those.ascending;
+  exact = λ key value. (
+    λ m. let at = (those.exact key value).0 m in (tt, at.1, at.2),
+    λ (any, is, apart). (those.exact key value).1 (any_between key, is, apart),
   );
 }

@@ -78,7 +78,8 @@ rest_above key e es up over = All-from_recursion (λ (x : Entry). key_cmp x.0 ke
     one k less = elim (key_cmp e.0 key) as (λ o. key_cmp e.0 key ≡ o → key_cmp k key ≡ Greater) [
       | Less ↦ λ is. absurd (over is)
       | Equal ↦ λ is. other key k (subst (λ x. key_cmp x k ≡ Less) (same_key e.0 key (ap is_eq is)) less)
-      | Greater ↦ λ is. other key k (nat_list_cmp_total.trans key e.0 k (nat_list_cmp_total.antisymm key e.0 ∙ ap ordering_reverse is) less)
+      | Greater ↦ λ is. other key k (nat_list_cmp_total.trans key e.0 k
+          (nat_list_cmp_total.antisymm key e.0 ∙ ap ordering_reverse is) less)
     ] refl
 
     go : (es : List Entry) → AllByRecursion (λ b. key_cmp e.0 b ≡ Less) (keys_in es)

@@ -1,7 +1,7 @@
 -- The answers of many keys at one bound.
 use Rattle.std.specs.Prelude.{◌≡◌, ◌≢◌, ◌↔◌, ℕ, List, [], ◌∷◌, ◌++◌, Bool, true, false}
 use Rattle.std.specs.Prelude.{Option, Some, None, map, drop, All, length, filter, not, nat_lt, ◌&&◌, ◌<◌, ◌≤◌}
-use Rattle.std.specs.Prelude.{Contains, IsTrue, if◌then◌else◌}
+use Rattle.std.specs.Prelude.{Contains, IsTrue, if◌then◌else◌, take, reverse, option_copied}
 use Rattle.std.specs.List.Sorted.{IsStrictlySortedBy}
 use Rattle.std.specs.Cmp.Lexicographic.{slice_cmp}
 use Rattle.std.specs.Str.{bytes_eq}
@@ -13,6 +13,7 @@ use Rattle.hlc_node.specs.Rows.{answer}
 use Rattle.hlc_column.specs.Cells.{Cell}
 use Rattle.hlc_column.specs.Rows.{rows_of, rows_in, KeyCells, KeysAscend}
 use Rattle.hlc_columns.specs.declared.answers.Walk.{Walk}
+use Rattle.hlc_columns.specs.declared.answers.WalkBack.{WalkBack}
 
 -- a key is below the end of a range, if it has one
 abbrev pub is_below : Option (List ℕ) → List ℕ → Bool
@@ -23,6 +24,13 @@ is_below (Some to) key = is_lt (slice_cmp nat_cmp key to)
 abbrev pub IsBetween : List ℕ → Option (List ℕ) → List ℕ → Type 0
 IsBetween from to key = (slice_cmp nat_cmp key from ≢ Less) × IsTrue (is_below to key)
 
+-- the same as tests
+abbrev pub is_from : List ℕ → List ℕ → Bool
+is_from from key = not (is_lt (slice_cmp nat_cmp key from))
+
+abbrev pub is_between : List ℕ → Option (List ℕ) → List ℕ → Bool
+is_between from to key = is_from from key && is_below to key
+
 -- the keys of a kind that have a value at a bound, each once, in byte order, with that value
 pub record AreAnswers (rows : List Row) (bound : ℕ) (IsWanted : List ℕ → Type 0)
     (pairs : List (List ℕ × List ℕ)) : Type 0 where
@@ -30,20 +38,34 @@ pub record AreAnswers (rows : List Row) (bound : ℕ) (IsWanted : List ℕ → T
   pub exact : (key value : List ℕ)
       → Contains pairs (key, value) ↔ (IsWanted key × (answer rows key bound ≡ Some value))
 
+-- the same, the last key first
+abbrev pub AreAnswersBack : List Row → ℕ → (List ℕ → Type 0) → List (List ℕ × List ℕ) → Type 0
+AreAnswersBack rows bound IsWanted pairs = AreAnswers rows bound IsWanted (reverse pairs)
+
 -- a key with its value, if it has one
 abbrev pub pair_of : List ℕ → Option (List ℕ) → List (List ℕ × List ℕ)
 pair_of key None = []
 pair_of key (Some value) = (key, value) ∷ []
 
--- for some columns in turn, up to the first whose key is not below the end, the keys that have a value at a bound
-abbrev pub answers_in : List (List ℕ × List Cell) → ℕ → Option (List ℕ) → List (List ℕ × List ℕ)
-answers_in [] bound to = []
-answers_in (e ∷ es) bound to =
-    if is_below to e.0 then pair_of e.0 (answer (rows_of e.0 e.1) e.0 bound) ++ answers_in es bound to else []
+-- for some columns in turn the keys that have a value at a bound
+abbrev pub answers_in : List (List ℕ × List Cell) → ℕ → List (List ℕ × List ℕ)
+answers_in [] bound = []
+answers_in (e ∷ es) bound = pair_of e.0 (answer (rows_of e.0 e.1) e.0 bound) ++ answers_in es bound
 
--- the entries that a walk has left
+-- some entries in turn, up to the first whose key is not of a kind
+abbrev pub leading : (List ℕ → Bool) → List (List ℕ × List Cell) → List (List ℕ × List Cell)
+leading is_of [] = []
+leading is_of (e ∷ es) = if is_of e.0 then e ∷ leading is_of es else []
+
+-- the entries that a walk has left, up to the first whose key is not below the end
 abbrev pub entries_left : Walk → List (List ℕ × List Cell)
-entries_left walk = walk.rest.now ++ entries_in (drop walk.next walk.columns.now)
+entries_left walk =
+    leading (is_below (option_copied walk.to)) (walk.rest.now ++ entries_in (drop walk.next walk.columns.now))
+
+-- the entries that a walk from the last one has left, up to the first whose key is below that of the range
+abbrev pub entries_left_back : WalkBack → List (List ℕ × List Cell)
+entries_left_back walk =
+    leading (is_from walk.from.now) (reverse (entries_in (take walk.before walk.columns.now) ++ walk.rest.now))
 
 -- the first of some columns is that of a key
 abbrev pub starts_at : List ℕ → List (List ℕ × List Cell) → Bool

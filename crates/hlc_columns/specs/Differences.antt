@@ -15,11 +15,12 @@ use Rattle.hlc_column.specs.Rows.{rows_of}
 abbrev pub Difference : Type 0
 Difference = List ℕ × Option (List ℕ)
 
--- the keys whose answers at two bounds differ, each once, in byte order, with the answer at the second
-pub record AreDifferences (rows : List Row) (from to : ℕ) (differences : List Difference) : Type 0 where
+-- the keys of a kind whose answers at two bounds differ, each once, in byte order, with the answer at the second
+pub record AreDifferences (rows : List Row) (from to : ℕ) (IsWanted : List ℕ → Type 0)
+    (differences : List Difference) : Type 0 where
   pub ascending : IsStrictlySortedBy (slice_cmp nat_cmp) (map (λ one. one.0) differences)
   pub exact : (key : List ℕ) (value : Option (List ℕ)) → Contains differences (key, value)
-      ↔ ((answer rows key to ≡ value) × (answer rows key from ≢ value))
+      ↔ (IsWanted key × (answer rows key to ≡ value) × (answer rows key from ≢ value))
 
 -- the two answers are the same
 abbrev pub is_same : Option (List ℕ) → Option (List ℕ) → Bool

@@ -35,7 +35,7 @@ fn walk_above<'a>(columns: &'a Index<BoxedColumn>, key: &[u8]) -> Walk<'a>
     ensures ascend { IsStrictlySortedBy key_cmp (keys_in (entries_in columns.now)) }
 {
     let (at, slot) = columns.seek(key);
-    let mut walk = Walk::from_slot(columns, at, slot);
+    let mut walk = Walk::from_slot(columns, at, slot, None);
     if walk.is_at(key) {
         walk.next();
     }

@@ -1,11 +1,13 @@
 //! The answers of many keys at one bound, one after another, without a list of them.
 ghost use Rattle.std.specs.Prelude.{◌≡◌, ◌≤◌, ◌++◌, ◌∷◌, [], MatchOption, option_copied, length, slice_index_or};
+ghost use Rattle.std.specs.Prelude.{filter, reverse};
 ghost use Rattle.std.specs.List.Sorted.{IsStrictlySortedBy};
 ghost use Rattle.std.specs.Iterator.{YieldsFirstBy, item_count};
 ghost use Rattle.std.specs.Map.Iter.{deref_pair};
 ghost use Rattle.hlc_index.specs.Entries.{entries_in, entries_from, keys_in, key_cmp};
 ghost use Rattle.hlc_columns.specs.Table.{indexed_rows};
-ghost use Rattle.hlc_columns.specs.Answers.{answers_in, entries_left, starts_at, is_below, AreAnswers, IsBetween};
+ghost use Rattle.hlc_columns.specs.Answers.{AreAnswers, AreAnswersBack, IsBetween, answers_in, is_below, is_between};
+ghost use Rattle.hlc_columns.specs.Answers.{entries_left, entries_left_back, leading, starts_at};
 
 use crate::boxed::BoxedColumn;
 use hlc_clock::Stamp;
@@ -16,49 +18,56 @@ use std::marker::Model;
 /// This many columns are fetched from memory together.
 const AHEAD: usize = 32;
 
-/// A walk over the columns of an index: the rest of a leaf, and the number of the leaf after it.
+/// A walk over the columns of an index up to the end of a range, if it has one: the rest of a leaf, and the number of
+/// the leaf after it.
 #[derive(Debug, Drop)]
 pub(crate) struct Walk<'a> {
     columns: &'a Index<BoxedColumn>,
     rest: &'a [(Bytes, BoxedColumn)],
     next: usize,
+    to: Option<&'a [u8]>,
     // The number of rows in the columns that were fetched and are still to come.
     fetched: usize,
 }
 
 impl<'a> Walk<'a> {
-    /// Returns a walk over all columns.
-    pub(crate) fn new(columns: &'a Index<BoxedColumn>) -> Walk<'a>
-        ensures { entries_left result ≡ entries_in columns.now }
+    /// Returns a walk from a slot of a leaf on.
+    pub(crate) fn from_slot(
+        columns: &'a Index<BoxedColumn>,
+        at: usize,
+        slot: usize,
+        to: Option<&'a [u8]>,
+    ) -> Walk<'a>
+        requires { slot ≤ length (slice_index_or columns.now at []) }
+        ensures { entries_left result
+            ≡ leading (is_below (option_copied to.entry)) (entries_from columns.now at slot) }
     {
-        Walk {
+        let mut walk = Walk {
             columns,
             rest: &[],
-            next: 0,
+            next: at,
+            to,
             fetched: 0,
+        };
+        if at < columns.leaves() {
+            walk.rest = &columns.leaf(at)[slot..];
+            walk.next = at + 1;
         }
+        walk
     }
 
-    /// Returns a walk from a slot of a leaf on.
-    pub(crate) fn from_slot(columns: &'a Index<BoxedColumn>, at: usize, slot: usize) -> Walk<'a>
-        requires { slot ≤ length (slice_index_or columns.now at []) }
-        ensures { entries_left result ≡ entries_from columns.now at slot }
+    /// Returns a walk over the columns whose keys are not below one key, and below another, if there is one.
+    pub(crate) fn between(
+        columns: &'a Index<BoxedColumn>,
+        from: &[u8],
+        to: Option<&'a [u8]>,
+    ) -> Walk<'a>
+        ensures exact { entries_left result
+            ≡ filter (λ e. is_between from.now (option_copied to.entry) e.0) (entries_in columns.now) }
+        ensures ascend { IsStrictlySortedBy key_cmp (keys_in (entries_in columns.now)) }
     {
-        if at >= columns.leaves() {
-            return Walk {
-                columns,
-                rest: &[],
-                next: at,
-                fetched: 0,
-            };
-        }
-        let leaf = columns.leaf(at);
-        Walk {
-            columns,
-            rest: &leaf[slot..],
-            next: at + 1,
-            fetched: 0,
-        }
+        let (at, slot) = columns.seek(from);
+        Walk::from_slot(columns, at, slot, to)
     }
 
     /// Advances to the next leaf that has an entry, if the rest of the present one has none.
@@ -72,7 +81,7 @@ impl<'a> Walk<'a> {
         }
     }
 
-    /// Returns the next column with its key, or none at the end.
+    /// Returns the next column with its key, or none at the end. It reads no column there.
     pub(crate) fn next(&mut self) -> Option<&'a (Bytes, BoxedColumn)>
         ensures { MatchOption result ((entries_left self.old ≡ []) × (entries_left self.new ≡ []))
             (λ entry. entries_left self.old ≡ entry.now ∷ entries_left self.new) }
@@ -82,6 +91,9 @@ impl<'a> Walk<'a> {
             self.fetched = rows_ahead(self.rest);
         }
         let (first, rest) = self.rest.split_first()?;
+        if !is_below(self.to, first.0.as_slice()) {
+            return None;
+        }
         self.rest = rest;
         self.fetched = self.fetched.saturating_sub(first.1.get().len());
         Some(first)
@@ -94,17 +106,9 @@ impl<'a> Walk<'a> {
     {
         self.turn();
         match self.rest.first() {
-            Some(first) => first.0.as_slice() == key,
+            Some(first) => is_below(self.to, first.0.as_slice()) && first.0.as_slice() == key,
             None => false,
         }
-    }
-
-    /// Ends the walk.
-    fn stop(&mut self)
-        ensures { entries_left self.new ≡ [] }
-    {
-        self.rest = &[];
-        self.next = self.columns.leaves();
     }
 }
 
@@ -128,25 +132,14 @@ fn is_below(to: Option<&[u8]>, key: &[u8]) -> bool
     }
 }
 
-/// Returns the next key of a walk that has a value at the bound, with that value. It reads each column once, and none
-/// from the first key on that is not below the end.
-fn next_answer<'a>(
-    walk: &mut Walk<'a>,
-    bound: Stamp,
-    to: Option<&[u8]>,
-) -> Option<(&'a [u8], &'a [u8])>
-    ensures { YieldsFirstBy deref_pair
-        (λ walk. answers_in (entries_left walk) bound (option_copied to.entry))
+/// Returns the next key of a walk that has a value at the bound, with that value. It reads each column once.
+fn next_answer<'a>(walk: &mut Walk<'a>, bound: Stamp) -> Option<(&'a [u8], &'a [u8])>
+    ensures { YieldsFirstBy deref_pair (λ walk. answers_in (entries_left walk) bound)
         walk.old result walk.new }
 {
     while let Some(entry) = walk.next() {
-        let key = entry.0.as_slice();
-        if !is_below(to, key) {
-            walk.stop();
-            return None;
-        }
         if let Some(value) = entry.1.get().answer(bound) {
-            return Some((key, value));
+            return Some((entry.0.as_slice(), value));
         }
     }
     None
@@ -158,16 +151,15 @@ fn next_answer<'a>(
 pub struct Answers<'a> {
     walk: Walk<'a>,
     bound: Stamp,
-    to: Option<&'a [u8]>,
 }
 
 impl<'a> Model for Answers<'a> {
-    ghost use Rattle.std.specs.Prelude.{List, ℕ, option_copied};
+    ghost use Rattle.std.specs.Prelude.{List, ℕ};
     ghost use Rattle.hlc_columns.specs.Answers.{answers_in, entries_left};
 
     ghost Value = { List (List ℕ × List ℕ) };
 
-    ghost view = { λ all. answers_in (entries_left all.walk) all.bound (option_copied all.to) };
+    ghost view = { λ all. answers_in (entries_left all.walk) all.bound };
 }
 
 impl<'a> Iterator for Answers<'a> {
@@ -178,20 +170,7 @@ impl<'a> Iterator for Answers<'a> {
     ghost remaining = { item_count (λ pairs. pairs) };
 
     fn next(&mut self) -> Option<(&'a [u8], &'a [u8])> {
-        next_answer(&mut self.walk, self.bound, self.to)
-    }
-}
-
-/// Returns the answers of all keys.
-pub(crate) fn all_answers(columns: &Index<BoxedColumn>, bound: Stamp) -> Answers<'_>
-    ensures { AreAnswers (indexed_rows columns.now) bound (λ key. Unit {0}) result }
-{
-    // The contract of this call says that the keys ascend.
-    let _leaves = columns.leaves();
-    Answers {
-        walk: Walk::new(columns),
-        bound,
-        to: None,
+        next_answer(&mut self.walk, self.bound)
     }
 }
 
@@ -205,10 +184,125 @@ pub(crate) fn answers_between<'a>(
     ensures { AreAnswers (indexed_rows columns.now) bound
         (IsBetween from.now (option_copied to.entry)) result }
 {
-    let (at, slot) = columns.seek(from);
     Answers {
-        walk: Walk::from_slot(columns, at, slot),
+        walk: Walk::between(columns, from, to),
         bound,
-        to,
+    }
+}
+
+/// A walk over the columns of an index from the last one down to the first key of a range: the rest of a leaf, and the
+/// number of leaves before it.
+#[derive(Debug, Drop)]
+struct WalkBack<'a> {
+    columns: &'a Index<BoxedColumn>,
+    rest: &'a [(Bytes, BoxedColumn)],
+    before: usize,
+    from: &'a [u8],
+}
+
+impl<'a> WalkBack<'a> {
+    /// Returns a walk over the columns whose keys are not below one key, and below another, if there is one.
+    fn between(columns: &'a Index<BoxedColumn>, from: &'a [u8], to: Option<&[u8]>) -> WalkBack<'a>
+        ensures exact { reverse (entries_left_back result)
+            ≡ filter (λ e. is_between from.now (option_copied to.entry) e.0) (entries_in columns.now) }
+        ensures ascend { IsStrictlySortedBy key_cmp (keys_in (entries_in columns.now)) }
+    {
+        let mut walk = WalkBack {
+            columns,
+            rest: &[],
+            before: columns.leaves(),
+            from,
+        };
+        if let Some(to) = to {
+            let (at, slot) = columns.seek(to);
+            if at < walk.before {
+                walk.rest = &columns.leaf(at)[..slot];
+                walk.before = at;
+            }
+        }
+        walk
+    }
+
+    /// Goes back to the last leaf that has an entry, if the rest of the present one has none.
+    fn turn(&mut self)
+        ensures same { entries_left_back self.new ≡ entries_left_back self.old }
+        ensures done { self.new.rest.now ≡ [] → entries_left_back self.new ≡ [] }
+    {
+        self.before = self.before.min(self.columns.leaves());
+        while self.rest.is_empty() && self.before > 0 {
+            self.before -= 1;
+            self.rest = self.columns.leaf(self.before);
+        }
+    }
+
+    /// Returns the last column with its key, or none at the first key.
+    fn next(&mut self) -> Option<&'a (Bytes, BoxedColumn)>
+        ensures { MatchOption result ((entries_left_back self.old ≡ []) × (entries_left_back self.new ≡ []))
+            (λ entry. entries_left_back self.old ≡ entry.now ∷ entries_left_back self.new) }
+    {
+        self.turn();
+        let (last, rest) = self.rest.split_last()?;
+        if last.0.as_slice().cmp(self.from).is_lt() {
+            return None;
+        }
+        self.rest = rest;
+        Some(last)
+    }
+}
+
+/// Returns the last key of a walk that has a value at the bound, with that value. It reads each column once.
+fn next_answer_back<'a>(walk: &mut WalkBack<'a>, bound: Stamp) -> Option<(&'a [u8], &'a [u8])>
+    ensures { YieldsFirstBy deref_pair (λ walk. answers_in (entries_left_back walk) bound)
+        walk.old result walk.new }
+{
+    while let Some(entry) = walk.next() {
+        if let Some(value) = entry.1.get().answer(bound) {
+            return Some((entry.0.as_slice(), value));
+        }
+    }
+    None
+}
+
+/// The same keys from the last one on, against byte order. In contracts it is the list of the remaining pairs.
+#[derive(Debug, Drop)]
+pub struct AnswersBack<'a> {
+    walk: WalkBack<'a>,
+    bound: Stamp,
+}
+
+impl<'a> Model for AnswersBack<'a> {
+    ghost use Rattle.std.specs.Prelude.{List, ℕ};
+    ghost use Rattle.hlc_columns.specs.Answers.{answers_in, entries_left_back};
+
+    ghost Value = { List (List ℕ × List ℕ) };
+
+    ghost view = { λ all. answers_in (entries_left_back all.walk) all.bound };
+}
+
+impl<'a> Iterator for AnswersBack<'a> {
+    type Item = (&'a [u8], &'a [u8]);
+
+    ghost next_gives = { YieldsFirstBy deref_pair (λ pairs. pairs) };
+
+    ghost remaining = { item_count (λ pairs. pairs) };
+
+    fn next(&mut self) -> Option<(&'a [u8], &'a [u8])> {
+        next_answer_back(&mut self.walk, self.bound)
+    }
+}
+
+/// Returns the answers of the keys that are not below one key, and below another, if there is one, the last first.
+pub(crate) fn answers_back<'a>(
+    columns: &'a Index<BoxedColumn>,
+    bound: Stamp,
+    from: &'a [u8],
+    to: Option<&[u8]>,
+) -> AnswersBack<'a>
+    ensures { AreAnswersBack (indexed_rows columns.now) bound
+        (IsBetween from.now (option_copied to.entry)) result }
+{
+    AnswersBack {
+        walk: WalkBack::between(columns, from, to),
+        bound,
     }
 }

@@ -4,7 +4,7 @@ ghost use Rattle.std.specs.Iterator.{YieldsFirstBy, item_count};
 ghost use Rattle.hlc_node.specs.Rows.{answer};
 ghost use Rattle.hlc_column.specs.Rows.{rows_of};
 ghost use Rattle.hlc_columns.specs.Table.{indexed_rows};
-ghost use Rattle.hlc_columns.specs.Answers.{entries_left};
+ghost use Rattle.hlc_columns.specs.Answers.{entries_left, IsBetween};
 ghost use Rattle.hlc_columns.specs.Differences.{AreDifferences, differences_in, difference_read, is_same};
 
 use crate::answers::Walk;
@@ -64,9 +64,9 @@ fn next_change<'a>(
     None
 }
 
-/// The keys whose answers at two bounds differ, in byte order, each with its value at the second bound, or none if it
-/// has none there. It goes through the columns on demand, leaf by leaf. In contracts it is the list of the remaining
-/// differences.
+/// The keys of a range whose answers at two bounds differ, in byte order, each with its value at the second bound, or
+/// none if it has none there. It goes through the columns on demand, leaf by leaf. In contracts it is the list of the
+/// remaining differences.
 #[derive(Debug, Drop)]
 pub struct Changes<'a> {
     walk: Walk<'a>,
@@ -96,14 +96,19 @@ impl<'a> Iterator for Changes<'a> {
     }
 }
 
-/// Returns the differences of all keys.
-pub(crate) fn all_changes(columns: &Index<BoxedColumn>, from: Stamp, to: Stamp) -> Changes<'_>
-    ensures { AreDifferences (indexed_rows columns.now) from to result }
+/// Returns the differences of the keys that are not below one key, and below another, if there is one.
+pub(crate) fn changes_between<'a>(
+    columns: &'a Index<BoxedColumn>,
+    from: Stamp,
+    to: Stamp,
+    first: &[u8],
+    end: Option<&'a [u8]>,
+) -> Changes<'a>
+    ensures { AreDifferences (indexed_rows columns.now) from to
+        (IsBetween first.now (option_copied end.entry)) result }
 {
-    // The contract of this call says that the keys ascend.
-    let _leaves = columns.leaves();
     Changes {
-        walk: Walk::new(columns),
+        walk: Walk::between(columns, first, end),
         from,
         to,
     }

@@ -1,9 +1,9 @@
 //! A table as readers at one stamp see it.
 ghost use Rattle.std.specs.Prelude.{◌≡◌, option_copied};
 ghost use Rattle.hlc_node.specs.Rows.{answer};
-ghost use Rattle.hlc_columns.specs.Answers.{AreAnswers, IsBetween};
+ghost use Rattle.hlc_columns.specs.Answers.{AreAnswers, AreAnswersBack, IsBetween};
 
-use crate::answers::Answers;
+use crate::answers::{Answers, AnswersBack};
 use crate::table::Table;
 use hlc_clock::Stamp;
 use std::marker::Model;
@@ -58,5 +58,20 @@ impl<'a> View<'a> {
             (IsBetween from.now (option_copied to.entry)) result }
     {
         self.table.answers_between(self.stamp, from, to)
+    }
+
+    /// Returns an iterator of the keys that have a value against byte order, the last first, with that value.
+    pub fn iter_back(&self) -> AnswersBack<'a>
+        ensures { AreAnswersBack self.now.rows self.now.stamp (λ key. Unit {0}) result }
+    {
+        self.table.answers_back(self.stamp, &[], None)
+    }
+
+    /// Returns the same for the keys that are not below `from`, and below `to`, if there is one.
+    pub fn range_back(&self, from: &'a [u8], to: Option<&[u8]>) -> AnswersBack<'a>
+        ensures { AreAnswersBack self.now.rows self.now.stamp
+            (IsBetween from.now (option_copied to.entry)) result }
+    {
+        self.table.answers_back(self.stamp, from, to)
     }
 }

@@ -51,8 +51,8 @@ apart_eq a b apart = elim (cases_Bool (bytes_eq a b)) [
   | inr f ↦ f
 ]
 
-later_at : (key : List ℕ) (listing : List Pair) (pair : Pair) → AllByRecursion (λ k. key_cmp key k ≡ Less) (keys listing)
-    → Contains listing pair → key_cmp key pair.key ≡ Less
+later_at : (key : List ℕ) (listing : List Pair) (pair : Pair)
+    → AllByRecursion (λ k. key_cmp key k ≡ Less) (keys listing) → Contains listing pair → key_cmp key pair.key ≡ Less
 later_at key [] pair all m = absurd (Contains-none pair m)
 later_at key (p ∷ listing) pair all m = elim (Contains-cons_cases p pair listing m) [
   | inl same ↦ subst (λ (x : Pair). key_cmp key x.key ≡ Less) same all.0
@@ -299,23 +299,23 @@ listing_from rows stamp listing up each = record {
 
 -- ---- the differences lead from one listing to the other
 leads_value : (rows : List Row) (from to : ℕ) (differences : List Difference)
-    → AreDifferences rows from to differences → (key : List ℕ)
+    → AreDifferences rows from to (λ key. Unit {0}) differences → (key : List ℕ)
     → value_after key differences (answer rows key from) ≡ answer rows key to
 leads_value rows from to differences are key =
     elim (cases_same (answer rows key from) (answer rows key to)) [
       | inl same ↦
           value_stays key differences (answer rows key from) (λ one m is.
-          let at : (answer rows one.0 to ≡ one.1) × (answer rows one.0 from ≢ one.1) =
-          (are.exact one.0 one.1).0 m in
-          at.1 (ap (λ k. answer rows k from) is ∙ same ∙ ap (λ k. answer rows k to) (sym is) ∙ at.0))
+          let at = (are.exact one.0 one.1).0 m in
+          at.2 (ap (λ k. answer rows k from) is ∙ same ∙ ap (λ k. answer rows k to) (sym is) ∙ at.1))
           ∙ same
       | inr apart ↦
           value_set differences (key, answer rows key to) (answer rows key from) are.ascending
-          ((are.exact key (answer rows key to)).1 (refl, apart))
+          ((are.exact key (answer rows key to)).1 (tt, refl, apart))
     ]
 
 pub differences-lead : (rows : List Row) (from to : ℕ) (differences : List Difference) (listing next : List Pair)
-    → AreDifferences rows from to differences → IsListing rows from listing → IsListing rows to next
+    → AreDifferences rows from to (λ key. Unit {0}) differences → IsListing rows from listing
+    → IsListing rows to next
     → patched differences listing ≡ next
 differences-lead rows from to differences listing next are is also =
     one-listing rows to (patched differences listing) next
@@ -357,20 +357,20 @@ among key (one ∷ more) = elim (cases_Bool (bytes_eq one.0 key)) [
 ]
 
 pub differences-least : (rows : List Row) (from to : ℕ) (differences others : List Difference)
-    (listing next : List Pair) → AreDifferences rows from to differences → IsListing rows from listing
+    (listing next : List Pair) → AreDifferences rows from to (λ key. Unit {0}) differences
+    → IsListing rows from listing
     → IsListing rows to next → patched others listing ≡ next → length differences ≤ length others
 differences-least rows from to differences others listing next are is also lead =
     let each : (one : Difference) → Contains differences one → Served OfKey others one =
     λ one m. elim (among one.0 others) [
       | inl there ↦ (there.0, there.1, there.2)
       | inr none ↦
-          let at : (answer rows one.0 to ≡ one.1) × (answer rows one.0 from ≢ one.1) =
-          (are.exact one.0 one.1).0 m in
-          absurd (at.1 (sym (listing_value rows from listing is one.0)
+          let at = (are.exact one.0 one.1).0 m in
+          absurd (at.2 (sym (listing_value rows from listing is one.0)
           ∙ sym (value_stays one.0 others (value_in one.0 listing) none)
           ∙ sym (patched_value others listing one.0 is.ascending)
           ∙ ap (value_in one.0) lead
-          ∙ listing_value rows to next also one.0 ∙ at.0))
+          ∙ listing_value rows to next also one.0 ∙ at.1))
     ] in
     let fit : sum_by (λ (one : Difference). 1) differences ≤ sum_by (λ (one : Difference). 1) others =
     served Apart OfKey (λ (one : Difference). 1) (λ (one : Difference). 1) (λ x y r. omega arith)
@@ -381,16 +381,18 @@ differences-least rows from to differences others listing next are is also lead 
     omega arith
 
 -- ---- the same differences of rows that answer alike at both stamps
-pub differences-alike : (rows others : List Row) (from to : ℕ) (differences : List Difference)
+pub differences-alike : (rows others : List Row) (from to : ℕ) (IsWanted : List ℕ → Type 0)
+    (differences : List Difference)
     → ((key : List ℕ) → answer rows key from ≡ answer others key from)
     → ((key : List ℕ) → answer rows key to ≡ answer others key to)
-    → AreDifferences rows from to differences → AreDifferences others from to differences
-differences-alike rows others from to differences first second are = record {
+    → AreDifferences rows from to IsWanted differences → AreDifferences others from to IsWanted differences
+differences-alike rows others from to IsWanted differences first second are = record {
   ascending = are.ascending;
   exact = λ key value. (
     λ m.
-        let at : (answer rows key to ≡ value) × (answer rows key from ≢ value) = (are.exact key value).0 m in
-        (sym (second key) ∙ at.0, λ same. at.1 (first key ∙ same)),
-    λ (is, apart). (are.exact key value).1 (second key ∙ is, λ same. apart (sym (first key) ∙ same)),
+        let at = (are.exact key value).0 m in
+        (at.0, sym (second key) ∙ at.1, λ same. at.2 (first key ∙ same)),
+    λ (wanted, is, apart).
+        (are.exact key value).1 (wanted, second key ∙ is, λ same. apart (sym (first key) ∙ same)),
   );
 }

@@ -13,7 +13,8 @@ use Rattle.hlc_intake.specs.declared.intake.LinkFault.TheVariants.{Retired, NotN
 use Rattle.hlc_events.specs.declared.fault.CoreFault.{CoreFault}
 use Rattle.hlc_events.specs.declared.fault.CoreFault.TheVariants.{NoMemory, NoNode, Link, AboveFloor, BelowHorizon}
 use Rattle.hlc_events.specs.declared.fault.CoreFault.TheVariants.{Join as joining}
-use Rattle.hlc_events.specs.declared.event.CoreEvent.TheVariants.{Accept, Join, OpenAt, OpenFloor, Read, List as ListAll}
+use Rattle.hlc_events.specs.declared.event.CoreEvent.TheVariants.{Accept, Join, OpenAt, OpenFloor, Read}
+use Rattle.hlc_events.specs.declared.event.CoreEvent.TheVariants.{List as ListAll}
 use Rattle.hlc_events.specs.declared.event.CoreEvent.TheVariants.{Close, Vacuum, JoinAt, VacuumTo}
 use Rattle.hlc_core.specs.declared.reply.CoreReply.TheVariants.{Refused}
 use Rattle.hlc_events.specs.declared.event.CoreEvent.{CoreEvent}

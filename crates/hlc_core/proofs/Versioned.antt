@@ -3,7 +3,7 @@ use Rattle.std.proofs.Common.{ℕ, ◌≤◌, List, arith}
 use Rattle.std.specs.Prelude.{Contains}
 use Rattle.hlc_column.specs.Cells.{Cell}
 use Rattle.hlc_column.specs.Rows.{row_of}
-use Rattle.hlc_columns.specs.Versions.{AreVersions}
+use Rattle.hlc_column.specs.Versions.{AreVersions}
 use Rattle.hlc_core.specs.Past.{Step, writes, horizon}
 use Rattle.hlc_core.specs.StoreView.{StoreView, Represents}
 

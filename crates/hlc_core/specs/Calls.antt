@@ -19,7 +19,7 @@ use Rattle.hlc_core.specs.Past.{writes, item_refusal, join_refusal, join_at_refu
 use Rattle.hlc_core.specs.Past.{vacuum_refusal}
 pub use Rattle.hlc_checkpoint.specs.Sorted.{AreRowsTo}
 pub use Rattle.hlc_columns.specs.Sizes.{AreSizes}
-pub use Rattle.hlc_columns.specs.Versions.{AreVersions}
+pub use Rattle.hlc_column.specs.Versions.{AreVersions}
 use Rattle.hlc_core.specs.Stored.{IsReport, LeavesFewest}
 use Rattle.hlc_core.specs.StoreView.{StoreView, nodes, Represents}
 

@@ -6,13 +6,13 @@ pub use Rattle.hlc_columns.specs.Differences.{Difference, AreDifferences}
 use Rattle.hlc_core.specs.declared.listing.Pair.{Pair}
 use Rattle.hlc_core.specs.Past.{Step, stamp_of, writes}
 
--- the differences between the answers of all accepted writes at the stamps of two open snapshots; or one of the two is
--- not open, and there are none
-abbrev pub Compares : ℕ → ℕ → List Step → Option (List Difference) → Type 0
-Compares from to past None = (stamp_of from past ≡ None) ⊎ (stamp_of to past ≡ None)
-Compares from to past (Some differences) =
+-- for the keys of a kind the differences between the answers of all accepted writes at the stamps of two open
+-- snapshots; or one of the two is not open, and there are none
+abbrev pub Compares : ℕ → ℕ → List Step → (List ℕ → Type 0) → Option (List Difference) → Type 0
+Compares from to past IsWanted None = (stamp_of from past ≡ None) ⊎ (stamp_of to past ≡ None)
+Compares from to past IsWanted (Some differences) =
     (first second : ℕ) × (stamp_of from past ≡ Some first) × (stamp_of to past ≡ Some second)
-    × AreDifferences (writes past) first second differences
+    × AreDifferences (writes past) first second IsWanted differences
 
 -- a key with its value, if it has one
 abbrev pub pair_with : List ℕ → Option (List ℕ) → List Pair

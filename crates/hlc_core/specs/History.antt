@@ -7,7 +7,8 @@ use Rattle.hlc_columns.specs.Answers.{in_part}
 use Rattle.hlc_node.specs.Items.{retires}
 use Rattle.hlc_events.specs.declared.fault.CoreFault.{CoreFault}
 use Rattle.hlc_events.specs.declared.event.CoreEvent.{CoreEvent}
-use Rattle.hlc_events.specs.declared.event.CoreEvent.TheVariants.{Accept, Join, OpenAt, OpenFloor, Read, List as ListAll}
+use Rattle.hlc_events.specs.declared.event.CoreEvent.TheVariants.{Accept, Join, OpenAt, OpenFloor, Read}
+use Rattle.hlc_events.specs.declared.event.CoreEvent.TheVariants.{List as ListAll}
 use Rattle.hlc_events.specs.declared.event.CoreEvent.TheVariants.{Close, Vacuum, JoinAt, VacuumTo, VacuumPart}
 use Rattle.hlc_core.specs.declared.reply.CoreReply.{CoreReply}
 use Rattle.hlc_core.specs.declared.reply.CoreReply.TheVariants.{Accepted, Joined, Opened, Answer, Listing, Closed}

@@ -175,12 +175,12 @@ pub fn there_is_one_listing()
 pub fn differences_lead_on()
     ensures leads { (rows : List ARow) (from to : ℕ) (differences : List Difference)
         (listing next : List APair)
-        → AreDifferences rows from to differences
+        → AreDifferences rows from to (λ key. Unit {0}) differences
         → IsListing rows from listing → IsListing rows to next
         → patched differences listing ≡ next }
     ensures least { (rows : List ARow) (from to : ℕ) (differences others : List Difference)
         (listing next : List APair)
-        → AreDifferences rows from to differences
+        → AreDifferences rows from to (λ key. Unit {0}) differences
         → IsListing rows from listing → IsListing rows to next
         → patched others listing ≡ next → length differences ≤ length others }
 {}
@@ -234,8 +234,8 @@ pub fn there_is_one_report()
 {}
 
 /// A core is faithful to each history that it represents: its reads returned the newest accepted values, and no answer
-/// of a snapshot changed; no vacuum could have kept fewer or cheaper rows, nor a part of one of its keys, and just after
-/// it the stored rows up to its stamp, after a part those of its keys, are the fewest and the cheapest.
+/// of a snapshot changed; no vacuum could have kept fewer or cheaper rows, nor a part of one of its keys, and just
+/// after it the stored rows up to its stamp, after a part those of its keys, are the fewest and the cheapest.
 pub fn histories_are_faithful()
     ensures { (kept : StoreView) (history : List (AnEvent × AReply)) → RepresentsHistory kept history
         → IsFaithful (nodes kept) history kept.rows }

@@ -14,7 +14,7 @@ mod store;
 
 pub use hlc_checkpoint::{Checkpoint, RestoreFault};
 pub use hlc_clock::Stamp;
-pub use hlc_columns::{Answers, Changes, Sizes, Versions, View};
+pub use hlc_columns::{Answers, AnswersBack, Changes, Sizes, Versions, View};
 pub use hlc_events::{CoreEvent, CoreFault, NoNode};
 pub use hlc_heads::{Accepted, JoinFault};
 pub use hlc_intake::{Intake, LinkFault};

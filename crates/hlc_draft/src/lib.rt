@@ -1,5 +1,5 @@
-//! The plan of a vacuum, key by key: which rows of a column to keep, so that the fewest answer alike at some points; and
-//! the report of a vacuum.
+//! The plan of a vacuum, key by key: which rows of a column to keep, so that the fewest answer alike at some points;
+//! and the report of a vacuum.
 #![tactic(auto)]
 
 mod boxed;

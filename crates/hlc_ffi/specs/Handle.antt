@@ -3,6 +3,8 @@ use Rattle.std.specs.Prelude.{◌≡◌, ℕ, List, [], Option, Some, None, Matc
 use Rattle.hlc_core.specs.StoreView.{StoreView, Represents, nodes}
 use Rattle.hlc_core.specs.Calls.{new_refusal}
 use Rattle.hlc_core.specs.Past.{Step}
+use Rattle.hlc_node.specs.declared.item.Item.{Item}
+use Rattle.hlc_calls.specs.Answers.{ReturnsAccepted, ReturnsChecked}
 use Rattle.hlc_calls.specs.Outcome.{IsAnswered}
 use Rattle.hlc_calls.specs.Saved.{IsMade, IsNotMade}
 
@@ -14,6 +16,31 @@ OnStore old new Closed Open =
 -- the answer is about the store that is read; of a closed one it is this
 abbrev pub OnReader : Option StoreView → Type 0 → (StoreView → Type 0) → Type 0
 OnReader kept Closed Open = MatchOption kept Closed Open
+
+-- the same two about each past that the store represents before the call
+abbrev pub OnStorePast
+    : Option StoreView → Option StoreView → Type 0 → (StoreView → StoreView → List Step → Type 0) → Type 0
+OnStorePast old new Closed Open =
+    OnStore old new Closed (λ before after. (past : List Step) → Represents before past → Open before after past)
+
+abbrev pub OnReaderPast : Option StoreView → Type 0 → (StoreView → List Step → Type 0) → Type 0
+OnReaderPast kept Closed Open =
+    OnReader kept Closed (λ core. (past : List Step) → Represents core past → Open core past)
+
+-- an item was accepted, or refused
+abbrev pub IsAccepting : Option StoreView → Option StoreView → Item → ℕ → ℕ → Type 0
+IsAccepting old new item code word =
+    OnStorePast old new ((code ≡ 100) × (word ≡ 0))
+    (λ before after past. ReturnsAccepted before after item past code word)
+
+-- why an item would be refused, if it would
+abbrev pub IsChecking : Option StoreView → Item → ℕ → ℕ → Type 0
+IsChecking kept item code word =
+    OnReaderPast kept ((code ≡ 100) × (word ≡ 0)) (λ core past. ReturnsChecked core item past code word)
+
+-- the answer for a closed store, of a call that lists: nothing is listed
+abbrev pub ListsNothing : ℕ → ℕ → ℕ → List ℕ → List ℕ → Type 0
+ListsNothing code len many old new = (code ≡ 100) × (len ≡ 0) × (many ≡ 0) × (new ≡ old)
 
 -- A closed store was opened, and nothing took place in it; or it stays closed, for the expected reason or because it
 -- ran out of memory. An open one is unchanged.

@@ -3,12 +3,12 @@ ghost use Rattle.std.specs.Prelude.{◌≡◌, ◌≢◌, List, Some, None};
 ghost use Rattle.hlc_node.specs.declared.item.Body.TheVariants.{Write as a_write, Report as a_report};
 ghost use Rattle.hlc_node.specs.declared.item.Body.TheVariants.{Retire as a_retire};
 ghost use Rattle.hlc_node.specs.Items.{an_item};
-ghost use Rattle.hlc_core.specs.Past.{Step};
-ghost use Rattle.hlc_core.specs.StoreView.{Represents};
-ghost use Rattle.hlc_calls.specs.Answers.{ReturnsAccepted, ReturnsChecked, ReturnsJoined, ReturnsJoinedAt};
-ghost use Rattle.hlc_ffi.specs.Handle.{OnStore, nodes_in_handle, OnReader};
+ghost use Rattle.hlc_calls.specs.Answers.{ReturnsJoined, ReturnsJoinedAt};
+ghost use Rattle.hlc_calls.specs.Batch.{AreEntered};
+ghost use Rattle.hlc_ffi.specs.Handle.{OnStorePast, nodes_in_handle, IsAccepting, IsChecking};
 
 use crate::handle::{of_core, on_core};
+use hlc_calls::batch::{Entry, enter_all};
 use hlc_calls::{items, open_store};
 use hlc_core::{Core, ItemRef, Stamp};
 use hlc_handle::{Reader, Store};
@@ -26,10 +26,8 @@ pub extern "C" fn hlc_accept_write(
     value: &[u8],
     word: &mut u64,
 ) -> u32
-    ensures answer { OnStore store.old.room.value store.new.room.value
-        ((result ≡ 100) × (word.new ≡ 0)) (λ old new. (past : List Step) → Represents old past
-        → ReturnsAccepted old new (an_item node number stamp (a_write key.now (Some value.now)))
-        past result word.new) }
+    ensures answer { IsAccepting store.old.room.value store.new.room.value
+        (an_item node number stamp (a_write key.now (Some value.now))) result word.new }
     ensures same { result ≢ 0 → store.new.room.value ≡ store.old.room.value }
     ensures nodes { nodes_in_handle store.new.room.value ≡ nodes_in_handle store.old.room.value }
 {
@@ -49,10 +47,8 @@ pub extern "C" fn hlc_accept_delete(
     key: &[u8],
     word: &mut u64,
 ) -> u32
-    ensures answer { OnStore store.old.room.value store.new.room.value
-        ((result ≡ 100) × (word.new ≡ 0)) (λ old new. (past : List Step) → Represents old past
-        → ReturnsAccepted old new (an_item node number stamp (a_write key.now None))
-        past result word.new) }
+    ensures answer { IsAccepting store.old.room.value store.new.room.value
+        (an_item node number stamp (a_write key.now None)) result word.new }
     ensures same { result ≢ 0 → store.new.room.value ≡ store.old.room.value }
     ensures nodes { nodes_in_handle store.new.room.value ≡ nodes_in_handle store.old.room.value }
 {
@@ -71,10 +67,8 @@ pub extern "C" fn hlc_accept_report(
     stamp: u64,
     word: &mut u64,
 ) -> u32
-    ensures answer { OnStore store.old.room.value store.new.room.value
-        ((result ≡ 100) × (word.new ≡ 0)) (λ old new. (past : List Step) → Represents old past
-        → ReturnsAccepted old new (an_item node number stamp a_report)
-        past result word.new) }
+    ensures answer { IsAccepting store.old.room.value store.new.room.value
+        (an_item node number stamp a_report) result word.new }
     ensures same { result ≢ 0 → store.new.room.value ≡ store.old.room.value }
     ensures nodes { nodes_in_handle store.new.room.value ≡ nodes_in_handle store.old.room.value }
 {
@@ -93,10 +87,8 @@ pub extern "C" fn hlc_accept_retire(
     stamp: u64,
     word: &mut u64,
 ) -> u32
-    ensures answer { OnStore store.old.room.value store.new.room.value
-        ((result ≡ 100) × (word.new ≡ 0)) (λ old new. (past : List Step) → Represents old past
-        → ReturnsAccepted old new (an_item node number stamp a_retire)
-        past result word.new) }
+    ensures answer { IsAccepting store.old.room.value store.new.room.value
+        (an_item node number stamp a_retire) result word.new }
     ensures same { result ≢ 0 → store.new.room.value ≡ store.old.room.value }
     ensures nodes { nodes_in_handle store.new.room.value ≡ nodes_in_handle store.old.room.value }
 {
@@ -116,15 +108,12 @@ pub extern "C" fn hlc_check_write(
     value: &[u8],
     word: &mut u64,
 ) -> u32
-    ensures answer { OnReader store.old.room.value
-        ((result ≡ 100) × (word.new ≡ 0)) (λ core. (past : List Step) → Represents core past
-        → ReturnsChecked core (an_item node number stamp (a_write key.now (Some value.now)))
-        past result word.new) }
+    ensures answer { IsChecking store.old.room.value
+        (an_item node number stamp (a_write key.now (Some value.now))) result word.new }
     ensures same { store.new.room.value ≡ store.old.room.value }
 {
-    *word = 0;
     let item = ItemRef::write(node, number, Stamp::from_bits(stamp), key, Some(value));
-    of_core!(store, |core| items::check(core, &item, word))
+    of_core!(store, [word], |core| items::check(core, &item, word))
 }
 
 /// Returns why `hlc_accept_delete` would refuse a deletion, apart from out of memory: 0, or the refusal and its word.
@@ -137,15 +126,12 @@ pub extern "C" fn hlc_check_delete(
     key: &[u8],
     word: &mut u64,
 ) -> u32
-    ensures answer { OnReader store.old.room.value
-        ((result ≡ 100) × (word.new ≡ 0)) (λ core. (past : List Step) → Represents core past
-        → ReturnsChecked core (an_item node number stamp (a_write key.now None))
-        past result word.new) }
+    ensures answer { IsChecking store.old.room.value
+        (an_item node number stamp (a_write key.now None)) result word.new }
     ensures same { store.new.room.value ≡ store.old.room.value }
 {
-    *word = 0;
     let item = ItemRef::write(node, number, Stamp::from_bits(stamp), key, None);
-    of_core!(store, |core| items::check(core, &item, word))
+    of_core!(store, [word], |core| items::check(core, &item, word))
 }
 
 /// Returns why `hlc_accept_report`, or `hlc_accept_retire`, would refuse an item: 0, or the refusal and its word.
@@ -157,29 +143,24 @@ pub extern "C" fn hlc_check_report(
     stamp: u64,
     word: &mut u64,
 ) -> u32
-    ensures answer { OnReader store.old.room.value
-        ((result ≡ 100) × (word.new ≡ 0)) (λ core. (past : List Step) → Represents core past
-        → ReturnsChecked core (an_item node number stamp a_report) past result word.new) }
-    ensures retire { OnReader store.old.room.value
-        ((result ≡ 100) × (word.new ≡ 0)) (λ core. (past : List Step) → Represents core past
-        → ReturnsChecked core (an_item node number stamp a_retire) past result word.new) }
+    ensures answer { IsChecking store.old.room.value
+        (an_item node number stamp a_report) result word.new }
+    ensures retire { IsChecking store.old.room.value
+        (an_item node number stamp a_retire) result word.new }
     ensures same { store.new.room.value ≡ store.old.room.value }
 {
-    *word = 0;
     let stamp = Stamp::from_bits(stamp);
-    of_core!(
-        store,
-        |core| items::check_plain(core, node, number, stamp, word)
-    )
+    of_core!(store, [word], |core| {
+        items::check_plain(core, node, number, stamp, word)
+    })
 }
 
 /// Lets a node join. Returns 0, its number and the stamp at which its clock starts; or 26 or 15.
 #[unsafe(no_mangle)]
 pub extern "C" fn hlc_join(alloc: Global, store: &mut Store, node: &mut u16, start: &mut u64) -> u32
-    ensures answer { OnStore store.old.room.value store.new.room.value
+    ensures answer { OnStorePast store.old.room.value store.new.room.value
         ((result ≡ 100) × (node.new ≡ 0) × (start.new ≡ 0))
-        (λ old new. (past : List Step) → Represents old past
-        → ReturnsJoined old new past result node.new start.new) }
+        (λ old new past. ReturnsJoined old new past result node.new start.new) }
     ensures nothing { result ≢ 0 → (node.new ≡ 0) × (start.new ≡ 0) }
     ensures same { result ≢ 0 → store.new.room.value ≡ store.old.room.value }
     ensures nodes { nodes_in_handle store.new.room.value ≡ nodes_in_handle store.old.room.value }
@@ -198,18 +179,36 @@ pub extern "C" fn hlc_join_at(
     node: &mut u16,
     word: &mut u64,
 ) -> u32
-    ensures answer { OnStore store.old.room.value store.new.room.value
+    ensures answer { OnStorePast store.old.room.value store.new.room.value
         ((result ≡ 100) × (node.new ≡ 0) × (word.new ≡ 0))
-        (λ old new. (past : List Step) → Represents old past
-        → ReturnsJoinedAt old new start past result node.new word.new) }
+        (λ old new past. ReturnsJoinedAt old new start past result node.new word.new) }
     ensures nothing { result ≢ 0 → node.new ≡ 0 }
     ensures same { result ≢ 0 → store.new.room.value ≡ store.old.room.value }
     ensures nodes { nodes_in_handle store.new.room.value ≡ nodes_in_handle store.old.room.value }
 {
-    *node = 0;
-    *word = 0;
     let start = Stamp::from_bits(start);
-    on_core!(alloc, store, |core| {
+    on_core!(alloc, store, [node, word], |core| {
         open_store::join_at(core, start, node, word)
+    })
+}
+
+/// Accepts writes and deletions in turn, until one is refused. Returns 0, or the answer for the refused one, its word,
+/// and how many were accepted before it. The answer is 103 for an entry whose bytes are not there.
+#[unsafe(no_mangle)]
+pub extern "C" fn hlc_accept_all(
+    alloc: Global,
+    store: &mut Store,
+    entries: &[Entry],
+    bytes: &[u8],
+    many: &mut usize,
+    word: &mut u64,
+) -> u32
+    ensures answer { OnStorePast store.old.room.value store.new.room.value
+        ((result ≡ 100) × (many.new ≡ 0) × (word.new ≡ 0))
+        (λ old new past. AreEntered new entries.now bytes.now past result many.new word.new) }
+    ensures nodes { nodes_in_handle store.new.room.value ≡ nodes_in_handle store.old.room.value }
+{
+    on_core!(alloc, store, [many, word], |core| {
+        enter_all(core, entries, bytes, many, word)
     })
 }

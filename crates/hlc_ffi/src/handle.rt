@@ -1,7 +1,12 @@
 //! How a call uses what a handle contains.
 
-/// Makes a call on the core of an open store, and puts the core back. Returns 100 for a closed store.
+/// Makes a call on the core of an open store, and puts the core back. Returns 100 for a closed store. The words in
+/// brackets are set to 0 first.
 macro_rules! on_core {
+    ($alloc:expr, $store:expr, [$($word:ident),*], |$core:ident| $call:expr) => {{
+        $(*$word = 0;)*
+        on_core!($alloc, $store, |$core| $call)
+    }};
     ($alloc:expr, $store:expr, |$core:ident| $call:expr) => {
         match $store.take($alloc) {
             None => 100,
@@ -16,8 +21,13 @@ macro_rules! on_core {
     };
 }
 
-/// Makes a call that only reads the core of an open store. Returns 100 for a closed store.
+/// Makes a call that only reads the core of an open store. Returns 100 for a closed store. The words in brackets are
+/// set to 0 first.
 macro_rules! of_core {
+    ($reader:expr, [$($word:ident),*], |$core:ident| $call:expr) => {{
+        $(*$word = 0;)*
+        of_core!($reader, |$core| $call)
+    }};
     ($reader:expr, |$core:ident| $call:expr) => {
         match $reader.take() {
             None => 100,

@@ -6,14 +6,12 @@ ghost use Rattle.std.specs.Prelude.{◌≡◌, None};
 ghost use Rattle.hlc_ffi.specs.Handle.{IsOpening};
 
 pub mod accept;
-pub mod batch;
 mod handle;
 pub mod log;
 pub mod node;
 pub mod output;
 pub mod pieces;
 pub mod read;
-pub mod records;
 pub mod saved;
 pub mod status;
 pub mod texts;

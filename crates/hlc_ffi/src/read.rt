@@ -1,21 +1,28 @@
 //! The calls that read a store.
 ghost use Rattle.std.specs.Prelude.{◌≡◌, ◌≢◌, List, length, true, false};
-ghost use Rattle.hlc_core.specs.Past.{Step, closed_all, floor, stamp_of, writes};
+ghost use Rattle.hlc_core.specs.Past.{closed_all, floor, stamp_of, writes};
 ghost use Rattle.hlc_core.specs.StoreView.{Represents, nodes};
 ghost use Rattle.hlc_calls.specs.Answers.{ReturnsOpened, ReturnsOpenedAtFloor, ReturnsClosed, ReturnsRead};
 ghost use Rattle.hlc_calls.specs.Answers.{ReturnsSizes, narrowed};
-ghost use Rattle.hlc_calls.specs.Listing.{ReturnsListing};
+ghost use Rattle.hlc_calls.specs.ReadAll.{ReturnsAll};
+ghost use Rattle.hlc_range_calls.specs.Listing.{ReturnsListing};
 ghost use Rattle.hlc_calls.specs.Digest.{ReturnsDigest};
-ghost use Rattle.hlc_calls.specs.Scan.{ReturnsScan, ReturnsCount};
-ghost use Rattle.hlc_ffi.specs.Handle.{OnStore, nodes_in_handle, OnReader};
+ghost use Rattle.hlc_range_calls.specs.Scan.{ReturnsScan, ReturnsScanBack, ReturnsCount};
+ghost use Rattle.hlc_range_calls.specs.Changes.{ReturnsChanges};
+ghost use Rattle.hlc_range_calls.specs.Versions.{ReturnsVersions};
+ghost use Rattle.hlc_ffi.specs.Handle.{OnStorePast, nodes_in_handle, OnReader, OnReaderPast, ListsNothing};
 
 use crate::handle::{of_core, on_core};
 use hlc_calls::digest::digest;
-use hlc_calls::list::list;
 use hlc_calls::open_store;
-use hlc_calls::scan::{count, scan};
+use hlc_calls::read_all::{Place, read_all};
 use hlc_core::{Core, Stamp};
 use hlc_handle::{Reader, Store};
+use hlc_range_calls::changes::changes;
+use hlc_range_calls::list::list;
+use hlc_range_calls::scan::{count, scan};
+use hlc_range_calls::scan_back::scan_back;
+use hlc_range_calls::versions::versions;
 use std::alloc::Global;
 
 /// Opens a snapshot at a stamp. Returns 0 and its id, or a refusal and its word.
@@ -26,18 +33,15 @@ pub extern "C" fn hlc_open_snapshot(
     stamp: u64,
     id: &mut u64,
 ) -> u32
-    ensures answer { OnStore store.old.room.value store.new.room.value
-        ((result ≡ 100) × (id.new ≡ 0)) (λ old new. (past : List Step) → Represents old past
-        → ReturnsOpened old new stamp past result id.new) }
+    ensures answer { OnStorePast store.old.room.value store.new.room.value
+        ((result ≡ 100) × (id.new ≡ 0))
+        (λ old new past. ReturnsOpened old new stamp past result id.new) }
     ensures same { result ≢ 0 → store.new.room.value ≡ store.old.room.value }
     ensures nodes { nodes_in_handle store.new.room.value ≡ nodes_in_handle store.old.room.value }
 {
-    *id = 0;
-    on_core!(
-        alloc,
-        store,
-        |core| open_store::open(core, Stamp::from_bits(stamp), id)
-    )
+    on_core!(alloc, store, [id], |core| {
+        open_store::open(core, Stamp::from_bits(stamp), id)
+    })
 }
 
 /// Opens a snapshot at the floor (closed timestamp). Returns 0, its id and its stamp, or a refusal.
@@ -48,10 +52,9 @@ pub extern "C" fn hlc_open_snapshot_at_floor(
     id: &mut u64,
     stamp: &mut u64,
 ) -> u32
-    ensures answer { OnStore store.old.room.value store.new.room.value
+    ensures answer { OnStorePast store.old.room.value store.new.room.value
         ((result ≡ 100) × (id.new ≡ 0) × (stamp.new ≡ 0))
-        (λ old new. (past : List Step) → Represents old past
-        → ReturnsOpenedAtFloor old new past result id.new stamp.new) }
+        (λ old new past. ReturnsOpenedAtFloor old new past result id.new stamp.new) }
     ensures nothing { result ≢ 0 → stamp.new ≡ 0 }
     ensures same { result ≢ 0 → store.new.room.value ≡ store.old.room.value }
     ensures nodes { nodes_in_handle store.new.room.value ≡ nodes_in_handle store.old.room.value }
@@ -70,10 +73,10 @@ pub extern "C" fn hlc_read(
     out: &mut [u8],
     len: &mut usize,
 ) -> u32
-    ensures answer { OnReader store.old.room.value
+    ensures answer { OnReaderPast store.old.room.value
         ((result ≡ 100) × (len.new ≡ 0) × (out.new ≡ out.old))
-        (λ core. (past : List Step) → Represents core past → ReturnsRead
-        (stamp_of id past) (writes past) key.now result len.new out.old out.new) }
+        (λ core past. ReturnsRead (stamp_of id past) (writes past) key.now
+        result len.new out.old out.new) }
     ensures same { store.new.room.value ≡ store.old.room.value }
 {
     *len = 0;
@@ -88,9 +91,9 @@ pub extern "C" fn hlc_close_snapshot(
     id: u64,
     stamp: &mut u64,
 ) -> u32
-    ensures answer { OnStore store.old.room.value store.new.room.value
-        ((result ≡ 100) × (stamp.new ≡ 0)) (λ old new. (past : List Step) → Represents old past
-        → ReturnsClosed new id past result stamp.new) }
+    ensures answer { OnStorePast store.old.room.value store.new.room.value
+        ((result ≡ 100) × (stamp.new ≡ 0))
+        (λ old new past. ReturnsClosed new id past result stamp.new) }
     ensures same { result ≢ 0 → store.new.room.value ≡ store.old.room.value }
     ensures nodes { nodes_in_handle store.new.room.value ≡ nodes_in_handle store.old.room.value }
 {
@@ -101,9 +104,8 @@ pub extern "C" fn hlc_close_snapshot(
 /// Closes all open snapshots. Returns 0. It takes no memory.
 #[unsafe(no_mangle)]
 pub extern "C" fn hlc_close_all(alloc: Global, store: &mut Store) -> u32
-    ensures answer { OnStore store.old.room.value store.new.room.value (result ≡ 100)
-        (λ old new. (past : List Step) → Represents old past
-        → (result ≡ 0) × Represents new (closed_all old.snapshots past)) }
+    ensures answer { OnStorePast store.old.room.value store.new.room.value (result ≡ 100)
+        (λ old new past. (result ≡ 0) × Represents new (closed_all old.snapshots past)) }
     ensures nodes { nodes_in_handle store.new.room.value ≡ nodes_in_handle store.old.room.value }
 {
     on_core!(alloc, store, |core| {
@@ -115,13 +117,11 @@ pub extern "C" fn hlc_close_all(alloc: Global, store: &mut Store) -> u32
 /// Returns 0 and the floor. It takes no memory.
 #[unsafe(no_mangle)]
 pub extern "C" fn hlc_floor(store: &mut Reader, stamp: &mut u64) -> u32
-    ensures answer { OnReader store.old.room.value
-        ((result ≡ 100) × (stamp.new ≡ 0)) (λ core. (past : List Step) → Represents core past
-        → (result ≡ 0) × (stamp.new ≡ floor (nodes core) past)) }
+    ensures answer { OnReaderPast store.old.room.value ((result ≡ 100) × (stamp.new ≡ 0))
+        (λ core past. (result ≡ 0) × (stamp.new ≡ floor (nodes core) past)) }
     ensures same { store.new.room.value ≡ store.old.room.value }
 {
-    *stamp = 0;
-    of_core!(store, |core| {
+    of_core!(store, [stamp], |core| {
         *stamp = core.floor().bits();
         0
     })
@@ -135,8 +135,7 @@ pub extern "C" fn hlc_rows(store: &mut Reader, rows: &mut u64) -> u32
         (λ core. (result ≡ 0) × (rows.new ≡ narrowed (length core.rows))) }
     ensures same { store.new.room.value ≡ store.old.room.value }
 {
-    *rows = 0;
-    of_core!(store, |core| {
+    of_core!(store, [rows], |core| {
         *rows = open_store::rows(core);
         0
     })
@@ -156,11 +155,7 @@ pub extern "C" fn hlc_sizes(
         × ReturnsSizes core.rows rows.new keys.new key_bytes.new value_bytes.new) }
     ensures same { store.new.room.value ≡ store.old.room.value }
 {
-    *rows = 0;
-    *keys = 0;
-    *key_bytes = 0;
-    *value_bytes = 0;
-    of_core!(store, |core| {
+    of_core!(store, [rows, keys, key_bytes, value_bytes], |core| {
         open_store::sizes(core, rows, keys, key_bytes, value_bytes);
         0
     })
@@ -170,15 +165,14 @@ pub extern "C" fn hlc_sizes(
 /// fit, the bytes: of each key its length in eight bytes, the key, and the same of its value; or 10. No memory.
 #[unsafe(no_mangle)]
 pub extern "C" fn hlc_list(store: &mut Reader, id: u64, out: &mut [u8], len: &mut usize) -> u32
-    ensures answer { OnReader store.old.room.value
-        ((result ≡ 100) × (len.new ≡ 0) × (out.new ≡ out.old)) (λ core. (past : List Step)
-        → Represents core past
-        → ReturnsListing (stamp_of id past) (writes past) result len.new out.old out.new) }
+    ensures answer { OnReaderPast store.old.room.value
+        ((result ≡ 100) × (len.new ≡ 0) × (out.new ≡ out.old))
+        (λ core past. ReturnsListing (stamp_of id past) (writes past)
+        result len.new out.old out.new) }
     ensures nothing { result ≢ 0 → (len.new ≡ 0) × (out.new ≡ out.old) }
     ensures same { store.new.room.value ≡ store.old.room.value }
 {
-    *len = 0;
-    of_core!(store, |core| list(core, id, out, len))
+    of_core!(store, [len], |core| list(core, id, out, len))
 }
 
 /// Lists keys from one on and below another, if that has bytes, as `hlc_list`, but only as many whole pairs as fit.
@@ -193,18 +187,14 @@ pub extern "C" fn hlc_scan(
     len: &mut usize,
     many: &mut usize,
 ) -> u32
-    ensures answer { OnReader store.old.room.value
-        ((result ≡ 100) × (len.new ≡ 0) × (many.new ≡ 0) × (out.new ≡ out.old))
-        (λ core. (past : List Step) → Represents core past → ReturnsScan false (stamp_of id past) (writes past)
-        from.now to.now result len.new many.new out.old out.new) }
+    ensures answer { OnReaderPast store.old.room.value
+        (ListsNothing result len.new many.new out.old out.new) (λ core past. ReturnsScan false
+        (stamp_of id past) (writes past) from.now to.now result len.new many.new out.old out.new) }
     ensures same { store.new.room.value ≡ store.old.room.value }
 {
-    *len = 0;
-    *many = 0;
-    of_core!(
-        store,
-        |core| scan(core, id, from, to, false, out, len, many)
-    )
+    of_core!(store, [len, many], |core| {
+        scan(core, id, from, to, false, out, len, many)
+    })
 }
 
 /// Lists such a range as `hlc_scan` does, but the keys alone: for each its length, and the key.
@@ -218,15 +208,84 @@ pub extern "C" fn hlc_scan_keys(
     len: &mut usize,
     many: &mut usize,
 ) -> u32
-    ensures answer { OnReader store.old.room.value
-        ((result ≡ 100) × (len.new ≡ 0) × (many.new ≡ 0) × (out.new ≡ out.old))
-        (λ core. (past : List Step) → Represents core past → ReturnsScan true (stamp_of id past) (writes past)
-        from.now to.now result len.new many.new out.old out.new) }
+    ensures answer { OnReaderPast store.old.room.value
+        (ListsNothing result len.new many.new out.old out.new) (λ core past. ReturnsScan true
+        (stamp_of id past) (writes past) from.now to.now result len.new many.new out.old out.new) }
     ensures same { store.new.room.value ≡ store.old.room.value }
 {
     *len = 0;
     *many = 0;
     of_core!(store, |core| scan(core, id, from, to, true, out, len, many))
+}
+
+/// Lists such a range as `hlc_scan` does, but the last key first, and as many whole pairs as fit from the end: the
+/// next call has the last key that was returned as its `to`. It takes no memory.
+#[unsafe(no_mangle)]
+pub extern "C" fn hlc_scan_back(
+    store: &mut Reader,
+    id: u64,
+    from: &[u8],
+    to: &[u8],
+    out: &mut [u8],
+    len: &mut usize,
+    many: &mut usize,
+) -> u32
+    ensures answer { OnReaderPast store.old.room.value
+        (ListsNothing result len.new many.new out.old out.new) (λ core past. ReturnsScanBack
+        (stamp_of id past) (writes past) from.now to.now result len.new many.new out.old out.new) }
+    ensures same { store.new.room.value ≡ store.old.room.value }
+{
+    of_core!(store, [len, many], |core| {
+        scan_back(core, id, from, to, out, len, many)
+    })
+}
+
+/// Lists the keys of such a range whose answers in two snapshots differ: for each its length in eight bytes, the key,
+/// and its answer in the second, a byte 0, or 1 and the value after its length. As many whole ones as fit: returns 0 or
+/// 104, the length and the number of them; or 10. It takes no memory.
+#[unsafe(no_mangle)]
+pub extern "C" fn hlc_changes(
+    store: &mut Reader,
+    before: u64,
+    after: u64,
+    from: &[u8],
+    to: &[u8],
+    out: &mut [u8],
+    len: &mut usize,
+    many: &mut usize,
+) -> u32
+    ensures answer { OnReaderPast store.old.room.value
+        (ListsNothing result len.new many.new out.old out.new)
+        (λ core past. ReturnsChanges (stamp_of before past) (stamp_of after past) (writes past)
+        from.now to.now result len.new many.new out.old out.new) }
+    ensures same { store.new.room.value ≡ store.old.room.value }
+{
+    of_core!(store, [len, many], |core| {
+        changes(core, before, after, from, to, out, len, many)
+    })
+}
+
+/// Lists the stored rows of a key above one stamp and at or below another, the newest first: for each its stamp in
+/// eight bytes, its node in two, and its answer as `hlc_changes`. Returns 0, their bytes, their number and, where all
+/// fit, the bytes. It takes no memory.
+#[unsafe(no_mangle)]
+pub extern "C" fn hlc_versions(
+    store: &mut Reader,
+    key: &[u8],
+    above: u64,
+    to: u64,
+    out: &mut [u8],
+    len: &mut usize,
+    many: &mut usize,
+) -> u32
+    ensures answer { OnReader store.old.room.value
+        (ListsNothing result len.new many.new out.old out.new) (λ core. ReturnsVersions core
+        key.now above to result len.new many.new out.old out.new) }
+    ensures same { store.new.room.value ≡ store.old.room.value }
+{
+    of_core!(store, [len, many], |core| {
+        versions(core, key, above, to, out, len, many)
+    })
 }
 
 /// Returns 0 and how many keys of such a range have a value in a snapshot, 2^64 - 1 for more; or 10. No memory.
@@ -238,13 +297,12 @@ pub extern "C" fn hlc_count(
     to: &[u8],
     many: &mut u64,
 ) -> u32
-    ensures answer { OnReader store.old.room.value
-        ((result ≡ 100) × (many.new ≡ 0)) (λ core. (past : List Step) → Represents core past
-        → ReturnsCount (stamp_of id past) (writes past) from.now to.now result many.new) }
+    ensures answer { OnReaderPast store.old.room.value ((result ≡ 100) × (many.new ≡ 0))
+        (λ core past. ReturnsCount (stamp_of id past) (writes past)
+        from.now to.now result many.new) }
     ensures same { store.new.room.value ≡ store.old.room.value }
 {
-    *many = 0;
-    of_core!(store, |core| count(core, id, from, to, many))
+    of_core!(store, [many], |core| count(core, id, from, to, many))
 }
 
 /// Returns 0, 32 and, where it fits, the SHA-256 of what `hlc_list` would return for such a range; or 10. No memory.
@@ -257,12 +315,35 @@ pub extern "C" fn hlc_digest(
     out: &mut [u8],
     len: &mut usize,
 ) -> u32
-    ensures answer { OnReader store.old.room.value
+    ensures answer { OnReaderPast store.old.room.value
         ((result ≡ 100) × (len.new ≡ 0) × (out.new ≡ out.old))
-        (λ core. (past : List Step) → Represents core past → ReturnsDigest (stamp_of id past)
-        (writes past) from.now to.now result len.new out.old out.new) }
+        (λ core past. ReturnsDigest (stamp_of id past) (writes past) from.now to.now
+        result len.new out.old out.new) }
     ensures same { store.new.room.value ≡ store.old.room.value }
 {
-    *len = 0;
-    of_core!(store, |core| digest(core, id, from, to, out, len))
+    of_core!(store, [len], |core| digest(core, id, from, to, out, len))
+}
+
+/// Reads keys in a snapshot in turn, each at a place among the bytes, and writes for each a byte 0, or 1 and the value
+/// after its length of eight bytes. Returns 0; or 103 where the bytes do not have the next key, or 104 where its answer
+/// does not fit; with the length and the number of the answers before it; or 10. It takes no memory.
+#[unsafe(no_mangle)]
+pub extern "C" fn hlc_read_all(
+    store: &mut Reader,
+    id: u64,
+    places: &[Place],
+    bytes: &[u8],
+    out: &mut [u8],
+    len: &mut usize,
+    many: &mut usize,
+) -> u32
+    ensures answer { OnReaderPast store.old.room.value
+        (ListsNothing result len.new many.new out.old out.new) (λ core past. ReturnsAll
+        (stamp_of id past) (writes past) places.now bytes.now
+        result len.new many.new out.old out.new) }
+    ensures same { store.new.room.value ≡ store.old.room.value }
+{
+    of_core!(store, [len, many], |core| {
+        read_all(core, id, places, bytes, out, len, many)
+    })
 }

@@ -1,9 +1,9 @@
 //! What a store has: its horizon, its nodes and its open snapshots. No call takes memory.
 ghost use Rattle.std.specs.Prelude.{◌≡◌, List, false, slice_get};
-ghost use Rattle.hlc_core.specs.Past.{Step, horizon, numbered, open_snapshots};
-ghost use Rattle.hlc_core.specs.StoreView.{Represents, nodes};
+ghost use Rattle.hlc_core.specs.Past.{horizon, numbered, open_snapshots};
+ghost use Rattle.hlc_core.specs.StoreView.{nodes};
 ghost use Rattle.hlc_calls.specs.Status.{ReturnsLink, ReturnsHolder, ReturnsSnapshot};
-ghost use Rattle.hlc_ffi.specs.Handle.{OnReader};
+ghost use Rattle.hlc_ffi.specs.Handle.{OnReaderPast};
 
 use crate::handle::of_core;
 use hlc_calls::status;
@@ -12,13 +12,11 @@ use hlc_handle::Reader;
 /// Returns 0 and the horizon (GC threshold): the stamp of the last vacuum, or part of one, or 0 before the first.
 #[unsafe(no_mangle)]
 pub extern "C" fn hlc_horizon(store: &mut Reader, stamp: &mut u64) -> u32
-    ensures answer { OnReader store.old.room.value
-        ((result ≡ 100) × (stamp.new ≡ 0)) (λ core. (past : List Step) → Represents core past
-        → (result ≡ 0) × (stamp.new ≡ horizon past)) }
+    ensures answer { OnReaderPast store.old.room.value ((result ≡ 100) × (stamp.new ≡ 0))
+        (λ core past. (result ≡ 0) × (stamp.new ≡ horizon past)) }
     ensures same { store.new.room.value ≡ store.old.room.value }
 {
-    *stamp = 0;
-    of_core!(store, |core| {
+    of_core!(store, [stamp], |core| {
         *stamp = core.horizon().bits();
         0
     })
@@ -27,13 +25,11 @@ pub extern "C" fn hlc_horizon(store: &mut Reader, stamp: &mut u64) -> u32
 /// Returns 0 and how many node numbers are assigned, those of retired nodes too.
 #[unsafe(no_mangle)]
 pub extern "C" fn hlc_nodes(store: &mut Reader, many: &mut u64) -> u32
-    ensures answer { OnReader store.old.room.value
-        ((result ≡ 100) × (many.new ≡ 0)) (λ core. (past : List Step) → Represents core past
-        → (result ≡ 0) × (many.new ≡ numbered (nodes core) past)) }
+    ensures answer { OnReaderPast store.old.room.value ((result ≡ 100) × (many.new ≡ 0))
+        (λ core past. (result ≡ 0) × (many.new ≡ numbered (nodes core) past)) }
     ensures same { store.new.room.value ≡ store.old.room.value }
 {
-    *many = 0;
-    of_core!(store, |core| {
+    of_core!(store, [many], |core| {
         *many = status::nodes(core);
         0
     })
@@ -48,10 +44,9 @@ pub extern "C" fn hlc_link(
     head: &mut u64,
     retired: &mut bool,
 ) -> u32
-    ensures answer { OnReader store.old.room.value
+    ensures answer { OnReaderPast store.old.room.value
         ((result ≡ 100) × (next.new ≡ 0) × (head.new ≡ 0) × (retired.new ≡ false))
-        (λ core. (past : List Step) → Represents core past → ReturnsLink (nodes core) node past
-        result next.new head.new retired.new) }
+        (λ core past. ReturnsLink (nodes core) node past result next.new head.new retired.new) }
     ensures same { store.new.room.value ≡ store.old.room.value }
 {
     *next = 0;
@@ -63,22 +58,19 @@ pub extern "C" fn hlc_link(
 /// Returns 0 and the first node that holds the floor back: its head is the floor. Or 1, where all nodes have retired.
 #[unsafe(no_mangle)]
 pub extern "C" fn hlc_floor_node(store: &mut Reader, node: &mut u64) -> u32
-    ensures answer { OnReader store.old.room.value
-        ((result ≡ 100) × (node.new ≡ 0)) (λ core. (past : List Step) → Represents core past
-        → ReturnsHolder (nodes core) past result node.new) }
+    ensures answer { OnReaderPast store.old.room.value ((result ≡ 100) × (node.new ≡ 0))
+        (λ core past. ReturnsHolder (nodes core) past result node.new) }
     ensures same { store.new.room.value ≡ store.old.room.value }
 {
-    *node = 0;
-    of_core!(store, |core| status::floor_node(core, node))
+    of_core!(store, [node], |core| status::floor_node(core, node))
 }
 
 /// Returns 0, the id and the stamp of the open snapshot at a place, by rising ids; or 10 after the last.
 #[unsafe(no_mangle)]
 pub extern "C" fn hlc_snapshot(store: &mut Reader, place: u64, id: &mut u64, stamp: &mut u64) -> u32
-    ensures answer { OnReader store.old.room.value
-        ((result ≡ 100) × (id.new ≡ 0) × (stamp.new ≡ 0)) (λ core. (past : List Step)
-        → Represents core past
-        → ReturnsSnapshot (slice_get (open_snapshots past) place) result id.new stamp.new) }
+    ensures answer { OnReaderPast store.old.room.value
+        ((result ≡ 100) × (id.new ≡ 0) × (stamp.new ≡ 0)) (λ core past. ReturnsSnapshot
+        (slice_get (open_snapshots past) place) result id.new stamp.new) }
     ensures same { store.new.room.value ≡ store.old.room.value }
 {
     *id = 0;

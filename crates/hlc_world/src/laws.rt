@@ -44,8 +44,8 @@ pub fn open_snapshots_are_closed()
 {}
 
 /// A world is faithful to each schedule that it represents. Its store is faithful to its history: reads returned the
-/// newest accepted values, no answer of a snapshot changed, vacuums were the least and the cheapest, and left the fewest
-/// rows. That history has each moment of the schedule, and what can be read is closed under happened-before.
+/// newest accepted values, no answer of a snapshot changed, vacuums were the least and the cheapest, and left the
+/// fewest rows. That history has each moment of the schedule, and what can be read is closed under happened-before.
 pub fn worlds_are_faithful()
     ensures { (state : WorldView) (schedule : List (AnEvent × AReply)) → Represents state schedule
         → IsFaithful (world_nodes state) schedule state.core.rows }

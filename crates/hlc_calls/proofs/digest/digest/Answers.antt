@@ -1,6 +1,6 @@
 -- The pairs of the view's range are those of the snapshot.
 use Rattle.std.proofs.Common.{rules}
-use Rattle.hlc_calls.proofs.Scans.{digested_at}
+use Rattle.hlc_calls.proofs.Digests.{digested_at}
 use Rattle.hlc_calls.proofs.digest.digest.Goals as goal
 
 pub returns : goal.returns

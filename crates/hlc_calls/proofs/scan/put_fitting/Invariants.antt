@@ -1,6 +1,0 @@
--- The pairs so far are at the start of the buffer.
-use Rattle.hlc_calls.proofs.Scans.{PutSoFar}
-use Rattle.hlc_calls.proofs.scan.put_fitting.Given as goal
-
-abbrev pub invariant-loop-key : goal.invariant-loop-key
-invariant-loop-key l = PutSoFar l.fn.alone l.fn.answers l.key-iterator l.at l.count l.fn.out l.out

@@ -1,0 +1,5 @@
+pub mod Bytes
+pub mod Pairs
+pub mod Scans
+pub mod Differing
+pub mod Rowing

@@ -1,0 +1,4 @@
+pub mod Listing
+pub mod Scan
+pub mod Changes
+pub mod Versions
