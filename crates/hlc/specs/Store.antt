@@ -6,9 +6,11 @@ pub use Rattle.hlc_core.specs.Past.{join_at_refusal, room_refusal, vacuum_refusa
 pub use Rattle.hlc_core.specs.Replicas.{items_of, joins_of, AreReplicas, CanMeet}
 pub use Rattle.hlc_core.specs.StoreView.{StoreView, nodes, Represents}
 pub use Rattle.hlc_core.specs.Calls.{IsWrite, IsRefusal, IsListed, AreRowsTo, AreSizes, AreVersions, Vacuums}
+pub use Rattle.hlc_core.specs.Certified.{Certifies, IsCertified, AreNotFewest}
 pub use Rattle.hlc_core.specs.Differences.{AreDifferences, Compares, patched}
 pub use Rattle.hlc_core.specs.Parts.{rows_of_keys, IsPartReport, Trims, EndsAt, VacuumsPart}
 pub use Rattle.hlc_core.specs.Stored.{AreVacuumPoints, IsReport}
 pub use Rattle.hlc_passes.specs.Pass.{Part, ArePass, left_by, together, report_of}
-pub use Rattle.hlc_events.specs.Faults.{core_code, core_word}
+pub use Rattle.hlc_events.specs.Faults.{core_code, core_word, certificate_fault_code, certificate_fault_word}
 pub use Rattle.hlc_events.specs.declared.fault.CoreFault.{CoreFault}
+pub use Rattle.hlc_events.specs.declared.certificate_fault.CertificateFault.{CertificateFault}

@@ -44,6 +44,7 @@ answer_words answer =
     else if answer == 106 then (codes "HLC_BAD_BYTES", codes "the bytes are not an encoding")
     else if answer == 107 then (codes "HLC_NO_CHECKPOINT", codes "the content of the bytes is no checkpoint")
     else if answer == 108 then (codes "HLC_HAS_BYTES", codes "the output has bytes already")
+    else if answer == 109 then (codes "HLC_NOT_FEWEST", codes "a row at or below the stamp would be dropped")
     else ([], [])
 
 abbrev pub answer_name : ℕ → List ℕ

@@ -67,6 +67,10 @@ fn words(answer: u32) -> (&'static str, &'static str)
             "the content of the bytes is no checkpoint",
         ),
         108 => ("HLC_HAS_BYTES", "the output has bytes already"),
+        109 => (
+            "HLC_NOT_FEWEST",
+            "a row at or below the stamp would be dropped",
+        ),
         _ => ("", ""),
     }
 }

@@ -1,4 +1,5 @@
 pub mod Batches
+pub mod Certificates
 pub mod Refusals
 pub mod Holders
 pub mod Logs

@@ -1,39 +1,38 @@
--- How a vacuum's certificate is returned.
-use Rattle.std.specs.Prelude.{◌≡◌, ◌⊎◌, ℕ, List, ◌∷◌, None}
+-- How the certificate of the rows at or below a stamp is returned.
+use Rattle.std.specs.Prelude.{◌≡◌, ◌⊎◌, ℕ, List, Ok, Err}
 use Rattle.hlc_node.specs.declared.row.Row.{Row}
 use Rattle.hlc_draft.specs.declared.report.Report.{Report}
-use Rattle.hlc_core.specs.Past.{Step, Vacuumed, floor, vacuum_refusal}
-use Rattle.hlc_core.specs.StoreView.{StoreView, nodes, Represents}
-use Rattle.hlc_core.specs.Calls.{Vacuums, AreRowsTo}
+use Rattle.hlc_events.specs.declared.certificate_fault.CertificateFault.{CertificateFault}
+use Rattle.hlc_events.specs.Faults.{certificate_fault_code, certificate_fault_word}
+use Rattle.hlc_core.specs.Past.{Step}
+use Rattle.hlc_core.specs.StoreView.{StoreView}
+use Rattle.hlc_core.specs.Calls.{AreRowsTo}
+use Rattle.hlc_core.specs.Certified.{Certifies}
 use Rattle.hlc_certificate.specs.CertificateText.{certificate_text}
-use Rattle.hlc_calls.specs.Outcome.{IsAnswered}
-use Rattle.hlc_calls.specs.Answers.{AreNumbers}
+use Rattle.hlc_calls.specs.Answers.{narrowed}
+use Rattle.hlc_calls.specs.Check.{ReturnsCheck}
 
--- a vacuum to the stamp took place; the numbers of its report are returned, and the text of the certificate of the
--- rows up to it
-abbrev pub IsCertified : StoreView → StoreView → ℕ → List Step → ℕ → ℕ → ℕ → ℕ → List ℕ → Type 0
-IsCertified old new at past floor kept bytes dropped text =
-    (report : Report) × (rows : List Row) × Vacuums old new at past report × AreRowsTo new.rows report.floor rows
-    × AreNumbers report floor kept bytes dropped × (text ≡ certificate_text report.points rows report.witnesses)
+-- a check of the text shows that so many rows are the fewest, and their cost; or memory runs out for it
+abbrev pub IsShown : List ℕ → ℕ → ℕ → Type 0
+IsShown text kept bytes = (code rows cost word : ℕ) → ReturnsCheck text code rows cost word
+    → ((code ≡ 0) × (rows ≡ kept) × (cost ≡ bytes)) ⊎ (code ≡ 15)
 
--- the same of a vacuum to the floor
-abbrev pub IsCertifiedAtFloor : StoreView → StoreView → List Step → ℕ → ℕ → ℕ → ℕ → List ℕ → Type 0
-IsCertifiedAtFloor old new past stamp kept bytes dropped text =
-    IsCertified old new (floor (nodes old) past) past stamp kept bytes dropped text
+-- these rows are certified: how many they are and what they cost is returned, and the text of the certificate, which a
+-- check accepts
+pub record ReturnsCertificate (core : StoreView) (at : ℕ) (past : List Step) (word kept bytes : ℕ)
+    (text : List ℕ) : Type 0 where
+  pub report : Report
+  pub rows : List Row
+  pub certifies : Certifies core at past (Ok report)
+  pub are_rows : AreRowsTo core.rows at rows
+  pub no_word : word ≡ 0
+  pub number : kept ≡ report.kept
+  pub cost : bytes ≡ narrowed report.bytes
+  pub printed : text ≡ certificate_text report.points rows report.witnesses
+  pub shown : IsShown text kept bytes
 
--- out of memory: nothing took place, or the vacuum took place and there was no memory for its certificate
-abbrev pub IsHalf : StoreView → StoreView → ℕ → List Step → Type 0
-IsHalf old new at past = (new ≡ old) ⊎ Represents new (Vacuumed at ∷ past)
-
-abbrev pub IsHalfAtFloor : StoreView → StoreView → List Step → Type 0
-IsHalfAtFloor old new past = IsHalf old new (floor (nodes old) past) past
-
--- no refusal of a vacuum to the stamp was expected, and it is certified
-abbrev pub IsCertifiedTo : StoreView → StoreView → ℕ → List Step → ℕ → ℕ → ℕ → ℕ → List ℕ → Type 0
-IsCertifiedTo old new at past stamp kept bytes dropped text =
-    (vacuum_refusal (nodes old) past at ≡ None) × IsCertified old new at past stamp kept bytes dropped text
-
--- the vacuum to the stamp was refused, and the reason is returned; or, with 15, there was no memory for both
-abbrev pub IsNotCertified : StoreView → StoreView → ℕ → List Step → ℕ → ℕ → Type 0
-IsNotCertified old new at past code returned =
-    IsAnswered (vacuum_refusal (nodes old) past at) (IsHalf old new at past) ⊥ code returned
+-- they are not, for this reason, whose number and word are returned
+abbrev pub ReturnsNoCertificate : StoreView → ℕ → List Step → ℕ → ℕ → Type 0
+ReturnsNoCertificate core at past code word =
+    (fault : CertificateFault) × Certifies core at past (Err fault)
+    × (code ≡ certificate_fault_code fault) × (word ≡ certificate_fault_word fault)

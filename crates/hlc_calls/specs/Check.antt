@@ -1,6 +1,5 @@
 -- How the check of a certificate's text is returned.
-use Rattle.std.specs.Prelude.{◌≡◌, ◌⊎◌, ◌<◌, ◌≤◌, ℕ, List, length}
-use Rattle.hlc_text.specs.declared.input.TheConstants.{INPUT_LIMIT}
+use Rattle.std.specs.Prelude.{◌≡◌, ◌⊎◌, ℕ, List}
 use Rattle.hlc_text.specs.Lines.{lines_of}
 use Rattle.hlc_witness.specs.declared.reason.NotShown.{NotShown}
 use Rattle.hlc_witness.specs.Reasons.{reason_number}
@@ -12,18 +11,12 @@ use Rattle.hlc_calls.specs.Answers.{narrowed}
 abbrev pub IsBare : ℕ → ℕ → Type 0
 IsBare rows bytes = (rows ≡ 0) × (bytes ≡ 0)
 
--- the rows that the lines show to be the fewest and cheapest are counted; or the first reason against it is returned,
--- or the first bad line; or out of memory
-abbrev pub ReturnsShown : List (List ℕ) → ℕ → ℕ → ℕ → ℕ → Type 0
-ReturnsShown lines code rows bytes word =
-    ((code ≡ 0) × (word ≡ 0) × ((cost : ℕ) × ShowsFewest lines rows cost × (bytes ≡ narrowed cost)))
-    ⊎ (((code ≡ 22) × IsBare rows bytes
-    × ((reason : NotShown) × ShowsReason lines reason × (word ≡ reason_number reason)))
-    ⊎ (((code ≡ 16) × IsBare rows bytes × IsFirstBadLine lines word)
-    ⊎ ((code ≡ 15) × IsBare rows bytes × (word ≡ 0) × AreGoodLines lines)))
-
--- the same of a text; or it is too long
+-- the rows that the lines of the text show to be the fewest and cheapest are counted; or the first reason against it is
+-- returned, or the first bad line; or out of memory
 abbrev pub ReturnsCheck : List ℕ → ℕ → ℕ → ℕ → ℕ → Type 0
 ReturnsCheck text code rows bytes word =
-    ((length text ≤ INPUT_LIMIT) × ReturnsShown (lines_of text) code rows bytes word)
-    ⊎ ((INPUT_LIMIT < length text) × (code ≡ 20) × IsBare rows bytes × (word ≡ 0))
+    ((code ≡ 0) × (word ≡ 0) × ((cost : ℕ) × ShowsFewest (lines_of text) rows cost × (bytes ≡ narrowed cost)))
+    ⊎ (((code ≡ 22) × IsBare rows bytes
+    × ((reason : NotShown) × ShowsReason (lines_of text) reason × (word ≡ reason_number reason)))
+    ⊎ (((code ≡ 16) × IsBare rows bytes × IsFirstBadLine (lines_of text) word)
+    ⊎ ((code ≡ 15) × IsBare rows bytes × (word ≡ 0) × AreGoodLines (lines_of text))))

@@ -1,12 +1,22 @@
 //! Answers as the numbers that C gets: 0 or the number of a refusal, and a word with it.
 ghost use Rattle.std.specs.Prelude.{◌≡◌, MatchResult};
 ghost use Rattle.hlc_events.specs.Faults.{core_code, core_word};
+ghost use Rattle.hlc_events.specs.Faults.{certificate_fault_code, certificate_fault_word};
 
-use hlc_core::CoreFault;
+use hlc_core::{CertificateFault, CoreFault};
 
 /// Writes the word of a refusal, and returns its number.
 pub(crate) fn refuse(fault: &CoreFault, word: &mut u64) -> u32
     ensures { (result ≡ core_code fault.now) × (word.new ≡ core_word fault.now) }
+{
+    *word = fault.word();
+    fault.code()
+}
+
+/// Writes the word of the reason why there is no certificate, and returns its number.
+pub(crate) fn refuse_certificate(fault: &CertificateFault, word: &mut u64) -> u32
+    ensures { (result ≡ certificate_fault_code fault.now)
+        × (word.new ≡ certificate_fault_word fault.now) }
 {
     *word = fault.word();
     fault.code()

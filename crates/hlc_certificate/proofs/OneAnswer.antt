@@ -16,12 +16,13 @@ use Rattle.hlc_witness.specs.Cost.{AreInLimits, rows_cost}
 use Rattle.hlc_witness.specs.Reasons.{IsFault, IsFirstFault, IsFirstReason, AreSorted}
 use Rattle.hlc_witness.proofs.FaultLemmas.{changes_no_fault}
 use Rattle.hlc_certificate.specs.declared.check.CheckEnd.TheVariants.{Fewest, NotShown, BadLine, NoMemory, NotLoaded}
+use Rattle.hlc_certificate.specs.declared.check.CheckEnd.{CheckEnd}
 use Rattle.hlc_certificate.specs.declared.check.CheckEnd.TheVariants.{WriteFault}
 use Rattle.hlc_text.specs.declared.input.InputFault.TheVariants.{NoMemory as no_memory, ReadFault, TooLong}
 use Rattle.hlc_text.specs.Lines.{lines_of}
 use Rattle.hlc_certificate.specs.CheckLine.{check_line, HasCheckLine, says_point, says_row, says_witness, all_said}
 use Rattle.hlc_certificate.specs.CheckLine.{AreLinesOf, AreGoodLines, IsFirstBadLine}
-use Rattle.hlc_certificate.specs.Check.{ShowsFewest, ShowsReason}
+use Rattle.hlc_certificate.specs.Check.{ShowsFewest, ShowsReason, MayEnd}
 use Rattle.hlc_certificate.specs.OneAnswer.{OneAnswer}
 use Rattle.hlc_certificate.proofs.OneCertificate.{one_certificate}
 
@@ -343,6 +344,17 @@ fewest_good lines count bytes is = (is.points, is.rows, is.witnesses, is.lines_a
 
 reason_good : (lines : List (List ℕ)) (reason : AReason) → ShowsReason lines reason → AreGoodLines lines
 reason_good lines reason is = (is.points, is.rows, is.witnesses, is.lines_are)
+
+-- lines that show so many rows to be the fewest have no other end, except out of memory
+pub ends_fewest : (text : List ℕ) (count bytes : ℕ) (end : CheckEnd) → ShowsFewest (lines_of text) count bytes
+    → MayEnd text end → (end ≡ Fewest count bytes) ⊎ (end ≡ NoMemory)
+ends_fewest text count bytes (Fewest n k) is may = inl (fewest_once (lines_of text) n count k bytes may is)
+ends_fewest text count bytes (NotShown q) is may = absurd (not_both (lines_of text) count bytes q is may)
+ends_fewest text count bytes (BadLine n) is may =
+    absurd (bad_not_good (lines_of text) n may (fewest_good (lines_of text) count bytes is))
+ends_fewest text count bytes NoMemory is may = inr refl
+ends_fewest text count bytes (NotLoaded fault) is may = absurd may
+ends_fewest text count bytes WriteFault is may = absurd may
 
 pub one_answer : OneAnswer
 one_answer input (NotLoaded no_memory) finish is also e f = inr (inl refl)

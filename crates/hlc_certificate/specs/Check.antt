@@ -1,5 +1,5 @@
 -- What a check may answer for an input, and how it ends.
-use Rattle.std.specs.Prelude.{◌≡◌, ◌↔◌, ℕ, ◌<◌, ◌≤◌, List, [], ◌++◌, length, codes, decimal, Option, true, false, ⊤}
+use Rattle.std.specs.Prelude.{◌≡◌, ◌↔◌, ℕ, ◌<◌, ◌≤◌, List, [], ◌++◌, length, codes, decimal, Option, true, false}
 use Rattle.std.specs.Io.KnownBytes.{Consumes}
 use Rattle.hlc_text.specs.declared.input.TheConstants.{INPUT_LIMIT}
 use Rattle.hlc_text.specs.declared.watched.Watched.{Watched}
@@ -43,24 +43,22 @@ pub record ShowsReason (lines : List (List ℕ)) (reason : AReason) : Type 0 whe
   pub refused : IsCertificate rows points witnesses → ⊥
   pub first : IsFirstReason rows points witnesses reason
 
--- the possible ends for an input: a bad line comes before all that the lines say, even if memory runs out for that
+-- The possible ends of a check of a text in memory, however long it is: a bad line comes before all that the lines say,
+-- even if memory runs out for that.
+abbrev pub MayEnd : List ℕ → CheckEnd → Type 0
+MayEnd text (Fewest count bytes) = ShowsFewest (lines_of text) count bytes
+MayEnd text (NotShown reason) = ShowsReason (lines_of text) reason
+MayEnd text (BadLine number) = IsFirstBadLine (lines_of text) number
+MayEnd text NoMemory = (0 < length (lines_of text)) × AreGoodLines (lines_of text)
+MayEnd text (NotLoaded fault) = ⊥
+MayEnd text WriteFault = ⊥
+
+-- the possible ends for an input that is read: it was read whole and loaded, or the reason why not
 abbrev pub MayAnswer : List ℕ → CheckEnd → Type 0
-MayAnswer input (Fewest count bytes) = (length input ≤ INPUT_LIMIT) × ShowsFewest (lines_of input) count bytes
-MayAnswer input (NotShown reason) = (length input ≤ INPUT_LIMIT) × ShowsReason (lines_of input) reason
-MayAnswer input (BadLine number) = (length input ≤ INPUT_LIMIT) × IsFirstBadLine (lines_of input) number
-MayAnswer input NoMemory = (length input ≤ INPUT_LIMIT) × (0 < length (lines_of input)) × AreGoodLines (lines_of input)
 MayAnswer input (NotLoaded fault) = MayFault input fault
 -- a failed write is no answer, since it cuts the answer off
 MayAnswer input WriteFault = ⊥
-
--- the input was read whole and loaded, and then the check ended like this
-abbrev pub IsOfLoaded : CheckEnd → Type 0
-IsOfLoaded (Fewest count bytes) = ⊤
-IsOfLoaded (NotShown reason) = ⊤
-IsOfLoaded (BadLine number) = ⊤
-IsOfLoaded NoMemory = ⊤
-IsOfLoaded (NotLoaded fault) = ⊥
-IsOfLoaded WriteFault = ⊥
+MayAnswer input end = (length input ≤ INPUT_LIMIT) × MayEnd input end
 
 -- What may have been taken from the reader when a check ended, as for a run.
 abbrev pub MayTake : List ℕ → List ℕ → CheckEnd → Type 0

@@ -8,11 +8,11 @@ use Rattle.hlc_witness.specs.declared.witness.Witness.{Witness as AWitness}
 use Rattle.hlc_witness.specs.Certificate.{IsCertificate}
 use Rattle.hlc_witness.specs.Cost.{rows_cost}
 use Rattle.hlc_certificate.specs.declared.check.CheckEnd.{CheckEnd}
-use Rattle.hlc_certificate.specs.declared.check.CheckEnd.TheVariants.{Fewest, NotLoaded}
+use Rattle.hlc_certificate.specs.declared.check.CheckEnd.TheVariants.{Fewest, NoMemory, NotLoaded}
 use Rattle.hlc_text.specs.declared.input.InputFault.TheVariants.{ReadFault}
 use Rattle.hlc_certificate.specs.CheckLine.{HasCheckLine, all_said, AreLinesOf}
 use Rattle.hlc_certificate.specs.CertificateText.{certificate_text}
-use Rattle.hlc_certificate.specs.Check.{MayAnswer}
+use Rattle.hlc_certificate.specs.Check.{MayAnswer, MayEnd}
 use Rattle.hlc_certificate.specs.OneAnswer.{ReportsNoMemory}
 
 -- what can be written as lines is printed as exactly these lines, so it is read back unchanged
@@ -28,6 +28,11 @@ IsAnsweredFewest text count bytes =
     length text ≤ INPUT_LIMIT → (end : CheckEnd) → MayAnswer text end → end ≢ NotLoaded ReadFault
     → (end ≡ Fewest count bytes) ⊎ ReportsNoMemory end
 
+-- A check of the text in memory, however long it is, ends with this: so many rows are the fewest and cost so much; or
+-- with out of memory.
+abbrev pub EndsFewest : List ℕ → ℕ → ℕ → Type 0
+EndsFewest text count bytes = (end : CheckEnd) → MayEnd text end → (end ≡ Fewest count bytes) ⊎ (end ≡ NoMemory)
+
 -- where the witnesses show that the rows are the fewest, a check of what is printed answers how many they are, and what
 -- they cost
 abbrev pub PrintedShowsFewest : Type 0
@@ -35,3 +40,10 @@ PrintedShowsFewest = (points : List ℕ) (rows : List ARow) (witnesses : List AW
     → AreLinesOf points rows witnesses (lines_of (certificate_text points rows witnesses))
     → IsCertificate rows points witnesses
     → IsAnsweredFewest (certificate_text points rows witnesses) (length rows) (rows_cost rows)
+
+-- and so ends a check of it in memory
+abbrev pub PrintedEndsFewest : Type 0
+PrintedEndsFewest = (points : List ℕ) (rows : List ARow) (witnesses : List AWitness)
+    → AreLinesOf points rows witnesses (lines_of (certificate_text points rows witnesses))
+    → IsCertificate rows points witnesses
+    → EndsFewest (certificate_text points rows witnesses) (length rows) (rows_cost rows)

@@ -1,6 +1,5 @@
 //! The points, rows and witnesses that an input contains.
-ghost use Rattle.std.specs.Prelude.{◌≡◌, ◌≤◌, [], length, IfOk, IfErr, IfSome, OnOk, IsSomeAnd};
-ghost use Rattle.hlc_text.specs.declared.input.TheConstants.{INPUT_LIMIT};
+ghost use Rattle.std.specs.Prelude.{◌≡◌, ◌≤◌, [], IfOk, IfErr, IfSome, OnOk, IsSomeAnd};
 ghost use Rattle.hlc_text.specs.Text.{Reads};
 ghost use Rattle.hlc_text.specs.Lines.{lines_of};
 ghost use Rattle.hlc_certificate.specs.CheckLine.{check_line, HasCheckLine, section_of, AreLinesOf};
@@ -93,7 +92,6 @@ fn to_value(alloc: Global, value: &Option<Spelled<'_>>) -> Result<Option<Bytes>,
 
 /// Returns what the lines say, or why they yield no lists. A bad line is found even if memory ran out before it.
 pub(crate) fn read_certificate(alloc: Global, text: &[u8]) -> Result<Certificate, NoCertificate>
-    requires { length text.now ≤ INPUT_LIMIT }
     ensures ok { IfOk result
         (λ certificate. AreLinesOf certificate.points.items certificate.rows.items
         certificate.witnesses.items (lines_of text.now)) }

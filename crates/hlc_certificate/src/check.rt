@@ -1,12 +1,11 @@
 //! A whole check: reads the bytes of a certificate, and writes one line.
-ghost use Rattle.std.specs.Prelude.{◌≡◌, ◌≤◌, ◌↔◌, ◌++◌, ℕ, List, false, true, length, decimal};
+ghost use Rattle.std.specs.Prelude.{◌≡◌, ◌↔◌, ◌++◌, ℕ, List, false, true, decimal};
 ghost use Rattle.std.specs.Io.KnownBytes.{Consumes};
-ghost use Rattle.hlc_text.specs.declared.input.TheConstants.{INPUT_LIMIT};
 ghost use Rattle.hlc_text.specs.Watched.{inner_of, has_failed};
 ghost use Rattle.hlc_text.specs.Printing.{Prints};
 ghost use Rattle.hlc_text.specs.Text.{printed};
 ghost use Rattle.hlc_text.specs.Input.{IsInput};
-ghost use Rattle.hlc_certificate.specs.Check.{MayAnswer, MayTake, IsOfLoaded, RunsCheck};
+ghost use Rattle.hlc_certificate.specs.Check.{MayAnswer, MayEnd, MayTake, RunsCheck};
 ghost use Rattle.hlc_certificate.specs.Check.{answer_output, fewest_line, check_status};
 
 use crate::certificate::{NoCertificate, read_certificate};
@@ -87,12 +86,10 @@ fn check_reader<R: Read>(alloc: Global, reader: &mut Watched<R>) -> CheckEnd
     }
 }
 
-/// Checks an input that is in memory, as `run_check` does once it has read one. It searches all lines for the first bad
-/// one, so running out of memory before a bad line never hides it.
+/// Checks an input that is in memory, as `run_check` does once it has read one; here it may have any length. It searches
+/// all lines for the first bad one, so running out of memory before a bad line never hides it.
 pub fn check_input(alloc: Global, input: &[u8]) -> CheckEnd
-    requires { length input.now ≤ INPUT_LIMIT }
-    ensures loaded { IsOfLoaded result }
-    ensures answer { MayAnswer input.now result }
+    ensures { MayEnd input.now result }
 {
     let certificate = match read_certificate(alloc, input) {
         Ok(certificate) => certificate,

@@ -1,6 +1,6 @@
 //! What is true of every written certificate.
 ghost use Rattle.hlc_certificate.specs.OneAnswer.{OneAnswer, OneCertificate};
-ghost use Rattle.hlc_certificate.specs.ReadBack.{PrintedIsRead, PrintedShowsFewest};
+ghost use Rattle.hlc_certificate.specs.ReadBack.{PrintedEndsFewest, PrintedIsRead, PrintedShowsFewest};
 
 /// Lines say one list of points, one of rows and one of witnesses, so whether they show that the rows are the fewest
 /// depends on the input alone.
@@ -23,4 +23,9 @@ pub fn printed_certificates_are_read()
 /// show it and memory does not run out.
 pub fn printed_certificates_show_fewest()
     ensures { PrintedShowsFewest }
+{}
+
+/// States the same of a check of what is printed that is in memory, however long it is.
+pub fn printed_certificates_end_fewest()
+    ensures { PrintedEndsFewest }
 {}

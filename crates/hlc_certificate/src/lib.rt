@@ -14,6 +14,6 @@ pub use check_line::{CheckLine, read_check_line};
 pub use hlc_witness::{Row, Stamp, Witness};
 pub use laws::{
     one_answer_for_an_input, one_certificate_for_lines, printed_certificates_are_read,
-    printed_certificates_show_fewest,
+    printed_certificates_end_fewest, printed_certificates_show_fewest,
 };
 pub use print::{put_certificate, put_witnesses};

@@ -14,6 +14,7 @@ ghost use Rattle.hlc_draft.specs.declared.report.Report.{Report as AReport};
 ghost use Rattle.hlc_core.specs.Stored.{AreVacuumPoints, IsReport, IsStoredCount, LeavesFewest};
 ghost use Rattle.hlc_core.specs.StoreView.{StoreView, nodes, with_rows_left, Represents};
 ghost use Rattle.hlc_core.specs.Calls.{Vacuums};
+ghost use Rattle.hlc_core.specs.Certified.{AreNotFewest, IsCertified};
 ghost use Rattle.hlc_core.specs.Parts.{Trims, rows_of_keys};
 ghost use Rattle.hlc_core.specs.Checkpoint.{IsCheckpoint, IsCopyOf, IsFirstReason};
 ghost use Rattle.hlc_witness.specs.Certificate.{RowsAscend};
@@ -221,6 +222,16 @@ pub fn vacuums_leave_the_fewest()
     ensures { (kept : StoreView) (at : ℕ) (past : List Step) (report : AReport)
         → Represents kept (Vacuumed at ∷ past)
         → IsReport at past report → LeavesFewest kept.rows (writes past) report }
+{}
+
+/// Just after a vacuum the rows at or below its stamp have a certificate: no fewer answer alike, so `Core::certificate`
+/// is not refused for that, and it returns the report of the vacuum, with no row dropped.
+pub fn vacuums_leave_a_certificate()
+    ensures fewest { (kept : StoreView) (at : ℕ) (past : List Step)
+        → Represents kept (Vacuumed at ∷ past) → AreNotFewest kept at (Vacuumed at ∷ past) → ⊥ }
+    ensures report { (kept : StoreView) (at : ℕ) (past : List Step) (report certificate : AReport)
+        → IsReport at past report → IsCertified kept at (Vacuumed at ∷ past) certificate
+        → certificate ≡ record report { dropped = 0 } }
 {}
 
 /// After a past there is at most one report of a vacuum to a stamp, and one number of stored rows.

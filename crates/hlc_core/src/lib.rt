@@ -15,7 +15,7 @@ mod store;
 pub use hlc_checkpoint::{Checkpoint, RestoreFault};
 pub use hlc_clock::Stamp;
 pub use hlc_columns::{Answers, AnswersBack, Changes, Sizes, Versions, View};
-pub use hlc_events::{CoreEvent, CoreFault, NoNode};
+pub use hlc_events::{CertificateFault, CoreEvent, CoreFault, NoNode};
 pub use hlc_heads::{Accepted, JoinFault};
 pub use hlc_intake::{Intake, LinkFault};
 pub use hlc_node::{Body, BodyFault, Bytes, Item, ItemRef, Row};
@@ -30,7 +30,7 @@ pub use laws::{
     later_items_are_above_the_floor, open_snapshots_are_at_most_the_floor, parts_keep_representing,
     replicas_accept_alike, replicas_answer_alike, retired_nodes_leave_the_greatest_stamp,
     the_floor_never_falls, there_is_one_listing, there_is_one_report, vacuums_keep_representing,
-    vacuums_leave_the_fewest,
+    vacuums_leave_a_certificate, vacuums_leave_the_fewest,
 };
 pub use listing::{Listing, Pair};
 pub use reply::CoreReply;

@@ -1,5 +1,5 @@
--- The refusals of a core: the number, the word and the text of each, and those that are made of the refusals of its
--- parts.
+-- The refusals of a core: the number, the word and the text of each, those that are made of the refusals of its parts,
+-- and why there is no certificate.
 use Rattle.std.specs.Prelude.{ℕ, List, ◌++◌, codes}
 use Rattle.hlc_clock.specs.Stamp.{stamp_text}
 use Rattle.hlc_heads.specs.Faults.{join_code, join_word, join_text}
@@ -13,6 +13,8 @@ use Rattle.hlc_snapshot.specs.declared.fault.SnapshotFault.TheVariants as snapsh
 use Rattle.hlc_events.specs.declared.fault.CoreFault.{CoreFault}
 use Rattle.hlc_events.specs.declared.fault.CoreFault.TheVariants.{NoNode, Link, Body, Join, AboveFloor, BelowHorizon}
 use Rattle.hlc_events.specs.declared.fault.CoreFault.TheVariants.{Snapshot, NoSnapshot, NoMemory}
+use Rattle.hlc_events.specs.declared.certificate_fault.CertificateFault.{CertificateFault}
+use Rattle.hlc_events.specs.declared.certificate_fault.CertificateFault.TheVariants.{Vacuum, NotFewest}
 
 -- the number of a refusal
 abbrev pub core_code : CoreFault → ℕ
@@ -59,3 +61,18 @@ of_join fault = Join fault
 abbrev pub of_registry : SnapshotFault → CoreFault
 of_registry snapshot_fault.NoMemory = NoMemory
 of_registry fault = Snapshot fault
+
+-- the number of the reason why there is no certificate
+abbrev pub certificate_fault_code : CertificateFault → ℕ
+certificate_fault_code (Vacuum fault) = core_code fault
+certificate_fault_code NotFewest = 109
+
+-- the stamp in it, 0 if there is none
+abbrev pub certificate_fault_word : CertificateFault → ℕ
+certificate_fault_word (Vacuum fault) = core_word fault
+certificate_fault_word NotFewest = 0
+
+-- its text
+abbrev pub certificate_fault_text : CertificateFault → List ℕ
+certificate_fault_text (Vacuum fault) = core_text fault
+certificate_fault_text NotFewest = codes "a row at or below the stamp would be dropped"

@@ -2,6 +2,7 @@
 ghost use Rattle.std.proofs.Common.{rules};
 ghost use Rattle.std.proofs.lemmas.Grind.{common_steps};
 
+use crate::certificate_fault::CertificateFault;
 use crate::event::CoreEvent;
 use crate::fault::{CoreFault, NoNode};
 use hlc_values::Exact;
@@ -19,6 +20,12 @@ impl Exact for CoreFault {
 }
 
 impl Exact for NoNode {
+    ghost equal = { Prim.search (rules, common_steps) };
+
+    ghost copied = { Prim.search rules };
+}
+
+impl Exact for CertificateFault {
     ghost equal = { Prim.search (rules, common_steps) };
 
     ghost copied = { Prim.search rules };

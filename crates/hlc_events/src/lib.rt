@@ -1,10 +1,12 @@
 //! The calls of a store as values, and why a store refuses one.
 #![tactic(auto)]
 
+mod certificate_fault;
 mod event;
 mod exact;
 mod fault;
 
+pub use certificate_fault::CertificateFault;
 pub use event::CoreEvent;
 pub use fault::{CoreFault, NoNode};
 pub use hlc_clock::Stamp;

@@ -5,12 +5,12 @@ ghost use Rattle.hlc_core.specs.StoreView.{Represents};
 ghost use Rattle.hlc_calls.specs.Answers.{ReturnsVacuumedAtFloor, ReturnsVacuumedTo, ReturnsVacuumChecked};
 ghost use Rattle.hlc_calls.specs.Answers.{ReturnsVacuumedPart};
 ghost use Rattle.hlc_calls.specs.Check.{ReturnsCheck};
-ghost use Rattle.hlc_calls.specs.Certified.{IsCertifiedAtFloor, IsCertifiedTo, IsHalfAtFloor, IsNotCertified};
+ghost use Rattle.hlc_calls.specs.Certified.{ReturnsCertificate, ReturnsNoCertificate};
 ghost use Rattle.hlc_ffi.specs.Handle.{OnStore, nodes_in_handle, OnReader};
 ghost use Rattle.hlc_ffi.specs.Outputs.{OnOutput};
 
 use crate::handle::{into_output, of_core, on_core};
-use hlc_calls::certify::{certify, certify_to};
+use hlc_calls::certify::certify;
 use hlc_calls::check::check;
 use hlc_calls::open_store;
 use hlc_core::Stamp;
@@ -45,47 +45,6 @@ pub extern "C" fn hlc_vacuum(
         alloc,
         store,
         |core| open_store::vacuum(core, floor, kept, bytes, dropped)
-    )
-}
-
-/// Does the same, and puts the certificate of the rows that are left up to the floor into an output. Returns 0, these
-/// numbers and its length in bytes; or 108 where the output has bytes; or 15, where the vacuum may have taken place.
-#[unsafe(no_mangle)]
-pub extern "C" fn hlc_vacuum_certified(
-    alloc: Global,
-    store: &mut Store,
-    floor: &mut u64,
-    kept: &mut u64,
-    bytes: &mut u64,
-    dropped: &mut u64,
-    output: &mut Output,
-    len: &mut usize,
-) -> u32
-    ensures answer { OnStore store.old.room.value store.new.room.value (result ≡ 100)
-        (λ old new. OnOutput output.old.room.value output.new.room.value result len.new (new ≡ old)
-        (λ text. (past : List Step) → Represents old past
-        → IsCertifiedAtFloor old new past floor.new kept.new bytes.new dropped.new text)
-        ((result ≡ 15) × ((past : List Step) → Represents old past
-        → IsHalfAtFloor old new past))) }
-    ensures nothing { result ≢ 0 → (floor.new ≡ 0) × (kept.new ≡ 0) × (bytes.new ≡ 0)
-        × (dropped.new ≡ 0) × (len.new ≡ 0)
-        × (output.new.room.value ≡ output.old.room.value) }
-    ensures nodes { nodes_in_handle store.new.room.value ≡ nodes_in_handle store.old.room.value }
-{
-    *floor = 0;
-    *kept = 0;
-    *bytes = 0;
-    *dropped = 0;
-    *len = 0;
-    on_core!(
-        alloc,
-        store,
-        |core| into_output!(
-            alloc,
-            output,
-            len,
-            certify(alloc, core, floor, kept, bytes, dropped)
-        )
     )
 }
 
@@ -133,51 +92,6 @@ pub extern "C" fn hlc_vacuum_to(
     )
 }
 
-/// Does the same, and puts the certificate of the rows that are left up to the stamp into an output. Returns 0, these
-/// numbers and its length in bytes; or 108 where the output has bytes; or a refusal; or 15, maybe after the vacuum.
-#[unsafe(no_mangle)]
-pub extern "C" fn hlc_vacuum_to_certified(
-    alloc: Global,
-    store: &mut Store,
-    at: u64,
-    word: &mut u64,
-    kept: &mut u64,
-    bytes: &mut u64,
-    dropped: &mut u64,
-    output: &mut Output,
-    len: &mut usize,
-) -> u32
-    ensures answer { OnStore store.old.room.value store.new.room.value
-        ((result ≡ 100) × (word.new ≡ 0)) (λ old new. OnOutput output.old.room.value
-        output.new.room.value result len.new ((new ≡ old) × (word.new ≡ 0))
-        (λ text. (past : List Step) → Represents old past
-        → IsCertifiedTo old new at past word.new kept.new bytes.new dropped.new text)
-        ((past : List Step) → Represents old past
-        → IsNotCertified old new at past result word.new)) }
-    ensures nothing { result ≢ 0 → (kept.new ≡ 0) × (bytes.new ≡ 0) × (dropped.new ≡ 0)
-        × (len.new ≡ 0) × (output.new.room.value ≡ output.old.room.value) }
-    ensures same { result ≢ 0 → result ≢ 15
-        → store.new.room.value ≡ store.old.room.value }
-    ensures nodes { nodes_in_handle store.new.room.value ≡ nodes_in_handle store.old.room.value }
-{
-    *word = 0;
-    *kept = 0;
-    *bytes = 0;
-    *dropped = 0;
-    *len = 0;
-    let at = Stamp::from_bits(at);
-    on_core!(
-        alloc,
-        store,
-        |core| into_output!(
-            alloc,
-            output,
-            len,
-            certify_to(alloc, core, at, word, kept, bytes, dropped)
-        )
-    )
-}
-
 /// Makes a part of `hlc_vacuum_to`, of the first keys above one, at most so many. Returns what that returns, of these
 /// keys; the length of the last one and, where it fits, the key; and whether a key is left above it.
 #[unsafe(no_mangle)]
@@ -220,9 +134,48 @@ pub extern "C" fn hlc_vacuum_part(
     )
 }
 
+/// Puts the certificate of the rows at or below a stamp into an output: it changes nothing, and is what a vacuum to the
+/// stamp would show if it dropped no row. Returns 0, these rows, their cost and the certificate's length in bytes; or
+/// 108 where the output has bytes, 8 and the floor, 9 and the horizon, 109 where a row would be dropped, or 15.
+#[unsafe(no_mangle)]
+pub extern "C" fn hlc_certificate(
+    alloc: Global,
+    store: &mut Reader,
+    stamp: u64,
+    word: &mut u64,
+    kept: &mut u64,
+    bytes: &mut u64,
+    output: &mut Output,
+    len: &mut usize,
+) -> u32
+    ensures answer { OnReader store.old.room.value ((result ≡ 100) × (word.new ≡ 0)) (λ core.
+        OnOutput output.old.room.value output.new.room.value result len.new (word.new ≡ 0)
+        (λ text. (past : List Step) → Represents core past
+        → ReturnsCertificate core stamp past word.new kept.new bytes.new text)
+        ((past : List Step) → Represents core past
+        → ReturnsNoCertificate core stamp past result word.new)) }
+    ensures nothing { result ≢ 0 → (kept.new ≡ 0) × (bytes.new ≡ 0) × (len.new ≡ 0)
+        × (output.new.room.value ≡ output.old.room.value) }
+    ensures same { store.new.room.value ≡ store.old.room.value }
+{
+    *word = 0;
+    *kept = 0;
+    *bytes = 0;
+    *len = 0;
+    let at = Stamp::from_bits(stamp);
+    of_core!(
+        store,
+        |core| into_output!(
+            alloc,
+            output,
+            len,
+            certify(alloc, core, at, word, kept, bytes)
+        )
+    )
+}
+
 /// Checks the text of a certificate, whoever made it. Returns 0, how many rows it shows to be the fewest, and their
-/// cost in bytes; or 22 and the first reason against it, 16 and the first bad line, 15, or 20 for over 16,777,216
-/// bytes.
+/// cost in bytes; or 22 and the first reason against it, 16 and the first bad line, or 15.
 #[unsafe(no_mangle)]
 pub extern "C" fn hlc_check(
     alloc: Global,
