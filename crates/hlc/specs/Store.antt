@@ -14,3 +14,4 @@ pub use Rattle.hlc_passes.specs.Pass.{Part, ArePass, left_by, together, report_o
 pub use Rattle.hlc_events.specs.Faults.{core_code, core_word, certificate_fault_code, certificate_fault_word}
 pub use Rattle.hlc_events.specs.declared.fault.CoreFault.{CoreFault}
 pub use Rattle.hlc_events.specs.declared.certificate_fault.CertificateFault.{CertificateFault}
+pub use Rattle.hlc_increment.specs.Increment.{IncrementView, IsIncrementOf, IsAdvanced, without_drops}

@@ -1,12 +1,12 @@
 -- The parts that are made from a checkpoint are consistent, as those of a core are, and the state of a core, with its
 -- rows in order, is a checkpoint.
-use Rattle.std.proofs.Common.{◌≡◌, ℕ, suc, ◌<◌, ◌≤◌, List, [], ◌∷◌, length, get_or}
-use Rattle.std.proofs.Common.{refl, ap, sym, ◌∙◌, subst, inl, inr, arith, IsPermutation, true}
+use Rattle.std.proofs.Common.{◌≡◌, ◌≢◌, ℕ, suc, ◌<◌, ◌≤◌, List, [], ◌∷◌, length, get_or}
+use Rattle.std.proofs.Common.{refl, ap, sym, ◌∙◌, subst, inl, inr, arith, IsPermutation, true, ltb}
 use Rattle.std.specs.Prelude.{MatchOption}
 use Rattle.std.proofs.lemmas.Option.{slice_get-get_or, slice_get_past}
 use Rattle.std.proofs.lemmas.Bool.{cases_lt}
 use Rattle.std.proofs.lemmas.List.{get_or-map, length-map}
-use Rattle.std.proofs.lemmas.List.Elements.{All-weaker}
+use Rattle.std.proofs.lemmas.List.Elements.{All-weaker, All-filter}
 use Rattle.std.proofs.lemmas.List.Sorted.{All-permutation, IsPermutation-keeps}
 use Rattle.hlc_node.specs.declared.row.Row.{Row}
 use Rattle.hlc_node.specs.Rows.{IsRowSet, IsSameVersion}
@@ -14,11 +14,16 @@ use Rattle.hlc_intake.specs.IntakeView.{IntakeView}
 use Rattle.hlc_heads.specs.declared.heads.Head.{Head}
 use Rattle.hlc_heads.specs.Heads.{HeadsView, a_head, head_at}
 use Rattle.hlc_snapshot.specs.RegistryView.{IsRegister}
+use Rattle.hlc_column.proofs.FlagLemmas.{filter-IsRowSet}
 use Rattle.hlc_witness.specs.Cost.{IsInLimits}
 use Rattle.hlc_witness.proofs.CertificateLemmas.{ascending_rows_are_a_row_set}
 use Rattle.hlc_checkpoint.specs.StoreView.{StoreView, marks_of, with_rows_left, HaveHeads, HasNodes, IsConsistent}
 use Rattle.hlc_checkpoint.specs.StoreView.{IsSound}
-use Rattle.hlc_checkpoint.specs.Checkpoint.{IsCheckpoint, IsCheckpointOf, IsUnderHead}
+use Rattle.hlc_checkpoint.specs.declared.checkpoint.RestoreFault.{RestoreFault}
+use Rattle.hlc_checkpoint.specs.declared.checkpoint.RestoreFault.TheVariants as reasons
+use Rattle.hlc_checkpoint.specs.Checkpoint.{IsCheckpoint, IsCheckpointOf, IsCopyAbove, IsFirstReason, IsUnderHead}
+use Rattle.hlc_checkpoint.specs.Checkpoint.{floor_in}
+use Rattle.hlc_checkpoint.specs.Sorted.{rows_above}
 use Rattle.hlc_checkpoint.proofs.AscendLemmas.{AreApart, apart, apart-swap}
 
 -- the default where there is no link
@@ -143,3 +148,41 @@ checkpoint-of kept copy marks have top consistent sound register is =
       limits = All-permutation IsInLimits kept.rows copy.rows is.copy.rows sound.limits;
     } in
     subst IsCheckpoint {x = made} (sym is.copy.same) sound'
+
+-- and so is the state with its rows above a stamp alone, in order
+pub checkpoint-above : (since : ℕ) (kept copy : StoreView) (marks : HeadsView) → HaveHeads kept.links marks
+    → marks.top ≡ kept.top → IsConsistent marks kept.snapshots kept.rows
+    → IsSound kept.start kept.links kept.top kept.horizon kept.rows
+    → IsRegister (record { snapshots = kept.snapshots; opened = kept.opened }) → IsCopyAbove since kept copy
+    → IsCheckpoint copy
+checkpoint-above since kept copy marks have top consistent sound register is =
+    checkpoint-of (with_rows_left kept (rows_above since kept.rows) kept.horizon) copy marks have top
+    (record {
+      opened = consistent.opened;
+      row_set = filter-IsRowSet (λ (row : Row). ltb since row.stamp) kept.rows consistent.row_set;
+      stored = All-filter (λ (row : Row). ltb since row.stamp) (IsUnder marks.heads) kept.rows consistent.stored;
+    })
+    (record {
+      nodes = sound.nodes;
+      stamps = sound.stamps;
+      last = sound.last;
+      top = sound.top;
+      horizon = sound.horizon;
+      limits = All-filter (λ (row : Row). ltb since row.stamp) IsInLimits kept.rows sound.limits;
+    })
+    register (record { copy = record { same = is.same; rows = is.rows.same }; ascend = is.rows.ascend })
+
+-- there is no reason against a checkpoint but memory
+pub sound-has_no_reason : (kept : StoreView) (fault : RestoreFault) → IsCheckpoint kept → IsFirstReason kept fault
+    → fault ≢ reasons.NoMemory → ⊥
+sound-has_no_reason kept reasons.NodesOutOfRange is reason other = reason is.nodes
+sound-has_no_reason kept reasons.NumberAboveHead is reason other = reason.1 is.stamps
+sound-has_no_reason kept reasons.RetiredWithoutItem is reason other = reason.2 is.last
+sound-has_no_reason kept reasons.SnapshotsNotRising is reason other = reason.1 is.register
+sound-has_no_reason kept reasons.SnapshotAboveFloor is reason other = reason.2 is.opened
+sound-has_no_reason kept reasons.HorizonAboveFloor is reason other =
+    (let up : floor_in kept < kept.horizon = reason.3 in let low = is.horizon in omega (arith, up, low))
+sound-has_no_reason kept reasons.RowsNotAscending is reason other = reason.1 is.ascend
+sound-has_no_reason kept reasons.RowAboveHead is reason other = reason.2 is.under
+sound-has_no_reason kept reasons.RowOutOfLimits is reason other = reason.3 is.limits
+sound-has_no_reason kept reasons.NoMemory is reason other = other refl

@@ -1,89 +1,110 @@
--- Copies of the rows at or below a bound, position by position and column by column.
+-- Copies of the rows on a side of a bound, position by position and column by column.
 use Rattle.std.proofs.Common.{◌≡◌, ℕ, ◌+◌, ◌<◌, ◌≤◌, List, [], ◌∷◌, ◌++◌}
-use Rattle.std.proofs.Common.{Some, length, take, get_or, sym, ap, ◌∙◌, leb}
-use Rattle.std.proofs.Common.{slice_get, append_assoc, cond, map, zero, suc, subst, inl, inr, arith}
+use Rattle.std.proofs.Common.{Some, length, take, get_or, sym, ap, ◌∙◌, leb, ltb, Bool, true, false, filter, refl}
+use Rattle.std.proofs.Common.{slice_get, append_assoc, cond, map, zero, suc, inl, inr, arith}
 use Rattle.std.proofs.lemmas.List.{append-nil, take_more, take_all, length-map}
 use Rattle.std.proofs.lemmas.List.Elements.{filter-append}
 use Rattle.std.proofs.lemmas.Option.{slice_get_within, get_or_from_slice_get, slice_get_cases, same_Some}
-use Rattle.std.proofs.lemmas.Bool.{le-leb, lt-leb}
 use Rattle.std.proofs.lemmas.Grind.{flat_map-append}
 use Rattle.hlc_node.specs.declared.row.Row.{Row}
 use Rattle.hlc_column.specs.Cells.{Cell}
-use Rattle.hlc_column.specs.Rows.{KeyCells, row_of, rows_of, rows_to, rows_in_one, rows_in}
+use Rattle.hlc_column.specs.Rows.{KeyCells, row_of, rows_of, rows_in_one, rows_in}
+use Rattle.hlc_checkpoint.specs.declared.sorted.Side.{Side}
+use Rattle.hlc_checkpoint.specs.declared.sorted.Side.TheVariants.{UpTo, Above}
+use Rattle.hlc_checkpoint.specs.Sorted.{is_on, rows_on}
 
 row_more : (rows : List Row) (i : ℕ) (row : Row) → slice_get rows i ≡ Some row
     → take (i + 1) rows ≡ take i rows ++ row ∷ []
 row_more rows i row at = take_more rows i row (slice_get_within rows i row at)
     ∙ ap (λ r. take i rows ++ r ∷ []) (get_or_from_slice_get rows i row row at)
 
--- one more position, whose row is at or below the bound
-pub place_on : (bound : ℕ) (rows : List Row) (i : ℕ) (row : Row) (old now new : List Row)
-    → slice_get rows i ≡ Some row → row.stamp ≤ bound → now ≡ old ++ rows_to bound (take i rows)
-    → new ≡ now ++ row ∷ [] → new ≡ old ++ rows_to bound (take (i + 1) rows)
-place_on bound rows i row old now new at low returned is =
-    is ∙ ap (λ xs. xs ++ row ∷ []) returned
-    ∙ append_assoc old (rows_to bound (take i rows)) (row ∷ [])
-    ∙ ap (λ xs. old ++ xs) (
-    ap (λ b. rows_to bound (take i rows) ++ cond b (row ∷ []) []) (sym (le-leb row.stamp bound low))
-    ∙ sym (filter-append (λ (r : Row). leb r.stamp bound) (take i rows) (row ∷ []))
-    ∙ ap (rows_to bound) (sym (row_more rows i row at)))
+-- the rows whose stamps are on the side
+abbrev rows_where : (ℕ → Bool) → List Row → List Row
+rows_where p rows = filter (λ (row : Row). p row.stamp) rows
 
--- one more position, whose row is above the bound
-pub place_past : (bound : ℕ) (rows : List Row) (i : ℕ) (row : Row) (old now : List Row)
-    → slice_get rows i ≡ Some row → bound < row.stamp → now ≡ old ++ rows_to bound (take i rows)
-    → now ≡ old ++ rows_to bound (take (i + 1) rows)
-place_past bound rows i row old now at high returned =
+-- they are the rows on that side
+rows-where : (side : Side) (bound : ℕ) (rows : List Row) → rows_on side bound rows ≡ rows_where (is_on side bound) rows
+rows-where UpTo bound rows = refl
+rows-where Above bound rows = refl
+
+-- one more position, whose row is on the side
+place_on : (p : ℕ → Bool) (rows : List Row) (i : ℕ) (row : Row) (old now new : List Row)
+    → slice_get rows i ≡ Some row → p row.stamp ≡ true → now ≡ old ++ rows_where p (take i rows)
+    → new ≡ now ++ row ∷ [] → new ≡ old ++ rows_where p (take (i + 1) rows)
+place_on p rows i row old now new at is_on returned is =
+    is ∙ ap (λ xs. xs ++ row ∷ []) returned
+    ∙ append_assoc old (rows_where p (take i rows)) (row ∷ [])
+    ∙ ap (λ xs. old ++ xs) (
+    ap (λ b. rows_where p (take i rows) ++ cond b (row ∷ []) []) (sym is_on)
+    ∙ sym (filter-append (λ (r : Row). p r.stamp) (take i rows) (row ∷ []))
+    ∙ ap (rows_where p) (sym (row_more rows i row at)))
+
+-- one more position, whose row is not
+place_past : (p : ℕ → Bool) (rows : List Row) (i : ℕ) (row : Row) (old now : List Row)
+    → slice_get rows i ≡ Some row → p row.stamp ≡ false → now ≡ old ++ rows_where p (take i rows)
+    → now ≡ old ++ rows_where p (take (i + 1) rows)
+place_past p rows i row old now at is_off returned =
     returned
-    ∙ ap (λ xs. old ++ xs) (sym (append-nil (rows_to bound (take i rows)))
-    ∙ ap (λ b. rows_to bound (take i rows) ++ cond b (row ∷ []) []) (sym (lt-leb row.stamp bound high))
-    ∙ sym (filter-append (λ (r : Row). leb r.stamp bound) (take i rows) (row ∷ []))
-    ∙ ap (rows_to bound) (sym (row_more rows i row at)))
+    ∙ ap (λ xs. old ++ xs) (sym (append-nil (rows_where p (take i rows)))
+    ∙ ap (λ b. rows_where p (take i rows) ++ cond b (row ∷ []) []) (sym is_off)
+    ∙ sym (filter-append (λ (r : Row). p r.stamp) (take i rows) (row ∷ []))
+    ∙ ap (rows_where p) (sym (row_more rows i row at)))
 
 -- the row at a position has the stamp at that position
-pub stamp_at : (key : List ℕ) (cells : List Cell) (i d : ℕ) (row : Row) → slice_get (rows_of key cells) i ≡ Some row
+stamp_at : (key : List ℕ) (cells : List Cell) (i d : ℕ) (row : Row) → slice_get (rows_of key cells) i ≡ Some row
     → get_or (map (λ (cell : Cell). cell.stamp) cells) i d ≡ row.stamp
 stamp_at key [] i d row at = absurd (omega (arith, slice_get_within (rows_of key []) i row at))
 stamp_at key (cell ∷ cells) zero d row at = ap (λ (r : Row). r.stamp) (same_Some (row_of key cell) row at)
 stamp_at key (cell ∷ cells) (suc i) d row at = stamp_at key cells i d row at
 
 -- the same, from the cells
-pub kept_on : (bound : ℕ) (key : List ℕ) (cells : List Cell) (i d : ℕ) (row : Row) (old now new : List Row)
-    → slice_get (rows_of key cells) i ≡ Some row → get_or (map (λ (cell : Cell). cell.stamp) cells) i d ≤ bound
-    → now ≡ old ++ rows_to bound (take i (rows_of key cells)) → new ≡ now ++ row ∷ []
-    → new ≡ old ++ rows_to bound (take (i + 1) (rows_of key cells))
-kept_on bound key cells i d row old now new at low =
-    place_on bound (rows_of key cells) i row old now new at
-    (subst (λ stamp. stamp ≤ bound) (stamp_at key cells i d row at) low)
+pub kept_on : (side : Side) (bound : ℕ) (key : List ℕ) (cells : List Cell) (i d : ℕ) (row : Row)
+    (old now new : List Row)
+    → slice_get (rows_of key cells) i ≡ Some row
+    → is_on side bound (get_or (map (λ (cell : Cell). cell.stamp) cells) i d) ≡ true
+    → now ≡ old ++ rows_on side bound (take i (rows_of key cells)) → new ≡ now ++ row ∷ []
+    → new ≡ old ++ rows_on side bound (take (i + 1) (rows_of key cells))
+kept_on side bound key cells i d row old now new at on returned is =
+    place_on (is_on side bound) (rows_of key cells) i row old now new at
+    (ap (is_on side bound) (sym (stamp_at key cells i d row at)) ∙ on)
+    (returned ∙ ap (λ xs. old ++ xs) (rows-where side bound (take i (rows_of key cells)))) is
+    ∙ ap (λ xs. old ++ xs) (sym (rows-where side bound (take (i + 1) (rows_of key cells))))
 
-pub passed_on : (bound : ℕ) (key : List ℕ) (cells : List Cell) (i d : ℕ) (old now : List Row) → i < length cells
-    → bound < get_or (map (λ (cell : Cell). cell.stamp) cells) i d
-    → now ≡ old ++ rows_to bound (take i (rows_of key cells))
-    → now ≡ old ++ rows_to bound (take (i + 1) (rows_of key cells))
-passed_on bound key cells i d old now lt high returned =
+pub passed_on : (side : Side) (bound : ℕ) (key : List ℕ) (cells : List Cell) (i d : ℕ) (old now : List Row)
+    → i < length cells
+    → is_on side bound (get_or (map (λ (cell : Cell). cell.stamp) cells) i d) ≡ false
+    → now ≡ old ++ rows_on side bound (take i (rows_of key cells))
+    → now ≡ old ++ rows_on side bound (take (i + 1) (rows_of key cells))
+passed_on side bound key cells i d old now lt off returned =
     elim (slice_get_cases (rows_of key cells) i).1 [
-      | inl x ↦ place_past bound (rows_of key cells) i x.0 old now x.2
-          (subst (λ stamp. bound < stamp) (stamp_at key cells i d x.0 x.2) high) returned
+      | inl x ↦
+          place_past (is_on side bound) (rows_of key cells) i x.0 old now x.2
+          (ap (is_on side bound) (sym (stamp_at key cells i d x.0 x.2)) ∙ off)
+          (returned ∙ ap (λ xs. old ++ xs) (rows-where side bound (take i (rows_of key cells))))
+          ∙ ap (λ xs. old ++ xs) (sym (rows-where side bound (take (i + 1) (rows_of key cells))))
       | inr past ↦ absurd (omega (arith, past.0, length-map cells (row_of key)))
     ]
 
-pub copied_all : (bound : ℕ) (rows : List Row) (i : ℕ) (old now : List Row) → length rows ≤ i
-    → now ≡ old ++ rows_to bound (take i rows) → now ≡ old ++ rows_to bound rows
-copied_all bound rows i old now past returned = returned ∙ ap (λ xs. old ++ rows_to bound xs) (take_all i rows past)
+rows_on-append : (side : Side) (bound : ℕ) (rows more : List Row)
+    → rows_on side bound (rows ++ more) ≡ rows_on side bound rows ++ rows_on side bound more
+rows_on-append UpTo bound rows more = filter-append (λ (r : Row). leb r.stamp bound) rows more
+rows_on-append Above bound rows more = filter-append (λ (r : Row). ltb bound r.stamp) rows more
 
-pub column_on : (bound : ℕ) (columns : List KeyCells) (i : ℕ) (one : KeyCells) (now new : List Row)
-    → i < length columns → one ≡ get_or columns i one → now ≡ rows_to bound (rows_in (take i columns))
-    → new ≡ now ++ rows_to bound (rows_in_one one) → new ≡ rows_to bound (rows_in (take (i + 1) columns))
-column_on bound columns i one now new lt is returned step =
-    step ∙ ap (λ xs. xs ++ rows_to bound (rows_in_one one)) returned
-    ∙ sym (filter-append (λ (r : Row). leb r.stamp bound) (rows_in (take i columns)) (rows_in_one one))
-    ∙ ap (rows_to bound) (ap (λ xs. rows_in (take i columns) ++ xs) (sym (append-nil (rows_in_one one)))
+pub column_on : (side : Side) (bound : ℕ) (columns : List KeyCells) (i : ℕ) (one : KeyCells) (now new : List Row)
+    → i < length columns → one ≡ get_or columns i one → now ≡ rows_on side bound (rows_in (take i columns))
+    → new ≡ now ++ rows_on side bound (rows_in_one one)
+    → new ≡ rows_on side bound (rows_in (take (i + 1) columns))
+column_on side bound columns i one now new lt is returned step =
+    step ∙ ap (λ xs. xs ++ rows_on side bound (rows_in_one one)) returned
+    ∙ sym (rows_on-append side bound (rows_in (take i columns)) (rows_in_one one))
+    ∙ ap (rows_on side bound) (ap (λ xs. rows_in (take i columns) ++ xs) (sym (append-nil (rows_in_one one)))
     ∙ sym (flat_map-append rows_in_one (take i columns) (one ∷ []))
     ∙ ap rows_in (sym (take_more columns i one lt ∙ ap (λ x. take i columns ++ x ∷ []) (sym is))))
 
-pub columns_all : (bound : ℕ) (columns : List KeyCells) (i : ℕ) (now : List Row) → length columns ≤ i
-    → now ≡ rows_to bound (rows_in (take i columns)) → now ≡ rows_to bound (rows_in columns)
-columns_all bound columns i now past returned = returned
-    ∙ ap (λ xs. rows_to bound (rows_in xs)) (take_all i columns past)
+pub columns_all : (side : Side) (bound : ℕ) (columns : List KeyCells) (i : ℕ) (now : List Row) → length columns ≤ i
+    → now ≡ rows_on side bound (rows_in (take i columns)) → now ≡ rows_on side bound (rows_in columns)
+columns_all side bound columns i now past returned = returned
+    ∙ ap (λ xs. rows_on side bound (rows_in xs)) (take_all i columns past)
 
 -- one more position
 pub whole-on : (rows : List Row) (i : ℕ) (row : Row) (old now new : List Row) → slice_get rows i ≡ Some row

@@ -17,6 +17,7 @@ use Rattle.hlc_checkpoint.specs.declared.checkpoint.RestoreFault.TheVariants.{Ro
 use Rattle.hlc_checkpoint.specs.declared.checkpoint.RestoreFault.TheVariants.{RowOutOfLimits, NoMemory}
 use Rattle.hlc_checkpoint.specs.StoreView.{StoreView, HasNodes, HasStamps, HasLastItem, greatest_head, marks_of}
 use Rattle.hlc_checkpoint.specs.StoreView.{with_rows_left}
+use Rattle.hlc_checkpoint.specs.Sorted.{AreRowsAbove}
 
 -- the floor of a state
 abbrev pub floor_in : StoreView → ℕ
@@ -84,6 +85,11 @@ pub record IsCopyOf (kept copy : StoreView) : Type 0 where
 pub record IsCheckpointOf (kept checkpoint : StoreView) : Type 0 where
   pub copy : IsCopyOf kept checkpoint
   pub ascend : RowsAscend checkpoint.rows
+
+-- the copy is the same state, but of its rows it has those above a stamp alone, in order
+pub record IsCopyAbove (since : ℕ) (kept copy : StoreView) : Type 0 where
+  pub same : copy ≡ with_rows_left kept copy.rows kept.horizon
+  pub rows : AreRowsAbove kept.rows since copy.rows
 
 -- a core with the state of the checkpoint was made, and it is a checkpoint; or the reason why not
 abbrev pub Restores : StoreView → Result StoreView RestoreFault → Type 0

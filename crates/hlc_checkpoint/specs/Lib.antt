@@ -1,4 +1,4 @@
 pub mod StoreView
+pub mod Sorted
 pub mod Checkpoint
 pub mod RestoreFaults
-pub mod Sorted

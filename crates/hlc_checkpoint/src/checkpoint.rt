@@ -5,7 +5,7 @@ ghost use Rattle.hlc_heads.specs.Heads.{floor_of};
 ghost use Rattle.hlc_checkpoint.specs.StoreView.{HasNodes, HasStamps, HasLastItem, greatest_head, marks_of};
 ghost use Rattle.hlc_checkpoint.specs.RestoreFaults.{fault_code};
 ghost use Rattle.hlc_checkpoint.specs.declared.checkpoint.RestoreFault.TheVariants.{NoMemory as no_memory};
-ghost use Rattle.hlc_checkpoint.specs.Checkpoint.{IsCheckpoint, IsFirstReason, IsUnderHead};
+ghost use Rattle.hlc_checkpoint.specs.Checkpoint.{IsCheckpoint, IsFirstReason, IsUnderHead, floor_in};
 
 use hlc_clock::Stamp;
 use hlc_heads::{MOST_NODES, MOST_NUMBERS};
@@ -197,6 +197,14 @@ impl Checkpoint {
         ensures greatest { result ≡ greatest_head self.now.links }
     {
         greatest_head(self.links.as_slice())
+    }
+
+    /// Returns the floor: the least head of the nodes that have not retired, or the greatest head if all have. It is
+    /// computed.
+    pub fn floor(&self) -> Stamp
+        ensures { result ≡ floor_in self.now }
+    {
+        floor_of(self.links.as_slice(), self.top())
     }
 
     /// Returns the open snapshots, the oldest first.

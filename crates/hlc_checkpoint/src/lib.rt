@@ -14,4 +14,4 @@ pub use hlc_node::{Bytes, Row};
 pub use hlc_snapshot::Snapshot;
 pub use hlc_values::NoMemory;
 pub use restoring::{heads_of, table_of, table_of_moved};
-pub use sorted::{sorted_rows, sorted_rows_to};
+pub use sorted::{sort, sorted_rows, sorted_rows_above, sorted_rows_to};

@@ -8,7 +8,8 @@ use Rattle.std.proofs.lemmas.List.{take_at, drop_at, get_or-take, get_or-drop, g
 use Rattle.sha2.specs.Sha256.{sha256}
 use Rattle.hlc_core.specs.Past.{Step}
 use Rattle.hlc_core.specs.StoreView.{StoreView, Represents}
-use Rattle.hlc_checkpoint.specs.Checkpoint.{IsCheckpoint, IsCopyOf, IsFirstReason}
+use Rattle.hlc_checkpoint.specs.Checkpoint.{IsCheckpoint, IsCopyOf}
+use Rattle.hlc_checkpoint.proofs.CheckpointLemmas.{sound-has_no_reason}
 use Rattle.hlc_checkpoint.specs.declared.checkpoint.RestoreFault.{RestoreFault}
 use Rattle.hlc_checkpoint.specs.declared.checkpoint.RestoreFault.TheVariants as reasons
 use Rattle.hlc_core.proofs.CheckpointLemmas.{copy-represents}
@@ -42,6 +43,13 @@ last_bytes : (xs ys : List ℕ) → IsBytes (xs ++ ys) → IsBytes ys
 last_bytes xs ys h i =
     subst (λ (l : List ℕ). get_or l i 0 < 256) (drop_at xs ys (length xs) refl) (rw get_or-drop (h (length xs + i)))
 
+-- the body of a frame of bytes has bytes
+pub body_bytes : (bytes : List ℕ) (word : ℕ) (body : List ℕ) → IsBytes bytes → bytes ≡ frame_bytes word body
+    → IsBytes body
+body_bytes bytes word body fits e =
+    let front : List ℕ = front_bytes (length body) word in
+    last_bytes front body (first_bytes (front ++ body) (sha256 (front ++ body)) (subst IsBytes e fits))
+
 abbrev with_word : ℕ → Result StoreView WireFault → Result (ℕ × StoreView) WireFault
 with_word word read = read >>= λ kept. Ok (word, kept)
 
@@ -52,9 +60,7 @@ saved_takes bytes word kept fits e =
     let a = bind_ok (opened bytes) (λ frame. with_word frame.0 (whole (checkpoint_at frame.1))) (word, kept) e in
     let b = bind_ok (whole (checkpoint_at a.0.1)) (λ k. Ok (a.0.0, k)) (word, kept) a.2 in
     let f = opened_is_frame bytes a.0.0 a.0.1 fits a.1 in
-    let front : List ℕ = front_bytes (length a.0.1) a.0.0 in
-    let all' : IsBytes ((front ++ a.0.1) ++ sha256 (front ++ a.0.1)) = subst IsBytes f.1 fits in
-    let inner : IsBytes a.0.1 = last_bytes front a.0.1 (first_bytes (front ++ a.0.1) (sha256 (front ++ a.0.1)) all') in
+    let inner : IsBytes a.0.1 = body_bytes bytes a.0.0 a.0.1 fits f.1 in
     let c = whole_takes checkpoint_at checkpoint_bytes CheckpointFits checkpoint_reader a.0.1 b.0 inner b.1 in
     let made : SavedFits a.0.0 b.0 × (bytes ≡ saved_bytes a.0.0 b.0) = (
       record { frame = subst (λ (l : List ℕ). FrameFits a.0.0 l) c.1 f.0; checkpoint = c.0 },
@@ -129,22 +135,6 @@ resumed_represents (Ok made) bytes word past of is =
     copy-represents of.0 made.core past of.2 (subst (λ (k : StoreView). IsCopyOf k made.core) same.1 is.2)
 resumed_represents (Err error) bytes word past of is = tt
 
-not_first : (kept : StoreView) (fault : RestoreFault) → IsFirstReason kept fault → fault ≢ reasons.NoMemory
-    → IsCheckpoint kept → ⊥
-not_first kept reasons.NodesOutOfRange r not is = r is.nodes
-not_first kept reasons.NumberAboveHead r not is = r.1 is.stamps
-not_first kept reasons.RetiredWithoutItem r not is = r.2 is.last
-not_first kept reasons.SnapshotsNotRising r not is = r.1 is.register
-not_first kept reasons.SnapshotAboveFloor r not is = r.2 is.opened
-not_first kept reasons.HorizonAboveFloor r not is =
-    let low = is.horizon in
-    let high = r.3 in
-    omega (arith, low, high)
-not_first kept reasons.RowsNotAscending r not is = r.1 is.ascend
-not_first kept reasons.RowAboveHead r not is = r.2 is.under
-not_first kept reasons.RowOutOfLimits r not is = r.3 is.limits
-not_first kept reasons.NoMemory r not is = not refl
-
 pub resumed_only : (r : Result Resumed ResumeError) (bytes : List ℕ) (word : ℕ) (kept : StoreView)
     → AreOf bytes word kept
     → Resumes bytes r → IfErr r (λ error. error ≡ NoMemory)
@@ -155,4 +145,4 @@ resumed_only (Err (Bytes fault)) bytes word kept of is =
     absurd (cc (is, read))
 resumed_only (Err (Parts fault)) bytes word kept of is =
     let same = same_saved bytes word is.0 kept is.1 (of_saved bytes word kept of) is.2 in
-    absurd (not_first is.1 fault is.3 is.4 (subst IsCheckpoint (sym same.1) of.sound))
+    absurd (sound-has_no_reason is.1 fault (subst IsCheckpoint (sym same.1) of.sound) is.3 is.4)

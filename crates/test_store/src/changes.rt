@@ -12,12 +12,12 @@ type Change<'a> = (&'a [u8], Option<&'a [u8]>);
 type Version<'a> = (u64, Option<&'a [u8]>);
 
 /// Returns a stamp of this many seconds.
-fn second(seconds: u64) -> Stamp {
+pub(crate) fn second(seconds: u64) -> Stamp {
     Stamp::from_bits(seconds.wrapping_mul(65_536))
 }
 
 /// Lets the node write a key, or delete it where there is no value, as its item of this number, a second later each.
-fn says<R: Abort>(
+pub(crate) fn says<R: Abort>(
     rt: &R,
     alloc: Global,
     core: &mut Core,

@@ -15,6 +15,8 @@ mod encoded;
 #[cfg(test)]
 mod failures;
 #[cfg(test)]
+mod increments;
+#[cfg(test)]
 mod items;
 #[cfg(test)]
 mod keys;

@@ -1,7 +1,0 @@
--- The rows of the columns so far are copied.
-use Rattle.std.proofs.Common.{◌≡◌, take}
-use Rattle.hlc_column.specs.Rows.{rows_in, rows_to}
-use Rattle.hlc_checkpoint.proofs.sorted.copies_to.Given as goal
-
-abbrev pub invariant-loop-one : goal.invariant-loop-one
-invariant-loop-one l = l.copies.items ≡ rows_to l.bound (rows_in (take l.one-index l.columns))

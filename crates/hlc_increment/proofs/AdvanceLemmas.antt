@@ -1,0 +1,436 @@
+-- An older checkpoint with the rows of an increment represents the past of the newer store, but that vacuums since the
+-- older one dropped nothing.
+use Rattle.std.proofs.Common.{◌≡◌, ℕ, ◌+◌, ◌<◌, ◌≤◌, ◌⊎◌, List, [], ◌∷◌, ◌++◌, length, Contains, true, refl, ap}
+use Rattle.std.proofs.Common.{sym, ◌∙◌, subst, inl, inr, arith, leb, ltb, filter, IsPermutation, All, not, cond}
+use Rattle.std.proofs.Common.{◌&&◌, Bool, false}
+use Rattle.std.specs.Prelude.{◌==◌}
+use Rattle.std.proofs.lemmas.Bool.{cases_lt, leb-true, le-leb, ltb-true, lt-ltb, lt-leb}
+use Rattle.std.proofs.lemmas.List.{length-append}
+use Rattle.std.proofs.lemmas.List.Elements.{Contains-append_left, Contains-append_right, Contains-append_cases}
+use Rattle.std.proofs.lemmas.List.Elements.{filter-append, filter_passes, All-contains, All-weaker}
+use Rattle.std.proofs.lemmas.List.Sorted.{All-permutation, Contains-permutation, IsPermutation-sym, length_permutation}
+use Rattle.hlc_values.proofs.MemberLemmas.{Contains-first, Contains-rest, Contains-cons_cases}
+use Rattle.hlc_values.proofs.MemberLemmas.{Contains-filter, Contains-from_filter}
+use Rattle.hlc_node.specs.declared.row.Row.{Row}
+use Rattle.hlc_node.specs.declared.item.Item.{Item}
+use Rattle.hlc_node.specs.declared.item.Body.{Body}
+use Rattle.hlc_node.specs.declared.item.Body.TheVariants.{Write, Report, Retire}
+use Rattle.hlc_node.specs.Rows.{answer, IsRowSet, IsSameVersion}
+use Rattle.hlc_snapshot.specs.declared.snapshot.Snapshot.{Snapshot}
+use Rattle.hlc_snapshot.specs.RegistryView.{stamps, without}
+use Rattle.hlc_column.specs.Rows.{rows_to}
+use Rattle.hlc_column.proofs.FlagLemmas.{filter-IsRowSet}
+use Rattle.hlc_draft.proofs.PartLemmas.{same_rows, answer-rows_to, alike_from}
+use Rattle.hlc_vacuum.specs.Representing.{RowsRepresent, count_above, count_between}
+use Rattle.hlc_vacuum.proofs.CountLemmas.{split_count, same_above}
+use Rattle.hlc_vacuum.proofs.RepresentingLemmas.{rows_above_are_counted}
+use Rattle.hlc_witness.specs.Certificate.{RowsAscend}
+use Rattle.hlc_witness.proofs.CertificateLemmas.{ascending_rows_are_a_row_set}
+use Rattle.hlc_checkpoint.specs.Sorted.{rows_above}
+use Rattle.hlc_checkpoint.proofs.CheckpointLemmas.{row_set-moved, sound-has_no_reason}
+use Rattle.hlc_core.specs.Past.{Step, Took, Opened, Closed, Vacuumed, Trimmed, Joined, floor, horizon, vacuumed}
+use Rattle.hlc_core.specs.Past.{numbered, trimmed, opened, open_snapshots, writes, item_rows, body_rows, IsLegal}
+use Rattle.hlc_core.specs.StoreView.{StoreView, nodes, with_rows_left, Represents}
+use Rattle.hlc_core.specs.Checkpoint.{IsCheckpoint, floor_in}
+use Rattle.hlc_core.proofs.PastLemmas.{above_floor, body_rows-are, open-above, vacuum-above, vacuumed-low}
+use Rattle.hlc_core.proofs.StayLemmas.{answers-stay, floor-never_falls}
+use Rattle.hlc_core.proofs.Moved.{represents-moved}
+use Rattle.hlc_core.proofs.Sound.{floor-in}
+use Rattle.hlc_increment.specs.declared.advancing.AdvanceFault.{AdvanceFault}
+use Rattle.hlc_increment.specs.declared.advancing.AdvanceFault.TheVariants as faults
+use Rattle.hlc_increment.specs.Increment.{IncrementView, IsIncrementOf, IsAdvanced, IsReason, without_drops}
+use Rattle.hlc_increment.proofs.AgreeLemmas.{drops-agree, drops-legal, drops-trim_nothing, drops-vacuumed}
+use Rattle.hlc_increment.proofs.AgreeLemmas.{drops-last_changes}
+
+-- the horizon never falls
+horizon-grows : (nodes : ℕ) (past more : List Step) → IsLegal nodes (more ++ past)
+    → horizon past ≤ horizon (more ++ past)
+horizon-grows nodes past [] legal = omega arith
+horizon-grows nodes past (Took item ∷ more) legal = horizon-grows nodes past more legal.1
+horizon-grows nodes past (Opened stamp ∷ more) legal = horizon-grows nodes past more legal.1
+horizon-grows nodes past (Closed id ∷ more) legal = horizon-grows nodes past more legal.1
+horizon-grows nodes past (Vacuumed at ∷ more) legal =
+    let before = horizon-grows nodes past more legal.1 in
+    let up : horizon (more ++ past) ≤ at = vacuum-above nodes (more ++ past) at legal.0 in omega (arith, before)
+horizon-grows nodes past (Trimmed at dropped ∷ more) legal =
+    let before = horizon-grows nodes past more legal.1 in
+    let up : horizon (more ++ past) ≤ at = vacuum-above nodes (more ++ past) at legal.0 in omega (arith, before)
+horizon-grows nodes past (Joined node start ∷ more) legal = horizon-grows nodes past more legal.3
+
+-- accepted writes are kept
+writes-kept : (past more : List Step) (row : Row) → Contains (writes past) row → Contains (writes (more ++ past)) row
+writes-kept past [] row m = m
+writes-kept past (Took item ∷ more) row m =
+    Contains-append_left (writes (more ++ past)) (item_rows item) row (writes-kept past more row m)
+writes-kept past (Opened stamp ∷ more) row m = writes-kept past more row m
+writes-kept past (Closed id ∷ more) row m = writes-kept past more row m
+writes-kept past (Vacuumed at ∷ more) row m = writes-kept past more row m
+writes-kept past (Trimmed at dropped ∷ more) row m = writes-kept past more row m
+writes-kept past (Joined node start ∷ more) row m = writes-kept past more row m
+
+-- an item that is accepted later is above the floor
+later-above : (nodes : ℕ) (past more : List Step) (item : Item) → IsLegal nodes (Took item ∷ (more ++ past))
+    → floor nodes past < item.stamp
+later-above nodes past more item legal =
+    let up : floor nodes (more ++ past) < item.stamp = above_floor nodes (more ++ past) item legal.0 in
+    let rose : floor nodes past ≤ floor nodes (more ++ past) = floor-never_falls nodes past more legal.1 in omega arith
+
+-- and a write at or below it was accepted before
+writes-before : (nodes : ℕ) (past more : List Step) (row : Row) → IsLegal nodes (more ++ past)
+    → Contains (writes (more ++ past)) row → row.stamp ≤ floor nodes past → Contains (writes past) row
+writes-before nodes past [] row legal m low = m
+writes-before nodes past (Took item ∷ more) row legal m low =
+    elim (Contains-append_cases (writes (more ++ past)) (item_rows item) row m) [
+      | inl before ↦ writes-before nodes past more row legal.1 before low
+      | inr new ↦ absurd (let at : row.stamp ≡ item.stamp =
+          (body_rows-are item.node item.stamp item.body row new).1 in
+          let up = later-above nodes past more item legal in omega (arith, at, up))
+    ]
+writes-before nodes past (Opened stamp ∷ more) row legal m low = writes-before nodes past more row legal.1 m low
+writes-before nodes past (Closed id ∷ more) row legal m low = writes-before nodes past more row legal.1 m low
+writes-before nodes past (Vacuumed at ∷ more) row legal m low = writes-before nodes past more row legal.1 m low
+writes-before nodes past (Trimmed at dropped ∷ more) row legal m low =
+    writes-before nodes past more row legal.1 m low
+writes-before nodes past (Joined node start ∷ more) row legal m low =
+    writes-before nodes past more row legal.3 m low
+
+-- the rows between two stamps are those before, if the higher one is not above the floor
+none-between : (low high node at : ℕ) (body : Body) → high < at → count_between low high (body_rows node at body) ≡ 0
+none-between low high node at (Write key value) up = let off = lt-leb at high up in grind (arith, off)
+none-between low high node at Report up = refl
+none-between low high node at Retire up = refl
+
+between-stays : (nodes : ℕ) (past more : List Step) (low high : ℕ) → IsLegal nodes (more ++ past)
+    → high ≤ floor nodes past → count_between low high (writes (more ++ past)) ≡ count_between low high (writes past)
+between-stays nodes past [] low high legal under = refl
+between-stays nodes past (Took item ∷ more) low high legal under =
+    let up = later-above nodes past more item legal in
+    let old = between-stays nodes past more low high legal.1 under in
+    let none = none-between low high item.node item.stamp item.body (omega (arith, up)) in
+    let is_in : Row → Bool = λ row. ltb low row.stamp && leb row.stamp high in
+    let both = ap length (filter-append is_in (writes (more ++ past)) (item_rows item))
+    ∙ length-append (filter is_in (writes (more ++ past))) (filter is_in (item_rows item)) in
+    omega (arith, old, none, both)
+between-stays nodes past (Opened stamp ∷ more) low high legal under =
+    between-stays nodes past more low high legal.1 under
+between-stays nodes past (Closed id ∷ more) low high legal under =
+    between-stays nodes past more low high legal.1 under
+between-stays nodes past (Vacuumed at ∷ more) low high legal under =
+    between-stays nodes past more low high legal.1 under
+between-stays nodes past (Trimmed at dropped ∷ more) low high legal under =
+    between-stays nodes past more low high legal.1 under
+between-stays nodes past (Joined node start ∷ more) low high legal under =
+    between-stays nodes past more low high legal.3 under
+
+-- a snapshot below the horizon was open before
+stamps-push : (snapshots : List Snapshot) (new : Snapshot) (stamp : ℕ) → Contains (stamps (snapshots ++ new ∷ [])) stamp
+    → Contains (stamps snapshots) stamp ⊎ (new.stamp ≡ stamp)
+stamps-push [] new stamp m = elim (Contains-cons_cases new.stamp stamp [] m) [
+  | inl here ↦ inr here
+  | inr none ↦ inl none
+]
+stamps-push (one ∷ snapshots) new stamp m =
+    elim (Contains-cons_cases one.stamp stamp (stamps (snapshots ++ new ∷ [])) m) [
+      | inl here ↦ inl (subst (Contains (stamps (one ∷ snapshots))) here (Contains-first one.stamp (stamps snapshots)))
+      | inr rest ↦ elim (stamps-push snapshots new stamp rest) [
+        | inl old ↦ inl (Contains-rest one.stamp stamp (stamps snapshots) old)
+        | inr last ↦ inr last
+      ]
+    ]
+
+stamps-without : (id : ℕ) (snapshots : List Snapshot) (stamp : ℕ) → Contains (stamps (without id snapshots)) stamp
+    → Contains (stamps snapshots) stamp
+stamps-without id [] stamp m = m
+stamps-without id (one ∷ snapshots) stamp m =
+    let rest = stamps-without id snapshots stamp in
+    elim (not (one.id == id)) as (λ b. Contains (stamps (cond b (one ∷ without id snapshots) (without id snapshots)))
+    stamp → Contains (stamps (one ∷ snapshots)) stamp) [
+      | true ↦ λ m. elim (Contains-cons_cases one.stamp stamp (stamps (without id snapshots)) m) [
+        | inl here ↦ subst (Contains (stamps (one ∷ snapshots))) here (Contains-first one.stamp (stamps snapshots))
+        | inr old ↦ Contains-rest one.stamp stamp (stamps snapshots) (rest old)
+      ]
+      | false ↦ λ m. Contains-rest one.stamp stamp (stamps snapshots) (rest m)
+    ] m
+
+open-before : (nodes : ℕ) (past more : List Step) (stamp : ℕ) → IsLegal nodes (more ++ past)
+    → Contains (stamps (open_snapshots (more ++ past))) stamp → stamp < horizon past
+    → Contains (stamps (open_snapshots past)) stamp
+open-before nodes past [] stamp legal m low = m
+open-before nodes past (Opened at ∷ more) stamp legal m low =
+    elim (stamps-push (open_snapshots (more ++ past)) (record { id = opened (more ++ past) + 1; stamp = at }) stamp m) [
+      | inl old ↦ open-before nodes past more stamp legal.1 old low
+      | inr new ↦ absurd (let up : horizon (more ++ past) ≤ at = open-above nodes (more ++ past) at legal.0 in
+          let grown = horizon-grows nodes past more legal.1 in
+          let e : at ≡ stamp = new in omega (arith, grown))
+    ]
+open-before nodes past (Closed id ∷ more) stamp legal m low =
+    open-before nodes past more stamp legal.1 (stamps-without id (open_snapshots (more ++ past)) stamp m) low
+open-before nodes past (Took item ∷ more) stamp legal m low = open-before nodes past more stamp legal.1 m low
+open-before nodes past (Vacuumed at ∷ more) stamp legal m low = open-before nodes past more stamp legal.1 m low
+open-before nodes past (Trimmed at dropped ∷ more) stamp legal m low =
+    open-before nodes past more stamp legal.1 m low
+open-before nodes past (Joined node start ∷ more) stamp legal m low =
+    open-before nodes past more stamp legal.3 m low
+
+-- two row sets that have no version in common are one
+both-row_set : (rows more : List Row) → IsRowSet rows → IsRowSet more
+    → ((row other : Row) → Contains rows row → Contains more other → IsSameVersion row other → ⊥)
+    → IsRowSet (rows ++ more)
+both-row_set [] more own set' apart = set'
+both-row_set (row ∷ rows) more own set' apart = (
+  λ other m same. elim (Contains-append_cases rows more other m) [
+    | inl old ↦ own.0 other old same
+    | inr new ↦ apart row other (Contains-first row rows) new same
+  ],
+  both-row_set rows more own.1 set' (λ one other m n. apart one other (Contains-rest row one rows m) n),
+)
+
+to-low : (since : ℕ) (rows : List Row) (row : Row) → Contains (rows_to since rows) row
+    → Contains rows row × (row.stamp ≤ since)
+to-low since rows row m = let found = Contains-from_filter (λ (r : Row). leb r.stamp since) rows row m in
+    (found.0, leb-true row.stamp since found.1)
+
+above-high : (since : ℕ) (rows : List Row) (row : Row) → Contains (rows_above since rows) row
+    → Contains rows row × (since < row.stamp)
+above-high since rows row m = let found = Contains-from_filter (λ (r : Row). ltb since r.stamp) rows row m in
+    (found.0, ltb-true since row.stamp found.1)
+
+pub merged-row_set : (since : ℕ) (lower upper : List Row) → RowsAscend lower → RowsAscend upper
+    → All (λ row. since < row.stamp) upper → IsRowSet (rows_to since lower ++ upper)
+merged-row_set since lower upper up up' above =
+    both-row_set (rows_to since lower) upper
+    (filter-IsRowSet (λ (r : Row). leb r.stamp since) lower (ascending_rows_are_a_row_set lower up))
+    (ascending_rows_are_a_row_set upper up')
+    (λ row other m n same.
+    let under = (to-low since lower row m).1 in
+    let over : since < other.stamp = All-contains (λ (r : Row). since < r.stamp) upper other above n in
+    omega (arith, under, over, same.stamp))
+
+-- the rows of the older checkpoint up to the stamp, with those of the increment
+abbrev pub joined : ℕ → List Row → List Row → List Row
+joined since older upper = rows_to since older ++ upper
+
+-- the upper rows are the rows of a store above the stamp
+module _ (since : ℕ) (older newer : StoreView) (upper : List Row) (past more : List Step)
+    (h : Represents older past) (g : Represents newer (more ++ past)) (one : nodes older ≡ nodes newer)
+    (low : since ≤ floor (nodes older) past) (high : newer.horizon ≤ since)
+    (moved : IsPermutation (rows_above since newer.rows) upper) where
+  legal : IsLegal (nodes older) (more ++ past)
+  legal = subst (λ n. IsLegal n (more ++ past)) (sym one) g.legal
+
+  rises : horizon past ≤ horizon (more ++ past)
+  rises = horizon-grows (nodes older) past more legal
+
+  bounded : horizon (more ++ past) ≤ since
+  bounded = subst (λ n. n ≤ since) g.horizon high
+
+  from-upper : (row : Row) → Contains upper row → Contains newer.rows row × (since < row.stamp)
+  from-upper row m = above-high since newer.rows row
+      (Contains-permutation upper (rows_above since newer.rows) row
+      (IsPermutation-sym (rows_above since newer.rows) upper moved) m)
+
+  to-upper : (row : Row) → Contains newer.rows row → since < row.stamp → Contains upper row
+  to-upper row m up = Contains-permutation (rows_above since newer.rows) upper row moved
+      (Contains-filter (λ (r : Row). ltb since r.stamp) newer.rows row m (lt-ltb since row.stamp up))
+
+  joined-row_set : IsRowSet (joined since older.rows upper)
+  joined-row_set = both-row_set (rows_to since older.rows) upper
+      (filter-IsRowSet (λ (r : Row). leb r.stamp since) older.rows h.rows.row_set)
+      (row_set-moved (rows_above since newer.rows) upper
+      (filter-IsRowSet (λ (r : Row). ltb since r.stamp) newer.rows g.rows.row_set) moved)
+      (λ row other m n same.
+      let under = (to-low since older.rows row m).1 in
+      let over = (from-upper other n).1 in
+      omega (arith, under, over, same.stamp))
+
+  joined-within : (row : Row) → Contains (joined since older.rows upper) row → Contains (writes (more ++ past)) row
+  joined-within row m = elim (Contains-append_cases (rows_to since older.rows) upper row m) [
+    | inl old ↦ writes-kept past more row (h.rows.within row (to-low since older.rows row old).0)
+    | inr new ↦ g.rows.within row (from-upper row new).0
+  ]
+
+  joined-above : (row : Row) → Contains (writes (more ++ past)) row → horizon (more ++ past) < row.stamp
+      → Contains (joined since older.rows upper) row
+  joined-above row m up = elim (cases_lt since row.stamp) [
+    | inl over ↦ Contains-append_right (rows_to since older.rows) upper row
+        (to-upper row (g.rows.above row m up) over)
+    | inr under ↦
+        let before : Contains (writes past) row =
+        writes-before (nodes older) past more row legal m (omega (arith, under, low)) in
+        Contains-append_left (rows_to since older.rows) upper row
+        (Contains-filter (λ (r : Row). leb r.stamp since) older.rows row
+        (h.rows.above row before (let r = rises in omega (arith, r, up))) (le-leb row.stamp since under))
+  ]
+
+  -- up to the stamp it answers as the older checkpoint
+  joined-low : (key : List ℕ) (stamp : ℕ) → stamp ≤ since
+      → answer (joined since older.rows upper) key stamp ≡ answer older.rows key stamp
+  joined-low key stamp under =
+      sym (answer-rows_to (joined since older.rows upper) since key stamp joined-row_set under)
+      ∙ same_rows (rows_to since (joined since older.rows upper)) (rows_to since older.rows)
+      (filter-IsRowSet (λ (r : Row). leb r.stamp since) (joined since older.rows upper) joined-row_set)
+      (λ row m. let found = to-low since (joined since older.rows upper) row m in
+      elim (Contains-append_cases (rows_to since older.rows) upper row found.0) [
+        | inl old ↦ old
+        | inr new ↦ absurd (let over = (from-upper row new).1 in omega (arith, over, found.1))
+      ])
+      (λ row m. Contains-filter (λ (r : Row). leb r.stamp since) (joined since older.rows upper) row
+      (Contains-append_left (rows_to since older.rows) upper row m)
+      (le-leb row.stamp since (to-low since older.rows row m).1))
+      key stamp
+      ∙ answer-rows_to older.rows since key stamp h.rows.row_set under
+
+  -- where the older checkpoint answers as its past does, the rows do as the later past
+  joined-stays : (key : List ℕ) (stamp : ℕ) → stamp ≤ since
+      → answer older.rows key stamp ≡ answer (writes past) key stamp
+      → answer (joined since older.rows upper) key stamp ≡ answer (writes (more ++ past)) key stamp
+  joined-stays key stamp under was =
+      joined-low key stamp under ∙ was
+      ∙ sym (answers-stay (nodes older) past more legal key stamp (omega (arith, under, low)))
+
+  joined-from : (key : List ℕ) (stamp : ℕ) → horizon (more ++ past) ≤ stamp
+      → answer (joined since older.rows upper) key stamp ≡ answer (writes (more ++ past)) key stamp
+  joined-from key stamp up = elim (cases_lt since stamp) [
+    | inr under ↦ joined-stays key stamp under
+        (h.rows.from_horizon key stamp (let r = rises in omega (arith, r, up)))
+    | inl over ↦ alike_from (joined since older.rows upper) (writes (more ++ past)) since joined-row_set
+        joined-within
+        (λ row m higher. joined-above row m (let b = bounded in omega (arith, b, higher)))
+        key stamp (omega (arith, over))
+        (joined-stays key since (omega arith)
+        (h.rows.from_horizon key since (let r = rises in let b = bounded in omega (arith, r, b))))
+  ]
+
+  joined-open : (key : List ℕ) (stamp : ℕ) → Contains (stamps (open_snapshots (more ++ past))) stamp
+      → answer (joined since older.rows upper) key stamp ≡ answer (writes (more ++ past)) key stamp
+  joined-open key stamp m = elim (cases_lt stamp (horizon (more ++ past))) [
+    | inr up ↦ joined-from key stamp up
+    | inl under ↦ joined-stays key stamp (let b = bounded in omega (arith, b, under))
+        (elim (cases_lt stamp (horizon past)) [
+          | inr up ↦ h.rows.from_horizon key stamp up
+          | inl below ↦ h.rows.at_open key stamp (open-before (nodes older) past more stamp legal m below)
+        ])
+  ]
+
+  joined-represent : RowsRepresent (joined since older.rows upper) (writes (more ++ past)) (horizon (more ++ past))
+      (stamps (open_snapshots (more ++ past)))
+  joined-represent = record {
+    row_set = joined-row_set;
+    all_row_set = g.rows.all_row_set;
+    within = joined-within;
+    above = joined-above;
+    at_open = joined-open;
+    from_horizon = joined-from;
+  }
+
+  -- as many as there should be
+  joined-count : length (joined since older.rows upper) + trimmed past
+      ≡ length h.stored.0 + count_above (vacuumed past) (writes (more ++ past))
+  joined-count =
+      let was : length older.rows + trimmed past ≡ length h.stored.0 + count_above (vacuumed past) (writes past) =
+      h.stored.2 in
+      let vacuumed_low : vacuumed past ≤ horizon past = vacuumed-low (nodes older) past h.legal in
+      let r = rises in let b = bounded in
+      let older_above : count_above since older.rows ≡ count_above since (writes past) =
+      same_above since older.rows (writes past) h.rows.row_set h.rows.all_row_set (λ row m up. h.rows.within row m)
+      (λ row m up. h.rows.above row m (omega (arith, r, b, up))) in
+      let newer_above : count_above since newer.rows ≡ count_above since (writes (more ++ past)) =
+      same_above since newer.rows (writes (more ++ past)) g.rows.row_set g.rows.all_row_set
+      (λ row m up. g.rows.within row m) (λ row m up. g.rows.above row m (omega (arith, b, up))) in
+      let many : length (rows_above since newer.rows) ≡ length upper =
+      sym (length_permutation (rows_above since newer.rows) upper moved) in
+      let split = split_count since older.rows in
+      let parts = rows_above_are_counted (vacuumed past) since (writes past) (omega (arith, r, b, vacuumed_low)) in
+      let parts' = rows_above_are_counted (vacuumed past) since (writes (more ++ past))
+      (omega (arith, r, b, vacuumed_low)) in
+      let stays = between-stays (nodes older) past more (vacuumed past) since legal low in
+      let both = length-append (rows_to since older.rows) upper in
+      omega (arith, was, older_above, newer_above, many, split, parts, parts', stays, both)
+
+  -- so a state with these rows, and else the newer one, represents the past in which vacuums dropped nothing
+  pub joined-represents : Represents (with_rows_left newer (joined since older.rows upper) newer.horizon)
+      (without_drops more ++ past)
+  joined-represents =
+      let are = drops-agree (nodes newer) more past in
+      let now : List Step = without_drops more ++ past in
+      record {
+        legal = drops-legal (nodes newer) more past g.legal;
+        many = g.many ∙ sym are.numbers;
+        links = λ n lt. g.links n lt ∙ rw (are.counts n, are.heads n, are.away n) refl;
+        top = g.top ∙ sym are.tops;
+        snapshots = g.snapshots ∙ sym are.snapshots;
+        opened = g.opened ∙ sym are.many;
+        rows = rw (are.rows, are.horizons, are.snapshots) joined-represent;
+        stored = (
+          h.stored.0,
+          drops-last_changes more past h.stored.0 h.stored.1,
+          let counted = joined-count in
+              rw (are.rows, drops-trim_nothing more past, drops-vacuumed more past) counted,
+        );
+        horizon = g.horizon ∙ sym are.horizons;
+      }
+
+-- and so does what the older checkpoint becomes by the increment
+pub advanced-represents : (older newer made : StoreView) (increment : IncrementView) (past more : List Step)
+    → Represents older past → Represents newer (more ++ past) → nodes older ≡ nodes newer
+    → IsIncrementOf newer increment → increment.since ≤ floor (nodes older) past → IsAdvanced older increment made
+    → Represents made (without_drops more ++ past)
+advanced-represents older newer made increment past more h g one of low is =
+    let whole : StoreView =
+    with_rows_left newer (joined increment.since older.rows increment.state.rows) newer.horizon in
+    let first : Represents whole (without_drops more ++ past) =
+    joined-represents increment.since older newer increment.state.rows past more h g one low of.horizon
+    of.copy.rows.same in
+    let second : Represents (with_rows_left whole made.rows newer.horizon) (without_drops more ++ past) =
+    represents-moved whole (without_drops more ++ past) made.rows first is.rows in
+    let same : made ≡ with_rows_left newer made.rows newer.horizon =
+    is.same ∙ ap (λ (state : StoreView). with_rows_left state made.rows state.horizon) of.copy.same in
+    subst (λ view. Represents view (without_drops more ++ past)) (sym same) second
+
+-- the numbers of nodes are not assigned again
+numbered-grows : (nodes : ℕ) (past more : List Step) → numbered nodes past ≤ numbered nodes (more ++ past)
+numbered-grows nodes past [] = omega arith
+numbered-grows nodes past (Took item ∷ more) = numbered-grows nodes past more
+numbered-grows nodes past (Opened stamp ∷ more) = numbered-grows nodes past more
+numbered-grows nodes past (Closed id ∷ more) = numbered-grows nodes past more
+numbered-grows nodes past (Vacuumed at ∷ more) = numbered-grows nodes past more
+numbered-grows nodes past (Trimmed at dropped ∷ more) = numbered-grows nodes past more
+numbered-grows nodes past (Joined node start ∷ more) = (let h = numbered-grows nodes past more in omega (arith, h))
+
+-- the increment of a later state fits an older checkpoint, unless its stamp is above that one's floor
+pub fits-unless_above : (older newer : StoreView) (increment : IncrementView) (past more : List Step)
+    → Represents older past → IsCheckpoint older → Represents newer (more ++ past) → nodes older ≡ nodes newer
+    → IsIncrementOf newer increment → IsCheckpoint increment.state → (fault : AdvanceFault)
+    → IsReason older increment fault → (fault ≡ faults.NoMemory) ⊎ (floor (nodes older) past < increment.since)
+fits-unless_above older newer increment past more h is g one of is' (faults.Parts fault) (inl none) =
+    absurd (sound-has_no_reason older fault is none.0 none.1)
+fits-unless_above older newer increment past more h is g one of is' (faults.Parts fault) (inr none) =
+    absurd (sound-has_no_reason increment.state fault is' none.0 none.1)
+fits-unless_above older newer increment past more h is g one of is' faults.NotLater none =
+    let state : increment.state ≡ with_rows_left newer increment.state.rows newer.horizon = of.copy.same in
+    let links : length increment.state.links ≡ length newer.links =
+    ap (λ (view : StoreView). length view.links) state in
+    let at : increment.state.horizon ≡ newer.horizon = ap (λ (view : StoreView). view.horizon) state in
+    let grown = numbered-grows (nodes older) past more in
+    let many : length newer.links ≡ numbered (nodes older) (more ++ past) =
+    g.many ∙ ap (λ n. numbered n (more ++ past)) (sym one) in
+    let rose = horizon-grows (nodes older) past more (subst (λ n. IsLegal n (more ++ past)) (sym one) g.legal) in
+    absurd (none (record {
+      start = one ∙ sym (ap (λ (view : StoreView). view.start) state);
+      links = (let before = h.many in omega (arith, before, grown, many, links));
+      horizon = (let before = h.horizon in let after = g.horizon in omega (arith, before, after, rose, at));
+    }))
+fits-unless_above older newer increment past more h is g one of is' (faults.AboveFloor f) reason =
+    inr (let same : floor_in older ≡ floor (nodes older) past = floor-in older past is.nodes h in
+    omega (arith, same, reason.0, reason.1))
+fits-unless_above older newer increment past more h is g one of is' (faults.BelowHorizon f) reason =
+    absurd (let at : increment.state.horizon ≡ newer.horizon =
+    ap (λ (view : StoreView). view.horizon) of.copy.same in
+    let high = of.horizon in omega (arith, at, high, reason.0, reason.1))
+fits-unless_above older newer increment past more h is g one of is' faults.RowUpToStamp none =
+    absurd (none (All-permutation (λ (row : Row). increment.since < row.stamp)
+    (rows_above increment.since newer.rows) increment.state.rows of.copy.rows.same
+    (All-weaker (λ (row : Row). ltb increment.since row.stamp ≡ true) (λ (row : Row). increment.since < row.stamp)
+    (λ row t. ltb-true increment.since row.stamp t) (rows_above increment.since newer.rows)
+    (filter_passes (λ (row : Row). ltb increment.since row.stamp) newer.rows))))
+fits-unless_above older newer increment past more h is g one of is' faults.NoMemory reason = inl refl

@@ -1,0 +1,77 @@
+-- An increment of a store: its state without the rows at or below a stamp; and what an older checkpoint becomes by it.
+use Rattle.std.specs.Prelude.{◌≡◌, ◌≢◌, ℕ, ◌<◌, ◌≤◌, ◌⊎◌, List, [], ◌∷◌, ◌++◌, All, length, ⊤}
+use Rattle.std.specs.List.Sorted.{IsPermutation}
+use Rattle.hlc_column.specs.Rows.{rows_to}
+use Rattle.hlc_witness.specs.Certificate.{RowsAscend}
+use Rattle.hlc_core.specs.Past.{Step, Took, Opened, Closed, Vacuumed, Joined, Trimmed}
+use Rattle.hlc_core.specs.StoreView.{StoreView, with_rows_left}
+use Rattle.hlc_core.specs.Checkpoint.{IsCheckpoint, IsCopyAbove, IsFirstReason, floor_in}
+use Rattle.hlc_checkpoint.specs.declared.checkpoint.RestoreFault.{RestoreFault}
+use Rattle.hlc_checkpoint.specs.declared.checkpoint.RestoreFault.TheVariants as reasons
+use Rattle.hlc_increment.specs.declared.increment.IncrementFault.{IncrementFault}
+use Rattle.hlc_increment.specs.declared.increment.IncrementFault.TheVariants as increments
+use Rattle.hlc_increment.specs.declared.advancing.AdvanceFault.{AdvanceFault}
+use Rattle.hlc_increment.specs.declared.advancing.AdvanceFault.TheVariants.{Parts, NotLater, AboveFloor, BelowHorizon}
+use Rattle.hlc_increment.specs.declared.advancing.AdvanceFault.TheVariants.{RowUpToStamp, NoMemory}
+
+-- the stamp, and the state of a store with its rows above that alone
+pub record IncrementView : Type 0 where
+  pub since : ℕ
+  pub state : StoreView
+
+-- it is that of a store with this state, whose horizon is not above the stamp
+pub record IsIncrementOf (kept : StoreView) (increment : IncrementView) : Type 0 where
+  pub copy : IsCopyAbove increment.since kept increment.state
+  pub horizon : kept.horizon ≤ increment.since
+
+-- the checkpoint has all of the increment's state, and the rows of the older checkpoint up to the stamp with those of
+-- the increment, by key, stamp and node
+pub record IsAdvanced (older : StoreView) (increment : IncrementView) (made : StoreView) : Type 0 where
+  pub same : made ≡ with_rows_left increment.state made.rows increment.state.horizon
+  pub rows : IsPermutation (rows_to increment.since older.rows ++ increment.state.rows) made.rows
+  pub ascend : RowsAscend made.rows
+
+-- the same steps, but each vacuum, and each part of one, is a part that dropped nothing
+abbrev pub without_drops : List Step → List Step
+without_drops [] = []
+without_drops (Took item ∷ past) = Took item ∷ without_drops past
+without_drops (Opened stamp ∷ past) = Opened stamp ∷ without_drops past
+without_drops (Closed id ∷ past) = Closed id ∷ without_drops past
+without_drops (Vacuumed at ∷ past) = Trimmed at 0 ∷ without_drops past
+without_drops (Joined node start ∷ past) = Joined node start ∷ without_drops past
+without_drops (Trimmed at dropped ∷ past) = Trimmed at 0 ∷ without_drops past
+
+-- the state may be a later one of the same store: as many nodes at the start, no fewer links, and no lower horizon
+pub record MayBeLater (older newer : StoreView) : Type 0 where
+  pub start : older.start ≡ newer.start
+  pub links : length older.links ≤ length newer.links
+  pub horizon : older.horizon ≤ newer.horizon
+
+-- the first refusal of an increment of a store with this state, or out of memory
+abbrev pub IsRefused : StoreView → ℕ → IncrementFault → Type 0
+IsRefused kept since (increments.BelowHorizon horizon) = (horizon ≡ kept.horizon) × (since < horizon)
+IsRefused kept since increments.NoMemory = kept.horizon ≤ since
+
+-- The increment and the checkpoint fit each other: both are checkpoints, the one perhaps later than the other; the stamp
+-- lies from the one's horizon to the other's floor; and the rows of the increment are above it.
+pub record AreFitting (older : StoreView) (increment : IncrementView) : Type 0 where
+  pub sound : IsCheckpoint older
+  pub state : IsCheckpoint increment.state
+  pub later : MayBeLater older increment.state
+  pub low : increment.since ≤ floor_in older
+  pub high : increment.state.horizon ≤ increment.since
+  pub above : All (λ row. increment.since < row.stamp) increment.state.rows
+
+-- this is no checkpoint, for this reason
+abbrev pub IsNone : StoreView → RestoreFault → Type 0
+IsNone kept fault = IsFirstReason kept fault × (fault ≢ reasons.NoMemory)
+
+-- why the checkpoint does not become a newer one
+abbrev pub IsReason : StoreView → IncrementView → AdvanceFault → Type 0
+IsReason older increment (Parts fault) = IsNone older fault ⊎ IsNone increment.state fault
+IsReason older increment NotLater = MayBeLater older increment.state → ⊥
+IsReason older increment (AboveFloor floor) = (floor ≡ floor_in older) × (floor < increment.since)
+IsReason older increment (BelowHorizon horizon) =
+    (horizon ≡ increment.state.horizon) × (increment.since < horizon)
+IsReason older increment RowUpToStamp = All (λ row. increment.since < row.stamp) increment.state.rows → ⊥
+IsReason older increment NoMemory = ⊤

@@ -1,0 +1,3 @@
+pub mod Increment
+pub mod Faults
+pub mod Bytes

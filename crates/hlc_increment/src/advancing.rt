@@ -1,0 +1,179 @@
+//! An older checkpoint that becomes a newer one by an increment.
+ghost use Rattle.std.specs.Prelude.{◌≡◌, ◌≢◌, ◌<◌, ◌++◌, ◌↔◌, ◌⊎◌, All, IfOk, IfErr, IfSome, IsTrue, List, None};
+ghost use Rattle.std.specs.List.Sorted.{IsPermutation};
+ghost use Rattle.hlc_column.specs.Rows.{rows_to};
+ghost use Rattle.hlc_witness.specs.Certificate.{RowsAscend};
+ghost use Rattle.hlc_core.specs.Past.{Step, floor};
+ghost use Rattle.hlc_core.specs.Checkpoint.{IsCheckpoint};
+ghost use Rattle.hlc_core.specs.StoreView.{StoreView, nodes, Represents};
+ghost use Rattle.hlc_increment.specs.Increment.{AreFitting, IsAdvanced, IsIncrementOf, IsReason, MayBeLater};
+ghost use Rattle.hlc_increment.specs.Increment.{without_drops};
+ghost use Rattle.hlc_increment.specs.declared.advancing.AdvanceFault.TheVariants.{NoMemory as no_memory};
+
+use crate::increment::Increment;
+use hlc_checkpoint::sort;
+use hlc_core::{Checkpoint, RestoreFault, Row, Stamp};
+use hlc_values::NoMemory;
+use std::error::Error;
+use std::fmt;
+
+/// Why an older checkpoint does not become a newer one, in the order in which the reasons are checked.
+#[derive(Clone, Copy, PartialEq, Eq, Debug)]
+pub enum AdvanceFault {
+    /// The older one is no checkpoint, or the state of the increment is none. Never `RestoreFault::NoMemory`.
+    Parts(RestoreFault),
+    /// The increment is not of a later state of the same store: it has another number of nodes at the start, fewer
+    /// links, or a lower horizon.
+    NotLater,
+    /// The stamp of the increment is above the floor of the older checkpoint, so writes up to it may be missing.
+    AboveFloor { floor: Stamp },
+    /// The stamp of the increment is below its horizon.
+    BelowHorizon { horizon: Stamp },
+    /// A row of the increment is not above its stamp.
+    RowUpToStamp,
+    /// Out of memory.
+    NoMemory,
+}
+
+impl fmt::Display for AdvanceFault {
+    ghost use Rattle.std.specs.Prelude.{Some};
+    ghost use Rattle.hlc_increment.specs.Faults.{advance_text};
+
+    ghost output = { λ fault. Some (advance_text fault) };
+
+    fn fmt<W: fmt::Write>(&self, f: &mut fmt::Formatter<W>) -> fmt::Result {
+        match self {
+            AdvanceFault::Parts(fault) => fault.fmt(f),
+            AdvanceFault::NotLater => f.write_str(
+                "the increment is not of a later state of this store",
+            ),
+            AdvanceFault::AboveFloor { floor } => {
+                write!(f, "the stamp is above the floor of the checkpoint, {floor}")
+            }
+            AdvanceFault::BelowHorizon { horizon } => {
+                write!(f, "the stamp is below that of the last vacuum, {horizon}")
+            }
+            AdvanceFault::RowUpToStamp => f.write_str(
+                "a row of the increment is not above its stamp",
+            ),
+            AdvanceFault::NoMemory => f.write_str("out of memory"),
+        }
+    }
+}
+
+impl Error for AdvanceFault {}
+
+impl From<NoMemory> for AdvanceFault {
+    ghost use Rattle.hlc_increment.specs.declared.advancing.AdvanceFault.TheVariants.{NoMemory as no_memory};
+
+    ghost from_gives = { λ _ fault. fault ≡ no_memory };
+
+    fn from(_fault: NoMemory) -> AdvanceFault {
+        AdvanceFault::NoMemory
+    }
+}
+
+/// Returns the checkpoint that an older one becomes by an increment: the increment's state, with the rows of both. If
+/// the increment is of the store from which the older checkpoint is, then a store that is restored from the result
+/// represents the same past as that store, but that its vacuums since the older checkpoint dropped nothing. So it
+/// answers alike, and its next vacuum drops what those dropped.
+///
+/// Refused for the first reason of `AdvanceFault`. Both are moved, and lost if it is refused. No row is copied; the
+/// rows are sorted.
+pub fn advance(older: Checkpoint, increment: Increment) -> Result<Checkpoint, AdvanceFault>
+    ensures ok { IfOk result (IsAdvanced older increment) }
+    ensures represents { (past more : List Step) (newer : StoreView) → Represents older past
+        → Represents newer (more ++ past) → nodes older ≡ nodes newer
+        → IsIncrementOf newer increment
+        → IfOk result (λ made. Represents made (without_drops more ++ past)) }
+    ensures only { (past more : List Step) (newer : StoreView) → Represents older past
+        → IsCheckpoint older → Represents newer (more ++ past) → nodes older ≡ nodes newer
+        → IsIncrementOf newer increment → IsCheckpoint increment.state → IfErr result
+        (λ fault. (fault ≡ no_memory) ⊎ (floor (nodes older) past < increment.since)) }
+    ensures err { IfErr result (IsReason older increment) }
+{
+    if let Some(fault) = reason_against(&older, &increment) {
+        return Err(fault);
+    }
+    let (since, state) = increment.into_parts();
+    let (start, opened, horizon) = (state.start(), state.opened(), state.horizon());
+    let (_, _, lower) = older.into_lists();
+    let (links, snapshots, upper) = state.into_lists();
+    let rows = merged(lower, since, upper)?;
+    Ok(Checkpoint::of(start, links, snapshots, opened, horizon, rows))
+}
+
+/// Returns the first reason against an increment of a checkpoint, or none; never out of memory.
+fn reason_against(older: &Checkpoint, increment: &Increment) -> Option<AdvanceFault>
+    ensures some { IfSome result (IsReason older.now increment.now) }
+    ensures other { IfSome result (λ fault. fault ≢ no_memory) }
+    ensures none { result ≡ None → AreFitting older.now increment.now }
+{
+    let state = increment.state();
+    if let Some(fault) = older.fault() {
+        return Some(AdvanceFault::Parts(fault));
+    }
+    if let Some(fault) = state.fault() {
+        return Some(AdvanceFault::Parts(fault));
+    }
+    if !may_be_later(older, state) {
+        return Some(AdvanceFault::NotLater);
+    }
+    let floor = older.floor();
+    if increment.since() > floor {
+        return Some(AdvanceFault::AboveFloor { floor });
+    }
+    let horizon = state.horizon();
+    if increment.since() < horizon {
+        return Some(AdvanceFault::BelowHorizon { horizon });
+    }
+    if !are_above(increment.since(), state.rows()) {
+        return Some(AdvanceFault::RowUpToStamp);
+    }
+    None
+}
+
+/// Returns whether a state may be a later one of the same store.
+fn may_be_later(older: &Checkpoint, newer: &Checkpoint) -> bool
+    ensures { IsTrue result ↔ MayBeLater older.now newer.now }
+{
+    older.start() == newer.start()
+        && older.links().len() <= newer.links().len()
+        && older.horizon() <= newer.horizon()
+}
+
+/// Returns whether all rows are above a stamp.
+fn are_above(since: Stamp, rows: &[Row]) -> bool
+    ensures { IsTrue result ↔ All (λ row. since < row.stamp) rows.now }
+{
+    for row in rows {
+        if row.stamp <= since {
+            return false;
+        }
+    }
+    true
+}
+
+/// Returns the rows of one list up to a stamp, and all of the other, which are above it, by key, stamp and node.
+fn merged(lower: Vec<Row>, since: Stamp, upper: Vec<Row>) -> Result<Vec<Row>, NoMemory>
+    requires lower { RowsAscend lower.items }
+    requires upper { RowsAscend upper.items }
+    requires above { All (λ row. since < row.stamp) upper.items }
+    ensures rows { IfOk result
+        (λ rows. IsPermutation (rows_to since lower.items ++ upper.items) rows.items) }
+    ensures ascend { IfOk result (λ rows. RowsAscend rows.items) }
+{
+    let mut rows = lower;
+    let mut upper = upper;
+    keep_up_to(&mut rows, since);
+    rows.append(&mut upper)?;
+    sort(&mut rows);
+    Ok(rows)
+}
+
+/// Keeps the rows up to a stamp, in their order.
+fn keep_up_to(rows: &mut Vec<Row>, since: Stamp)
+    ensures { rows.new.items ≡ rows_to since rows.old.items }
+{
+    rows.retain(|row| row.stamp <= since);
+}

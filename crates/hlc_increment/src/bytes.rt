@@ -1,0 +1,119 @@
+//! An increment as bytes.
+ghost use Rattle.std.specs.Prelude.{◌≡◌, ◌∷◌, ℕ, IfOk, IfErr, Ok};
+ghost use Rattle.hlc_frame.specs.Frame.{frame_bytes, FrameFits};
+ghost use Rattle.hlc_wire.specs.Reading.{Gives};
+ghost use Rattle.hlc_core.specs.Checkpoint.{IsFirstReason};
+ghost use Rattle.hlc_increment.specs.Increment.{IncrementView};
+ghost use Rattle.hlc_increment.specs.Bytes.{IncrementFits, content_at, increment_at, increment_bytes, state_at};
+
+use crate::increment::Increment;
+use hlc_core::{RestoreFault, Stamp};
+use hlc_frame::{FrameWriter, open_frame};
+use hlc_saved::{Decoded, decode_checkpoint, encode_checkpoint};
+use hlc_values::NoMemory;
+use hlc_wire::{DecodeError, WireFault};
+use std::alloc::Global;
+
+/// An increment that was read from bytes.
+#[derive(Debug, Drop)]
+pub struct DecodedIncrement {
+    pub increment: Increment,
+    /// The word that it was saved with.
+    pub word: u64,
+}
+
+/// Returns the one encoding of an increment and a word of the caller's: for example, the position in its log up to
+/// which the store has applied it.
+///
+/// Refused for the first reason why the state is no checkpoint; then out of memory. It takes memory for twice the
+/// bytes.
+pub fn encode_increment(
+    alloc: Global,
+    increment: &Increment,
+    word: u64,
+) -> Result<Vec<u8>, RestoreFault>
+    ensures fits { IfOk result (λ _. IncrementFits word increment.now) }
+    ensures spelled { IfOk result (λ bytes. bytes.items ≡ increment_bytes word increment.now) }
+    ensures err { IfErr result (IsFirstReason increment.now.state) }
+{
+    let since = increment.since().bits();
+    let state = match encode_checkpoint(alloc, increment.state(), since) {
+        Ok(state) => state,
+        Err(fault) => return Err(fault),
+    };
+    let content = content_of(alloc, state.as_slice())?;
+    Ok(framed(alloc, content.as_slice(), word)?)
+}
+
+/// Returns the bytes of a state, after the byte that tells an increment from a checkpoint.
+fn content_of(alloc: Global, state: &[u8]) -> Result<Vec<u8>, NoMemory>
+    ensures { IfOk result (λ content. content.items ≡ 1 ∷ state.now) }
+{
+    let mut content = Vec::new(alloc);
+    content.push(1)?;
+    content.extend_from_slice(state)?;
+    Ok(content)
+}
+
+/// Returns a frame with this body.
+fn framed(alloc: Global, body: &[u8], word: u64) -> Result<Vec<u8>, NoMemory>
+    ensures frame { IfOk result (λ bytes. bytes.items ≡ frame_bytes word body.now) }
+    ensures fits { FrameFits word body.now }
+{
+    let mut out = Vec::new(alloc);
+    let mut frame = FrameWriter::begin(&mut out, body.len() as u64, word)?;
+    out.extend_from_slice(body)?;
+    frame.put(body);
+    frame.end(&mut out)?;
+    Ok(out)
+}
+
+/// Reads the increment and the word from their encoding, which is all of the bytes.
+///
+/// The frame is checked first, then the first byte of its body, `Kind` where it is not 1; then the state, as by
+/// `decode_checkpoint`. `advance` checks what it says.
+pub fn decode_increment(alloc: Global, bytes: &[u8]) -> Result<DecodedIncrement, DecodeError>
+    ensures found { IfOk result (λ made. IncrementFits made.word made.increment
+        × (bytes.now ≡ increment_bytes made.word made.increment)) }
+    ensures only { (word : ℕ) (increment : IncrementView) → IncrementFits word increment
+        → bytes.now ≡ increment_bytes word increment
+        → Gives {Y = ℕ × IncrementView} (λ made. (made.word, made.increment)) result
+        (Ok (word, increment)) }
+    ensures exact { Gives (λ made. (made.word, made.increment)) result (increment_at bytes.now) }
+{
+    all(alloc, bytes)
+}
+
+/// Reads an increment and a word from all of the bytes.
+fn all(alloc: Global, bytes: &[u8]) -> Result<DecodedIncrement, DecodeError>
+    ensures { Gives (λ made. (made.word, made.increment)) result (increment_at bytes.now) }
+{
+    let frame = match open_frame(bytes) {
+        Ok(frame) => frame,
+        Err(fault) => return Err(DecodeError::Fault(fault)),
+    };
+    let increment = content_at(alloc, frame.body)?;
+    let word = frame.word;
+    Ok(DecodedIncrement { increment, word })
+}
+
+/// Reads an increment from all of the body of a frame.
+#[tactic(auto, unfolding(crate::specs::Bytes::content_at))]
+fn content_at(alloc: Global, body: &[u8]) -> Result<Increment, DecodeError>
+    ensures { Gives (λ made. made) result (content_at body.now) }
+{
+    match body {
+        [] => Err(DecodeError::Fault(WireFault::Short)),
+        [1, state @ ..] => state_at(alloc, state),
+        [_, ..] => Err(DecodeError::Fault(WireFault::Kind)),
+    }
+}
+
+/// Reads the state and the stamp of an increment.
+#[tactic(auto, unfolding(crate::specs::Bytes::state_at))]
+fn state_at(alloc: Global, bytes: &[u8]) -> Result<Increment, DecodeError>
+    ensures { Gives (λ made. made) result (state_at bytes.now) }
+{
+    let Decoded { checkpoint, word } = decode_checkpoint(alloc, bytes)?;
+    Ok(Increment::from_parts(Stamp::from_bits(word), checkpoint))
+}
