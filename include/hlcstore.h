@@ -9,8 +9,7 @@
  * call is total: it checks lengths and numbers itself, and is proved to answer as described here, whatever is passed to
  * it by the rules below. Where hlc_restore took bytes that no hlc_checkpoint made, calls are proved to be safe, but not
  * to answer as described. After any answer but HLC_OK the store, and the node, is unchanged; hlc_accept_all,
- * hlc_items_accept, hlc_records_apply, hlc_node_restore, hlc_vacuum_certified and hlc_vacuum_to_certified describe
- * exceptions.
+ * hlc_items_accept, hlc_records_apply and hlc_node_restore describe exceptions.
  * Every answer writes to every pointer, with 0 where there is nothing to return. A buffer that an answer does not fill
  * keeps its bytes.
  *
@@ -62,17 +61,19 @@
  *   hlc_list                            10                                        reads
  *   hlc_scan                            10 104                                    reads
  *   hlc_scan_keys                       10 104                                    reads
+ *   hlc_scan_back                       10 104                                    reads
+ *   hlc_changes                         10 104                                    reads
  *   hlc_count, hlc_digest               10                                        reads
  *   hlc_floor, _rows, _sizes, _horizon  none                                      reads
  *   hlc_nodes                           none                                      reads
+ *   hlc_versions                        none                                      reads
  *   hlc_link, hlc_floor_node            1                                         reads
  *   hlc_snapshot                        10                                        reads
  *   hlc_vacuum                          15                                yes     other stores
- *   hlc_vacuum_certified                108 15                            yes     other stores and outputs
  *   hlc_vacuum_to                       8 9 15                            yes     other stores
- *   hlc_vacuum_to_certified             108 8 9 15                        yes     other stores and outputs
  *   hlc_vacuum_part                     8 9 15                            yes     other stores
  *   hlc_check_vacuum                    8 9                                       reads
+ *   hlc_certificate                     108 8 9 109 15                    yes     reads, with other outputs
  *   hlc_item_write, _delete             12 13 15                          yes     all
  *   hlc_item_report, _retire            15                                yes     all
  *   hlc_items_accept                    106 1 27 6 14 7 15                yes     other stores
@@ -91,7 +92,7 @@
  *   hlc_node_write, _delete             27 12 13 14 2 3                           other nodes
  *   hlc_node_report, _retire            27 14 2 3                                 other nodes
  *   hlc_node_send, _receive             27 2 3                                    other nodes
- *   hlc_check                           20 16 15 22                       yes     all
+ *   hlc_check                           16 15 22                          yes     all
  *   hlc_version, hlc_error_name, _text                                            all
  */
 #ifndef HLCSTORE_H
@@ -148,9 +149,9 @@ enum {
     HLC_NUMBERS_SPENT = 14,     /* no link number, or id of a snapshot, is left */
     HLC_NO_MEMORY = 15,         /* out of memory, and no other refusal is expected; of hlc_restore, hlc_restore_finish,
                                    hlc_items_accept and hlc_records_apply it may come in place of another refusal,
-                                   but of a restore not of bytes that are damaged, cut or no frame at all */
+                                   but of a restore not of bytes that are damaged, cut or no frame at all; of
+                                   hlc_certificate in place of 109 */
     HLC_BAD_LINE = 16,          /* of hlc_check; word: the number of the first bad line */
-    HLC_TOO_LONG = 20,          /* of hlc_check: the text has more than 16,777,216 bytes */
     HLC_NOT_SHOWN = 22,         /* of hlc_check; word: the number of the first reason of docs/formats.md, 1 to 8 */
     HLC_TOO_MANY_NODES = 26,    /* 1,024 node numbers are assigned */
     HLC_RETIRED = 27,           /* the node retired */
@@ -160,13 +161,14 @@ enum {
                                    hlc_restore_start: a restore is under way, and goes on */
     HLC_NO_VALUE = 102,         /* of hlc_read: the key has no value in the snapshot */
     HLC_OUTSIDE = 103,          /* of hlc_accept_all, hlc_read_all: a key or a value lies outside the bytes */
-    HLC_MORE = 104,             /* of hlc_scan, _scan_keys, hlc_read_all, hlc_output_read: a part is left, which did
-                                   not fit */
+    HLC_MORE = 104,             /* of hlc_scan, _scan_keys, _scan_back, hlc_changes, hlc_read_all, hlc_output_read: a
+                                   part is left, which did not fit */
     HLC_NO_SUCH_NODE = 105,     /* of hlc_node_restore: no node has issued so many items up to this stamp */
     HLC_BAD_BYTES = 106,        /* of hlc_restore, hlc_items_accept, hlc_records_apply; word: the number of the first
                                    fault, 1 to 7 */
     HLC_NO_CHECKPOINT = 107,    /* of hlc_restore; word: the number of the first reason of docs/formats.md, 1 to 9 */
-    HLC_HAS_BYTES = 108         /* the output has bytes, and keeps them; nothing took place */
+    HLC_HAS_BYTES = 108,        /* the output has bytes, and keeps them; nothing took place */
+    HLC_NOT_FEWEST = 109        /* of hlc_certificate: a vacuum to the stamp would drop a row */
 };
 
 /* ---- The library ---- */
@@ -291,6 +293,24 @@ uint32_t hlc_scan(hlc_store *store, uint64_t id, const uint8_t *from, size_t fro
 uint32_t hlc_scan_keys(hlc_store *store, uint64_t id, const uint8_t *from, size_t from_len, const uint8_t *to,
                        size_t to_len, uint8_t *out, size_t out_len, size_t *len, size_t *many);
 
+/* Lists such a range as hlc_scan does, but from its end: the pair of the last key comes first, and of the pairs as many
+ * whole ones as out has room for. Returns HLC_OK where these are all pairs of the range, or HLC_MORE where a pair is
+ * left. The next call has the last key that was returned as its `to`. So the last pair below a key is the first of this
+ * call with the key as `to`, and a buffer of 65,806 bytes always gets one. Refusal: 10. No memory. Looks up the end of
+ * the range, and each key that is returned costs a look at its rows. */
+uint32_t hlc_scan_back(hlc_store *store, uint64_t id, const uint8_t *from, size_t from_len, const uint8_t *to,
+                       size_t to_len, uint8_t *out, size_t out_len, size_t *len, size_t *many);
+
+/* Lists what leads from one snapshot to another: the keys of such a range whose answers in the two differ, in byte
+ * order. For each the key's length, in eight bytes as in hlc_list, the key, and its answer in the snapshot `after`, in
+ * the form of hlc_read_all: a byte 0 where the key has no value there, or 1, the value's length and the value. As many
+ * whole ones as out has room for. len: how many bytes were written; many: how many keys. Returns HLC_OK where these are
+ * all of the range, or HLC_MORE where one is left. The next call goes on from the last key with a byte 0 after it. One
+ * has at most 65,807 bytes. Either snapshot may be the older one. Refusal: 10, where one of them is not open. No
+ * memory. Looks up the first key, and looks at the rows of each key of the range up to the last that is returned. */
+uint32_t hlc_changes(hlc_store *store, uint64_t before, uint64_t after, const uint8_t *from, size_t from_len,
+                     const uint8_t *to, size_t to_len, uint8_t *out, size_t out_len, size_t *len, size_t *many);
+
 /* Counts the keys of such a range that have a value in a snapshot. many: how many, or 2^64 - 1 where there are more.
  * Refusal: 10. No memory. */
 uint32_t hlc_count(hlc_store *store, uint64_t id, const uint8_t *from, size_t from_len,
@@ -312,18 +332,20 @@ uint32_t hlc_rows(hlc_store *store, uint64_t *rows);
  * where it would be greater. The store takes more memory than these bytes. No memory. In constant time. */
 uint32_t hlc_sizes(hlc_store *store, uint64_t *rows, uint64_t *keys, uint64_t *key_bytes, uint64_t *value_bytes);
 
+/* Lists the stored rows of a key above the stamp `above` and at or below the stamp `to`, the newest first: by stamp,
+ * and at one stamp by node. For each the stamp in eight bytes and the node in two, the low one first, and the answer
+ * that it gives, in the form of hlc_read_all, where a byte 0 is a deletion. len: how many bytes that takes, as in
+ * hlc_read; many: how many rows. The bytes are written where they all fit, otherwise out keeps its bytes. A row has at
+ * most 65,554 bytes. From the horizon on these are all accepted writes of the key; below it, those that vacuums kept.
+ * No memory. Looks at all rows of the key for each that it returns, so that it costs the square of their number. */
+uint32_t hlc_versions(hlc_store *store, const uint8_t *key, size_t key_len, uint64_t above, uint64_t to, uint8_t *out,
+                      size_t out_len, size_t *len, size_t *many);
+
 /* Drops all rows at or below the floor except the fewest, and the cheapest, that give the same answers as all accepted
  * writes at each open snapshot and at the floor. kept, dropped: numbers of rows at or below the floor; bytes: the cost
  * of those that were kept, which is for each the length of its key and of its value, and 10. The last two are 2^64 - 1
  * where they would be greater. Refusal: 15. Reads each key once at each point. */
 uint32_t hlc_vacuum(hlc_store *store, uint64_t *floor, uint64_t *kept, uint64_t *bytes, uint64_t *dropped);
-
-/* Does the same, and puts the certificate of the rows that are left up to the floor into an output that has no bytes.
- * hlc_check and `hlcstore check` read it if it has at most 16,777,216 bytes. len: how many bytes it has. Refusals, in
- * this order: 108; 15, where the vacuum may have taken place: then a further call finds nothing to drop, and makes its
- * certificate. */
-uint32_t hlc_vacuum_certified(hlc_store *store, uint64_t *floor, uint64_t *kept, uint64_t *bytes, uint64_t *dropped,
-                              hlc_output *output, size_t *len);
 
 /* Drops all rows at or below a stamp except the fewest, and the cheapest, that give the same answers as all accepted
  * writes at each snapshot that is open at or below the stamp, and at the stamp. All rows above it stay. No snapshot
@@ -332,11 +354,6 @@ uint32_t hlc_vacuum_certified(hlc_store *store, uint64_t *floor, uint64_t *kept,
  * below the horizon, 15. Reads each key once at each point. */
 uint32_t hlc_vacuum_to(hlc_store *store, uint64_t stamp, uint64_t *word, uint64_t *kept, uint64_t *bytes,
                        uint64_t *dropped);
-
-/* Does the same, and puts the certificate of the rows that are left up to the stamp into an output that has no bytes.
- * len: as in hlc_vacuum_certified. Refusals, in this order: 108, 8, 9, 15. With 15 the vacuum may have taken place. */
-uint32_t hlc_vacuum_to_certified(hlc_store *store, uint64_t stamp, uint64_t *word, uint64_t *kept, uint64_t *bytes,
-                                 uint64_t *dropped, hlc_output *output, size_t *len);
 
 /* Makes a part of hlc_vacuum_to, so that one call does a bounded amount of work under the caller's lock: it vacuums
  * the first keys above `after`, which without bytes is below every key, at most `most` of them. word: the stamp, or
@@ -356,9 +373,19 @@ uint32_t hlc_vacuum_part(hlc_store *store, uint64_t stamp, const uint8_t *after,
  * word. No memory. */
 uint32_t hlc_check_vacuum(hlc_store *store, uint64_t stamp, uint64_t *word);
 
+/* Puts the certificate of the rows at or below a stamp into an output that has no bytes. It shows that no row set that
+ * gives the same answers at each snapshot that is open at or below the stamp, and at the stamp, has fewer rows, or
+ * costs fewer bytes. It is made of what the store has, and changes nothing: so it comes after a vacuum to this stamp,
+ * or after the last part of one. hlc_check reads it, and so does `hlcstore check` if it has at most 16,777,216 bytes.
+ * word: 0, or the refusal's word; kept, bytes: as in hlc_vacuum_to; len: how many bytes the certificate has. Refusals,
+ * in this order: 108; 8 above the floor; 9 below the horizon; 109 where a vacuum to the stamp would drop a row; 15,
+ * which may come in place of 109. Reads each key once at each point. */
+uint32_t hlc_certificate(hlc_store *store, uint64_t stamp, uint64_t *word, uint64_t *kept, uint64_t *bytes,
+                         hlc_output *output, size_t *len);
+
 /* Checks the text of a certificate, whoever made it: no row set that gives the same answers at its points has fewer
  * rows, or costs fewer bytes. rows, bytes: how many rows, and what they cost. word: 0, or the refusal's word.
- * Refusals: 20, 16, 15, 22. */
+ * Refusals: 16, 15, 22. */
 uint32_t hlc_check(const uint8_t *text, size_t text_len, uint64_t *rows, uint64_t *bytes, uint64_t *word);
 
 /* ---- Restart and replicas ---- */

@@ -79,12 +79,18 @@ static uint64_t scattered(uint64_t number, uint64_t size)
 }
 
 /* Accepts the next write of node 0: its stamp is one reading above that of its last item. */
-static void put(hlc_store *store, uint64_t number, uint64_t key_number)
+static void put_value(hlc_store *store, uint64_t number, uint64_t key_number, const char *value)
 {
     uint8_t key[16];
     size_t key_len = key_of(key_number, key);
     uint64_t word;
-    must(hlc_accept_write(store, 0, number, STAMP(number + 1), key, key_len, (const uint8_t *)"value", 5, &word));
+    must(hlc_accept_write(store, 0, number, STAMP(number + 1), key, key_len, (const uint8_t *)value, strlen(value),
+                          &word));
+}
+
+static void put(hlc_store *store, uint64_t number, uint64_t key_number)
+{
+    put_value(store, number, key_number, "value");
 }
 
 /* Opens a store with so many keys of one version, a power of 2, that came in a scattered order or in their own. */
@@ -137,7 +143,7 @@ static void measure_questions(hlc_store *store, uint64_t keys)
     end("link", keys, TIMES);
 }
 
-/* A page of a hundred pairs, and their count and digest, cost what they return. */
+/* A page of a hundred pairs, from the front or from the end, and their count and digest, cost what they return. */
 static void measure_pages(hlc_store *store, uint64_t keys, uint64_t id)
 {
     static uint8_t out[100 * 33];
@@ -147,6 +153,10 @@ static void measure_pages(hlc_store *store, uint64_t keys, uint64_t id)
     begin();
     must(hlc_scan(store, id, from, from_len, NULL, 0, out, sizeof out, &len, &pairs));
     end("scan", keys, 1);
+    if (pairs != 100) exit(1);
+    begin();
+    must(hlc_scan_back(store, id, NULL, 0, to, to_len, out, sizeof out, &len, &pairs));
+    end("scan-back", keys, 1);
     if (pairs != 100) exit(1);
     begin();
     must(hlc_count(store, id, from, from_len, to, to_len, &many));
@@ -198,6 +208,27 @@ static void measure_keys(uint64_t keys)
     begin();
     for (uint64_t i = 0; i < TIMES; i++) put(&store, keys + i, keys + scattered(i, 1024));
     end("new-key", keys, TIMES);
+    hlc_close(&store);
+}
+
+/* What changes in a range of a hundred keys, of which ten get another value, costs a look at these keys. All keys
+ * outside of the range change too. */
+static void measure_changes(uint64_t keys)
+{
+    static uint8_t out[100 * 34];
+    hlc_store store = HLC_CLOSED_STORE;
+    uint8_t from[16], to[16];
+    size_t from_len = key_of(keys / 2, from), to_len = key_of(keys / 2 + 100, to), len, many;
+    fill(&store, keys, true);
+    uint64_t before = open_at_floor(&store), number = keys;
+    for (uint64_t i = 0; i < keys; i++) {
+        if (i < keys / 2 || i >= keys / 2 + 100 || i % 10 == 0) put_value(&store, number++, i, "other");
+    }
+    uint64_t after = open_at_floor(&store);
+    begin();
+    must(hlc_changes(&store, before, after, from, from_len, to, to_len, out, sizeof out, &len, &many));
+    end("changes", keys, 1);
+    if (many != 10) exit(1);
     hlc_close(&store);
 }
 
@@ -288,6 +319,8 @@ int main(void)
     CALLGRIND_STOP_INSTRUMENTATION;
     measure_keys(FEW_KEYS);
     measure_keys(MANY_KEYS);
+    measure_changes(FEW_KEYS);
+    measure_changes(MANY_KEYS);
     measure_first_keys(FEW_KEYS);
     measure_first_keys(MANY_KEYS);
     measure_versions(1024);

@@ -6,7 +6,6 @@ import hashlib
 import random
 import struct
 import sys
-from collections import Counter
 from urllib.parse import unquote_to_bytes
 
 import no_memory
@@ -14,7 +13,8 @@ from raw_calls import PLACE, Handle, Library
 
 ROUNDS = 300
 OK, NOT_NEXT, ABOVE_FLOOR, BELOW_HORIZON, NO_SNAPSHOT, NO_MEMORY = 0, 6, 8, 9, 10, 15
-CLOSED, MORE, BAD_BYTES, HAS_BYTES = 100, 104, 106, 108
+CLOSED, MORE, BAD_BYTES, HAS_BYTES, NOT_FEWEST = 100, 104, 106, 108, 109
+TOP = 2**64 - 1
 
 
 def ok(name, *args):
@@ -75,15 +75,19 @@ def opened(nodes):
     return store
 
 
+def sized(part):
+    """Some bytes, with their length before them."""
+    return struct.pack("<Q", len(part)) + part
+
+
 def listing(pairs):
     """The bytes of some pairs, as hlc_list writes them."""
-    parts = (struct.pack("<Q", len(part)) + part for pair in pairs for part in pair)
-    return b"".join(parts)
+    return b"".join(sized(part) for pair in pairs for part in pair)
 
 
 def answer(value):
     """The bytes of an answer, as hlc_read_all writes them."""
-    return b"\0" if value is None else b"\1" + struct.pack("<Q", len(value)) + value
+    return b"\0" if value is None else b"\1" + sized(value)
 
 
 def fitting(parts, room):
@@ -168,21 +172,43 @@ def vacuum_part(pick, store, model):
     model.begun = (at, last) if more else None
     if not more and pick.random() < 0.5:
         kept, bytes, dropped = model.vacuum(at, model.keys())
+        certify(pick, store, model, at, kept, bytes)
         assert ok("vacuum_to", store, at) == (at, kept, bytes, 0) and dropped == 0
 
 
+def certify(pick, store, model, at, kept, bytes):
+    """Makes the certificate of the rows at or below a stamp, and compares it with the model."""
+    *numbers, text = made(pick, "certificate", store, at)
+    assert numbers == [0, kept, bytes] and ok("check", text) == (kept, bytes, 0)
+    assert certified_rows(text) == sorted((row for row in model.rows if row[0] <= at), key=by_key)
+
+
+def refuse_certificates(pick, store, model):
+    """Makes no certificate above the floor or below the horizon."""
+    floor, output = ok("floor", store), Handle()
+    above = pick.randint(floor + 1, floor + 9)
+    assert tuple(library.call("certificate", store, above, output)) == (ABOVE_FLOOR, floor, 0, 0, 0)
+    if model.horizon > 0:
+        below = pick.randint(0, model.horizon - 1)
+        assert tuple(library.call("certificate", store, below, output)) == (BELOW_HORIZON, model.horizon, 0, 0, 0)
+    assert has_no_bytes(output)
+
+
 def vacuum(pick, store, model):
-    """Vacuums to the floor, or to a stamp, with or without a certificate."""
+    """Vacuums to the floor, or to a stamp. A certificate is there after it, and before it where it drops nothing."""
     floor = ok("floor", store)
     at = floor if pick.random() < 0.3 else pick.randint(model.horizon, floor)
     name, args = ("vacuum", ()) if at == floor and pick.random() < 0.9 else ("vacuum_to", (at,))
+    refuse_certificates(pick, store, model)
     kept, bytes, dropped = model.vacuum(at, model.keys())
-    if pick.random() < 0.5:
-        assert ok(name, store, *args) == (at, kept, bytes, dropped)
-        return
-    *numbers, text = made(pick, name + "_certified", store, *args)
-    assert numbers == [at, kept, bytes, dropped] and ok("check", text) == (kept, bytes, 0)
-    assert Counter(certified_rows(text)) == Counter(row[2:] for row in model.rows if row[0] <= at)
+    if dropped > 0:
+        output = Handle()
+        assert tuple(library.call("certificate", store, at, output)) == (NOT_FEWEST, 0, 0, 0, 0)
+        assert has_no_bytes(output)
+    else:
+        certify(pick, store, model, at, kept, bytes)
+    assert ok(name, store, *args) == (at, kept, bytes, dropped)
+    certify(pick, store, model, at, kept, bytes)
 
 
 def shared_record(pick, store, nodes, reading):
@@ -242,11 +268,44 @@ def feed(pick, store, nodes, keys):
     return model, log
 
 
+def entries_of(name, data):
+    """The entries that a call lists, and the key of the last one."""
+    entries, key, at = [], b"", 0
+    while at < len(data):
+        first = at
+        (length,) = struct.unpack_from("<Q", data, at)
+        key, at = data[at + 8 : at + 8 + length], at + 8 + length
+        at += 1 if name == "changes" else 0
+        if name != "changes" or data[at - 1]:
+            at += 8 + struct.unpack_from("<Q", data, at)[0]
+        entries.append(data[first:at])
+    return entries, key
+
+
+def in_pieces(pick, name, *args):
+    """All entries that a call lists of a range, the last two arguments, in pieces that go on from each other."""
+    *args, start, end = args
+    found, code = [], MORE
+    while code == MORE:
+        code, length, data, many = library.call(name, *args, start, end, pick.randint(0, 150))
+        entries, last = entries_of(name, data)
+        assert (len(data), len(entries)) == (length, many)
+        found += entries
+        if many > 0:
+            start, end = (start, last) if name == "scan_back" else (last + b"\0", end)
+    assert code == OK
+    return found
+
+
+def some_range(pick):
+    return tuple(bytes(pick.choices(b"ab\0\xff", k=pick.randint(0, 4))) for _ in range(2))
+
+
 def look(pick, store, id, pairs, keys):
     """Compares what a snapshot returns with its pairs."""
     assert whole("list", store, id) == listing(pairs)
     for _ in range(6):
-        start, end = (bytes(pick.choices(b"ab\0\xff", k=pick.randint(0, 4))) for _ in range(2))
+        start, end = some_range(pick)
         part = [pair for pair in pairs if pair[0] >= start and (not end or pair[0] < end)]
         assert ok("count", store, id, start, end) == len(part)
         assert whole("digest", store, id, start, end) == hashlib.sha256(listing(part)).digest()
@@ -255,6 +314,9 @@ def look(pick, store, id, pairs, keys):
         assert library.call("scan", store, id, start, end, room) == expected(both, room)
         alone = [len(key).to_bytes(8, "little") + key for key, _ in part]
         assert library.call("scan_keys", store, id, start, end, room) == expected(alone, room)
+        assert library.call("scan_back", store, id, start, end, room) == expected(both[::-1], room)
+        assert in_pieces(pick, "scan", store, id, start, end) == both
+        assert in_pieces(pick, "scan_back", store, id, start, end) == both[::-1]
         asked = [pick.choice(keys + [b"zz", b""]) for _ in range(pick.randint(0, 6))]
         places, data = b"", b""
         for key in asked:
@@ -262,6 +324,36 @@ def look(pick, store, id, pairs, keys):
             data += key
         answers = [answer(dict(pairs).get(key)) for key in asked]
         assert library.call("read_all", store, id, places, data, room) == expected(answers, room)
+
+
+def look_at_changes(pick, store, answers):
+    """Compares what changes between two snapshots with the answers of all of them, by their ids."""
+    before, after = (pick.choice(list(answers)) for _ in range(2))
+    start, end = some_range(pick)
+    old, new = answers[before], answers[after]
+    changed = [key for key in sorted({*old, *new}) if old.get(key) != new.get(key)]
+    parts = [sized(key) + answer(new.get(key)) for key in changed if key >= start and (not end or key < end)]
+    room = pick.randint(0, 120)
+    assert library.call("changes", store, before, after, start, end, room) == expected(parts, room)
+    assert in_pieces(pick, "changes", store, before, after, start, end) == parts
+    missing = max(answers) + 1
+    for ids in (before, missing), (missing, after):
+        assert library.call("changes", store, *ids, start, end, room) == (NO_SNAPSHOT, 0, b"", 0)
+
+
+def look_at_versions(pick, store, model, keys):
+    """Compares the rows of a key between two stamps with the model."""
+    key, room = pick.choice(keys + [b"zz", b""]), pick.randint(0, 200)
+    stamps = [0, TOP, model.horizon, *(stamp + off for stamp, *_ in model.writes for off in (0, 1))]
+    above, to = pick.choice(stamps), pick.choice(stamps)
+    rows = [row for row in model.rows if row[2] == key and above < row[0] <= to]
+    rows.sort(key=lambda row: row[:2], reverse=True)
+    data = b"".join(struct.pack("<QH", stamp, node) + answer(value) for stamp, node, _, value in rows)
+    returned = OK, len(data), data if len(data) <= room else None, len(rows)
+    assert library.call("versions", store, key, above, to, room) == returned
+    if above >= model.horizon:
+        accepted = [row for row in model.writes if row[2] == key and above < row[0] <= to]
+        assert sorted(rows, key=by_key) == sorted(accepted, key=by_key)
 
 
 def open_snapshots(store):
@@ -281,23 +373,38 @@ def compare(pick, store, model, keys, nodes):
     assert ok("floor_node", store) == heads.index(min(heads))
     assert open_snapshots(store) == sorted(model.snapshots.items())
     assert ok("horizon", store) == model.horizon
-    assert ok("sizes", store) == sizes([row[2:] for row in model.rows])
+    assert ok("sizes", store) == sizes(model.rows)
+    answers = {}
     for id, stamp in model.snapshots.items():
         newest = {key: value for at, _, key, value in sorted(model.writes, key=lambda row: row[:2]) if at <= stamp}
-        look(pick, store, id, sorted(pair for pair in newest.items() if pair[1] is not None), keys)
+        answers[id] = {key: value for key, value in newest.items() if value is not None}
+        look(pick, store, id, sorted(answers[id].items()), keys)
+    for _ in range(10):
+        if answers:
+            look_at_changes(pick, store, answers)
+        look_at_versions(pick, store, model, keys)
+
+
+def by_key(row):
+    """Where a row stands in a certificate."""
+    stamp, node, key, _ = row
+    return key, stamp, node
 
 
 def certified_rows(text):
-    """The keys of the rows of a certificate, with their values, or none in a deletion mark."""
-    lines = [line.split(b" ") for line in text.split(b"\n") if line.startswith(b"row ")]
-    values = [unquote_to_bytes(line[5].removesuffix(b"%")) if line[4] == b"value" else None for line in lines]
-    return [(unquote_to_bytes(line[1]), value) for line, value in zip(lines, values)]
+    """The rows of a certificate: stamp, node, key, and value or none in a deletion mark."""
+    rows = []
+    for _, key, stamp, node, *value in (line.split(b" ") for line in text.split(b"\n") if line.startswith(b"row ")):
+        physical, counter = map(int, stamp.split(b"."))
+        spelled = unquote_to_bytes(value[1].removesuffix(b"%")) if value[0] == b"value" else None
+        rows.append((physical << 16 | counter, int(node), unquote_to_bytes(key), spelled))
+    return rows
 
 
 def sizes(rows):
     """How many rows and keys these are, the bytes of the keys, each once, and those of the values."""
-    keys = {key for key, _ in rows}
-    return len(rows), len(keys), sum(map(len, keys)), sum(len(value) for _, value in rows if value is not None)
+    keys = {row[2] for row in rows}
+    return len(rows), len(keys), sum(map(len, keys)), sum(len(row[3]) for row in rows if row[3] is not None)
 
 
 def restore_in_pieces(pick, store, saved):
@@ -364,7 +471,7 @@ def refuse_full(pick, store):
     output, saved = Handle(), whole_state(pick, store)
     length = ok("checkpoint", store, 5, output)
     stamp = pick.randint(0, 2 * ok("floor", store) + 1)
-    for name, *args in ("vacuum_certified",), ("vacuum_to_certified", stamp), ("checkpoint", 6):
+    for name, *args in ("certificate", stamp), ("checkpoint", 6):
         for each, refusal in (store, HAS_BYTES), (Handle(), CLOSED):
             code, *written = library.call(name, each, *args, output)
             assert code == refusal and not any(written)
@@ -391,31 +498,26 @@ def with_grants(pick, grants, name, *args):
     library.call("output_drop", output)
     assert library.granted.value == 0
     library.granted.value = -1
-    return code, (*numbers, data) if numbers else data, is_met
+    return code, (*numbers, data), is_met
 
 
 def refuse_memory(pick, saved, name, *args):
-    """Refuses each request for memory of a call that puts bytes into an output, each time with a store of its own.
-    After a refusal the output has no bytes. A vacuum took place then as a whole or not at all, and the next call
-    certifies it."""
+    """Refuses each request for memory of a call that puts bytes into an output. After a refusal the output has no
+    bytes, and the store is as it was."""
     store = restored(saved)
-    first, after, later = made(pick, name, store, *args), whole_state(pick, store), made(pick, name, store, *args)
-    library.call("close", store)
+    first = made(pick, name, store, *args)
+    first = first if isinstance(first, tuple) else (first,)
     grants, is_met = 0, True
     while is_met:
-        store = restored(saved)
         code, written, is_met = with_grants(pick, grants, name, store, *args)
         if code == OK:
             assert written == first
         else:
             assert code == NO_MEMORY and is_met and not any(written)
-            state = whole_state(pick, store)
-            assert state in (saved, after)
-            assert made(pick, name, store, *args) == (first if state == saved else later)
-        assert whole_state(pick, store) == after
-        library.call("close", store)
+        assert whole_state(pick, store) == saved
         grants += 1
     assert grants > 1
+    library.call("close", store)
 
 
 def play(pick):
@@ -433,17 +535,16 @@ def play(pick):
     assert ok("rows", store) == ok("sizes", store)[0]
     refuse(pick, saved, b"".join(entry for entry, _ in log), many)
     refuse_full(pick, store)
-    if pick.random() < 0.1:
-        refuse_memory(pick, saved, "checkpoint", 5)
-        refuse_memory(pick, saved, "vacuum_certified")
-        refuse_memory(pick, saved, "vacuum_to_certified", pick.randint(model.horizon, ok("floor", store)))
-    at, kept, bytes_kept, _, text = made(pick, "vacuum_certified", store)
-    rows, total, _ = ok("check", text)
-    assert (at, kept, bytes_kept) == (ok("floor", store), rows, total)
-    assert rows == sum(line.startswith(b"row ") for line in text.split(b"\n"))
-    above = [row[2:] for row in model.writes if row[0] > at]
+    at, kept, total, _ = ok("vacuum", store)
+    *numbers, text = made(pick, "certificate", store, at)
+    assert at == ok("floor", store) and numbers == [0, kept, total] and ok("check", text) == (kept, total, 0)
+    above = [row for row in model.writes if row[0] > at]
     assert ok("sizes", store) == sizes(certified_rows(text) + above)
     assert ok("horizon", store) == ok("floor", store)
+    if pick.random() < 0.1:
+        vacuumed = whole_state(pick, store)
+        refuse_memory(pick, vacuumed, "checkpoint", 5)
+        refuse_memory(pick, vacuumed, "certificate", at)
     model.begun = (at, b"")
     while model.begun:
         vacuum_part(pick, copy, model)

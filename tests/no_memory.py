@@ -20,7 +20,7 @@ KEY, VALUE = b"key %06d, which is longer than 22 bytes", b"value %d of key %06d,
 ABSENT = b"no key of a store, and longer than 22 bytes"
 PLENTY = 3_000_000
 # Refusals that these calls find in what they take memory for.
-LATE = {"check": {16}, "restore": {107}, "restore_finish": {107}}
+LATE = {"certificate": {109}, "check": {16}, "restore": {107}, "restore_finish": {107}}
 
 
 # ---- The table of the header ----
@@ -182,6 +182,8 @@ def count_reads(calls, store):
             for start, end in (b"", b""), (KEY % 5, KEY % 9000), (ABSENT, b""):
                 calls.count(OK if room == PLENTY else None, "scan", store, id, start, end, room)
                 calls.count(OK if room == PLENTY else None, "scan_keys", store, id, start, end, room)
+                calls.count(OK if room == PLENTY else None, "scan_back", store, id, start, end, room)
+                calls.count(OK if room == PLENTY else None, "changes", store, id, 2, start, end, room)
                 calls.count(OK, "digest", store, id, start, end, room)
                 calls.count(OK, "count", store, id, start, end)
             calls.count(OK, "read", store, id, KEY % 1, room)
@@ -191,10 +193,12 @@ def count_reads(calls, store):
         calls.count(OK, "snapshot", store, id - 1)
     whole = b"", b"", PLENTY
     words = {"list": whole[2:], "count": whole[:2], "digest": whole, "scan": whole, "scan_keys": whole}
+    words |= {"scan_back": whole, "changes": (1, *whole)}
     words |= {"read": (KEY % 1, PLENTY), "read_all": (places, texts, PLENTY), "snapshot": ()}
     for name, args in words.items():
         calls.count(10, name, store, 9, *args)
         calls.count(CLOSED, name, Handle(), 1, *args)
+    calls.count(10, "changes", store, 1, 9, *whole)
 
 
 def count_questions(calls, store, floor, retired):
@@ -203,6 +207,9 @@ def count_questions(calls, store, floor, retired):
         for name in "floor", "rows", "sizes", "horizon", "nodes", "floor_node":
             calls.count(answer, name, each)
         calls.count(answer, "link", each, 1)
+        for key in KEY % 1, ABSENT:
+            for room in 0, PLENTY:
+                calls.count(answer, "versions", each, key, 0, TOP, room)
         calls.count(answer, "check_vacuum", each, floor)
     calls.count(1, "floor_node", retired)
     calls.count(1, "link", store, 2)
@@ -331,14 +338,12 @@ def count_outputs_refused(calls, store, floor):
     calls.count(CLOSED, "vacuum", Handle())
     for answer, each, stamp in (8, store, floor + 1), (9, store, floor - 1), (CLOSED, Handle(), floor):
         calls.count(answer, "vacuum_to", each, stamp)
-        calls.count(answer, "vacuum_to_certified", each, stamp, Handle())
+        calls.count(answer, "certificate", each, stamp, Handle())
         calls.count(answer, "vacuum_part", each, stamp, KEY % 1, TOP, 255)
-    calls.count(108, "vacuum_to_certified", store, floor, full)
     for answer, each, output in (108, store, full), (CLOSED, Handle(), Handle()):
-        calls.count(answer, "vacuum_certified", each, output)
+        calls.count(answer, "certificate", each, floor, output)
         calls.count(answer, "checkpoint", each, 5, output)
     calls.library.call("output_drop", full)
-    calls.count(20, "check", bytes(2**24 + 1))
     assert calls.starved("check", b"point 1.0\npoint")[0] == 16
 
 

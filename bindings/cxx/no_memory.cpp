@@ -125,6 +125,11 @@ void ranges() {
   fail_each([&](failing& once) { walk(once, snapshot.range(), all, "the pairs of a range"); });
   fail_each([&](failing& once) { walk(once, snapshot.keys(), keys, "the keys of a range"); });
   fail_each([&](failing& once) { walk_by_copies(once, snapshot.range(), all, "the pairs of a range, copied"); });
+  const pairs back(all.rbegin(), all.rend());
+  fail_each([&](failing& once) { walk(once, snapshot.range_back(), back, "the pairs from the end of a range"); });
+  const hlcstore::snapshot empty = store.open_snapshot(hlcstore::timestamp());
+  const std::vector<std::pair<string, std::optional<string>>> added(all.begin(), all.end());
+  fail_each([&](failing& once) { walk(once, empty.changes(snapshot), added, "the changes in a range"); });
 }
 
 // A range that owns its snapshot: where it can't be made, the snapshot stays as it was.
@@ -149,6 +154,12 @@ void reads() {
     std::vector<std::optional<string>> values;
     once.make([&] { values = snapshot.get_all({all[9].first, "other", all[50].first}); });
     expect(values.size() == 3 && values[0] == all[9].second && !values[1] && values[2] == all[50].second, "get_all");
+    std::vector<hlcstore::key_version> versions;
+    once.make([&] { versions = store.versions(all[50].first); });
+    expect(versions.size() == 1 && versions[0].value == all[50].second, "versions");
+    std::optional<std::pair<string, string>> last;
+    once.make([&] { last = snapshot.last_below(all[50].first); });
+    expect(last && *last == all[49], "the last pair below a key");
   });
 }
 
@@ -171,10 +182,11 @@ void batches() {
 // The bytes of a certificate and of a checkpoint are freed where they can't be copied, and made again.
 void outputs() {
   store store = filled(rising_pairs());
-  const string certificate = store.vacuum_certified().certificate, saved = store.checkpoint(7);
+  const hlcstore::timestamp floor = store.vacuum().stamp;
+  const string certificate = store.certificate(floor).certificate, saved = store.checkpoint(7);
   fail_each([&](failing& once) {
     string again;
-    once.make([&] { again = store.vacuum_certified().certificate; });
+    once.make([&] { again = store.certificate(floor).certificate; });
     expect(again == certificate, "a certificate");
     once.make([&] { again = store.checkpoint(7); });
     expect(again == saved, "a checkpoint");

@@ -7,6 +7,9 @@ static_assert(greatest.word == UINT64_MAX);
 void use(hlcstore::store& store, hlcstore::shared_store& shared) {
   for (const auto& pair : store.open_snapshot().range("a", "b")) static_cast<void>(pair);
   for (const auto& pair : store.open_snapshot()) static_cast<void>(pair);
+  for (const auto& pair : store.open_snapshot().range_back()) static_cast<void>(pair);
+  const hlcstore::snapshot snapshot = store.open_snapshot();
+  for (const auto& change : snapshot.changes(snapshot)) static_cast<void>(change);
   shared.read([](const hlcstore::store& asked) { return asked.floor(); });
   shared.open_snapshot().read([](const hlcstore::snapshot& open) { return open.get("a"); });
 }
@@ -18,7 +21,12 @@ void misuse(hlcstore::store& store, hlcstore::shared_store& shared) {
   shared.change([](hlcstore::store& changed) { return changed.open_snapshot(); });                  // refused
   shared.open_snapshot().read([](const hlcstore::snapshot& open) { return open.range(); });         // refused
   shared.open_snapshot().read([](const hlcstore::snapshot& open) { return open.keys().begin(); });  // refused
+  shared.open_snapshot().read([](const hlcstore::snapshot& open) { return open.range_back(); });    // refused
+  shared.open_snapshot().read([](const hlcstore::snapshot& open) { return open.changes(open); });   // refused
   for (const auto& pair : hlcstore::store(1).open_snapshot()) static_cast<void>(pair);              // refused
   static_cast<void>(store.open_snapshot().begin());                                                 // refused
+  const hlcstore::snapshot snapshot = store.open_snapshot();
+  for (const auto& change : snapshot.changes(store.open_snapshot())) static_cast<void>(change);  // refused
+  for (const auto& change : store.open_snapshot().changes(snapshot)) static_cast<void>(change);  // refused
 }
 #endif

@@ -85,11 +85,16 @@ void report(store& store, node& node, std::uint64_t reading) {
   });
 }
 
-// Passes the open snapshot of this id to a function; the snapshot stays open.
+// A snapshot that stays open.
+struct kept_open {
+  hlcstore::snapshot snapshot;
+  ~kept_open() { snapshot.release(); }
+};
+
+// Passes the open snapshot of this id to a function; the snapshot stays open, also where the function throws.
 void look(store& store, std::uint64_t id, const std::function<void(const hlcstore::snapshot&)>& call) {
-  hlcstore::snapshot snapshot = store.attach_snapshot(id);
-  call(snapshot);
-  snapshot.release();
+  const kept_open open{store.attach_snapshot(id)};
+  call(open.snapshot);
 }
 
 void read(store& store, std::uint64_t id, string_view key) try {
@@ -111,19 +116,67 @@ void print_part(const char* what, std::uint32_t code, string_view bytes, std::si
   std::printf("%s %u %zu %zu %s\n", what, code, bytes.size(), many, hex(bytes).c_str());
 }
 
-void print_part(const hlcstore::part& part) {
-  print_part("scan", part.more ? HLC_MORE : HLC_OK, part.bytes, part.many);
+void print_part(const char* what, const hlcstore::part& part) {
+  print_part(what, part.more ? HLC_MORE : HLC_OK, part.bytes, part.many);
 }
 
 // Prints the pairs of a range, as many as fit in so many bytes.
 void scan(store& store, std::uint64_t id, string_view from, string_view to, std::size_t room) try {
-  look(store, id, [&](const auto& snapshot) { print_part(snapshot.scan(from, to, room)); });
+  look(store, id, [&](const auto& snapshot) { print_part("scan", snapshot.scan(from, to, room)); });
 } catch (const hlcstore::error& refused) {
   print_part("scan", refused.code(), "", 0);
 }
 
+// The same from the end of the range.
+void scan_back(store& store, std::uint64_t id, string_view from, string_view to, std::size_t room) try {
+  look(store, id, [&](const auto& snapshot) { print_part("back", snapshot.scan_back(from, to, room)); });
+} catch (const hlcstore::error& refused) {
+  print_part("back", refused.code(), "", 0);
+}
+
+// A number in so many bytes, the low one first.
+string number(std::uint64_t value, std::size_t size) {
+  string bytes;
+  for (std::size_t at = 0; at < size; at++) bytes += static_cast<char>(value >> 8 * at);
+  return bytes;
+}
+
+string sized(string_view text) { return number(text.size(), 8).append(text); }
+
+string answer_of(const std::optional<string>& value) { return value ? '\1' + sized(*value) : string(1, '\0'); }
+
+// Prints what changes from one snapshot to another. The call of C writes what fits in so many bytes. Here the changes
+// are a range, and this puts their bytes together.
+void changes(store& store, std::uint64_t before, std::uint64_t after, string_view from, std::size_t room) try {
+  string bytes;
+  std::size_t many = 0;
+  std::uint32_t code = HLC_OK;
+  look(store, before, [&](const auto& first) {
+    look(store, after, [&](const auto& second) {
+      for (const auto& [key, value] : first.changes(second, from)) {
+        const string entry = sized(key) + answer_of(value);
+        if (bytes.size() + entry.size() > room) code = HLC_MORE;
+        if (code == HLC_MORE) continue;
+        bytes += entry;
+        many++;
+      }
+    });
+  });
+  print_part("changes", code, bytes, many);
+} catch (const hlcstore::error& refused) {
+  print_part("changes", refused.code(), "", 0);
+}
+
+// Prints the rows of a key above one stamp and at or below another.
+void versions(const store& store, string_view key, timestamp above = {}, timestamp to = {UINT64_MAX}) {
+  string bytes;
+  const auto rows = store.versions(key, above, to);
+  for (const auto& row : rows) bytes += number(row.stamp.word, 8) + number(row.node, 2) + answer_of(row.value);
+  print_part("versions", HLC_OK, bytes, rows.size());
+}
+
 void scan_keys(store& store, std::uint64_t id, std::size_t room) try {
-  look(store, id, [&](const auto& snapshot) { print_part(snapshot.scan_keys("", "", room)); });
+  look(store, id, [&](const auto& snapshot) { print_part("scan", snapshot.scan_keys("", "", room)); });
 } catch (const hlcstore::error& refused) {
   print_part("scan", refused.code(), "", 0);
 }
@@ -175,7 +228,7 @@ void say(std::uint32_t answer) {
               hlcstore::error_text(answer).c_str());
 }
 
-// Lists parts of snapshots, and asks what the store has.
+// Lists parts of snapshots, what changes between them and the rows of a key, and asks what the store has.
 void look_round(store& store) {
   scan(store, 2, "", "", 64);
   scan(store, 1, "a", "d", 64);
@@ -185,6 +238,20 @@ void look_round(store& store) {
   scan_keys(store, 1, 12);
   scan_keys(store, 1, 11);
   scan_keys(store, 3, 64);
+  scan_back(store, 2, "", "", 64);
+  scan_back(store, 1, "a", "d", 64);
+  scan_back(store, 1, "", "", 24);
+  scan_back(store, 1, "", "city", 64);
+  scan_back(store, 3, "", "", 64);
+  changes(store, 1, 2, "", 64);
+  changes(store, 2, 1, "", 64);
+  changes(store, 1, 2, "", 13);
+  changes(store, 1, 2, "d", 64);
+  changes(store, 1, 1, "", 64);
+  changes(store, 1, 3, "", 64);
+  versions(store, "city");
+  versions(store, "city", timestamp::of(10), {timestamp::of(21).word - 1});
+  versions(store, "lake");
   digest(store, 1, "");
   digest(store, 1, "d");
   digest(store, 3, "");
@@ -309,10 +376,15 @@ void print_report(const char* what, const hlcstore::vacuum_report& made) {
   print("dropped", HLC_OK, made.dropped);
 }
 
-void print_certified(const hlcstore::certified_vacuum& made) {
-  print("certificate", HLC_OK, made.certificate.size(), made.stamp.word);
+// Makes the certificate of the rows at or below a stamp. It has no text where that is refused.
+string certificate(const store& store, timestamp stamp) try {
+  const hlcstore::certified made = store.certificate(stamp);
+  print("certificate", HLC_OK, made.certificate.size(), 0);
   print("kept", HLC_OK, made.kept, made.bytes);
-  print("dropped", HLC_OK, made.dropped);
+  return made.certificate;
+} catch (const hlcstore::error& refused) {
+  print("certificate", refused.code(), 0, refused.word());
+  return "";
 }
 
 // Lets a node join at a start that the caller names, and vacuums to a stamp below the floor (closed timestamp), which
@@ -333,7 +405,7 @@ void keep_above(store& store, node& node) {
   }
   print_report("vacuum to", store.vacuum_to(timestamp::of(40)));
   print_word("vacuum to", [&] { return store.vacuum_to(timestamp::of(39)).stamp.word; });
-  print_certified(store.vacuum_to_certified(timestamp::of(40)));
+  certificate(store, timestamp::of(40));
   print_word("rows", [&] { return store.rows(); });
   print_sizes(store);
 }
@@ -431,19 +503,23 @@ void close_snapshot(store& store, std::uint64_t id) {
   });
 }
 
-// Vacuums drop rows, and a certificate shows that the fewest are left.
+// Vacuums drop rows, and a certificate shows that the fewest are left. None is made where a vacuum would drop rows.
 void vacuum(store& store) {
   print_report("vacuum", store.vacuum());
   read(store, 1, "city");
   close_snapshot(store, 1);
   close_snapshot(store, 1);
-  print_certified(store.vacuum_certified());
-  const hlcstore::certified_vacuum again = store.vacuum_certified();
-  print_certified(again);
-  std::fwrite(again.certificate.data(), 1, again.certificate.size(), stdout);
-  check(again.certificate);
-  check(string_view(again.certificate).substr(0, 35));
-  check(string_view(again.certificate).substr(0, 4));
+  const timestamp floor = store.floor();
+  print("floor", HLC_OK, floor.word);
+  certificate(store, floor);
+  print_report("vacuum", store.vacuum());
+  certificate(store, {floor.word - 1});
+  certificate(store, {floor.word + 1});
+  const string text = certificate(store, floor);
+  std::fwrite(text.data(), 1, text.size(), stdout);
+  check(text);
+  check(string_view(text).substr(0, 35));
+  check(string_view(text).substr(0, 4));
   print_word("rows", [&] { return store.rows(); });
   print_sizes(store);
   print_word("snapshot", [&] { return store.open_snapshot({1}).id(); });

@@ -1,8 +1,10 @@
-// What the story does not show of hlcstore.hpp: moving and closing, ranges in pieces and of temporary snapshots, the
-// longest keys and values, long certificates, batches, restores that are given up, and refusals as exceptions.
+// What the story does not show of hlcstore.hpp: moving and closing, ranges in pieces and of temporary snapshots, changes
+// of many keys, the longest keys and values, long certificates, batches, restores that are given up, and refusals as
+// exceptions.
 #include <algorithm>
 #include <cstdio>
 #include <hlcstore.hpp>
+#include <iterator>
 #include <map>
 #include <optional>
 #include <stdexcept>
@@ -305,21 +307,113 @@ void partly_accepted() {
   EXPECT(!gap && gap.code == HLC_NOT_NEXT && gap.word == 2 && gap.many == 0 && store.nodes() == 2);
 }
 
-// A long certificate, with the numbers of the vacuum that made it.
+// Ranges from their ends, in pieces, with the longest keys and values.
+void ranges_back() {
+  for (const std::map<string, string>& pairs : {many_pairs(), longest_pairs()}) {
+    store store = filled(pairs);
+    const hlcstore::snapshot snapshot = store.open_snapshot();
+    auto expected = pairs.rbegin();
+    for (const auto& [key, value] : snapshot.range_back()) {
+      EXPECT(expected != pairs.rend() && key == expected->first && value == expected->second);
+      expected++;
+    }
+    EXPECT(expected == pairs.rend());
+    for (const auto& pair : pairs) {
+      const auto below = snapshot.last_below(pair.first);
+      const auto at = pairs.find(pair.first);
+      EXPECT(at == pairs.begin() ? !below : below->first == std::prev(at)->first);
+    }
+    EXPECT(snapshot.last_below()->first == pairs.rbegin()->first && !snapshot.last_below("a"));
+    // A pair takes its bytes and two lengths of eight bytes.
+    EXPECT(snapshot.scan_back("", "", 65806).many > 0 && snapshot.scan_back("", "", 0).more);
+  }
+  const std::map<string, string> pairs = many_pairs();
+  store store = filled(pairs);
+  const std::map<string, string> some(pairs.lower_bound("key00100"), pairs.lower_bound("key00900"));
+  auto expected = some.rbegin();
+  for (const auto& pair : store.open_snapshot().range_back("key00100", "key00900")) {
+    EXPECT(pair.first == (expected++)->first);
+  }
+  EXPECT(expected == some.rend() && store.snapshots().empty());
+}
+
+// The pairs of a snapshot with its changes to another one, each of which is needed, are the pairs of that.
+bool lead_on(const hlcstore::snapshot& before, const hlcstore::snapshot& after) {
+  std::map<string, string> pairs(before.begin(), before.end());
+  string last;
+  for (const auto& [key, value] : before.changes(after)) {
+    const auto at = pairs.find(key);
+    if (key <= last || (value ? at != pairs.end() && at->second == *value : at == pairs.end())) return false;
+    if (value) {
+      pairs[key] = *value;
+    } else {
+      pairs.erase(at);
+    }
+    last = key;
+  }
+  return pairs == std::map<string, string>(after.begin(), after.end());
+}
+
+void changes() {
+  const std::map<string, string> pairs = many_pairs();
+  store store = filled(pairs), other(1);
+  node writer = node::restore(0, store.link(0).head, store.link(0).next);
+  const hlcstore::snapshot first = store.open_snapshot(), none = store.open_snapshot(timestamp());
+  for (int i = 0; i < 2000; i += 3) write(store, writer, 2, key_of(i), i % 2 == 0 ? pairs.at(key_of(i)) : "new");
+  for (int i = 1; i < 2000; i += 3) store.accept_erase(writer.erase(3, key_of(i)), key_of(i));
+  write(store, writer, 4, 'k' + string(254, 'z'), string(65535, 'v'));
+  const hlcstore::snapshot second = store.open_snapshot();
+  for (const hlcstore::snapshot* before : {&first, &second, &none}) {
+    for (const hlcstore::snapshot* after : {&first, &second, &none}) EXPECT(lead_on(*before, *after));
+  }
+  int many = 0;
+  for (const auto& [key, value] : first.changes(second, key_of(100), key_of(106))) {
+    EXPECT(value ? key == key_of(105) && *value == "new" : key == key_of(100) || key == key_of(103));
+    many++;
+  }
+  EXPECT(many == 3 && first.changes(first).begin() == first.changes(first).end());
+  hlcstore::snapshot closed = store.open_snapshot();
+  closed.close();
+  const hlcstore::snapshot apart = other.open_snapshot();
+  EXPECT(refusal_of([&] { first.changes(closed); }) == HLC_NO_SNAPSHOT);
+  EXPECT(refusal_of([&] { closed.changes(first); }) == HLC_NO_SNAPSHOT);
+  EXPECT(refusal_of([&] { first.changes(apart); }) == HLC_NO_SNAPSHOT);
+}
+
+// The rows of a key, of two nodes with the same stamp too.
+void versions() {
+  store store(2);
+  node one(0), two(1);
+  const string value(65535, 'v');
+  write(store, one, 1, "a", "x");
+  write(store, one, 2, "a", value);
+  store.accept_erase(two.erase(2, "a"), "a");
+  const auto all = store.versions("a");
+  EXPECT(all.size() == 3 && all[0].stamp == timestamp::of(2) && all[0].node == 1 && !all[0].value);
+  EXPECT(all[1].stamp == timestamp::of(2) && all[1].node == 0 && all[1].value == value);
+  EXPECT(all[2].stamp == timestamp::of(1) && all[2].node == 0 && all[2].value == "x");
+  EXPECT(store.versions("a", timestamp::of(1)).size() == 2 && store.versions("a", {}, timestamp::of(1)).size() == 1);
+  EXPECT(store.versions("b").empty() && store.versions("").empty());
+}
+
+// A long certificate, with the numbers of the vacuum before it.
 void certificates() {
   std::map<string, string> pairs;
   for (int i = 0; i < 500; i++) pairs[key_of(i)] = "x";
   store store = filled(pairs);
   node writer = node::restore(0, store.link(0).head, store.link(0).next);
   for (int i = 0; i < 100; i++) write(store, writer, 2, key_of(i), "y");
-  const hlcstore::certified_vacuum made = store.vacuum_certified();
-  EXPECT(made.certificate.size() > 4096 && made.kept == 500 && made.dropped == 100 && made.stamp == store.floor());
+  EXPECT(refusal_of([&] { store.certificate(store.floor()); }) == HLC_NOT_FEWEST);
+  const hlcstore::vacuum_report vacuumed = store.vacuum();
+  EXPECT(vacuumed.kept == 500 && vacuumed.dropped == 100 && vacuumed.stamp == store.floor());
+  const hlcstore::certified made = store.certificate(vacuumed.stamp);
+  EXPECT(made.certificate.size() > 4096 && made.kept == 500 && made.bytes == vacuumed.bytes);
   const hlcstore::shown shown = hlcstore::check_certificate(made.certificate);
-  EXPECT(shown.rows == 500 && shown.bytes == made.bytes && store.horizon() == made.stamp);
-  EXPECT(store.vacuum_to(made.stamp).dropped == 0);
-  const hlcstore::certified_vacuum again = store.vacuum_to_certified(made.stamp);
-  EXPECT(again.kept == 500 && again.dropped == 0 && again.certificate == made.certificate);
-  EXPECT(refusal_of([&] { store.vacuum_to_certified({made.stamp.word + 1}); }) == HLC_ABOVE_FLOOR);
+  EXPECT(shown.rows == 500 && shown.bytes == made.bytes && store.horizon() == vacuumed.stamp);
+  EXPECT(store.vacuum_to(vacuumed.stamp).dropped == 0);
+  EXPECT(store.certificate(vacuumed.stamp).certificate == made.certificate);
+  EXPECT(refusal_of([&] { store.certificate({vacuumed.stamp.word + 1}); }) == HLC_ABOVE_FLOOR);
+  EXPECT(refusal_of([&] { store.certificate({vacuumed.stamp.word - 1}); }) == HLC_BELOW_HORIZON);
   const hlcstore::store_sizes left = store.sizes();
   EXPECT(left.rows == 500 && left.keys == 500 && left.value_bytes == 500);
   EXPECT(left.key_bytes + left.value_bytes + 10 * left.rows == made.bytes);
@@ -403,6 +497,9 @@ void stamps() {
 int main() {
   ranges();
   longest();
+  ranges_back();
+  changes();
+  versions();
   temporaries();
   reads();
   ownership();

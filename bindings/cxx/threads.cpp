@@ -18,6 +18,7 @@
 namespace {
 
 using namespace std::chrono_literals;
+using hlcstore::change_range;
 using hlcstore::shared_snapshot;
 using hlcstore::shared_store;
 using hlcstore::timestamp;
@@ -57,7 +58,11 @@ bool is_whole(const hlcstore::snapshot& snapshot) {
     if (other != *value || snapshot.get(key) != value) return false;
     many++;
   }
-  return many == keys && snapshot.count() == keys;
+  for (const auto& pair : snapshot.range_back()) {
+    if (pair.second != *value) return false;
+    many--;
+  }
+  return many == 0 && snapshot.count() == keys && snapshot.changes(snapshot).begin() == change_range::iterator();
 }
 
 timestamp floor_of(const hlcstore::store& store) { return store.floor(); }

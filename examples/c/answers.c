@@ -1,4 +1,5 @@
-/* Which answer comes first where more than one reason applies, what the answers say, and handles that were moved. */
+/* Which answer comes first where more than one reason applies, what the answers say, buffers that are too short, and
+ * handles that were moved. */
 #include "hlcstore.h"
 #include <inttypes.h>
 #include <stdio.h>
@@ -82,6 +83,24 @@ static void move(hlc_store *store, hlc_output *output)
     hlc_close(&moved);
 }
 
+/* The rows of a key, here one of 20 bytes, are written where they all fit. Otherwise the buffer keeps its bytes. */
+static void short_of_room(hlc_store *store)
+{
+    uint8_t out[20], filled[20];
+    size_t len, many;
+    memset(filled, '#', sizeof filled);
+    memset(out, '#', sizeof out);
+    uint32_t code = hlc_versions(store, BYTES("k"), 0, AT(1), out, sizeof out - 1, &len, &many);
+    expect("versions, short of room", code, len, HLC_OK, sizeof out);
+    expect("versions, short of room", code, many, HLC_OK, 1);
+    if (memcmp(out, filled, sizeof out) != 0) wrong++;
+    code = hlc_versions(store, BYTES("k"), 0, AT(1), out, sizeof out, &len, &many);
+    expect("versions", code, len, HLC_OK, sizeof out);
+    if (memcmp(out, "\0\0\1\0\0\0\0\0\0\0\1\1\0\0\0\0\0\0\0v", sizeof out) != 0) wrong++;
+    code = hlc_versions(store, BYTES("k"), AT(1), UINT64_MAX, out, sizeof out, &len, &many);
+    expect("versions above", code, len + many, HLC_OK, 0);
+}
+
 /* A part of no keys ends where it begins, however long that is. */
 static void empty_part(hlc_store *store)
 {
@@ -111,6 +130,7 @@ int main(void)
     open_first(&store);
     closed_first(&output);
     restore_into_open(&store);
+    short_of_room(&store);
     empty_part(&store);
     move(&store, &output);
     printf("%s\n", wrong ? "wrong" : "all right");

@@ -84,20 +84,19 @@ static void read_no_piece(hlc_output *output, size_t bytes_len)
     expect("output, at its end", code, len, HLC_OK, 0);
 }
 
-/* Makes a certificate, and the same one to a stamp: "point 1.0", "row a 1.0 0 value %" and "witness a none 1.0". */
+/* Makes a certificate: "point 1.0", "row a 1.0 0 value %" and "witness a none 1.0". That of no text shows nothing. */
 static void certify(hlc_store *store)
 {
     hlc_output output = HLC_NO_OUTPUT;
-    uint64_t word, kept, cost, dropped;
+    uint64_t word, kept, cost;
     size_t len;
     read_no_piece(&output, 0);
-    uint32_t code = hlc_vacuum_certified(store, &word, &kept, &cost, &dropped, &output, &len);
-    expect("certificate", code, len + kept + dropped, HLC_OK, 50);
+    uint32_t code = hlc_certificate(store, AT(1), &word, &kept, &cost, &output, &len);
+    expect("certificate", code, len + word + kept + cost, HLC_OK, 61);
     read_no_piece(&output, 49);
     hlc_output_drop(&output);
-    code = hlc_vacuum_to_certified(store, AT(1), &word, &kept, &cost, &dropped, &output, &len);
-    expect("certificate to a stamp", code, len + kept + dropped, HLC_OK, 50);
-    hlc_output_drop(&output);
+    code = hlc_check(NONE, &kept, &cost, &word);
+    expect("check, no bytes", code, word + kept + cost, HLC_NOT_SHOWN, 1);
 }
 
 static void save(hlc_store *store)
@@ -143,6 +142,16 @@ static void read_back(hlc_store *store)
     expect("scan, no room", code, len + many, HLC_MORE, 0);
     code = hlc_scan_keys(store, 2, NONE, NONE, NONE, &len, &many);
     expect("keys, no room", code, len + many, HLC_MORE, 0);
+    code = hlc_scan_back(store, 2, NONE, NONE, NONE, &len, &many);
+    expect("back, no room", code, len + many, HLC_MORE, 0);
+    code = hlc_changes(store, 1, 2, NONE, NONE, NONE, &len, &many);
+    expect("changes, no room", code, len + many, HLC_MORE, 0);
+    code = hlc_changes(store, 2, 2, NONE, NONE, NONE, &len, &many);
+    expect("no changes", code, len + many, HLC_OK, 0);
+    code = hlc_versions(store, BYTES("b"), 0, UINT64_MAX, NONE, &len, &many);
+    expect("versions, no room", code, len + many, HLC_OK, 23);
+    code = hlc_versions(store, NONE, 0, UINT64_MAX, NONE, &len, &many);
+    expect("versions, no key", code, len + many, HLC_OK, 0);
     code = hlc_read_all(store, 2, NONE, NONE, NONE, &len, &many);
     expect("read all, no keys", code, len + many, HLC_OK, 0);
     code = hlc_items_accept(store, NONE, &len, &many, &word);

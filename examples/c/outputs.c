@@ -10,7 +10,7 @@
 
 enum { ROOM = 256 };
 
-/* What a vacuum certifies where the row of 2.0 is left. */
+/* The certificate where the row of 2.0 is left. */
 static const char TEXT[] = "point 2.0\nrow city 2.0 0 value Lyon\nwitness city none 2.0\n";
 static const size_t TEXT_LEN = sizeof TEXT - 1;
 
@@ -59,12 +59,14 @@ static void make_none(void)
 {
     hlc_output output = HLC_NO_OUTPUT;
     hlc_store closed = HLC_CLOSED_STORE;
-    uint64_t word, kept, cost, dropped;
+    uint64_t word, kept, cost;
     size_t len;
     expect_piece(&output, 0, ROOM, NULL, 0);
     expect_piece(&output, 1, 0, NULL, 0);
-    uint32_t code = hlc_vacuum_to_certified(&store, AT(9), &word, &kept, &cost, &dropped, &output, &len);
-    expect("above the floor", code, len + kept + cost + dropped + word, HLC_ABOVE_FLOOR, AT(2));
+    uint32_t code = hlc_certificate(&store, AT(9), &word, &kept, &cost, &output, &len);
+    expect("above the floor", code, len + kept + cost + word, HLC_ABOVE_FLOOR, AT(2));
+    code = hlc_certificate(&store, AT(2), &word, &kept, &cost, &output, &len);
+    expect("a row too many", code, len + kept + cost + word, HLC_NOT_FEWEST, 0);
     code = hlc_checkpoint(&closed, 7, &output, &len);
     expect("closed", code, len, HLC_CLOSED, 0);
     expect_piece(&output, 0, ROOM, NULL, 0);
@@ -73,18 +75,19 @@ static void make_none(void)
     expect_piece(&output, 0, ROOM, NULL, 0);
 }
 
-/* Reads a certificate in two pieces. */
+/* Vacuums, and reads the certificate in two pieces. */
 static void certify(hlc_output *output)
 {
-    uint64_t floor, kept, cost, dropped;
+    uint64_t floor, word, kept, cost, dropped;
     uint8_t text[ROOM];
     size_t len;
-    uint32_t code = hlc_vacuum_certified(&store, &floor, &kept, &cost, &dropped, output, &len);
+    uint32_t code = hlc_vacuum(&store, &floor, &kept, &cost, &dropped);
+    expect("vacuum", code, floor + dropped, HLC_OK, AT(2) + 1);
+    code = hlc_certificate(&store, floor, &word, &kept, &cost, output, &len);
     expect("certificate", code, len, HLC_OK, TEXT_LEN);
-    expect("its stamp", code, floor, HLC_OK, AT(2));
+    expect("its word", code, word, HLC_OK, 0);
     expect("kept", code, kept, HLC_OK, 1);
     expect("their cost", code, cost, HLC_OK, 18);
-    expect("dropped", code, dropped, HLC_OK, 1);
     code = hlc_output_read(output, 0, text, 10, &len);
     expect("first piece", code, len, HLC_MORE, 10);
     code = hlc_output_read(output, 10, text + 10, sizeof text - 10, &len);
@@ -93,27 +96,24 @@ static void certify(hlc_output *output)
     expect_bytes(output, (const uint8_t *)TEXT, TEXT_LEN);
 }
 
-/* Makes each call with an output that has the certificate. A vacuum would drop a row. A closed store is refused before
- * it, and stamps above the floor and below the horizon after it. */
+/* Makes each call with an output that has the certificate. A closed store is refused before it; and after it stamps
+ * above the floor and below the horizon, and the floor, to which a vacuum would drop a row. */
 static void refuse_full(hlc_output *output)
 {
-    static const uint64_t stamps[] = { AT(1), AT(3), AT(9) };
+    static const uint64_t stamps[] = { AT(1), AT(2), AT(3), AT(9) };
     hlc_store closed = HLC_CLOSED_STORE;
-    uint64_t word, kept, cost, dropped;
+    uint64_t word, kept, cost;
     size_t len;
+    uint32_t code;
     accept(2, AT(3), BYTES("Nice"));
-    uint32_t code = hlc_vacuum_certified(&store, &word, &kept, &cost, &dropped, output, &len);
-    expect("full", code, len + word + kept + cost + dropped, HLC_HAS_BYTES, 0);
     for (size_t i = 0; i < sizeof stamps / sizeof *stamps; i++) {
-        code = hlc_vacuum_to_certified(&store, stamps[i], &word, &kept, &cost, &dropped, output, &len);
-        expect("full, to a stamp", code, len + word + kept + cost + dropped, HLC_HAS_BYTES, 0);
+        code = hlc_certificate(&store, stamps[i], &word, &kept, &cost, output, &len);
+        expect("full", code, len + word + kept + cost, HLC_HAS_BYTES, 0);
     }
     code = hlc_checkpoint(&store, 7, output, &len);
     expect("full, checkpoint", code, len, HLC_HAS_BYTES, 0);
-    code = hlc_vacuum_certified(&closed, &word, &kept, &cost, &dropped, output, &len);
-    expect("full, closed", code, len + word + kept + cost + dropped, HLC_CLOSED, 0);
-    code = hlc_vacuum_to_certified(&closed, AT(3), &word, &kept, &cost, &dropped, output, &len);
-    expect("full, closed, to a stamp", code, len + word + kept + cost + dropped, HLC_CLOSED, 0);
+    code = hlc_certificate(&closed, AT(3), &word, &kept, &cost, output, &len);
+    expect("full, closed", code, len + word + kept + cost, HLC_CLOSED, 0);
     code = hlc_checkpoint(&closed, 7, output, &len);
     expect("full, closed, checkpoint", code, len, HLC_CLOSED, 0);
     code = hlc_rows(&store, &word);

@@ -74,15 +74,14 @@ static size_t take(hlc_output *output, uint32_t code, size_t made, uint8_t *out,
     return len;
 }
 
-/* Makes a certificate, up to a stamp or to the floor. */
-static uint32_t certify(hlc_store *store, const uint64_t *stamp)
+/* Makes the certificate of the rows at or below a stamp. */
+static uint32_t certify(hlc_store *store, uint64_t stamp)
 {
     hlc_output output = HLC_NO_OUTPUT;
-    uint64_t v, w, x, y;
+    uint64_t v, w, x;
     uint8_t out[1024];
     size_t len;
-    uint32_t code = stamp ? hlc_vacuum_to_certified(store, *stamp, &v, &w, &x, &y, &output, &len)
-                          : hlc_vacuum_certified(store, &v, &w, &x, &y, &output, &len);
+    uint32_t code = hlc_certificate(store, stamp, &v, &w, &x, &output, &len);
     take(&output, code, len, out, sizeof out);
     return code;
 }
@@ -98,7 +97,6 @@ static uint32_t save(hlc_store *store)
 
 static uint32_t call(int step, hlc_store *store)
 {
-    static const uint64_t at = AT(12);
     uint8_t out[1024];
     uint64_t v, w, x, y;
     uint16_t node;
@@ -119,9 +117,9 @@ static uint32_t call(int step, hlc_store *store)
     case 11:
         return hlc_vacuum_part(store, AT(12), BYTES(""), 1, &v, &w, &x, &y, out, sizeof out, &len, &more);
     case 12: return hlc_vacuum_to(store, AT(12), &v, &w, &x, &y);
-    case 13: return certify(store, &at);
+    case 13: return certify(store, AT(12));
     case 14: return hlc_vacuum(store, &v, &w, &x, &y);
-    case 15: return certify(store, NULL);
+    case 15: return certify(store, AT(20));
     case 16: return save(store);
     case 17: return restore(saved, saved_len);
     default: return restore_in_pieces(saved, saved_len);

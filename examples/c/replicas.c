@@ -72,16 +72,15 @@ static void join_and_vacuum(hlc_store *store, uint64_t floor)
     expect("check below the horizon", code, word, HLC_BELOW_HORIZON, THRESHOLD);
 }
 
-/* Writes the certificate of a further vacuum to the threshold, then a listing at the threshold and one at 21.0, and
+/* Writes the certificate of what the vacuum to the threshold left, then a listing at the threshold and one at 21.0, and
  * returns their length. */
 static size_t answers(hlc_store *store, uint8_t *out, size_t room)
 {
     hlc_output output = HLC_NO_OUTPUT;
-    uint64_t id, word, kept, cost, dropped;
+    uint64_t id, word, kept, cost;
     size_t len, all;
-    uint32_t code = hlc_vacuum_to_certified(store, THRESHOLD, &word, &kept, &cost, &dropped, &output, &len);
-    expect("certificate", code, word, HLC_OK, THRESHOLD);
-    expect("dropped again", code, dropped, HLC_OK, 0);
+    uint32_t code = hlc_certificate(store, THRESHOLD, &word, &kept, &cost, &output, &len);
+    expect("certificate", code, kept, HLC_OK, 2);
     code = hlc_output_read(&output, 0, out, room, &all);
     expect("its bytes", code, all, HLC_OK, len);
     hlc_output_drop(&output);

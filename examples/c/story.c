@@ -68,9 +68,9 @@ static void list(uint64_t id)
     bytes("list", code, out, len);
 }
 
-static void print_part(uint32_t code, const uint8_t *out, size_t len, size_t many)
+static void print_part(const char *what, uint32_t code, const uint8_t *out, size_t len, size_t many)
 {
-    printf("scan %" PRIu32 " %zu %zu ", code, len, many);
+    printf("%s %" PRIu32 " %zu %zu ", what, code, len, many);
     for (size_t i = 0; i < len; i++) printf("%02x", out[i]);
     printf("\n");
 }
@@ -81,7 +81,34 @@ static void scan(uint64_t id, const uint8_t *from, size_t from_len, const uint8_
     uint8_t out[64];
     size_t len, many;
     uint32_t code = hlc_scan(&store, id, from, from_len, to, to_len, out, room, &len, &many);
-    print_part(code, out, len, many);
+    print_part("scan", code, out, len, many);
+}
+
+/* The same from the end of the range. */
+static void scan_back(uint64_t id, const uint8_t *from, size_t from_len, const uint8_t *to, size_t to_len, size_t room)
+{
+    uint8_t out[64];
+    size_t len, many;
+    uint32_t code = hlc_scan_back(&store, id, from, from_len, to, to_len, out, room, &len, &many);
+    print_part("back", code, out, len, many);
+}
+
+/* Prints what changes from one snapshot to another from a key on, as much as fits in so many bytes. */
+static void changes(uint64_t before, uint64_t after, const uint8_t *from, size_t from_len, size_t room)
+{
+    uint8_t out[64];
+    size_t len, many;
+    uint32_t code = hlc_changes(&store, before, after, from, from_len, BYTES(""), out, room, &len, &many);
+    print_part("changes", code, out, len, many);
+}
+
+/* Prints the rows of a key above one stamp and at or below another. */
+static void versions(const uint8_t *key, size_t key_len, uint64_t above, uint64_t to)
+{
+    uint8_t out[64];
+    size_t len, many;
+    uint32_t code = hlc_versions(&store, key, key_len, above, to, out, sizeof out, &len, &many);
+    print_part("versions", code, out, len, many);
 }
 
 /* Prints the keys of a snapshot, as many as fit in so many bytes. */
@@ -90,7 +117,7 @@ static void scan_keys(uint64_t id, size_t room)
     uint8_t out[64];
     size_t len, many;
     uint32_t code = hlc_scan_keys(&store, id, BYTES(""), BYTES(""), out, room, &len, &many);
-    print_part(code, out, len, many);
+    print_part("scan", code, out, len, many);
 }
 
 static void digest(uint64_t id, const uint8_t *from, size_t from_len)
@@ -138,9 +165,7 @@ static void read_all(uint64_t id, size_t many_keys, size_t room)
     uint8_t out[64];
     size_t len, many;
     uint32_t code = hlc_read_all(&store, id, places, many_keys, BYTES("citytown"), out, room, &len, &many);
-    printf("read all %" PRIu32 " %zu %zu ", code, len, many);
-    for (size_t i = 0; i < len; i++) printf("%02x", out[i]);
-    printf("\n");
+    print_part("read all", code, out, len, many);
 }
 
 /* Prints an answer's name, and what it says. */
@@ -153,7 +178,7 @@ static void say(uint32_t answer)
     printf("answer %" PRIu32 " %.*s: %.*s\n", answer, (int)name_len, name, (int)text_len, text);
 }
 
-/* Lists parts of snapshots, and asks what the store has. */
+/* Lists parts of snapshots, what changes between them and the rows of a key, and asks what the store has. */
 static void look_round(void)
 {
     uint64_t many;
@@ -166,6 +191,20 @@ static void look_round(void)
     scan_keys(1, 12);
     scan_keys(1, 11);
     scan_keys(3, 64);
+    scan_back(2, BYTES(""), BYTES(""), 64);
+    scan_back(1, BYTES("a"), BYTES("d"), 64);
+    scan_back(1, BYTES(""), BYTES(""), 24);
+    scan_back(1, BYTES(""), BYTES("city"), 64);
+    scan_back(3, BYTES(""), BYTES(""), 64);
+    changes(1, 2, BYTES(""), 64);
+    changes(2, 1, BYTES(""), 64);
+    changes(1, 2, BYTES(""), 13);
+    changes(1, 2, BYTES("d"), 64);
+    changes(1, 1, BYTES(""), 64);
+    changes(1, 3, BYTES(""), 64);
+    versions(BYTES("city"), 0, UINT64_MAX);
+    versions(BYTES("city"), AT(10), AT(21) - 1);
+    versions(BYTES("lake"), 0, UINT64_MAX);
     digest(1, BYTES(""));
     digest(1, BYTES("d"));
     digest(3, BYTES(""));
@@ -291,6 +330,17 @@ static void accept_three(hlc_node *node)
     print_two("all", code, many, word);
 }
 
+/* Makes the certificate of the rows at or below a stamp, into an output that has no bytes, and returns its length. */
+static size_t certificate(uint64_t stamp, hlc_output *output)
+{
+    uint64_t kept, cost;
+    size_t len;
+    uint32_t code = hlc_certificate(&store, stamp, &word, &kept, &cost, output, &len);
+    print_two("certificate", code, len, word);
+    if (code == HLC_OK) print_two("kept", code, kept, cost);
+    return len;
+}
+
 /* Lets a node join at a start that the caller names, and vacuums to a stamp below the floor (closed timestamp), which
  * keeps what lies above that stamp. */
 static void keep_above(hlc_node *node)
@@ -299,7 +349,6 @@ static void keep_above(hlc_node *node)
     uint64_t kept, cost, dropped;
     uint16_t joined;
     uint32_t code;
-    size_t len;
     write_item(node, 39, BYTES("city"), BYTES("Bern"));
     report(node, 45);
     code = hlc_join_at(&store, AT(40), &joined, &word);
@@ -316,10 +365,7 @@ static void keep_above(hlc_node *node)
     print_answer("dropped", code, dropped);
     code = hlc_vacuum_to(&store, AT(39), &word, &kept, &cost, &dropped);
     print_answer("vacuum to", code, word);
-    code = hlc_vacuum_to_certified(&store, AT(40), &word, &kept, &cost, &dropped, &output, &len);
-    print_two("certificate", code, len, word);
-    print_two("kept", code, kept, cost);
-    print_answer("dropped", code, dropped);
+    certificate(AT(40), &output);
     hlc_output_drop(&output);
     code = hlc_rows(&store, &word);
     print_answer("rows", code, word);
@@ -387,21 +433,23 @@ static void print_output(hlc_output *output)
     }
 }
 
-/* Vacuums with certificates, and checks the last one and parts of it. */
+/* Makes no certificate where a vacuum would drop rows, and one after the vacuum; and checks it, and parts of it. */
 static void certify(void)
 {
     hlc_output output = HLC_NO_OUTPUT;
     uint64_t at, kept, cost, dropped;
     uint8_t text[256];
     size_t len;
-    for (int i = 0; i < 2; i++) {
-        uint32_t code;
-        hlc_output_drop(&output);
-        code = hlc_vacuum_certified(&store, &at, &kept, &cost, &dropped, &output, &len);
-        print_two("certificate", code, len, at);
-        print_two("kept", code, kept, cost);
-        print_answer("dropped", code, dropped);
-    }
+    uint32_t code = hlc_floor(&store, &at);
+    print_answer("floor", code, at);
+    certificate(at, &output);
+    code = hlc_vacuum(&store, &at, &kept, &cost, &dropped);
+    print_answer("vacuum", code, at);
+    print_two("kept", code, kept, cost);
+    print_answer("dropped", code, dropped);
+    certificate(at - 1, &output);
+    certificate(at + 1, &output);
+    certificate(at, &output);
     print_output(&output);
     hlc_output_read(&output, 0, text, sizeof text, &len);
     hlc_output_drop(&output);

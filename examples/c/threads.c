@@ -114,6 +114,46 @@ static bool scans(hlc_store *mine, const struct snapshot *at)
     return code == HLC_OK && count_of(k, KEYS, at->round) == 0;
 }
 
+/* Scans the whole snapshot from its end, in pieces of a few pairs. */
+static bool scans_back(hlc_store *mine, const struct snapshot *at)
+{
+    char key[KEY_ROOM] = "", value[VALUE_ROOM];
+    uint8_t out[100];
+    size_t key_len = 0, len, many;
+    uint32_t code = HLC_MORE;
+    unsigned k = KEYS;
+    while (code == HLC_MORE) {
+        const uint8_t *rest = out;
+        code = hlc_scan_back(mine, at->id, NULL, 0, (uint8_t *)key, key_len, out, sizeof out, &len, &many);
+        for (size_t i = 0; i < many; i++) {
+            int value_len = -1;
+            while (k > 0 && value_len < 0) value_len = value_of(--k, at->round, value);
+            /* The next piece ends before the last key. */
+            key_len = key_of(k, key);
+            if (value_len < 0 || !takes(&rest, key, key_len) || !takes(&rest, value, (size_t)value_len)) return false;
+        }
+        if (rest != out + len || (code == HLC_MORE && many == 0)) return false;
+    }
+    return code == HLC_OK && count_of(0, k, at->round) == 0;
+}
+
+/* Lists what changes from a snapshot to another: the keys whose values differ, with those that they have there. */
+static bool changes(hlc_store *mine, const struct snapshot *before, const struct snapshot *after)
+{
+    char key[KEY_ROOM], old[VALUE_ROOM], new[VALUE_ROOM];
+    uint8_t out[KEYS * (KEY_ROOM + VALUE_ROOM + 17)] = { 0 };
+    const uint8_t *rest = out;
+    size_t len, many;
+    uint32_t code = hlc_changes(mine, before->id, after->id, NULL, 0, NULL, 0, out, sizeof out, &len, &many);
+    for (unsigned k = 0; k < KEYS; k++) {
+        int old_len = value_of(k, before->round, old), new_len = value_of(k, after->round, new);
+        if (old_len == new_len && (new_len < 0 || memcmp(old, new, (size_t)new_len) == 0)) continue;
+        if (!takes(&rest, key, key_of(k, key)) || *rest++ != (new_len >= 0)) return false;
+        if (new_len >= 0 && !takes(&rest, new, (size_t)new_len)) return false;
+    }
+    return code == HLC_OK && rest == out + len;
+}
+
 static bool counts(hlc_store *mine, const struct snapshot *at, unsigned k)
 {
     char from[KEY_ROOM], to[KEY_ROOM];
@@ -162,6 +202,8 @@ static bool look(hlc_store *mine, const struct snapshot *at, unsigned kind, unsi
     case 1: return counts(mine, at, k);
     case 2: return digests(mine, at);
     case 3: return asks(mine, at);
+    case 4: return scans_back(mine, at);
+    case 5: return changes(mine, at, &snapshots[k % OPEN]);
     default: return reads_key(mine, at, k);
     }
 }
@@ -174,7 +216,7 @@ static void *read_on(void *shared)
         pthread_rwlock_rdlock(&lock);
         hlc_store mine = store;
         struct snapshot at = snapshots[rand_r(&reader->seed) % OPEN];
-        if (!look(&mine, &at, (unsigned)rand_r(&reader->seed) % 8, (unsigned)rand_r(&reader->seed) % KEYS))
+        if (!look(&mine, &at, (unsigned)rand_r(&reader->seed) % 10, (unsigned)rand_r(&reader->seed) % KEYS))
             reader->wrong++;
         goes_on = !ended;
         pthread_rwlock_unlock(&lock);

@@ -107,6 +107,34 @@ def scan(room, snapshot, *bounds):
         print("scan", refused.code, 0, 0, "")
 
 
+def scan_back(room, snapshot, *bounds):
+    try:
+        listed = [sized(key) + sized(value) for key, value in snapshot.items(*bounds, reverse=True)]
+        print_fitting("back", listed, room)
+    except Error as refused:
+        print("back", refused.code, 0, 0, "")
+
+
+def answer(value):
+    """The bytes of an answer, as hlc_read_all writes them."""
+    return b"\0" if value is None else b"\1" + sized(value)
+
+
+def changes(room, before, after, *bounds):
+    """Prints what changes from one snapshot to another."""
+    try:
+        listed = [sized(key) + answer(value) for key, value in before.changes(after, *bounds)]
+        print_fitting("changes", listed, room)
+    except Error as refused:
+        print("changes", refused.code, 0, 0, "")
+
+
+def versions(store, key, *stamps):
+    """Prints the rows of a key above one stamp and at or below another."""
+    rows = [struct.pack("<QH", row.stamp, row.node) + answer(row.value) for row in store.versions(key, *stamps)]
+    print_fitting("versions", rows, 64)
+
+
 def scan_keys(room, snapshot):
     try:
         print_fitting("scan", [sized(key) for key in snapshot.keys()], room)
@@ -118,14 +146,13 @@ def read_all(room, snapshot, code=0):
     """Reads two keys. The C program reads a third one, whose place is outside the bytes, where it gets the code."""
     try:
         values = snapshot.read_all([b"city", b"town"])
-        answers = [b"\0" if value is None else b"\1" + sized(value) for value in values]
-        print_fitting("read all", answers, room, code)
+        print_fitting("read all", [answer(value) for value in values], room, code)
     except Error as refused:
         print("read all", refused.code, 0, 0, "")
 
 
 def look_round(store, first, second):
-    """Lists parts of snapshots, and asks what the store has."""
+    """Lists parts of snapshots, what changes between them and the rows of a key, and asks what the store has."""
     closed = closed_snapshot()
     scan(64, second)
     scan(64, first, b"a", b"d")
@@ -135,6 +162,20 @@ def look_round(store, first, second):
     scan_keys(12, first)
     scan_keys(11, first)
     scan_keys(64, closed)
+    scan_back(64, second)
+    scan_back(64, first, b"a", b"d")
+    scan_back(24, first)
+    scan_back(64, first, b"", b"city")
+    scan_back(64, closed)
+    changes(64, first, second)
+    changes(64, second, first)
+    changes(13, first, second)
+    changes(64, first, second, b"d")
+    changes(64, first, first)
+    changes(64, first, closed)
+    versions(store, b"city")
+    versions(store, b"city", stamp(10), stamp(21) - 1)
+    versions(store, b"lake")
     print_bytes("digest", first.digest)
     print_bytes("digest", first.digest, b"d")
     print_bytes("digest", closed.digest)
@@ -238,15 +279,21 @@ def accept_three(store, node):
         print("all", refused.code, refused.accepted, refused.word)
 
 
-def print_vacuum(what, vacuum, *length):
-    print(what, 0, *length, vacuum.stamp)
+def print_vacuum(what, vacuum):
+    print(what, 0, vacuum.stamp)
     print("kept", 0, vacuum.kept, vacuum.cost)
     print("dropped", 0, vacuum.dropped)
 
 
-def certify(call, *args):
-    vacuum, certificate = call(*args)
-    print_vacuum("certificate", vacuum, len(certificate))
+def certify(store, at):
+    """Makes the certificate of the rows at or below a stamp."""
+    try:
+        kept, cost, certificate = store.certificate(at)
+    except Error as refused:
+        print("certificate", refused.code, 0, refused.word)
+        return None
+    print("certificate", 0, len(certificate), 0)
+    print("kept", 0, kept, cost)
     return certificate
 
 
@@ -276,7 +323,7 @@ def keep_above(store, node):
     print_check(store.check_vacuum, stamp(40))
     print_vacuum("vacuum to", store.vacuum_to(stamp(40)))
     print_answer("vacuum to", store.vacuum_to, stamp(39))
-    certify(store.vacuum_to_certified, stamp(40))
+    certify(store, stamp(40))
     print_answer("rows", lambda: store.rows)
     print_sizes(store)
 
@@ -355,8 +402,12 @@ def vacuum(store, first):
     print_bytes("read", first.get, b"city")
     print_answer("close", store.close_snapshot, first.id)
     print_answer("close", store.close_snapshot, first.id)
-    for _ in range(2):
-        certificate = certify(store.vacuum_certified)
+    print_answer("floor", lambda: store.floor)
+    certify(store, store.floor)
+    print_vacuum("vacuum", store.vacuum())
+    certify(store, store.floor - 1)
+    certify(store, store.floor + 1)
+    certificate = certify(store, store.floor)
     print(certificate.decode(), end="")
     check(certificate)
     check(certificate[:35])

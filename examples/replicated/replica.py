@@ -110,7 +110,10 @@ class Replica:
         if stamp is None:
             raise serve.Refused(400, "a stamp is missing")
         with refusals():
-            return self.store.vacuum_to_certified(stamp)[1]
+            while True:
+                self.store.vacuum_to(stamp)
+                with contextlib.suppress(hlcstore.NotFewest):  # a snapshot was closed just now
+                    return self.store.certificate(stamp).certificate
 
     def newest(self, _):
         paths = self.checkpoints.paths()

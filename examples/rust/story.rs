@@ -1,6 +1,6 @@
 //! The story of examples/c/story.c, with the crate hlcstore of bindings/rust.
 
-use hlcstore::{Certified, Error, Item, KeyRange, Node, Result, Snapshot, Stamp, Store, VacuumPart, Vacuumed};
+use hlcstore::{Error, Item, KeyRange, Node, Result, Snapshot, Stamp, Store, VacuumPart, Vacuumed, Version};
 
 fn at(physical: u64) -> Stamp {
     Stamp::new(physical, 0)
@@ -44,10 +44,13 @@ fn print_vacuumed(vacuumed: &Vacuumed) {
     print_answer("dropped", Ok(vacuumed.dropped));
 }
 
-fn print_certified(certified: &Certified) {
-    let Certified { vacuumed, certificate } = certified;
-    print_two("certificate", Ok((certificate.len() as u64, vacuumed.stamp.to_bits())));
-    print_vacuumed(vacuumed);
+// Makes the certificate of the rows at or below a stamp.
+fn certificate(store: &Store, stamp: Stamp) -> Option<String> {
+    let made = store.certificate(stamp);
+    print_two("certificate", made.as_ref().map(|made| (made.certificate.len() as u64, 0)).map_err(|error| *error));
+    let made = made.ok()?;
+    print_two("kept", Ok((made.kept, made.bytes)));
+    Some(made.certificate)
 }
 
 // Asks a snapshot, and keeps it open.
@@ -94,21 +97,67 @@ fn list(store: &Store, id: u64) {
     print_bytes("list", listed.map(|page| page.as_bytes().to_vec()));
 }
 
-fn print_part(bytes: &[u8], many: usize, has_more: bool) {
-    println!("scan {} {} {many} {}", if has_more { 104 } else { 0 }, bytes.len(), hex(bytes));
+fn print_part(what: &str, bytes: &[u8], many: usize, has_more: bool) {
+    println!("{what} {} {} {many} {}", if has_more { 104 } else { 0 }, bytes.len(), hex(bytes));
 }
 
 // Prints the pairs of a range, as many as fit in so many bytes.
 fn scan(store: &Store, id: u64, range: impl KeyRange, room: usize) {
     match ask(store, id, |snapshot| snapshot.scan(range, room)) {
-        Ok(page) => print_part(page.as_bytes(), page.len(), page.has_more()),
+        Ok(page) => print_part("scan", page.as_bytes(), page.len(), page.has_more()),
         Err(error) => println!("scan {} 0 0 ", error.code()),
     }
 }
 
+// The same from the end of the range.
+fn scan_back(store: &Store, id: u64, range: impl KeyRange, room: usize) {
+    match ask(store, id, |snapshot| snapshot.scan_back(range, room)) {
+        Ok(page) => print_part("back", page.as_bytes(), page.len(), page.has_more()),
+        Err(error) => println!("back {} 0 0 ", error.code()),
+    }
+}
+
+// Some bytes with their length before them, as the library writes them.
+fn sized(bytes: &[u8]) -> Vec<u8> {
+    [&(bytes.len() as u64).to_le_bytes(), bytes].concat()
+}
+
+fn answer(value: &Option<Vec<u8>>) -> Vec<u8> {
+    value.as_ref().map_or(vec![0], |value| [vec![1], sized(value)].concat())
+}
+
+// Prints what changes from one snapshot to another. The call of C writes what fits in so many bytes. Here the changes
+// are an iterator, and this puts their bytes together.
+fn changes(store: &Store, before: u64, after: u64, range: impl KeyRange, room: usize) {
+    let listed = ask(store, before, |before| {
+        ask(store, after, |after| before.changes(after, range).collect::<Result<Vec<_>>>())
+    });
+    let entries: Vec<_> = match listed {
+        Ok(listed) => listed.iter().map(|(key, value)| [sized(key), answer(value)].concat()).collect(),
+        Err(error) => return println!("changes {} 0 0 ", error.code()),
+    };
+    let (mut bytes, mut many) = (Vec::new(), 0);
+    while many < entries.len() && bytes.len() + entries[many].len() <= room {
+        bytes.extend(&entries[many]);
+        many += 1;
+    }
+    print_part("changes", &bytes, many, many < entries.len());
+}
+
+// Prints the rows of a key above one stamp and at or below another.
+fn versions(store: &Store, key: &[u8], above: Stamp, to: Stamp) {
+    let versions = store.versions(key, above, to).unwrap();
+    let row = |row: &Version| {
+        let (stamp, node) = (row.stamp.to_bits().to_le_bytes(), row.node.to_le_bytes());
+        [&stamp[..], &node, &answer(&row.value)].concat()
+    };
+    let bytes: Vec<u8> = versions.iter().flat_map(row).collect();
+    print_part("versions", &bytes, versions.len(), false);
+}
+
 fn scan_keys(store: &Store, id: u64, room: usize) {
     match ask(store, id, |snapshot| snapshot.scan_keys(.., room)) {
-        Ok(page) => print_part(page.as_bytes(), page.len(), page.has_more()),
+        Ok(page) => print_part("scan", page.as_bytes(), page.len(), page.has_more()),
         Err(error) => println!("scan {} 0 0 ", error.code()),
     }
 }
@@ -122,11 +171,7 @@ fn read_all(store: &Store, id: u64, room: usize, code: u32) {
     };
     let (mut bytes, mut many) = (Vec::new(), 0);
     for value in values {
-        let mut answer = vec![value.is_some() as u8];
-        if let Some(value) = value {
-            answer.extend((value.len() as u64).to_le_bytes());
-            answer.extend(value);
-        }
+        let answer = answer(&value);
         if bytes.len() + answer.len() <= room {
             bytes.extend(answer);
             many += 1;
@@ -149,7 +194,7 @@ fn opened(store: &Store, place: usize) {
     }
 }
 
-// Lists parts of snapshots, and asks what the store has.
+// Lists parts of snapshots, what changes between them and the rows of a key, and asks what the store has.
 fn look_round(store: &Store) {
     scan(store, 2, .., 64);
     scan(store, 1, "a".."d", 64);
@@ -159,6 +204,20 @@ fn look_round(store: &Store) {
     scan_keys(store, 1, 12);
     scan_keys(store, 1, 11);
     scan_keys(store, 3, 64);
+    scan_back(store, 2, .., 64);
+    scan_back(store, 1, "a".."d", 64);
+    scan_back(store, 1, .., 24);
+    scan_back(store, 1, .."city", 64);
+    scan_back(store, 3, .., 64);
+    changes(store, 1, 2, .., 64);
+    changes(store, 2, 1, .., 64);
+    changes(store, 1, 2, .., 13);
+    changes(store, 1, 2, "d".., 64);
+    changes(store, 1, 1, .., 64);
+    changes(store, 1, 3, .., 64);
+    versions(store, b"city", Stamp::ZERO, Stamp::from_bits(u64::MAX));
+    versions(store, b"city", at(10), Stamp::from_bits(at(21).to_bits() - 1));
+    versions(store, b"lake", Stamp::ZERO, Stamp::from_bits(u64::MAX));
     print_bytes("digest", ask(store, 1, |snapshot| snapshot.digest(..)).map(Vec::from));
     print_bytes("digest", ask(store, 1, |snapshot| snapshot.digest("d"..)).map(Vec::from));
     print_bytes("digest", ask(store, 3, |snapshot| snapshot.digest(..)).map(Vec::from));
@@ -269,7 +328,7 @@ fn keep_above(store: &Store, node: &mut Node) {
     print_answer("vacuum to", Ok(vacuumed.stamp.to_bits()));
     print_vacuumed(&vacuumed);
     print_answer("vacuum to", store.vacuum_to(at(39)).map(|vacuumed| vacuumed.stamp.to_bits()));
-    print_certified(&store.vacuum_to_certified(at(40)).unwrap());
+    certificate(store, at(40));
     print_answer("rows", store.rows());
     print_sizes(store);
 }
@@ -307,12 +366,17 @@ fn keep_in_parts(store: &Store, b: &mut Node, c: &mut Node) {
     print_sizes(store);
 }
 
-// Vacuums with certificates, and checks the last one and parts of it.
+// Makes no certificate where a vacuum would drop rows, and one after the vacuum; and checks it, and parts of it.
 fn certify(store: &Store) {
-    for _ in 0..2 {
-        print_certified(&store.vacuum_certified().unwrap());
-    }
-    let text = store.vacuum_certified().unwrap().certificate;
+    let floor = store.floor().unwrap();
+    print_answer("floor", Ok(floor.to_bits()));
+    certificate(store, floor);
+    let vacuumed = store.vacuum().unwrap();
+    print_answer("vacuum", Ok(vacuumed.stamp.to_bits()));
+    print_vacuumed(&vacuumed);
+    certificate(store, Stamp::from_bits(floor.to_bits() - 1));
+    certificate(store, Stamp::from_bits(floor.to_bits() + 1));
+    let text = certificate(store, floor).unwrap();
     print!("{text}");
     for part in [&text[..], &text[..35], &text[..4]] {
         match hlcstore::check_certificate(part) {

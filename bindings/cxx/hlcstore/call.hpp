@@ -3,6 +3,7 @@
 #define HLCSTORE_CALL_HPP
 #include <cstddef>
 #include <cstdint>
+#include <optional>
 #include <string>
 #include <string_view>
 
@@ -14,6 +15,7 @@ namespace hlcstore::detail {
 inline constexpr std::size_t longest_key = 255;
 inline constexpr std::size_t longest_value = 65535;
 inline constexpr std::size_t length_size = 8;
+inline constexpr std::size_t room_for_pair = 2 * length_size + longest_key + longest_value;
 
 inline const std::uint8_t* bytes(std::string_view text) noexcept {
   return reinterpret_cast<const std::uint8_t*>(text.data());
@@ -87,13 +89,26 @@ class output {
   hlc_output raw_ = HLC_NO_OUTPUT;
 };
 
-// Takes a length of eight bytes, the low one first, from the front of some bytes, and so many bytes after it.
+// Takes a number of so many bytes, the low one first, from the front of some bytes.
+inline std::uint64_t take_number(std::string_view& rest, std::size_t size) {
+  std::uint64_t number = 0;
+  for (std::size_t at = size; at > 0; at--) number = number << 8 | static_cast<unsigned char>(rest[at - 1]);
+  rest.remove_prefix(size);
+  return number;
+}
+
+// Takes a length of eight bytes, and so many bytes after it.
 inline std::string_view take_text(std::string_view& rest) {
-  std::uint64_t len = 0;
-  for (std::size_t at = length_size; at > 0; at--) len = len << 8 | static_cast<unsigned char>(rest[at - 1]);
-  const std::string_view text = rest.substr(length_size, len);
-  rest.remove_prefix(length_size + len);
+  const std::uint64_t len = take_number(rest, length_size);
+  const std::string_view text = rest.substr(0, len);
+  rest.remove_prefix(len);
   return text;
+}
+
+// Takes an answer: a byte 0 for none, or 1 and a value.
+inline std::optional<std::string> take_answer(std::string_view& rest) {
+  if (take_number(rest, 1) == 0) return std::nullopt;
+  return std::string(take_text(rest));
 }
 
 }  // namespace hlcstore::detail

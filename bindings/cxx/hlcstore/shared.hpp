@@ -40,8 +40,10 @@ class fair_mutex {
 template <class Result, class... Types>
 inline constexpr bool is_one_of = (std::is_same_v<Result, Types> || ...);
 template <class Result>
-inline constexpr bool makes_calls = is_one_of<Result, snapshot, pair_range, key_range, owning_pair_range,
-                                              owning_key_range, pair_range::iterator, key_range::iterator>;
+inline constexpr bool makes_calls =
+    is_one_of<Result, snapshot, pair_range, back_range, key_range, change_range, owning_pair_range, owning_back_range,
+              owning_key_range, pair_range::iterator, back_range::iterator, key_range::iterator,
+              change_range::iterator>;
 
 // Makes a call under a lock. What it returns is used without the lock.
 template <class Call, class Argument>

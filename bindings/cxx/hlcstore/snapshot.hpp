@@ -1,4 +1,4 @@
-// Part of hlcstore.hpp: snapshots, and the ranges of their pairs and keys.
+// Part of hlcstore.hpp: snapshots, the ranges of their pairs and keys, and what changes between two of them.
 #ifndef HLCSTORE_SNAPSHOT_HPP
 #define HLCSTORE_SNAPSHOT_HPP
 #include <cstddef>
@@ -17,7 +17,7 @@
 
 namespace hlcstore {
 
-// A part of a range, as bytes in the form of hlc_scan or hlc_scan_keys; and whether a further part is left.
+// A part of a range, as bytes in the form of the call that scans it; and whether a further part is left.
 struct part {
   std::string bytes;
   std::size_t many = 0;
@@ -37,13 +37,14 @@ struct view {
     return *handle;
   }
 
-  template <class Call>
-  part scan(Call call, std::string_view from, std::string_view to, std::size_t room) const {
+  // Makes a call that scans a range; changes are those to a further snapshot.
+  template <class Call, class... Further>
+  part scan(Call call, std::string_view from, std::string_view to, std::size_t room, Further... further) const {
     hlc_store mine = copy();
     part made{std::string(room, '\0'), 0, false};
     std::size_t len;
-    const std::uint32_t code = call(&mine, id, bytes(from), from.size(), bytes(to), to.size(), bytes(made.bytes), room,
-                                    &len, &made.many);
+    const std::uint32_t code = call(&mine, id, further..., bytes(from), from.size(), bytes(to), to.size(),
+                                    bytes(made.bytes), room, &len, &made.many);
     made.more = code == HLC_MORE;
     if (!made.more) check(code);
     made.bytes.resize(len);
@@ -51,10 +52,18 @@ struct view {
   }
 };
 
-// What a range has: the call that scans it, and how an entry is taken from the bytes.
-struct pairs {
+// What a range has: how a part is scanned, how an entry is taken from the bytes, where the next part begins or ends
+// after the key of an entry, and whether another key comes after that.
+struct rising {
+  static void go_on(const std::string& key, std::string& from, std::string&) { from.assign(key).push_back('\0'); }
+  static bool is_after(std::string_view next, std::string_view key) noexcept { return next > key; }
+};
+
+struct pairs : rising {
   using value_type = std::pair<std::string, std::string>;
-  static constexpr auto scan = hlc_scan;
+  static part scan(const view& view, std::string_view from, std::string_view to, std::size_t room) {
+    return view.scan(hlc_scan, from, to, room);
+  }
   static void take(std::string_view& rest, value_type& entry) {
     entry.first = take_text(rest);
     entry.second = take_text(rest);
@@ -62,19 +71,46 @@ struct pairs {
   static const std::string& key(const value_type& entry) noexcept { return entry.first; }
 };
 
-struct keys {
+// From the end of the range, the last key first.
+struct pairs_back : pairs {
+  static part scan(const view& view, std::string_view from, std::string_view to, std::size_t room) {
+    return view.scan(hlc_scan_back, from, to, room);
+  }
+  static void go_on(const std::string& key, std::string&, std::string& to) { to.assign(key); }
+  static bool is_after(std::string_view next, std::string_view key) noexcept { return next < key; }
+};
+
+struct keys : rising {
   using value_type = std::string;
-  static constexpr auto scan = hlc_scan_keys;
+  static part scan(const view& view, std::string_view from, std::string_view to, std::size_t room) {
+    return view.scan(hlc_scan_keys, from, to, room);
+  }
   static void take(std::string_view& rest, value_type& entry) { entry = take_text(rest); }
   static const std::string& key(const value_type& entry) noexcept { return entry; }
 };
 
+// To the snapshot of this id.
+struct changes : rising {
+  std::uint64_t after = 0;
+
+  using value_type = std::pair<std::string, std::optional<std::string>>;
+  part scan(const view& view, std::string_view from, std::string_view to, std::size_t room) const {
+    return view.scan(hlc_changes, from, to, room, after);
+  }
+  static void take(std::string_view& rest, value_type& entry) {
+    entry.first = take_text(rest);
+    entry.second = take_answer(rest);
+  }
+  static const std::string& key(const value_type& entry) noexcept { return entry.first; }
+};
+
 // A place in a range, whose entries are fetched in pieces. The first piece is small, since most ranges are; later ones
-// have room for any pair.
+// have room for any entry.
 template <class Entries>
 class cursor {
  public:
-  cursor(const view& view, std::string_view from, std::string_view to) : view_(view), from_(from), to_(to) {}
+  cursor(const view& view, Entries entries, std::string_view from, std::string_view to)
+      : view_(view), entries_(entries), from_(from), to_(to) {}
   cursor(const cursor&) = delete;
   cursor& operator=(const cursor&) = delete;
 
@@ -97,12 +133,12 @@ class cursor {
   }
 
  private:
-  static constexpr std::size_t room_for_any = 2 * length_size + longest_key + longest_value;
+  static constexpr std::size_t room_for_any = room_for_pair + 1;
 
   // Fetches the piece after the entry.
   void fetch() {
-    if (has_entry_) from_.assign(Entries::key(entry_)).push_back('\0');
-    part next = view_.scan(Entries::scan, from_, to_, room_);
+    if (has_entry_) Entries::go_on(Entries::key(entry_), from_, to_);
+    part next = entries_.scan(view_, from_, to_, room_);
     if (!goes_on(next)) throw error(HLC_MORE);
     // Nothing is thrown from here on.
     piece_ = std::move(next.bytes);
@@ -116,10 +152,11 @@ class cursor {
   bool goes_on(const part& piece) const {
     if (piece.many == 0) return !piece.more || room_ < room_for_any;
     std::string_view bytes = piece.bytes;
-    return !has_entry_ || take_text(bytes) > Entries::key(entry_);
+    return !has_entry_ || Entries::is_after(take_text(bytes), Entries::key(entry_));
   }
 
   view view_;
+  Entries entries_;
   std::string from_, to_, piece_;
   std::string_view rest_;
   std::size_t left_ = 0, room_ = 4096;
@@ -130,9 +167,9 @@ class cursor {
 
 }  // namespace detail
 
-// The pairs, or the keys, of a range of a snapshot, in byte order. They are fetched in pieces while a loop goes on: a
-// range of any size takes little memory, and the store may change in between. Each step may be a call that asks. The
-// snapshot must stay open meanwhile.
+// The pairs, or the keys, of a range of a snapshot, in byte order or from its end; or what changes there to another
+// snapshot. They are fetched in pieces while a loop goes on: a range of any size takes little memory, and the store may
+// change in between. Each step may be a call that asks. The snapshots must stay open meanwhile.
 template <class Entries>
 class range {
  public:
@@ -172,14 +209,15 @@ class range {
     std::shared_ptr<detail::cursor<Entries>> place_;
   };
 
-  range(detail::view view, std::string_view from, std::string_view to)
-      : view_(std::move(view)), from_(from), to_(to) {}
+  range(detail::view view, std::string_view from, std::string_view to, Entries entries = {})
+      : view_(std::move(view)), entries_(entries), from_(from), to_(to) {}
 
-  iterator begin() const { return iterator(std::make_shared<detail::cursor<Entries>>(view_, from_, to_)); }
+  iterator begin() const { return iterator(std::make_shared<detail::cursor<Entries>>(view_, entries_, from_, to_)); }
   iterator end() const noexcept { return {}; }
 
  private:
   detail::view view_;
+  Entries entries_;
   std::string from_, to_;
 };
 
@@ -187,8 +225,11 @@ template <class Entries>
 class owning_range;
 
 using pair_range = range<detail::pairs>;
+using back_range = range<detail::pairs_back>;
 using key_range = range<detail::keys>;
+using change_range = range<detail::changes>;
 using owning_pair_range = owning_range<detail::pairs>;
+using owning_back_range = owning_range<detail::pairs_back>;
 using owning_key_range = owning_range<detail::keys>;
 
 // An open snapshot, which closes itself. A range goes from the key `from` on, up to the key `to` and without it, or to
@@ -241,9 +282,40 @@ class snapshot {
   owning_pair_range range(std::string_view from = {}, std::string_view to = {}) &&;
   owning_key_range keys(std::string_view from = {}, std::string_view to = {}) &&;
 
-  // As many pairs, or keys, of a range as fit into so many bytes.
+  // The pairs of a range from its end, the last key first.
+  back_range range_back(std::string_view from = {}, std::string_view to = {}) const& { return {view_, from, to}; }
+  owning_back_range range_back(std::string_view from = {}, std::string_view to = {}) &&;
+
+  // The pair of the last key below this one, or of the last of all if it has no bytes; or none.
+  std::optional<std::pair<std::string, std::string>> last_below(std::string_view key = {}) const {
+    // Room for a short pair, and then for any.
+    part last = scan_back({}, key, 128);
+    if (last.many == 0 && last.more) last = scan_back({}, key, detail::room_for_pair);
+    if (last.many == 0) return std::nullopt;
+    std::string_view rest = last.bytes;
+    std::pair<std::string, std::string> pair;
+    detail::pairs::take(rest, pair);
+    return pair;
+  }
+
+  // What changes from this snapshot to another of the same store, whichever is the older one: the keys of a range whose
+  // answers differ, in byte order, each with its value in the other snapshot or none. Both must stay open meanwhile.
+  change_range changes(const snapshot& after, std::string_view from = {}, std::string_view to = {}) const& {
+    if (!view_.handle || view_.handle != after.view_.handle) throw error(HLC_NO_SNAPSHOT);
+    detail::changes entries;
+    entries.after = after.id();
+    return {view_, from, to, entries};
+  }
+  change_range changes(const snapshot&& after, std::string_view from = {}, std::string_view to = {}) const& = delete;
+  change_range changes(const snapshot& after, std::string_view from = {}, std::string_view to = {}) && = delete;
+  change_range changes(const snapshot&& after, std::string_view from = {}, std::string_view to = {}) && = delete;
+
+  // As many pairs of a range, or from its end, or keys, as fit into so many bytes.
   part scan(std::string_view from, std::string_view to, std::size_t room) const {
     return view_.scan(hlc_scan, from, to, room);
+  }
+  part scan_back(std::string_view from, std::string_view to, std::size_t room) const {
+    return view_.scan(hlc_scan_back, from, to, room);
   }
   part scan_keys(std::string_view from, std::string_view to, std::size_t room) const {
     return view_.scan(hlc_scan_keys, from, to, room);
@@ -297,11 +369,7 @@ class snapshot {
     if (code != HLC_MORE) detail::check(code);
     if (many == 0) throw error(HLC_MORE);
     std::string_view rest = piece;
-    for (std::size_t at = 0; at < many; at++) {
-      const bool has_value = rest.front() == 1;
-      rest.remove_prefix(1);
-      values.push_back(has_value ? std::optional<std::string>(detail::take_text(rest)) : std::nullopt);
-    }
+    for (std::size_t at = 0; at < many; at++) values.push_back(detail::take_answer(rest));
   }
 
   detail::view view_;
@@ -328,6 +396,11 @@ class owning_range {
 
 inline owning_pair_range snapshot::range(std::string_view from, std::string_view to) && {
   pair_range listed = range(from, to);
+  return {std::move(*this), std::move(listed)};
+}
+
+inline owning_back_range snapshot::range_back(std::string_view from, std::string_view to) && {
+  back_range listed = range_back(from, to);
   return {std::move(*this), std::move(listed)};
 }
 

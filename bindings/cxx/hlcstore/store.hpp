@@ -58,6 +58,13 @@ struct store_sizes {
   std::uint64_t value_bytes = 0;
 };
 
+// A stored row of a key: the stamp of the write and its node, and the value, or none of a deletion.
+struct key_version {
+  timestamp stamp;
+  std::uint16_t node = 0;
+  std::optional<std::string> value;
+};
+
 // What a vacuum did up to a stamp: how many rows are left there, what they cost in bytes, and how many were dropped.
 struct vacuum_report {
   timestamp stamp;
@@ -66,7 +73,10 @@ struct vacuum_report {
   std::uint64_t dropped = 0;
 };
 
-struct certified_vacuum : vacuum_report {
+// The certificate of the rows at or below a stamp: how many they are, what they cost in bytes, and its text.
+struct certified {
+  std::uint64_t kept = 0;
+  std::uint64_t bytes = 0;
   std::string certificate;
 };
 
@@ -287,6 +297,27 @@ class store {
     return static_cast<std::uint16_t>(found.word);
   }
 
+  // The stored rows of a key above one stamp and at or below another, the newest first. From the horizon on these are
+  // all accepted writes of the key; below it, those that vacuums kept.
+  std::vector<key_version> versions(std::string_view key, timestamp above = {}, timestamp to = {UINT64_MAX}) const {
+    hlc_store mine = copy();
+    std::size_t many = 0;
+    const std::string bytes = detail::fetch([&](std::uint8_t* out, std::size_t room, std::size_t* len) {
+      return hlc_versions(&mine, detail::bytes(key), key.size(), above.word, to.word, out, room, len, &many);
+    });
+    std::vector<key_version> found;
+    found.reserve(many);
+    std::string_view rest = bytes;
+    while (found.size() < many) {
+      key_version next;
+      next.stamp.word = detail::take_number(rest, 8);
+      next.node = static_cast<std::uint16_t>(detail::take_number(rest, 2));
+      next.value = detail::take_answer(rest);
+      found.push_back(std::move(next));
+    }
+    return found;
+  }
+
   // ---- Vacuum and checkpoint ----
 
   // Drops the rows that no reader needs: up to the floor, or up to a stamp, which is the horizon from then on.
@@ -323,16 +354,25 @@ class store {
     return made;
   }
 
-  // Does vacuum or vacuum_to, with the certificate of the rows that are left.
-  certified_vacuum vacuum_certified() { return certified(hlc_vacuum_certified, own()); }
-  certified_vacuum vacuum_to_certified(timestamp stamp) {
-    return certified(hlc_vacuum_to_certified, own(), stamp.word);
-  }
-
   // What vacuum_to would answer, except HLC_NO_MEMORY.
   [[nodiscard]] answer check_vacuum(timestamp stamp) const {
     hlc_store mine = copy();
     return detail::answered(hlc_check_vacuum, &mine, stamp.word);
+  }
+
+  // The certificate of the rows at or below a stamp, after a vacuum to it or the last part of one. Where a vacuum would
+  // drop a row, it throws HLC_NOT_FEWEST.
+  certified certificate(timestamp stamp) const {
+    hlc_store mine = copy();
+    certified made;
+    detail::output text;
+    std::uint64_t word;
+    std::size_t len;
+    const std::uint32_t code =
+        hlc_certificate(&mine, stamp.word, &word, &made.kept, &made.bytes, text.raw(), &len);
+    detail::check(code, word);
+    made.certificate = text.text(len);
+    return made;
   }
 
   // The whole state of the store as bytes, with a word of the program's, such as a place in a log.
@@ -365,19 +405,6 @@ class store {
   std::uint64_t asked(std::uint32_t (*call)(hlc_store*, std::uint64_t*)) const {
     hlc_store mine = copy();
     return detail::word_of(call, &mine);
-  }
-
-  // Vacuums with a certificate.
-  template <class Call, class... Arguments>
-  static certified_vacuum certified(Call call, Arguments... arguments) {
-    certified_vacuum made;
-    detail::output certificate;
-    std::size_t len;
-    const std::uint32_t code = call(arguments..., &made.stamp.word, &made.kept, &made.bytes, &made.dropped,
-                                    certificate.raw(), &len);
-    detail::check(code, made.stamp.word);
-    made.certificate = certificate.text(len);
-    return made;
   }
 
   std::shared_ptr<hlc_store> handle_;

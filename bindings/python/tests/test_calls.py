@@ -12,7 +12,7 @@ import unittest
 from unittest import mock
 
 import hlcstore
-from hlcstore import Checked, Item, Link, Node, Sizes, Store, Vacuum, VacuumPart, split, stamp
+from hlcstore import Certified, Checked, Item, Link, Node, Sizes, Store, Vacuum, VacuumPart, Version, split, stamp
 
 
 def filled(pairs):
@@ -216,7 +216,13 @@ class Snapshots(unittest.TestCase):
             self.assertEqual(list(snapshot.keys(start=start, end=end)), [key for key, _ in part])
             self.assertEqual(snapshot.count(start, end), len(part))
             self.assertEqual(snapshot.digest(start, end), digest_of(part))
+            self.assertEqual(list(snapshot.items(start, end, reverse=True)), part[::-1])
+            self.assertEqual(list(snapshot.keys(start, end, reverse=True)), [key for key, _ in part][::-1])
+            below = [pair for pair in pairs if not end or pair[0] < end]
+            self.assertEqual(snapshot.last_below(end), below[-1] if below else None)
         self.assertEqual((list(snapshot), len(snapshot)), ([key for key, _ in pairs], 1000))
+        self.assertEqual(list(reversed(snapshot)), [key for key, _ in pairs][::-1])
+        self.assertEqual((snapshot.last_below(key=b"000"), snapshot.last_below()), (None, pairs[-1]))
         items = snapshot.items()
         self.assertEqual([next(items) for _ in range(10)], pairs[:10])
         self.assertEqual(list(items), pairs[10:])
@@ -228,7 +234,35 @@ class Snapshots(unittest.TestCase):
         snapshot = filled(pairs)[0].snapshot()
         self.assertEqual(list(snapshot.items()), pairs)
         self.assertEqual(list(snapshot), keys)
+        self.assertEqual(list(snapshot.items(reverse=True)), pairs[::-1])
         self.assertEqual(snapshot.read_all(snapshot), [value for _, value in pairs])
+
+    def test_changes(self):
+        """In each round each key is written, deleted or left as it is, some with long values."""
+        store, node = Store(1), Node(0)
+        snapshots = [store.snapshot()]
+        for reading in range(1, 5):
+            for i in range(600):
+                kind, key = (i + reading) % 4, b"%03d" % i
+                if kind < 2:
+                    value = b"v" * (i % 5 * 200 + reading)
+                    store.accept(node.write(reading, key, value) if kind else node.delete(reading, key))
+            store.accept(node.write(reading, b"k" * 255, bytes([reading]) * 65535))
+            snapshots.append(store.snapshot())
+        for before in snapshots:
+            for after in snapshots:
+                old, new = dict(before.items()), dict(after.items())
+                changed = [(key, new.get(key)) for key in sorted({*old, *new}) if old.get(key) != new.get(key)]
+                self.assertEqual(list(before.changes(after)), changed)
+                part = [change for change in changed if b"1" <= change[0] < b"2"]
+                self.assertEqual(list(before.changes(after=after, start=b"1", end=bytearray(b"2"))), part)
+        changes = snapshots[0].changes(snapshots[4])
+        next(changes)
+        snapshots[4].close()
+        with self.assertRaises(hlcstore.NoSnapshot):
+            list(changes)
+        with self.assertRaises(hlcstore.NoSnapshot):
+            snapshots[0].changes(Store(1).snapshot())
 
     def test_opening_and_closing(self):
         store, node = filled([(b"a", b"x"), (b"a", b"y")])
@@ -383,18 +417,31 @@ class Vacuums(unittest.TestCase):
         self.assertEqual(self.store.rows, 4)
 
     def test_certificates(self):
-        vacuum, certificate = self.store.vacuum_certified()
-        self.assertEqual(vacuum, (stamp(4), 2, 26, 2))
-        self.assertEqual(hlcstore.check(certificate), Checked(rows=2, cost=26))
+        with self.assertRaises(hlcstore.NotFewest):
+            self.store.certificate(stamp(4))
+        self.assertEqual(self.store.vacuum(), (stamp(4), 2, 26, 2))
+        kept, cost, certificate = self.store.certificate(stamp(4))
+        self.assertEqual((kept, cost, hlcstore.check(certificate)), (2, 26, Checked(rows=2, cost=26)))
         self.assertEqual(hlcstore.check(bytearray(certificate)).rows, 2)
-        vacuum, again = self.store.vacuum_to_certified(stamp(4))
-        self.assertEqual((vacuum.dropped, again), (0, certificate))
+        self.assertEqual(self.store.vacuum_to(stamp(4)).dropped, 0)
+        self.assertEqual(self.store.certificate(stamp(4)), Certified(2, 26, certificate))
 
     def test_a_long_certificate(self):
         store = filled([(b"key %d" % (i % 2000), b"value") for i in range(3000)])[0]
-        vacuum, certificate = store.vacuum_certified()
+        vacuum = store.vacuum()
         self.assertEqual((vacuum.stamp, vacuum.kept, vacuum.dropped), (stamp(3000), 2000, 1000))
-        self.assertEqual(hlcstore.check(certificate), (vacuum.kept, vacuum.cost))
+        self.assertEqual(hlcstore.check(store.certificate(vacuum.stamp).certificate), (vacuum.kept, vacuum.cost))
+
+    def test_versions(self):
+        store, one, two = Store(2), Node(0), Node(1)
+        long = bytes(65535)
+        store.accept_all([one.write(1, b"a", b"x"), one.write(2, b"a", long), two.delete(2, b"a")])
+        rows = [Version(stamp(2), 1, None), Version(stamp(2), 0, long), Version(stamp(1), 0, b"x")]
+        self.assertEqual(store.versions(b"a"), rows)
+        self.assertEqual(store.versions(bytearray(b"a"), stamp(1)), rows[:2])
+        self.assertEqual(store.versions(key=b"a", above=0, to=stamp(1)), rows[2:])
+        self.assertEqual((store.versions(b"b"), store.versions(b""), store.versions(b"a", 5, 4)), ([], [], []))
+        self.assertEqual(len(filled([(b"a", b"%d" % i) for i in range(300)])[0].versions(b"a")), 300)
 
 
 class Restarts(unittest.TestCase):
@@ -449,6 +496,8 @@ class Arguments(unittest.TestCase):
             (store.close_snapshot, None), (store.restore, None), (store.checkpoint, b""), (store.link, None),
             (snapshot.get, "a"), (snapshot.get,), (snapshot.get, b"a", 1, 2), (snapshot.items, 1),
             (snapshot.read_all, b"ab"), (snapshot.read_all, None), (snapshot.digest, b"", "z"),
+            (snapshot.items, b"", b"", True), (snapshot.last_below, 1), (snapshot.changes,), (snapshot.changes, store),
+            (snapshot.changes, snapshot, 1), (store.versions,), (store.versions, "a"), (store.certificate, None),
             (snapshot.__getitem__, 1), (snapshot.__contains__, "a"), (hlcstore.check, "point 1.0"),
         ]  # fmt: skip
         for call, *args in calls:
@@ -477,7 +526,8 @@ class Arguments(unittest.TestCase):
                 (store.accept_report, 0, 0, 2**64), (store.accept_retire, 0, -1, 0), (store.check_report, 0, 0, -1),
                 (store.check_write, 0, 0, -1, b"a", b""), (store.check_delete, 0, -1, 0, b"a"), (store.join_at, -1),
                 (store.snapshot, -1), (store.close_snapshot, -1), (store.vacuum_to, 10**5000), (store.checkpoint, -1),
-                (store.vacuum_to_certified, -1), (store.vacuum_part, -1), (store.vacuum_part, 0, b"", -1),
+                (store.certificate, -1), (store.vacuum_part, -1), (store.vacuum_part, 0, b"", -1),
+                (store.versions, b"a", -1), (store.versions, b"a", 0, 2**64),
                 (store.check_vacuum, 2**64), (split, -1), (split, 2**64), (hlcstore.error_name, 2**64),
             ],
             halves: [(Store, -1), (Node, -1), (store.link, -1), (Item.report, 2**64, 0, 0), (stamp, 1, 70000),
@@ -507,7 +557,8 @@ class Arguments(unittest.TestCase):
         self.assertEqual((result.failed, result.attempted > 0), (0, True))
 
     def test_results_are_pickled(self):
-        for result in Vacuum(1, 2, 3, 4), VacuumPart(1, 2, 3, 4, b"5"), Link(1, 2, True), Checked(1, 2):
+        results = [Vacuum(1, 2, 3, 4), VacuumPart(1, 2, 3, 4, b"5"), Link(1, 2, True), Checked(1, 2)]
+        for result in [*results, Certified(1, 2, b"3"), Version(1, 2, None)]:
             self.assertEqual(pickle.loads(pickle.dumps(result)), result)
 
 

@@ -51,16 +51,22 @@ def read(snapshot):
     snapshot.read_all([KEY, b"other"] * 50)
     refuse(TypeError, snapshot.read_all, [KEY, None])
     list(snapshot.items()), list(snapshot.keys(KEY, b"z")), len(snapshot), snapshot.count(KEY), snapshot.digest(b"a")
-    next(snapshot.items())
+    list(snapshot.items(end=bytearray(b"z"), reverse=True)), list(reversed(snapshot)), snapshot.last_below(LONG_KEY)
+    snapshot.last_below(b"a"), list(snapshot.changes(snapshot, KEY, b"z"))
+    next(snapshot.items()), next(snapshot.keys(reverse=True))
+    refuse(TypeError, snapshot.changes, None)
+    refuse(TypeError, snapshot.changes, snapshot, KEY, 5)
     refuse(TypeError, snapshot.items, KEY, 5)
 
 
 def keep(store):
     """Makes the calls that vacuum, certify, save and restore."""
-    store.vacuum()
-    vacuum, certificate = store.vacuum_certified()
+    vacuum = store.vacuum()
+    certificate = store.certificate(vacuum.stamp).certificate
     store.vacuum_to(vacuum.stamp)
-    store.vacuum_to_certified(vacuum.stamp)
+    store.versions(KEY), store.versions(bytearray(LONG_KEY), 0, vacuum.stamp)
+    refuse(TypeError, store.versions, KEY, "1")
+    refuse(hlcstore.AboveFloor, store.certificate, 2**63)
     store.vacuum_part(vacuum.stamp, most=1), store.vacuum_part(vacuum.stamp, bytearray(KEY), 0)
     refuse(hlcstore.AboveFloor, store.vacuum_to, 2**63)
     refuse(hlcstore.AboveFloor, store.vacuum_part, 2**63, KEY)
@@ -89,6 +95,15 @@ def empty_a_key(store):
         raise AssertionError("the key has rows")
 
 
+def change():
+    """Lists what changes between two snapshots, and the versions of a key."""
+    with Store(1) as store:
+        before, node = store.snapshot(), Node(0)
+        store.accept_all([node.write(1, KEY, VALUE), node.delete(2, LONG_KEY), node.write(3, KEY, b"")])
+        list(before.changes(store.snapshot())), list(store.snapshot().changes(before)), store.versions(KEY)
+        next(before.changes(store.snapshot(), KEY))
+
+
 def play():
     """One round: every call, on a store of its own."""
     node = Node(0)
@@ -102,6 +117,9 @@ def play():
         store.snapshot().close()
         other = store.snapshot()
         store.close_snapshot(other.id)
+    with Store(1).snapshot() as apart, Store(1).snapshot() as other:
+        refuse(hlcstore.NoSnapshot, apart.changes, other, KEY)
+    change()
     Store(1)
     refuse(hlcstore.NoNode, Store, 0)
 

@@ -33,6 +33,13 @@ def closed():
         return store
 
 
+def deleted():
+    """Returns a store with a value and a deletion of the same key, of which a vacuum needs none."""
+    store = fed()
+    store.accept(Item.delete(0, 1, stamp(3), b"a"))
+    return store
+
+
 def retired():
     node = Node(0)
     node.retire(1)
@@ -41,9 +48,8 @@ def retired():
 
 def certificate():
     """Returns a certificate with a line too few."""
-    store = fed()
-    store.accept(Item.delete(0, 1, stamp(3), b"a"))
-    _, text = store.vacuum_to_certified(stamp(2))
+    store = deleted()
+    text = store.certificate(stamp(2)).certificate
     return b"".join(text.splitlines(keepends=True)[:-1])
 
 
@@ -70,7 +76,6 @@ REFUSED = {
     hlcstore.ValueTooLong: (lambda: bytes(Item.write(0, 0, 1, b"a", bytes(65536))), 0),
     hlcstore.NumbersSpent: (lambda: Node.restore(0, 2**64 - 1, 2**64 - 1).report(1), 0),
     hlcstore.BadLine: (lambda: hlcstore.check(b"point 1.0\npoint"), 2),
-    hlcstore.TooLong: (lambda: hlcstore.check(bytes(2**24 + 1)), 0),
     hlcstore.NotShown: (lambda: hlcstore.check(certificate()), 7),
     hlcstore.TooManyNodes: (lambda: [store.join() for store in [Store(1)] for _ in range(1024)], 0),
     hlcstore.Retired: (lambda: retired().send(5), 0),
@@ -79,6 +84,7 @@ REFUSED = {
     hlcstore.NoSuchNode: (lambda: Node.restore(7, 2, 3), 0),
     hlcstore.BadBytes: (lambda: Store.restore(bytes(60)), 2),
     hlcstore.NoCheckpoint: (lambda: Store.restore(checkpoint_without_nodes()), 1),
+    hlcstore.NotFewest: (lambda: deleted().certificate(stamp(3)), 0),
 }
 # How the text of a refusal has its word.
 WORDS = {
@@ -186,8 +192,8 @@ class AfterClose(unittest.TestCase):
             (store.check_write, 0, 0, 1, b"a", b""), (store.check_delete, 0, 0, 1, b"a"), (store.check_report, 0, 0, 1),
             (store.join,), (store.join_at, 5), (store.link, 0), (store.floor_node,), (store.snapshot,),
             (store.snapshot, 0), (store.snapshots,), (store.close_snapshot, 1), (store.close_all,), (store.vacuum,),
-            (store.vacuum_certified,), (store.vacuum_to, 0), (store.vacuum_to_certified, 0), (store.vacuum_part, 0),
-            (store.check_vacuum, 0), (store.checkpoint,),
+            (store.vacuum_to, 0), (store.vacuum_part, 0), (store.check_vacuum, 0), (store.certificate, 0),
+            (store.checkpoint,), (store.versions, b"a"),
             *[(getattr, store, name) for name in ("floor", "horizon", "rows", "sizes", "nodes")],
         ]  # fmt: skip
         for call, *args in calls:
@@ -199,7 +205,9 @@ class AfterClose(unittest.TestCase):
         calls = [
             (snapshot.get, b"a"), (snapshot.__getitem__, b"a"), (snapshot.__contains__, b"a"), (len, snapshot),
             (list, snapshot), (list, snapshot.keys()), (list, snapshot.items()), (snapshot.count,),
-            (snapshot.digest,), (snapshot.read_all, [b"a"]), (snapshot.read_all, []), (next, items), (next, items),
+            (list, reversed(snapshot)), (list, snapshot.items(reverse=True)), (snapshot.last_below,),
+            (list, snapshot.changes(snapshot)), (snapshot.digest,), (snapshot.read_all, [b"a"]),
+            (snapshot.read_all, []), (next, items), (next, items),
         ]  # fmt: skip
         for call, *args in calls:
             with self.assertRaises(kind, msg=f"{call} {args}"):

@@ -34,6 +34,8 @@ def stub_parameters(function):
     found = [(name, kind, default) for (name, kind), default in zip(ordered, defaults)]
     if arguments.vararg:
         found.append((arguments.vararg.arg, names.VAR_POSITIONAL, names.empty))
+    by_name = zip(arguments.kwonlyargs, arguments.kw_defaults)
+    found += [(each.arg, names.KEYWORD_ONLY, ast.literal_eval(default)) for each, default in by_name]
     return [each for each in found if each[0] not in ("self", "cls")]
 
 

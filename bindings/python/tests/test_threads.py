@@ -68,6 +68,7 @@ class OneSnapshot(unittest.TestCase):
                 some = pick.sample(keys, 50)
                 check(snapshot.read_all(some) == [expected[key] for key in some], "values of some keys")
                 check(dict(snapshot.items()) == expected and list(snapshot) == keys, "the listing")
+                check(list(reversed(snapshot)) == keys[::-1], "the listing from the end")
                 check(len(snapshot) == len(keys) and snapshot.digest() == digest, "the digest")
 
         in_threads(read, range(THREADS))
@@ -144,12 +145,20 @@ class OneStore(unittest.TestCase):
             with store.snapshot() as snapshot:
                 self.compare(pick, snapshot)
             if pick.random() < 0.1:
-                vacuum, certificate = store.vacuum_certified()
-                check(hlcstore.check(certificate) == (vacuum.kept, vacuum.cost), "the certificate")
+                self.certify(store)
             if pick.random() < 0.05:
                 with Store.restore(store.checkpoint(reading)) as copy:
                     check(copy.word == reading, "the word")
                     self.compare(pick, copy.snapshot())
+
+    def certify(self, store):
+        """Other threads may vacuum to a later stamp in between, or close a snapshot for which a row was kept."""
+        vacuum = store.vacuum()
+        try:
+            certified = store.certificate(vacuum.stamp)
+        except (hlcstore.BelowHorizon, hlcstore.NotFewest):
+            return
+        check(hlcstore.check(certified.certificate) == (certified.kept, certified.cost), "the certificate")
 
     def test_four_threads_read_and_write(self):
         store, turns = Store(THREADS), 200
@@ -243,13 +252,15 @@ class LongCalls(unittest.TestCase):
         """The other thread goes on in calls that take milliseconds. Since other programs may stop it, some tries are
         allowed."""
         saved, log = self.store.checkpoint(), b"".join(map(bytes, self.items))
-        certificate = self.store.vacuum_certified()[1]
+        vacuum = self.store.vacuum()
+        certificate = self.store.certificate(vacuum.stamp).certificate
         wide, floor = self.wide, self.wide.floor
         pieces = [saved[at : at + 50_000] for at in range(0, len(saved), 50_000)]
         calls = {
             "accept_all": lambda: Store(1).accept_all(self.items),
             "accept_items": lambda: Store(1).accept_items(log),
             "apply_records": lambda: Store(1).apply_records(log),
+            "certificate": partial(self.store.certificate, vacuum.stamp),
             "check": partial(hlcstore.check, certificate),
             "checkpoint": self.store.checkpoint,
             "digest": self.snapshot.digest,
@@ -257,10 +268,8 @@ class LongCalls(unittest.TestCase):
             "restore from a piece": partial(Store.restore, [saved]),
             "restore from pieces": partial(Store.restore, pieces),
             "vacuum": wide.vacuum,
-            "vacuum_certified": self.store.vacuum_certified,
             "vacuum_part": partial(wide.vacuum_part, floor, most=100_000),
             "vacuum_to": partial(wide.vacuum_to, floor),
-            "vacuum_to_certified": partial(wide.vacuum_to_certified, floor),
         }
         for name, call in calls.items():
             tries = (self.pause_in(call) for _ in range(30))

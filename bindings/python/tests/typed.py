@@ -4,8 +4,8 @@ from collections.abc import Iterator
 from typing import assert_type
 
 import hlcstore
-from hlcstore import AboveFloor, Applied, Checked, Item, Link, Node, NotNext, Sizes, Snapshot, Store, Vacuum, VacuumPart
-from hlcstore import check, split, stamp
+from hlcstore import AboveFloor, Applied, Certified, Checked, Item, Link, Node, NotNext, Sizes, Snapshot, Store, Vacuum
+from hlcstore import VacuumPart, Version, check, split, stamp
 
 node = Node(0)
 item = assert_type(node.write(1, b"a", bytearray(b"x")), Item)
@@ -25,7 +25,11 @@ with Store(1) as store:
             assert_type(snapshot.get(b"b"), bytes | None)
             assert_type(snapshot.get(b"b", 7), bytes | int)
             assert_type(snapshot.items(start=b"a"), Iterator[tuple[bytes, bytes]])
+            assert_type(snapshot.keys(reverse=True), Iterator[bytes])
+            assert_type(snapshot.last_below(b"b"), tuple[bytes, bytes] | None)
+            assert_type(snapshot.changes(snapshot, end=b"z"), Iterator[tuple[bytes, bytes | None]])
             assert_type(list(snapshot), list[bytes])
+            assert_type(list(reversed(snapshot)), list[bytes])
             assert_type(snapshot.read_all([b"a"]), list[bytes | None])
             assert_type(b"a" in snapshot, bool)
             assert_type(split(snapshot.stamp), tuple[int, int])
@@ -33,9 +37,10 @@ with Store(1) as store:
         assert_type(refused.word, int)
     except NotNext as refused_item:
         assert_type(refused_item.accepted, int)
-    vacuum, certificate = store.vacuum_certified()
-    assert_type(vacuum, Vacuum)
+    vacuum = assert_type(store.vacuum(), Vacuum)
+    certified = assert_type(store.certificate(vacuum.stamp), Certified)
+    assert_type(store.versions(b"a", to=vacuum.stamp), list[Version])
     assert_type(store.vacuum_part(0, bytearray(b"a"), most=2), VacuumPart)
-    assert_type(check(certificate), Checked)
+    assert_type(check(certified.certificate), Checked)
     assert_type(Store.restore(store.checkpoint(word=3)), Store)
 assert_type(hlcstore.__version__, str)

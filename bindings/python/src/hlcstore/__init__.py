@@ -29,6 +29,7 @@ from ._errors import (
     NoNode,
     NoSnapshot,
     NoSuchNode,
+    NotFewest,
     NotNext,
     NotShown,
     NoValue,
@@ -36,7 +37,6 @@ from ._errors import (
     ReadingTooLarge,
     Retired,
     StampNotRising,
-    TooLong,
     TooManyNodes,
     TooManySnapshots,
     ValueTooLong,
@@ -54,7 +54,7 @@ from ._native import (
     threshold_record,
     version,
 )
-from ._results import Applied, Checked, Link, Sizes, Vacuum, VacuumPart
+from ._results import Applied, Certified, Checked, Link, Sizes, Vacuum, VacuumPart, Version
 
 __all__ = [
     "AboveFloor",
@@ -63,6 +63,7 @@ __all__ = [
     "BadKey",
     "BadLine",
     "BelowHorizon",
+    "Certified",
     "Checked",
     "Closed",
     "CounterFull",
@@ -76,6 +77,7 @@ __all__ = [
     "NoSuchNode",
     "NoValue",
     "Node",
+    "NotFewest",
     "NotNext",
     "NotShown",
     "NumbersSpent",
@@ -85,12 +87,12 @@ __all__ = [
     "Snapshot",
     "StampNotRising",
     "Store",
-    "TooLong",
     "TooManyNodes",
     "TooManySnapshots",
     "Vacuum",
     "VacuumPart",
     "ValueTooLong",
+    "Version",
     "__version__",
     "check",
     "error_name",

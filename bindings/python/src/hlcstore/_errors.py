@@ -94,10 +94,6 @@ class BadLine(Error):
     code = _native.HLC_BAD_LINE
 
 
-class TooLong(Error):
-    code = _native.HLC_TOO_LONG
-
-
 class NotShown(Error):
     code = _native.HLC_NOT_SHOWN
 
@@ -128,6 +124,10 @@ class BadBytes(Error):
 
 class NoCheckpoint(Error):
     code = _native.HLC_NO_CHECKPOINT
+
+
+class NotFewest(Error):
+    code = _native.HLC_NOT_FEWEST
 
 
 REFUSALS: dict[int, type[Error]] = {refusal.code: refusal for refusal in Error.__subclasses__()}

@@ -31,6 +31,28 @@ class VacuumPart(NamedTuple):
     """The key after which the next part goes on, or None where no key is left."""
 
 
+class Certified(NamedTuple):
+    """The certificate of the rows up to a stamp: no rows with the same answers are fewer, or cost less."""
+
+    kept: int
+    """How many rows there are."""
+    cost: int
+    """What these cost: for each the length of its key and of its value, and 10."""
+    certificate: bytes
+    """The text of the certificate, for `check` and `hlcstore check`."""
+
+
+class Version(NamedTuple):
+    """A stored row of a key."""
+
+    stamp: int
+    """The stamp of the write, or of the deletion."""
+    node: int
+    """The number of the node that issued it."""
+    value: bytes | None
+    """The value, or None in a deletion."""
+
+
 class Applied(NamedTuple):
     """How far the records of a log were applied."""
 

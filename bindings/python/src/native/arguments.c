@@ -61,6 +61,24 @@ void drop_bytes(Bytes *bytes)
 
 PyObject *number_object(uint64_t number) { return PyLong_FromUnsignedLongLong(number); }
 
+uint64_t number_at(const uint8_t *at, size_t size)
+{
+    uint64_t number = 0;
+    while (size > 0) number = number << 8 | at[--size];
+    return number;
+}
+
+PyObject *answer_object(const uint8_t **at)
+{
+    if (*(*at)++ == 0) {
+        Py_INCREF(Py_None);
+        return Py_None;
+    }
+    size_t len = (size_t)number_at(*at, LENGTH);
+    *at += LENGTH + len;
+    return PyBytes_FromStringAndSize((const char *)*at - len, (Py_ssize_t)len);
+}
+
 /* Work on fewer bytes is shorter than the 5 ms for which Python lets a thread run at a time. */
 enum { MANY_BYTES = 1 << 20 };
 

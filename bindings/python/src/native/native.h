@@ -60,6 +60,16 @@ int take_bytes(PyObject *from, void *to);
 
 PyObject *number_object(uint64_t number);
 
+/* How many bytes a length has before the bytes that it counts. */
+enum { LENGTH = 8 };
+
+/* A number of so many bytes, the low one first. */
+uint64_t number_at(const uint8_t *at, size_t size);
+
+/* The value of an answer, or None where there is none: a byte 0; or a byte 1, a length and so many bytes. at: the
+ * answer's place, and then that of what follows. */
+PyObject *answer_object(const uint8_t **at);
+
 /* Lets go of the interpreter for work on so many bytes, if they are many. Returns what take_back needs: the thread, or
  * NULL. Where other threads of Python run, taking it back may last milliseconds. */
 PyThreadState *let_go_for(size_t len);
@@ -144,14 +154,18 @@ extern PyType_Spec store_spec;
 
 /* Methods of a store. */
 PyObject *store_vacuum(PyObject *self, PyObject *none);
-PyObject *store_vacuum_certified(PyObject *self, PyObject *none);
 PyObject *store_vacuum_to(PyObject *self, PyObject *stamp);
-PyObject *store_vacuum_to_certified(PyObject *self, PyObject *stamp);
 PyObject *store_vacuum_part(PyObject *self, PyObject *args, PyObject *words);
 PyObject *store_check_vacuum(PyObject *self, PyObject *stamp);
+PyObject *store_certificate(PyObject *self, PyObject *stamp);
 
 /* The function check of the module. */
 PyObject *check_certificate(PyObject *module, PyObject *text);
+
+/* ---- versions.c ---- */
+
+/* A method of a store. */
+PyObject *store_versions(PyObject *self, PyObject *args, PyObject *words);
 
 /* ---- snapshot.c ---- */
 
@@ -177,8 +191,16 @@ PyObject *snapshot_read_all(PyObject *self, PyObject *keys);
 
 /* ---- pairs.c ---- */
 
-/* Returns an iterator over the keys from one on and below another, with their values or alone. It takes the bytes. */
-PyObject *pairs_of(Snapshot *snapshot, Bytes start, Bytes end, bool with_values);
+/* What an iterator gives: keys, alone or with their values, in byte order or from the last on; or the keys whose
+ * answers differ in another snapshot, with the values there. */
+typedef struct {
+    bool with_values;
+    bool is_reverse;
+    Snapshot *after; /* that other snapshot, or NULL */
+} Listed;
+
+/* Returns an iterator over the keys from one on and below another. It takes the bytes. */
+PyObject *pairs_of(Snapshot *snapshot, Bytes start, Bytes end, Listed listed);
 
 extern PyType_Spec pairs_spec;
 

@@ -1,26 +1,27 @@
-/* The iterators over a snapshot. Each has a buffer of its own, which it fills with as many pairs as fit. */
+/* The iterators over a snapshot, and over what changes to another one. Each has a buffer of its own, which it fills
+ * with as many entries as fit. An entry is a key, a pair, or a key and its answer in the other snapshot. */
 #include "native.h"
 #include <stdlib.h>
 #include <string.h>
 
-/* Room for the longest pair: two lengths of eight bytes, a key of 255 and a value of 65,535. */
-enum { ROOM = 65806, LENGTH = 8 };
+/* Room for the longest entry: two lengths of eight bytes, a key of 255, the byte of an answer and a value of 65,535. */
+enum { ROOM = 65807 };
 
 typedef struct {
     PyObject_HEAD
     Snapshot *snapshot;
     Bytes start;
     Bytes end;
-    bool with_values;
+    Listed listed;
     bool is_busy;  /* whether a call of next runs */
-    bool has_more; /* whether pairs are left after those of the buffer */
+    bool has_more; /* whether entries are left after those of the buffer */
     uint8_t *buffer;
     size_t len;
-    size_t at;   /* the next pair's place in the buffer */
-    size_t last; /* the place of the pair before it */
+    size_t at;   /* the next entry's place in the buffer */
+    size_t last; /* the place of the entry before it */
 } Pairs;
 
-PyObject *pairs_of(Snapshot *snapshot, Bytes start, Bytes end, bool with_values)
+PyObject *pairs_of(Snapshot *snapshot, Bytes start, Bytes end, Listed listed)
 {
     Pairs *pairs = allocate(classes_of((PyObject *)snapshot)->pairs);
     if (!pairs) {
@@ -32,7 +33,8 @@ PyObject *pairs_of(Snapshot *snapshot, Bytes start, Bytes end, bool with_values)
     pairs->snapshot = snapshot;
     pairs->start = start;
     pairs->end = end;
-    pairs->with_values = with_values;
+    Py_XINCREF((PyObject *)listed.after);
+    pairs->listed = listed;
     pairs->has_more = true;
     pairs->buffer = malloc(ROOM);
     if (pairs->buffer) return (PyObject *)pairs;
@@ -47,7 +49,20 @@ static void pairs_dealloc(PyObject *self)
     drop_bytes(&pairs->start);
     drop_bytes(&pairs->end);
     Py_DECREF((PyObject *)pairs->snapshot);
+    Py_XDECREF((PyObject *)pairs->listed.after);
     release_object(self);
+}
+
+static uint32_t make_call(Pairs *pairs, hlc_store *store, size_t *many)
+{
+    const Bytes *start = &pairs->start, *end = &pairs->end;
+    const Listed *listed = &pairs->listed;
+    uint64_t id = pairs->snapshot->id;
+    if (listed->after)
+        return hlc_changes(store, id, listed->after->id, start->at, start->len, end->at, end->len, pairs->buffer, ROOM,
+                           &pairs->len, many);
+    return (listed->is_reverse ? hlc_scan_back : listed->with_values ? hlc_scan : hlc_scan_keys)(
+        store, id, start->at, start->len, end->at, end->len, pairs->buffer, ROOM, &pairs->len, many);
 }
 
 static uint32_t scan(Pairs *pairs)
@@ -56,40 +71,32 @@ static uint32_t scan(Pairs *pairs)
     size_t many;
     PyThreadState *thread = lock_to_ask(store, LONG);
     hlc_store mine = store->handle;
-    uint32_t code = (pairs->with_values ? hlc_scan : hlc_scan_keys)(
-        &mine, pairs->snapshot->id, pairs->start.at, pairs->start.len, pairs->end.at, pairs->end.len, pairs->buffer,
-        ROOM, &pairs->len, &many);
+    uint32_t code = make_call(pairs, &mine, &many);
     unlock(store, thread);
     return code;
 }
 
-/* A length, of eight bytes with the low one first. */
-static size_t length_at(const uint8_t *at)
-{
-    size_t len = 0;
-    for (int i = LENGTH - 1; i >= 0; i--) len = len << 8 | at[i];
-    return len;
-}
-
-/* Lets the next scan start after the last pair of the buffer: at its key with a byte 0 after it. */
-static bool start_after_last(Pairs *pairs)
+/* Lets the next scan go on after the last entry of the buffer: it starts at its key with a byte 0 after it, or it ends
+ * before its key. */
+static bool go_on_after_last(Pairs *pairs)
 {
     const uint8_t *key = pairs->buffer + pairs->last;
-    size_t len = length_at(key);
-    PyObject *next = PyBytes_FromStringAndSize(NULL, (Py_ssize_t)len + 1);
+    size_t len = (size_t)number_at(key, LENGTH), more = pairs->listed.is_reverse ? 0 : 1;
+    Bytes *bound = pairs->listed.is_reverse ? &pairs->end : &pairs->start;
+    PyObject *next = PyBytes_FromStringAndSize(NULL, (Py_ssize_t)(len + more));
     if (!next) return false;
     char *at = PyBytes_AsString(next);
     memcpy(at, key + LENGTH, len);
-    at[len] = 0;
-    drop_bytes(&pairs->start);
-    pairs->start = (Bytes){ next, (const uint8_t *)at, len + 1 };
+    memset(at + len, 0, more);
+    drop_bytes(bound);
+    *bound = (Bytes){ next, (const uint8_t *)at, len + more };
     return true;
 }
 
-/* Fills the buffer with the next pairs. Returns false with an exception where that is refused. */
+/* Fills the buffer with the next entries. Returns false with an exception where that is refused. */
 static bool fill(Pairs *pairs)
 {
-    if (pairs->len > 0 && !start_after_last(pairs)) return false;
+    if (pairs->len > 0 && !go_on_after_last(pairs)) return false;
     uint32_t code = scan(pairs);
     pairs->at = 0;
     pairs->has_more = code != HLC_OK;
@@ -102,7 +109,7 @@ static bool fill(Pairs *pairs)
 static PyObject *part_at(const Pairs *pairs, size_t *at)
 {
     const uint8_t *part = pairs->buffer + *at;
-    size_t len = length_at(part);
+    size_t len = (size_t)number_at(part, LENGTH);
     *at += LENGTH + len;
     return PyBytes_FromStringAndSize((const char *)part + LENGTH, (Py_ssize_t)len);
 }
@@ -116,11 +123,37 @@ static PyObject *pair_at(const Pairs *pairs, size_t *at)
     return pair;
 }
 
+static PyObject *change_at(const Pairs *pairs, size_t *at)
+{
+    PyObject *key = part_at(pairs, at), *change = NULL;
+    const uint8_t *answer = pairs->buffer + *at;
+    PyObject *value = answer_object(&answer);
+    *at = (size_t)(answer - pairs->buffer);
+    if (key && value) change = PyTuple_Pack(2, key, value);
+    Py_XDECREF(value);
+    Py_XDECREF(key);
+    return change;
+}
+
+/* A scan from the end has values too. */
+static PyObject *key_at(const Pairs *pairs, size_t *at)
+{
+    PyObject *key = part_at(pairs, at);
+    if (pairs->listed.is_reverse) *at += LENGTH + (size_t)number_at(pairs->buffer + *at, LENGTH);
+    return key;
+}
+
+static PyObject *entry_at(const Pairs *pairs, size_t *at)
+{
+    if (pairs->listed.after) return change_at(pairs, at);
+    return pairs->listed.with_values ? pair_at(pairs, at) : key_at(pairs, at);
+}
+
 static PyObject *take_next(Pairs *pairs)
 {
     if (pairs->at == pairs->len && !(pairs->has_more && fill(pairs) && pairs->len > 0)) return NULL;
     size_t at = pairs->at;
-    PyObject *next = pairs->with_values ? pair_at(pairs, &at) : part_at(pairs, &at);
+    PyObject *next = entry_at(pairs, &at);
     if (!next) return NULL;
     pairs->last = pairs->at;
     pairs->at = at;

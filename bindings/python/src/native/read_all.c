@@ -4,7 +4,7 @@
 #include <string.h>
 
 /* Room for the longest answer: a byte, a length of eight bytes, and a value of 65,535. */
-enum { ROOM = 65544, LENGTH = 8 };
+enum { ROOM = 65544 };
 
 /* The keys of a call, one after the other, and the answers of those that were read last. */
 typedef struct {
@@ -72,25 +72,12 @@ static uint32_t read_from(Snapshot *snapshot, Batch *batch, size_t from, size_t 
     return code;
 }
 
-/* The value of an answer, or None where the key has none. at: the answer's place, and then that of the next one. */
-static PyObject *value_at(const uint8_t **at)
-{
-    size_t len = 0;
-    if (*(*at)++ == 0) {
-        Py_INCREF(Py_None);
-        return Py_None;
-    }
-    for (int i = LENGTH - 1; i >= 0; i--) len = len << 8 | (*at)[i];
-    *at += LENGTH + len;
-    return PyBytes_FromStringAndSize((const char *)*at - len, (Py_ssize_t)len);
-}
-
 /* Appends the values of the answers to the list. */
 static bool append_values(const Batch *batch, PyObject *list, size_t many)
 {
     const uint8_t *at = batch->answers;
     for (size_t i = 0; i < many; i++) {
-        PyObject *value = value_at(&at);
+        PyObject *value = answer_object(&at);
         bool is_appended = value && PyList_Append(list, value) == 0;
         Py_XDECREF(value);
         if (!is_appended) return false;

@@ -1,5 +1,6 @@
 /* An open snapshot. What it answers never changes, so an answer that takes two calls needs no lock over both. */
 #include "native.h"
+#include <stdlib.h>
 
 /* ---- Opening and closing ---- */
 
@@ -255,24 +256,111 @@ static PyObject *snapshot_digest(PyObject *self, PyObject *args, PyObject *words
     return code == HLC_OK ? PyBytes_FromStringAndSize((const char *)out, (Py_ssize_t)len) : refuse(code, 0);
 }
 
+/* An iterator over a range, which may begin at its end. */
+static PyObject *listing(PyObject *self, PyObject *args, PyObject *words, bool with_values)
+{
+    static char *names[] = { "start", "end", "reverse", NULL };
+    Range range = { 0 };
+    int is_reverse = false;
+    if (!PyArg_ParseTupleAndKeywords(args, words, "|O&O&$p", names, take_bytes, &range.start, take_bytes, &range.end,
+                                     &is_reverse))
+        return NULL;
+    Listed listed = { .with_values = with_values, .is_reverse = is_reverse };
+    return pairs_of((Snapshot *)self, range.start, range.end, listed);
+}
+
 static PyObject *snapshot_items(PyObject *self, PyObject *args, PyObject *words)
 {
-    Range range;
-    if (!take_range(args, words, &range)) return NULL;
-    return pairs_of((Snapshot *)self, range.start, range.end, true);
+    return listing(self, args, words, true);
 }
 
 static PyObject *snapshot_keys(PyObject *self, PyObject *args, PyObject *words)
 {
-    Range range;
-    if (!take_range(args, words, &range)) return NULL;
-    return pairs_of((Snapshot *)self, range.start, range.end, false);
+    return listing(self, args, words, false);
 }
 
 static PyObject *snapshot_iter(PyObject *self)
 {
     Range all = { 0 };
-    return pairs_of((Snapshot *)self, all.start, all.end, false);
+    return pairs_of((Snapshot *)self, all.start, all.end, (Listed){ 0 });
+}
+
+static PyObject *snapshot_reversed(PyObject *self, PyObject *none)
+{
+    Range all = { 0 };
+    (void)none;
+    return pairs_of((Snapshot *)self, all.start, all.end, (Listed){ .is_reverse = true });
+}
+
+/* Room for a short pair, and for any: two lengths of eight bytes, a key of 255 and a value of 65,535. */
+enum { SHORT_ROOM = 256, PAIR_ROOM = 65806 };
+
+/* The last pair below a key, in a buffer with so much room. */
+static uint32_t scan_last(Snapshot *snapshot, const Bytes *below, uint8_t *out, size_t room, size_t *many)
+{
+    size_t len;
+    PyThreadState *thread = lock_to_ask(snapshot->store, SHORT);
+    hlc_store mine = snapshot->store->handle;
+    uint32_t code = hlc_scan_back(&mine, snapshot->id, NULL, 0, below->at, below->len, out, room, &len, many);
+    unlock(snapshot->store, thread);
+    return code;
+}
+
+static PyObject *pair_object(const uint8_t *at)
+{
+    size_t key_len = (size_t)number_at(at, LENGTH);
+    const uint8_t *value = at + LENGTH + key_len;
+    return Py_BuildValue("(y#y#)", at + LENGTH, (Py_ssize_t)key_len, value + LENGTH,
+                         (Py_ssize_t)number_at(value, LENGTH));
+}
+
+static PyObject *none_or_pair(const uint8_t *at, size_t many)
+{
+    if (many > 0) return pair_object(at);
+    Py_RETURN_NONE;
+}
+
+static PyObject *last_below(Snapshot *snapshot, const Bytes *below)
+{
+    uint8_t first[SHORT_ROOM], *large = NULL, *out = first;
+    size_t many;
+    uint32_t code = scan_last(snapshot, below, out, sizeof first, &many);
+    if (code == HLC_MORE && many == 0) {
+        out = large = malloc(PAIR_ROOM);
+        if (!large) return PyErr_NoMemory();
+        code = scan_last(snapshot, below, out, PAIR_ROOM, &many);
+    }
+    PyObject *pair = code == HLC_OK || code == HLC_MORE ? none_or_pair(out, many) : refuse(code, 0);
+    free(large);
+    return pair;
+}
+
+static PyObject *snapshot_last_below(PyObject *self, PyObject *args, PyObject *words)
+{
+    static char *names[] = { "key", NULL };
+    Bytes below = { 0 };
+    if (!PyArg_ParseTupleAndKeywords(args, words, "|O&:last_below", names, take_bytes, &below)) return NULL;
+    PyObject *last = last_below((Snapshot *)self, &below);
+    drop_bytes(&below);
+    return last;
+}
+
+/* ---- Two snapshots ---- */
+
+/* A snapshot of another store is not open in this one. */
+static PyObject *snapshot_changes(PyObject *self, PyObject *args, PyObject *words)
+{
+    static char *names[] = { "after", "start", "end", NULL };
+    Snapshot *before = (Snapshot *)self;
+    PyObject *after;
+    Range range = { 0 };
+    if (!PyArg_ParseTupleAndKeywords(args, words, "O!|O&O&:changes", names, classes_of(self)->snapshot, &after,
+                                     take_bytes, &range.start, take_bytes, &range.end))
+        return NULL;
+    if (((Snapshot *)after)->store == before->store)
+        return pairs_of(before, range.start, range.end, (Listed){ .after = (Snapshot *)after });
+    drop_range(&range);
+    return refuse(HLC_NO_SNAPSHOT, 0);
 }
 
 /* ---- The class ---- */
@@ -295,10 +383,21 @@ static PyMethodDef snapshot_methods[] = {
       "read_all($self, keys, /)\n--\n\n"
       "Return the values of keys, None for a key without one. Costs less than as many calls of get." },
     METHOD("keys", snapshot_keys,
-           "keys($self, /, start=b'', end=b'')\n--\n\n"
-           "Iterate over the keys from start on and below end, in byte order. No end means all from start on."),
+           "keys($self, /, start=b'', end=b'', *, reverse=False)\n--\n\n"
+           "Iterate over the keys from start on and below end, in byte order. No end means all from start on.\n\n"
+           "In reverse the last key comes first."),
     METHOD("items", snapshot_items,
-           "items($self, /, start=b'', end=b'')\n--\n\nIterate over such keys and their values."),
+           "items($self, /, start=b'', end=b'', *, reverse=False)\n--\n\nIterate over such keys and their values."),
+    { "__reversed__", snapshot_reversed, METH_NOARGS,
+      "__reversed__($self, /)\n--\n\nIterate over the keys, the last one first." },
+    METHOD("last_below", snapshot_last_below,
+           "last_below($self, /, key=b'')\n--\n\n"
+           "Return the last key below this one and its value, or None. No key means the last of all."),
+    METHOD("changes", snapshot_changes,
+           "changes($self, /, after, start=b'', end=b'')\n--\n\n"
+           "Iterate over the keys from start on and below end whose answers in another snapshot of the store differ,\n"
+           "in byte order, each with its value there, or None. Either snapshot may be the older one.\n\n"
+           "These changes lead from what this snapshot lists to what the other one does, and no fewer do."),
     METHOD("count", snapshot_count, "count($self, /, start=b'', end=b'')\n--\n\nReturn how many such keys there are."),
     METHOD("digest", snapshot_digest,
            "digest($self, /, start=b'', end=b'')\n--\n\n"

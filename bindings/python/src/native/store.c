@@ -500,6 +500,11 @@ static PyMethodDef store_methods[] = {
     { "link", store_link, METH_O, "link($self, node, /)\n--\n\nReturn what was accepted from a node." },
     { "floor_node", store_floor_node, METH_NOARGS,
       "floor_node($self, /)\n--\n\nReturn the number of the first node that holds the floor back." },
+    METHOD("versions", store_versions,
+           "versions($self, /, key, above=0, to=18446744073709551615)\n--\n\n"
+           "Return the stored rows of a key above one stamp and at or below another, the newest first.\n\n"
+           "From the horizon on these are all accepted writes of the key; below it, those that vacuums kept. The cost\n"
+           "is the square of the number of the key's rows."),
     METHOD("snapshot", store_snapshot,
            "snapshot($self, /, stamp=None)\n--\n\nOpen a snapshot at a stamp, or at the floor."),
     { "snapshots", store_snapshots, METH_NOARGS,
@@ -511,13 +516,9 @@ static PyMethodDef store_methods[] = {
     { "vacuum", store_vacuum, METH_NOARGS,
       "vacuum($self, /)\n--\n\n"
       "Drop all rows up to the floor that neither it nor an open snapshot needs." },
-    { "vacuum_certified", store_vacuum_certified, METH_NOARGS,
-      "vacuum_certified($self, /)\n--\n\nDo the same, and return the numbers and the certificate." },
     { "vacuum_to", store_vacuum_to, METH_O,
       "vacuum_to($self, stamp, /)\n--\n\n"
       "Drop all rows up to a stamp that neither it nor an open snapshot below it needs." },
-    { "vacuum_to_certified", store_vacuum_to_certified, METH_O,
-      "vacuum_to_certified($self, stamp, /)\n--\n\nDo the same, and return the numbers and the certificate." },
     METHOD("vacuum_part", store_vacuum_part,
            "vacuum_part($self, /, stamp, after=b'', most=1024)\n--\n\n"
            "Do a part of vacuum_to: of the first keys above one, at most so many.\n\n"
@@ -525,6 +526,11 @@ static PyMethodDef store_methods[] = {
            "between parts. Each leaves the fewest rows of its keys at the snapshots that are open then."),
     { "check_vacuum", store_check_vacuum, METH_O,
       "check_vacuum($self, stamp, /)\n--\n\nRaise what vacuum_to would raise, except NoMemory." },
+    { "certificate", store_certificate, METH_O,
+      "certificate($self, stamp, /)\n--\n\n"
+      "Return the certificate of the rows up to a stamp, after a vacuum to it or the last part of one.\n\n"
+      "It shows that no rows with the same answers are fewer or cheaper. NotFewest is raised where a vacuum would\n"
+      "drop a row. The store stays as it is." },
     METHOD("checkpoint", store_checkpoint,
            "checkpoint($self, /, word=0)\n--\n\n"
            "Return the store's whole state as bytes, with a word of the caller's.\n\n"

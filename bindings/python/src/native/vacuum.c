@@ -11,16 +11,6 @@ static uint32_t run(hlc_store *store, const uint64_t *stamp, uint64_t *numbers)
     return hlc_vacuum_to(store, *stamp, &numbers[STAMP], &numbers[KEPT], &numbers[COST], &numbers[DROPPED]);
 }
 
-static uint32_t run_certified(hlc_store *store, const uint64_t *stamp, uint64_t *numbers, hlc_output *output,
-                              size_t *len)
-{
-    if (!stamp)
-        return hlc_vacuum_certified(store, &numbers[STAMP], &numbers[KEPT], &numbers[COST], &numbers[DROPPED], output,
-                                    len);
-    return hlc_vacuum_to_certified(store, *stamp, &numbers[STAMP], &numbers[KEPT], &numbers[COST], &numbers[DROPPED],
-                                   output, len);
-}
-
 static PyObject *vacuum(Store *store, const uint64_t *stamp)
 {
     uint64_t numbers[NUMBERS];
@@ -30,50 +20,16 @@ static PyObject *vacuum(Store *store, const uint64_t *stamp)
     return code == HLC_OK ? result_of("Vacuum", numbers, NUMBERS, NULL) : refuse(code, numbers[STAMP]);
 }
 
-/* The numbers, and the certificate of len bytes. It drops the output. */
-static PyObject *numbers_and_certificate(const uint64_t *numbers, hlc_output *output, size_t len)
-{
-    PyObject *certificate = output_object(output, len), *result = NULL;
-    PyObject *vacuum = certificate ? result_of("Vacuum", numbers, NUMBERS, NULL) : NULL;
-    if (vacuum) result = PyTuple_Pack(2, vacuum, certificate);
-    Py_XDECREF(vacuum);
-    Py_XDECREF(certificate);
-    return result;
-}
-
-static PyObject *vacuum_certified(Store *store, const uint64_t *stamp)
-{
-    uint64_t numbers[NUMBERS];
-    hlc_output output = HLC_NO_OUTPUT;
-    size_t len;
-    PyThreadState *thread = lock_to_change(store, LONG);
-    uint32_t code = run_certified(&store->handle, stamp, numbers, &output, &len);
-    unlock(store, thread);
-    return code == HLC_OK ? numbers_and_certificate(numbers, &output, len) : refuse(code, numbers[STAMP]);
-}
-
 PyObject *store_vacuum(PyObject *self, PyObject *none)
 {
     (void)none;
     return vacuum((Store *)self, NULL);
 }
 
-PyObject *store_vacuum_certified(PyObject *self, PyObject *none)
-{
-    (void)none;
-    return vacuum_certified((Store *)self, NULL);
-}
-
 PyObject *store_vacuum_to(PyObject *self, PyObject *from)
 {
     uint64_t stamp;
     return take_u64(from, &stamp) ? vacuum((Store *)self, &stamp) : NULL;
-}
-
-PyObject *store_vacuum_to_certified(PyObject *self, PyObject *from)
-{
-    uint64_t stamp;
-    return take_u64(from, &stamp) ? vacuum_certified((Store *)self, &stamp) : NULL;
 }
 
 /* The longest key. */
@@ -131,6 +87,23 @@ PyObject *store_check_vacuum(PyObject *self, PyObject *from)
     unlock(store, thread);
     if (code != HLC_OK) return refuse(code, word);
     Py_RETURN_NONE;
+}
+
+PyObject *store_certificate(PyObject *self, PyObject *from)
+{
+    Store *store = (Store *)self;
+    hlc_output output = HLC_NO_OUTPUT;
+    uint64_t stamp, word, numbers[2];
+    size_t len;
+    if (!take_u64(from, &stamp)) return NULL;
+    PyThreadState *thread = lock_to_ask(store, LONG);
+    hlc_store mine = store->handle;
+    uint32_t code = hlc_certificate(&mine, stamp, &word, &numbers[0], &numbers[1], &output, &len);
+    unlock(store, thread);
+    if (code != HLC_OK) return refuse(code, word);
+    PyObject *text = output_object(&output, len), *result = text ? result_of("Certified", numbers, 2, text) : NULL;
+    Py_XDECREF(text);
+    return result;
 }
 
 PyObject *check_certificate(PyObject *module, PyObject *from)

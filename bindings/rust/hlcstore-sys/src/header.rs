@@ -20,7 +20,6 @@ pub const HLC_VALUE_TOO_LONG: u32 = 13;
 pub const HLC_NUMBERS_SPENT: u32 = 14;
 pub const HLC_NO_MEMORY: u32 = 15;
 pub const HLC_BAD_LINE: u32 = 16;
-pub const HLC_TOO_LONG: u32 = 20;
 pub const HLC_NOT_SHOWN: u32 = 22;
 pub const HLC_TOO_MANY_NODES: u32 = 26;
 pub const HLC_RETIRED: u32 = 27;
@@ -33,6 +32,7 @@ pub const HLC_NO_SUCH_NODE: u32 = 105;
 pub const HLC_BAD_BYTES: u32 = 106;
 pub const HLC_NO_CHECKPOINT: u32 = 107;
 pub const HLC_HAS_BYTES: u32 = 108;
+pub const HLC_NOT_FEWEST: u32 = 109;
 
 #[repr(C)]
 #[derive(Clone, Copy, Debug, PartialEq, Eq)]
@@ -194,6 +194,31 @@ unsafe extern "C" {
         len: *mut usize,
         many: *mut usize,
     ) -> u32;
+    pub fn hlc_scan_back(
+        store: *mut hlc_store,
+        id: u64,
+        from: *const u8,
+        from_len: usize,
+        to: *const u8,
+        to_len: usize,
+        out: *mut u8,
+        out_len: usize,
+        len: *mut usize,
+        many: *mut usize,
+    ) -> u32;
+    pub fn hlc_changes(
+        store: *mut hlc_store,
+        before: u64,
+        after: u64,
+        from: *const u8,
+        from_len: usize,
+        to: *const u8,
+        to_len: usize,
+        out: *mut u8,
+        out_len: usize,
+        len: *mut usize,
+        many: *mut usize,
+    ) -> u32;
     pub fn hlc_count(
         store: *mut hlc_store,
         id: u64,
@@ -223,21 +248,23 @@ unsafe extern "C" {
         key_bytes: *mut u64,
         value_bytes: *mut u64,
     ) -> u32;
+    pub fn hlc_versions(
+        store: *mut hlc_store,
+        key: *const u8,
+        key_len: usize,
+        above: u64,
+        to: u64,
+        out: *mut u8,
+        out_len: usize,
+        len: *mut usize,
+        many: *mut usize,
+    ) -> u32;
     pub fn hlc_vacuum(
         store: *mut hlc_store,
         floor: *mut u64,
         kept: *mut u64,
         bytes: *mut u64,
         dropped: *mut u64,
-    ) -> u32;
-    pub fn hlc_vacuum_certified(
-        store: *mut hlc_store,
-        floor: *mut u64,
-        kept: *mut u64,
-        bytes: *mut u64,
-        dropped: *mut u64,
-        output: *mut hlc_output,
-        len: *mut usize,
     ) -> u32;
     pub fn hlc_vacuum_to(
         store: *mut hlc_store,
@@ -246,16 +273,6 @@ unsafe extern "C" {
         kept: *mut u64,
         bytes: *mut u64,
         dropped: *mut u64,
-    ) -> u32;
-    pub fn hlc_vacuum_to_certified(
-        store: *mut hlc_store,
-        stamp: u64,
-        word: *mut u64,
-        kept: *mut u64,
-        bytes: *mut u64,
-        dropped: *mut u64,
-        output: *mut hlc_output,
-        len: *mut usize,
     ) -> u32;
     pub fn hlc_vacuum_part(
         store: *mut hlc_store,
@@ -273,6 +290,15 @@ unsafe extern "C" {
         more: *mut bool,
     ) -> u32;
     pub fn hlc_check_vacuum(store: *mut hlc_store, stamp: u64, word: *mut u64) -> u32;
+    pub fn hlc_certificate(
+        store: *mut hlc_store,
+        stamp: u64,
+        word: *mut u64,
+        kept: *mut u64,
+        bytes: *mut u64,
+        output: *mut hlc_output,
+        len: *mut usize,
+    ) -> u32;
     pub fn hlc_check(text: *const u8, text_len: usize, rows: *mut u64, bytes: *mut u64, word: *mut u64) -> u32;
     pub fn hlc_item_write(
         node: u16,

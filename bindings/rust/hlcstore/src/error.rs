@@ -57,8 +57,6 @@ pub enum ErrorKind {
     NoMemory,
     /// A line of a certificate is bad. The word is its number.
     BadLine,
-    /// A certificate has more than 16,777,216 bytes.
-    TooLong,
     /// A certificate does not show that its rows are the fewest. The word is the number of the first reason.
     NotShown,
     /// 1,024 node numbers are assigned.
@@ -75,6 +73,8 @@ pub enum ErrorKind {
     BadBytes,
     /// The content of the bytes is no checkpoint. The word is the number of the first reason.
     NoCheckpoint,
+    /// The rows at or below the stamp are not the fewest: a vacuum to it would drop one.
+    NotFewest,
     /// An answer that this version of the crate does not know.
     Other,
 }
@@ -114,7 +114,6 @@ impl Error {
             sys::HLC_NUMBERS_SPENT => ErrorKind::NumbersSpent,
             sys::HLC_NO_MEMORY => ErrorKind::NoMemory,
             sys::HLC_BAD_LINE => ErrorKind::BadLine,
-            sys::HLC_TOO_LONG => ErrorKind::TooLong,
             sys::HLC_NOT_SHOWN => ErrorKind::NotShown,
             sys::HLC_TOO_MANY_NODES => ErrorKind::TooManyNodes,
             sys::HLC_RETIRED => ErrorKind::Retired,
@@ -123,6 +122,7 @@ impl Error {
             sys::HLC_NO_SUCH_NODE => ErrorKind::NoSuchNode,
             sys::HLC_BAD_BYTES => ErrorKind::BadBytes,
             sys::HLC_NO_CHECKPOINT => ErrorKind::NoCheckpoint,
+            sys::HLC_NOT_FEWEST => ErrorKind::NotFewest,
             _ => ErrorKind::Other,
         }
     }

@@ -8,7 +8,8 @@ use crate::error::answer;
 use crate::output::{Certificate, Output};
 use crate::range::Bounds;
 use crate::vacuum::{VacuumPart, Vacuumed};
-use crate::{Applied, Content, Error, Item, Link, Node, OpenSnapshot, Result, Sizes, Stamp, Stopped};
+use crate::version::versions_of;
+use crate::{Applied, Content, Error, Item, Link, Node, OpenSnapshot, Result, Sizes, Stamp, Stopped, Version};
 use hlcstore_sys as sys;
 
 /// How many bytes of a value are made room for at first.
@@ -34,7 +35,11 @@ unsafe impl Sync for Handle {}
 #[derive(Clone, Copy, Debug)]
 pub(crate) enum Listed {
     Pairs,
+    /// Pairs from the end of the range.
+    PairsBack,
     Keys,
+    /// The changes to the snapshot of this id.
+    Changes(u64),
 }
 
 // The blocks that are unsafe here call the library. Pointers come from references and slices, are passed with the
@@ -233,8 +238,7 @@ impl Handle {
         }
     }
 
-    /// Lists the pairs, or the keys, of a range that fit in so many bytes. Returns how many these are, and whether more
-    /// are left.
+    /// Lists the entries of a range that fit in so many bytes. Returns how many these are, and whether more are left.
     pub(crate) fn scan(
         &self,
         listed: Listed,
@@ -245,20 +249,27 @@ impl Handle {
     ) -> Result<(usize, bool)> {
         out.clear();
         reserve(out, room)?;
-        let call = match listed {
-            Listed::Pairs => sys::hlc_scan,
-            Listed::Keys => sys::hlc_scan_keys,
-        };
         let (from, from_len, to, to_len) = range.pointers();
-        let (mut copy, mut len, mut entries) = (self.raw, 0, 0);
-        let code =
-            unsafe { call(&mut copy, id, from, from_len, to, to_len, out.as_mut_ptr(), room, &mut len, &mut entries) };
+        let (mut copy, mut len, mut many) = (self.raw, 0, 0);
+        let (store, place, len_at, many_at) = (&mut copy, out.as_mut_ptr(), &mut len, &mut many);
+        let code = unsafe {
+            match listed {
+                Listed::Pairs => sys::hlc_scan(store, id, from, from_len, to, to_len, place, room, len_at, many_at),
+                Listed::PairsBack => {
+                    sys::hlc_scan_back(store, id, from, from_len, to, to_len, place, room, len_at, many_at)
+                }
+                Listed::Keys => sys::hlc_scan_keys(store, id, from, from_len, to, to_len, place, room, len_at, many_at),
+                Listed::Changes(after) => {
+                    sys::hlc_changes(store, id, after, from, from_len, to, to_len, place, room, len_at, many_at)
+                }
+            }
+        };
         if code != sys::HLC_OK && code != sys::HLC_MORE {
             return Err(Error::new(code, 0));
         }
         // The call has written these bytes.
         unsafe { out.set_len(len) };
-        Ok((entries, code == sys::HLC_MORE))
+        Ok((many, code == sys::HLC_MORE))
     }
 
     pub(crate) fn count(&self, id: u64, range: &Bounds) -> Result<u64> {
@@ -317,6 +328,18 @@ impl Handle {
         }
     }
 
+    pub(crate) fn versions(&self, key: &[u8], above: Stamp, to: Stamp) -> Result<Vec<Version>> {
+        let (key, key_len, above, to) = (key.as_ptr(), key.len(), above.to_bits(), to.to_bits());
+        let (mut copy, mut bytes, mut many) = (self.raw, Vec::new(), 0);
+        reserve(&mut bytes, VALUE_ROOM)?;
+        unsafe {
+            append(&mut bytes, |out, room, len| {
+                sys::hlc_versions(&mut copy, key, key_len, above, to, out, room, len, &mut many)
+            })?;
+        }
+        versions_of(&bytes, many)
+    }
+
     pub(crate) fn checkpoint(&self, word: u64) -> Result<Output> {
         let mut saved = Output::none();
         let (output, len) = saved.place();
@@ -364,22 +387,13 @@ impl Handle {
         self.ask(|store, word| unsafe { sys::hlc_check_vacuum(store, to.to_bits(), word) }).map(drop)
     }
 
-    pub(crate) fn vacuum_certified(&mut self) -> Result<Certificate> {
-        let (mut made, mut text) = (Numbers::default(), Output::none());
-        let Numbers { stamp, kept, bytes, dropped } = &mut made;
+    pub(crate) fn certificate(&self, at: Stamp) -> Result<Certificate> {
+        let (mut kept, mut bytes, mut text) = (0, 0, Output::none());
         let (output, len) = text.place();
-        self.change(|store, _| unsafe { sys::hlc_vacuum_certified(store, stamp, kept, bytes, dropped, output, len) })?;
-        Ok(Certificate { vacuumed: made.vacuumed(), text })
-    }
-
-    pub(crate) fn vacuum_to_certified(&mut self, to: Stamp) -> Result<Certificate> {
-        let (mut made, mut text) = (Numbers::default(), Output::none());
-        let Numbers { kept, bytes, dropped, .. } = &mut made;
-        let (output, len) = text.place();
-        made.stamp = self.change(|store, word| unsafe {
-            sys::hlc_vacuum_to_certified(store, to.to_bits(), word, kept, bytes, dropped, output, len)
+        self.ask(|store, word| unsafe {
+            sys::hlc_certificate(store, at.to_bits(), word, &mut kept, &mut bytes, output, len)
         })?;
-        Ok(Certificate { vacuumed: made.vacuumed(), text })
+        Ok(Certificate { kept, bytes, text })
     }
 }
 

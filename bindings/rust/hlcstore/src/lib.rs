@@ -3,7 +3,7 @@
 //! Nodes issue [`Item`]s: writes, deletions and reports, each with a [`Stamp`] of a hybrid logical clock. A store
 //! accepts them in any order of the nodes. Its floor (closed timestamp) is the stamp up to which all items are there. A
 //! [`Snapshot`] reads the store as it was at a stamp, and returns the same answers whatever is accepted later. A vacuum
-//! drops the rows that no snapshot needs, and can certify that those which are left are the fewest and cheapest.
+//! drops the rows that no snapshot needs, and a certificate shows that those which are left are the fewest and cheapest.
 //!
 //! ```
 //! use hlcstore::{Node, Stamp, Store};
@@ -52,10 +52,11 @@ mod snapshot;
 mod stamp;
 mod store;
 mod vacuum;
+mod version;
 
 pub use error::{Error, ErrorKind, Result, Stopped, error_name, error_text};
 pub use item::{Content, Item};
-pub use listing::{KeyPage, Keys, Page, Pairs};
+pub use listing::{Changes, KeyPage, Keys, Page, Pairs, PairsBack};
 pub use node::Node;
 pub use range::{KeyRange, Prefix};
 pub use record::{Applied, Record};
@@ -65,6 +66,7 @@ pub use snapshot::{Access, OpenSnapshot, Snapshot};
 pub use stamp::Stamp;
 pub use store::{Link, Sizes, Store};
 pub use vacuum::{Certified, Checked, VacuumPart, Vacuumed, check_certificate};
+pub use version::Version;
 
 /// Returns the version of the C library: 10,000 times its first number, 100 times the second, and the third.
 pub fn version() -> u32 {

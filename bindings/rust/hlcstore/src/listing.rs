@@ -1,9 +1,9 @@
-//! Listings of snapshots: pages, and iterators that go from page to page.
+//! Listings of snapshots: pages, and iterators that go from page to page. What changes between two is listed so too.
 
 use crate::buffer::copied;
 use crate::handle::Listed;
 use crate::range::Bounds;
-use crate::{Access, Result, Snapshot};
+use crate::{Access, Error, Result, Snapshot};
 use std::fmt;
 use std::iter::FusedIterator;
 
@@ -33,12 +33,31 @@ impl Part {
         (self.len, self.has_more) = snapshot.handle()?.scan(listed, snapshot.id(), range, room, &mut self.bytes)?;
         Ok(())
     }
+
+    /// Whether there was no room for the first entry.
+    pub(crate) fn is_short(&self) -> bool {
+        self.len == 0 && self.has_more
+    }
+
+    /// The first pair of a listing of pairs.
+    pub(crate) fn first_pair(&self) -> Result<Option<(Vec<u8>, Vec<u8>)>> {
+        copied_pair(&mut Strings { rest: &self.bytes }).transpose()
+    }
 }
 
 /// The byte strings of a part, each with its length before it.
 #[derive(Clone, Debug)]
-struct Strings<'a> {
-    rest: &'a [u8],
+pub(crate) struct Strings<'a> {
+    pub(crate) rest: &'a [u8],
+}
+
+impl<'a> Strings<'a> {
+    /// Takes an answer: a byte 0 for none, or 1 and the value.
+    pub(crate) fn answer(&mut self) -> Option<Option<&'a [u8]>> {
+        let (has_value, rest) = self.rest.split_first()?;
+        self.rest = rest;
+        if *has_value == 0 { Some(None) } else { self.next().map(Some) }
+    }
 }
 
 impl<'a> Iterator for Strings<'a> {
@@ -52,7 +71,7 @@ impl<'a> Iterator for Strings<'a> {
     }
 }
 
-/// Pairs of a key and its value, which [`Snapshot::scan`] returns.
+/// Pairs of a key and its value, which [`Snapshot::scan`] and [`Snapshot::scan_back`] return.
 #[derive(Clone)]
 pub struct Page(pub(crate) Part);
 
@@ -67,12 +86,13 @@ impl Page {
         self.0.len == 0
     }
 
-    /// Returns whether the range has more pairs, which did not fit. They have keys above the last one here.
+    /// Returns whether the range has more pairs, which did not fit. They have keys above the last one here; of
+    /// [`Snapshot::scan_back`] below it.
     pub fn has_more(&self) -> bool {
         self.0.has_more
     }
 
-    /// Returns the pairs, in the byte order of the keys.
+    /// Returns the pairs, in the byte order of the keys; of [`Snapshot::scan_back`] from the last key on.
     pub fn iter(&self) -> impl Iterator<Item = (&[u8], &[u8])> {
         let mut strings = Strings { rest: &self.0.bytes };
         std::iter::from_fn(move || Some((strings.next()?, strings.next()?)))
@@ -169,8 +189,10 @@ impl<'a, S: Access> Listing<'a, S> {
         while self.next == self.page.bytes.len() && self.page.has_more {
             let range = self.range.as_mut().map_err(|error| *error)?;
             let last_key = Strings { rest: &self.page.bytes[self.last..] }.next();
-            if let Some(key) = last_key {
-                range.move_after(key)?;
+            match (last_key, self.listed) {
+                (Some(key), Listed::PairsBack) => range.end_before(key)?,
+                (Some(key), _) => range.move_after(key)?,
+                (None, _) => (),
             }
             (self.last, self.next) = (0, 0);
             self.page.fill(self.snapshot, self.listed, range, self.room)?;
@@ -178,6 +200,12 @@ impl<'a, S: Access> Listing<'a, S> {
         }
         Ok(())
     }
+}
+
+/// Takes a key and its value, and returns copies of them.
+fn copied_pair(strings: &mut Strings<'_>) -> Option<Result<(Vec<u8>, Vec<u8>)>> {
+    let (key, value) = (strings.next()?, strings.next()?);
+    Some(copied(key).and_then(|key| Ok((key, copied(value)?))))
 }
 
 /// Iterates over the pairs of a key and its value in a range of a snapshot, in the byte order of the keys.
@@ -196,10 +224,7 @@ impl<S: Access> Iterator for Pairs<'_, S> {
     type Item = Result<(Vec<u8>, Vec<u8>)>;
 
     fn next(&mut self) -> Option<Self::Item> {
-        self.0.next_entry(|strings| {
-            let (key, value) = (strings.next()?, strings.next()?);
-            Some(copied(key).and_then(|key| Ok((key, copied(value)?))))
-        })
+        self.0.next_entry(copied_pair)
     }
 }
 
@@ -208,6 +233,70 @@ impl<S: Access> FusedIterator for Pairs<'_, S> {}
 impl<S: Access> fmt::Debug for Pairs<'_, S> {
     fn fmt(&self, f: &mut fmt::Formatter<'_>) -> fmt::Result {
         f.debug_tuple("Pairs").field(self.0.snapshot).finish()
+    }
+}
+
+/// Iterates over the pairs of a range of a snapshot from its end, the last key first.
+///
+/// It reads some pairs at a time, so that a shared store is not locked between. It returns an error once, also one of
+/// the kind `NoMemory`, and is at its end then: it returns none from then on.
+pub struct PairsBack<'a, S: Access>(Listing<'a, S>);
+
+impl<'a, S: Access> PairsBack<'a, S> {
+    pub(crate) fn new(snapshot: &'a Snapshot<S>, range: Result<Bounds>) -> PairsBack<'a, S> {
+        PairsBack(Listing::new(snapshot, Listed::PairsBack, range))
+    }
+}
+
+impl<S: Access> Iterator for PairsBack<'_, S> {
+    type Item = Result<(Vec<u8>, Vec<u8>)>;
+
+    fn next(&mut self) -> Option<Self::Item> {
+        self.0.next_entry(copied_pair)
+    }
+}
+
+impl<S: Access> FusedIterator for PairsBack<'_, S> {}
+
+impl<S: Access> fmt::Debug for PairsBack<'_, S> {
+    fn fmt(&self, f: &mut fmt::Formatter<'_>) -> fmt::Result {
+        f.debug_tuple("PairsBack").field(self.0.snapshot).finish()
+    }
+}
+
+/// Iterates over what changes from one snapshot to another: in byte order, the keys of a range whose answers differ,
+/// each with its value in the other snapshot, or none.
+///
+/// It reads some changes at a time, so that a shared store is not locked between. It returns an error once, also one of
+/// the kind `NoMemory`, and is at its end then: it returns none from then on.
+pub struct Changes<'a, S: Access> {
+    listing: Listing<'a, S>,
+    after: &'a Snapshot<S>,
+}
+
+impl<'a, S: Access> Changes<'a, S> {
+    pub(crate) fn new(before: &'a Snapshot<S>, after: &'a Snapshot<S>, range: Result<Bounds>) -> Changes<'a, S> {
+        let range = if before.has_store_of(after) { range } else { Err(Error::NO_SNAPSHOT) };
+        Changes { listing: Listing::new(before, Listed::Changes(after.id()), range), after }
+    }
+}
+
+impl<S: Access> Iterator for Changes<'_, S> {
+    type Item = Result<(Vec<u8>, Option<Vec<u8>>)>;
+
+    fn next(&mut self) -> Option<Self::Item> {
+        self.listing.next_entry(|strings| {
+            let (key, value) = (strings.next()?, strings.answer()?);
+            Some(copied(key).and_then(|key| Ok((key, value.map(copied).transpose()?))))
+        })
+    }
+}
+
+impl<S: Access> FusedIterator for Changes<'_, S> {}
+
+impl<S: Access> fmt::Debug for Changes<'_, S> {
+    fn fmt(&self, f: &mut fmt::Formatter<'_>) -> fmt::Result {
+        f.debug_tuple("Changes").field(self.listing.snapshot).field(self.after).finish()
     }
 }
 

@@ -4,7 +4,7 @@
 
 use crate::Result;
 use crate::buffer::{append, reserve};
-use crate::vacuum::{Certified, Vacuumed};
+use crate::vacuum::Certified;
 use hlcstore_sys as sys;
 
 /// The bytes that a call makes.
@@ -40,15 +40,16 @@ impl Drop for Output {
     }
 }
 
-/// What a vacuum did, and the bytes of its certificate.
+/// How many rows a certificate has, what they cost, and its bytes.
 pub(crate) struct Certificate {
-    pub(crate) vacuumed: Vacuumed,
+    pub(crate) kept: u64,
+    pub(crate) bytes: u64,
     pub(crate) text: Output,
 }
 
 impl Certificate {
     pub(crate) fn read(self) -> Result<Certified> {
         let certificate = String::from_utf8(self.text.read()?).expect("a certificate is ASCII");
-        Ok(Certified { vacuumed: self.vacuumed, certificate })
+        Ok(Certified { kept: self.kept, bytes: self.bytes, certificate })
     }
 }

@@ -44,6 +44,17 @@ impl Bounds {
         self.from = next_key(key)?;
         Ok(())
     }
+
+    /// Ends before a key, which is not empty.
+    pub(crate) fn end_before(&mut self, key: &[u8]) -> Result<()> {
+        self.to = copied(key)?;
+        Ok(())
+    }
+
+    /// All keys below one, or all where it has no bytes.
+    pub(crate) fn all_below(key: &[u8]) -> Result<Bounds> {
+        Ok(Bounds { from: Vec::new(), to: copied(key)? })
+    }
 }
 
 mod sealed {

@@ -1,7 +1,7 @@
 use crate::handle::Handle;
 use crate::{
     Applied, Certified, Item, Link, Node, OpenSnapshot, Result, Sizes, Snapshot, Stamp, Stopped, Store, VacuumPart,
-    Vacuumed,
+    Vacuumed, Version,
 };
 use std::fmt;
 use std::sync::{Arc, PoisonError, RwLock, RwLockReadGuard, RwLockWriteGuard};
@@ -161,26 +161,19 @@ impl SharedStore {
         self.read().link(node)
     }
 
+    /// Returns the stored rows of a key between two stamps, as [`Store::versions`] does.
+    pub fn versions(&self, key: &[u8], above: Stamp, to: Stamp) -> Result<Vec<Version>> {
+        self.read().versions(key, above, to)
+    }
+
     /// Vacuums to the floor, as [`Store::vacuum`] does.
     pub fn vacuum(&self) -> Result<Vacuumed> {
         self.write().vacuum()
     }
 
-    /// Vacuums to the floor with a certificate, as [`Store::vacuum_certified`] does.
-    pub fn vacuum_certified(&self) -> Result<Certified> {
-        let made = self.write().vacuum_certified()?;
-        made.read()
-    }
-
     /// Vacuums to a stamp, as [`Store::vacuum_to`] does.
     pub fn vacuum_to(&self, stamp: Stamp) -> Result<Vacuumed> {
         self.write().vacuum_to(stamp)
-    }
-
-    /// Vacuums to a stamp with a certificate, as [`Store::vacuum_to_certified`] does.
-    pub fn vacuum_to_certified(&self, stamp: Stamp) -> Result<Certified> {
-        let made = self.write().vacuum_to_certified(stamp)?;
-        made.read()
     }
 
     /// Does a part of a vacuum to a stamp, as [`Store::vacuum_part`] does.
@@ -191,6 +184,13 @@ impl SharedStore {
     /// Returns why a vacuum to a stamp would be refused, as [`Store::check_vacuum`] does.
     pub fn check_vacuum(&self, stamp: Stamp) -> Result<()> {
         self.read().check_vacuum(stamp)
+    }
+
+    /// Returns the certificate of the rows at or below a stamp, as [`Store::certificate`] does. Reads run beside it. It
+    /// is refused where another thread changed the store since the vacuum, so that a vacuum would drop a row.
+    pub fn certificate(&self, stamp: Stamp) -> Result<Certified> {
+        let made = self.read().certificate(stamp)?;
+        made.read()
     }
 
     /// Returns the whole state of the store as bytes, as [`Store::checkpoint`] does. Reads run beside it.
@@ -207,6 +207,11 @@ impl SharedStore {
 
     pub(crate) fn write(&self) -> RwLockWriteGuard<'_, Handle> {
         self.handle.write().unwrap_or_else(PoisonError::into_inner)
+    }
+
+    /// Whether another is a clone of this one.
+    pub(crate) fn is_same(&self, other: &SharedStore) -> bool {
+        Arc::ptr_eq(&self.handle, &other.handle)
     }
 }
 

@@ -1,8 +1,13 @@
 use crate::handle::{Handle, Listed};
-use crate::listing::{KeyPage, Keys, Page, Pairs, Part};
+use crate::listing::{Changes, KeyPage, Keys, Page, Pairs, PairsBack, Part};
+use crate::range::Bounds;
 use crate::{Error, KeyRange, Result, SharedStore, Stamp, Store};
 use std::fmt;
 use std::ops::{Deref, DerefMut};
+
+/// How many bytes are made room for to read one pair: at first for a short one, and then for any.
+const SHORT_ROOM: usize = 128;
+const PAIR_ROOM: usize = 65_806;
 
 /// How a [`Snapshot`] reaches its store: by a reference to a [`Store`], or as a share of a [`SharedStore`].
 pub trait Access: sealed::Handles {}
@@ -16,6 +21,8 @@ mod sealed {
     pub trait Handles {
         fn read(&self) -> impl Deref<Target = Handle>;
         fn write(&self) -> impl DerefMut<Target = Handle>;
+        /// Whether both reach the same store.
+        fn is_same(&self, other: &Self) -> bool;
     }
 
     impl Handles for &Store {
@@ -26,6 +33,10 @@ mod sealed {
         fn write(&self) -> impl DerefMut<Target = Handle> {
             Store::write(self)
         }
+
+        fn is_same(&self, other: &Self) -> bool {
+            std::ptr::eq(*self, *other)
+        }
     }
 
     impl Handles for SharedStore {
@@ -35,6 +46,10 @@ mod sealed {
 
         fn write(&self) -> impl DerefMut<Target = Handle> {
             SharedStore::write(self)
+        }
+
+        fn is_same(&self, other: &Self) -> bool {
+            SharedStore::is_same(self, other)
         }
     }
 }
@@ -95,6 +110,11 @@ impl<S: Access> Snapshot<S> {
         if handle.openings() == self.openings { Ok(handle) } else { Err(Error::NO_SNAPSHOT) }
     }
 
+    /// Returns whether another snapshot was opened in the same store, since that was opened last.
+    pub(crate) fn has_store_of(&self, other: &Snapshot<S>) -> bool {
+        self.store.is_same(&other.store) && self.openings == other.openings
+    }
+
     fn close_it(&self) -> Result<Stamp> {
         let mut handle = self.store.write();
         if handle.openings() == self.openings { handle.close_snapshot(self.id()) } else { Err(Error::NO_SNAPSHOT) }
@@ -146,6 +166,59 @@ impl<S: Access> Snapshot<S> {
         Pairs::new(self, range.to_bounds())
     }
 
+    /// Returns the pairs of a range from its end, the last key first.
+    ///
+    /// ```
+    /// use hlcstore::{Node, Stamp, Store};
+    ///
+    /// let store = Store::open(1)?;
+    /// let mut node = Node::new(0, Stamp::ZERO);
+    /// for key in ["a", "b", "c"] {
+    ///     store.accept(node.write(5, key.as_bytes(), b"value")?)?;
+    /// }
+    /// let snapshot = store.snapshot()?;
+    /// let keys = snapshot.range_back(.."c").map(|pair| Ok(pair?.0)).collect::<hlcstore::Result<Vec<_>>>()?;
+    /// assert_eq!(keys, [b"b", b"a"]);
+    /// # Ok::<(), hlcstore::Error>(())
+    /// ```
+    pub fn range_back(&self, range: impl KeyRange) -> PairsBack<'_, S> {
+        PairsBack::new(self, range.to_bounds())
+    }
+
+    /// Returns the pair of the last key below another, or of the last of all where that has no bytes; or none.
+    pub fn last_below(&self, key: &[u8]) -> Result<Option<(Vec<u8>, Vec<u8>)>> {
+        let (bounds, mut part) = (Bounds::all_below(key)?, Part::default());
+        part.fill(self, Listed::PairsBack, &bounds, SHORT_ROOM)?;
+        if part.is_short() {
+            part.fill(self, Listed::PairsBack, &bounds, PAIR_ROOM)?;
+        }
+        part.first_pair()
+    }
+
+    /// Returns what changes from this snapshot to another of the same store, whichever is the older one: in byte order,
+    /// the keys of a range whose answers differ, each with its value in the other snapshot, or none. The pairs of this
+    /// snapshot with these changes are those of the other one, and no fewer changes lead there.
+    ///
+    /// Refusal, which the iterator returns: `NoSnapshot`, also where they are not of one store.
+    ///
+    /// ```
+    /// use hlcstore::{Node, Stamp, Store};
+    ///
+    /// let store = Store::open(1)?;
+    /// let mut node = Node::new(0, Stamp::ZERO);
+    /// store.accept(node.write(5, b"city", b"Lyon")?)?;
+    /// let before = store.snapshot()?;
+    /// store.accept(node.delete(6, b"city")?)?;
+    /// store.accept(node.write(7, b"lake", b"Como")?)?;
+    /// let after = store.snapshot()?;
+    /// let changes = before.changes(&after, ..).collect::<hlcstore::Result<Vec<_>>>()?;
+    /// assert_eq!(changes, [(b"city".to_vec(), None), (b"lake".to_vec(), Some(b"Como".to_vec()))]);
+    /// # Ok::<(), hlcstore::Error>(())
+    /// ```
+    pub fn changes<'a>(&'a self, after: &'a Snapshot<S>, range: impl KeyRange) -> Changes<'a, S> {
+        Changes::new(self, after, range.to_bounds())
+    }
+
     /// Returns the keys of a range that have a value, in byte order.
     pub fn keys(&self, range: impl KeyRange) -> Keys<'_, S> {
         Keys::new(self, range.to_bounds())
@@ -174,6 +247,14 @@ impl<S: Access> Snapshot<S> {
     pub fn scan(&self, range: impl KeyRange, room: usize) -> Result<Page> {
         let mut part = Part::default();
         part.fill(self, Listed::Pairs, &range.to_bounds()?, room)?;
+        Ok(Page(part))
+    }
+
+    /// Returns as many pairs of a range as fit in so many bytes, in one call, from the last key on. So the range of the
+    /// next page ends before the last key of this one.
+    pub fn scan_back(&self, range: impl KeyRange, room: usize) -> Result<Page> {
+        let mut part = Part::default();
+        part.fill(self, Listed::PairsBack, &range.to_bounds()?, room)?;
         Ok(Page(part))
     }
 

@@ -1,6 +1,6 @@
 use crate::handle::Handle;
 use crate::snapshot::{OpenSnapshot, Snapshot};
-use crate::{Applied, Certified, Item, Node, Result, SharedStore, Stamp, Stopped, VacuumPart, Vacuumed};
+use crate::{Applied, Certified, Item, Node, Result, SharedStore, Stamp, Stopped, VacuumPart, Vacuumed, Version};
 use std::cell::{Ref, RefCell, RefMut};
 use std::fmt;
 
@@ -236,19 +236,32 @@ impl Store {
         self.read().link(node)
     }
 
+    /// Returns the stored rows of a key above one stamp and at or below another, the newest first: by stamp, and at one
+    /// stamp by node. From the horizon on these are all accepted writes of the key; below it, those that vacuums kept.
+    /// The cost is the square of the number of the key's rows.
+    ///
+    /// ```
+    /// use hlcstore::{Node, Stamp, Store};
+    ///
+    /// let store = Store::open(1)?;
+    /// let mut node = Node::new(0, Stamp::ZERO);
+    /// store.accept(node.write(5, b"city", b"Lyon")?)?;
+    /// store.accept(node.delete(6, b"city")?)?;
+    /// let versions = store.versions(b"city", Stamp::ZERO, Stamp::new(9, 0))?;
+    /// assert_eq!((versions[0].stamp, &versions[0].value), (Stamp::new(6, 0), &None));
+    /// assert_eq!((versions[1].stamp, &versions[1].value), (Stamp::new(5, 0), &Some(b"Lyon".to_vec())));
+    /// # Ok::<(), hlcstore::Error>(())
+    /// ```
+    pub fn versions(&self, key: &[u8], above: Stamp, to: Stamp) -> Result<Vec<Version>> {
+        self.read().versions(key, above, to)
+    }
+
     /// Drops all rows at or below the floor except the fewest, and the cheapest, that give the same answers as all
     /// accepted writes at each open snapshot and at the floor.
     ///
     /// Refusal: `NoMemory`.
     pub fn vacuum(&self) -> Result<Vacuumed> {
         self.write().vacuum()
-    }
-
-    /// Vacuums, and returns the certificate of the rows that are left up to the floor.
-    ///
-    /// Refusal: `NoMemory`, where the vacuum may have taken place.
-    pub fn vacuum_certified(&self) -> Result<Certified> {
-        self.write().vacuum_certified()?.read()
     }
 
     /// Drops all rows at or below a stamp except the fewest, and the cheapest, that give the same answers as all
@@ -271,13 +284,6 @@ impl Store {
     /// ```
     pub fn vacuum_to(&self, stamp: Stamp) -> Result<Vacuumed> {
         self.write().vacuum_to(stamp)
-    }
-
-    /// Does the same, and returns the certificate of the rows that are left up to the stamp.
-    ///
-    /// Refusals: those of [`vacuum_to`](Store::vacuum_to). With `NoMemory` the vacuum may have taken place.
-    pub fn vacuum_to_certified(&self, stamp: Stamp) -> Result<Certified> {
-        self.write().vacuum_to_certified(stamp)?.read()
     }
 
     /// Does a part of [`vacuum_to`](Store::vacuum_to), so that a call does a bounded amount of work while other threads
@@ -309,6 +315,32 @@ impl Store {
     /// Returns why [`vacuum_to`](Store::vacuum_to) would be refused, except `NoMemory`.
     pub fn check_vacuum(&self, stamp: Stamp) -> Result<()> {
         self.read().check_vacuum(stamp)
+    }
+
+    /// Returns the certificate of the rows at or below a stamp: that no row set which gives the same answers at each
+    /// snapshot that is open at or below the stamp, and at the stamp, has fewer rows, or costs fewer bytes. It changes
+    /// nothing, so it comes after a vacuum to this stamp, or after the last part of one.
+    ///
+    /// Refusals, in this order: `AboveFloor`, `BelowHorizon`, `NotFewest`; `NoMemory`, which may come in place of that.
+    ///
+    /// ```
+    /// use hlcstore::{ErrorKind, Node, Stamp, Store, check_certificate};
+    ///
+    /// let store = Store::open(1)?;
+    /// let mut node = Node::new(0, Stamp::ZERO);
+    /// for reading in 1..=9 {
+    ///     store.accept(node.write(reading, b"city", b"Lyon")?)?;
+    /// }
+    /// let stamp = Stamp::new(6, 0);
+    /// assert_eq!(store.certificate(stamp).unwrap_err().kind(), ErrorKind::NotFewest);
+    /// store.vacuum_to(stamp)?;
+    /// let certified = store.certificate(stamp)?;
+    /// assert_eq!((certified.kept, certified.bytes), (1, 18));
+    /// assert_eq!(check_certificate(&certified.certificate)?.rows, 1);
+    /// # Ok::<(), hlcstore::Error>(())
+    /// ```
+    pub fn certificate(&self, stamp: Stamp) -> Result<Certified> {
+        self.read().certificate(stamp)?.read()
     }
 
     /// Returns the whole state of the store as bytes, with a word of the caller's: for example the place in a log up to

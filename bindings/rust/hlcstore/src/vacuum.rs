@@ -16,11 +16,13 @@ pub struct Vacuumed {
     pub dropped: u64,
 }
 
-/// What a vacuum did, and the certificate of the rows that it kept.
+/// The rows at or below a stamp, and their certificate.
 #[derive(Clone, Debug, PartialEq, Eq, Hash)]
 pub struct Certified {
-    /// What the vacuum did.
-    pub vacuumed: Vacuumed,
+    /// How many rows there are.
+    pub kept: u64,
+    /// What these cost: for each the length of its key and of its value, and 10.
+    pub bytes: u64,
     /// The text of the certificate, which [`check_certificate`] and `hlcstore check` read. `docs/formats.md` describes
     /// it.
     pub certificate: String,
@@ -47,7 +49,7 @@ pub struct Checked {
 /// Checks the text of a certificate, whoever made it: no row set that gives the same answers at its points has fewer
 /// rows, or costs fewer bytes.
 ///
-/// Refusals: `TooLong`, `BadLine`, `NoMemory`, `NotShown`.
+/// Refusals: `BadLine`, `NoMemory`, `NotShown`.
 ///
 /// ```
 /// use hlcstore::{Node, Stamp, Store, check_certificate};
@@ -55,8 +57,9 @@ pub struct Checked {
 /// let store = Store::open(1)?;
 /// let mut node = Node::new(0, Stamp::ZERO);
 /// store.accept(node.write(5, b"city", b"Lyon")?)?;
-/// let certified = store.vacuum_certified()?;
-/// assert_eq!(check_certificate(&certified.certificate)?.rows, certified.vacuumed.kept);
+/// let vacuumed = store.vacuum()?;
+/// let certified = store.certificate(vacuumed.stamp)?;
+/// assert_eq!(check_certificate(&certified.certificate)?.rows, vacuumed.kept);
 /// # Ok::<(), hlcstore::Error>(())
 /// ```
 pub fn check_certificate(text: impl AsRef<[u8]>) -> Result<Checked> {

@@ -1,6 +1,6 @@
-//! Vacuums with long certificates, and vacuums in parts.
+//! Long certificates after vacuums, and vacuums in parts.
 
-use hlcstore::{Certified, Node, Stamp, Store, check_certificate};
+use hlcstore::{Certified, ErrorKind, Node, Stamp, Store, Vacuumed, check_certificate};
 
 const KEYS: u64 = 500;
 
@@ -16,32 +16,32 @@ fn store() -> Store {
     store
 }
 
-/// Checks that a vacuum kept one row of each key, and dropped the other.
-fn assert_certified(certified: &Certified, stamp: Stamp) {
-    let Certified { vacuumed, certificate } = certified;
+/// Checks that a vacuum kept one row of each key and dropped the other, and that the certificate says so.
+fn assert_certified(store: &Store, vacuumed: Vacuumed, stamp: Stamp) {
     assert_eq!((vacuumed.stamp, vacuumed.kept, vacuumed.dropped), (stamp, KEYS, KEYS));
     assert_eq!(vacuumed.bytes, KEYS * (8 + 8 + 10));
+    let Certified { kept, bytes, certificate } = store.certificate(stamp).unwrap();
+    assert_eq!((kept, bytes), (vacuumed.kept, vacuumed.bytes));
     assert!(certificate.len() > 4096);
     let checked = check_certificate(certificate).unwrap();
-    assert_eq!((checked.rows, checked.bytes), (vacuumed.kept, vacuumed.bytes));
+    assert_eq!((checked.rows, checked.bytes), (kept, bytes));
 }
 
 #[test]
-fn vacuum_returns_its_own_numbers_with_a_long_certificate() {
+fn certificate_follows_a_vacuum() {
     let store = store();
     let floor = store.floor().unwrap();
-    assert_certified(&store.vacuum_certified().unwrap(), floor);
+    assert_eq!(store.certificate(floor).unwrap_err().kind(), ErrorKind::NotFewest);
+    assert_certified(&store, store.vacuum().unwrap(), floor);
     assert_eq!(store.rows(), Ok(KEYS));
 }
 
 #[test]
-fn vacuum_to_a_stamp_returns_its_own_numbers_with_a_long_certificate() {
+fn certificate_follows_a_vacuum_to_a_stamp() {
     let store = store();
     let stamp = Stamp::new(2, KEYS as u16 - 1);
-    assert_certified(&store.vacuum_to_certified(stamp).unwrap(), stamp);
-    assert_eq!(store.horizon(), Ok(stamp));
-    let again = store.vacuum_to_certified(stamp).unwrap().vacuumed;
-    assert_eq!((again.kept, again.dropped), (KEYS, 0));
+    assert_certified(&store, store.vacuum_to(stamp).unwrap(), stamp);
+    assert_eq!((store.horizon(), store.certificate(stamp)), (Ok(stamp), store.certificate(stamp)));
 }
 
 #[test]
@@ -58,7 +58,8 @@ fn parts_of_a_vacuum_leave_one_row_of_each_key() {
         after = next;
     }
     assert_eq!(parts, [(200, 5200, 200), (200, 5200, 200), (100, 2600, 100)]);
-    assert_eq!((store.rows(), store.vacuum_to(stamp).unwrap().dropped), (Ok(KEYS), 0));
+    assert_eq!((store.rows(), store.certificate(stamp).unwrap().kept), (Ok(KEYS), KEYS));
+    assert_eq!(store.vacuum_to(stamp).unwrap().dropped, 0);
 }
 
 #[test]

@@ -32,6 +32,7 @@ fn store_is_closed_or_open() {
     assert_eq!(refused(snapshot.get(b"key")), (ErrorKind::Closed, 0));
     assert_eq!(refused(store.accept(item(0, 5))), (ErrorKind::Closed, 0));
     assert_eq!(refused(store.close_all()), (ErrorKind::Closed, 0));
+    assert_eq!(refused(store.versions(b"key", at(0), at(9))), (ErrorKind::Closed, 0));
     store.reopen(1).unwrap();
     assert_eq!(refused(snapshot.get(b"key")), (ErrorKind::NoSnapshot, 0));
 }
@@ -102,16 +103,18 @@ fn snapshots_and_vacuums_are_refused() {
     let floor = at(5).to_bits();
     assert_eq!(refused(store.snapshot_at(at(6))), (ErrorKind::AboveFloor, floor));
     assert_eq!(refused(store.vacuum_to(at(6))), (ErrorKind::AboveFloor, floor));
-    assert_eq!(refused(store.vacuum_to_certified(at(6))), (ErrorKind::AboveFloor, floor));
+    assert_eq!(refused(store.certificate(at(6))), (ErrorKind::AboveFloor, floor));
     assert_eq!(refused(store.vacuum_part(at(6), b"", 1)), (ErrorKind::AboveFloor, floor));
     assert_eq!(refused(store.check_vacuum(at(6))), (ErrorKind::AboveFloor, floor));
+    store.accept(item(1, 6)).unwrap();
+    assert_eq!(refused(store.certificate(at(6))), (ErrorKind::NotFewest, 0));
     store.vacuum_to(at(5)).unwrap();
     assert_eq!(refused(store.snapshot_at(at(4))), (ErrorKind::BelowHorizon, floor));
     assert_eq!(refused(store.vacuum_to(at(4))), (ErrorKind::BelowHorizon, floor));
-    assert_eq!(refused(store.vacuum_to_certified(at(4))), (ErrorKind::BelowHorizon, floor));
+    assert_eq!(refused(store.certificate(at(4))), (ErrorKind::BelowHorizon, floor));
     assert_eq!(refused(store.vacuum_part(at(4), b"", 1)), (ErrorKind::BelowHorizon, floor));
     assert_eq!(refused(store.check_vacuum(at(4))), (ErrorKind::BelowHorizon, floor));
-    assert_eq!(refused(store.join_at(at(4))), (ErrorKind::BelowHorizon, floor));
+    assert_eq!(refused(store.join_at(at(4))), (ErrorKind::BelowHorizon, at(6).to_bits()));
     assert_eq!(refused(store.snapshot_by_id(1)), (ErrorKind::NoSnapshot, 0));
 
     let mut open: Vec<_> = (0..1024).map(|_| store.snapshot().unwrap()).collect();
@@ -124,6 +127,12 @@ fn snapshots_and_vacuums_are_refused() {
     assert_eq!(refused(snapshot.count(..)), (ErrorKind::NoSnapshot, 0));
     assert_eq!(refused(snapshot.digest(..)), (ErrorKind::NoSnapshot, 0));
     assert_eq!(refused(snapshot.scan(.., 100)), (ErrorKind::NoSnapshot, 0));
+    assert_eq!(refused(snapshot.scan_back(.., 100)), (ErrorKind::NoSnapshot, 0));
+    assert_eq!(refused(snapshot.last_below(b"key")), (ErrorKind::NoSnapshot, 0));
+    let new = store.snapshot().unwrap();
+    for (before, after) in [(&snapshot, &new), (&new, &snapshot)] {
+        assert_eq!(refused(before.changes(after, ..).next().unwrap()), (ErrorKind::NoSnapshot, 0));
+    }
     assert_eq!(refused(snapshot.close()), (ErrorKind::NoSnapshot, 0));
 }
 
@@ -185,7 +194,6 @@ fn from_hex(text: &str) -> Vec<u8> {
 
 #[test]
 fn certificates_are_refused() {
-    assert_eq!(refused(check_certificate(vec![b'x'; 16_777_217])), (ErrorKind::TooLong, 0));
     assert_eq!(refused(check_certificate("point 5.0\nno line\n")), (ErrorKind::BadLine, 2));
     assert_eq!(refused(check_certificate("point 5.0\nrow key 5.0 0 value x\n")), (ErrorKind::NotShown, 7));
 }

@@ -32,6 +32,10 @@ macro_rules! keys_of {
         let page = $snapshot.scan_keys($range, 1000).unwrap();
         assert_eq!(page.iter().map(<[u8]>::to_vec).collect::<Vec<_>>(), keys);
         assert_eq!((page.len(), page.is_empty(), page.has_more()), (keys.len(), keys.is_empty(), false));
+        let back: Vec<Vec<u8>> = $snapshot.range_back($range).map(|pair| pair.unwrap().0).collect();
+        assert!(back.iter().rev().eq(&keys));
+        let page = $snapshot.scan_back($range, 1000).unwrap();
+        assert_eq!(page.iter().map(|(key, _)| key.to_vec()).collect::<Vec<_>>(), back);
         keys.iter().map(|key| String::from_utf8_lossy(key).into_owned()).collect::<Vec<_>>().join(" ")
     }};
 }
@@ -99,6 +103,22 @@ fn iterators_go_from_page_to_page() {
 }
 
 #[test]
+fn iterators_go_back_from_page_to_page() {
+    let pairs = many_pairs();
+    let store = store_of(&pairs);
+    let snapshot = store.snapshot().unwrap();
+    assert!(snapshot.range_back(..).map(Result::unwrap).eq(pairs.clone().into_iter().rev()));
+    let range = b"key 01000".to_vec()..b"key 02000".to_vec();
+    let part = pairs.range(range.clone()).rev().map(|(key, value)| (key.clone(), value.clone()));
+    assert!(snapshot.range_back(range).map(Result::unwrap).eq(part));
+    for key in [&b"key 01500"[..], b"key 01500k", b"key 1", b"", b"key 00000", b"a"] {
+        let below = pairs.iter().rfind(|(other, _)| key.is_empty() || other.as_slice() < key);
+        let expected = below.map(|(key, value)| (key.clone(), value.clone()));
+        assert_eq!(snapshot.last_below(key).unwrap(), expected);
+    }
+}
+
+#[test]
 fn pages_have_what_fits() {
     let store = store_of(&pairs_of(&[b"a", b"b", b"c"]));
     let snapshot = store.snapshot().unwrap();
@@ -108,6 +128,8 @@ fn pages_have_what_fits() {
         assert_eq!((page.len(), page.is_empty(), page.has_more()), (len, len == 0, len < 3));
         assert_eq!((page.iter().count(), page.as_bytes().len()), (len, 19 * len));
     }
+    let page = snapshot.scan_back(.., 40).unwrap();
+    assert_eq!((page.len(), page.has_more(), page.iter().next()), (2, true, Some((&b"c"[..], &b"cc"[..]))));
     let page = snapshot.scan_keys(.., 20).unwrap();
     assert_eq!(page.as_bytes(), b"\x01\0\0\0\0\0\0\0a\x01\0\0\0\0\0\0\0b");
     assert!(page.has_more());

@@ -106,10 +106,14 @@ where
 fn iterators_return_an_error_once() {
     let (store, pairs) = (store(), pairs());
     let keys: Vec<_> = pairs.iter().map(|pair| pair.0.clone()).collect();
-    let snapshot = store.snapshot().unwrap();
+    let back: Vec<_> = pairs.iter().rev().cloned().collect();
+    let changes: Vec<_> = pairs.iter().map(|pair| (pair.0.clone(), Some(pair.1.clone()))).collect();
+    let (empty, snapshot) = (store.snapshot_at(Stamp::ZERO).unwrap(), store.snapshot().unwrap());
     assert_fused(&pairs, || snapshot.iter());
     assert_fused(&pairs, || snapshot.range("k"..));
     assert_fused(&keys, || snapshot.keys(.."l"));
+    assert_fused(&back, || snapshot.range_back(.."l"));
+    assert_fused(&changes, || empty.changes(&snapshot, "k"..));
 }
 
 #[test]
@@ -119,11 +123,15 @@ fn calls_return_the_error_and_lose_nothing() {
     let is_right = |is_right: bool, was_refused| assert!(is_right != was_refused);
     let (saved, all) = (store.checkpoint(7), pairs());
     refuse_each(|| store.checkpoint(7) == saved, is_right);
-    refuse_each(|| store.vacuum_certified().is_ok(), is_right);
+    let floor = store.vacuum().unwrap().stamp;
+    refuse_each(|| store.certificate(floor).is_ok(), is_right);
+    refuse_each(|| store.versions(&all[70].0, Stamp::ZERO, floor).is_ok_and(|rows| rows.len() == 1), is_right);
     refuse_each(|| store.vacuum_part(Stamp::new(1, 79), b"", 1).is_ok(), is_right);
     refuse_each(|| snapshot.get(&all[70].0).is_ok_and(|value| value.as_ref() == Some(&all[70].1)), is_right);
     refuse_each(|| snapshot.get_many(&[&all[70].0, b"other"]).is_ok(), is_right);
     refuse_each(|| snapshot.scan("k"..="kkk", 1000).is_ok(), is_right);
+    refuse_each(|| snapshot.scan_back("k"..="kkk", 1000).is_ok(), is_right);
+    refuse_each(|| snapshot.last_below(b"").is_ok_and(|pair| pair.as_ref() == all.last()), is_right);
     refuse_each(|| store.snapshots().is_ok(), is_right);
     assert_eq!(store.snapshots().unwrap().len(), 1);
 }

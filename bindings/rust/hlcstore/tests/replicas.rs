@@ -79,7 +79,8 @@ fn replica_goes_on_from_a_checkpoint() {
     assert_alike(&store, &replica);
     assert!(replica.link(1).unwrap().is_retired);
     assert_eq!(store.vacuum(), replica.vacuum());
-    assert_eq!(store.vacuum_certified(), replica.vacuum_certified());
+    let floor = store.floor().unwrap();
+    assert_eq!(store.certificate(floor).unwrap(), replica.certificate(floor).unwrap());
 }
 
 #[test]

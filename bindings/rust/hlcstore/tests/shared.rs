@@ -35,11 +35,15 @@ macro_rules! answers {
         add(&(store.check_vacuum(at(4)), store.vacuum_to(at(4)), store.horizon(), store.rows()));
         let snapshot = store.snapshot_at(at(6)).unwrap();
         add(&(store.vacuum_part(at(6), b"", 1), store.vacuum_part(at(6), b"city", 1), store.rows()));
-        add(&(store.vacuum_to_certified(at(7)), store.check_vacuum(at(6)), store.rows()));
+        add(&(store.certificate(at(7)), store.vacuum_to(at(7)), store.certificate(at(7)), store.check_vacuum(at(6))));
+        add(&(store.versions(b"city", at(6), at(9)), store.rows()));
+        let later = store.snapshot().unwrap();
+        add(&snapshot.changes(&later, ..).collect::<Vec<_>>());
+        add(&(later.range_back(..).collect::<Vec<_>>(), later.last_below(b"d"), later.last_below(b"c")));
         add(&store.close_all());
         add(&snapshot.get(b"city"));
         add(&(store.vacuum(), store.horizon(), store.rows(), store.sizes()));
-        add(&store.vacuum_certified());
+        add(&store.certificate(store.floor().unwrap()));
         let saved = store.checkpoint(7).unwrap();
         add(&saved);
         add(&store.reopen(1));

@@ -1,6 +1,6 @@
 //! Threads that share a store: a writer that vacuums, and readers that check each answer.
 
-use hlcstore::{Error, Keys, Node, Pairs, Result, SharedStore, Snapshot, Stamp, Store};
+use hlcstore::{Changes, Error, ErrorKind, Keys, Node, Pairs, PairsBack, Result, SharedStore, Snapshot, Stamp, Store};
 use std::sync::atomic::{AtomicBool, Ordering};
 use std::thread;
 use std::time::{Duration, Instant};
@@ -29,6 +29,16 @@ fn expected(reading: u64) -> Vec<(Vec<u8>, Vec<u8>)> {
     (0..KEYS).filter_map(pair).collect()
 }
 
+/// Vacuums, and makes a certificate. There is none where a snapshot was closed in between, so that a row is not needed.
+fn certify(store: &SharedStore) -> Result<()> {
+    let vacuumed = store.vacuum()?;
+    match store.certificate(vacuumed.stamp) {
+        Ok(certified) => assert_eq!((certified.kept, certified.bytes), (vacuumed.kept, vacuumed.bytes)),
+        Err(error) => assert_eq!(error.kind(), ErrorKind::NotFewest),
+    }
+    Ok(())
+}
+
 /// Writes one key after another, one at each reading, and vacuums in each way from time to time.
 fn write(store: &SharedStore) -> Result<()> {
     let mut node = Node::new(0, Stamp::ZERO);
@@ -37,7 +47,7 @@ fn write(store: &SharedStore) -> Result<()> {
         match reading % 400 {
             0 => drop(store.vacuum()?),
             100 => drop(store.vacuum_to(Stamp::new(reading - 20, 0))?),
-            200 => drop(store.vacuum_certified()?),
+            200 => certify(store)?,
             300 => drop(store.checkpoint(reading)?),
             _ => (),
         }
@@ -53,6 +63,7 @@ fn check(snapshot: &Snapshot<SharedStore>) -> Result<()> {
         assert_eq!(snapshot.get(&key(number))?.as_ref(), pair.map(|pair| &pair.1));
     }
     assert_eq!(snapshot.iter().collect::<Result<Vec<_>>>()?, expected);
+    assert!(snapshot.range_back(..).map(Result::unwrap).eq(expected.iter().rev().cloned()));
     assert!(snapshot.keys(..).map(Result::unwrap).eq(expected.iter().map(|pair| pair.0.clone())));
     assert_eq!(snapshot.count(..)?, expected.len() as u64);
     let keys: Vec<_> = (0..KEYS).map(key).collect();
@@ -91,6 +102,8 @@ fn types_are_for_threads() {
     is_shared::<Snapshot<SharedStore>>();
     is_shared::<Pairs<'_, SharedStore>>();
     is_shared::<Keys<'_, SharedStore>>();
+    is_shared::<PairsBack<'_, SharedStore>>();
+    is_shared::<Changes<'_, SharedStore>>();
     is_shared::<Node>();
     is_shared::<Error>();
 }
