@@ -7,9 +7,10 @@
  *
  * Answers. A call returns HLC_OK, the number of the first expected refusal, or HLC_CLOSED for a closed store. Every
  * call is total: it checks lengths and numbers itself, and is proved to answer as described here, whatever is passed to
- * it by the rules below. Where hlc_restore took bytes that no hlc_checkpoint made, calls are proved to be safe, but not
- * to answer as described. After any answer but HLC_OK the store, and the node, is unchanged; hlc_accept_all,
- * hlc_items_accept, hlc_records_apply and hlc_node_restore describe exceptions.
+ * it by the rules below. Where hlc_restore took bytes that neither hlc_checkpoint made, nor hlc_increment_apply from
+ * bytes of one store, calls are proved to be safe, but not to answer as described. After any answer but HLC_OK the
+ * store, and the node, is unchanged; hlc_accept_all, hlc_items_accept, hlc_records_apply and hlc_node_restore describe
+ * exceptions.
  * Every answer writes to every pointer, with 0 where there is nothing to return. A buffer that an answer does not fill
  * keeps its bytes.
  *
@@ -80,6 +81,8 @@
  *   hlc_record_join, _threshold         15                                yes     all
  *   hlc_records_apply                   106 1 27 6 26 9 14 7 15           yes     other stores
  *   hlc_checkpoint                      108 15                            yes     reads, with other outputs
+ *   hlc_increment                       108 9 15                          yes     reads, with other outputs
+ *   hlc_increment_apply                 108 106 110 107 111 8 110 15      yes     all, with other outputs
  *   hlc_restore                         101 106 107 15                    yes     other stores
  *   hlc_restore_start                   101 15                            yes     other restores
  *   hlc_restore_feed                    100 15                            yes     other restores
@@ -112,8 +115,8 @@ typedef struct {
 
 #define HLC_CLOSED_STORE { 0, false }
 
-/* The bytes that a call made, a certificate or a checkpoint, so that they are made once, however many they are. Its
- * fields are the library's. */
+/* The bytes that a call made, a certificate, a checkpoint or an increment, so that they are made once, however many
+ * they are. Its fields are the library's. */
 typedef struct {
     void *at;
     bool live;
@@ -140,7 +143,7 @@ enum {
     HLC_NOT_NEXT = 6,           /* word: the number that is next on the node's link; of a join of hlc_records_apply, the
                                    number that the next node is assigned */
     HLC_STAMP_NOT_RISING = 7,   /* word: the stamp of the node's last accepted item */
-    HLC_ABOVE_FLOOR = 8,        /* word: the floor */
+    HLC_ABOVE_FLOOR = 8,        /* word: the floor; of hlc_increment_apply: that of the older checkpoint */
     HLC_BELOW_HORIZON = 9,      /* word: the horizon; of hlc_join_at: the start is below the floor, word: the floor */
     HLC_NO_SNAPSHOT = 10,       /* no open snapshot has this id */
     HLC_TOO_MANY_SNAPSHOTS = 11, /* 1,024 are open */
@@ -148,9 +151,9 @@ enum {
     HLC_VALUE_TOO_LONG = 13,    /* the value has more than 65,535 bytes */
     HLC_NUMBERS_SPENT = 14,     /* no link number, or id of a snapshot, is left */
     HLC_NO_MEMORY = 15,         /* out of memory, and no other refusal is expected; of hlc_restore, hlc_restore_finish,
-                                   hlc_items_accept and hlc_records_apply it may come in place of another refusal,
-                                   but of a restore not of bytes that are damaged, cut or no frame at all; of
-                                   hlc_certificate in place of 109 */
+                                   hlc_increment_apply, hlc_items_accept and hlc_records_apply it may come in place of
+                                   another refusal, but of a restore not of bytes that are damaged, cut or no frame at
+                                   all; of hlc_certificate in place of 109 */
     HLC_BAD_LINE = 16,          /* of hlc_check; word: the number of the first bad line */
     HLC_NOT_SHOWN = 22,         /* of hlc_check; word: the number of the first reason of docs/formats.md, 1 to 8 */
     HLC_TOO_MANY_NODES = 26,    /* 1,024 node numbers are assigned */
@@ -164,11 +167,15 @@ enum {
     HLC_MORE = 104,             /* of hlc_scan, _scan_keys, _scan_back, hlc_changes, hlc_read_all, hlc_output_read: a
                                    part is left, which did not fit */
     HLC_NO_SUCH_NODE = 105,     /* of hlc_node_restore: no node has issued so many items up to this stamp */
-    HLC_BAD_BYTES = 106,        /* of hlc_restore, hlc_items_accept, hlc_records_apply; word: the number of the first
-                                   fault, 1 to 7 */
-    HLC_NO_CHECKPOINT = 107,    /* of hlc_restore; word: the number of the first reason of docs/formats.md, 1 to 9 */
+    HLC_BAD_BYTES = 106,        /* of hlc_restore, hlc_items_accept, hlc_records_apply, and of the older checkpoint of
+                                   hlc_increment_apply; word: the number of the first fault, 1 to 7 */
+    HLC_NO_CHECKPOINT = 107,    /* of hlc_restore, and of both parts of hlc_increment_apply; word: the number of the
+                                   first reason of docs/formats.md, 1 to 9 */
     HLC_HAS_BYTES = 108,        /* the output has bytes, and keeps them; nothing took place */
-    HLC_NOT_FEWEST = 109        /* of hlc_certificate: a vacuum to the stamp would drop a row */
+    HLC_NOT_FEWEST = 109,       /* of hlc_certificate: a vacuum to the stamp would drop a row */
+    HLC_NO_INCREMENT = 110,     /* of hlc_increment_apply; word: the number of the first fault of the increment's
+                                   bytes, 1 to 7; or 0, where its stamp does not fit its rows and its horizon */
+    HLC_NOT_LATER = 111         /* of hlc_increment_apply: the increment is not of a later state of this store */
 };
 
 /* ---- The library ---- */
@@ -426,6 +433,28 @@ uint32_t hlc_records_apply(hlc_store *store, const uint8_t *bytes, size_t bytes_
  * applied it. The bytes go into an output that has none; len: how many they are. docs/formats.md describes them; they
  * end with a digest. Refusals, in this order: 108, 15. Copies each row, and takes memory for twice that. */
 uint32_t hlc_checkpoint(hlc_store *store, uint64_t word, hlc_output *output, size_t *len);
+
+/* Saves an increment: the whole state of a store, but of its rows only those above a stamp, with a word of the
+ * caller's. As the stamp choose the floor that the store had at an older checkpoint: what was accepted since is above
+ * it, and hlc_increment_apply makes a newer checkpoint of both. The bytes go into an output that has none; len: how
+ * many they are. horizon: 0, or with 9 the horizon. Refusals, in this order: 108; 9 where the stamp is below the
+ * horizon: then make a whole checkpoint; 15. Goes through all rows, copies those above the stamp, and takes memory for
+ * twice that. */
+uint32_t hlc_increment(hlc_store *store, uint64_t since, uint64_t word, hlc_output *output, size_t *len,
+                       uint64_t *horizon);
+
+/* Makes, of the bytes of an older checkpoint and of an increment of the same store, those of the newer checkpoint, with
+ * the increment's word. hlc_restore opens a store from them. It answers as the newer one did, but also has the rows
+ * that vacuums dropped since the older checkpoint; its next vacuum drops them. The newer checkpoint may be the older
+ * one of the next increment. The bytes go into an output that has none; len: how many they are. word: 0, or the
+ * refusal's word. Refusals, in this order: 108; 106 where the older bytes are no encoding, word: the number of their
+ * first fault; 110 where the increment is none, word: the number of the first fault of its bytes; 107 where one of both
+ * is no checkpoint, word: the number of the first reason; 111 where the increment is not of a later state of this
+ * store; 8 where its stamp is above the floor of the older checkpoint, word: that floor; 110 with the word 0 where its
+ * stamp does not fit its rows and its horizon; 15. But 15 may come in place of all others but 108, when memory runs out
+ * before the fault is found. Copies each row of both, and takes memory for a few times that. */
+uint32_t hlc_increment_apply(const uint8_t *older, size_t older_len, const uint8_t *increment, size_t increment_len,
+                             hlc_output *output, size_t *len, uint64_t *word);
 
 /* Opens a closed store from the bytes of hlc_checkpoint, whoever wrote them. It continues as the saved store would
  * have: the same next items, open snapshots, horizon and answers. word: the word that was saved, or the refusal's.

@@ -6,6 +6,7 @@ import hashlib
 import random
 import struct
 import sys
+from typing import NamedTuple
 from urllib.parse import unquote_to_bytes
 
 import no_memory
@@ -13,7 +14,8 @@ from raw_calls import PLACE, Handle, Library
 
 ROUNDS = 300
 OK, NOT_NEXT, ABOVE_FLOOR, BELOW_HORIZON, NO_SNAPSHOT, NO_MEMORY = 0, 6, 8, 9, 10, 15
-CLOSED, MORE, BAD_BYTES, HAS_BYTES, NOT_FEWEST = 100, 104, 106, 108, 109
+CLOSED, MORE, BAD_BYTES, NO_CHECKPOINT, HAS_BYTES, NOT_FEWEST = 100, 104, 106, 107, 108, 109
+NO_INCREMENT, NOT_LATER = 110, 111
 TOP = 2**64 - 1
 
 
@@ -52,12 +54,19 @@ def has_no_bytes(output):
     return all(library.call("output_read", output, place, 9) == (OK, 0, b"") for place in (0, 5))
 
 
+def put(name, *args):
+    """Makes a call whose last argument is an output. Returns its answer, how many bytes it made, and what numbers it
+    wrote."""
+    code, *written = library.call(name, *args)
+    length = written.pop(0 if name.startswith("increment") else -1)
+    return code, length, written
+
+
 def made(pick, name, *args):
-    """Makes a call that puts bytes into an output, and returns what it wrote, with the bytes in place of how many they
-    are."""
+    """Makes a call that puts bytes into an output, and returns what it wrote, the bytes last."""
     output = Handle()
-    written = ok(name, *args, output)
-    *numbers, length = written if isinstance(written, tuple) else (written,)
+    code, length, numbers = put(name, *args, output)
+    assert code == OK, (name, code)
     data = read_pieces(pick, output, length)
     library.call("output_drop", output)
     assert has_no_bytes(output)
@@ -211,6 +220,45 @@ def vacuum(pick, store, model):
     certify(pick, store, model, at, kept, bytes)
 
 
+class Older(NamedTuple):
+    """A checkpoint of before: its bytes, the floor, and the rows."""
+
+    saved: bytes
+    floor: int
+    rows: list
+
+
+def older_of(pick, store, model):
+    return Older(whole_state(pick, store), ok("floor", store), list(model.rows))
+
+
+def increment_of(pick, store, model, since):
+    """Returns an increment with the word 5; or none where the stamp is below the horizon, and that is refused."""
+    if since < model.horizon:
+        output = Handle()
+        assert tuple(library.call("increment", store, since, 5, output)) == (BELOW_HORIZON, 0, model.horizon)
+        assert has_no_bytes(output)
+        return None
+    zero, increment = made(pick, "increment", store, since, 5)
+    assert zero == 0
+    return increment
+
+
+def newer_of(pick, store, model, older):
+    """Makes a newer checkpoint of an older one by an increment, since its floor or a stamp below it. Returns it, or
+    none where the stamp is below the horizon."""
+    since = older.floor if pick.random() < 0.7 else pick.randint(0, older.floor)
+    increment = increment_of(pick, store, model, since)
+    if increment is None:
+        return None
+    zero, saved = made(pick, "increment_apply", older.saved, increment)
+    rows = [row for row in older.rows if row[0] <= since] + [row for row in model.rows if row[0] > since]
+    assert zero == 0
+    if sorted(rows, key=by_key) == sorted(model.rows, key=by_key):
+        assert saved == whole_state(pick, store)
+    return Older(saved, ok("floor", store), rows)
+
+
 def shared_record(pick, store, nodes, reading):
     """Returns a record that is no item, with its threshold or 0: a node joins at the floor or above, and is one of the
     nodes from then on; or the reading is a threshold."""
@@ -234,9 +282,9 @@ def item_bytes(kind, node, number, stamp, key=b"", value=b""):
 
 def feed(pick, store, nodes, keys):
     """Lets the nodes issue items, which the store takes as bytes, and opens snapshots and vacuums between. Returns the
-    model, and the records of the log, each with its threshold or 0."""
+    model; the records of the log, each with its threshold or 0; and a checkpoint of before."""
     model, log, reading = Model(), [], 1
-    snapshots = model.snapshots
+    snapshots, older = model.snapshots, older_of(pick, store, model)
     for _ in range(pick.randint(5, 60)):
         reading += pick.randint(0, 2)
         node = pick.randrange(len(nodes))
@@ -264,8 +312,12 @@ def feed(pick, store, nodes, keys):
             vacuum(pick, store, model)
         if pick.random() < 0.3:
             vacuum_part(pick, store, model)
+        if pick.random() < 0.1:
+            older = older_of(pick, store, model)
+        if pick.random() < 0.1:
+            older = newer_of(pick, store, model, older) or older
     assert whole("item_retire", 263, 3, 131_077) == item_bytes("retire", 263, 3, 131_077)
-    return model, log
+    return model, log, older
 
 
 def entries_of(name, data):
@@ -471,12 +523,74 @@ def refuse_full(pick, store):
     output, saved = Handle(), whole_state(pick, store)
     length = ok("checkpoint", store, 5, output)
     stamp = pick.randint(0, 2 * ok("floor", store) + 1)
-    for name, *args in ("certificate", stamp), ("checkpoint", 6):
+    for name, *args in ("certificate", stamp), ("checkpoint", 6), ("increment", stamp, 6):
         for each, refusal in (store, HAS_BYTES), (Handle(), CLOSED):
             code, *written = library.call(name, each, *args, output)
             assert code == refusal and not any(written)
+    assert tuple(library.call("increment_apply", saved, b"", output)) == (HAS_BYTES, 0, 0)
     assert read_pieces(pick, output, length) == saved and whole_state(pick, store) == saved
     library.call("output_drop", output)
+
+
+def framed(body, word):
+    """The bytes of a frame, as docs/formats.md has them."""
+    front = struct.pack(">IQQ", 1, len(body), word) + body
+    return front + hashlib.sha256(front).digest()
+
+
+def refuse_increments(pick, store, model, older, many):
+    """Checks which bytes are no increment of an older checkpoint, or of a newer one, and in which order that is found.
+    Each flipped bit of a small increment is refused."""
+    increment = increment_of(pick, store, model, older.floor)
+    if increment is None:
+        return
+    saved, output = older.saved, Handle()
+
+    def refusal(older_bytes, increment_bytes):
+        code, length, word = library.call("increment_apply", older_bytes, increment_bytes, output)
+        assert code != OK and length == 0 and has_no_bytes(output)
+        return code, word
+
+    changed = bytearray(saved)
+    changed[pick.randrange(len(changed))] ^= 1 << pick.randrange(8)
+    assert refusal(bytes(changed), b"") == (BAD_BYTES, library.call("restore", Handle(), bytes(changed))[1])
+    assert refusal(saved, increment[: pick.randrange(len(increment))]) == (NO_INCREMENT, 1)
+    assert refusal(saved, saved) == (NO_INCREMENT, 3)
+    inner = increment[21:-32]
+    since, state = struct.unpack_from(">Q", inner, 12)[0], inner[20:-32]
+    assert since == older.floor and framed(b"\1" + framed(state, since), 5) == increment
+    assert refusal(saved, framed(b"\1" + framed(bytes(2) + state[2:], since), 5)) == (NO_CHECKPOINT, 1)
+    assert refusal(saved, framed(b"\1" + framed(state, since + 1), 5)) == (ABOVE_FLOOR, since)
+    if model.horizon > 0:
+        assert refusal(saved, framed(b"\1" + framed(state, model.horizon - 1), 5)) == (NO_INCREMENT, 0)
+    early = increment_of(pick, store, model, model.horizon)
+    if early[41:-64] != increment[41:-64]:
+        assert refusal(saved, framed(b"\1" + framed(early[41:-64], since), 5)) == (NO_INCREMENT, 0)
+    other = opened(many + 1)
+    assert refusal(saved, increment_of(pick, other, Model(), 0)) == (NOT_LATER, 0)
+    library.call("close", other)
+    if len(increment) < 500 and pick.random() < 0.1:
+        for bit in range(8 * len(increment)):
+            changed = bytearray(increment)
+            changed[bit // 8] ^= 1 << bit % 8
+            code, word = refusal(saved, bytes(changed))
+            assert code == NO_INCREMENT and word > 0
+
+
+def look_at_newer(pick, store, model, older, keys, nodes):
+    """Compares a store with the model that is restored from an older checkpoint and an increment. It also has the rows
+    that vacuums dropped since, until it is vacuumed itself."""
+    newer = newer_of(pick, store, model, older)
+    if newer is None:
+        return
+    seen, copy = Model(), restored(newer.saved)
+    seen.writes, seen.rows, seen.snapshots, seen.horizon = model.writes, newer.rows, model.snapshots, model.horizon
+    assert whole_state(pick, copy) == newer.saved
+    compare(pick, copy, seen, keys, nodes)
+    at = model.horizon
+    assert ok("vacuum_to", copy, at) == (at, *seen.vacuum(at, seen.keys()))
+    assert ok("sizes", copy) == sizes(seen.rows)
+    library.call("close", copy)
 
 
 def restored(saved):
@@ -491,7 +605,7 @@ def with_grants(pick, grants, name, *args):
     takes no memory."""
     output = Handle()
     library.granted.value = grants
-    code, *numbers, length = library.call(name, *args, output)
+    code, length, numbers = put(name, *args, output)
     is_met = library.granted.value < 0
     library.granted.value = 0
     data = read_pieces(pick, output, length)
@@ -501,22 +615,28 @@ def with_grants(pick, grants, name, *args):
     return code, (*numbers, data), is_met
 
 
-def refuse_memory(pick, saved, name, *args):
+def refused_in_turn(pick, name, *args):
     """Refuses each request for memory of a call that puts bytes into an output. After a refusal the output has no
-    bytes, and the store is as it was."""
-    store = restored(saved)
-    first = made(pick, name, store, *args)
+    bytes. Returns after each call, so that what the call got can be looked at."""
+    first = made(pick, name, *args)
     first = first if isinstance(first, tuple) else (first,)
     grants, is_met = 0, True
     while is_met:
-        code, written, is_met = with_grants(pick, grants, name, store, *args)
+        code, written, is_met = with_grants(pick, grants, name, *args)
         if code == OK:
             assert written == first
         else:
             assert code == NO_MEMORY and is_met and not any(written)
-        assert whole_state(pick, store) == saved
+        yield
         grants += 1
     assert grants > 1
+
+
+def refuse_memory(pick, saved, name, *args):
+    """Refuses each request for memory of a call with a store, which stays as it was."""
+    store = restored(saved)
+    for _ in refused_in_turn(pick, name, store, *args):
+        assert whole_state(pick, store) == saved
     library.call("close", store)
 
 
@@ -525,7 +645,7 @@ def play(pick):
     keys = [bytes(pick.choices(b"ab\0\xff", k=pick.randint(1, 4))) for _ in range(8)]
     store, copy = opened(many), Handle()
     nodes = [library.call("node_open", node, 0)[0] for node in range(many)]
-    model, log = feed(pick, store, nodes, keys)
+    model, log, older = feed(pick, store, nodes, keys)
     saved = whole_state(pick, store)
     assert ok("restore", copy, saved) == 5 and whole_state(pick, copy) == saved
     library.call("close", copy)
@@ -535,6 +655,8 @@ def play(pick):
     assert ok("rows", store) == ok("sizes", store)[0]
     refuse(pick, saved, b"".join(entry for entry, _ in log), many)
     refuse_full(pick, store)
+    look_at_newer(pick, store, model, older, keys, len(nodes))
+    refuse_increments(pick, store, model, older, many)
     at, kept, total, _ = ok("vacuum", store)
     *numbers, text = made(pick, "certificate", store, at)
     assert at == ok("floor", store) and numbers == [0, kept, total] and ok("check", text) == (kept, total, 0)
@@ -545,6 +667,9 @@ def play(pick):
         vacuumed = whole_state(pick, store)
         refuse_memory(pick, vacuumed, "checkpoint", 5)
         refuse_memory(pick, vacuumed, "certificate", at)
+        refuse_memory(pick, vacuumed, "increment", at, 5)
+        for _ in refused_in_turn(pick, "increment_apply", vacuumed, made(pick, "increment", store, at, 5)[1]):
+            pass
     model.begun = (at, b"")
     while model.begun:
         vacuum_part(pick, copy, model)

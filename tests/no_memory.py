@@ -21,6 +21,7 @@ ABSENT = b"no key of a store, and longer than 22 bytes"
 PLENTY = 3_000_000
 # Refusals that these calls find in what they take memory for.
 LATE = {"certificate": {109}, "check": {16}, "restore": {107}, "restore_finish": {107}}
+LATE["increment_apply"] = {8, 107, 110, 111}
 
 
 # ---- The table of the header ----
@@ -333,7 +334,7 @@ def count_opening(calls, store, floor, spent):
 
 
 def count_outputs_refused(calls, store, floor):
-    """Counts the refusals of vacuums, checkpoints and certificates."""
+    """Counts the refusals of vacuums, checkpoints, increments and certificates."""
     full = full_output(calls, store)
     calls.count(CLOSED, "vacuum", Handle())
     for answer, each, stamp in (8, store, floor + 1), (9, store, floor - 1), (CLOSED, Handle(), floor):
@@ -343,6 +344,10 @@ def count_outputs_refused(calls, store, floor):
     for answer, each, output in (108, store, full), (CLOSED, Handle(), Handle()):
         calls.count(answer, "certificate", each, floor, output)
         calls.count(answer, "checkpoint", each, 5, output)
+        calls.count(answer, "increment", each, floor - 1, 5, output)
+    calls.count(9, "increment", store, floor - 1, 5, Handle())
+    calls.count(108, "increment_apply", bytes(60), bytes(60), full)
+    calls.count(106, "increment_apply", bytes(60), bytes(60), Handle())
     calls.library.call("output_drop", full)
     assert calls.starved("check", b"point 1.0\npoint")[0] == 16
 

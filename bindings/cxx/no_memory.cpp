@@ -179,17 +179,22 @@ void batches() {
   });
 }
 
-// The bytes of a certificate and of a checkpoint are freed where they can't be copied, and made again.
+// The bytes of a certificate, of a checkpoint and of increments are freed where they can't be copied, and made again.
 void outputs() {
   store store = filled(rising_pairs());
   const hlcstore::timestamp floor = store.vacuum().stamp;
   const string certificate = store.certificate(floor).certificate, saved = store.checkpoint(7);
+  const string increment = store.increment(floor, 7);
   fail_each([&](failing& once) {
     string again;
     once.make([&] { again = store.certificate(floor).certificate; });
     expect(again == certificate, "a certificate");
     once.make([&] { again = store.checkpoint(7); });
     expect(again == saved, "a checkpoint");
+    once.make([&] { again = store.increment(floor, 7); });
+    expect(again == increment, "an increment");
+    once.make([&] { again = hlcstore::apply_increment(saved, increment); });
+    expect(again == saved, "a checkpoint of an increment");
   });
 }
 

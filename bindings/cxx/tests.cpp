@@ -1,6 +1,6 @@
 // What the story does not show of hlcstore.hpp: moving and closing, ranges in pieces and of temporary snapshots, changes
-// of many keys, the longest keys and values, long certificates, batches, restores that are given up, and refusals as
-// exceptions.
+// of many keys, the longest keys and values, long certificates, batches, increments, restores that are given up, and
+// refusals as exceptions.
 #include <algorithm>
 #include <cstdio>
 #include <hlcstore.hpp>
@@ -470,6 +470,48 @@ void restarts() {
   EXPECT(copy.snapshots().empty() && store.snapshots().size() == 1);
 }
 
+// A chain of increments, with a vacuum between, and the refusals.
+void increments() {
+  hlcstore::store store(1);
+  node writer(0);
+  write(store, writer, 1, "a", "x");
+  write(store, writer, 2, "a", "y");
+  hlcstore::snapshot early = store.open_snapshot();
+  const string older = store.checkpoint(1);
+  const timestamp floor = store.floor();
+  write(store, writer, 3, "a", "z");
+  const string first = hlcstore::apply_increment(older, store.increment(floor, 2));
+  EXPECT(first == store.checkpoint(2));
+  const timestamp second = store.floor();
+  early.close();
+  store.vacuum_to(second);
+  write(store, writer, 4, "b", "x");
+  const string increment = store.increment(second, 3), newer = hlcstore::apply_increment(first, increment);
+  hlcstore::store copy;
+  EXPECT(copy.restore(newer) == 3 && copy.rows() == 4 && store.rows() == 2);
+  EXPECT(copy.horizon() == second && copy.floor() == store.floor() && copy.snapshots().empty());
+  EXPECT(copy.vacuum_to(second).dropped == 2 && copy.checkpoint(3) == store.checkpoint(3));
+  EXPECT(refusal_of([&] { store.increment(floor, 4); }) == HLC_BELOW_HORIZON);
+  EXPECT(refusal_of([&] { hlcstore::apply_increment("", increment); }) == HLC_BAD_BYTES);
+  EXPECT(refusal_of([&] { hlcstore::apply_increment(first, ""); }) == HLC_NO_INCREMENT);
+  EXPECT(refusal_of([&] { hlcstore::apply_increment(first, first); }) == HLC_NO_INCREMENT);
+  EXPECT(refusal_of([&] { hlcstore::apply_increment(hlcstore::store(2).checkpoint(1), increment); }) == HLC_NOT_LATER);
+  try {
+    hlcstore::apply_increment(older, increment);
+    EXPECT(false);
+  } catch (const hlcstore::error& refused) {
+    EXPECT(refused.code() == HLC_ABOVE_FLOOR && refused.word() == floor.word);
+  }
+  try {
+    store.increment(floor, 4);
+    EXPECT(false);
+  } catch (const hlcstore::error& refused) {
+    EXPECT(refused.word() == second.word);
+  }
+  store.close();
+  EXPECT(refusal_of([&] { store.increment(floor, 4); }) == HLC_CLOSED);
+}
+
 bool is_out_of_range(std::uint64_t physical, std::uint64_t counter) {
   try {
     timestamp::of(physical, counter);
@@ -511,6 +553,7 @@ int main() {
   parts();
   parts_of_longest_keys();
   restarts();
+  increments();
   stamps();
   std::puts(wrong == 0 ? "all right" : "wrong");
   return wrong != 0;

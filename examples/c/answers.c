@@ -45,6 +45,8 @@ static void closed_first(hlc_output *with_bytes)
     size_t len;
     uint32_t code = hlc_checkpoint(&closed, 0, with_bytes, &len);
     expect("checkpoint", code, len, HLC_CLOSED, 0);
+    code = hlc_increment(&closed, 0, 0, with_bytes, &len, &word);
+    expect("increment", code, len + word, HLC_CLOSED, 0);
     code = hlc_open_snapshot(&closed, UINT64_MAX, &word);
     expect("open snapshot", code, word, HLC_CLOSED, 0);
     code = hlc_restore_finish(&none, &closed, &word);
@@ -122,6 +124,8 @@ int main(void)
     size_t len;
     expect_text(HLC_CLOSED, "the store is closed, or no restore is under way");
     expect_text(HLC_IS_OPEN, "the store is open already, or a restore is under way");
+    expect_text(HLC_NO_INCREMENT, "the bytes are no increment");
+    expect_text(HLC_NOT_LATER, "the increment is not of a later state of the store");
     expect("open", hlc_open(&store, 1), 0, HLC_OK, 0);
     uint32_t code = hlc_accept_write(&store, 0, 0, AT(1), BYTES("k"), BYTES("v"), &word);
     expect("accept", code, word, HLC_OK, AT(1));

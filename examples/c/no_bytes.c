@@ -102,11 +102,15 @@ static void certify(hlc_store *store)
 static void save(hlc_store *store)
 {
     hlc_output output = HLC_NO_OUTPUT;
+    uint64_t word;
     size_t len;
     uint32_t code = hlc_checkpoint(store, 0, &output, &len);
     expect("checkpoint", code, len, HLC_OK, 164);
     read_no_piece(&output, len);
     hlc_output_drop(&output);
+    code = hlc_increment_apply(NONE, NONE, &output, &len, &word);
+    expect("increment, no bytes", code, len + word, HLC_BAD_BYTES, 1);
+    read_no_piece(&output, 0);
 }
 
 /* Key a has a value of no bytes at 1.0, and key b one of three bytes at 2.0. A pair of a listing is two lengths of

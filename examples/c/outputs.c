@@ -1,5 +1,5 @@
-/* A certificate and a checkpoint are read from an output, in pieces of any size and from any place. An output that has
- * bytes keeps them, and a call that gets it does nothing. */
+/* A certificate, a checkpoint and an increment are read from an output, in pieces of any size and from any place. An
+ * output that has bytes keeps them, and a call that gets it does nothing. */
 #include "hlcstore.h"
 #include <inttypes.h>
 #include <stdio.h>
@@ -69,6 +69,10 @@ static void make_none(void)
     expect("a row too many", code, len + kept + cost + word, HLC_NOT_FEWEST, 0);
     code = hlc_checkpoint(&closed, 7, &output, &len);
     expect("closed", code, len, HLC_CLOSED, 0);
+    code = hlc_increment(&closed, AT(2), 7, &output, &len, &word);
+    expect("closed, increment", code, len + word, HLC_CLOSED, 0);
+    code = hlc_increment_apply(BYTES("older"), BYTES("increment"), &output, &len, &word);
+    expect("no encoding", code, len + word, HLC_BAD_BYTES, 2);
     expect_piece(&output, 0, ROOM, NULL, 0);
     hlc_output_drop(&output);
     hlc_output_drop(&output);
@@ -112,15 +116,59 @@ static void refuse_full(hlc_output *output)
     }
     code = hlc_checkpoint(&store, 7, output, &len);
     expect("full, checkpoint", code, len, HLC_HAS_BYTES, 0);
+    code = hlc_increment(&store, AT(1), 7, output, &len, &word);
+    expect("full, increment", code, len + word, HLC_HAS_BYTES, 0);
+    code = hlc_increment_apply(BYTES("older"), BYTES("increment"), output, &len, &word);
+    expect("full, apply", code, len + word, HLC_HAS_BYTES, 0);
     code = hlc_certificate(&closed, AT(3), &word, &kept, &cost, output, &len);
     expect("full, closed", code, len + word + kept + cost, HLC_CLOSED, 0);
     code = hlc_checkpoint(&closed, 7, output, &len);
     expect("full, closed, checkpoint", code, len, HLC_CLOSED, 0);
+    code = hlc_increment(&closed, AT(1), 7, output, &len, &word);
+    expect("full, closed, increment", code, len + word, HLC_CLOSED, 0);
     code = hlc_rows(&store, &word);
     expect("rows", code, word, HLC_OK, 2);
     code = hlc_horizon(&store, &word);
     expect("horizon", code, word, HLC_OK, AT(2));
     expect_bytes(output, (const uint8_t *)TEXT, TEXT_LEN);
+}
+
+/* What was accepted since the checkpoint of before makes it a newer one, which is that of the store, byte by byte. An
+ * increment since a stamp below the horizon is refused with it, and one since a stamp above the older floor too. */
+static void advance(hlc_output *output)
+{
+    hlc_output increment = HLC_NO_OUTPUT, newer = HLC_NO_OUTPUT;
+    uint8_t older[ROOM], since[ROOM], saved[ROOM];
+    uint64_t word;
+    size_t older_len, since_len, len;
+    hlc_output_drop(output);
+    uint32_t code = hlc_checkpoint(&store, 7, output, &len);
+    if (code == HLC_OK) code = hlc_output_read(output, 0, older, sizeof older, &older_len);
+    expect("older", code, len, HLC_OK, older_len);
+    hlc_output_drop(output);
+    accept(3, AT(4), BYTES("Pau"));
+    code = hlc_increment(&store, AT(1), 8, &increment, &len, &word);
+    expect("below the horizon", code, len + word, HLC_BELOW_HORIZON, AT(2));
+    code = hlc_increment(&store, AT(3), 8, &increment, &len, &word);
+    if (code == HLC_OK) code = hlc_output_read(&increment, 0, since, sizeof since, &since_len);
+    expect("increment", code, len + word, HLC_OK, since_len);
+    code = hlc_increment_apply(older, older_len, since, since_len, &newer, &len, &word);
+    expect("newer", code, word, HLC_OK, 0);
+    code = hlc_checkpoint(&store, 8, output, &len);
+    if (code == HLC_OK) code = hlc_output_read(output, 0, saved, sizeof saved, &len);
+    expect("whole", code, len > older_len, HLC_OK, 1);
+    expect_bytes(&newer, saved, len);
+    hlc_output_drop(&increment);
+    code = hlc_increment(&store, AT(4), 8, &increment, &len, &word);
+    if (code == HLC_OK) code = hlc_output_read(&increment, 0, since, sizeof since, &since_len);
+    expect("later increment", code, len + word, HLC_OK, since_len);
+    hlc_output_drop(&newer);
+    code = hlc_increment_apply(older, older_len, since, since_len, &newer, &len, &word);
+    expect("above the older floor", code, len + word, HLC_ABOVE_FLOOR, AT(3));
+    code = hlc_increment_apply(older, older_len, since, since_len - 1, &newer, &len, &word);
+    expect("cut", code, len + word, HLC_NO_INCREMENT, 1);
+    expect_piece(&newer, 0, ROOM, NULL, 0);
+    hlc_output_drop(&increment);
 }
 
 /* Uses an output again for a checkpoint, which outlives its store, and restores another store from pieces of it. */
@@ -146,7 +194,7 @@ static void save(hlc_output *output)
     code = hlc_restore_finish(&restoring, &copy, &word);
     expect("finish", code, word, HLC_OK, 7);
     code = hlc_rows(&copy, &word);
-    expect("rows", code, word, HLC_OK, 2);
+    expect("rows", code, word, HLC_OK, 3);
     hlc_close(&copy);
 }
 
@@ -159,6 +207,7 @@ int main(void)
     make_none();
     certify(&output);
     refuse_full(&output);
+    advance(&output);
     save(&output);
     hlc_output_drop(&output);
     printf("%s\n", wrong ? "wrong" : "all right");

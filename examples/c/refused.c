@@ -6,7 +6,7 @@
 
 #define BYTES(s) (const uint8_t *)(s), sizeof(s) - 1
 #define AT(l) ((uint64_t)(l) << 16)
-#define STEPS 19
+#define STEPS 21
 #define PIECE 50
 
 static long left = -1;
@@ -15,6 +15,10 @@ static int wrong;
 /* The checkpoint that the restores read. */
 static uint8_t saved[1024];
 static size_t saved_len;
+
+/* An increment of the same store, in which nothing was accepted since. */
+static uint8_t increment[1024];
+static size_t increment_len;
 
 void *__real_malloc(size_t size);
 void *__real_realloc(void *at, size_t size);
@@ -95,6 +99,30 @@ static uint32_t save(hlc_store *store)
     return code;
 }
 
+static uint32_t save_increment(hlc_store *store)
+{
+    hlc_output output = HLC_NO_OUTPUT;
+    uint64_t horizon;
+    size_t len;
+    uint32_t code = hlc_increment(store, AT(20), 7, &output, &len, &horizon);
+    increment_len = take(&output, code, len, increment, sizeof increment);
+    if (horizon != 0) wrong++;
+    return code;
+}
+
+/* Makes of the checkpoint and the increment the checkpoint again. */
+static uint32_t apply(void)
+{
+    hlc_output output = HLC_NO_OUTPUT;
+    uint8_t made[1024];
+    uint64_t word;
+    size_t len;
+    uint32_t code = hlc_increment_apply(saved, saved_len, increment, increment_len, &output, &len, &word);
+    len = take(&output, code, len, made, sizeof made);
+    if (word != 0 || (code == HLC_OK && (len != saved_len || memcmp(made, saved, len) != 0))) wrong++;
+    return code;
+}
+
 static uint32_t call(int step, hlc_store *store)
 {
     uint8_t out[1024];
@@ -121,7 +149,9 @@ static uint32_t call(int step, hlc_store *store)
     case 14: return hlc_vacuum(store, &v, &w, &x, &y);
     case 15: return certify(store, AT(20));
     case 16: return save(store);
-    case 17: return restore(saved, saved_len);
+    case 17: return save_increment(store);
+    case 18: return apply();
+    case 19: return restore(saved, saved_len);
     default: return restore_in_pieces(saved, saved_len);
     }
 }

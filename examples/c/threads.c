@@ -174,14 +174,17 @@ static bool digests(hlc_store *mine, const struct snapshot *at)
     return memcmp(out[0], out[1], 32) == 0;
 }
 
-/* Makes a checkpoint, in an output of this call's own. */
-static bool saves(hlc_store *mine)
+/* Makes a checkpoint, and an increment since the horizon, in an output of this call's own. */
+static bool saves(hlc_store *mine, uint64_t horizon)
 {
     hlc_output output = HLC_NO_OUTPUT;
-    size_t len;
+    size_t len, increment_len;
+    uint64_t word;
     uint32_t code = hlc_checkpoint(mine, 0, &output, &len);
     hlc_output_drop(&output);
-    return code == HLC_OK && len > 0;
+    if (code == HLC_OK) code = hlc_increment(mine, horizon, 0, &output, &increment_len, &word);
+    hlc_output_drop(&output);
+    return code == HLC_OK && len > 0 && increment_len > 0;
 }
 
 /* The floor is not below the snapshot, nor the horizon above the floor; its rows are there, and it can be saved. */
@@ -192,7 +195,7 @@ static bool asks(hlc_store *mine, const struct snapshot *at)
     if (hlc_horizon(mine, &horizon) != HLC_OK || horizon > floor) return false;
     if (hlc_rows(mine, &rows) != HLC_OK || rows < count_of(0, KEYS, at->round)) return false;
     if (hlc_snapshot(mine, 0, &id, &stamp) != HLC_OK || stamp > at->stamp) return false;
-    return saves(mine);
+    return saves(mine, horizon);
 }
 
 static bool look(hlc_store *mine, const struct snapshot *at, unsigned kind, unsigned k)

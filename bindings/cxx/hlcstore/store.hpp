@@ -99,6 +99,19 @@ inline shown check_certificate(std::string_view text) {
   return found;
 }
 
+// The bytes of the newer checkpoint that an older one becomes by an increment of the same store, with the increment's
+// word. `store::restore` opens a store from them, which answers as the newer one did; its next vacuum drops the rows
+// that vacuums dropped since the older checkpoint. They may be the older checkpoint of the next increment.
+inline std::string apply_increment(std::string_view older, std::string_view increment) {
+  detail::output made;
+  std::uint64_t word;
+  std::size_t len;
+  const std::uint32_t code = hlc_increment_apply(detail::bytes(older), older.size(), detail::bytes(increment),
+                                                 increment.size(), made.raw(), &len, &word);
+  detail::check(code, word);
+  return made.text(len);
+}
+
 // A restore from the bytes of a checkpoint in pieces of any size. `store::restore` ends it.
 class restoring {
  public:
@@ -381,6 +394,19 @@ class store {
     detail::output saved;
     std::size_t len;
     detail::check(hlc_checkpoint(&mine, word, saved.raw(), &len));
+    return saved.text(len);
+  }
+
+  // An increment: the whole state, but of the rows only those above a stamp, with a word of the program's. As the stamp
+  // choose the floor that the store had at an older checkpoint, which `apply_increment` makes a newer one of. Where the
+  // stamp is below the horizon, it throws HLC_BELOW_HORIZON: then make a whole checkpoint.
+  std::string increment(timestamp since, std::uint64_t word) const {
+    hlc_store mine = copy();
+    detail::output saved;
+    std::uint64_t horizon;
+    std::size_t len;
+    const std::uint32_t code = hlc_increment(&mine, since.word, word, saved.raw(), &len, &horizon);
+    detail::check(code, horizon);
     return saved.text(len);
   }
 

@@ -474,6 +474,29 @@ class Restarts(unittest.TestCase):
         with self.assertRaises(ZeroDivisionError):
             Store.restore(bytes(1 // i) for i in (1, 0))
 
+    def test_a_checkpoint_becomes_a_newer_one(self):
+        store, node = filled([(b"key %d" % (i % 10), b"value %d" % i) for i in range(100)])
+        saved, floor = store.checkpoint(), store.floor
+        old = store.snapshot(stamp(50))
+        for turn in range(2):
+            for i in range(20):
+                store.accept(node.write(200 + turn, b"key %d" % i, b"later %d" % turn))
+            made = store.increment(floor, word=turn)
+            self.assertLess(len(made), len(store.checkpoint()))
+            if turn == 0:
+                self.assertEqual(hlcstore.apply_increment(saved, bytearray(made)), store.checkpoint(turn))
+            store.vacuum_to(floor)
+            made = store.increment(since=floor, word=turn)
+            saved, floor = hlcstore.apply_increment(older=saved, increment=made), store.floor
+            with Store.restore(saved) as copy:
+                self.assertEqual((copy.word, copy.horizon, copy.floor), (turn, store.horizon, floor))
+                self.assertEqual(copy.link(0), store.link(0))
+                self.assertGreater(copy.rows, store.rows)
+                self.assertEqual(copy.snapshot().digest(), store.snapshot().digest())
+                self.assertEqual(copy.snapshots()[0].digest(), old.digest())
+                copy.vacuum_to(copy.horizon)
+                self.assertEqual(copy.rows, store.rows)
+
     def test_a_node_is_restored(self):
         store, node = filled([(b"a", b"x")])
         again = Node.restore(node.id, node.last, node.next)
@@ -499,6 +522,9 @@ class Arguments(unittest.TestCase):
             (snapshot.items, b"", b"", True), (snapshot.last_below, 1), (snapshot.changes,), (snapshot.changes, store),
             (snapshot.changes, snapshot, 1), (store.versions,), (store.versions, "a"), (store.certificate, None),
             (snapshot.__getitem__, 1), (snapshot.__contains__, "a"), (hlcstore.check, "point 1.0"),
+            (store.increment,), (store.increment, b""), (store.increment, 0, None), (store.increment, 0, 0, 0),
+            (hlcstore.apply_increment, b""), (hlcstore.apply_increment, "", b""), (hlcstore.apply_increment, b"", 5),
+            (hlcstore.apply_increment, b"", b"", b""),
         ]  # fmt: skip
         for call, *args in calls:
             with self.assertRaises(TypeError, msg=f"{call} {args}"):
@@ -528,6 +554,7 @@ class Arguments(unittest.TestCase):
                 (store.snapshot, -1), (store.close_snapshot, -1), (store.vacuum_to, 10**5000), (store.checkpoint, -1),
                 (store.certificate, -1), (store.vacuum_part, -1), (store.vacuum_part, 0, b"", -1),
                 (store.versions, b"a", -1), (store.versions, b"a", 0, 2**64),
+                (store.increment, -1), (store.increment, 0, 2**64),
                 (store.check_vacuum, 2**64), (split, -1), (split, 2**64), (hlcstore.error_name, 2**64),
             ],
             halves: [(Store, -1), (Node, -1), (store.link, -1), (Item.report, 2**64, 0, 0), (stamp, 1, 70000),

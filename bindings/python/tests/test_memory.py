@@ -78,6 +78,11 @@ def keep(store):
         copy.snapshots(), copy.link(0), copy.floor, copy.join(), copy.join_at(2**50), copy.floor_node()
     with Store.restore(saved[at : at + 500] for at in range(0, len(saved), 500)) as copy:
         empty_a_key(copy)
+    made = store.increment(vacuum.stamp), store.increment(since=vacuum.stamp, word=5)
+    hlcstore.apply_increment(saved, bytearray(made[0])), hlcstore.apply_increment(older=saved, increment=made[1])
+    refuse(hlcstore.BelowHorizon, store.increment, 0)
+    refuse(hlcstore.NoIncrement, hlcstore.apply_increment, bytearray(saved), made[0][:-1])
+    refuse(TypeError, hlcstore.apply_increment, bytearray(saved), 5)
     refuse(Error, Store.restore, saved[:-1])
     refuse(Error, Store.restore, [saved[:-1]])
     refuse(TypeError, Store.restore, [saved[:-1], None])

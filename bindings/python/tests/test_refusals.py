@@ -61,6 +61,14 @@ def checkpoint_without_nodes():
     return saved
 
 
+def increment():
+    """Returns a checkpoint of a store with one item, and an increment of a store with one more."""
+    store = fed()
+    saved = store.checkpoint()
+    store.accept(Item.report(0, 1, stamp(3)))
+    return saved, store.increment(stamp(2))
+
+
 # For each class, but NoMemory: a call that raises it, and its word.
 REFUSED = {
     hlcstore.NoNode: (lambda: Store(0), 0),
@@ -85,6 +93,8 @@ REFUSED = {
     hlcstore.BadBytes: (lambda: Store.restore(bytes(60)), 2),
     hlcstore.NoCheckpoint: (lambda: Store.restore(checkpoint_without_nodes()), 1),
     hlcstore.NotFewest: (lambda: deleted().certificate(stamp(3)), 0),
+    hlcstore.NoIncrement: (lambda: hlcstore.apply_increment(fed().checkpoint(), fed().checkpoint()), 3),
+    hlcstore.NotLater: (lambda: hlcstore.apply_increment(Store(2).checkpoint(), increment()[1]), 0),
 }
 # How the text of a refusal has its word.
 WORDS = {
@@ -99,6 +109,7 @@ WORDS = {
     hlcstore.NotShown: "7",
     hlcstore.BadBytes: "2",
     hlcstore.NoCheckpoint: "1",
+    hlcstore.NoIncrement: "3",
 }
 
 
@@ -141,6 +152,25 @@ class Refusals(unittest.TestCase):
     def test_classes_of_python_catch_two(self):
         self.assertTrue(issubclass(hlcstore.NoValue, KeyError) and issubclass(hlcstore.NoMemory, MemoryError))
         self.assertEqual(str(hlcstore.NoMemory()), hlcstore.error_text(15))
+
+    def test_increments_are_refused(self):
+        saved, made = increment()
+        self.assertEqual(Store.restore(hlcstore.apply_increment(saved, made)).floor, stamp(3))
+        with self.assertRaises(hlcstore.BelowHorizon) as met:
+            vacuumed().increment(stamp(1))
+        self.assertEqual(met.exception.word, stamp(2))
+        with self.assertRaises(hlcstore.AboveFloor) as met:
+            hlcstore.apply_increment(Store(1).checkpoint(), made)
+        self.assertEqual(met.exception.word, 0)
+        with self.assertRaises(hlcstore.BadBytes):
+            hlcstore.apply_increment(saved[1:], made)
+        with self.assertRaises(hlcstore.NoCheckpoint):
+            hlcstore.apply_increment(checkpoint_without_nodes(), made)
+        for at in range(len(made)):
+            changed = bytearray(made)
+            changed[at] ^= 1
+            with self.assertRaises(hlcstore.NoIncrement):
+                hlcstore.apply_increment(saved, changed)
 
     def test_a_refused_item_changes_nothing(self):
         node = Node(0)
@@ -193,7 +223,7 @@ class AfterClose(unittest.TestCase):
             (store.join,), (store.join_at, 5), (store.link, 0), (store.floor_node,), (store.snapshot,),
             (store.snapshot, 0), (store.snapshots,), (store.close_snapshot, 1), (store.close_all,), (store.vacuum,),
             (store.vacuum_to, 0), (store.vacuum_part, 0), (store.check_vacuum, 0), (store.certificate, 0),
-            (store.checkpoint,), (store.versions, b"a"),
+            (store.checkpoint,), (store.increment, 0), (store.versions, b"a"),
             *[(getattr, store, name) for name in ("floor", "horizon", "rows", "sizes", "nodes")],
         ]  # fmt: skip
         for call, *args in calls:

@@ -256,14 +256,17 @@ class LongCalls(unittest.TestCase):
         certificate = self.store.certificate(vacuum.stamp).certificate
         wide, floor = self.wide, self.wide.floor
         pieces = [saved[at : at + 50_000] for at in range(0, len(saved), 50_000)]
+        increment = self.store.increment(vacuum.stamp)
         calls = {
             "accept_all": lambda: Store(1).accept_all(self.items),
             "accept_items": lambda: Store(1).accept_items(log),
+            "apply_increment": partial(hlcstore.apply_increment, saved, increment),
             "apply_records": lambda: Store(1).apply_records(log),
             "certificate": partial(self.store.certificate, vacuum.stamp),
             "check": partial(hlcstore.check, certificate),
             "checkpoint": self.store.checkpoint,
             "digest": self.snapshot.digest,
+            "increment": partial(wide.increment, 0),
             "restore": partial(Store.restore, saved),
             "restore from a piece": partial(Store.restore, [saved]),
             "restore from pieces": partial(Store.restore, pieces),

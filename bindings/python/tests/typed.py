@@ -43,4 +43,5 @@ with Store(1) as store:
     assert_type(store.vacuum_part(0, bytearray(b"a"), most=2), VacuumPart)
     assert_type(check(certified.certificate), Checked)
     assert_type(Store.restore(store.checkpoint(word=3)), Store)
+    assert_type(hlcstore.apply_increment(store.checkpoint(), bytearray(store.increment(0, word=3))), bytes)
 assert_type(hlcstore.__version__, str)

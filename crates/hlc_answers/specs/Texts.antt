@@ -25,7 +25,6 @@ answer_words answer =
     else if answer == 14 then (codes "HLC_NUMBERS_SPENT", codes "no number is left")
     else if answer == 15 then (codes "HLC_NO_MEMORY", codes "out of memory")
     else if answer == 16 then (codes "HLC_BAD_LINE", codes "a line of the certificate is bad")
-    else if answer == 20 then (codes "HLC_TOO_LONG", codes "the text has more than 16,777,216 bytes")
     else if answer == 22 then (
       codes "HLC_NOT_SHOWN",
       codes "the certificate does not show that the rows are the fewest",
@@ -45,6 +44,8 @@ answer_words answer =
     else if answer == 107 then (codes "HLC_NO_CHECKPOINT", codes "the content of the bytes is no checkpoint")
     else if answer == 108 then (codes "HLC_HAS_BYTES", codes "the output has bytes already")
     else if answer == 109 then (codes "HLC_NOT_FEWEST", codes "a row at or below the stamp would be dropped")
+    else if answer == 110 then (codes "HLC_NO_INCREMENT", codes "the bytes are no increment")
+    else if answer == 111 then (codes "HLC_NOT_LATER", codes "the increment is not of a later state of the store")
     else ([], [])
 
 abbrev pub answer_name : ℕ → List ℕ

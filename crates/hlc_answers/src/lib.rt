@@ -36,7 +36,6 @@ fn words(answer: u32) -> (&'static str, &'static str)
         14 => ("HLC_NUMBERS_SPENT", "no number is left"),
         15 => ("HLC_NO_MEMORY", "out of memory"),
         16 => ("HLC_BAD_LINE", "a line of the certificate is bad"),
-        20 => ("HLC_TOO_LONG", "the text has more than 16,777,216 bytes"),
         22 => (
             "HLC_NOT_SHOWN",
             "the certificate does not show that the rows are the fewest",
@@ -70,6 +69,11 @@ fn words(answer: u32) -> (&'static str, &'static str)
         109 => (
             "HLC_NOT_FEWEST",
             "a row at or below the stamp would be dropped",
+        ),
+        110 => ("HLC_NO_INCREMENT", "the bytes are no increment"),
+        111 => (
+            "HLC_NOT_LATER",
+            "the increment is not of a later state of the store",
         ),
         _ => ("", ""),
     }

@@ -6,7 +6,7 @@ use Rattle.hlc_node.specs.Rows.{answer}
 use Rattle.hlc_columns.specs.Answers.{AreAnswers, IsBetween}
 use Rattle.hlc_range_calls.specs.Listing.{listing_bytes}
 use Rattle.hlc_range_calls.specs.Scan.{end_of}
-use Rattle.hlc_range_calls.proofs.Pairs.{same_answers}
+use Rattle.hlc_range_calls.proofs.PairLemmas.{same_answers}
 use Rattle.hlc_calls.specs.Answers.{IsCopied}
 use Rattle.hlc_calls.specs.Digest.{ReturnsDigest}
 

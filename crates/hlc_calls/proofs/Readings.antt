@@ -10,8 +10,8 @@ use Rattle.hlc_calls.specs.declared.read_all.Place.{Place}
 use Rattle.hlc_calls.specs.Batch.{piece}
 use Rattle.hlc_range_calls.specs.Listing.{with_bytes}
 use Rattle.hlc_calls.specs.ReadAll.{answer_bytes, answer_at, answers_at, IsLeftOut, ReturnsAnswers, ReturnsAll}
-use Rattle.hlc_range_calls.proofs.Bytes.{put_both}
-use Rattle.hlc_range_calls.proofs.Scans.{length-put}
+use Rattle.hlc_range_calls.proofs.ByteLemmas.{put_both}
+use Rattle.hlc_range_calls.proofs.ScanLemmas.{length-put}
 
 -- the answers of the first places are at the start of the buffer
 abbrev pub AnsweredSoFar : List Row → ℕ → List Place → List ℕ → ℕ → ℕ → List ℕ → List ℕ → Type 0

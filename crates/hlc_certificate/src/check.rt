@@ -86,7 +86,7 @@ fn check_reader<R: Read>(alloc: Global, reader: &mut Watched<R>) -> CheckEnd
     }
 }
 
-/// Checks an input that is in memory, as `run_check` does once it has read one; here it may have any length. It searches
+/// Checks an input that is in memory, as `run_check` does once it has read one. It may have any length. It searches
 /// all lines for the first bad one, so running out of memory before a bad line never hides it.
 pub fn check_input(alloc: Global, input: &[u8]) -> CheckEnd
     ensures { MayEnd input.now result }

@@ -5,4 +5,4 @@ pub mod Beside
 pub mod NewestRow
 pub mod Chosen
 pub mod Newer
-pub mod OfKey
+pub mod KeyLemmas

@@ -1,5 +1,5 @@
--- The certificate of the stored rows at or below a stamp: a plan that drops no row is a vacuum which leaves them, and one
--- that drops a row leaves fewer that answer alike. Just after a vacuum they are the fewest.
+-- The certificate of the stored rows at or below a stamp: a plan that drops no row is a vacuum which leaves them, and
+-- one that drops a row leaves fewer that answer alike. Just after a vacuum they are the fewest.
 use Rattle.std.proofs.Common.{◌≡◌, ℕ, ◌+◌, ◌<◌, ◌≤◌, List, ◌∷◌, length, leb, None, refl, ap, sym, ◌∙◌, subst, arith}
 use Rattle.std.specs.Prelude.{count_by, not}
 use Rattle.std.specs.List.{items_where_true}

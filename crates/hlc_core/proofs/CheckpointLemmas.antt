@@ -308,3 +308,8 @@ pub copy-represents : (kept copy : StoreView) (past : List Step) → Represents 
     → Represents copy past
 copy-represents kept copy past h is =
     subst (λ k. Represents k past) (sym is.same) (represents-moved kept past copy.rows h is.rows)
+
+-- the floor of a checkpoint is that of the past which it represents
+pub checkpoint-floor : (kept : StoreView) (past : List Step) → IsCheckpoint kept → Represents kept past
+    → floor_in kept ≡ floor (nodes kept) past
+checkpoint-floor kept past is h = floor-in kept past is.nodes h

@@ -1,9 +1,10 @@
 -- What a handle contains before and after a call.
-use Rattle.std.specs.Prelude.{◌≡◌, ℕ, List, [], Option, Some, None, MatchOption, ⊤}
+use Rattle.std.specs.Prelude.{◌≡◌, ℕ, List, [], Option, Some, None, IsSome, MatchOption, ⊤}
 use Rattle.hlc_core.specs.StoreView.{StoreView, Represents, nodes}
 use Rattle.hlc_core.specs.Calls.{new_refusal}
 use Rattle.hlc_core.specs.Past.{Step}
 use Rattle.hlc_node.specs.declared.item.Item.{Item}
+use Rattle.hlc_handle.specs.contracts.reader.LentRoom.{the_row}
 use Rattle.hlc_calls.specs.Answers.{ReturnsAccepted, ReturnsChecked}
 use Rattle.hlc_calls.specs.Outcome.{IsAnswered}
 use Rattle.hlc_calls.specs.Saved.{IsMade, IsNotMade}
@@ -13,9 +14,17 @@ abbrev pub OnStore : Option StoreView → Option StoreView → Type 0 → (Store
 OnStore old new Closed Open =
     MatchOption old (Closed × (new ≡ None)) (λ before. MatchOption new ⊥ (λ after. Open before after))
 
+-- what a reader contains: the lifetime for which a store is lent to it, and the store's state; or nothing
+abbrev pub Loan : Type 0
+Loan = Option (ℕ × StoreView)
+
 -- the answer is about the store that is read; of a closed one it is this
-abbrev pub OnReader : Option StoreView → Type 0 → (StoreView → Type 0) → Type 0
-OnReader kept Closed Open = MatchOption kept Closed Open
+abbrev pub OnReader : Loan → Type 0 → (StoreView → Type 0) → Type 0
+OnReader kept Closed Open = MatchOption kept Closed (λ lent. Open lent.1)
+
+-- what the reader was lent it has again: that store, at the same place, for the same lifetime
+abbrev pub IsGivenBack : (the_row).Denot → (the_row).Denot → Type 0
+IsGivenBack old new = (new.value ≡ old.value) × (IsSome old.value → new.at ≡ old.at)
 
 -- the same two about each past that the store represents before the call
 abbrev pub OnStorePast
@@ -23,7 +32,7 @@ abbrev pub OnStorePast
 OnStorePast old new Closed Open =
     OnStore old new Closed (λ before after. (past : List Step) → Represents before past → Open before after past)
 
-abbrev pub OnReaderPast : Option StoreView → Type 0 → (StoreView → List Step → Type 0) → Type 0
+abbrev pub OnReaderPast : Loan → Type 0 → (StoreView → List Step → Type 0) → Type 0
 OnReaderPast kept Closed Open =
     OnReader kept Closed (λ core. (past : List Step) → Represents core past → Open core past)
 
@@ -34,7 +43,7 @@ IsAccepting old new item code word =
     (λ before after past. ReturnsAccepted before after item past code word)
 
 -- why an item would be refused, if it would
-abbrev pub IsChecking : Option StoreView → Item → ℕ → ℕ → Type 0
+abbrev pub IsChecking : Loan → Item → ℕ → ℕ → Type 0
 IsChecking kept item code word =
     OnReaderPast kept ((code ≡ 100) × (word ≡ 0)) (λ core past. ReturnsChecked core item past code word)
 

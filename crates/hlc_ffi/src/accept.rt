@@ -5,7 +5,7 @@ ghost use Rattle.hlc_node.specs.declared.item.Body.TheVariants.{Retire as a_reti
 ghost use Rattle.hlc_node.specs.Items.{an_item};
 ghost use Rattle.hlc_calls.specs.Answers.{ReturnsJoined, ReturnsJoinedAt};
 ghost use Rattle.hlc_calls.specs.Batch.{AreEntered};
-ghost use Rattle.hlc_ffi.specs.Handle.{OnStorePast, nodes_in_handle, IsAccepting, IsChecking};
+ghost use Rattle.hlc_ffi.specs.Handle.{OnStorePast, nodes_in_handle, IsAccepting, IsChecking, IsGivenBack};
 
 use crate::handle::{of_core, on_core};
 use hlc_calls::batch::{Entry, enter_all};
@@ -110,7 +110,7 @@ pub extern "C" fn hlc_check_write(
 ) -> u32
     ensures answer { IsChecking store.old.room.value
         (an_item node number stamp (a_write key.now (Some value.now))) result word.new }
-    ensures same { store.new.room.value ≡ store.old.room.value }
+    ensures same { IsGivenBack store.old.room store.new.room }
 {
     let item = ItemRef::write(node, number, Stamp::from_bits(stamp), key, Some(value));
     of_core!(store, [word], |core| items::check(core, &item, word))
@@ -128,7 +128,7 @@ pub extern "C" fn hlc_check_delete(
 ) -> u32
     ensures answer { IsChecking store.old.room.value
         (an_item node number stamp (a_write key.now None)) result word.new }
-    ensures same { store.new.room.value ≡ store.old.room.value }
+    ensures same { IsGivenBack store.old.room store.new.room }
 {
     let item = ItemRef::write(node, number, Stamp::from_bits(stamp), key, None);
     of_core!(store, [word], |core| items::check(core, &item, word))
@@ -147,7 +147,7 @@ pub extern "C" fn hlc_check_report(
         (an_item node number stamp a_report) result word.new }
     ensures retire { IsChecking store.old.room.value
         (an_item node number stamp a_retire) result word.new }
-    ensures same { store.new.room.value ≡ store.old.room.value }
+    ensures same { IsGivenBack store.old.room store.new.room }
 {
     let stamp = Stamp::from_bits(stamp);
     of_core!(store, [word], |core| {

@@ -1,5 +1,4 @@
-//! The store, for C: each call takes a handle, and returns 0, the number of a refusal, or 100 for a closed store. What
-//! else a call returns is written with every answer: 0 where there is nothing to return.
+//! The store, for C: each call takes a handle, returns 0, a refusal, or 100 for a closed store, and writes the rest.
 #![tactic(auto)]
 
 ghost use Rattle.std.specs.Prelude.{◌≡◌, None};

@@ -10,7 +10,7 @@ ghost use Rattle.hlc_calls.specs.Digest.{ReturnsDigest};
 ghost use Rattle.hlc_range_calls.specs.Scan.{ReturnsScan, ReturnsScanBack, ReturnsCount};
 ghost use Rattle.hlc_range_calls.specs.Changes.{ReturnsChanges};
 ghost use Rattle.hlc_range_calls.specs.Versions.{ReturnsVersions};
-ghost use Rattle.hlc_ffi.specs.Handle.{OnStorePast, nodes_in_handle, OnReader, OnReaderPast, ListsNothing};
+ghost use Rattle.hlc_ffi.specs.Handle.{OnStorePast, nodes_in_handle, OnReader, OnReaderPast, ListsNothing, IsGivenBack};
 
 use crate::handle::{of_core, on_core};
 use hlc_calls::digest::digest;
@@ -77,7 +77,7 @@ pub extern "C" fn hlc_read(
         ((result ≡ 100) × (len.new ≡ 0) × (out.new ≡ out.old))
         (λ core past. ReturnsRead (stamp_of id past) (writes past) key.now
         result len.new out.old out.new) }
-    ensures same { store.new.room.value ≡ store.old.room.value }
+    ensures same { IsGivenBack store.old.room store.new.room }
 {
     *len = 0;
     of_core!(store, |core| open_store::read(core, id, key, out, len))
@@ -119,7 +119,7 @@ pub extern "C" fn hlc_close_all(alloc: Global, store: &mut Store) -> u32
 pub extern "C" fn hlc_floor(store: &mut Reader, stamp: &mut u64) -> u32
     ensures answer { OnReaderPast store.old.room.value ((result ≡ 100) × (stamp.new ≡ 0))
         (λ core past. (result ≡ 0) × (stamp.new ≡ floor (nodes core) past)) }
-    ensures same { store.new.room.value ≡ store.old.room.value }
+    ensures same { IsGivenBack store.old.room store.new.room }
 {
     of_core!(store, [stamp], |core| {
         *stamp = core.floor().bits();
@@ -133,7 +133,7 @@ pub extern "C" fn hlc_rows(store: &mut Reader, rows: &mut u64) -> u32
     ensures answer { OnReader store.old.room.value
         ((result ≡ 100) × (rows.new ≡ 0))
         (λ core. (result ≡ 0) × (rows.new ≡ narrowed (length core.rows))) }
-    ensures same { store.new.room.value ≡ store.old.room.value }
+    ensures same { IsGivenBack store.old.room store.new.room }
 {
     of_core!(store, [rows], |core| {
         *rows = open_store::rows(core);
@@ -153,7 +153,7 @@ pub extern "C" fn hlc_sizes(
     ensures answer { OnReader store.old.room.value ((result ≡ 100) × (rows.new ≡ 0)
         × (keys.new ≡ 0) × (key_bytes.new ≡ 0) × (value_bytes.new ≡ 0)) (λ core. (result ≡ 0)
         × ReturnsSizes core.rows rows.new keys.new key_bytes.new value_bytes.new) }
-    ensures same { store.new.room.value ≡ store.old.room.value }
+    ensures same { IsGivenBack store.old.room store.new.room }
 {
     of_core!(store, [rows, keys, key_bytes, value_bytes], |core| {
         open_store::sizes(core, rows, keys, key_bytes, value_bytes);
@@ -170,7 +170,7 @@ pub extern "C" fn hlc_list(store: &mut Reader, id: u64, out: &mut [u8], len: &mu
         (λ core past. ReturnsListing (stamp_of id past) (writes past)
         result len.new out.old out.new) }
     ensures nothing { result ≢ 0 → (len.new ≡ 0) × (out.new ≡ out.old) }
-    ensures same { store.new.room.value ≡ store.old.room.value }
+    ensures same { IsGivenBack store.old.room store.new.room }
 {
     of_core!(store, [len], |core| list(core, id, out, len))
 }
@@ -190,7 +190,7 @@ pub extern "C" fn hlc_scan(
     ensures answer { OnReaderPast store.old.room.value
         (ListsNothing result len.new many.new out.old out.new) (λ core past. ReturnsScan false
         (stamp_of id past) (writes past) from.now to.now result len.new many.new out.old out.new) }
-    ensures same { store.new.room.value ≡ store.old.room.value }
+    ensures same { IsGivenBack store.old.room store.new.room }
 {
     of_core!(store, [len, many], |core| {
         scan(core, id, from, to, false, out, len, many)
@@ -211,7 +211,7 @@ pub extern "C" fn hlc_scan_keys(
     ensures answer { OnReaderPast store.old.room.value
         (ListsNothing result len.new many.new out.old out.new) (λ core past. ReturnsScan true
         (stamp_of id past) (writes past) from.now to.now result len.new many.new out.old out.new) }
-    ensures same { store.new.room.value ≡ store.old.room.value }
+    ensures same { IsGivenBack store.old.room store.new.room }
 {
     *len = 0;
     *many = 0;
@@ -233,7 +233,7 @@ pub extern "C" fn hlc_scan_back(
     ensures answer { OnReaderPast store.old.room.value
         (ListsNothing result len.new many.new out.old out.new) (λ core past. ReturnsScanBack
         (stamp_of id past) (writes past) from.now to.now result len.new many.new out.old out.new) }
-    ensures same { store.new.room.value ≡ store.old.room.value }
+    ensures same { IsGivenBack store.old.room store.new.room }
 {
     of_core!(store, [len, many], |core| {
         scan_back(core, id, from, to, out, len, many)
@@ -258,7 +258,7 @@ pub extern "C" fn hlc_changes(
         (ListsNothing result len.new many.new out.old out.new)
         (λ core past. ReturnsChanges (stamp_of before past) (stamp_of after past) (writes past)
         from.now to.now result len.new many.new out.old out.new) }
-    ensures same { store.new.room.value ≡ store.old.room.value }
+    ensures same { IsGivenBack store.old.room store.new.room }
 {
     of_core!(store, [len, many], |core| {
         changes(core, before, after, from, to, out, len, many)
@@ -281,7 +281,7 @@ pub extern "C" fn hlc_versions(
     ensures answer { OnReader store.old.room.value
         (ListsNothing result len.new many.new out.old out.new) (λ core. ReturnsVersions core
         key.now above to result len.new many.new out.old out.new) }
-    ensures same { store.new.room.value ≡ store.old.room.value }
+    ensures same { IsGivenBack store.old.room store.new.room }
 {
     of_core!(store, [len, many], |core| {
         versions(core, key, above, to, out, len, many)
@@ -300,7 +300,7 @@ pub extern "C" fn hlc_count(
     ensures answer { OnReaderPast store.old.room.value ((result ≡ 100) × (many.new ≡ 0))
         (λ core past. ReturnsCount (stamp_of id past) (writes past)
         from.now to.now result many.new) }
-    ensures same { store.new.room.value ≡ store.old.room.value }
+    ensures same { IsGivenBack store.old.room store.new.room }
 {
     of_core!(store, [many], |core| count(core, id, from, to, many))
 }
@@ -319,7 +319,7 @@ pub extern "C" fn hlc_digest(
         ((result ≡ 100) × (len.new ≡ 0) × (out.new ≡ out.old))
         (λ core past. ReturnsDigest (stamp_of id past) (writes past) from.now to.now
         result len.new out.old out.new) }
-    ensures same { store.new.room.value ≡ store.old.room.value }
+    ensures same { IsGivenBack store.old.room store.new.room }
 {
     of_core!(store, [len], |core| digest(core, id, from, to, out, len))
 }
@@ -341,7 +341,7 @@ pub extern "C" fn hlc_read_all(
         (ListsNothing result len.new many.new out.old out.new) (λ core past. ReturnsAll
         (stamp_of id past) (writes past) places.now bytes.now
         result len.new many.new out.old out.new) }
-    ensures same { store.new.room.value ≡ store.old.room.value }
+    ensures same { IsGivenBack store.old.room store.new.room }
 {
     of_core!(store, [len, many], |core| {
         read_all(core, id, places, bytes, out, len, many)

@@ -1,14 +1,18 @@
-//! The calls that save a store as bytes, and make one of bytes.
+//! The calls that save a store as bytes, whole or since a stamp, and make one of bytes.
 ghost use Rattle.std.specs.Prelude.{◌≡◌, ◌≢◌, ⊤, List, ℕ, None, MatchOption, MatchResult};
 ghost use Rattle.hlc_core.specs.Past.{Step};
 ghost use Rattle.hlc_core.specs.StoreView.{Represents};
 ghost use Rattle.hlc_saved.specs.Saved.{AreOfStore, BytesRepresent};
-ghost use Rattle.hlc_ffi.specs.Handle.{IsRestoring, RestoresPast, OnReader};
+ghost use Rattle.hlc_ffi.specs.Handle.{IsRestoring, RestoresPast, OnReader, IsGivenBack};
 ghost use Rattle.hlc_ffi.specs.Outputs.{OnOutput};
+ghost use Rattle.hlc_increment_calls.specs.Increments.{AreAdvanced, AreIncrementOf, IsNotAdvanced, IsRefusedIncrement};
 
 use crate::handle::{into_output, of_core};
 use hlc_calls::saved;
+use hlc_core::Stamp;
 use hlc_handle::{Output, Reader, Store, opened};
+use hlc_increment_calls::apply::apply;
+use hlc_increment_calls::increment::increment;
 use std::alloc::Global;
 
 /// Saves a store and a word of the caller's as bytes in an output. Returns 0 and how many they are; or 108, or 15.
@@ -29,13 +33,67 @@ pub extern "C" fn hlc_checkpoint(
         (result ≡ 15)) }
     ensures nothing { result ≢ 0 → (len.new ≡ 0)
         × (output.new.room.value ≡ output.old.room.value) }
-    ensures same { store.new.room.value ≡ store.old.room.value }
+    ensures same { IsGivenBack store.old.room store.new.room }
 {
     *len = 0;
     of_core!(
         store,
         |core| into_output!(alloc, output, len, saved::checkpoint(alloc, core, word))
     )
+}
+
+/// Saves the state of a store with the rows above a stamp, and a word of the caller's, as bytes in an output. Returns 0
+/// and how many they are; or 108, 9 and the horizon (GC threshold), or 15.
+#[unsafe(no_mangle)]
+pub extern "C" fn hlc_increment(
+    alloc: Global,
+    store: &mut Reader,
+    since: u64,
+    word: u64,
+    output: &mut Output,
+    len: &mut usize,
+    horizon: &mut u64,
+) -> u32
+    ensures saved { OnReader store.old.room.value (result ≡ 100) (λ core.
+        OnOutput output.old.room.value output.new.room.value result len.new ⊤
+        (λ bytes. AreIncrementOf bytes word since core)
+        (IsRefusedIncrement core since result horizon.new)) }
+    ensures nothing { result ≢ 0 → (len.new ≡ 0)
+        × (output.new.room.value ≡ output.old.room.value) }
+    ensures same { IsGivenBack store.old.room store.new.room }
+{
+    *horizon = 0;
+    let since = Stamp::from_bits(since);
+    of_core!(
+        store,
+        [len],
+        |core| into_output!(
+            alloc,
+            output,
+            len,
+            increment(alloc, core, since, word, horizon)
+        )
+    )
+}
+
+/// Makes the bytes of the checkpoint that an older one becomes by an increment. Returns 0, or 108, or as `apply` does.
+#[unsafe(no_mangle)]
+pub extern "C" fn hlc_increment_apply(
+    alloc: Global,
+    older: &[u8],
+    bytes: &[u8],
+    output: &mut Output,
+    len: &mut usize,
+    word: &mut u64,
+) -> u32
+    ensures answer { OnOutput output.old.room.value output.new.room.value result len.new (word.new ≡ 0)
+        (λ made. AreAdvanced older.now bytes.now made) (IsNotAdvanced older.now bytes.now result word.new) }
+    ensures nothing { result ≢ 0 → (len.new ≡ 0)
+        × (output.new.room.value ≡ output.old.room.value) }
+{
+    *len = 0;
+    *word = 0;
+    into_output!(alloc, output, len, apply(alloc, older, bytes, word))
 }
 
 /// Opens a closed store from the bytes of `hlc_checkpoint`. Returns 0 and their word; or 101 for an open store, which

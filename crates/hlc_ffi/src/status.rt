@@ -3,7 +3,7 @@ ghost use Rattle.std.specs.Prelude.{◌≡◌, List, false, slice_get};
 ghost use Rattle.hlc_core.specs.Past.{horizon, numbered, open_snapshots};
 ghost use Rattle.hlc_core.specs.StoreView.{nodes};
 ghost use Rattle.hlc_calls.specs.Status.{ReturnsLink, ReturnsHolder, ReturnsSnapshot};
-ghost use Rattle.hlc_ffi.specs.Handle.{OnReaderPast};
+ghost use Rattle.hlc_ffi.specs.Handle.{OnReaderPast, IsGivenBack};
 
 use crate::handle::of_core;
 use hlc_calls::status;
@@ -14,7 +14,7 @@ use hlc_handle::Reader;
 pub extern "C" fn hlc_horizon(store: &mut Reader, stamp: &mut u64) -> u32
     ensures answer { OnReaderPast store.old.room.value ((result ≡ 100) × (stamp.new ≡ 0))
         (λ core past. (result ≡ 0) × (stamp.new ≡ horizon past)) }
-    ensures same { store.new.room.value ≡ store.old.room.value }
+    ensures same { IsGivenBack store.old.room store.new.room }
 {
     of_core!(store, [stamp], |core| {
         *stamp = core.horizon().bits();
@@ -27,7 +27,7 @@ pub extern "C" fn hlc_horizon(store: &mut Reader, stamp: &mut u64) -> u32
 pub extern "C" fn hlc_nodes(store: &mut Reader, many: &mut u64) -> u32
     ensures answer { OnReaderPast store.old.room.value ((result ≡ 100) × (many.new ≡ 0))
         (λ core past. (result ≡ 0) × (many.new ≡ numbered (nodes core) past)) }
-    ensures same { store.new.room.value ≡ store.old.room.value }
+    ensures same { IsGivenBack store.old.room store.new.room }
 {
     of_core!(store, [many], |core| {
         *many = status::nodes(core);
@@ -47,7 +47,7 @@ pub extern "C" fn hlc_link(
     ensures answer { OnReaderPast store.old.room.value
         ((result ≡ 100) × (next.new ≡ 0) × (head.new ≡ 0) × (retired.new ≡ false))
         (λ core past. ReturnsLink (nodes core) node past result next.new head.new retired.new) }
-    ensures same { store.new.room.value ≡ store.old.room.value }
+    ensures same { IsGivenBack store.old.room store.new.room }
 {
     *next = 0;
     *head = 0;
@@ -60,7 +60,7 @@ pub extern "C" fn hlc_link(
 pub extern "C" fn hlc_floor_node(store: &mut Reader, node: &mut u64) -> u32
     ensures answer { OnReaderPast store.old.room.value ((result ≡ 100) × (node.new ≡ 0))
         (λ core past. ReturnsHolder (nodes core) past result node.new) }
-    ensures same { store.new.room.value ≡ store.old.room.value }
+    ensures same { IsGivenBack store.old.room store.new.room }
 {
     of_core!(store, [node], |core| status::floor_node(core, node))
 }
@@ -71,7 +71,7 @@ pub extern "C" fn hlc_snapshot(store: &mut Reader, place: u64, id: &mut u64, sta
     ensures answer { OnReaderPast store.old.room.value
         ((result ≡ 100) × (id.new ≡ 0) × (stamp.new ≡ 0)) (λ core past. ReturnsSnapshot
         (slice_get (open_snapshots past) place) result id.new stamp.new) }
-    ensures same { store.new.room.value ≡ store.old.room.value }
+    ensures same { IsGivenBack store.old.room store.new.room }
 {
     *id = 0;
     *stamp = 0;

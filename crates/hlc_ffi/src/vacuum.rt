@@ -6,7 +6,7 @@ ghost use Rattle.hlc_calls.specs.Answers.{ReturnsVacuumedAtFloor, ReturnsVacuume
 ghost use Rattle.hlc_calls.specs.Answers.{ReturnsVacuumedPart};
 ghost use Rattle.hlc_calls.specs.Check.{ReturnsCheck};
 ghost use Rattle.hlc_calls.specs.Certified.{ReturnsCertificate, ReturnsNoCertificate};
-ghost use Rattle.hlc_ffi.specs.Handle.{OnStore, nodes_in_handle, OnReader};
+ghost use Rattle.hlc_ffi.specs.Handle.{OnStore, nodes_in_handle, OnReader, IsGivenBack};
 ghost use Rattle.hlc_ffi.specs.Outputs.{OnOutput};
 
 use crate::handle::{into_output, of_core, on_core};
@@ -54,7 +54,7 @@ pub extern "C" fn hlc_check_vacuum(store: &mut Reader, at: u64, word: &mut u64) 
     ensures answer { OnReader store.old.room.value
         ((result ≡ 100) × (word.new ≡ 0)) (λ core. (past : List Step) → Represents core past
         → ReturnsVacuumChecked core at past result word.new) }
-    ensures same { store.new.room.value ≡ store.old.room.value }
+    ensures same { IsGivenBack store.old.room store.new.room }
 {
     *word = 0;
     let at = Stamp::from_bits(at);
@@ -156,7 +156,7 @@ pub extern "C" fn hlc_certificate(
         → ReturnsNoCertificate core stamp past result word.new)) }
     ensures nothing { result ≢ 0 → (kept.new ≡ 0) × (bytes.new ≡ 0) × (len.new ≡ 0)
         × (output.new.room.value ≡ output.old.room.value) }
-    ensures same { store.new.room.value ≡ store.old.room.value }
+    ensures same { IsGivenBack store.old.room store.new.room }
 {
     *word = 0;
     *kept = 0;

@@ -11,7 +11,7 @@ use Rattle.std.specs.Borrow.{u8}
 use Rattle.std.proofs.Crossing.{frees, Vec-send}
 use Rattle.std_alloc.proofs.SendSync.{lies, seen}
 use Rattle.hlc_handle.specs.Room.{room_owns}
-use Rattle.hlc_handle.specs.Lent.{lent_room_owns}
+use Rattle.hlc_handle.specs.Lent.{Loan, lent_room_owns}
 use Rattle.hlc_handle.specs.Rows.{bytes_row}
 
 pub pointer_send : IsSend RawPtr
@@ -27,7 +27,7 @@ pub room_keyless : (R : RattleType) → IsSend R → (at : Ptr) (value : Option 
 room_keyless R s at (Some value) = (lies R s at value, frees.frees _ (raw (lone R.mir)) at)
 room_keyless R s at None = tt
 
-pub lent_keyless : (R : RattleType) → IsSync R → (at : Ptr) (value : Option R.Denot)
+pub lent_keyless : (R : RattleType) → IsSync R → (at : Ptr) (value : Option (Loan R))
     → Keyless (lent_room_owns R at value)
-lent_keyless R s at (Some value) = λ a. ((λ share counts. tt), seen R s at value (a ∷ []))
+lent_keyless R s at (Some loan) = ((λ share counts. tt), seen R s at loan.1 (loan.0 ∷ []))
 lent_keyless R s at None = tt

@@ -4,14 +4,13 @@ use seplogic.Ra.Ura.{Ura}
 use base.Logic.{ent, never, id⊢}
 use types.Logic.{Logic, sem}
 use types.Kit.{‵, ◌$◌, ◌∵◌, !, qed, by, keep, move, fsplit}
-use types.Kit.{fpick}
 use denote.RattleType.{RattleType}
 use denote.RawPtr.{null_ptr}
-use Rattle.hlc_handle.specs.Lent.{lent_owns}
+use Rattle.hlc_handle.specs.Lent.{Loan, lent_owns}
 
 -- nobody reads what lies at null
-pub nowhere : {M : Type 1} {𝓤 : Ura M} (𝓛 : Logic 𝓤) (R : RattleType) (value : R.Denot)
-    → ent 𝓤 (sem 𝓛 (lent_owns R null_ptr value)) (never 𝓤)
-nowhere {𝓤 = 𝓤} 𝓛 R value =
-    qed 𝓛 (‵ (lent_owns R null_ptr value) ∷ []) ∵
-    fpick ! (λ a. fsplit ! $ move ! (1 ∷ []) $ fsplit ! $ keep ! (0 ∷ []) $ by ! (id⊢ 𝓤 (never 𝓤)))
+pub nowhere : {M : Type 1} {𝓤 : Ura M} (𝓛 : Logic 𝓤) (R : RattleType) (loan : Loan R)
+    → ent 𝓤 (sem 𝓛 (lent_owns R null_ptr loan)) (never 𝓤)
+nowhere {𝓤 = 𝓤} 𝓛 R loan =
+    qed 𝓛 (‵ (lent_owns R null_ptr loan) ∷ []) ∵
+    fsplit ! $ move ! (1 ∷ []) $ fsplit ! $ keep ! (0 ∷ []) $ by ! (id⊢ 𝓤 (never 𝓤))

@@ -1,15 +1,16 @@
 //! What C has of a store while it only reads: a copy of the handle, for one call, beside other copies.
-ghost use Rattle.std.specs.Prelude.{◌≡◌, Option, Some, None, IsSome, MatchOption, is_some};
+ghost use Rattle.std.specs.Prelude.{◌≡◌, ℕ, Option, Some, None, IsSome, MatchOption, is_some};
 ghost use Rattle.hlc_core.specs.StoreView.{StoreView};
 
 use crate::Opaque;
 use hlc_core::Core;
 use std::marker::Model;
 
-/// A core that is read, perhaps while others read it.
+/// A core that is read, perhaps while others read it. In contracts it is where the core lies, and the lifetime for
+/// which it is lent with the core's state.
 pub struct LentCore {
-    at: *const Core,
-    pub ghost value: { StoreView },
+    pub at: *const Core,
+    pub ghost value: { ℕ × StoreView },
 }
 
 impl Model for LentCore {
@@ -24,7 +25,7 @@ impl Model for LentCore {
 impl LentCore {
     /// Returns the core.
     pub fn core(&self) -> &Core
-        ensures { result.now ≡ self.now.value }
+        ensures { result.now ≡ self.now.value.1 }
     {
         unsafe { &*self.at }
     }
@@ -33,8 +34,8 @@ impl LentCore {
 /// What a reader contains: the right to read a core, or nothing.
 #[repr(C)]
 pub struct LentRoom {
-    at: *mut Opaque,
-    pub ghost value: { Option StoreView },
+    pub at: *mut Opaque,
+    pub ghost value: { Option (ℕ × StoreView) },
 }
 
 impl Model for LentRoom {
@@ -59,7 +60,7 @@ impl LentRoom {
 
     /// Returns a room with the right to read this core.
     pub(crate) fn of(lent: LentCore) -> LentRoom
-        ensures { result.value ≡ Some lent.value }
+        ensures { (result.at ≡ lent.at) × (result.value ≡ Some lent.value) }
     {
         let LentCore { at } = lent;
         LentRoom {
@@ -70,7 +71,7 @@ impl LentRoom {
     /// Returns the right to read that was put there.
     pub(crate) fn lent(self) -> LentCore
         requires { IsSome self.value }
-        ensures { self.value ≡ Some result.value }
+        ensures { (self.at ≡ result.at) × (self.value ≡ Some result.value) }
     {
         let LentRoom { at } = self;
         LentCore {
@@ -92,7 +93,7 @@ impl Reader {
     /// Takes the right to read out, and returns it, or none where the store is closed.
     pub fn take(&mut self) -> Option<LentCore>
         ensures lent { MatchOption result (self.old.room.value ≡ None)
-            (λ lent. self.old.room.value ≡ Some lent.value) }
+            (λ lent. (self.old.room.at ≡ lent.at) × (self.old.room.value ≡ Some lent.value)) }
         ensures closed { self.new.room.value ≡ None }
     {
         let closed = Reader {
@@ -110,7 +111,7 @@ impl Reader {
     /// Puts the right to read back.
     pub fn put(&mut self, lent: LentCore)
         requires { self.old.room.value ≡ None }
-        ensures { self.new.room.value ≡ Some lent.value }
+        ensures { (self.new.room.at ≡ lent.at) × (self.new.room.value ≡ Some lent.value) }
     {
         let full = Reader {
             room: LentRoom::of(lent),

@@ -34,8 +34,7 @@ use Rattle.hlc_core.specs.StoreView.{StoreView, nodes, with_rows_left, Represent
 use Rattle.hlc_core.specs.Checkpoint.{IsCheckpoint, floor_in}
 use Rattle.hlc_core.proofs.PastLemmas.{above_floor, body_rows-are, open-above, vacuum-above, vacuumed-low}
 use Rattle.hlc_core.proofs.StayLemmas.{answers-stay, floor-never_falls}
-use Rattle.hlc_core.proofs.Moved.{represents-moved}
-use Rattle.hlc_core.proofs.Sound.{floor-in}
+use Rattle.hlc_core.proofs.CheckpointLemmas.{checkpoint-floor, copy-represents}
 use Rattle.hlc_increment.specs.declared.advancing.AdvanceFault.{AdvanceFault}
 use Rattle.hlc_increment.specs.declared.advancing.AdvanceFault.TheVariants as faults
 use Rattle.hlc_increment.specs.Increment.{IncrementView, IsIncrementOf, IsAdvanced, IsReason, without_drops}
@@ -381,11 +380,10 @@ advanced-represents older newer made increment past more h g one of low is =
     let first : Represents whole (without_drops more ++ past) =
     joined-represents increment.since older newer increment.state.rows past more h g one low of.horizon
     of.copy.rows.same in
-    let second : Represents (with_rows_left whole made.rows newer.horizon) (without_drops more ++ past) =
-    represents-moved whole (without_drops more ++ past) made.rows first is.rows in
-    let same : made ≡ with_rows_left newer made.rows newer.horizon =
-    is.same ∙ ap (λ (state : StoreView). with_rows_left state made.rows state.horizon) of.copy.same in
-    subst (λ view. Represents view (without_drops more ++ past)) (sym same) second
+    copy-represents whole made (without_drops more ++ past) first (record {
+      same = is.same ∙ ap (λ (state : StoreView). with_rows_left state made.rows state.horizon) of.copy.same;
+      rows = is.rows;
+    })
 
 -- the numbers of nodes are not assigned again
 numbered-grows : (nodes : ℕ) (past more : List Step) → numbered nodes past ≤ numbered nodes (more ++ past)
@@ -421,7 +419,7 @@ fits-unless_above older newer increment past more h is g one of is' faults.NotLa
       horizon = (let before = h.horizon in let after = g.horizon in omega (arith, before, after, rose, at));
     }))
 fits-unless_above older newer increment past more h is g one of is' (faults.AboveFloor f) reason =
-    inr (let same : floor_in older ≡ floor (nodes older) past = floor-in older past is.nodes h in
+    inr (let same : floor_in older ≡ floor (nodes older) past = checkpoint-floor older past is h in
     omega (arith, same, reason.0, reason.1))
 fits-unless_above older newer increment past more h is g one of is' (faults.BelowHorizon f) reason =
     absurd (let at : increment.state.horizon ≡ newer.horizon =

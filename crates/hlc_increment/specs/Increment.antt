@@ -52,8 +52,8 @@ abbrev pub IsRefused : StoreView → ℕ → IncrementFault → Type 0
 IsRefused kept since (increments.BelowHorizon horizon) = (horizon ≡ kept.horizon) × (since < horizon)
 IsRefused kept since increments.NoMemory = kept.horizon ≤ since
 
--- The increment and the checkpoint fit each other: both are checkpoints, the one perhaps later than the other; the stamp
--- lies from the one's horizon to the other's floor; and the rows of the increment are above it.
+-- The increment and the checkpoint fit each other: both are checkpoints, the one perhaps later than the other; the
+-- stamp lies from the one's horizon to the other's floor; and the rows of the increment are above it.
 pub record AreFitting (older : StoreView) (increment : IncrementView) : Type 0 where
   pub sound : IsCheckpoint older
   pub state : IsCheckpoint increment.state

@@ -8,6 +8,7 @@ ghost use Rattle.hlc_core.specs.Checkpoint.{IsCheckpoint};
 ghost use Rattle.hlc_core.specs.StoreView.{StoreView, nodes, Represents};
 ghost use Rattle.hlc_increment.specs.Increment.{AreFitting, IsAdvanced, IsIncrementOf, IsReason, MayBeLater};
 ghost use Rattle.hlc_increment.specs.Increment.{without_drops};
+ghost use Rattle.hlc_increment.specs.Faults.{advance_code, advance_word};
 ghost use Rattle.hlc_increment.specs.declared.advancing.AdvanceFault.TheVariants.{NoMemory as no_memory};
 
 use crate::increment::Increment;
@@ -33,6 +34,35 @@ pub enum AdvanceFault {
     RowUpToStamp,
     /// Out of memory.
     NoMemory,
+}
+
+impl AdvanceFault {
+    /// Returns the number of this refusal in outputs: 107, 111, 8, 110 or 15.
+    pub fn code(self) -> u32
+        ensures { result ≡ advance_code self }
+    {
+        match self {
+            AdvanceFault::Parts(_) => 107,
+            AdvanceFault::NotLater => 111,
+            AdvanceFault::AboveFloor { .. } => 8,
+            AdvanceFault::BelowHorizon { .. } | AdvanceFault::RowUpToStamp => 110,
+            AdvanceFault::NoMemory => 15,
+        }
+    }
+
+    /// Returns the number of the reason against the parts, or the word of the floor, in this refusal, or 0.
+    pub fn word(self) -> u64
+        ensures { result ≡ advance_word self }
+    {
+        match self {
+            AdvanceFault::Parts(fault) => fault.code() as u64,
+            AdvanceFault::AboveFloor { floor } => floor.bits(),
+            AdvanceFault::NotLater
+            | AdvanceFault::BelowHorizon { .. }
+            | AdvanceFault::RowUpToStamp
+            | AdvanceFault::NoMemory => 0,
+        }
+    }
 }
 
 impl fmt::Display for AdvanceFault {

@@ -45,7 +45,7 @@ pub fn encode_increment(
     Ok(framed(alloc, content.as_slice(), word)?)
 }
 
-/// Returns the bytes of a state, after the byte that tells an increment from a checkpoint.
+/// Returns the bytes of a state, after the byte with which no checkpoint begins.
 fn content_of(alloc: Global, state: &[u8]) -> Result<Vec<u8>, NoMemory>
     ensures { IfOk result (λ content. content.items ≡ 1 ∷ state.now) }
 {

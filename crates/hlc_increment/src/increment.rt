@@ -2,7 +2,7 @@
 ghost use Rattle.std.specs.Prelude.{◌≡◌, IfOk, IfErr};
 ghost use Rattle.hlc_core.specs.Checkpoint.{IsCheckpoint};
 ghost use Rattle.hlc_increment.specs.Increment.{IsIncrementOf, IsRefused};
-ghost use Rattle.hlc_increment.specs.Faults.{increment_code};
+ghost use Rattle.hlc_increment.specs.Faults.{increment_code, increment_word};
 
 use hlc_core::{Checkpoint, Core, Stamp};
 use hlc_values::NoMemory;
@@ -27,6 +27,16 @@ impl IncrementFault {
         match self {
             IncrementFault::BelowHorizon { .. } => 9,
             IncrementFault::NoMemory => 15,
+        }
+    }
+
+    /// Returns the word of the horizon in this refusal, or 0.
+    pub fn word(self) -> u64
+        ensures { result ≡ increment_word self }
+    {
+        match self {
+            IncrementFault::BelowHorizon { horizon } => horizon.bits(),
+            IncrementFault::NoMemory => 0,
         }
     }
 }

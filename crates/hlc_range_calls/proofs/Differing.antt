@@ -5,7 +5,7 @@ use Rattle.hlc_core.specs.Differences.{Difference, AreDifferences, Compares}
 use Rattle.hlc_core.specs.Past.{Step, stamp_of, writes}
 use Rattle.hlc_range_calls.specs.Scan.{end_of, ReturnsFitting}
 use Rattle.hlc_range_calls.specs.Changes.{change_bytes, ReturnsChanges}
-use Rattle.hlc_range_calls.proofs.Bytes.{none_length, some_length}
+use Rattle.hlc_range_calls.proofs.ByteLemmas.{none_length, some_length}
 
 -- a key takes 8 bytes at least
 pub change_long : (one : Difference) → 8 ≤ length (change_bytes one)

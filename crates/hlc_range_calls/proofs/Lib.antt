@@ -1,5 +1,5 @@
-pub mod Bytes
-pub mod Pairs
-pub mod Scans
+pub mod ByteLemmas
+pub mod PairLemmas
+pub mod ScanLemmas
 pub mod Differing
 pub mod Rowing

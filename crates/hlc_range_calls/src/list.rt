@@ -8,7 +8,7 @@ ghost use Rattle.hlc_range_calls.specs.Listing.{ReturnsListing};
 use hlc_core::{Answers, Core};
 
 /// Returns how many bytes the pairs take, or none where 64 bits do not hold the number.
-#[tactic(auto, using(crate::proofs::Bytes::listing_length, crate::proofs::Bytes::pair_length))]
+#[tactic(auto, using(crate::proofs::ByteLemmas::listing_length, crate::proofs::ByteLemmas::pair_length))]
 fn listing_len(answers: Answers<'_>) -> Option<usize>
     ensures { MatchOption result (18446744073709551616 ≤ length (listing_bytes answers.entry))
         (λ len. len ≡ length (listing_bytes answers.entry)) }

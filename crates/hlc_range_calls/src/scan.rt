@@ -10,7 +10,7 @@ use crate::list::{put_pair, put_sized};
 use hlc_core::{Answers, Core};
 
 /// Returns whether a key fits in so many bytes, alone or with its value.
-#[tactic(auto, using(crate::proofs::Bytes::pair_length))]
+#[tactic(auto, using(crate::proofs::ByteLemmas::pair_length))]
 pub(crate) fn fits(room: usize, alone: bool, key: &[u8], value: &[u8]) -> bool
     ensures { result ≡ nat_le (length (part_bytes alone (key.now, value.now))) room }
 {

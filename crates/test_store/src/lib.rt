@@ -7,6 +7,8 @@ mod bytes;
 #[cfg(test)]
 mod callers;
 #[cfg(test)]
+mod certificates;
+#[cfg(test)]
 mod certified;
 #[cfg(test)]
 mod changes;

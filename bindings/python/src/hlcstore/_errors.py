@@ -130,6 +130,14 @@ class NotFewest(Error):
     code = _native.HLC_NOT_FEWEST
 
 
+class NoIncrement(Error):
+    code = _native.HLC_NO_INCREMENT
+
+
+class NotLater(Error):
+    code = _native.HLC_NOT_LATER
+
+
 REFUSALS: dict[int, type[Error]] = {refusal.code: refusal for refusal in Error.__subclasses__()}
 
 # In tracebacks and pickles they have the name by which a program knows them.

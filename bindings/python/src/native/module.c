@@ -78,6 +78,12 @@ static PyObject *version(PyObject *module, PyObject *none)
 }
 
 static PyMethodDef functions[] = {
+    METHOD("apply_increment", apply_increment,
+           "apply_increment($module, /, older, increment)\n--\n\n"
+           "Return the bytes of the newer checkpoint that an older one becomes by an increment of the same store.\n\n"
+           "They have the increment's word. A store that is restored from them answers as the newer one did, and its\n"
+           "next vacuum drops the rows that vacuums dropped since the older checkpoint. They may be the older\n"
+           "checkpoint of the next increment."),
     { "check", check_certificate, METH_O,
       "check($module, certificate, /)\n--\n\n"
       "Check the text of a certificate, whoever made it: no rows with the same answers are fewer or cheaper." },

@@ -162,6 +162,14 @@ PyObject *store_certificate(PyObject *self, PyObject *stamp);
 /* The function check of the module. */
 PyObject *check_certificate(PyObject *module, PyObject *text);
 
+/* ---- increments.c ---- */
+
+/* A method of a store. */
+PyObject *store_increment(PyObject *self, PyObject *args, PyObject *words);
+
+/* The function apply_increment of the module. */
+PyObject *apply_increment(PyObject *module, PyObject *args, PyObject *words);
+
 /* ---- versions.c ---- */
 
 /* A method of a store. */

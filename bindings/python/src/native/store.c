@@ -535,6 +535,11 @@ static PyMethodDef store_methods[] = {
            "checkpoint($self, /, word=0)\n--\n\n"
            "Return the store's whole state as bytes, with a word of the caller's.\n\n"
            "The word may be the place in a log up to which the store applied it."),
+    METHOD("increment", store_increment,
+           "increment($self, /, since, word=0)\n--\n\n"
+           "Return an increment as bytes: the whole state, but of the rows only those above a stamp.\n\n"
+           "As the stamp choose the floor that the store had at an older checkpoint: of both apply_increment makes a\n"
+           "newer one. BelowHorizon is raised where the stamp is below the horizon: then make a whole checkpoint."),
     { 0 },
 };
 

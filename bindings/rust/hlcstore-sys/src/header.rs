@@ -33,6 +33,8 @@ pub const HLC_BAD_BYTES: u32 = 106;
 pub const HLC_NO_CHECKPOINT: u32 = 107;
 pub const HLC_HAS_BYTES: u32 = 108;
 pub const HLC_NOT_FEWEST: u32 = 109;
+pub const HLC_NO_INCREMENT: u32 = 110;
+pub const HLC_NOT_LATER: u32 = 111;
 
 #[repr(C)]
 #[derive(Clone, Copy, Debug, PartialEq, Eq)]
@@ -344,6 +346,23 @@ unsafe extern "C" {
         word: *mut u64,
     ) -> u32;
     pub fn hlc_checkpoint(store: *mut hlc_store, word: u64, output: *mut hlc_output, len: *mut usize) -> u32;
+    pub fn hlc_increment(
+        store: *mut hlc_store,
+        since: u64,
+        word: u64,
+        output: *mut hlc_output,
+        len: *mut usize,
+        horizon: *mut u64,
+    ) -> u32;
+    pub fn hlc_increment_apply(
+        older: *const u8,
+        older_len: usize,
+        increment: *const u8,
+        increment_len: usize,
+        output: *mut hlc_output,
+        len: *mut usize,
+        word: *mut u64,
+    ) -> u32;
     pub fn hlc_restore(store: *mut hlc_store, bytes: *const u8, bytes_len: usize, word: *mut u64) -> u32;
     pub fn hlc_restore_start(restoring: *mut hlc_restoring) -> u32;
     pub fn hlc_restore_feed(restoring: *mut hlc_restoring, bytes: *const u8, bytes_len: usize) -> u32;

@@ -38,7 +38,8 @@ pub enum ErrorKind {
     NotNext,
     /// The stamp is not above that of the node's last accepted item, which is the word.
     StampNotRising,
-    /// The stamp is above the floor, which is the word.
+    /// The stamp is above the floor, which is the word. Of an increment: above the floor of the older checkpoint, which
+    /// is the word.
     AboveFloor,
     /// The stamp is below the horizon, which is the word. When a node joins: the start is below the floor, which is the
     /// word.
@@ -75,6 +76,11 @@ pub enum ErrorKind {
     NoCheckpoint,
     /// The rows at or below the stamp are not the fewest: a vacuum to it would drop one.
     NotFewest,
+    /// The bytes are no increment. The word is the number of the first fault; or 0, where the stamp of the increment
+    /// does not fit its rows and its horizon.
+    NoIncrement,
+    /// The increment is not of a later state of the store from which the checkpoint is.
+    NotLater,
     /// An answer that this version of the crate does not know.
     Other,
 }
@@ -123,6 +129,8 @@ impl Error {
             sys::HLC_BAD_BYTES => ErrorKind::BadBytes,
             sys::HLC_NO_CHECKPOINT => ErrorKind::NoCheckpoint,
             sys::HLC_NOT_FEWEST => ErrorKind::NotFewest,
+            sys::HLC_NO_INCREMENT => ErrorKind::NoIncrement,
+            sys::HLC_NOT_LATER => ErrorKind::NotLater,
             _ => ErrorKind::Other,
         }
     }
@@ -147,6 +155,7 @@ impl fmt::Display for Error {
             | ErrorKind::NotShown
             | ErrorKind::BadBytes
             | ErrorKind::NoCheckpoint => write!(f, " ({})", self.word),
+            ErrorKind::NoIncrement if self.word > 0 => write!(f, " ({})", self.word),
             _ => Ok(()),
         }
     }

@@ -347,6 +347,13 @@ impl Handle {
         Ok(saved)
     }
 
+    pub(crate) fn increment(&self, since: Stamp, word: u64) -> Result<Output> {
+        let mut saved = Output::none();
+        let (output, len) = saved.place();
+        self.ask(|store, horizon| unsafe { sys::hlc_increment(store, since.to_bits(), word, output, len, horizon) })?;
+        Ok(saved)
+    }
+
     // ---- Vacuums ----
 
     pub(crate) fn vacuum(&mut self) -> Result<Vacuumed> {

@@ -35,7 +35,7 @@
 //! # The library
 //!
 //! The crate links with the C library; `hlcstore-sys` says how it is found. `docs/` of its repository describes what is
-//! proved, and the formats of items, checkpoints and certificates.
+//! proved, and the formats of items, checkpoints, increments and certificates.
 
 mod buffer;
 mod error;
@@ -58,6 +58,7 @@ pub use error::{Error, ErrorKind, Result, Stopped, error_name, error_text};
 pub use item::{Content, Item};
 pub use listing::{Changes, KeyPage, Keys, Page, Pairs, PairsBack};
 pub use node::Node;
+pub use output::apply_increment;
 pub use range::{KeyRange, Prefix};
 pub use record::{Applied, Record};
 pub use restoring::Restoring;

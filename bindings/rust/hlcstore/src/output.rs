@@ -4,6 +4,7 @@
 
 use crate::Result;
 use crate::buffer::{append, reserve};
+use crate::error::answer;
 use crate::vacuum::Certified;
 use hlcstore_sys as sys;
 
@@ -38,6 +39,39 @@ impl Drop for Output {
     fn drop(&mut self) {
         unsafe { sys::hlc_output_drop(&mut self.raw) }
     }
+}
+
+/// Returns the bytes of the newer checkpoint that an older one becomes by an [`increment`](crate::Store::increment) of
+/// the same store, with the increment's word. [`Store::restore`](crate::Store::restore) opens a store from them, which
+/// answers as the newer one did; its next vacuum drops the rows that vacuums dropped since the older checkpoint. They
+/// may be the older checkpoint of the next increment.
+///
+/// Refusals, in this order: `BadBytes`, of the older checkpoint; `NoIncrement`; `NoCheckpoint`, of one of both;
+/// `NotLater`; `AboveFloor`; `NoIncrement` with the word 0; `NoMemory`.
+///
+/// ```
+/// use hlcstore::{Node, Stamp, Store, apply_increment};
+///
+/// let store = Store::open(1)?;
+/// let mut node = Node::new(0, Stamp::ZERO);
+/// store.accept(node.write(5, b"city", b"Lyon")?)?;
+/// let (older, floor) = (store.checkpoint(1)?, store.floor()?);
+///
+/// store.accept(node.write(6, b"city", b"Rome")?)?;
+/// let newer = apply_increment(&older, &store.increment(floor, 2)?)?;
+/// assert_eq!(newer, store.checkpoint(2)?);
+/// # Ok::<(), hlcstore::Error>(())
+/// ```
+pub fn apply_increment(older: &[u8], increment: &[u8]) -> Result<Vec<u8>> {
+    let (mut made, mut word) = (Output::none(), 0);
+    let (output, len) = made.place();
+    // SAFETY: both slices have these lengths, and the other pointers are live and not used otherwise during the call.
+    let code = unsafe {
+        let (older, older_len) = (older.as_ptr(), older.len());
+        sys::hlc_increment_apply(older, older_len, increment.as_ptr(), increment.len(), output, len, &mut word)
+    };
+    answer(code, word)?;
+    made.read()
 }
 
 /// How many rows a certificate has, what they cost, and its bytes.

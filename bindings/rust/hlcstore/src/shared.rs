@@ -199,6 +199,12 @@ impl SharedStore {
         saved.read()
     }
 
+    /// Returns an increment of the store since a stamp as bytes, as [`Store::increment`] does. Reads run beside it.
+    pub fn increment(&self, since: Stamp, word: u64) -> Result<Vec<u8>> {
+        let saved = self.read().increment(since, word)?;
+        saved.read()
+    }
+
     // A thread that panicked while it had the lock was in no call of the library, which does not panic. So the store is
     // whole, and the poison of the lock says nothing.
     pub(crate) fn read(&self) -> RwLockReadGuard<'_, Handle> {

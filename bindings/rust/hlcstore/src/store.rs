@@ -364,6 +364,16 @@ impl Store {
         self.read().checkpoint(word)?.read()
     }
 
+    /// Returns an increment as bytes: the whole state of the store, but of its rows only those above a stamp, with a
+    /// word of the caller's. As the stamp choose the floor that the store had at an older checkpoint: of both
+    /// [`apply_increment`](crate::apply_increment) makes a newer one. Where the stamp is below the horizon, make a
+    /// whole checkpoint.
+    ///
+    /// Refusals, in this order: `BelowHorizon`, `NoMemory`.
+    pub fn increment(&self, since: Stamp, word: u64) -> Result<Vec<u8>> {
+        self.read().increment(since, word)?.read()
+    }
+
     /// Shares the store among threads.
     pub fn into_shared(self) -> SharedStore {
         SharedStore::new(self.handle.into_inner())

@@ -1,6 +1,7 @@
 //! Each kind of error that a call can return where there is memory, with its word and its text.
 
-use hlcstore::{Error, ErrorKind, Item, Node, Result, SharedStore, Stamp, Stopped, Store, check_certificate};
+use hlcstore::{Error, ErrorKind, Item, Node, Result, SharedStore, Stamp, Stopped, Store};
+use hlcstore::{apply_increment, check_certificate};
 use std::fmt::Debug;
 
 /// The kind and the word of a refusal.
@@ -33,6 +34,7 @@ fn store_is_closed_or_open() {
     assert_eq!(refused(store.accept(item(0, 5))), (ErrorKind::Closed, 0));
     assert_eq!(refused(store.close_all()), (ErrorKind::Closed, 0));
     assert_eq!(refused(store.versions(b"key", at(0), at(9))), (ErrorKind::Closed, 0));
+    assert_eq!(refused(store.increment(at(0), 7)), (ErrorKind::Closed, 0));
     store.reopen(1).unwrap();
     assert_eq!(refused(snapshot.get(b"key")), (ErrorKind::NoSnapshot, 0));
 }
@@ -180,13 +182,37 @@ fn checkpoints_are_refused() {
     let mut damaged = saved.clone();
     *damaged.last_mut().unwrap() ^= 1;
     assert_eq!(refused(SharedStore::restore(&damaged)), (ErrorKind::BadBytes, 7));
-    // A frame of a checkpoint that has no nodes, with the right digest.
-    let no_nodes = concat!(
-        "00000001000000000000001e0000000000000007000000000000000000000000000000000000000000000000000000000000",
-        "a961f2dd677d6287ef908a8d3465cc8cbb38aad056c7f8b0ca00469a7a968793"
-    );
-    assert_eq!(refused(Store::restore(&from_hex(no_nodes))), (ErrorKind::NoCheckpoint, 1));
+    assert_eq!(refused(Store::restore(&from_hex(NO_NODES))), (ErrorKind::NoCheckpoint, 1));
 }
+
+#[test]
+fn increments_are_refused() {
+    let store = Store::open(1).unwrap();
+    store.accept(item(0, 5)).unwrap();
+    let older = store.checkpoint(0).unwrap();
+    store.accept(item(1, 6)).unwrap();
+    store.vacuum_to(at(5)).unwrap();
+    assert_eq!(refused(store.increment(at(4), 7)), (ErrorKind::BelowHorizon, at(5).to_bits()));
+    let increment = store.increment(at(5), 7).unwrap();
+    assert!(apply_increment(&older, &increment).is_ok());
+    assert_eq!(refused(apply_increment(&older[1..], &increment)), (ErrorKind::BadBytes, 2));
+    assert_eq!(refused(apply_increment(&older, b"")), (ErrorKind::NoIncrement, 1));
+    assert_eq!(refused(apply_increment(&older, &older)), (ErrorKind::NoIncrement, 3));
+    let mut damaged = increment.clone();
+    *damaged.last_mut().unwrap() ^= 1;
+    assert_eq!(refused(apply_increment(&older, &damaged)), (ErrorKind::NoIncrement, 7));
+    assert_eq!(refused(apply_increment(&from_hex(NO_NODES), &increment)), (ErrorKind::NoCheckpoint, 1));
+    let other = Store::open(2).unwrap().increment(at(0), 7).unwrap();
+    assert_eq!(refused(apply_increment(&older, &other)), (ErrorKind::NotLater, 0));
+    let late = store.increment(at(6), 7).unwrap();
+    assert_eq!(refused(apply_increment(&older, &late)), (ErrorKind::AboveFloor, at(5).to_bits()));
+}
+
+/// A frame of a checkpoint that has no nodes, with the right digest.
+const NO_NODES: &str = concat!(
+    "00000001000000000000001e0000000000000007000000000000000000000000000000000000000000000000000000000000",
+    "a961f2dd677d6287ef908a8d3465cc8cbb38aad056c7f8b0ca00469a7a968793"
+);
 
 fn from_hex(text: &str) -> Vec<u8> {
     (0..text.len()).step_by(2).map(|place| u8::from_str_radix(&text[place..place + 2], 16).unwrap()).collect()
@@ -215,6 +241,8 @@ fn texts_are_those_of_the_library() {
     assert_eq!(error.to_string(), "the counter of the greatest earlier stamp is full (5.65535)");
     let error = Store::restore(b"").unwrap_err();
     assert_eq!(error.to_string(), "the bytes are not an encoding (1)");
+    let error = apply_increment(&store.checkpoint(0).unwrap(), b"").unwrap_err();
+    assert_eq!(error.to_string(), "the bytes are no increment (1)");
     let error = check_certificate("no line\n").unwrap_err();
     assert_eq!(error.to_string(), "a line of the certificate is bad (1)");
     let error = Item::report(1, 0, Stamp::ZERO);

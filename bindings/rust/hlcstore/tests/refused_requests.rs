@@ -1,7 +1,7 @@
 //! Each request of the crate for memory is refused in its turn, by the allocator of this program. An iterator returns
 //! the error once, and then none.
 
-use hlcstore::{Error, ErrorKind, Item, Node, Stamp, Store};
+use hlcstore::{Error, ErrorKind, Item, Node, Stamp, Store, apply_increment};
 use std::alloc::{GlobalAlloc, Layout, System};
 use std::cell::Cell;
 use std::fmt::Debug;
@@ -123,6 +123,11 @@ fn calls_return_the_error_and_lose_nothing() {
     let is_right = |is_right: bool, was_refused| assert!(is_right != was_refused);
     let (saved, all) = (store.checkpoint(7), pairs());
     refuse_each(|| store.checkpoint(7) == saved, is_right);
+    let increment = store.increment(Stamp::ZERO, 8);
+    refuse_each(|| store.increment(Stamp::ZERO, 8) == increment, is_right);
+    let older = Store::open(1).unwrap().checkpoint(0).unwrap();
+    let newer = store.checkpoint(8);
+    refuse_each(|| apply_increment(&older, increment.as_ref().unwrap()) == newer, is_right);
     let floor = store.vacuum().unwrap().stamp;
     refuse_each(|| store.certificate(floor).is_ok(), is_right);
     refuse_each(|| store.versions(&all[70].0, Stamp::ZERO, floor).is_ok_and(|rows| rows.len() == 1), is_right);

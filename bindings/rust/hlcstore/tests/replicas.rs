@@ -1,6 +1,6 @@
 //! Replicas: a log of items as bytes, checkpoints, and nodes after a restart.
 
-use hlcstore::{Applied, ErrorKind, Item, Node, Record, Result, Stamp, Stopped, Store};
+use hlcstore::{Applied, ErrorKind, Item, Node, Record, Result, Stamp, Stopped, Store, apply_increment};
 
 /// Appends the items of two nodes to a log: writes, deletions, reports and, at the end, a retirement.
 fn make_log() -> Result<Vec<u8>> {
@@ -81,6 +81,36 @@ fn replica_goes_on_from_a_checkpoint() {
     assert_eq!(store.vacuum(), replica.vacuum());
     let floor = store.floor().unwrap();
     assert_eq!(store.certificate(floor).unwrap(), replica.certificate(floor).unwrap());
+}
+
+#[test]
+fn checkpoint_becomes_a_newer_one_by_increments() {
+    let log = make_log().unwrap();
+    let places = places(&log);
+    let store = Store::open(2).unwrap();
+    store.accept_items(&log[..places[200]]).unwrap();
+    let protected = store.snapshot().unwrap();
+    let (mut saved, mut floor) = (store.checkpoint(200).unwrap(), store.floor().unwrap());
+    let mut lengths = vec![saved.len()];
+    for end in [300, 500, 601] {
+        store.accept_items(&log[..places[end]]).unwrap();
+        store.vacuum_to(floor).unwrap();
+        let increment = store.increment(floor, end as u64).unwrap();
+        saved = apply_increment(&saved, &increment).unwrap();
+        lengths.push(saved.len());
+        assert!(increment.len() < saved.len());
+        floor = store.floor().unwrap();
+
+        // The copy has the rows too that the vacuums dropped, until its next vacuum.
+        let (copy, word) = Store::restore(&saved).unwrap();
+        assert_eq!((word, copy.horizon(), copy.floor()), (end as u64, store.horizon(), Ok(floor)));
+        assert!(copy.rows().unwrap() > store.rows().unwrap());
+        copy.vacuum_to(copy.horizon().unwrap()).unwrap();
+        assert_alike(&store, &copy);
+        let same = copy.snapshot_by_id(protected.id()).unwrap();
+        assert_eq!(same.digest(..), protected.digest(..));
+    }
+    assert!(lengths.is_sorted());
 }
 
 #[test]

@@ -1,7 +1,7 @@
 -- The byte, and the value after it.
 use Rattle.std.proofs.Common.{[], ◌∷◌, arith}
 use Rattle.hlc_range_calls.specs.Listing.{sized}
-use Rattle.hlc_range_calls.proofs.Bytes.{put_both}
+use Rattle.hlc_range_calls.proofs.ByteLemmas.{put_both}
 use Rattle.hlc_calls.proofs.read_all.put_answer.Goals as goal
 
 pub returns-else-room-value : goal.returns-else-room-value

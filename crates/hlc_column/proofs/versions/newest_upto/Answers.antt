@@ -2,7 +2,7 @@
 use Rattle.std.proofs.Common.{Some, sym, subst, ◌∙◌}
 use Rattle.std.proofs.lemmas.Option.{slice_get_within}
 use Rattle.hlc_column.specs.Versions.{IsNewestLeft}
-use Rattle.hlc_column.proofs.OfKey.{at_place, one_found, one_newer, one_older}
+use Rattle.hlc_column.proofs.KeyLemmas.{at_place, one_found, one_newer, one_older}
 use Rattle.hlc_column.proofs.versions.newest_upto.Goals as goal
 use Rattle.hlc_column.proofs.versions.newest_upto.Goals.{In-Some}
 

@@ -3,7 +3,7 @@ use Rattle.std.proofs.Common.{◌∷◌, ◌∙◌, Some, sym, ap, ap₂, ℕ}
 use Rattle.std.specs.Prelude.{option_copied}
 use Rattle.std.proofs.lemmas.Option.{slice_get_within}
 use Rattle.hlc_column.specs.Versions.{versions_left}
-use Rattle.hlc_column.proofs.OfKey.{next_is, none_is, read_is}
+use Rattle.hlc_column.proofs.KeyLemmas.{next_is, none_is, read_is}
 use Rattle.hlc_column.proofs.versions.next_version.Goals as goal
 
 pub returns-in_err-place : goal.returns-in_err-place

@@ -2,7 +2,7 @@
 use Rattle.std.proofs.Common.{◌∙◌, ◌<◌, ◌≤◌, ◌-◌, Some, None, sym, ap, leb, length, arith}
 use Rattle.std.specs.Prelude.{option_copied}
 use Rattle.hlc_range_calls.specs.Changes.{change_bytes}
-use Rattle.hlc_range_calls.proofs.Bytes.{none_length, some_length, same_le, no_le}
+use Rattle.hlc_range_calls.proofs.ByteLemmas.{none_length, some_length, same_le, no_le}
 use Rattle.hlc_range_calls.proofs.changes.fits.Goals as goal
 
 pub returns-then-room-ge9 : goal.returns-then-room-ge9

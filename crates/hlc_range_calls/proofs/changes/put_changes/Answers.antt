@@ -4,7 +4,7 @@ use Rattle.std.specs.Prelude.{Option, option_copied}
 use Rattle.std.proofs.lemmas.Bool.{leb-true}
 use Rattle.hlc_range_calls.specs.Changes.{change_bytes}
 use Rattle.hlc_range_calls.proofs.Differing.{change_long}
-use Rattle.hlc_range_calls.proofs.Scans.{room-left, few-put, put-one}
+use Rattle.hlc_range_calls.proofs.ScanLemmas.{room-left, few-put, put-one}
 use Rattle.hlc_range_calls.proofs.changes.put_changes.Goals as goal
 
 pub overflow_add-count : goal.overflow_add-count

@@ -1,7 +1,7 @@
 -- Both walks over the snapshot have its one list of answers.
 use Rattle.std.proofs.Common.{◌≡◌, ◌≤◌, List, ℕ, length, subst, arith}
 use Rattle.hlc_range_calls.specs.Listing.{listing_bytes}
-use Rattle.hlc_range_calls.proofs.Pairs.{one_list, listed_at, put_whole, put_none}
+use Rattle.hlc_range_calls.proofs.PairLemmas.{one_list, listed_at, put_whole, put_none}
 use Rattle.hlc_range_calls.proofs.list.list.Goals as goal
 
 pub put_listing-requires : goal.put_listing-requires

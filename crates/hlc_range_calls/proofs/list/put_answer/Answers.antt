@@ -1,7 +1,7 @@
 -- The byte, and the value after it.
 use Rattle.std.proofs.Common.{[], ◌∷◌}
 use Rattle.hlc_range_calls.specs.Listing.{sized}
-use Rattle.hlc_range_calls.proofs.Bytes.{put_both}
+use Rattle.hlc_range_calls.proofs.ByteLemmas.{put_both}
 use Rattle.hlc_range_calls.proofs.list.put_answer.Goals as goal
 
 pub returns-in-Some-clause-put : goal.returns-in-Some-clause-put

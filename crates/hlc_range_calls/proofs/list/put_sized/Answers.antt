@@ -1,7 +1,7 @@
 -- The number, and the bytes after it.
 use Rattle.std.proofs.Common.{length, w64}
 use Rattle.std.specs.Int.{to_le_bytes}
-use Rattle.hlc_range_calls.proofs.Bytes.{put_both}
+use Rattle.hlc_range_calls.proofs.ByteLemmas.{put_both}
 use Rattle.hlc_range_calls.proofs.list.put_sized.Goals as goal
 
 pub returns-clause-put : goal.returns-clause-put

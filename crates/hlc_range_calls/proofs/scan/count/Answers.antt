@@ -1,5 +1,5 @@
 -- The pairs of the view's range are those of the snapshot.
-use Rattle.hlc_range_calls.proofs.Scans.{counted_at}
+use Rattle.hlc_range_calls.proofs.ScanLemmas.{counted_at}
 use Rattle.hlc_range_calls.proofs.scan.count.Goals as goal
 
 pub returns : goal.returns

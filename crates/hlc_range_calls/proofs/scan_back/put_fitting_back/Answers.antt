@@ -3,7 +3,7 @@ use Rattle.std.proofs.Common.{◌≤◌, ◌+◌, ◌-◌, ◌∙◌, ℕ, List,
 use Rattle.std.proofs.lemmas.Bool.{leb-true}
 use Rattle.std.specs.Prelude.{false}
 use Rattle.hlc_range_calls.specs.Listing.{pair_bytes}
-use Rattle.hlc_range_calls.proofs.Scans.{part_length, room-left, few-put, put-one}
+use Rattle.hlc_range_calls.proofs.ScanLemmas.{part_length, room-left, few-put, put-one}
 use Rattle.hlc_range_calls.proofs.scan_back.put_fitting_back.Goals as goal
 
 pub overflow_add-count : goal.overflow_add-count

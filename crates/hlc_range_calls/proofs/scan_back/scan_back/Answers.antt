@@ -1,5 +1,5 @@
 -- The pairs of the view's range are those of the snapshot.
-use Rattle.hlc_range_calls.proofs.Scans.{scanned_back_at}
+use Rattle.hlc_range_calls.proofs.ScanLemmas.{scanned_back_at}
 use Rattle.hlc_range_calls.proofs.scan_back.scan_back.Goals as goal
 
 pub returns-in-Some : goal.returns-in-Some

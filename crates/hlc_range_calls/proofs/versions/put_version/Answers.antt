@@ -3,7 +3,7 @@ use Rattle.std.proofs.Common.{◌≡◌, ◌∙◌, ap}
 use Rattle.std.specs.Prelude.{option_copied}
 use Rattle.std.specs.Int.{to_le_bytes, w16, w64}
 use Rattle.hlc_range_calls.specs.Listing.{answer_bytes}
-use Rattle.hlc_range_calls.proofs.Bytes.{put_three}
+use Rattle.hlc_range_calls.proofs.ByteLemmas.{put_three}
 use Rattle.hlc_range_calls.proofs.versions.put_version.Goals as goal
 
 pub returns-clause-put : goal.returns-clause-put

@@ -4,7 +4,7 @@ use Rattle.std.specs.Prelude.{option_copied}
 use Rattle.hlc_column.specs.Rows.{rows_of, rows_with}
 use Rattle.hlc_columns.specs.Table.{cells_in}
 use Rattle.hlc_column.specs.Versions.{AreVersions}
-use Rattle.hlc_column.proofs.OfKey.{column_apart, column_rows, versions_are}
+use Rattle.hlc_column.proofs.KeyLemmas.{column_apart, column_rows, versions_are}
 use Rattle.hlc_columns.proofs.table.Table.versions.Goals as goal
 use Rattle.hlc_columns.proofs.table.Table.versions.Goals.{After-column}
 

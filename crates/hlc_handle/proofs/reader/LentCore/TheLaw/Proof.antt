@@ -13,4 +13,5 @@ pub shares : statement
 shares = let R = core.the_row in let L = core_laws.the_row_laws.shr_laws in
     of_Lends C.struct C.the_codes C.the_heap C.the_lent (λ d p. shares_laws R L d.at d.value)
     (copy_shared RawPtr-field RawPtr-copy, tt)
-    (λ M 𝓤 𝓛 d p. lends (lent_at R d.at d.value) (lent_at_shr_laws R L d.at d.value) 𝓛 (C.the_row).lives)
+    (λ M 𝓤 𝓛 d p.
+    lends (lent_at R d.at d.value.1) (lent_at_shr_laws R L d.at d.value.1) d.value.0 𝓛 (C.the_row).lives)

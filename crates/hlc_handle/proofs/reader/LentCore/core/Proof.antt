@@ -65,16 +65,16 @@ core_spec 𝓤 𝓛 𝓜 𝓡 wired =
     let Post : Val → SProp 𝓤 = (walk_of 𝓛 ended hs c).post z in let Run : List Val
     → SProp 𝓤 = λ ws. WpFn 𝓤 𝓛.H 𝓣.C 𝓣.Λ fn ws Post in
     let κ : Lft = z.0.0.0 in let q : Share = z.0.1.0 in let self = z.0.3.0 in let d = self.now in
-    let b = self.ref_ptr.0 in let o = self.ref_ptr.1 in let x = d.value in
+    let b = self.ref_ptr.0 in let o = self.ref_ptr.1 in let x = d.value.1 in
     let pb = block_of d.at in let po = count_of d.at in
     let w : Val = vptr b o in
     qed 𝓛 (((‵ (flft κ q) ⊛ ‵ ftrue) ⊛ ‵ (owns
     (types_at ended.signature.params z.0.0) z.0.3 z.0.4)) ∷ raw (emp 𝓤) ∷ []) ∵
     split ! $ split ! $ move ! (2 ∷ []) $ fsplit ! $ fsplit ! $ feq_l ! (λ ev.
     keep ! (0 ∷ 2 ∷ 3 ∷ []) $
-    use1 𝓛 (‵ (hidden_shr Words κ (d.at, tt) b o) ⊛ ‵ (fhide (lent_shares R d.at x κ))) (id⊢ 𝓤 _) $ split ! $
+    use1 𝓛 (‵ (hidden_shr Words κ (d.at, tt) b o) ⊛ ‵ (fhide (lent_shares R d.at d.value κ))) (id⊢ 𝓤 _) $ split ! $
     move ! (1 ∷ []) $ unhide ! $
-    use1 𝓛 (‵ (lent_at R d.at x κ)) (sees (lent_at R d.at x) (lent_at_shr_laws R LR d.at x) 𝓛 κ) $ fsplit ! $
+    use1 𝓛 (‵ (lent_at R d.at x κ)) (sees (lent_at R d.at x) (lent_at_shr_laws R LR d.at x) d.value.0 𝓛 κ) $ fsplit ! $
     use1 𝓛 (raw (fact 𝓤 (InBlock d.at))) (in_block_says 𝓛 d.at) $ heard ! (InBlock d.at) (λ inb. hide ! $
     -- [what every reader sees; the words; the tokens]
     move ! (1 ∷ 2 ∷ []) $

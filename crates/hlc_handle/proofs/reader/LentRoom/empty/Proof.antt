@@ -15,7 +15,7 @@ use denote.Steps.{nothing}
 use denote.Triple.Walked.{Stays, walk_of}
 use Rattle.std.proofs.raw_atomic.Walks.{proved_at, leaves}
 use Rattle.hlc_core.specs.contracts.store.Core as core
-use Rattle.hlc_handle.specs.Lent.{lent_room_owns}
+use Rattle.hlc_handle.specs.Lent.{Loan, lent_room_owns}
 use Rattle.hlc_handle.specs.contracts.reader.LentRoom as room
 use Rattle.hlc_handle.proofs.Rooms.{one, room_in}
 use Rattle.hlc_handle.specs.contracts.reader.LentRoom.empty.{ended, clauses}
@@ -30,7 +30,7 @@ empty_spec 𝓤 𝓛 𝓜 𝓡 wired =
     proved_at 𝓛 ended hs c 𝓜 𝓡 tt #self fn (code.unfolded 𝓤 𝓛.H 𝓜 𝓡 wired) (λ z are.
     let Post : Val → SProp 𝓤 = (walk_of 𝓛 ended hs c).post z in
     let out : (room.the_row).Denot = record { at = null_ptr; value = None } in let w : Val = one (vint w64 0) in
-    let None' : Option (core.the_row).Denot = None in
+    let None' : Option (Loan core.the_row) = None in
     qed 𝓛 ((‵ ftrue ⊛ ‵ ftrue) ∷ ‵ ftrue ∷ []) ∵
     enter ! 𝓣.C 𝓣.Λ fn [] Post $ alloc_all ! (λ l. pass_all ! refl tt $
     sets ! (agg ! (and_then ! (lit ! tt) (no_more !))) refl (tt, (record { fits = lit< tt }, tt)) $

@@ -19,7 +19,7 @@ use denote.Triple.Walked.{Stays, stay_dropped, walk_of}
 use Rattle.core.proofs.alloc.Calls.{Goes-blank}
 use Rattle.std.proofs.raw_atomic.Walks.{proved_at, leaves}
 use Rattle.hlc_core.specs.contracts.store.Core as core
-use Rattle.hlc_handle.specs.Lent.{lent_owns, lent_room_owns}
+use Rattle.hlc_handle.specs.Lent.{Loan, lent_owns, lent_room_owns}
 use Rattle.hlc_handle.specs.contracts.reader.LentCore as lent
 use Rattle.hlc_handle.specs.contracts.reader.LentRoom as room
 use Rattle.hlc_handle.proofs.Rooms.{one, some_is, room_in, room_out}
@@ -43,7 +43,7 @@ lent_spec 𝓤 𝓛 𝓜 𝓡 wired =
     (types_at ended.signature.params z.0.0) z.0.3 z.0.4)) ∷ raw (fact 𝓤 (IsSome d.value)) ∷ []) ∵
     move ! (1 ∷ []) $ heard ! (IsSome d.value) (λ there. let found = some_is d.value there in let x = found.0 in
     split ! $ move ! (1 ∷ []) $ fsplit ! $ room_out ! d.at (lent_room_owns core.the_row d.at d.value) z.0.4.0 (λ ws.
-    rewrite ! 0 (λ (y : Option (core.the_row).Denot). ‵ (lent_room_owns core.the_row d.at y)) found.1 refl $
+    rewrite ! 0 (λ (y : Option (Loan core.the_row)). ‵ (lent_room_owns core.the_row d.at y)) found.1 refl $
     in_a_block ! d.at (λ p. lent_owns core.the_row p x) (nowhere 𝓛 core.the_row x) (λ b o e.
     let returned : z.0.4.0 ≡ one (vptr b o) ∷ [] = ws ∙ ap (λ (p : Ptr). one (ptr_val p) ∷ []) e in
     let w : Val = one (vptr b o) in let out : (lent.the_row).Denot = record { at = block_ptr b o; value = x } in
@@ -53,7 +53,9 @@ lent_spec 𝓤 𝓛 𝓜 𝓡 wired =
     sets ! (of_opd ! (get_in ! (fld ! refl (stop !)) (sub ! 0 refl (whole !)))) refl (tt, tt) $
     sets ! (of_opd ! (get ! refl)) refl (tt, tt) $
     sets ! (agg ! (and_then ! (get ! refl) (no_more !))) refl (tt, (tt, tt)) $
-    room_in ! out.at (lent_owns core.the_row out.at out.value) $ use0 𝓛 (raw (fact 𝓤 (d.value ≡ Some x)))
-    (fact_i 𝓤 (d.value ≡ Some x) (emp 𝓤) found.1) $ nothing ! $ nothing ! $ fjoin ! $ nothing ! $
+    room_in ! out.at (lent_owns core.the_row out.at out.value) $ use0 𝓛
+    (raw (fact 𝓤 ((d.at ≡ out.at) × (d.value ≡ Some x))))
+    (fact_i 𝓤 ((d.at ≡ out.at) × (d.value ≡ Some x)) (emp 𝓤) (e, found.1)) $
+    nothing ! $ nothing ! $ fjoin ! $ nothing ! $
     returns ! (look_at ! 0 refl) $ free_all ! refl $ keep ! (0 ∷ 1 ∷ 3 ∷ 2 ∷ []) $
     by ! (leaves 𝓛 ended hs c z w out (tt, tt) (tt, tt)))))))

@@ -19,7 +19,7 @@ use denote.Triple.Walked.{Stays, stay_dropped, walk_of}
 use Rattle.core.proofs.alloc.Calls.{Goes-blank}
 use Rattle.std.proofs.raw_atomic.Walks.{proved_at, leaves}
 use Rattle.hlc_core.specs.contracts.store.Core as core
-use Rattle.hlc_handle.specs.Lent.{lent_owns, lent_room_owns}
+use Rattle.hlc_handle.specs.Lent.{Loan, lent_owns, lent_room_owns}
 use Rattle.hlc_handle.specs.contracts.reader.LentCore as lent
 use Rattle.hlc_handle.specs.contracts.reader.LentRoom as room
 use Rattle.hlc_handle.proofs.Rooms.{one, room_in, room_out}
@@ -38,7 +38,7 @@ of_spec 𝓤 𝓛 𝓜 𝓡 wired =
     (code.unfolded 𝓤 𝓛.H 𝓜 𝓡 wired) (λ z are.
     let Post : Val → SProp 𝓤 = (walk_of 𝓛 ended hs c).post z in let Run : List Val
     → SProp 𝓤 = λ ws. WpFn 𝓤 𝓛.H 𝓣.C 𝓣.Λ fn ws Post in
-    let d = z.0.3.0 in let x = d.value in let kept : Option (core.the_row).Denot = Some x in
+    let d = z.0.3.0 in let x = d.value in let kept : Option (Loan core.the_row) = Some x in
     qed 𝓛 ((raw (alive 𝓛 ended.signature z.0.0 z.0.1) ⊛ ‵ (owns
     (types_at ended.signature.params z.0.0) z.0.3 z.0.4)) ∷ raw (emp 𝓤) ∷ []) ∵
     split ! $ move ! (1 ∷ []) $ fsplit ! $ room_out ! d.at (lent_owns core.the_row d.at d.value) z.0.4.0 (λ ws.
@@ -52,7 +52,8 @@ of_spec 𝓤 𝓛 𝓜 𝓡 wired =
     sets ! (of_opd ! (get_in ! (fld ! refl (stop !)) (sub ! 0 refl (whole !)))) refl (tt, tt) $
     sets ! (of_opd ! (get ! refl)) refl (tt, tt) $
     sets ! (agg ! (and_then ! (get ! refl) (no_more !))) refl (tt, (tt, tt)) $
-    room_in ! out.at (lent_room_owns core.the_row out.at out.value) $ use0 𝓛 (raw (fact 𝓤 (kept ≡ kept))) (fact_i 𝓤 (kept ≡ kept) (emp 𝓤) refl) $ nothing ! $
-    nothing ! $ fjoin ! $ nothing ! $
+    room_in ! out.at (lent_room_owns core.the_row out.at out.value) $ use0 𝓛
+    (raw (fact 𝓤 ((out.at ≡ d.at) × (kept ≡ kept))))
+    (fact_i 𝓤 ((out.at ≡ d.at) × (kept ≡ kept)) (emp 𝓤) (sym e, refl)) $ nothing ! $ nothing ! $ fjoin ! $ nothing ! $
     returns ! (look_at ! 0 refl) $ free_all ! refl $ keep ! (0 ∷ 1 ∷ 3 ∷ 2 ∷ []) $
     by ! (leaves 𝓛 ended hs c z w out (tt, tt) (tt, tt))))))

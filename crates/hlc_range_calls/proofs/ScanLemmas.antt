@@ -10,8 +10,8 @@ use Rattle.hlc_columns.specs.Answers.{AreAnswers, AreAnswersBack, IsBetween}
 use Rattle.hlc_range_calls.specs.Listing.{narrowed, pair_bytes, with_bytes}
 use Rattle.hlc_range_calls.specs.Scan.{end_of, part_bytes, parts_bytes, ReturnsFitting, ReturnsScan, ReturnsCount}
 use Rattle.hlc_range_calls.specs.Scan.{ReturnsScanBack}
-use Rattle.hlc_range_calls.proofs.Bytes.{pair_length, put_both}
-use Rattle.hlc_range_calls.proofs.Pairs.{same_answers}
+use Rattle.hlc_range_calls.proofs.ByteLemmas.{pair_length, put_both}
+use Rattle.hlc_range_calls.proofs.PairLemmas.{same_answers}
 
 abbrev Pair : Type 0
 Pair = List ℕ × List ℕ

@@ -1,0 +1,51 @@
+-- What was read is what the bytes are of, and the newer checkpoint is what was made of it.
+use Rattle.std.proofs.Common.{◌≡◌, ℕ, ap, sym, ◌∙◌, subst, refl, inr, rules}
+use Rattle.std.proofs.lemmas.Grind.{common_steps}
+use Rattle.hlc_wire.proofs.FieldLemmas.{ok_is}
+use Rattle.hlc_core.specs.StoreView.{StoreView, Represents, nodes}
+use Rattle.hlc_saved.specs.Reading.{saved}
+use Rattle.hlc_saved.specs.Saved.{AreOf}
+use Rattle.hlc_saved.proofs.SaveLemmas.{saved_again}
+use Rattle.hlc_increment.specs.Increment.{IncrementView, IsIncrementOf}
+use Rattle.hlc_increment.specs.Bytes.{increment_at}
+use Rattle.hlc_increment.proofs.BytesLemmas.{increment_again}
+use Rattle.hlc_increment_calls.proofs.apply.apply.Goals as goal
+
+pub returns-in-Err : goal.returns-in-Err
+returns-in-Err c = record {
+  advanced = tt;
+  represents = λ before after kept newer read past more of h spelled fits is g one. tt;
+  err = inr (inr (
+    c.in_ok-kept.kept,
+    c.in_ok-read.field-0.word,
+    c.in_ok-read.field-0.increment,
+    c.in_ok-kept.ensures,
+    c.in_ok-read.ensures,
+    inr (refl, refl),
+  ));
+}
+
+pub returns-in-Ok-new-clause-represents : goal.returns-in-Ok-new-clause-represents
+returns-in-Ok-new-clause-represents c = λ before after kept newer read past more of h spelled fits is g one.
+    let before' : ℕ = c.in_ok-kept.ensures.0 in
+    let kept' : StoreView = c.in_ok-kept.kept in
+    let older : (before', kept') ≡ (before, kept) =
+    ok_is (before', kept') (before, kept)
+    (sym c.in_ok-kept.ensures.1 ∙ ap saved of.spelled ∙ saved_again before kept of.fits) in
+    let same : kept' ≡ kept = ap (λ (x : ℕ × StoreView). x.1) older in
+    let after' : ℕ = c.in_ok-read.field-0.word in
+    let read' : IncrementView = c.in_ok-read.field-0.increment in
+    let both : (after', read') ≡ (after, read) =
+    ok_is (after', read') (after, read)
+    (sym c.in_ok-read.ensures ∙ ap increment_at spelled ∙ increment_again after read fits) in
+    let word : c.in_ok-read.after ≡ after = sym c.in_ok-read.after-is ∙ ap (λ (x : ℕ × IncrementView). x.0) both in
+    let found : read' ≡ read = ap (λ (x : ℕ × IncrementView). x.1) both in
+    let bytes : AreOf c.in-Ok-new.boxed.value.items c.in_ok-read.after c.in_ok-made.made =
+    search (rules, common_steps) in (
+      c.in_ok-made.made,
+      subst (λ w. AreOf c.in-Ok-new.boxed.value.items w c.in_ok-made.made) word bytes,
+      c.in_ok-made.ensures.represents past more newer
+          (subst (λ (k : StoreView). Represents k past) (sym same) h) g
+          (ap nodes same ∙ one)
+          (subst (λ (i : IncrementView). IsIncrementOf newer i) (sym found) is),
+    )

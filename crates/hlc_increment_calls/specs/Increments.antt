@@ -1,0 +1,76 @@
+-- How the bytes of an increment are returned, and those of the checkpoint that an older one becomes by it.
+use Rattle.std.specs.Prelude.{◌≡◌, ℕ, ◌<◌, ◌⊎◌, List, Ok, Err}
+use Rattle.hlc_wire.specs.declared.fault.WireFault.{WireFault}
+use Rattle.hlc_wire.specs.Faults.{fault_code}
+use Rattle.hlc_core.specs.StoreView.{StoreView}
+use Rattle.hlc_saved.specs.Reading.{saved}
+use Rattle.hlc_saved.specs.Saved.{AreOf}
+use Rattle.hlc_increment.specs.declared.advancing.AdvanceFault.{AdvanceFault}
+use Rattle.hlc_increment.specs.Increment.{IncrementView, IsIncrementOf, IsAdvanced, IsReason}
+use Rattle.hlc_increment.specs.Faults.{advance_code, advance_word}
+use Rattle.hlc_increment.specs.Bytes.{IncrementFits, increment_at, increment_bytes}
+
+-- the bytes are the encoding of this word and of the increment of this state since the stamp
+pub record AreIncrementOf (bytes : List ℕ) (word since : ℕ) (kept : StoreView) : Type 0 where
+  pub increment : IncrementView
+  pub of : IsIncrementOf kept increment
+  pub stamp : increment.since ≡ since
+  pub fits : IncrementFits word increment
+  pub spelled : bytes ≡ increment_bytes word increment
+
+-- the stamp is below the horizon, which is returned; or out of memory
+abbrev pub IsRefusedIncrement : StoreView → ℕ → ℕ → ℕ → Type 0
+IsRefusedIncrement kept since code horizon =
+    ((code ≡ 9) × (since < kept.horizon) × (horizon ≡ kept.horizon))
+    ⊎ ((code ≡ 15) × (horizon ≡ 0))
+
+-- the bytes are those of this checkpoint, with some word
+abbrev pub IsRead : List ℕ → StoreView → Type 0
+IsRead bytes kept = (before : ℕ) × (saved bytes ≡ Ok (before, kept))
+
+-- the bytes are those of this word and increment
+abbrev pub IsReadIncrement : List ℕ → ℕ → IncrementView → Type 0
+IsReadIncrement bytes word increment = increment_at bytes ≡ Ok (word, increment)
+
+-- out of memory
+abbrev pub IsShort : ℕ → ℕ → Type 0
+IsShort code word = (code ≡ 15) × (word ≡ 0)
+
+-- the first fault of the bytes of a checkpoint is returned; or out of memory
+abbrev pub IsNotRead : List ℕ → ℕ → ℕ → Type 0
+IsNotRead bytes code word =
+    IsShort code word
+    ⊎ ((fault : WireFault) × (saved bytes ≡ Err fault) × (code ≡ 106) × (word ≡ fault_code fault))
+
+-- the first fault of the bytes of an increment is returned; or out of memory
+abbrev pub IsNotReadIncrement : List ℕ → ℕ → ℕ → Type 0
+IsNotReadIncrement bytes code word =
+    IsShort code word
+    ⊎ ((fault : WireFault) × (increment_at bytes ≡ Err fault) × (code ≡ 110) × (word ≡ fault_code fault))
+
+-- the first reason is returned
+abbrev pub IsNotJoined : StoreView → IncrementView → ℕ → ℕ → Type 0
+IsNotJoined older increment code word =
+    (reason : AdvanceFault) × IsReason older increment reason × (code ≡ advance_code reason)
+    × (word ≡ advance_word reason)
+
+-- the bytes are those of the checkpoint that the older one becomes by the increment, with the increment's word
+pub record AreAdvanced (older increment bytes : List ℕ) : Type 0 where
+  pub kept : StoreView
+  pub word : ℕ
+  pub read : IncrementView
+  pub made : StoreView
+  pub of_older : IsRead older kept
+  pub of_increment : IsReadIncrement increment word read
+  pub advanced : IsAdvanced kept read made
+  pub spelled : AreOf bytes word made
+
+-- no bytes were made: one of both was not read, or they were not joined; or what they make is no checkpoint, since the
+-- increment is not of a later state of the store
+abbrev pub IsNotAdvanced : List ℕ → List ℕ → ℕ → ℕ → Type 0
+IsNotAdvanced older increment code word =
+    IsNotRead older code word
+    ⊎ (IsNotReadIncrement increment code word
+    ⊎ ((kept : StoreView) × (after : ℕ) × (read : IncrementView) × IsRead older kept
+    × IsReadIncrement increment after read
+    × (IsNotJoined kept read code word ⊎ ((code ≡ 111) × (word ≡ 0)))))
