@@ -1,0 +1,6 @@
+-- The increment is of this store.
+use Rattle.test_store.proofs.increments.next.Goals as goal
+
+pub returns-in-Ok-advance : goal.returns-in-Ok-advance
+returns-in-Ok-advance c = λ past more h g one.
+    c.in-Ok-advance.ensures.represents past more c.args.core.now h g one c.in-Ok.ensures.ok
