@@ -7,7 +7,7 @@ ghost use Rattle.hlc_increment.specs.Increment.{IncrementView, IsAdvanced, IsInc
 ghost use Rattle.hlc_increment.specs.Faults.{advance_code, advance_word};
 ghost use Rattle.hlc_increment.specs.Bytes.{IncrementFits, increment_bytes};
 ghost use Rattle.hlc_increment_calls.specs.Increments.{AreAdvanced, IsNotAdvanced, IsRead, IsReadIncrement};
-ghost use Rattle.hlc_increment_calls.specs.Increments.{IsNotRead, IsNotReadIncrement, IsNotJoined};
+ghost use Rattle.hlc_increment_calls.specs.Increments.{IsNotRead, IsNotReadIncrement, IsNotJoined, none_code};
 
 use hlc_core::{Checkpoint, RestoreFault};
 use hlc_increment::{AdvanceFault, DecodedIncrement, Increment, advance, decode_increment};
@@ -72,6 +72,16 @@ fn joined(older: Checkpoint, increment: Increment, word: &mut u64) -> Result<Che
     }
 }
 
+/// Returns the answer for a reason why what was made is no checkpoint, or for out of memory.
+fn none_code(fault: RestoreFault) -> u32
+    ensures { result ≡ none_code fault }
+{
+    match fault {
+        RestoreFault::NoMemory => 15,
+        _ => 111,
+    }
+}
+
 /// Makes the bytes of a newer checkpoint of those of an older one and of an increment, with the word of the increment.
 /// Returns them; or, in this order: 106, the older bytes are no encoding, and the number of their first fault; 110, the
 /// increment is none, and the number; 107, one of both is no checkpoint, and the number of the reason; 111, the
@@ -101,8 +111,7 @@ pub fn apply(
     *word = 0;
     let bytes = match encode_checkpoint(alloc, &made, after) {
         Ok(bytes) => bytes,
-        Err(RestoreFault::NoMemory) => return Err(15),
-        Err(_) => return Err(111),
+        Err(fault) => return Err(none_code(fault)),
     };
     match Box::new(alloc, bytes) {
         Ok(boxed) => Ok(boxed),

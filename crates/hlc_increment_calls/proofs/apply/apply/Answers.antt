@@ -21,7 +21,14 @@ returns-in-Err c = record {
     c.in_ok-read.field-0.increment,
     c.in_ok-kept.ensures,
     c.in_ok-read.ensures,
-    inr (refl, refl),
+    inr (
+      c.in_ok-made.made,
+      c.in-Err.fault,
+      c.in_ok-made.ensures.ok,
+      c.in-Err.ensures.err,
+      c.none_code.ensures,
+      refl,
+    ),
   ));
 }
 
