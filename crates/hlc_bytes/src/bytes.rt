@@ -17,7 +17,7 @@ use std::{fmt, slice};
 
 /// A key or a value. In contracts it is the list of its bytes.
 ///
-/// Up to 22 bytes are stored in place, without a heap allocation. Bytes that are made from a vector
+/// Up to 30 bytes are stored in place, without a heap allocation. Bytes that are made from a vector
 /// keep that vector, however short it is, and return it.
 #[derive(Drop)]
 pub struct Bytes {
@@ -44,11 +44,11 @@ impl Model for Bytes {
 }
 
 impl Bytes {
-    /// Copies these bytes. Up to 22 bytes need no memory, so copying them is never refused.
+    /// Copies these bytes. Up to 30 bytes need no memory, so copying them is never refused.
     #[inline]
     pub fn from_slice(alloc: Global, bytes: &[u8]) -> Result<Bytes, NoMemory>
         ensures bytes { IfOk result (λ copy. copy ≡ bytes.now) }
-        ensures short { length bytes.now ≤ 22 → IsOk result }
+        ensures short { length bytes.now ≤ 30 → IsOk result }
     {
         if bytes.len() <= MOST_SHORT_BYTES {
             return Ok(Bytes {
@@ -88,7 +88,7 @@ impl Bytes {
     /// place. Only a new one needs memory; if there is none, the error returns the bytes.
     pub fn into_vec(self, alloc: Global) -> Result<Vec<u8>, AllocFailed<Bytes>>
         ensures bytes { MatchResult result (λ vec. vec.items ≡ self) (λ refused. refused.value ≡ self) }
-        ensures long { 22 < length self → IsOk result }
+        ensures long { 30 < length self → IsOk result }
     {
         let Bytes { storage } = self;
         match storage {
@@ -166,7 +166,7 @@ impl<'a> IntoIterator for &'a Bytes {
 impl Clone for Bytes {
     ghost is_clone = { λ bytes copy. copy ≡ bytes };
 
-    ghost is_infallible = { λ bytes. length bytes ≤ 22 };
+    ghost is_infallible = { λ bytes. length bytes ≤ 30 };
 
     fn clone(&self) -> Result<Bytes, NoMemory> {
         match &self.storage {

@@ -4,14 +4,14 @@ ghost use Rattle.std.specs.Prelude.{◌≡◌, ◌≤◌, length, IsOk};
 use std::marker::Model;
 
 /// The maximum number of bytes that are stored in place, without a heap allocation.
-pub const MOST_SHORT_BYTES: usize = 22;
+pub const MOST_SHORT_BYTES: usize = 30;
 
-/// At most 22 bytes are stored in place.
-pub fn most_short_bytes_are_22()
-    ensures { MOST_SHORT_BYTES ≡ 22 }
+/// At most 30 bytes are stored in place.
+pub fn most_short_bytes_are_30()
+    ensures { MOST_SHORT_BYTES ≡ 30 }
 {}
 
-/// At most 22 bytes, in place. In contracts it is the list of them.
+/// At most 30 bytes, in place. In contracts it is the list of them.
 #[derive(Drop)]
 pub(crate) struct Short {
     len: u8,
@@ -28,14 +28,14 @@ impl Model for Short {
 
     ghost view = { λ short. take short.len short.bytes };
 
-    ghost invariant = { λ short. short.len ≤ 22 };
+    ghost invariant = { λ short. short.len ≤ 30 };
 }
 
 impl Short {
     /// Copies these bytes.
     #[inline]
     pub(crate) fn of(items: &[u8]) -> Short
-        requires { length items.now ≤ 22 }
+        requires { length items.now ≤ 30 }
         ensures { result ≡ items.now }
     {
         let len = items.len();
@@ -51,7 +51,7 @@ impl Short {
     #[inline]
     pub(crate) fn as_slice(&self) -> &[u8]
         ensures bytes { result.now ≡ self.now }
-        ensures few { length self.now ≤ 22 }
+        ensures few { length self.now ≤ 30 }
     {
         &self.bytes[..self.len as usize]
     }

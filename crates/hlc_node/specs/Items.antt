@@ -24,14 +24,14 @@ body_refusal Retire = None
 abbrev pub an_item : ℕ → ℕ → ℕ → Body → Item
 an_item node number stamp body = record { node = node; number = number; stamp = stamp; body = body }
 
--- there is no value, or one of at most 22 bytes
+-- there is no value, or one of at most 30 bytes
 abbrev pub IsShortValue : Option (List ℕ) → Type 0
 IsShortValue None = ⊤
-IsShortValue (Some value) = length value ≤ 22
+IsShortValue (Some value) = length value ≤ 30
 
--- if it is a write, its key and its value have at most 22 bytes each
+-- if it is a write, its key and its value have at most 30 bytes each
 abbrev pub IsShort : Body → Type 0
-IsShort (Write key value) = (length key ≤ 22) × IsShortValue value
+IsShort (Write key value) = (length key ≤ 30) × IsShortValue value
 IsShort Report = ⊤
 IsShort Retire = ⊤
 

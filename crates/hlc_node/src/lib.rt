@@ -9,7 +9,7 @@ mod laws;
 mod node;
 mod row;
 
-pub use hlc_bytes::{Bytes, MOST_SHORT_BYTES, ValueOrMark, most_short_bytes_are_22, value_slice};
+pub use hlc_bytes::{Bytes, MOST_SHORT_BYTES, ValueOrMark, most_short_bytes_are_30, value_slice};
 pub use hlc_clock::Stamp;
 pub use item::{
     Body, BodyFault, Item, MOST_KEY_BYTES, MOST_VALUE_BYTES, Message, body_fault,

@@ -29,7 +29,7 @@ impl Row {
 impl Clone for Row {
     ghost is_clone = { λ row copy. copy ≡ row };
 
-    ghost is_infallible = { λ row. (length row.key ≤ 22) × IsShortValue row.value };
+    ghost is_infallible = { λ row. (length row.key ≤ 30) × IsShortValue row.value };
 
     fn clone(&self) -> Result<Row, NoMemory> {
         Ok(Row {

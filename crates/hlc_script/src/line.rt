@@ -85,7 +85,7 @@ fn owned_write(
     })
 }
 
-/// Returns a copy of the bytes. Up to 22 bytes that are their own spelling take no memory.
+/// Returns a copy of the bytes. Up to 30 bytes that are their own spelling take no memory.
 #[inline(always)]
 pub(crate) fn owned(alloc: Global, spelled: &Spelled<'_>) -> Result<Bytes, NoMemory>
     ensures { IfOk result (λ owned. owned ≡ spelled.now) }
