@@ -1,7 +1,7 @@
 -- From a leaf and a slot to the position in the whole list, and what is known of that position.
-use Rattle.std.proofs.Common.{◌≡◌, ◌≤◌, ◌<◌, ◌+◌, ◌-◌, ◌++◌, ◌∷◌, ◌∙◌, ℕ, zero, suc, List, [], get_or, length, arith}
+use Rattle.std.proofs.Common.{◌≡◌, ◌≤◌, ◌<◌, ◌+◌, ◌-◌, ◌++◌, ◌∷◌, ◌∙◌, ℕ, List, [], get_or, length, arith}
 use Rattle.std.proofs.Common.{refl, ap, sym, subst, take, drop}
-use Rattle.std.proofs.Common.{Bool, true, false, None, Some, Greater, All}
+use Rattle.std.proofs.Common.{Bool, true, false, None, Some, Less, Greater, All, ◌⊎◌}
 use Rattle.std.specs.Prelude.{slice_get}
 use Rattle.std.specs.List.{insert}
 use Rattle.std.specs.List.Sorted.{IsStrictlySortedBy}
@@ -13,10 +13,10 @@ use Rattle.std.proofs.lemmas.List.Concat.{flat_map-append}
 use Rattle.std.proofs.lemmas.List.{take_all, drop_all}
 use Rattle.std.proofs.lemmas.List.{length-append, drop_more, get_or-map, length-map, length-drop}
 use Rattle.hlc_index.specs.Entries.{keys_in, key_cmp, is_key, IsSlot, IsAboveAt, IsUptoAt, first_key, first_keys}
-use Rattle.hlc_index.specs.Entries.{entries_in, entries_with}
+use Rattle.hlc_index.specs.Entries.{entries_in, entries_with, IsGap}
 use Rattle.hlc_index.proofs.Joined.{joined_all, insert_front, insert_back}
 use Rattle.hlc_index.proofs.SlotLemmas.{parts, absent_lookup, inserted_at, found_lookup, ascend_with, entry_joined}
-use Rattle.hlc_index.proofs.SlotLemmas.{slot_joined, none_some}
+use Rattle.hlc_index.proofs.SlotLemmas.{slot_joined}
 use Rattle.hlc_index.proofs.Heads.{length_keys}
 
 module _ {V : Type 0} where
@@ -133,30 +133,87 @@ module _ {V : Type 0} where
   )
 
   -- ---- the look-up of a key
+  -- a key that is at no slot of its leaf belongs there
+  pub gap_there : (ls : List (List (List ℕ × V))) (count slot : ℕ) (key : List ℕ) (leaf : List (List ℕ × V)) (b : Bool)
+      → All (λ leaf. 0 < length leaf) ls
+      → (count ≡ 0 → ⊥) → count ≤ length ls → IsUptoAt (first_keys ls) count key → IsAboveAt (first_keys ls) count key
+      → leaf ≡ get_or ls (count - 1) [] → IsSlot (keys_in leaf) key slot b → b ≡ false
+      → (slot ≤ length (get_or ls (count - 1) []))
+      × IsSlot (keys_in (entries_in ls)) key (length (entries_in (take (count - 1) ls)) + slot) false
+  gap_there ls count slot key leaf true filled some inside upto above own is not_there = absurd (true≢false not_there)
+  gap_there ls count slot key leaf false filled some inside upto above own is not_there = (
+    let le = is.0 in let m = length_keys leaf in let same = ap length own in omega (arith, le, m, same),
+    slot_whole ls count slot key filled (omega (arith, some)) inside upto above
+        (subst (λ l. IsSlot (keys_in l) key slot false) own is),
+  )
+
+  -- a key below all leaves belongs at the first slot
+  pub gap_first : (ls : List (List (List ℕ × V))) (key : List ℕ) (count : ℕ) → All (λ leaf. 0 < length leaf) ls
+      → IsAboveAt (first_keys ls) count key → count ≡ 0 → IsGap ls key 0 0
+  gap_first ls key count filled above none = (
+    some_leaf ls,
+    omega arith,
+    slot_first ls key filled (subst (λ n. IsAboveAt (first_keys ls) n key) none above),
+  )
+    where
+      some_leaf : (xs : List (List (List ℕ × V))) → (0 < length xs) ⊎ (xs ≡ [])
+      some_leaf [] = inr refl
+      some_leaf (x ∷ xs) = inl (omega arith)
+
+  pub gap_empty : (ls : List (List (List ℕ × V))) (key : List ℕ) → length ls ≡ 0 → IsGap ls key 0 0
+  gap_empty [] key none =
+      (inr refl, omega arith, (omega arith, (λ some. absurd (omega (arith, some))), λ some. absurd (omega (arith, some))))
+  gap_empty (x ∷ xs) key none = absurd (omega (arith, none))
+
+  -- a key above the last one belongs after all
+  pub gap_end : (ls : List (List (List ℕ × V))) (count slot : ℕ) (key : List ℕ) (leaf : List (List ℕ × V))
+      → (count ≡ 0 → ⊥) → count ≡ length ls → leaf ≡ get_or ls (count - 1) [] → 0 < length leaf → slot ≡ length leaf
+      → key_cmp (get_or (keys_in leaf) (slot - 1) []) key ≡ Less → IsGap ls key (count - 1) slot
+  gap_end ls count slot key leaf some all own filled end below =
+      let inside : count - 1 < length ls = omega (arith, some, all) in
+      let same = ap length own in
+      let long = length_keys leaf in
+      let slot_in : IsSlot (keys_in leaf) key slot false = (
+        omega (arith, end, long),
+        (λ more. below),
+        λ lt. absurd (omega (arith, lt, end, long)),
+      ) in
+      let after : drop (count - 1 + 1) ls ≡ [] = drop_all (count - 1 + 1) ls (omega (arith, some, all)) in (
+        inl inside,
+        omega (arith, end, same),
+        subst (λ l. IsSlot (keys_in l) key (length (entries_in (take (count - 1) ls)) + slot) false)
+            (sym (joined_all ls (count - 1) inside))
+            (slot_joined (entries_in (take (count - 1) ls)) (get_or ls (count - 1) []) (entries_in (drop (count - 1 + 1)
+            ls)) key slot
+            (omega (arith, filled, end)) (subst (λ l. IsSlot (keys_in l) key slot false) own slot_in)
+            (λ more. let none = ap (λ l. length (entries_in l)) after in absurd (omega (arith, more, none)))),
+      )
+
+  -- and no entry has a key that belongs at a slot
+  pub gap_absent : (ls : List (List (List ℕ × V))) (key : List ℕ) (at slot : ℕ)
+      → IsStrictlySortedBy key_cmp (keys_in (entries_in ls)) → IsGap ls key at slot
+      → lookup (is_key key) (entries_in ls) ≡ None
+  gap_absent ls key at slot up gap =
+      absent_lookup (entries_in ls) key (length (entries_in (take at ls)) + slot)
+      (parts (entries_in ls) key (length (entries_in (take at ls)) + slot) up gap.2)
+
   pub none_first : (ls : List (List (List ℕ × V))) (now : List (List ℕ × V)) (key : List ℕ) (count : ℕ) → All (λ leaf. 0
       < length leaf) ls
       → IsAboveAt (first_keys ls) count key → count ≡ 0 → IsStrictlySortedBy key_cmp (keys_in (entries_in ls)) →
       entries_in ls ≡ now
       → None ≡ lookup (is_key key) now
   none_first ls now key count filled above none up view =
-      sym (ap (lookup (is_key key)) (sym view)
-      ∙ absent_lookup (entries_in ls) key 0 (parts (entries_in ls) key 0 up
-      (slot_first ls key filled (subst (λ n. IsAboveAt (first_keys ls) n key) none above))))
+      sym (ap (lookup (is_key key)) (sym view) ∙ gap_absent ls key 0 0 up (gap_first ls key count filled above none))
 
   pub none_there : (ls : List (List (List ℕ × V))) (now : List (List ℕ × V)) (count slot : ℕ) (key : List ℕ)
       (leaf : List (List ℕ × V)) (b : Bool) → All (λ leaf. 0 < length leaf) ls
       → (count ≡ 0 → ⊥) → count ≤ length ls → IsUptoAt (first_keys ls) count key → IsAboveAt (first_keys ls) count key
       → leaf ≡ get_or ls (count - 1) [] → IsSlot (keys_in leaf) key slot b → b ≡ false
       → IsStrictlySortedBy key_cmp (keys_in (entries_in ls)) → entries_in ls ≡ now → None ≡ lookup (is_key key) now
-  none_there ls now count slot key leaf true filled some inside upto above own is not_there up view = absurd (true≢false
-      not_there)
-  none_there ls now count slot key leaf false filled some inside upto above own is not_there up view =
-      let more : 0 < count = omega (arith, some) in
-      let n = place ls count slot key filled more inside upto above in
+  none_there ls now count slot key leaf b filled some inside upto above own is not_there up view =
+      let at = gap_there ls count slot key leaf b filled some inside upto above own is not_there in
       sym (ap (lookup (is_key key)) (sym view)
-      ∙ absent_lookup (entries_in ls) key n (parts (entries_in ls) key n up
-      (slot_whole ls count slot key filled more inside upto above (subst (λ l. IsSlot (keys_in l) key slot false) own
-      is))))
+      ∙ gap_absent ls key (count - 1) slot up (inl (omega (arith, some, inside)), at.0, at.1))
 
   pub some_there : (ls : List (List (List ℕ × V))) (now : List (List ℕ × V)) (count slot : ℕ) (key : List ℕ)
       (leaf : List (List ℕ × V)) (b : Bool) (v : V) → All (λ leaf. 0 < length leaf) ls
@@ -173,30 +230,6 @@ module _ {V : Type 0} where
       (ap (λ l. slice_get l slot) (sym own) ∙ there ∙ ap (λ k. Some (k, v)) is.1) up)
 
   -- ---- adding a key
-  entry_at : (es : List (List ℕ × V)) (n : ℕ) → n < length es → (v : V) × (slice_get es n ≡ Some (
-    get_or (keys_in es) n
-        [],
-    v,
-  ))
-  entry_at [] n lt = absurd (omega (arith, lt))
-  entry_at (e ∷ es) zero lt = (e.1, refl)
-  entry_at (e ∷ es) (suc n) lt = entry_at es n (omega (arith, lt))
-
-  -- a key that is new is at no slot
-  pub new_slot : (ls : List (List (List ℕ × V))) (now : List (List ℕ × V)) (count slot : ℕ) (key : List ℕ)
-      (leaf : List (List ℕ × V)) (b : Bool) → All (λ leaf. 0 < length leaf) ls
-      → (count ≡ 0 → ⊥) → count ≤ length ls → IsUptoAt (first_keys ls) count key → IsAboveAt (first_keys ls) count key
-      → leaf ≡ get_or ls (count - 1) [] → IsSlot (keys_in leaf) key slot b
-      → IsStrictlySortedBy key_cmp (keys_in (entries_in ls)) → entries_in ls ≡ now → lookup (is_key key) now ≡ None
-      → IsSlot (keys_in (get_or ls (count - 1) [])) key slot false
-  new_slot ls now count slot key leaf false filled some inside upto above own is up view new =
-      subst (λ l. IsSlot (keys_in l) key slot false) own is
-  new_slot ls now count slot key leaf true filled some inside upto above own is up view new =
-      let lt : slot < length leaf = (let lt = is.0 in let m = length_keys leaf in omega (arith, lt, m)) in
-      let e = entry_at leaf slot lt in
-      absurd (none_some (sym new ∙ sym (some_there ls now count slot key leaf true e.0 filled some inside upto above own
-      is refl e.1 up view)))
-
   pub grown : (ls new : List (List (List ℕ × V))) (now : List (List ℕ × V)) (key : List ℕ) (v : V) (n : ℕ)
       → IsStrictlySortedBy key_cmp (keys_in (entries_in ls)) → entries_in ls ≡ now → IsSlot (keys_in (entries_in ls))
       key n false

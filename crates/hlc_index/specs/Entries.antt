@@ -1,6 +1,6 @@
 -- Keys with their values, and the position of a key among them.
 use Rattle.std.specs.Prelude.{◌≡◌, ◌≢◌, ◌-◌, ◌+◌, ◌<◌, ◌≤◌, ℕ, Bool, true, false, List, map, length, slice_index_or, []}
-use Rattle.std.specs.Prelude.{slice_set, flat_map, take, drop, ◌++◌}
+use Rattle.std.specs.Prelude.{slice_set, flat_map, take, drop, ◌++◌, ◌⊎◌}
 use Rattle.std.specs.Prelude.{Option, None, Some}
 use Rattle.std.specs.Map.{lookup}
 use Rattle.std.specs.List.{insert}
@@ -76,6 +76,12 @@ abbrev pub IsEntryAt : {V : Type 0} → List (List (List ℕ × V)) → List ℕ
 IsEntryAt leaves key at slot =
     (at < length leaves) × (slot < length (slice_index_or leaves at []))
     × (slice_index_or (keys_in (slice_index_or leaves at [])) slot [] ≡ key)
+
+-- no entry has a key, and it belongs at a slot of a leaf, or at the first one of an index without leaves
+abbrev pub IsGap : {V : Type 0} → List (List (List ℕ × V)) → List ℕ → ℕ → ℕ → Type 0
+IsGap leaves key at slot =
+    ((at < length leaves) ⊎ (leaves ≡ [])) × (slot ≤ length (slice_index_or leaves at []))
+    × IsSlot (keys_in (entries_in leaves)) key (length (entries_in (take at leaves)) + slot) false
 
 -- the leaf and the slot of a key, or none if no entry has it
 abbrev pub IsPlace : {V : Type 0} → List (List (List ℕ × V)) → List ℕ → Option (ℕ × ℕ) → Type 0

@@ -1,13 +1,14 @@
 //! The map.
 ghost use Rattle.std.specs.Prelude.{◌≡◌, ◌≢◌, ◌-◌, ◌+◌, ◌<◌, ◌≤◌, ◌++◌, ◌↔◌, [], ℕ, None, Some, length, slice_get};
 ghost use Rattle.std.specs.Prelude.{slice_index_or, All};
-ghost use Rattle.std.specs.Prelude.{filter, IsNone, IfSome, OnOk, OnErr, IfErr, option_copied};
+ghost use Rattle.std.specs.Prelude.{filter, OnOk, OnErr, IfOk, IfErr, option_copied};
 ghost use Rattle.std.specs.Map.{lookup};
 ghost use Rattle.std.specs.BTreeMap.{insert_entry};
 ghost use Rattle.std.specs.Borrow.{Lends, sem};
 ghost use Rattle.std.specs.List.Sorted.{IsStrictlySortedBy};
 ghost use Rattle.hlc_index.specs.contracts.index.Index.{the_row};
-ghost use Rattle.hlc_index.specs.Entries.{key_cmp, is_key, keys_in, entries_in, with_value_in, IsPlace};
+ghost use Rattle.hlc_index.specs.Entries.{key_cmp, is_key, keys_in, entries_in, with_value_in};
+ghost use Rattle.hlc_index.specs.Entries.{IsEntryAt, IsGap, IsPlace};
 ghost use Rattle.hlc_index.specs.Entries.{entries_before, entries_from};
 ghost use Rattle.std.specs.declared.cmp.Ordering.TheVariants.{Less};
 
@@ -16,6 +17,7 @@ use crate::head::head_of;
 use crate::leaves::Leaves;
 use hlc_bytes::Bytes;
 use std::alloc::{AllocFailed, Global};
+use std::cmp::Ordering;
 use std::marker::Model;
 
 /// A map from keys to values. In contracts it is its leaves, the list of the entries of each. One after another these
@@ -85,21 +87,54 @@ impl<V: Drop> Index<V> {
         }
     }
 
-    /// Returns the leaf and the slot of a key, or none. It needs no memory.
-    pub fn find(&self, key: &[u8]) -> Option<(usize, usize)>
-        ensures place { IsPlace self.now key.now result }
+    /// Returns the leaf and the slot of a key, or as an error those where it belongs. It needs no memory.
+    pub fn locate(&self, key: &[u8]) -> Result<(usize, usize), (usize, usize)>
+        ensures found { IfOk result (λ place. IsEntryAt self.now key.now place.0 place.1) }
+        ensures absent { IfErr result (λ _. lookup (is_key key.now) (entries_in self.now) ≡ None) }
+        ensures gap { IfErr result (λ place. IsGap self.now key.now place.0 place.1) }
         ensures ascend { IsStrictlySortedBy key_cmp (keys_in (entries_in self.now)) }
     {
         let head = head_of(key);
         let count = self.leaves.count_upto(key, head);
         if count == 0 {
-            return None;
+            return Err((0, 0));
         }
         let (slot, is_there) = self.leaves.leaf(count - 1).find(key, head);
         if is_there {
-            Some((count - 1, slot))
+            Ok((count - 1, slot))
         } else {
-            None
+            Err((count - 1, slot))
+        }
+    }
+
+    /// Returns the same. It is made for keys that ascend: it compares the key with the greatest one first.
+    pub fn locate_last(&self, key: &[u8]) -> Result<(usize, usize), (usize, usize)>
+        ensures found { IfOk result (λ place. IsEntryAt self.now key.now place.0 place.1) }
+        ensures absent { IfErr result (λ _. lookup (is_key key.now) (entries_in self.now) ≡ None) }
+        ensures gap { IfErr result (λ place. IsGap self.now key.now place.0 place.1) }
+        ensures ascend { IsStrictlySortedBy key_cmp (keys_in (entries_in self.now)) }
+    {
+        let count = self.leaves.len();
+        if count == 0 {
+            return Err((0, 0));
+        }
+        let leaf = self.leaves.leaf(count - 1);
+        let len = leaf.len();
+        match leaf.key(len - 1).cmp(key) {
+            Ordering::Less => Err((count - 1, len)),
+            Ordering::Equal => Ok((count - 1, len - 1)),
+            Ordering::Greater => self.locate(key),
+        }
+    }
+
+    /// Returns the leaf and the slot of a key, or none. It needs no memory.
+    pub fn find(&self, key: &[u8]) -> Option<(usize, usize)>
+        ensures place { IsPlace self.now key.now result }
+        ensures ascend { IsStrictlySortedBy key_cmp (keys_in (entries_in self.now)) }
+    {
+        match self.locate(key) {
+            Ok(place) => Some(place),
+            Err(_) => None,
         }
     }
 
@@ -124,26 +159,26 @@ impl<V: Drop> Index<V> {
         (count - 1, slot)
     }
 
-    /// Adds an entry whose key is new. If memory runs out, the error returns the entry, and nothing
-    /// is changed.
-    pub fn insert(&mut self, key: Bytes, value: V) -> Result<(), AllocFailed<(Bytes, V)>>
-        requires { lookup (is_key key) (entries_in self.old) ≡ None }
+    /// Adds an entry at the place that `locate` returned for its key. If memory runs out, the error returns the entry,
+    /// and nothing is changed.
+    pub fn insert_at(
+        &mut self,
+        at: usize,
+        slot: usize,
+        key: Bytes,
+        value: V,
+    ) -> Result<(), AllocFailed<(Bytes, V)>>
+        requires { IsGap self.old key at slot }
         ensures ok { OnOk result
             (entries_in self.new ≡ insert_entry key_cmp (entries_in self.old) key value) }
         ensures err { OnErr result (entries_in self.new ≡ entries_in self.old) }
         ensures value_returned { IfErr result (λ failed. failed.value ≡ (key, value)) }
     {
         let head = head_of(key.as_slice());
-        let count = self.leaves.count_upto(key.as_slice(), head);
         let entry = (key, value);
         if self.leaves.len() == 0 {
             return self.leaves.push(entry, head);
         }
-        if count == 0 {
-            return self.leaves.put(0, 0, entry, head);
-        }
-        let at = count - 1;
-        let (slot, _) = self.leaves.leaf(at).find(entry.0.as_slice(), head);
         if self.leaves.is_full_end(at, slot) {
             return self.leaves.push(entry, head);
         }
@@ -170,25 +205,6 @@ impl<V: Drop> Index<V> {
         ensures { entries_in self.new ≡ entries_before self.old at slot ++ entries_from self.old at (slot + 1) }
     {
         self.leaves.remove(at, slot);
-    }
-
-    /// Returns the leaf and the slot of the greatest key, or none if there are no entries. It needs
-    /// no memory.
-    pub fn last(&self) -> Option<(usize, usize)>
-        ensures absent { IsNone result ↔ (entries_in self.now ≡ []) }
-        ensures leaf { IfSome result (λ p. p.0 < length self.now) }
-        ensures inside { IfSome result (λ p. p.1 < length (slice_index_or self.now p.0 [])) }
-        ensures last { IfSome result
-            (λ p. slice_get (slice_index_or self.now p.0 []) p.1
-            ≡ slice_get (entries_in self.now) (length (entries_in self.now) - 1)) }
-        ensures ascend { IsStrictlySortedBy key_cmp (keys_in (entries_in self.now)) }
-    {
-        let count = self.leaves.len();
-        if count == 0 {
-            return None;
-        }
-        let slot = self.leaves.leaf(count - 1).len() - 1;
-        Some((count - 1, slot))
     }
 }
 

@@ -8,7 +8,7 @@ use std::alloc::{AllocFailed, Global};
 
 /// Copies a key that is stored in place, and so needs no memory.
 pub(crate) fn short_copy(alloc: Global, key: &[u8]) -> Option<Bytes>
-    ensures short { length key.now ≤ 22 → IsSome result }
+    ensures short { length key.now ≤ 30 → IsSome result }
     ensures copied { IfSome result (λ copy. copy ≡ key.now) }
 {
     Bytes::from_slice(alloc, key).ok()
@@ -22,9 +22,11 @@ pub(crate) fn add_new(
 ) -> Result<bool, AllocFailed<(Bytes, u64)>>
     ensures known { IfOk result (λ added. added ≡ false → entries_in index.new ≡ entries_in index.old) }
 {
-    if index.get(key.as_slice()).is_some() {
-        return Ok(false);
+    match index.locate(key.as_slice()) {
+        Ok(_) => Ok(false),
+        Err((at, slot)) => {
+            index.insert_at(at, slot, key, value)?;
+            Ok(true)
+        }
     }
-    index.insert(key, value)?;
-    Ok(true)
 }
