@@ -1,11 +1,11 @@
 -- Rows in the order in which certificates list them.
-use Rattle.std.specs.Prelude.{ℕ, List, Bool, filter, nat_le, nat_lt}
+use Rattle.std.specs.Prelude.{ℕ, List, Bool, true, filter, nat_le, nat_lt}
 use Rattle.std.specs.List.Sorted.{IsPermutation}
 use Rattle.hlc_node.specs.declared.row.Row.{Row}
 use Rattle.hlc_column.specs.Rows.{rows_to}
 use Rattle.hlc_witness.specs.Certificate.{RowsAscend}
 use Rattle.hlc_checkpoint.specs.declared.sorted.Side.{Side}
-use Rattle.hlc_checkpoint.specs.declared.sorted.Side.TheVariants.{UpTo, Above}
+use Rattle.hlc_checkpoint.specs.declared.sorted.Side.TheVariants.{All, UpTo, Above}
 
 -- the rows at or below a stamp, by key, stamp and node
 pub record AreRowsTo (rows : List Row) (bound : ℕ) (listed : List Row) : Type 0 where
@@ -21,12 +21,14 @@ pub record AreRowsAbove (rows : List Row) (bound : ℕ) (listed : List Row) : Ty
   pub same : IsPermutation (rows_above bound rows) listed
   pub ascend : RowsAscend listed
 
--- a stamp is on this side of a bound
-abbrev pub is_on : Side → ℕ → ℕ → Bool
-is_on UpTo bound stamp = nat_le stamp bound
-is_on Above bound stamp = nat_lt bound stamp
+-- a stamp is on this side
+abbrev pub is_on : Side → ℕ → Bool
+is_on All stamp = true
+is_on (UpTo bound) stamp = nat_le stamp bound
+is_on (Above bound) stamp = nat_lt bound stamp
 
--- among some rows, those on this side of a stamp
-abbrev pub rows_on : Side → ℕ → List Row → List Row
-rows_on UpTo bound rows = rows_to bound rows
-rows_on Above bound rows = rows_above bound rows
+-- among some rows, those on this side
+abbrev pub rows_on : Side → List Row → List Row
+rows_on All rows = rows
+rows_on (UpTo bound) rows = rows_to bound rows
+rows_on (Above bound) rows = rows_above bound rows

@@ -4,30 +4,32 @@ ghost use Rattle.std.specs.List.Sorted.{IsPermutation};
 ghost use Rattle.hlc_node.specs.Rows.{IsRowSet};
 ghost use Rattle.hlc_witness.specs.Certificate.{RowsAscend};
 ghost use Rattle.hlc_column.specs.Rows.{rows_of, rows_in};
+ghost use Rattle.hlc_columns.specs.Table.{columns_in};
 ghost use Rattle.hlc_checkpoint.specs.Sorted.{AreRowsTo, AreRowsAbove, is_on, rows_on};
 
 use hlc_clock::Stamp;
-use hlc_columns::{Column, Keyed, Table};
+use hlc_columns::{Columns, Lanes, Table};
 use hlc_node::Row;
 use hlc_values::NoMemory;
 use hlc_witness::row_order;
 use std::alloc::Global;
 
-/// The rows on one side of a stamp.
-#[derive(Clone, Copy)]
+/// The rows on one side of a stamp, or all of them.
+#[derive(Drop)]
 enum Side {
+    All,
     /// Those at or below it.
-    UpTo,
+    UpTo(Stamp),
     /// Those above it.
-    Above,
+    Above(Stamp),
 }
 
 /// Returns copies of the rows at or below a stamp, by key, stamp and node.
 pub fn sorted_rows_to(alloc: Global, table: &Table, bound: Stamp) -> Result<Vec<Row>, NoMemory>
     ensures { IfOk result (λ listed. AreRowsTo table.now bound listed.items) }
 {
-    let columns = table.columns()?;
-    let mut listed = copies_on(alloc, columns.as_slice(), Side::UpTo, bound)?;
+    let leaves = table.leaves()?;
+    let mut listed = copies_on(alloc, leaves.as_slice(), &Side::UpTo(bound))?;
     sort(&mut listed);
     Ok(listed)
 }
@@ -36,8 +38,8 @@ pub fn sorted_rows_to(alloc: Global, table: &Table, bound: Stamp) -> Result<Vec<
 pub fn sorted_rows_above(alloc: Global, table: &Table, bound: Stamp) -> Result<Vec<Row>, NoMemory>
     ensures { IfOk result (λ listed. AreRowsAbove table.now bound listed.items) }
 {
-    let columns = table.columns()?;
-    let mut listed = copies_on(alloc, columns.as_slice(), Side::Above, bound)?;
+    let leaves = table.leaves()?;
+    let mut listed = copies_on(alloc, leaves.as_slice(), &Side::Above(bound))?;
     sort(&mut listed);
     Ok(listed)
 }
@@ -47,63 +49,49 @@ pub fn sorted_rows(alloc: Global, table: &Table) -> Result<Vec<Row>, NoMemory>
     ensures same { IfOk result (λ listed. IsPermutation table.now listed.items) }
     ensures ascend { IfOk result (λ listed. RowsAscend listed.items) }
 {
-    let columns = table.columns()?;
-    let mut listed = copies_of(alloc, columns.as_slice())?;
+    let leaves = table.leaves()?;
+    let mut listed = copies_on(alloc, leaves.as_slice(), &Side::All)?;
     sort(&mut listed);
     Ok(listed)
 }
 
-/// Returns copies of the rows of some columns, in their order.
-fn copies_of(alloc: Global, columns: &[Keyed]) -> Result<Vec<Row>, NoMemory>
-    ensures { IfOk result (λ copies. copies.items ≡ rows_in columns.now) }
-{
-    let mut copies = Vec::new(alloc);
-    for one in columns {
-        copy_whole(alloc, &mut copies, one.key(), one.column())?;
-    }
-    Ok(copies)
-}
-
-/// Adds copies of the rows of a column, in their order.
-fn copy_whole(
-    alloc: Global,
-    copies: &mut Vec<Row>,
-    key: &[u8],
-    column: &Column,
-) -> Result<(), NoMemory>
-    ensures { OnOk result (copies.new.items ≡ copies.old.items ++ rows_of key.now column.now) }
-{
-    for place in 0..column.len() {
-        let row = column.row_at(alloc, key, place)?;
-        copies.push(row)?;
-    }
-    Ok(())
-}
-
-/// Returns whether a stamp, as a word, is on a side of another.
-fn is_on(side: Side, bound: Stamp, stamp: u64) -> bool
-    ensures { result ≡ is_on side bound stamp }
+/// Returns whether a stamp, as a word, is on a side.
+fn is_on(side: &Side, stamp: u64) -> bool
+    ensures { result ≡ is_on side.now stamp }
 {
     match side {
-        Side::UpTo => stamp <= bound.bits(),
-        Side::Above => stamp > bound.bits(),
+        Side::All => true,
+        Side::UpTo(bound) => stamp <= bound.bits(),
+        Side::Above(bound) => stamp > bound.bits(),
     }
 }
 
-/// Returns copies of the rows of some columns on a side of a stamp, in their order.
-fn copies_on(
-    alloc: Global,
-    columns: &[Keyed],
-    side: Side,
-    bound: Stamp,
-) -> Result<Vec<Row>, NoMemory>
-    ensures { IfOk result (λ copies. copies.items ≡ rows_on side bound (rows_in columns.now)) }
+/// Returns copies of the rows of some leaves on a side of a stamp, in their order.
+fn copies_on(alloc: Global, leaves: &[Columns], side: &Side) -> Result<Vec<Row>, NoMemory>
+    ensures { IfOk result
+        (λ copies. copies.items ≡ rows_on side.now (rows_in (columns_in leaves.now))) }
 {
     let mut copies = Vec::new(alloc);
-    for one in columns {
-        copy_column(alloc, &mut copies, one.key(), one.column(), side, bound)?;
+    for leaf in leaves {
+        copy_leaf(alloc, &mut copies, leaf, side)?;
     }
     Ok(copies)
+}
+
+/// Adds copies of the rows of a leaf on a side of a stamp, in their order.
+fn copy_leaf(
+    alloc: Global,
+    copies: &mut Vec<Row>,
+    leaf: &Columns,
+    side: &Side,
+) -> Result<(), NoMemory>
+    ensures { OnOk result (copies.new.items ≡ copies.old.items ++ rows_on side.now (rows_in leaf.now)) }
+{
+    for place in 0..leaf.len() {
+        let one = leaf.at(place);
+        copy_column(alloc, copies, one.key(), one.column(), side)?;
+    }
+    Ok(())
 }
 
 /// Adds copies of the rows of a column on a side of a stamp, in their order.
@@ -111,16 +99,15 @@ fn copy_column(
     alloc: Global,
     copies: &mut Vec<Row>,
     key: &[u8],
-    column: &Column,
-    side: Side,
-    bound: Stamp,
+    column: Lanes<'_>,
+    side: &Side,
 ) -> Result<(), NoMemory>
     ensures { OnOk result (copies.new.items
-        ≡ copies.old.items ++ rows_on side bound (rows_of key.now column.now)) }
+        ≡ copies.old.items ++ rows_on side.now (rows_of key.now column.entry)) }
 {
     let stamps = column.stamps();
     for place in 0..column.len() {
-        if is_on(side, bound, stamps[place]) {
+        if is_on(side, stamps[place]) {
             let row = column.row_at(alloc, key, place)?;
             copies.push(row)?;
         }

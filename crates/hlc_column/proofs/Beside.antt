@@ -128,6 +128,33 @@ value_there (s ∷ ss) (n ∷ ns) [] i cell e = absurd (none-some cell e)
 value_there (s ∷ ss) (n ∷ ns) (v ∷ vs) zero cell e = ap (λ (c : Cell). Some c.value) (same_Some _ cell e)
 value_there (s ∷ ss) (n ∷ ns) (v ∷ vs) (suc i) cell e = value_there ss ns vs i cell e
 
+pub stamp_there : (ss ns : List ℕ) (vs : List (Option (List ℕ))) (i : ℕ) (cell : Cell)
+    → slice_get (cells_of ss ns vs) i ≡ Some cell → slice_get ss i ≡ Some cell.stamp
+stamp_there [] ns vs i cell e = absurd (none-some cell e)
+stamp_there (s ∷ ss) [] vs i cell e = absurd (none-some cell e)
+stamp_there (s ∷ ss) (n ∷ ns) [] i cell e = absurd (none-some cell e)
+stamp_there (s ∷ ss) (n ∷ ns) (v ∷ vs) zero cell e = ap (λ (c : Cell). Some c.stamp) (same_Some _ cell e)
+stamp_there (s ∷ ss) (n ∷ ns) (v ∷ vs) (suc i) cell e = stamp_there ss ns vs i cell e
+
+pub node_there : (ss ns : List ℕ) (vs : List (Option (List ℕ))) (i : ℕ) (cell : Cell)
+    → slice_get (cells_of ss ns vs) i ≡ Some cell → slice_get ns i ≡ Some cell.node
+node_there [] ns vs i cell e = absurd (none-some cell e)
+node_there (s ∷ ss) [] vs i cell e = absurd (none-some cell e)
+node_there (s ∷ ss) (n ∷ ns) [] i cell e = absurd (none-some cell e)
+node_there (s ∷ ss) (n ∷ ns) (v ∷ vs) zero cell e = ap (λ (c : Cell). Some c.node) (same_Some _ cell e)
+node_there (s ∷ ss) (n ∷ ns) (v ∷ vs) (suc i) cell e = node_there ss ns vs i cell e
+
+-- the row of what is at a position in each list
+pub cell_there : (ss ns : List ℕ) (vs : List (Option (List ℕ))) (i s n : ℕ) (v : Option (List ℕ))
+    → slice_get ss i ≡ Some s → slice_get ns i ≡ Some n → slice_get vs i ≡ Some v
+    → slice_get (cells_of ss ns vs) i ≡ Some (record { stamp = s; node = n; value = v })
+cell_there [] ns vs i s n v es en ev = absurd (none-some s es)
+cell_there (x ∷ ss) [] vs i s n v es en ev = absurd (none-some n en)
+cell_there (x ∷ ss) (y ∷ ns) [] i s n v es en ev = absurd (none-some v ev)
+cell_there (x ∷ ss) (y ∷ ns) (w ∷ vs) zero s n v es en ev =
+    rw (same_Some x s es, same_Some y n en, same_Some w v ev) refl
+cell_there (x ∷ ss) (y ∷ ns) (w ∷ vs) (suc i) s n v es en ev = cell_there ss ns vs i s n v es en ev
+
 -- the answer from the position of the newest
 pub answer_there : (cells : List Cell) (key : List ℕ) (bound i : ℕ) (value_here : Option (List ℕ)) → i < length cells
     → slice_get (rows_of key cells) i ≡ newest (rows_of key cells) key bound

@@ -6,3 +6,4 @@ pub mod NewestRow
 pub mod Chosen
 pub mod Newer
 pub mod KeyLemmas
+pub mod Moved

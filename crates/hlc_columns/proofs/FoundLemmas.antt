@@ -1,9 +1,9 @@
 -- The look-up of a key: the rows of a key are those of its column, since the keys ascend, so that no other column has
 -- the key.
 use Rattle.std.proofs.Common.{◌≡◌, ◌≢◌, ℕ, ◌<◌, Bool, true, false, cond, List, [], ◌∷◌, ◌++◌, Option, Some}
-use Rattle.std.proofs.Common.{None, length, refl, Bor, ◌↔◌, sym, ap, ap₂, ◌∙◌, subst, inl, inr, arith, Contains}
+use Rattle.std.proofs.Common.{None, length, refl, ◌↔◌, sym, ap, ap₂, ◌∙◌, subst, inl, inr, arith, Contains}
 use Rattle.std.proofs.Common.{true≢false, Less, nat_cmp}
-use Rattle.std.specs.Prelude.{IsNone, option_copied, IfSome, option_and_then}
+use Rattle.std.specs.Prelude.{IsNone, IfSome, option_and_then}
 use Rattle.std.specs.Ordering.{is_eq}
 use Rattle.std.specs.Cmp.Lexicographic.{slice_cmp, texts_ties}
 use Rattle.std.specs.List.{AllByRecursion}
@@ -182,17 +182,17 @@ unfolding newest
 answer_nothing key s = refl
 
 -- what a look-up implies for the key's rows
-pub found_rows : (o : Option (Bor (List Cell))) (key : List ℕ) (rows : List Row)
-    → rows ≡ rows_of key (cells_in (option_copied o)) → IfSome o (λ column. rows_of key column.now ≡ rows)
-found_rows None key rows e = tt
-found_rows (Some column) key rows e = sym e
-
-pub found_absent : (o : Option (Bor (List Cell))) (key : List ℕ) (rows : List Row)
-    → rows ≡ rows_of key (cells_in (option_copied o)) → IfSome (option_copied o) (λ cells. 0 < length cells)
-    → IsNone o ↔ (rows ≡ [])
+pub found_absent : (o : Option (List Cell)) (key : List ℕ) (rows : List Row)
+    → rows ≡ rows_of key (cells_in o) → IfSome o (λ cells. 0 < length cells) → IsNone o ↔ (rows ≡ [])
 found_absent None key rows e some = (λ none. e, λ empty. refl)
-found_absent (Some column) key rows e some = (
+found_absent (Some cells) key rows e some = (
   λ none. absurd (true≢false none),
   λ empty.
-      absurd (let long = ap length (sym empty ∙ e) ∙ length-map column.now (row_of key) in omega (arith, some, long)),
+      absurd (let long = ap length (sym empty ∙ e) ∙ length-map cells (row_of key) in omega (arith, some, long)),
 )
+
+pub rows_found : (o : Option (List Cell)) (key : List ℕ) (rows : List Row)
+    → IfSome o (λ cells. rows_of key cells ≡ rows_with key rows) → IsNone o ↔ (rows_with key rows ≡ [])
+    → rows_of key (cells_in o) ≡ rows_with key rows
+rows_found None key rows some none = sym (none.0 refl)
+rows_found (Some cells) key rows some none = some

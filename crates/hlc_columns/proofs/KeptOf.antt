@@ -10,7 +10,7 @@ use Rattle.std.proofs.lemmas.Bool.{cases_Bool, lt-ltb, ltb-true}
 use Rattle.std.specs.List.{AllByRecursion}
 use Rattle.std.specs.List.Sorted.{IsStrictlySortedBy}
 use Rattle.std.proofs.lemmas.Slice.Eq.{bytes_eq-Decides}
-use Rattle.std.proofs.lemmas.List.{length-append, length-map, append-nil, length-set, take_all}
+use Rattle.std.proofs.lemmas.List.{length-append, length-map, append-nil, length-set}
 use Rattle.std.proofs.lemmas.List.{take-set-le, drop-set-lt, get_or-set_same, get_or-map}
 use Rattle.std.proofs.lemmas.List.Sums.{sum_by-cons, sum_by-append}
 use Rattle.std.proofs.lemmas.List.Elements.{filter-append, All-append, All-cons, All-nil, All-tail, All-map}
@@ -248,15 +248,9 @@ module _ (ls : List (List Entry)) (at slot : ℕ) (inside : at < length ls) (lt 
   own_part = is_part sizes (sizes_of (ahead ++ after_it)) before parts
 
   module _ (now : List (List Entry)) (after others : Sizes)
-      (is : now ≡ with_value_in ls at slot
-      (items_where_true (take (length (cells_at ls at slot)) flags) (cells_at ls at slot)))
+      (written : now ≡ with_value_in ls at slot (items_where_true flags (cells_at ls at slot)))
       (left : after ≡ sizes_of ((key_at now at slot, cells_at now at slot) ∷ []))
       (rest : others ≡ minus sizes before) where
-    written : now ≡ with_value_in ls at slot own_kept
-    written =
-        is ∙ ap (λ fs. with_value_in ls at slot (items_where_true fs (cells_at ls at slot)))
-        (take_all (length (cells_at ls at slot)) flags (omega (arith, many)))
-
     after_is : after ≡ sizes_of ((own_key, own_kept) ∷ [])
     after_is =
         left ∙ ap₂ (λ k cs. sizes_of ((k, cs) ∷ [])) (key_now ls at slot inside lt now own_kept written)

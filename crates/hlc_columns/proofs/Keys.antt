@@ -1,6 +1,6 @@
 -- Walks over the columns: they are listed, named and counted one after another.
 use Rattle.std.proofs.Common.{◌≡◌, ℕ, ◌<◌, List, [], ◌∷◌, ◌++◌, length, refl, sym, ap, ◌∙◌}
-use Rattle.std.proofs.Common.{inl, inr, arith, Contains, map, Less, nat_cmp}
+use Rattle.std.proofs.Common.{inl, inr, arith, Contains, map, Less, nat_cmp, zero, suc, Some, slice_get, get_or}
 use Rattle.std.specs.Cmp.Lexicographic.{slice_cmp}
 use Rattle.std.specs.List.{AllByRecursion}
 use Rattle.std.specs.List.Sorted.{IsStrictlySortedBy}
@@ -8,9 +8,11 @@ use Rattle.std.specs.Map.{keys_of}
 use Rattle.hlc_values.proofs.MemberLemmas.{Contains-rest, Contains-cons_cases}
 use Rattle.hlc_node.specs.declared.row.Row.{Row}
 use Rattle.hlc_column.specs.Cells.{Cell}
-use Rattle.hlc_column.specs.Rows.{row_of, rows_of, rows_in, keys_in, KeysAscend}
+use Rattle.hlc_column.specs.Rows.{KeyCells, row_of, rows_of, rows_in, keys_in, KeysAscend}
 use Rattle.std.proofs.lemmas.List.Elements.{Contains-append_cases, Contains-append_left, Contains-append_right}
-use Rattle.hlc_columns.specs.Table.{table_rows, keyed}
+use Rattle.std.proofs.lemmas.List.{map-append}
+use Rattle.hlc_index.specs.Entries.{entries_in}
+use Rattle.hlc_columns.specs.Table.{table_rows, keyed, columns_in}
 use Rattle.hlc_column.proofs.RowLemmas.{row_key}
 
 pub rows_keyed : (es : List (List ℕ × List Cell)) → rows_in (keyed es) ≡ table_rows es
@@ -27,6 +29,22 @@ keys_keyed (e ∷ es) up = (each es up.0, keys_keyed es up.1)
         → AllByRecursion (λ b. slice_cmp nat_cmp e.0 b ≡ Less) (keys_in (keyed es))
     each [] h = tt
     each (d ∷ ds) h = (h.0, each ds h.1)
+
+-- the columns of the leaves are those of all entries
+pub leaves_keyed : (leaves : List (List (List ℕ × List Cell)))
+    → columns_in (map keyed leaves) ≡ keyed (entries_in leaves)
+leaves_keyed [] = refl
+leaves_keyed (leaf ∷ leaves) =
+    ap (λ columns. keyed leaf ++ columns) (leaves_keyed leaves)
+    ∙ sym (map-append (λ (e : List ℕ × List Cell). record { key = e.0; cells = e.1 }) leaf (entries_in leaves))
+
+-- an entry with its key
+pub keyed_at : (es : List (List ℕ × List Cell)) (n : ℕ) (e : List ℕ × List Cell) (one : KeyCells) → n < length es
+    → e ≡ get_or es n e → one ≡ record { key = e.0; cells = e.1 } → slice_get (keyed es) n ≡ Some one
+keyed_at [] n e one lt read is = absurd (omega (arith, lt))
+keyed_at (d ∷ es) zero e one lt read is =
+    ap (λ (e : List ℕ × List Cell). Some (record { key = e.0; cells = e.1 })) (sym read) ∙ ap Some (sym is)
+keyed_at (d ∷ es) (suc n) e one lt read is = keyed_at es n e one (omega (arith, lt)) read is
 
 -- the keys of the entries
 abbrev pub names : List (List ℕ × List Cell) → List (List ℕ)

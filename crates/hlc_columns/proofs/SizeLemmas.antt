@@ -1,7 +1,7 @@
 -- The sizes of columns: of some and of others after them, of the first of them, with one more row, with one more key.
 use Rattle.std.proofs.Common.{◌≡◌, ℕ, suc, ◌+◌, ◌<◌, ◌≤◌, Bool, true, false, cond, List, [], ◌∷◌}
 use Rattle.std.proofs.Common.{◌++◌, Some, None}
-use Rattle.std.proofs.Common.{refl, sym, ap, ◌∙◌, inl, inr, arith, take, drop, length, get_or, subst, true≢false}
+use Rattle.std.proofs.Common.{refl, sym, ap, ◌∙◌, inl, inr, arith, length, subst, true≢false}
 use Rattle.std.proofs.Common.{Less, Equal, Greater, nat_cmp}
 use Rattle.std.specs.Prelude.{sum_by}
 use Rattle.std.specs.Ordering.{is_eq, match_ordering}
@@ -10,22 +10,20 @@ use Rattle.std.specs.Map.{lookup, set_value}
 use Rattle.std.specs.BTreeMap.{insert_entry}
 use Rattle.std.proofs.lemmas.Bool.{cases_Bool}
 use Rattle.std.proofs.lemmas.Option.{none-some, same_Some}
-use Rattle.std.proofs.lemmas.List.{length-append, length-map, take-append-drop}
+use Rattle.std.proofs.lemmas.List.{length-append, length-map}
 use Rattle.std.proofs.lemmas.List.Sums.{sum_by-cons, sum_by-append, sum_by_push}
-use Rattle.std.proofs.lemmas.List.Concat.{flat_map-append}
 use Rattle.hlc_node.specs.declared.row.Row.{Row}
-use Rattle.hlc_index.specs.Entries.{entries_in, keys_in}
-use Rattle.hlc_index.proofs.EntryLemmas.{taken, entries_more}
+use Rattle.hlc_index.specs.Entries.{keys_in}
 use Rattle.hlc_column.specs.Cells.{Cell, value_bytes, cell_bytes}
 use Rattle.hlc_column.specs.Rows.{row_of, rows_of}
-use Rattle.hlc_columns.specs.Table.{table_rows, kept_in}
-use Rattle.hlc_columns.specs.Sizes.{sizes_of, plus, with_row, with_key, Fit, row_bytes, AreSizes}
+use Rattle.hlc_columns.specs.Table.{table_rows}
+use Rattle.hlc_columns.specs.Sizes.{sizes_of, with_row, with_key, Fit, row_bytes, AreSizes}
 use Rattle.hlc_columns.specs.Sizes.{Sizes}
 use Rattle.hlc_columns.proofs.FoundLemmas.{test, same_key, none_here}
 use Rattle.hlc_columns.proofs.Keys.{name_of_row, row_of_name}
 use Rattle.std.specs.List.{AllByRecursion, items_where_true}
 use Rattle.std.specs.List.Sorted.{IsStrictlySortedBy}
-use Rattle.std.proofs.Common.{Contains, filter}
+use Rattle.std.proofs.Common.{Contains}
 
 abbrev pub Entry : Type 0
 Entry = List ℕ × List Cell
@@ -38,98 +36,6 @@ equal a b rows keys key_bytes value_bytes =
     ∙ ap (λ n. record a { rows = b.rows; keys = n }) keys
     ∙ ap (λ n. record a { rows = b.rows; keys = b.keys; key_bytes = n }) key_bytes
     ∙ ap (λ n. record b { value_bytes = n }) value_bytes
-
--- of some columns, and of others after them
-pub both : (xs ys : List Entry) → sizes_of (xs ++ ys) ≡ plus (sizes_of xs) (sizes_of ys)
-both xs ys =
-    equal (sizes_of (xs ++ ys)) (plus (sizes_of xs) (sizes_of ys))
-    (sum_by-append (λ (e : Entry). length e.1) xs ys) (length-append xs ys)
-    (sum_by-append (λ (e : Entry). length e.0) xs ys)
-    (sum_by-append (λ (e : Entry). sum_by cell_bytes e.1) xs ys)
-
--- if those of all fit, so do those of the first and those of the others
-pub fit_first : (xs ys : List Entry) → Fit (sizes_of (xs ++ ys)) → Fit (sizes_of xs)
-fit_first xs ys fit =
-    let e = both xs ys in
-    let rows = ap (λ (s : Sizes). s.rows) e in
-    let keys = ap (λ (s : Sizes). s.keys) e in
-    let names = ap (λ (s : Sizes). s.key_bytes) e in
-    let values = ap (λ (s : Sizes). s.value_bytes) e in
-    let f = fit.rows in
-    let g = fit.keys in
-    let h = fit.key_bytes in
-    let i = fit.value_bytes in
-    record {
-      rows = omega (arith, rows, f);
-      keys = omega (arith, keys, g);
-      key_bytes = omega (arith, names, h);
-      value_bytes = omega (arith, values, i);
-    }
-
-pub fit_rest : (xs ys : List Entry) → Fit (sizes_of (xs ++ ys)) → Fit (sizes_of ys)
-fit_rest xs ys fit =
-    let e = both xs ys in
-    let rows = ap (λ (s : Sizes). s.rows) e in
-    let keys = ap (λ (s : Sizes). s.keys) e in
-    let names = ap (λ (s : Sizes). s.key_bytes) e in
-    let values = ap (λ (s : Sizes). s.value_bytes) e in
-    let f = fit.rows in
-    let g = fit.keys in
-    let h = fit.key_bytes in
-    let i = fit.value_bytes in
-    record {
-      rows = omega (arith, rows, f);
-      keys = omega (arith, keys, g);
-      key_bytes = omega (arith, names, h);
-      value_bytes = omega (arith, values, i);
-    }
-
--- one more column of a leaf
-pub entry_more : (leaf : List Entry) (i : ℕ) (total more : Sizes) (e : Entry) → i < length leaf → e ≡ get_or leaf i e
-    → total ≡ sizes_of (take i leaf) → more ≡ plus total (sizes_of (e ∷ [])) → more ≡ sizes_of (take (i + 1) leaf)
-entry_more leaf i total more e lt read inv is =
-    is ∙ ap (λ t. plus t (sizes_of (e ∷ []))) inv
-    ∙ ap (λ x. plus (sizes_of (take i leaf)) (sizes_of (x ∷ []))) read
-    ∙ sym (both (take i leaf) (get_or leaf i e ∷ []))
-    ∙ ap sizes_of (sym (taken leaf i e lt))
-
-pub entry_fits : (leaf : List Entry) (i : ℕ) (total : Sizes) (e : Entry) → i < length leaf → e ≡ get_or leaf i e
-    → total ≡ sizes_of (take i leaf) → Fit (sizes_of leaf) → Fit (plus total (sizes_of (e ∷ [])))
-entry_fits leaf i total e lt read inv fit =
-    subst Fit (sym (entry_more leaf i total (plus total (sizes_of (e ∷ []))) e lt read inv refl))
-    (fit_first (take (i + 1) leaf) (drop (i + 1) leaf)
-    (subst (λ es. Fit (sizes_of es)) (sym (take-append-drop (i + 1) leaf)) fit))
-
--- one more leaf
-pub leaf_more : (leaves : List (List Entry)) (i : ℕ) (total more : Sizes) (leaf : List Entry) → i < length leaves
-    → leaf ≡ get_or leaves i [] → total ≡ sizes_of (entries_in (take i leaves)) → more ≡ plus total (sizes_of leaf)
-    → more ≡ sizes_of (entries_in (take (i + 1) leaves))
-leaf_more leaves i total more leaf lt own inv is =
-    is ∙ ap (λ t. plus t (sizes_of leaf)) inv
-    ∙ ap (λ l. plus (sizes_of (entries_in (take i leaves))) (sizes_of l)) own
-    ∙ sym (both (entries_in (take i leaves)) (get_or leaves i []))
-    ∙ ap sizes_of (sym (entries_more leaves i lt))
-
-pub first_fit : (leaves : List (List Entry)) (n : ℕ) → Fit (sizes_of (entries_in leaves))
-    → Fit (sizes_of (entries_in (take n leaves)))
-first_fit leaves n fit =
-    fit_first (entries_in (take n leaves)) (entries_in (drop n leaves))
-    (subst (λ es. Fit (sizes_of es)) (flat_map-append (λ (leaf : List Entry). leaf) (take n leaves) (drop n leaves))
-    (subst (λ ls. Fit (sizes_of (entries_in ls))) (sym (take-append-drop n leaves)) fit))
-
-pub leaf_fits : (leaves : List (List Entry)) (i : ℕ) (total : Sizes) (leaf : List Entry) → i < length leaves
-    → leaf ≡ get_or leaves i [] → total ≡ sizes_of (entries_in (take i leaves)) → Fit (sizes_of (entries_in leaves))
-    → Fit (plus total (sizes_of leaf))
-leaf_fits leaves i total leaf lt own inv fit =
-    subst Fit (sym (leaf_more leaves i total (plus total (sizes_of leaf)) leaf lt own inv refl))
-    (first_fit leaves (i + 1) fit)
-
-pub leaf_alone : (leaves : List (List Entry)) (i : ℕ) (leaf : List Entry) → i < length leaves
-    → leaf ≡ get_or leaves i [] → Fit (sizes_of (entries_in leaves)) → Fit (sizes_of leaf)
-leaf_alone leaves i leaf lt own fit =
-    fit_rest (entries_in (take i leaves)) leaf
-    (subst (λ l. Fit (sizes_of (entries_in (take i leaves) ++ l))) (sym own)
-    (subst (λ es. Fit (sizes_of es)) (entries_more leaves i lt) (first_fit leaves (i + 1) fit)))
 
 -- the rows of some columns, their bytes, and the bytes of their keys
 pub rows_counted : (es : List Entry) → sum_by (λ e. length e.1) es ≡ length (table_rows es)
@@ -311,61 +217,9 @@ sum_kept f (false ∷ flags) (x ∷ xs) =
     let rest = sum_kept f flags xs in
     omega (arith, a, rest)
 
-sum_passed : (f : Entry → ℕ) (p : Entry → Bool) (es : List Entry) → sum_by f (filter p es) ≤ sum_by f es
-sum_passed f p [] = omega arith
-sum_passed f p (e ∷ es) =
-    let a = sum_by-cons f e es in
-    let b = sum_by-cons f e (filter p es) in
-    let rest = sum_passed f p es in
-    elim (p e) as (λ t. sum_by f (cond t (e ∷ filter p es) (filter p es)) ≤ sum_by f (e ∷ es)) [
-      | true ↦ omega (arith, a, b, rest)
-      | false ↦ omega (arith, a, rest)
-    ]
-
-length_passed : (p : Entry → Bool) (es : List Entry) → length (filter p es) ≤ length es
-length_passed p [] = omega arith
-length_passed p (e ∷ es) =
-    let rest = length_passed p es in
-    elim (p e) as (λ t. length (cond t (e ∷ filter p es) (filter p es)) ≤ length (e ∷ es)) [
-      | true ↦ omega (arith, rest)
-      | false ↦ omega (arith, rest)
-    ]
-
--- the numbers of each column, once only its flagged rows are kept
-sum_flagged : (f : Entry → ℕ) → ((flags : List Bool) (e : Entry) → f (e.0, items_where_true flags e.1) ≤ f e)
-    → (flags : List Bool) (es : List Entry) → sum_by f (kept_in flags es) ≤ sum_by f es
-sum_flagged f less flags [] = omega arith
-sum_flagged f less flags (e ∷ es) =
-    let a = sum_by-cons f e es in
-    let b = sum_by-cons f (e.0, items_where_true (take (length e.1) flags) e.1)
-    (kept_in (drop (length e.1) flags) es) in
-    let own = less (take (length e.1) flags) e in
-    let rest = sum_flagged f less (drop (length e.1) flags) es in
-    omega (arith, a, b, own, rest)
-
-length_flagged : (flags : List Bool) (es : List Entry) → length (kept_in flags es) ≡ length es
-length_flagged flags [] = refl
-length_flagged flags (e ∷ es) = ap suc (length_flagged (drop (length e.1) flags) es)
-
+-- no more rows are kept than there were
 pub length_kept : (flags : List Bool) (cells : List Cell) → length (items_where_true flags cells) ≤ length cells
 length_kept [] cells = omega arith
 length_kept (b ∷ flags) [] = omega arith
 length_kept (true ∷ flags) (c ∷ cells) = let rest = length_kept flags cells in omega (arith, rest)
 length_kept (false ∷ flags) (c ∷ cells) = let rest = length_kept flags cells in omega (arith, rest)
-
--- the sizes are no greater once only flagged rows are kept
-pub kept_fit : (p : Entry → Bool) (flags : List Bool) (es : List Entry) → Fit (sizes_of es)
-    → Fit (sizes_of (filter p (kept_in flags es)))
-kept_fit p flags es fit =
-    let kept = kept_in flags es in
-    let rows = sum_passed (λ (e : Entry). length e.1) p kept in
-    let rows_before = sum_flagged (λ (e : Entry). length e.1) (λ flags e. length_kept flags e.1) flags es in
-    let keys = length_passed p kept in
-    let keys_before = length_flagged flags es in
-    let names = sum_passed (λ (e : Entry). length e.0) p kept in
-    let names_before = sum_flagged (λ (e : Entry). length e.0) (λ flags e. omega arith) flags es in
-    let values = sum_passed (λ (e : Entry). sum_by cell_bytes e.1) p kept in
-    let values_before = sum_flagged (λ (e : Entry). sum_by cell_bytes e.1)
-    (λ flags e. sum_kept cell_bytes flags e.1) flags es in
-    fit_less (sizes_of (filter p kept)) (sizes_of es) (omega (arith, rows, rows_before))
-    (omega (arith, keys, keys_before)) (omega (arith, names, names_before)) (omega (arith, values, values_before)) fit

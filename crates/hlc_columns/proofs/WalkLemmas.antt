@@ -10,31 +10,13 @@ use Rattle.hlc_index.specs.Entries.{entries_in, keys_in}
 use Rattle.hlc_index.proofs.EntryLemmas.{taken, entries_more}
 use Rattle.hlc_column.specs.Cells.{Cell}
 use Rattle.hlc_column.specs.Rows.{KeyCells, rows_of}
-use Rattle.hlc_columns.specs.Table.{indexed_rows, table_rows, keyed}
+use Rattle.hlc_columns.specs.Table.{indexed_rows, table_rows}
 
 abbrev pub Entry : Type 0
 Entry = List ℕ × List Cell
 
 abbrev pub one_of : Entry → KeyCells
 one_of e = record { key = e.0; cells = e.1 }
-
--- one more entry of a leaf is listed
-pub list_entry : (leaf : List Entry) (first list more : List KeyCells) (i : ℕ) (e : Entry) (one : KeyCells)
-    → i < length leaf → e ≡ get_or leaf i e → list ≡ first ++ keyed (take i leaf) → more ≡ list ++ one ∷ []
-    → one ≡ one_of e → more ≡ first ++ keyed (take (i + 1) leaf)
-list_entry leaf first list more i e one lt read inv is same =
-    is ∙ ap₂ (λ l o. l ++ o ∷ []) inv same
-    ∙ append_assoc first (keyed (take i leaf)) (one_of e ∷ [])
-    ∙ ap (λ l. first ++ l) (sym (ap keyed (taken leaf i e lt) ∙ map_push one_of (take i leaf) (get_or leaf i e)
-    ∙ ap (λ x. keyed (take i leaf) ++ one_of x ∷ []) (sym read)))
-
--- one more leaf is listed
-pub list_leaf : (leaves : List (List Entry)) (list more : List KeyCells) (n : ℕ) (leaf : List Entry) → n < length leaves
-    → leaf ≡ get_or leaves n [] → list ≡ keyed (entries_in (take n leaves)) → more ≡ list ++ keyed leaf
-    → more ≡ keyed (entries_in (take (n + 1) leaves))
-list_leaf leaves list more n leaf lt own inv is =
-    is ∙ ap₂ (λ l m. l ++ keyed m) inv own
-    ∙ sym (ap keyed (entries_more leaves n lt) ∙ map-append one_of (entries_in (take n leaves)) (get_or leaves n []))
 
 -- one more key of a leaf is listed
 pub name_entry : (leaf : List Entry) (first list more : List (Bor (List ℕ))) (i : ℕ) (e : Entry) (one : Bor (List ℕ))

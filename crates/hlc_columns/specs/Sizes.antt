@@ -1,8 +1,9 @@
 -- The sizes of a table.
-use Rattle.std.specs.Prelude.{◌≡◌, ◌↔◌, ℕ, List, length, sum_by, Contains}
+use Rattle.std.specs.Prelude.{◌≡◌, ◌↔◌, ℕ, List, length, sum_by, filter, nat_lt, Contains}
 use Rattle.std.specs.List.Sorted.{IsStrictlySortedBy}
 use Rattle.std.specs.Ordering.{nat_cmp}
 use Rattle.std.specs.Cmp.Lexicographic.{slice_cmp}
+use Rattle.hlc_index.specs.Entries.{entries_in}
 use Rattle.hlc_node.specs.declared.row.Row.{Row}
 use Rattle.hlc_column.specs.Cells.{Cell, value_bytes, cell_bytes}
 pub use Rattle.hlc_sizes.specs.declared.sizes.Sizes.{Sizes}
@@ -34,3 +35,7 @@ sizes_of entries = record {
   key_bytes = sum_by (λ e. length e.0) entries;
   value_bytes = sum_by (λ e. sum_by cell_bytes e.1) entries;
 }
+
+-- the sizes of the columns that have rows
+abbrev pub filled_sizes : List (List (List ℕ × List Cell)) → Sizes
+filled_sizes leaves = sizes_of (filter (λ e. nat_lt 0 (length e.1)) (entries_in leaves))

@@ -9,7 +9,7 @@ ghost use Rattle.hlc_columns.specs.Table.{indexed_rows};
 ghost use Rattle.hlc_columns.specs.Answers.{AreAnswers, AreAnswersBack, IsBetween, answers_in, is_below, is_between};
 ghost use Rattle.hlc_columns.specs.Answers.{entries_left, entries_left_back, leading, starts_at};
 
-use crate::boxed::BoxedColumn;
+use crate::key_rows::KeyRows;
 use hlc_clock::Stamp;
 use hlc_index::Index;
 use hlc_node::Bytes;
@@ -22,8 +22,8 @@ const AHEAD: usize = 32;
 /// the leaf after it.
 #[derive(Debug, Drop)]
 pub(crate) struct Walk<'a> {
-    columns: &'a Index<BoxedColumn>,
-    rest: &'a [(Bytes, BoxedColumn)],
+    columns: &'a Index<KeyRows>,
+    rest: &'a [(Bytes, KeyRows)],
     next: usize,
     to: Option<&'a [u8]>,
     // The number of rows in the columns that were fetched and are still to come.
@@ -33,7 +33,7 @@ pub(crate) struct Walk<'a> {
 impl<'a> Walk<'a> {
     /// Returns a walk from a slot of a leaf on.
     pub(crate) fn from_slot(
-        columns: &'a Index<BoxedColumn>,
+        columns: &'a Index<KeyRows>,
         at: usize,
         slot: usize,
         to: Option<&'a [u8]>,
@@ -58,7 +58,7 @@ impl<'a> Walk<'a> {
 
     /// Returns a walk over the columns whose keys are not below one key, and below another, if there is one.
     pub(crate) fn between(
-        columns: &'a Index<BoxedColumn>,
+        columns: &'a Index<KeyRows>,
         from: &[u8],
         to: Option<&'a [u8]>,
     ) -> Walk<'a>
@@ -82,7 +82,7 @@ impl<'a> Walk<'a> {
     }
 
     /// Returns the next column with its key, or none at the end. It reads no column there.
-    pub(crate) fn next(&mut self) -> Option<&'a (Bytes, BoxedColumn)>
+    pub(crate) fn next(&mut self) -> Option<&'a (Bytes, KeyRows)>
         ensures { MatchOption result ((entries_left self.old ≡ []) × (entries_left self.new ≡ []))
             (λ entry. entries_left self.old ≡ entry.now ∷ entries_left self.new) }
     {
@@ -95,7 +95,7 @@ impl<'a> Walk<'a> {
             return None;
         }
         self.rest = rest;
-        self.fetched = self.fetched.saturating_sub(first.1.get().len());
+        self.fetched = self.fetched.saturating_sub(first.1.len());
         Some(first)
     }
 
@@ -114,10 +114,10 @@ impl<'a> Walk<'a> {
 
 /// Returns the number of rows of the next columns of a leaf. None of these reads waits for the one before it, so a
 /// caller that then goes through those columns does not wait for memory at each.
-fn rows_ahead(leaf: &[(Bytes, BoxedColumn)]) -> usize {
+fn rows_ahead(leaf: &[(Bytes, KeyRows)]) -> usize {
     let mut rows = 0usize;
     for i in 0..leaf.len().min(AHEAD) {
-        rows = rows.saturating_add(leaf[i].1.get().fetched_len());
+        rows = rows.saturating_add(leaf[i].1.lanes().fetched_len());
     }
     rows
 }
@@ -138,7 +138,7 @@ fn next_answer<'a>(walk: &mut Walk<'a>, bound: Stamp) -> Option<(&'a [u8], &'a [
         walk.old result walk.new }
 {
     while let Some(entry) = walk.next() {
-        if let Some(value) = entry.1.get().answer(bound) {
+        if let Some(value) = entry.1.lanes().answer(bound) {
             return Some((entry.0.as_slice(), value));
         }
     }
@@ -176,7 +176,7 @@ impl<'a> Iterator for Answers<'a> {
 
 /// Returns the answers of the keys that are not below one key, and below another, if there is one.
 pub(crate) fn answers_between<'a>(
-    columns: &'a Index<BoxedColumn>,
+    columns: &'a Index<KeyRows>,
     bound: Stamp,
     from: &[u8],
     to: Option<&'a [u8]>,
@@ -194,15 +194,15 @@ pub(crate) fn answers_between<'a>(
 /// number of leaves before it.
 #[derive(Debug, Drop)]
 struct WalkBack<'a> {
-    columns: &'a Index<BoxedColumn>,
-    rest: &'a [(Bytes, BoxedColumn)],
+    columns: &'a Index<KeyRows>,
+    rest: &'a [(Bytes, KeyRows)],
     before: usize,
     from: &'a [u8],
 }
 
 impl<'a> WalkBack<'a> {
     /// Returns a walk over the columns whose keys are not below one key, and below another, if there is one.
-    fn between(columns: &'a Index<BoxedColumn>, from: &'a [u8], to: Option<&[u8]>) -> WalkBack<'a>
+    fn between(columns: &'a Index<KeyRows>, from: &'a [u8], to: Option<&[u8]>) -> WalkBack<'a>
         ensures exact { reverse (entries_left_back result)
             ≡ filter (λ e. is_between from.now (option_copied to.entry) e.0) (entries_in columns.now) }
         ensures ascend { IsStrictlySortedBy key_cmp (keys_in (entries_in columns.now)) }
@@ -236,7 +236,7 @@ impl<'a> WalkBack<'a> {
     }
 
     /// Returns the last column with its key, or none at the first key.
-    fn next(&mut self) -> Option<&'a (Bytes, BoxedColumn)>
+    fn next(&mut self) -> Option<&'a (Bytes, KeyRows)>
         ensures { MatchOption result ((entries_left_back self.old ≡ []) × (entries_left_back self.new ≡ []))
             (λ entry. entries_left_back self.old ≡ entry.now ∷ entries_left_back self.new) }
     {
@@ -256,7 +256,7 @@ fn next_answer_back<'a>(walk: &mut WalkBack<'a>, bound: Stamp) -> Option<(&'a [u
         walk.old result walk.new }
 {
     while let Some(entry) = walk.next() {
-        if let Some(value) = entry.1.get().answer(bound) {
+        if let Some(value) = entry.1.lanes().answer(bound) {
             return Some((entry.0.as_slice(), value));
         }
     }
@@ -293,7 +293,7 @@ impl<'a> Iterator for AnswersBack<'a> {
 
 /// Returns the answers of the keys that are not below one key, and below another, if there is one, the last first.
 pub(crate) fn answers_back<'a>(
-    columns: &'a Index<BoxedColumn>,
+    columns: &'a Index<KeyRows>,
     bound: Stamp,
     from: &'a [u8],
     to: Option<&[u8]>,

@@ -8,9 +8,9 @@ ghost use Rattle.hlc_columns.specs.Answers.{entries_left, IsBetween};
 ghost use Rattle.hlc_columns.specs.Differences.{AreDifferences, differences_in, difference_read, is_same};
 
 use crate::answers::Walk;
-use crate::boxed::BoxedColumn;
+use crate::key_rows::KeyRows;
 use hlc_clock::Stamp;
-use hlc_column::Column;
+use hlc_column::Lanes;
 use hlc_index::Index;
 use std::marker::Model;
 
@@ -27,10 +27,10 @@ fn is_same(before: Option<&[u8]>, after: Option<&[u8]>) -> bool
 
 /// Returns the answer of a column at the second bound, if that at the first is another. If both are one row, it does
 /// not read their values.
-fn difference(column: &Column, from: Stamp, to: Stamp) -> Option<Option<&[u8]>>
+fn difference(column: Lanes<'_>, from: Stamp, to: Stamp) -> Option<Option<&[u8]>>
     ensures { (key : List ℕ)
-        → let before = answer (rows_of key column.now) key from in
-        let after = answer (rows_of key column.now) key to in
+        → let before = answer (rows_of key column.entry) key from in
+        let after = answer (rows_of key column.entry) key to in
         MatchOption result (before ≡ after)
         (λ value. (option_copied value ≡ after) × (before ≢ after)) }
 {
@@ -57,7 +57,7 @@ fn next_change<'a>(
         walk.old result walk.new }
 {
     while let Some(entry) = walk.next() {
-        if let Some(value) = difference(entry.1.get(), from, to) {
+        if let Some(value) = difference(entry.1.lanes(), from, to) {
             return Some((entry.0.as_slice(), value));
         }
     }
@@ -98,7 +98,7 @@ impl<'a> Iterator for Changes<'a> {
 
 /// Returns the differences of the keys that are not below one key, and below another, if there is one.
 pub(crate) fn changes_between<'a>(
-    columns: &'a Index<BoxedColumn>,
+    columns: &'a Index<KeyRows>,
     from: Stamp,
     to: Stamp,
     first: &[u8],

@@ -5,16 +5,16 @@ ghost use Rattle.hlc_index.specs.Entries.{entries_in, entries_before, entries_fr
 ghost use Rattle.hlc_columns.specs.Sizes.{sizes_of, Fit};
 ghost use Rattle.hlc_columns.specs.Table.{cells_at, key_at, if_filled};
 
-use crate::boxed::BoxedColumn;
-use crate::dropping::keep_at;
-use crate::sizes::sizes_of_column;
+use crate::dropping::keep_cells;
+use crate::key_rows::KeyRows;
+use crate::sizes::sizes_at;
 use hlc_index::Index;
 use hlc_sizes::Sizes;
 
 /// Keeps only the flagged rows of the column at a position, in their order. The column is removed if it is left without
 /// rows. It needs no memory.
 pub(crate) fn keep_column(
-    columns: &mut Index<BoxedColumn>,
+    columns: &mut Index<KeyRows>,
     sizes: &mut Sizes,
     at: usize,
     slot: usize,
@@ -32,7 +32,7 @@ pub(crate) fn keep_column(
     ensures fit { Fit sizes.new }
 {
     let before = sizes_at(columns, at, slot);
-    keep_at(columns, at, slot, flags);
+    keep_cells(columns, at, slot, flags);
     let after = sizes_at(columns, at, slot);
     let others = sizes.minus(before);
     if after.rows == 0 {
@@ -41,14 +41,4 @@ pub(crate) fn keep_column(
     } else {
         *sizes = others.plus(after);
     }
-}
-
-/// Returns the sizes of the column at a position.
-fn sizes_at(columns: &Index<BoxedColumn>, at: usize, slot: usize) -> Sizes
-    requires leaf { at < length columns.now }
-    requires inside { slot < length (slice_index_or columns.now at []) }
-    ensures { result ≡ sizes_of ((key_at columns.now at slot, cells_at columns.now at slot) ∷ []) }
-{
-    let entry = &columns.leaf(at)[slot];
-    sizes_of_column(entry.0.as_slice(), entry.1.get())
 }

@@ -1,21 +1,20 @@
 //! Adding rows to the columns of an index.
 ghost use Rattle.std.specs.Prelude.{◌≡◌, ◌<◌, ◌≤◌, ◌++◌, ◌∷◌, [], ℕ, List, None, length, slice_index_or};
-ghost use Rattle.std.specs.Prelude.{OnOk, OnErr};
+ghost use Rattle.std.specs.Prelude.{OnOk, OnErr, IfOk, IfErr};
 ghost use Rattle.std.specs.Map.{lookup};
-ghost use Rattle.hlc_index.specs.Entries.{is_key, keys_in, entries_in, IsEntryAt, IsPlace};
+ghost use Rattle.hlc_index.specs.Entries.{is_key, keys_in, entries_in, IsEntryAt, IsGap};
 ghost use Rattle.hlc_columns.specs.Parts.{new_row};
 ghost use Rattle.hlc_columns.specs.Table.{indexed_rows, AreFilled, Inserted};
 ghost use Rattle.hlc_column.specs.Cells.{value_bytes};
 ghost use Rattle.hlc_columns.specs.Sizes.{sizes_of, with_row, with_key, Fit};
 
-use crate::boxed::BoxedColumn;
+use crate::key_rows::KeyRows;
 use hlc_clock::Stamp;
 use hlc_index::Index;
 use hlc_node::{Bytes, value_slice};
 use hlc_sizes::{Sizes, length_of};
 use hlc_values::NoMemory;
 use std::alloc::Global;
-use std::cmp::Ordering;
 
 /// A row that borrows its key.
 #[derive(Drop)]
@@ -26,30 +25,18 @@ pub(crate) struct NewRow<'a> {
     pub(crate) value: Option<Bytes>,
 }
 
-/// Returns the position of the column of a key, or none. It compares the key with the last one
-/// first.
-pub(crate) fn find_last(columns: &Index<BoxedColumn>, key: &[u8]) -> Option<(usize, usize)>
-    ensures { IsPlace columns.now key.now result }
-{
-    let (at, slot) = columns.last()?;
-    let leaf = columns.leaf(at);
-    match key.cmp(leaf[slot].0.as_slice()) {
-        Ordering::Less => columns.find(key),
-        Ordering::Equal => Some((at, slot)),
-        Ordering::Greater => None,
-    }
-}
-
-/// Appends a row to its key's column, whose position was found, or to a new column if the key has none; only then is
-/// the key copied. If memory runs out, or if there are 2^128 - 1 rows, it is refused, and the rows do not change.
+/// Appends a row to its key's column, or to a new column at the place where the key belongs, as `Index::locate` returns
+/// them; only then is the key copied. If memory runs out, or if there are 2^128 - 1 rows, it is refused, and the rows do not change.
 pub(crate) fn put_row(
-    columns: &mut Index<BoxedColumn>,
+    columns: &mut Index<KeyRows>,
     sizes: &mut Sizes,
     alloc: Global,
-    place: Option<(usize, usize)>,
+    place: Result<(usize, usize), (usize, usize)>,
     row: NewRow<'_>,
 ) -> Result<(), NoMemory>
-    requires place { IsPlace columns.old row.key.now place }
+    requires found { IfOk place (λ at. IsEntryAt columns.old row.key.now at.0 at.1) }
+    requires absent { IfErr place (λ _. lookup (is_key row.key.now) (entries_in columns.old) ≡ None) }
+    requires gap { IfErr place (λ at. IsGap columns.old row.key.now at.0 at.1) }
     requires filled { AreFilled columns.old }
     requires sizes { sizes.old ≡ sizes_of (entries_in columns.old) }
     requires fit { Fit sizes.old }
@@ -64,15 +51,15 @@ pub(crate) fn put_row(
         return Err(NoMemory);
     };
     match place {
-        Some((at, slot)) => {
-            push_at(columns, at, slot, row.stamp, row.node, row.value)?;
+        Ok((at, slot)) => {
+            push_at(columns, alloc, at, slot, row.stamp, row.node, row.value)?;
             *sizes = more;
         }
-        None => {
+        Err((at, slot)) => {
             let Some(all) = more.with_key(row.key.len()) else {
                 return Err(NoMemory);
             };
-            add_column(columns, alloc, row)?;
+            add_column(columns, alloc, at, slot, row)?;
             *sizes = all;
         }
     }
@@ -81,7 +68,8 @@ pub(crate) fn put_row(
 
 /// Appends a row to the column at a position.
 fn push_at(
-    columns: &mut Index<BoxedColumn>,
+    columns: &mut Index<KeyRows>,
+    alloc: Global,
     at: usize,
     slot: usize,
     stamp: Stamp,
@@ -101,32 +89,19 @@ fn push_at(
     ensures same { OnErr result (entries_in columns.new ≡ entries_in columns.old) }
 {
     let column = columns.value_mut(at, slot);
-    push_cell(column, stamp, node, value)
+    column.push(alloc, stamp, node, value)
 }
 
-/// Appends a row to a column.
-fn push_cell(
-    column: &mut BoxedColumn,
-    stamp: Stamp,
-    node: u16,
-    value: Option<Bytes>,
-) -> Result<(), NoMemory>
-    ensures ok { OnOk result (column.new
-        ≡ column.old ++ record { stamp = stamp; node = node; value = value } ∷ []) }
-    ensures grows { length column.old ≤ length column.new }
-    ensures err { OnErr result (column.new ≡ column.old) }
-{
-    column.get_mut().push(stamp, node, value)?;
-    Ok(())
-}
-
-/// Adds a column of one row, whose key is new.
+/// Adds a column of one row, whose key is new, at the place where the key belongs.
 fn add_column(
-    columns: &mut Index<BoxedColumn>,
+    columns: &mut Index<KeyRows>,
     alloc: Global,
+    at: usize,
+    slot: usize,
     row: NewRow<'_>,
 ) -> Result<(), NoMemory>
     requires new { lookup (is_key row.key.now) (entries_in columns.old) ≡ None }
+    requires gap { IsGap columns.old row.key.now at slot }
     requires filled { AreFilled columns.old }
     ensures ok { OnOk result (Inserted (indexed_rows columns.old) (new_row row.entry)
         (indexed_rows columns.new)) }
@@ -138,7 +113,7 @@ fn add_column(
     ensures same { OnErr result (entries_in columns.new ≡ entries_in columns.old) }
 {
     let key = Bytes::from_slice(alloc, row.key)?;
-    let column = BoxedColumn::of_row(alloc, row.stamp, row.node, row.value)?;
-    columns.insert(key, column)?;
+    let column = KeyRows::of_row(row.stamp, row.node, row.value);
+    columns.insert_at(at, slot, key, column)?;
     Ok(())
 }

@@ -1,17 +1,16 @@
-//! The sizes of columns.
-ghost use Rattle.std.specs.Prelude.{◌≡◌, ◌∷◌, []};
-ghost use Rattle.hlc_index.specs.Entries.{entries_in};
-ghost use Rattle.hlc_columns.specs.Sizes.{sizes_of, Fit};
+//! The sizes of a column.
+ghost use Rattle.std.specs.Prelude.{◌≡◌, ◌<◌, ◌∷◌, [], length, slice_index_or};
+ghost use Rattle.hlc_columns.specs.Sizes.{sizes_of};
+ghost use Rattle.hlc_columns.specs.Table.{key_at, cells_at};
 
-use crate::boxed::BoxedColumn;
-use hlc_column::Column;
+use crate::key_rows::KeyRows;
+use hlc_column::Lanes;
 use hlc_index::Index;
-use hlc_node::Bytes;
 use hlc_sizes::Sizes;
 
 /// Returns the sizes of a column with its key.
-pub(crate) fn sizes_of_column(key: &[u8], column: &Column) -> Sizes
-    ensures { result ≡ sizes_of ((key.now, column.now) ∷ []) }
+fn sizes_of_column(key: &[u8], column: Lanes<'_>) -> Sizes
+    ensures { result ≡ sizes_of ((key.now, column.entry) ∷ []) }
 {
     Sizes {
         rows: column.len() as u128,
@@ -21,26 +20,12 @@ pub(crate) fn sizes_of_column(key: &[u8], column: &Column) -> Sizes
     }
 }
 
-/// Returns the sizes of the columns of an index.
-pub(crate) fn measure(columns: &Index<BoxedColumn>) -> Sizes
-    requires { Fit (sizes_of (entries_in columns.now)) }
-    ensures { result ≡ sizes_of (entries_in columns.now) }
+/// Returns the sizes of the column at a position.
+pub(crate) fn sizes_at(columns: &Index<KeyRows>, at: usize, slot: usize) -> Sizes
+    requires leaf { at < length columns.now }
+    requires inside { slot < length (slice_index_or columns.now at []) }
+    ensures { result ≡ sizes_of ((key_at columns.now at slot, cells_at columns.now at slot) ∷ []) }
 {
-    let mut total = Sizes::none();
-    for at in 0..columns.leaves() {
-        total = total.plus(measure_leaf(columns.leaf(at)));
-    }
-    total
-}
-
-/// Returns the sizes of the columns of a leaf.
-fn measure_leaf(leaf: &[(Bytes, BoxedColumn)]) -> Sizes
-    requires { Fit (sizes_of leaf.now) }
-    ensures { result ≡ sizes_of leaf.now }
-{
-    let mut total = Sizes::none();
-    for (key, column) in leaf {
-        total = total.plus(sizes_of_column(key.as_slice(), column.get()));
-    }
-    total
+    let entry = &columns.leaf(at)[slot];
+    sizes_of_column(entry.0.as_slice(), entry.1.lanes())
 }

@@ -2,10 +2,12 @@
 ghost use Rattle.std.specs.Prelude.{◌≡◌, option_copied};
 ghost use Rattle.hlc_node.specs.Rows.{answer};
 ghost use Rattle.hlc_columns.specs.Answers.{AreAnswers, AreAnswersBack, IsBetween};
+ghost use Rattle.hlc_columns.specs.Sizes.{AreSizes};
 
 use crate::answers::{Answers, AnswersBack};
 use crate::table::Table;
 use hlc_clock::Stamp;
+use hlc_sizes::Sizes;
 use std::marker::Model;
 
 /// A table as readers at one stamp see it. No call needs memory. In contracts it is the rows and the stamp.
@@ -36,6 +38,13 @@ impl<'a> View<'a> {
         ensures { result ≡ self.now.stamp }
     {
         self.stamp
+    }
+
+    /// Returns the sizes of the table, whose rows readers may see or not.
+    pub fn sizes(&self) -> Sizes
+        ensures { AreSizes self.now.rows result }
+    {
+        self.table.sizes()
     }
 
     /// Returns the value of a key, if it has one.

@@ -2,46 +2,17 @@
 ghost use Rattle.std.specs.Prelude.{◌≡◌, ◌<◌, ◌++◌, ◌^◌, IfOk, OnOk, length, map, filter, nat_le};
 ghost use Rattle.std.specs.List.Sorted.{IsStrictlySortedBy};
 ghost use Rattle.hlc_index.specs.Entries.{entries_in, keys_in, key_cmp};
-ghost use Rattle.hlc_columns.specs.Table.{indexed_rows, table_rows, keyed};
+ghost use Rattle.hlc_columns.specs.Table.{indexed_rows, table_rows};
 
-use crate::boxed::BoxedColumn;
-use crate::keyed::Keyed;
+use crate::key_rows::KeyRows;
 use hlc_clock::Stamp;
 use hlc_index::Index;
 use hlc_node::Bytes;
 use hlc_values::NoMemory;
 use std::alloc::Global;
 
-/// Returns the columns, each with its key.
-pub(crate) fn list_columns(
-    alloc: Global,
-    columns: &Index<BoxedColumn>,
-) -> Result<Vec<Keyed<'_>>, NoMemory>
-    ensures list { IfOk result (λ list. list.items ≡ keyed (entries_in columns.now)) }
-    ensures ascend { IsStrictlySortedBy key_cmp (keys_in (entries_in columns.now)) }
-{
-    let mut list = Vec::new(alloc);
-    for at in 0..columns.leaves() {
-        add_columns(&mut list, columns.leaf(at))?;
-    }
-    Ok(list)
-}
-
-/// Adds the columns of a leaf, each with its key.
-fn add_columns<'a>(
-    list: &mut Vec<Keyed<'a>>,
-    leaf: &'a [(Bytes, BoxedColumn)],
-) -> Result<(), NoMemory>
-    ensures { OnOk result (list.new.items ≡ list.old.items ++ keyed leaf.now) }
-{
-    for (key, column) in leaf {
-        list.push(Keyed::new(key.as_slice(), column.get()))?;
-    }
-    Ok(())
-}
-
 /// Returns the keys.
-pub(crate) fn list_keys(alloc: Global, columns: &Index<BoxedColumn>) -> Result<Vec<&[u8]>, NoMemory>
+pub(crate) fn list_keys(alloc: Global, columns: &Index<KeyRows>) -> Result<Vec<&[u8]>, NoMemory>
     ensures list { IfOk result
         (λ keys. map (λ key. key.now) keys.items ≡ keys_in (entries_in columns.now)) }
     ensures ascend { IsStrictlySortedBy key_cmp (keys_in (entries_in columns.now)) }
@@ -54,7 +25,7 @@ pub(crate) fn list_keys(alloc: Global, columns: &Index<BoxedColumn>) -> Result<V
 }
 
 /// Adds the keys of a leaf.
-fn add_keys<'a>(keys: &mut Vec<&'a [u8]>, leaf: &'a [(Bytes, BoxedColumn)]) -> Result<(), NoMemory>
+fn add_keys<'a>(keys: &mut Vec<&'a [u8]>, leaf: &'a [(Bytes, KeyRows)]) -> Result<(), NoMemory>
     ensures { OnOk result (map (λ key. key.now) keys.new.items
         ≡ map (λ key. key.now) keys.old.items ++ keys_in leaf.now) }
 {
@@ -65,7 +36,7 @@ fn add_keys<'a>(keys: &mut Vec<&'a [u8]>, leaf: &'a [(Bytes, BoxedColumn)]) -> R
 }
 
 /// Returns how many rows are at or below the bound.
-pub(crate) fn count_rows_at(columns: &Index<BoxedColumn>, bound: Stamp) -> u128
+pub(crate) fn count_rows_at(columns: &Index<KeyRows>, bound: Stamp) -> u128
     requires { length (indexed_rows columns.now) < 2 ^ 128 }
     ensures { result ≡ length (filter (λ row. nat_le row.stamp bound) (indexed_rows columns.now)) }
 {
@@ -77,13 +48,13 @@ pub(crate) fn count_rows_at(columns: &Index<BoxedColumn>, bound: Stamp) -> u128
 }
 
 /// Returns how many rows of a leaf are at or below the bound.
-fn count_in_leaf(leaf: &[(Bytes, BoxedColumn)], bound: Stamp) -> u128
+fn count_in_leaf(leaf: &[(Bytes, KeyRows)], bound: Stamp) -> u128
     requires { length (table_rows leaf.now) < 2 ^ 128 }
     ensures { result ≡ length (filter (λ row. nat_le row.stamp bound) (table_rows leaf.now)) }
 {
     let mut total: u128 = 0;
     for (_key, column) in leaf {
-        total += column.get().count_at(bound) as u128;
+        total += column.lanes().count_at(bound) as u128;
     }
     total
 }

@@ -161,7 +161,21 @@ joined_append points front back up changes more flags keep bytes total so also =
           ∙ ap (λ rows. changes_cost rows (changes ++ more)) (sym rows);
     }
 
--- one more column
+-- one more column after others
+pub joined_push : (points : List ℕ) (front : List KeyCells) (one : KeyCells) → KeysAscend (front ++ one ∷ [])
+    → (changes new : List Witness) (flags more : List Bool) (bytes total : ℕ)
+    → IsJoined front points changes flags bytes
+    → AddsPlan (rows_in_one one) one.key points changes new flags more bytes total
+    → IsJoined (front ++ one ∷ []) points new more total
+joined_push points front one up changes new flags more bytes total so plan =
+    let mine = key_changes (rows_in_one one) one.key None points in
+    subst (λ cs. IsJoined (front ++ one ∷ []) points cs more total) (sym plan.news)
+    (subst (λ fs. IsJoined (front ++ one ∷ []) points (changes ++ mine) fs total) (sym plan.mores)
+    (subst (IsJoined (front ++ one ∷ []) points (changes ++ mine) (flags ++ plan.keep)) (sym plan.cost)
+    (joined_append points front (one ∷ []) up changes mine flags plan.keep
+    bytes (changes_cost (rows_in_one one) mine) so (joined_one points one plan.keep plan.draft))))
+
+-- one more of the columns
 pub joined_on : (points : List ℕ) (columns : List KeyCells) (i : ℕ) (one : KeyCells) → KeysAscend columns
     → i < length columns
     → one ≡ get_or columns i one
@@ -175,13 +189,8 @@ joined_on points columns i one up lt is changes new flags more bytes total so pl
     let ascend : KeysAscend (take (i + 1) columns) =
     ascend_front (take (i + 1) columns) (drop (i + 1) columns)
     (subst KeysAscend (sym (take-append-drop (i + 1) columns)) up) in
-    let mine = key_changes (rows_in_one one) one.key None points in
     subst (λ xs. IsJoined xs points new more total) (sym next)
-    (subst (λ cs. IsJoined (take i columns ++ one ∷ []) points cs more total) (sym plan.news)
-    (subst (λ fs. IsJoined (take i columns ++ one ∷ []) points (changes ++ mine) fs total) (sym plan.mores)
-    (subst (IsJoined (take i columns ++ one ∷ []) points (changes ++ mine) (flags ++ plan.keep)) (sym plan.cost)
-    (joined_append points (take i columns) (one ∷ []) (subst KeysAscend next ascend) changes mine flags plan.keep
-    bytes (changes_cost (rows_in_one one) mine) so (joined_one points one plan.keep plan.draft)))))
+    (joined_push points (take i columns) one (subst KeysAscend next ascend) changes new flags more bytes total so plan)
 
 -- no columns
 pub joined_none : (points : List ℕ) → IsJoined [] points [] [] 0

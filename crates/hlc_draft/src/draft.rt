@@ -10,7 +10,7 @@ use crate::gaps::{gap_end, greatest_of};
 use crate::key_plan::are_equal;
 use crate::points::last_of;
 use hlc_clock::Stamp;
-use hlc_column::Column;
+use hlc_column::Lanes;
 use hlc_node::Bytes;
 use hlc_values::NoMemory;
 use hlc_witness::{Witness, cost_of};
@@ -57,11 +57,11 @@ impl Draft {
         &mut self,
         alloc: Global,
         key: &[u8],
-        column: &Column,
+        column: Lanes<'_>,
         points: &[Stamp],
     ) -> Result<(), NoMemory>
         requires { PointsAscend points.now }
-        ensures { OnOk result (AddsPlan (rows_of key.now column.now) key.now points.now
+        ensures { OnOk result (AddsPlan (rows_of key.now column.entry) key.now points.now
             self.old.witnesses.items self.new.witnesses.items
             self.old.keep.items self.new.keep.items self.old.bytes self.new.bytes) }
     {

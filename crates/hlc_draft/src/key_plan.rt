@@ -8,7 +8,7 @@ ghost use Rattle.hlc_draft.specs.KeyPlan.{IsKeyPlan, IsKeyVacuum};
 
 use crate::points::last_of;
 use hlc_clock::Stamp;
-use hlc_column::Column;
+use hlc_column::{Column, Lanes};
 use hlc_values::NoMemory;
 use std::alloc::Global;
 
@@ -28,12 +28,23 @@ pub fn plan_key(alloc: Global, column: &Column, points: &[Stamp]) -> Result<KeyP
     ensures vacuumed { IfOk result (λ plan. (key : List ℕ) → IsRowSet (rows_of key column.now)
         → IsKeyVacuum (rows_of key column.now) points.now plan.changes.items plan.keep.items) }
 {
-    let mut keep = flags_above(alloc, column.stamps(), last_of(points).bits())?;
+    plan_lanes(alloc, column.lanes(), points)
+}
+
+/// Does so for the rows themselves.
+fn plan_lanes(alloc: Global, lanes: Lanes<'_>, points: &[Stamp]) -> Result<KeyPlan, NoMemory>
+    requires { PointsAscend points.now }
+    ensures flags { IfOk result (λ plan. (key : List ℕ)
+        → IsKeyPlan (rows_of key lanes.entry) key points.now plan.changes.items plan.keep.items) }
+    ensures vacuumed { IfOk result (λ plan. (key : List ℕ) → IsRowSet (rows_of key lanes.entry)
+        → IsKeyVacuum (rows_of key lanes.entry) points.now plan.changes.items plan.keep.items) }
+{
+    let mut keep = flags_above(alloc, lanes.stamps(), last_of(points).bits())?;
     let mut changes = Vec::new(alloc);
     let mut value_before: Option<&[u8]> = None;
     for point in points {
-        let place = column.newest(*point);
-        let value_here = column.value_of(place);
+        let place = lanes.newest(*point);
+        let value_here = lanes.value_of(place);
         let equal = are_equal(value_here, value_before);
         note_point(&mut keep, &mut changes, *point, place, equal)?;
         value_before = value_here;

@@ -2,7 +2,7 @@
 ghost use Rattle.std.specs.Prelude.{◌≤◌, ◌<◌, length};
 ghost use Rattle.hlc_column.specs.Rows.{rows_in};
 
-use hlc_columns::Keyed;
+use hlc_columns::{Columns, Keyed};
 
 /// This many columns are fetched together.
 const AHEAD: usize = 64;
@@ -19,6 +19,17 @@ pub(crate) fn rows_ahead(columns: &[Keyed], from: usize) -> usize
     let mut rows = 0usize;
     for i in from..columns.len().min(from.saturating_add(AHEAD)) {
         rows = rows.saturating_add(columns[i].column().fetched_len());
+    }
+    rows
+}
+
+/// Returns the number of rows of the columns of a leaf, which it fetches in the same way.
+pub(crate) fn rows_of_leaf(leaf: &Columns) -> usize
+    ensures { result ≤ length (rows_in leaf.now) }
+{
+    let mut rows = 0usize;
+    for place in 0..leaf.len() {
+        rows = rows.saturating_add(leaf.at(place).column().fetched_len());
     }
     rows
 }

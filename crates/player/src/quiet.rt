@@ -4,7 +4,7 @@ use crate::host::Host;
 use crate::play::say_quiet;
 use crate::refusing::refuse;
 use hlc_clock::{Clock, Stamp};
-use hlc_columns::Column;
+use hlc_column::Column;
 use hlc_core::{Bytes, Witness};
 use hlc_floor::Board;
 use hlc_heads::Heads;
@@ -139,7 +139,7 @@ fn column(rt: &HostRuntime) -> Option<()> {
 /// Returns the place of the newest row at 3, the length of the answer at 2, and how many rows are at or below 4.
 fn read(column: &Column) -> (Option<usize>, usize, usize) {
     let answer = column.answer(Stamp::from_bits(2)).unwrap_or(b"").len();
-    let count = column.count_at(Stamp::from_bits(4));
+    let count = column.lanes().count_at(Stamp::from_bits(4));
     (column.newest(Stamp::from_bits(3)), answer, count)
 }
 

@@ -1,21 +1,19 @@
--- One more column is copied.
-use Rattle.std.proofs.Common.{◌++◌, ◌∙◌, ap, ℕ, List}
-use Rattle.hlc_column.specs.Cells.{Cell}
-use Rattle.hlc_column.specs.Rows.{rows_of}
+-- One more leaf is copied.
+use Rattle.std.proofs.Common.{◌∙◌, ap}
+use Rattle.std.proofs.lemmas.List.{take_all}
+use Rattle.hlc_column.specs.Rows.{rows_in}
+use Rattle.hlc_columns.specs.Table.{columns_in}
 use Rattle.hlc_checkpoint.specs.Sorted.{rows_on}
-use Rattle.hlc_checkpoint.proofs.Copied.{column_on, columns_all}
+use Rattle.hlc_checkpoint.proofs.Copied.{leaf_on}
 use Rattle.hlc_checkpoint.proofs.sorted.copies_on.Goals as goal
 
-pub loop-one-preserved : goal.loop-one-preserved
-loop-one-preserved c =
-    column_on c.args.side c.args.bound c.args.columns.now c.loop-one.one-index c.one-item.result
-    c.loop-one.copies.items c.copy_column.new.copies.items c.loop-one-test.true c.one-item.is c.loop-one.invariant
-    (c.in_ok-copy_column.ensures ∙ ap
-    (λ (k : List ℕ). c.loop-one.copies.items
-    ++ rows_on c.args.side c.args.bound (rows_of k c.column.result.now)) c.key.ensures
-    ∙ ap (λ (cells : List Cell). c.loop-one.copies.items
-    ++ rows_on c.args.side c.args.bound (rows_of c.one-item.result.key cells)) c.column.ensures)
+pub loop-leaf-preserved : goal.loop-leaf-preserved
+loop-leaf-preserved c =
+    leaf_on c.args.side.now c.args.leaves.now c.loop-leaf.leaf-index c.leaf-item.result c.loop-leaf.copies.items
+    c.copy_leaf.new.copies.items c.loop-leaf-test.true c.leaf-item.is c.loop-leaf.invariant c.in_ok-copy_leaf.ensures
 
 pub returns : goal.returns
-returns c = columns_all c.args.side c.args.bound c.args.columns.now c.loop-one.one-index c.loop-one.copies.items
-    c.loop-one-test.false c.loop-one.invariant
+returns c =
+    c.loop-leaf.invariant
+    ∙ ap (λ leaves. rows_on c.args.side.now (rows_in (columns_in leaves)))
+    (take_all c.loop-leaf.leaf-index c.args.leaves.now c.loop-leaf-test.false)

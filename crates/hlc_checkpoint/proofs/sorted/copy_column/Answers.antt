@@ -9,16 +9,16 @@ use Rattle.hlc_checkpoint.proofs.sorted.copy_column.Goals as goal
 pub loop-place-preserved : goal.loop-place-preserved
 loop-place-preserved c =
     let items : Vec Row Global → List Row = λ copies. copies.items in
-    let same = ap (λ (xs : List ℕ). is_on c.args.side c.args.bound (get_or xs c.loop-place.place 0))
+    let same = ap (λ (xs : List ℕ). is_on c.args.side.now (get_or xs c.loop-place.place 0))
     c.stamps-stamps.ensures in
     elim c.if-is_on.branch [
       | then-is_on+in_ok-row+in_ok-push w ↦
-          kept_on c.args.side c.args.bound c.args.key.now c.args.column.now c.loop-place.place 0 w.in_ok-row.row
+          kept_on c.args.side.now c.args.key.now c.args.column c.loop-place.place 0 w.in_ok-row.row
           c.args.copies.now.items c.loop-place.copies.items c.if-is_on.copies.items w.in_ok-row.ensures
           (sym same ∙ sym c.is_on.ensures ∙ w.if-is_on.true)
           c.loop-place.invariant (ap items w.copies-is ∙ w.in_ok-push.ensures.items)
       | else-is_on w ↦
-          ap items w.copies-is ∙ passed_on c.args.side c.args.bound c.args.key.now c.args.column.now
+          ap items w.copies-is ∙ passed_on c.args.side.now c.args.key.now c.args.column
           c.loop-place.place 0 c.args.copies.now.items c.loop-place.copies.items
           (omega (arith, c.loop-place-test.true, c.len-place-end.ensures))
           (sym same ∙ sym c.is_on.ensures ∙ w.if-is_on.false)

@@ -6,4 +6,4 @@ use Rattle.hlc_checkpoint.proofs.sorted.copy_column.Given as goal
 
 abbrev pub invariant-loop-place : goal.invariant-loop-place
 invariant-loop-place l =
-    l.copies.items ≡ l.fn.copies.items ++ rows_on l.side l.bound (take l.place (rows_of l.key l.column))
+    l.copies.items ≡ l.fn.copies.items ++ rows_on l.side (take l.place (rows_of l.key l.column))

@@ -2,12 +2,13 @@
 use Rattle.std.proofs.Common.{leb, ap, ◌∙◌, ◌≡◌}
 use Rattle.hlc_node.specs.declared.row.Row.{Row}
 use Rattle.hlc_column.specs.Rows.{rows_in}
+use Rattle.hlc_columns.specs.Table.{columns_in}
 use Rattle.hlc_column.proofs.FlagLemmas.{filter-IsRowSet}
 use Rattle.hlc_checkpoint.proofs.sorted.sorted_rows_to.Goals as goal
 
 pub sort-requires : goal.sort-requires
 sort-requires c =
-    let same : rows_in c.as_slice.result.now ≡ c.args.table.now = ap rows_in c.as_slice.ensures.value
-    ∙ c.in_ok-columns.ensures.rows in
+    let same : rows_in (columns_in c.as_slice.result.now) ≡ c.args.table.now =
+    ap (λ leaves. rows_in (columns_in leaves)) c.as_slice.ensures.value ∙ c.in_ok-leaves.ensures.rows in
     rw (c.in_ok-listed.ensures, same)
-    (filter-IsRowSet (λ (row : Row). leb row.stamp c.args.bound) c.args.table.now c.in_ok-columns.ensures.row_set)
+    (filter-IsRowSet (λ (row : Row). leb row.stamp c.args.bound) c.args.table.now c.in_ok-leaves.ensures.row_set)

@@ -1,5 +1,5 @@
 -- One more column.
-use Rattle.std.proofs.Common.{◌∙◌, ap, ap₂, sym, arith}
+use Rattle.std.proofs.Common.{◌∙◌, ap, sym, arith}
 use Rattle.hlc_columns.specs.Table.{keyed}
 use Rattle.hlc_columns.specs.Answers.{entries_left}
 use Rattle.hlc_columns.proofs.Listed.{listed_all, listed_more}
@@ -13,8 +13,7 @@ returns-in_default c =
 
 pub loop-preserved : goal.loop-preserved
 loop-preserved c =
-    let one = c.new.ensures
-    ∙ ap₂ (λ k cells. record { key = k; cells = cells }) c.as_slice.ensures c.get.ensures in
+    let one = c.new.ensures ∙ ap (λ k. record { key = k; cells = c.in-Some.next.now.1 }) c.as_slice.ensures in
     let h = listed_more c.loop.list.items c.push.new.self.items (entries_left c.args.walk.now)
     (entries_left c.loop.walk) (entries_left c.next.new.self) c.loop.counter c.in-Some.next.now c.new.result
     c.loop.invariant.list c.loop.invariant.left c.in-Some.ensures c.in_ok-push.ensures.items one in

@@ -16,6 +16,8 @@ loop-slot-init c = record {
       ∙ ap (set c.args.columns.now c.args.at)
       (run_none kept_one many c.args.flags.now (get_or c.args.columns.now c.args.at []));
   left = total_none kept_one many c.args.flags.now (get_or c.args.columns.now c.args.at []);
+  sizes = c.requires.sizes;
+  fit = c.requires.fit;
 }
 
 pub keep_at-left-requires-clause-leaf : goal.keep_at-left-requires-clause-leaf
@@ -48,6 +50,8 @@ loop-slot-preserved c =
           c.loop-slot.left.now
           c.requires.leaf (below at) c.loop-slot.invariant.columns c.loop-slot.invariant.left c.keep_at-left.result.now
           c.keep_at-left.ensures.left;
+      sizes = c.keep_at-left.ensures.sizes;
+      fit = c.keep_at-left.ensures.fit;
     }
 
 pub returns-clause-kept : goal.returns-clause-kept

@@ -12,7 +12,7 @@ one_more c =
     c.loop-key-item.result
     c.loop-key-test.true c.loop-key-item.is c.loop-key.invariant
     (c.count_at.ensures c.loop-key-item.result.0
-    ∙ ap (λ cells. length (filter (within c.args.bound) (rows_of c.loop-key-item.result.0 cells))) c.get.ensures)
+    ∙ ap (λ cells. length (filter (within c.args.bound) (rows_of c.loop-key-item.result.0 cells))) c.lanes.ensures)
 
 pub overflow_add-total : goal.overflow_add-total
 overflow_add-total c =

@@ -3,6 +3,7 @@ use Rattle.std.proofs.Common.{◌≡◌, ◌∙◌, ◌++◌, ◌∷◌, [], sym
 use Rattle.std.specs.List.{AllZip}
 use Rattle.std.proofs.lemmas.Grind.{common_steps}
 use Rattle.hlc_column.specs.Rows.{KeysAscend}
+use Rattle.hlc_columns.specs.Table.{columns_in}
 use Rattle.hlc_vacuum.specs.Parallel.{DraftsPiece}
 use Rattle.hlc_draft.specs.KeyPlan.{IsJoined}
 use Rattle.hlc_vacuum.proofs.Pieces.{JoinsPieces, pieces_on, pieces_none}
@@ -28,10 +29,10 @@ loop-one-preserved c =
     }
 
 pub returns : goal.returns
-returns c = λ points columns up drafts.
+returns c = λ points leaves up drafts.
     let all' = c.loop-one.invariant.all' in
     let end : c.loop-one.yielded ≡ c.args.drafts.items = grind (arith, common_steps) in
-    subst (λ xs. IsJoined xs points c.loop-one.whole.witnesses.items c.loop-one.whole.keep.items
+    subst (λ xs. IsJoined (columns_in xs) points c.loop-one.whole.witnesses.items c.loop-one.whole.keep.items
     c.loop-one.whole.bytes) drafts.1
-    (c.loop-one.invariant.joined points drafts.0 (subst KeysAscend (sym drafts.1) up)
+    (c.loop-one.invariant.joined points drafts.0 (subst (λ xs. KeysAscend (columns_in xs)) (sym drafts.1) up)
     (subst (AllZip (DraftsPiece points) drafts.0) (sym end) drafts.2))

@@ -25,14 +25,14 @@ some_rows c =
 pub returns-in-Some-clause-rows : goal.returns-in-Some-clause-rows
 returns-in-Some-clause-rows c =
     let at = (goal.at.returns-in-Some-clause-rows c).After-get in
-    ap (rows_of c.args.key.now) c.get-in-Some.ensures
+    ap (rows_of c.args.key.now) c.lanes.ensures
     ∙ ap (λ o. rows_of c.args.key.now (cells_in (option_copied o))) (sym c.in-Some.is)
     ∙ sym (rows_are at)
 
 pub returns-in-Some-clause-absent : goal.returns-in-Some-clause-absent
 returns-in-Some-clause-absent c =
     let at = (goal.at.returns-in-Some-clause-absent c).After-get in
-    found_absent (Some c.in-Some.column) c.args.key.now (rows_with c.args.key.now c.args.self.now)
+    found_absent (Some c.in-Some.column.now) c.args.key.now (rows_with c.args.key.now c.args.self.now)
     (rows_are at ∙ ap (λ o. rows_of c.args.key.now (cells_in (option_copied o))) c.in-Some.is)
     (subst (λ o. IfSome (option_copied o) (λ (cells : List Cell). 0 < length cells)) c.in-Some.is (some_rows at))
 

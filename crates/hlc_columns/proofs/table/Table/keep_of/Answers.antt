@@ -24,8 +24,7 @@ its_many c =
 read_many : (c : After-len) → c.len.result ≡ length (cells_at c.self.inside.columns c.in-Some.at c.in-Some.slot)
 read_many c =
     c.len.ensures
-    ∙ ap length (c.get.ensures
-    ∙ ap (λ leaf. (get_or leaf c.in-Some.slot c.index-leaf-slot.result).1) c.leaf.ensures
+    ∙ ap length (ap (λ leaf. (get_or leaf c.in-Some.slot c.index-leaf-slot.result).1) c.leaf.ensures
     ∙ sym (get_or-map (λ (e : Entry). e.1) (get_or c.self.inside.columns c.in-Some.at []) c.in-Some.slot
     c.index-leaf-slot.result [] c.in-Some.ensures.place.1))
 

@@ -43,7 +43,7 @@ from_here c = search rules
 
 pub loop-point-init : goal.loop-point-init
 loop-point-init c =
-    let column = c.args.column.now in
+    let column = c.args.column in
     let bound = last_point c.args.points.now in
     let above = map (λ s. ltb bound s) (map (λ (x : Cell). x.stamp) column) in
     let flags : c.add_flags.new.flags.items ≡ c.args.self.now.keep.items ++ above =
@@ -74,7 +74,7 @@ pub loop-point-preserved-then-bits-next : goal.loop-point-preserved-then-bits-ne
 loop-point-preserved-then-bits-next c =
     let key = c.args.key.now in
     let points = c.args.points.now in
-    let rows = rows_of key c.args.column.now in
+    let rows = rows_of key c.args.column in
     let i = c.loop-point.point-index in
     let inv = c.loop-point.invariant in
     let old = c.args.self.now in
@@ -101,7 +101,7 @@ pub returns-then-last-next : goal.returns-then-last-next
 returns-then-last-next c =
     let key = c.args.key.now in
     let points = c.args.points.now in
-    let rows = rows_of key c.args.column.now in
+    let rows = rows_of key c.args.column in
     let i = c.loop-point.point-index in
     let inv = c.loop-point.invariant in
     let old = c.args.self.now in
@@ -114,7 +114,7 @@ returns-then-last-next c =
 
 pub loop-point-preserved : goal.loop-point-preserved
 loop-point-preserved c =
-    let column = c.args.column.now in
+    let column = c.args.column in
     let key = c.args.key.now in
     let points = c.args.points.now in
     let rows = rows_of key column in
@@ -184,7 +184,7 @@ loop-point-preserved c =
     ]
 
 pub returns : goal.returns
-returns c = added_done (rows_of c.args.key.now c.args.column.now) c.args.key.now c.args.points.now
+returns c = added_done (rows_of c.args.key.now c.args.column) c.args.key.now c.args.points.now
     c.loop-point.point-index c.args.self.now.witnesses.items c.loop-point.self.witnesses.items
     c.args.self.now.keep.items c.loop-point.self.keep.items c.args.self.now.bytes c.loop-point.self.bytes
     c.loop-point-test.false c.loop-point.invariant.added

@@ -1,7 +1,0 @@
--- The rows of the columns so far are copied.
-use Rattle.std.proofs.Common.{◌≡◌, take}
-use Rattle.hlc_column.specs.Rows.{rows_in}
-use Rattle.hlc_checkpoint.proofs.sorted.copies_of.Given as goal
-
-abbrev pub invariant-loop-one : goal.invariant-loop-one
-invariant-loop-one l = l.copies.items ≡ rows_in (take l.one-index l.columns)

@@ -1,0 +1,295 @@
+//! The rows of one key in as little memory as they need.
+ghost use Rattle.std.specs.Prelude.{◌≡◌, ◌≤◌, ◌++◌, ◌∷◌, [], length, IfOk, IfErr, OnOk, OnErr};
+ghost use Rattle.std.specs.List.{items_where_true};
+ghost use Rattle.hlc_column.specs.Forms.{cells_in_form};
+
+use crate::few::Few;
+use crate::lanes::Lanes;
+use crate::lists::Lists;
+use crate::single::Single;
+use hlc_clock::Stamp;
+use hlc_node::{Bytes, ValueOrMark};
+use hlc_values::NoMemory;
+use std::alloc::{AllocFailed, Global};
+use std::marker::Model;
+use std::mem::replace;
+use std::slice::from_ref;
+
+/// Where the rows are stored. One row is in place: its fields are beside the tag, so that a form has 48 bytes.
+#[derive(Debug, Drop)]
+pub(crate) enum Form {
+    Empty,
+    One {
+        node: u16,
+        stamp: u64,
+        value: ValueOrMark,
+    },
+    Two(Box<Few<2>>),
+    Four(Box<Few<4>>),
+    Many(Box<Lists<0>>),
+}
+
+/// The rows of one key in arrival order, in as little memory as they need: one row in place, two in a block for two,
+/// three and four in a block for four, and more in lists that grow by half and have an index from 17 rows on. In
+/// contracts it is the list of their cells.
+#[derive(Debug, Drop)]
+pub struct Rows {
+    form: Form,
+}
+
+impl Model for Rows {
+    ghost use Rattle.std.specs.Prelude.{List};
+    ghost use Rattle.hlc_column.specs.Cells.{Cell};
+    ghost use Rattle.hlc_column.specs.Forms.{cells_in_form};
+
+    ghost Value = { List Cell };
+
+    ghost view = { λ rows. cells_in_form rows.form };
+}
+
+impl Rows {
+    /// Returns one row, which needs no memory.
+    pub fn of_row(stamp: Stamp, node: u16, value: Option<Bytes>) -> Rows
+        ensures { result ≡ record { stamp = stamp; node = node; value = value } ∷ [] }
+    {
+        Rows {
+            form: in_place(Single::new(stamp, node, value)),
+        }
+    }
+
+    /// Returns the number of rows.
+    pub fn len(&self) -> usize
+        ensures { result ≡ length self.now }
+    {
+        match &self.form {
+            Form::Empty => 0,
+            Form::One { .. } => 1,
+            Form::Two(block) => block.len(),
+            Form::Four(block) => block.len(),
+            Form::Many(lists) => lists.len(),
+        }
+    }
+
+    /// Returns the rows, lent.
+    pub fn lanes(&self) -> Lanes<'_>
+        ensures { result ≡ self.now }
+    {
+        match &self.form {
+            Form::Empty => Lanes::new(&[], &[], &[], &[]),
+            Form::One { node, stamp, value } => {
+                Lanes::new(from_ref(stamp), from_ref(node), from_ref(value), &[])
+            }
+            Form::Two(block) => block.lanes(),
+            Form::Four(block) => block.lanes(),
+            Form::Many(lists) => lists.lanes(),
+        }
+    }
+
+    /// Appends a row. If memory runs out, nothing is changed. The first row needs none, and neither does the fourth
+    /// after a third; if only memory for the index runs out, the push succeeds, and reads scan more rows until a later
+    /// row extends the index.
+    pub fn push(
+        &mut self,
+        alloc: Global,
+        stamp: Stamp,
+        node: u16,
+        value: Option<Bytes>,
+    ) -> Result<(), NoMemory>
+        ensures ok { OnOk result (self.new
+            ≡ self.old ++ record { stamp = stamp; node = node; value = value } ∷ []) }
+        ensures err { OnErr result (self.new ≡ self.old) }
+    {
+        let form = replace(&mut self.form, Form::Empty);
+        match longer(alloc, form, Single::new(stamp, node, value)) {
+            Ok(form) => {
+                self.form = form;
+                Ok(())
+            }
+            Err(failed) => {
+                self.form = failed.value;
+                Err(NoMemory)
+            }
+        }
+    }
+
+    /// Keeps only the flagged rows, in their order. It needs no memory. If one row is left, it moves in place, and if
+    /// none is, nothing is: what the rows were in is freed. Otherwise they stay where they were, in lists that give
+    /// back what they do not use.
+    pub fn keep(&mut self, keep: &[bool])
+        requires { length keep.now ≡ length self.old }
+        ensures { self.new ≡ items_where_true keep.now self.old }
+    {
+        let form = replace(&mut self.form, Form::Empty);
+        self.form = kept(form, keep);
+    }
+}
+
+/// Stores a row in place.
+fn in_place(row: Single) -> Form
+    ensures { cells_in_form result ≡ row ∷ [] }
+{
+    let Single { node, stamp, value } = row;
+    Form::One { node, stamp, value }
+}
+
+/// Returns the rows and one more, or the rows alone in the error if memory runs out.
+fn longer(alloc: Global, form: Form, row: Single) -> Result<Form, AllocFailed<Form>>
+    ensures ok { IfOk result (λ form_new. cells_in_form form_new ≡ cells_in_form form ++ row ∷ []) }
+    ensures err { IfErr result (λ failed. cells_in_form failed.value ≡ cells_in_form form) }
+{
+    match form {
+        Form::Empty => Ok(in_place(row)),
+        Form::One { node, stamp, value } => second(alloc, Single { node, stamp, value }, row),
+        Form::Two(block) => third(alloc, block, row),
+        Form::Four(block) => fifth(alloc, block, row),
+        Form::Many(lists) => later(lists, row),
+    }
+}
+
+/// Returns a row and a second in a block for two.
+fn second(alloc: Global, first: Single, row: Single) -> Result<Form, AllocFailed<Form>>
+    ensures ok { IfOk result (λ form. cells_in_form form ≡ first ∷ row ∷ []) }
+    ensures err { IfErr result (λ failed. cells_in_form failed.value ≡ first ∷ []) }
+{
+    let Ok(mut block) = Box::new(alloc, Few::<2>::new()) else {
+        return Err(AllocFailed {
+            value: in_place(first),
+        });
+    };
+    block.push(first);
+    block.push(row);
+    Ok(Form::Two(block))
+}
+
+/// Returns the rows of a block for two and one more, in a block for four if it is full.
+fn third(alloc: Global, block: Box<Few<2>>, row: Single) -> Result<Form, AllocFailed<Form>>
+    ensures ok { IfOk result (λ form. cells_in_form form ≡ block.value ++ row ∷ []) }
+    ensures err { IfErr result (λ failed. cells_in_form failed.value ≡ block.value) }
+{
+    let mut block = block;
+    if block.len() < 2 {
+        block.push(row);
+        return Ok(Form::Two(block));
+    }
+    let Ok(mut larger) = Box::new(alloc, Few::<4>::new()) else {
+        return Err(AllocFailed {
+            value: Form::Two(block),
+        });
+    };
+    Box::into_inner(block).pour(&mut larger);
+    larger.push(row);
+    Ok(Form::Four(larger))
+}
+
+/// Returns the rows of a block for four and one more, in lists if it is full.
+fn fifth(alloc: Global, block: Box<Few<4>>, row: Single) -> Result<Form, AllocFailed<Form>>
+    ensures ok { IfOk result (λ form. cells_in_form form ≡ block.value ++ row ∷ []) }
+    ensures err { IfErr result (λ failed. cells_in_form failed.value ≡ block.value) }
+{
+    let mut block = block;
+    if block.len() < 4 {
+        block.push(row);
+        return Ok(Form::Four(block));
+    }
+    let Ok(mut lists) = lists_for_eight(alloc) else {
+        return Err(AllocFailed {
+            value: Form::Four(block),
+        });
+    };
+    Box::into_inner(block).pour_in_lists(&mut lists);
+    lists.push_reserved(row);
+    Ok(Form::Many(lists))
+}
+
+/// Returns lists without a row, with room for eight.
+fn lists_for_eight(alloc: Global) -> Result<Box<Lists<0>>, NoMemory>
+    ensures cells { IfOk result (λ lists. lists.value.cells ≡ []) }
+    ensures room { IfOk result (λ lists. 8 ≤ lists.value.room) }
+{
+    let lists = Lists::with_room(alloc, 8)?;
+    Ok(Box::new(alloc, lists)?)
+}
+
+/// Returns the rows of lists and one more.
+fn later(lists: Box<Lists<0>>, row: Single) -> Result<Form, AllocFailed<Form>>
+    ensures ok { IfOk result (λ form. cells_in_form form ≡ lists.value.cells ++ row ∷ []) }
+    ensures err { IfErr result (λ failed. cells_in_form failed.value ≡ lists.value.cells) }
+{
+    let mut lists = lists;
+    if lists.reserve().is_err() {
+        return Err(AllocFailed {
+            value: Form::Many(lists),
+        });
+    }
+    lists.push_reserved(row);
+    Ok(Form::Many(lists))
+}
+
+/// Returns the flagged rows, in their order.
+fn kept(form: Form, keep: &[bool]) -> Form
+    requires { length keep.now ≡ length (cells_in_form form) }
+    ensures { cells_in_form result ≡ items_where_true keep.now (cells_in_form form) }
+{
+    match form {
+        Form::Empty => Form::Empty,
+        Form::One { node, stamp, value } => {
+            if keep[0] {
+                Form::One { node, stamp, value }
+            } else {
+                Form::Empty
+            }
+        }
+        Form::Two(block) => {
+            let mut block = block;
+            block.keep(keep);
+            smaller_than_two(block)
+        }
+        Form::Four(block) => {
+            let mut block = block;
+            block.keep(keep);
+            smaller_than_four(block)
+        }
+        Form::Many(lists) => {
+            let mut lists = lists;
+            lists.keep(keep);
+            smaller_than_lists(lists)
+        }
+    }
+}
+
+/// Returns the rows of a block for two, in place if there is one.
+fn smaller_than_two(block: Box<Few<2>>) -> Form
+    ensures { cells_in_form result ≡ block.value }
+{
+    match block.len() {
+        0 => Form::Empty,
+        1 => in_place(Box::into_inner(block).into_row()),
+        _ => Form::Two(block),
+    }
+}
+
+/// Returns the rows of a block for four, in place if there is one.
+fn smaller_than_four(block: Box<Few<4>>) -> Form
+    ensures { cells_in_form result ≡ block.value }
+{
+    match block.len() {
+        0 => Form::Empty,
+        1 => in_place(Box::into_inner(block).into_row()),
+        _ => Form::Four(block),
+    }
+}
+
+/// Returns the rows of lists, in place if there is one, and otherwise in lists that give back what they do not use.
+fn smaller_than_lists(lists: Box<Lists<0>>) -> Form
+    ensures { cells_in_form result ≡ lists.value.cells }
+{
+    match lists.len() {
+        0 => Form::Empty,
+        1 => in_place(Box::into_inner(lists).into_row()),
+        _ => {
+            let mut lists = lists;
+            lists.shrink();
+            Form::Many(lists)
+        }
+    }
+}

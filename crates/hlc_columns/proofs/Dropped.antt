@@ -1,0 +1,162 @@
+-- Rows of a column are dropped: what becomes of the sizes of the columns that have rows.
+use Rattle.std.proofs.Common.{◌≡◌, ℕ, ◌+◌, ◌<◌, ◌≤◌, Bool, true, false, cond, List, [], ◌∷◌, ◌++◌, refl, sym, ap, ap₂}
+use Rattle.std.proofs.Common.{◌||◌, true≢false, ◌∙◌, inl, inr, arith, length, get_or, set, subst, filter, ltb, All}
+use Rattle.std.specs.Prelude.{sum_by}
+use Rattle.std.specs.List.{items_where_true, list_any, AllByRecursion}
+use Rattle.std.proofs.lemmas.Bool.{cases_Bool, lt-ltb, ltb-true}
+use Rattle.std.proofs.lemmas.List.{set-get_or}
+use Rattle.std.proofs.lemmas.List.Sums.{sum_by-cons}
+use Rattle.std.proofs.lemmas.List.Elements.{filter-append, recursion_from_All}
+use Rattle.hlc_column.specs.Cells.{Cell, cell_bytes}
+use Rattle.hlc_index.specs.Entries.{entries_before, entries_from, with_value_in}
+use Rattle.hlc_columns.specs.Table.{if_filled, key_at, cells_at}
+use Rattle.hlc_columns.specs.Sizes.{sizes_of, filled_sizes, plus, minus, Fit, IsPart, Sizes}
+use Rattle.hlc_columns.proofs.Kept.{is_filled}
+use Rattle.hlc_columns.proofs.KeptOf.{apart, is_part, minus_is, parted_own, key_there, cells_there, key_now, cells_now}
+use Rattle.hlc_columns.proofs.KeptOf.{entries_now, filled_some}
+use Rattle.hlc_columns.proofs.SizeLemmas.{Entry, equal, fit_less, sum_kept, length_kept}
+
+-- a column among others, if it has rows
+filled_among : (xs ys : List Entry) (e : Entry)
+    → filter is_filled (xs ++ e ∷ ys) ≡ filter is_filled xs ++ (if_filled e ++ filter is_filled ys)
+filled_among xs ys e =
+    filter-append is_filled xs (e ∷ ys)
+    ∙ ap (λ l. filter is_filled xs ++ l) (elim (is_filled e) as (λ b.
+    cond b (e ∷ filter is_filled ys) (filter is_filled ys) ≡ cond b (e ∷ []) [] ++ filter is_filled ys) [
+      | true ↦ refl
+      | false ↦ refl
+    ])
+
+nothing : (s : Sizes) → s ≡ plus s (sizes_of [])
+nothing s = equal s (plus s (sizes_of [])) (omega arith) (omega arith) (omega arith) (omega arith)
+
+-- and its part of the sizes
+filled_apart : (xs ys : List Entry) (e : Entry)
+    → sizes_of (xs ++ (if_filled e ++ ys)) ≡ plus (sizes_of (xs ++ ys)) (sizes_of (if_filled e))
+filled_apart xs ys e = elim (is_filled e) as (λ b.
+    sizes_of (xs ++ (cond b (e ∷ []) [] ++ ys)) ≡ plus (sizes_of (xs ++ ys)) (sizes_of (cond b (e ∷ []) []))) [
+      | true ↦ apart xs ys e
+      | false ↦ nothing (sizes_of (xs ++ ys))
+    ]
+
+-- fewer rows of a column are a part of them
+less : (key : List ℕ) (flags : List Bool) (cells : List Cell)
+    → IsPart (sizes_of (if_filled (key, items_where_true flags cells))) (sizes_of (if_filled (key, cells)))
+less key flags cells =
+    let kept = items_where_true flags cells in
+    elim (cases_Bool (ltb 0 (length kept))) [
+      | inl t ↦
+          let some = ltb-true 0 (length kept) t in
+          let long = length_kept flags cells in
+          subst (λ es. IsPart (sizes_of es) (sizes_of (if_filled (key, cells))))
+          (sym (filled_some (key, kept) (λ none. omega (arith, some, none))))
+          (subst (λ es. IsPart (sizes_of ((key, kept) ∷ [])) (sizes_of es))
+          (sym (filled_some (key, cells) (λ none. omega (arith, some, long, none))))
+          (record {
+            rows = single (λ (e : Entry). length e.1) long;
+            keys = omega arith;
+            key_bytes = single (λ (e : Entry). length e.0) (omega arith);
+            value_bytes = single (λ (e : Entry). sum_by cell_bytes e.1) (sum_kept cell_bytes flags cells);
+          }))
+      | inr f ↦
+          subst (λ es. IsPart (sizes_of es) (sizes_of (if_filled (key, cells))))
+          (sym (ap (λ b. cond b ((key, kept) ∷ []) []) f))
+          (record { rows = omega arith; keys = omega arith; key_bytes = omega arith; value_bytes = omega arith })
+    ]
+  where
+    single : (f : Entry → ℕ) → f (key, items_where_true flags cells) ≤ f (key, cells)
+        → sum_by f ((key, items_where_true flags cells) ∷ []) ≤ sum_by f ((key, cells) ∷ [])
+    single f le =
+        let a = sum_by-cons f (key, items_where_true flags cells) [] in
+        let b = sum_by-cons f (key, cells) [] in
+        omega (arith, a, b, le)
+
+-- flagged rows of the column at a position are kept
+module _ (ls : List (List Entry)) (at slot : ℕ) (inside : at < length ls) (lt : slot < length (get_or ls at []))
+    (flags : List Bool) (sizes before : Sizes) (all : sizes ≡ filled_sizes ls)
+    (own : before ≡ sizes_of (if_filled (key_at ls at slot, cells_at ls at slot))) where
+  abbrev ahead : List Entry
+  ahead = entries_before ls at slot
+
+  abbrev behind : List Entry
+  behind = entries_from ls at (slot + 1)
+
+  abbrev others_there : Sizes
+  others_there = sizes_of (filter is_filled ahead ++ filter is_filled behind)
+
+  abbrev own_key : List ℕ
+  own_key = key_at ls at slot
+
+  abbrev own_kept : List Cell
+  own_kept = items_where_true flags (cells_at ls at slot)
+
+  parts : sizes ≡ plus others_there (sizes_of (if_filled (own_key, cells_at ls at slot)))
+  parts =
+      all ∙ ap (λ es. sizes_of (filter is_filled es)) (parted_own ls at slot inside lt)
+      ∙ ap sizes_of (filled_among ahead behind (own_key, cells_at ls at slot))
+      ∙ filled_apart (filter is_filled ahead) (filter is_filled behind) (own_key, cells_at ls at slot)
+
+  pub dropped_part : IsPart before sizes
+  dropped_part = is_part sizes others_there before (parts ∙ ap (plus others_there) (sym own))
+
+  module _ (now : List (List Entry)) (after others : Sizes) (written : now ≡ with_value_in ls at slot own_kept)
+      (left : after ≡ sizes_of (if_filled (key_at now at slot, cells_at now at slot)))
+      (rest : others ≡ minus sizes before) where
+    both_are : plus others after ≡ plus others_there (sizes_of (if_filled (own_key, own_kept)))
+    both_are =
+        ap₂ plus (rest ∙ minus_is sizes others_there before (parts ∙ ap (plus others_there) (sym own)))
+        (left ∙ ap₂ (λ k cs. sizes_of (if_filled (k, cs))) (key_now ls at slot inside lt now own_kept written)
+        (cells_now ls at slot inside lt now own_kept written))
+
+    pub dropped_sizes : plus others after ≡ filled_sizes now
+    dropped_sizes =
+        both_are ∙ sym (filled_apart (filter is_filled ahead) (filter is_filled behind) (own_key, own_kept))
+        ∙ ap sizes_of (sym (filled_among ahead behind (own_key, own_kept)))
+        ∙ ap (λ es. sizes_of (filter is_filled es)) (sym (entries_now ls at slot inside lt now own_kept written))
+
+    pub dropped_fit : Fit sizes → Fit (plus others after)
+    dropped_fit fit =
+        let few = less own_key flags (cells_at ls at slot) in
+        let a = few.rows in
+        let b = few.keys in
+        let c = few.key_bytes in
+        let d = few.value_bytes in
+        subst Fit (sym both_are)
+        (fit_less (plus others_there (sizes_of (if_filled (own_key, own_kept))))
+        (plus others_there (sizes_of (if_filled (own_key, cells_at ls at slot))))
+        (omega (arith, a)) (omega (arith, b)) (omega (arith, c)) (omega (arith, d)) (subst Fit parts fit))
+
+-- a column is written with the rows that it has
+pub same_value : (ls : List (List Entry)) (at slot : ℕ) → at < length ls → slot < length (get_or ls at [])
+    → with_value_in ls at slot (cells_at ls at slot) ≡ ls
+same_value ls at slot inside lt =
+    ap₂ (λ k cs. set ls at (set (get_or ls at []) slot (k, cs))) (key_there ls at slot inside lt)
+    (cells_there ls at slot inside lt)
+    ∙ ap (set ls at) (set-get_or (get_or ls at []) slot ([], []))
+    ∙ set-get_or ls at []
+
+-- columns that all have rows
+pub all_have : (es : List Entry) → All (λ e. 0 < length e.1) es → filter is_filled es ≡ es
+all_have es filled = go es (recursion_from_All (λ (e : Entry). 0 < length e.1) es filled)
+  where
+    go : (es : List Entry) → AllByRecursion (λ e. 0 < length e.1) es → filter is_filled es ≡ es
+    go [] h = refl
+    go (e ∷ es) h =
+        ap (λ b. cond b (e ∷ filter is_filled es) (filter is_filled es)) (lt-ltb 0 (length e.1) h.0)
+        ∙ ap (λ l. e ∷ l) (go es h.1)
+
+-- neither of two
+or_second : (a b : Bool) → (a || b) ≡ false → b ≡ false
+or_second true b h = absurd (true≢false h)
+or_second false b h = h
+
+-- if no flag is unset, all rows are kept
+pub all_set : (is_unset : Bool → Bool) → is_unset false ≡ true → (flags : List Bool) (cells : List Cell)
+    → length flags ≡ length cells → list_any is_unset flags ≡ false → items_where_true flags cells ≡ cells
+all_set p unset [] [] many none = refl
+all_set p unset [] (c ∷ cells) many none = absurd (omega (arith, many))
+all_set p unset (b ∷ flags) [] many none = absurd (omega (arith, many))
+all_set p unset (true ∷ flags) (c ∷ cells) many none =
+    ap (λ l. c ∷ l) (all_set p unset flags cells (omega (arith, many)) (or_second (p true) (list_any p flags) none))
+all_set p unset (false ∷ flags) (c ∷ cells) many none =
+    absurd (true≢false (sym (ap (λ b. b || list_any p flags) unset) ∙ none))

@@ -1,0 +1,7 @@
+-- No more rows were counted than the earlier columns have.
+use Rattle.std.proofs.Common.{◌≤◌, length, take}
+use Rattle.hlc_column.specs.Rows.{rows_in}
+use Rattle.hlc_vacuum.proofs.ahead.rows_of_leaf.Given as goal
+
+abbrev pub invariant-loop-place : goal.invariant-loop-place
+invariant-loop-place l = l.rows ≤ length (rows_in (take l.place l.leaf))

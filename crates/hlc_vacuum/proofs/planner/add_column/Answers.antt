@@ -1,0 +1,20 @@
+-- The plan is of the key and its rows.
+use Rattle.std.proofs.Common.{subst, List, ℕ}
+use Rattle.std.proofs.lemmas.Result.{on_ok_weaker}
+use Rattle.hlc_column.specs.Cells.{Cell}
+use Rattle.hlc_column.specs.Rows.{rows_of}
+use Rattle.hlc_draft.specs.KeyPlan.{AddsPlan}
+use Rattle.hlc_vacuum.proofs.planner.add_column.Goals as goal
+
+pub returns : goal.returns
+returns c =
+    let one = c.args.one.now in
+    let points = c.args.points.now in
+    let old = c.args.draft.now in
+    let new = c.add.new.self in
+    on_ok_weaker c.add.result
+    (λ adds. subst (λ (k : List ℕ). AddsPlan (rows_of k one.cells) k points old.witnesses.items new.witnesses.items
+    old.keep.items new.keep.items old.bytes new.bytes) c.key.ensures
+    (subst (λ (cells : List Cell). AddsPlan (rows_of c.key.result.now cells) c.key.result.now points
+    old.witnesses.items new.witnesses.items old.keep.items new.keep.items old.bytes new.bytes) c.column.ensures adds))
+    c.add.ensures
