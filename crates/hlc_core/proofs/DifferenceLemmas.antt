@@ -210,13 +210,27 @@ value_stays key (one ∷ more) value none =
 abbrev firsts : List Difference → List (List ℕ)
 firsts changes = map (λ one. one.0) changes
 
-first_later : (key : List ℕ) (changes : List Difference) (one : Difference)
-    → AllByRecursion (λ k. key_cmp key k ≡ Less) (firsts changes) → Contains changes one → key_cmp key one.0 ≡ Less
-first_later key [] one all m = absurd (Contains-none {X = Difference} one m)
-first_later key (c ∷ changes) one all m = elim (Contains-cons_cases {X = Difference} c one changes m) [
-  | inl same ↦ subst (λ (x : Difference). key_cmp key x.0 ≡ Less) same all.0
-  | inr there ↦ first_later key changes one all.1 there
+first_later : {V : Type 0} (key : List ℕ) (items : List (List ℕ × V)) (one : List ℕ × V)
+    → AllByRecursion (λ k. key_cmp key k ≡ Less) (map (λ item. item.0) items) → Contains items one
+    → key_cmp key one.0 ≡ Less
+first_later {V} key [] one all m = absurd (Contains-none {X = List ℕ × V} one m)
+first_later {V} key (item ∷ items) one all m = elim (Contains-cons_cases {X = List ℕ × V} item one items m) [
+  | inl same ↦ subst (λ (x : List ℕ × V). key_cmp key x.0 ≡ Less) same all.0
+  | inr there ↦ first_later key items one all.1 there
 ]
+
+-- items whose keys ascend have keys that are apart
+abbrev pub HaveOtherKeys : {V : Type 0} → List ℕ × V → List ℕ × V → Type 0
+HaveOtherKeys one other = one.0 ≢ other.0
+
+pub keys_apart : {V : Type 0} (items : List (List ℕ × V))
+    → IsStrictlySortedBy (slice_cmp nat_cmp) (map (λ item. item.0) items) → AreApart HaveOtherKeys items
+unfolding IsStrictlySortedBy
+keys_apart [] up = tt
+keys_apart (one ∷ more) up = (
+  λ other m. less_apart one.0 other.0 (first_later one.0 more other up.0 m),
+  keys_apart more up.1,
+)
 
 -- one that is among them, each key once, has its new value
 value_set : (changes : List Difference) (one : Difference) (value : Option (List ℕ))
@@ -326,20 +340,8 @@ differences-lead rows from to differences listing next are is also =
     also
 
 -- ---- and no fewer changes do
-abbrev Apart : Difference → Difference → Type 0
-Apart one other = one.0 ≢ other.0
-
 abbrev OfKey : Difference → Difference → Type 0
 OfKey one other = other.0 ≡ one.0
-
-all_apart : (differences : List Difference) → IsStrictlySortedBy (slice_cmp nat_cmp) (firsts differences)
-    → AreApart Apart differences
-unfolding IsStrictlySortedBy
-all_apart [] up = tt
-all_apart (one ∷ more) up = (
-  λ other m. less_apart one.0 other.0 (first_later one.0 more other up.0 m),
-  all_apart more up.1,
-)
 
 -- a key is among some changes, or it is not
 among : (key : List ℕ) (changes : List Difference) → ((one : Difference) × Contains changes one × (one.0 ≡ key))
@@ -373,9 +375,9 @@ differences-least rows from to differences others listing next are is also lead 
           ∙ listing_value rows to next also one.0 ∙ at.1))
     ] in
     let fit : sum_by (λ (one : Difference). 1) differences ≤ sum_by (λ (one : Difference). 1) others =
-    served Apart OfKey (λ (one : Difference). 1) (λ (one : Difference). 1) (λ x y r. omega arith)
+    served HaveOtherKeys OfKey (λ (one : Difference). 1) (λ (one : Difference). 1) (λ x y r. omega arith)
     (λ x z y apart first second. apart (sym first ∙ second)) differences others
-    (all_apart differences are.ascending) each in
+    (keys_apart differences are.ascending) each in
     let few : sum_by (λ (one : Difference). 1) differences ≡ length differences = sum_by_one differences in
     let many : sum_by (λ (one : Difference). 1) others ≡ length others = sum_by_one others in
     omega arith

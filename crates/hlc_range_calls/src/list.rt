@@ -1,10 +1,11 @@
 //! A listing, as bytes.
-ghost use Rattle.std.specs.Prelude.{◌≡◌, ◌≢◌, ◌≤◌, ◌+◌, List, length, MatchOption, option_copied};
+ghost use Rattle.std.specs.Prelude.{◌≡◌, ◌≢◌, ◌≤◌, ◌+◌, ◌*◌, List, length, MatchOption, IfSome, option_copied, true};
 ghost use Rattle.hlc_core.specs.Past.{Step, stamp_of, writes};
 ghost use Rattle.hlc_core.specs.StoreView.{Represents};
 ghost use Rattle.hlc_range_calls.specs.Listing.{sized, answer_bytes, pair_bytes, listing_bytes, with_bytes};
 ghost use Rattle.hlc_range_calls.specs.Listing.{ReturnsListing};
 
+use hlc_columns::Sizes;
 use hlc_core::{Answers, Core};
 
 /// Returns how many bytes the pairs take, or none where 64 bits do not hold the number.
@@ -69,19 +70,42 @@ pub fn put_answer(out: &mut [u8], at: usize, value: Option<&[u8]>) -> usize
     }
 }
 
-/// Writes the pairs to the start of a buffer that has room for them.
-fn put_listing(out: &mut [u8], answers: Answers<'_>)
+/// Writes the pairs to the start of a buffer that has room for them, and returns the place after them.
+fn put_listing(out: &mut [u8], answers: Answers<'_>) -> usize
     requires { length (listing_bytes answers) ≤ length out.now }
-    ensures { out.new ≡ with_bytes 0 (listing_bytes answers.entry) out.old }
+    ensures end { result ≡ length (listing_bytes answers.entry) }
+    ensures put { out.new ≡ with_bytes 0 (listing_bytes answers.entry) out.old }
 {
     let mut at = 0usize;
     for (key, value) in answers {
         at = put_pair(out, at, key, value);
     }
+    at
+}
+
+/// Returns how many bytes the listing of a snapshot takes at most, if 128 bits hold the number: 16 for each key, and
+/// those of all keys and all values.
+fn most_bytes(sizes: Sizes) -> Option<u128>
+    ensures { IfSome result
+        (λ most. most ≡ 16 * sizes.keys + (sizes.key_bytes + sizes.value_bytes)) }
+{
+    let bytes = sizes.key_bytes.checked_add(sizes.value_bytes)?;
+    sizes.keys.checked_mul(16)?.checked_add(bytes)
+}
+
+/// Returns whether a buffer has room for each listing of a store of these sizes.
+fn has_room(sizes: Sizes, room: usize) -> bool
+    ensures { result ≡ true → 16 * sizes.keys + (sizes.key_bytes + sizes.value_bytes) ≤ room }
+{
+    match most_bytes(sizes) {
+        Some(most) => most <= room as u128,
+        None => false,
+    }
 }
 
 /// Lists the keys with a value in a snapshot. Returns 0, the length of the listing in bytes and, where they fit, the
-/// bytes; or 10. It iterates over the keys twice, and takes no memory.
+/// bytes; or 10. It takes no memory, and goes through the keys once where the buffer has room for 16 bytes a key and
+/// the bytes of all keys and of the values of all rows; otherwise twice, first for the length.
 pub fn list(core: &Core, id: u64, out: &mut [u8], len: &mut usize) -> u32
     ensures listed { (past : List Step) → Represents core.now past
         → ReturnsListing (stamp_of id past) (writes past) result len.new out.old out.new }
@@ -92,12 +116,16 @@ pub fn list(core: &Core, id: u64, out: &mut [u8], len: &mut usize) -> u32
         return 10;
     };
     let room = out.len();
+    if has_room(view.sizes(), room) {
+        *len = put_listing(out, view.iter());
+        return 0;
+    }
     match listing_len(view.iter()) {
         None => *len = usize::MAX,
         Some(total) => {
             *len = total;
             if total <= room {
-                put_listing(out, view.iter());
+                let _end = put_listing(out, view.iter());
             }
         }
     }
