@@ -1,7 +1,7 @@
 -- The items of a log, read one after another.
 use Rattle.std.proofs.Common.{◌≡◌, ℕ, ◌+◌, ◌-◌, ◌<◌, ◌∙◌, sym, ap, subst, List, [], ◌∷◌, ◌++◌}
 use Rattle.std.proofs.Common.{length, true, false, cond}
-use Rattle.std.proofs.Common.{refl, arith, length-append, Ok, inl, inr}
+use Rattle.std.proofs.Common.{refl, arith, length-append, Ok, inr}
 use Rattle.std.proofs.lemmas.List.{append-nil, append_assoc}
 use Rattle.std.proofs.lemmas.Grind.{flat_map-append}
 use Rattle.hlc_node.specs.declared.item.Item.{Item}
@@ -9,16 +9,13 @@ use Rattle.hlc_wire.specs.Spelling.{item_bytes}
 use Rattle.hlc_wire.specs.Reading.{item_at}
 use Rattle.hlc_wire.proofs.FieldLemmas.{IsBytes}
 use Rattle.hlc_wire.proofs.ItemLemmas.{item_reader}
-use Rattle.hlc_node.specs.declared.item.Body.{Body}
-use Rattle.hlc_node.specs.declared.item.Body.TheVariants.{Write, Report, Retire}
-use Rattle.hlc_node.specs.Items.{an_item}
 use Rattle.hlc_events.specs.declared.fault.CoreFault.{CoreFault}
 use Rattle.hlc_events.specs.Faults.{core_code, core_word}
 use Rattle.hlc_core.specs.Calls.{IsRefusal, IsWrite}
 use Rattle.hlc_core.specs.Past.{Step, Took, item_refusal}
 use Rattle.hlc_core.specs.StoreView.{StoreView, Represents}
 use Rattle.hlc_calls.specs.Log.{came_before, log_bytes, with_item, with_items, IsStopped, IsLogEnd, AreTaken}
-use Rattle.hlc_calls.specs.Log.{StartsWithWrite}
+use Rattle.hlc_calls.proofs.Refusals.{refused_returns}
 
 pub front_is : (bytes : List ℕ) (item : Item) (rest : List ℕ) → IsBytes bytes → item_at bytes ≡ Ok (item, rest)
     → bytes ≡ item_bytes item ++ rest
@@ -42,27 +39,13 @@ pub taken : (core : StoreView) (nodes : ℕ) (past : List Step) (item : Item) �
 taken core nodes past item new h =
     subst (λ b. Represents core (cond b past (Took item ∷ past))) (sym new) h
 
--- the bytes of a write start as those of a write
-write_starts : (node number stamp : ℕ) (body : Body) (rest : List ℕ) → IsWrite body
-    → StartsWithWrite (item_bytes (an_item node number stamp body) ++ rest)
-write_starts node number stamp (Write key value) rest is = refl
-write_starts node number stamp Report rest is = absurd is
-write_starts node number stamp Retire rest is = absurd is
-
--- an item that did not come before was refused, or a write had no memory
+-- an item that did not come before was refused
 pub refused_here : (nodes : ℕ) (bytes rest : List ℕ) (past : List Step) (item : Item) (fault : CoreFault)
-    → IsBytes bytes → item_at bytes ≡ Ok (item, rest) → came_before nodes past item ≡ false
+    → item_at bytes ≡ Ok (item, rest) → came_before nodes past item ≡ false
     → IsRefusal (item_refusal nodes past item) (IsWrite item.body) fault
     → IsStopped nodes bytes past (core_code fault) (core_word fault)
-refused_here nodes bytes rest past item fault fits read new (inl is) =
-    inr (inr (item, rest, fault, read, new, is, refl, refl))
-refused_here nodes bytes rest past item fault fits read new (inr (none, is, write)) =
-    inl (
-      ap core_code is,
-      ap core_word is,
-      subst StartsWithWrite (sym (front_is bytes item rest fits read))
-          (write_starts item.node item.number item.stamp item.body rest write),
-    )
+refused_here nodes bytes rest past item fault read new is =
+    inr (item, rest, read, new, refused_returns (item_refusal nodes past item) (IsWrite item.body) ⊥ fault is)
 
 -- the items before the rest of the bytes were taken
 abbrev pub TakenSoFar : ℕ → StoreView → List ℕ → List ℕ → List Step → ℕ → Type 0

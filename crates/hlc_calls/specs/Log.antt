@@ -1,12 +1,9 @@
 -- The items of a log as bytes, one after another, and what a store takes of them.
-use Rattle.std.specs.Prelude.{◌≡◌, ◌⊎◌, ◌&&◌, ℕ, List, [], ◌∷◌, ◌++◌, Bool, true}
-use Rattle.std.specs.Prelude.{false, nat_lt, length}
-use Rattle.std.specs.Prelude.{Some, None, Ok, Err, slice_get}
+use Rattle.std.specs.Prelude.{◌≡◌, ◌⊎◌, ◌&&◌, ℕ, List, [], ◌∷◌, ◌++◌, Bool, false, nat_lt, length}
+use Rattle.std.specs.Prelude.{Some, None, Ok, Err}
 use Rattle.std.specs.Prelude.{if◌then◌else◌}
 use Rattle.std.specs.List.{flat_map}
 use Rattle.hlc_node.specs.declared.item.Item.{Item}
-use Rattle.hlc_node.specs.declared.item.Body.{Body}
-use Rattle.hlc_node.specs.declared.item.Body.TheVariants.{Report, Retire}
 use Rattle.hlc_node.specs.declared.item.BodyFault.{BodyFault}
 use Rattle.hlc_node.specs.Faults.{body_code}
 use Rattle.hlc_node.specs.Items.{body_refusal}
@@ -14,10 +11,10 @@ use Rattle.hlc_wire.specs.declared.fault.WireFault.{WireFault}
 use Rattle.hlc_wire.specs.Faults.{fault_code}
 use Rattle.hlc_wire.specs.Spelling.{item_bytes}
 use Rattle.hlc_wire.specs.Reading.{item_at}
-use Rattle.hlc_events.specs.declared.fault.CoreFault.{CoreFault}
-use Rattle.hlc_events.specs.Faults.{core_code, core_word}
+use Rattle.hlc_core.specs.Calls.{IsWrite}
 use Rattle.hlc_core.specs.Past.{Step, Took, numbered, count, item_refusal}
 use Rattle.hlc_core.specs.StoreView.{StoreView, Represents}
+use Rattle.hlc_calls.specs.Outcome.{IsAnswered}
 use Rattle.hlc_calls.specs.Answers.{IsCopied}
 
 -- the bytes of some items, one after another
@@ -37,19 +34,13 @@ abbrev pub with_items : ℕ → List Item → List Step → List Step
 with_items nodes [] past = past
 with_items nodes (item ∷ items) past = with_items nodes items (with_item nodes item past)
 
--- a write or a deletion is at the front of some bytes: byte 19 is the kind of an item, and 0 for these
-abbrev pub StartsWithWrite : List ℕ → Type 0
-StartsWithWrite bytes = slice_get bytes 19 ≡ Some 0
-
--- why the item at the front of some bytes was not taken: out of memory, which only a write needs; the first fault of
--- the bytes; or the expected refusal of an item that did not come before
+-- why the item at the front of some bytes was not taken: the first fault of the bytes; or, of an item that did not come
+-- before, the expected refusal, or out of memory for the row of a write
 abbrev pub IsStopped : ℕ → List ℕ → List Step → ℕ → ℕ → Type 0
 IsStopped nodes bytes past code word =
-    ((code ≡ 15) × (word ≡ 0) × StartsWithWrite bytes)
-    ⊎ (((fault : WireFault) × (item_at bytes ≡ Err fault) × (code ≡ 106) × (word ≡ fault_code fault))
-    ⊎ ((item : Item) × (rest : List ℕ) × (fault : CoreFault) × (item_at bytes ≡ Ok (item, rest))
-    × (came_before nodes past item ≡ false) × (item_refusal nodes past item ≡ Some fault)
-    × (code ≡ core_code fault) × (word ≡ core_word fault)))
+    ((fault : WireFault) × (item_at bytes ≡ Err fault) × (code ≡ 106) × (word ≡ fault_code fault))
+    ⊎ ((item : Item) × (rest : List ℕ) × (item_at bytes ≡ Ok (item, rest)) × (came_before nodes past item ≡ false)
+    × IsAnswered (item_refusal nodes past item) (IsWrite item.body) ⊥ code word)
 
 -- no bytes are left, and the answer is 0; or the item at their front was not taken
 abbrev pub IsLogEnd : ℕ → List ℕ → List Step → ℕ → ℕ → Type 0
@@ -67,17 +58,10 @@ pub record AreTaken (nodes : ℕ) (new : StoreView) (bytes : List ℕ) (past : L
   pub represents : Represents new (with_items nodes items past)
   pub end : IsLogEnd nodes rest (with_items nodes items past) code word
 
--- the body of a report, or of a retirement
-abbrev pub plain_body : Bool → Body
-plain_body false = Report
-plain_body true = Retire
-
--- The bytes of an item are returned: how many there are, and the bytes, if they fit; or why no item has this body, or
--- out of memory where one has it.
+-- The bytes of an item are returned: how many there are, and the bytes, if they fit; or why no item has this body.
 abbrev pub ReturnsItem : Item → ℕ → ℕ → List ℕ → List ℕ → Type 0
 ReturnsItem item code len old new =
     ((code ≡ 0) × (body_refusal item.body ≡ None) × (len ≡ length (item_bytes item))
     × IsCopied (item_bytes item) old new)
-    ⊎ (((fault : BodyFault) × (body_refusal item.body ≡ Some fault) × (code ≡ body_code fault) × (len ≡ 0)
+    ⊎ ((fault : BodyFault) × (body_refusal item.body ≡ Some fault) × (code ≡ body_code fault) × (len ≡ 0)
     × (new ≡ old))
-    ⊎ ((code ≡ 15) × (body_refusal item.body ≡ None) × (len ≡ 0) × (new ≡ old)))

@@ -1,5 +1,5 @@
 -- The records of a log as bytes, and how far a store applied them.
-use Rattle.std.specs.Prelude.{◌≡◌, ◌⊎◌, ℕ, List, length, Option, Some, None}
+use Rattle.std.specs.Prelude.{◌≡◌, ℕ, List, length, Option, Some, None}
 use Rattle.hlc_wire.specs.Faults.{fault_code}
 use Rattle.hlc_events.specs.Faults.{core_code, core_word}
 use Rattle.hlc_core.specs.Past.{Step}
@@ -36,8 +36,7 @@ abbrev pub ReturnsApplied : ℕ → StoreView → List ℕ → List Step → ℕ
 ReturnsApplied nodes new bytes past code used many threshold word =
     (applied : Applied) × AreApplied nodes new bytes past 0 applied × AreNumbersOf applied code used many threshold word
 
--- The bytes of a record are returned: how many there are, and the bytes, if they fit; or out of memory.
+-- the bytes of a record are returned: how many there are, and the bytes, if they fit
 abbrev pub ReturnsRecord : Record → ℕ → ℕ → List ℕ → List ℕ → Type 0
 ReturnsRecord entry code len old new =
-    ((code ≡ 0) × (len ≡ length (record_bytes entry)) × IsCopied (record_bytes entry) old new)
-    ⊎ ((code ≡ 15) × (len ≡ 0) × (new ≡ old))
+    (code ≡ 0) × (len ≡ length (record_bytes entry)) × IsCopied (record_bytes entry) old new

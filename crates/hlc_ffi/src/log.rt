@@ -11,14 +11,13 @@ ghost use Rattle.hlc_ffi.specs.Handle.{OnStorePast, nodes_in_handle};
 
 use crate::handle::on_core;
 use hlc_calls::{log, records};
-use hlc_core::Stamp;
+use hlc_core::{ItemRef, Stamp};
 use hlc_handle::Store;
 use std::alloc::Global;
 
-/// Writes a node's write as bytes. Returns 0, how many there are and, where they fit, the bytes; or 12, 13 or 15.
+/// Writes a node's write as bytes. Returns 0, how many there are and, where they fit, the bytes; or 12 or 13. No memory.
 #[unsafe(no_mangle)]
 pub extern "C" fn hlc_item_write(
-    alloc: Global,
     node: u16,
     number: u64,
     stamp: u64,
@@ -30,14 +29,13 @@ pub extern "C" fn hlc_item_write(
     ensures { ReturnsItem (an_item node number stamp (a_write key.now (Some value.now)))
         result len.new out.old out.new }
 {
-    let stamp = Stamp::from_bits(stamp);
-    log::put_write(alloc, node, number, stamp, key, Some(value), out, len)
+    let item = ItemRef::write(node, number, Stamp::from_bits(stamp), key, Some(value));
+    log::put(&item, out, len)
 }
 
-/// Writes a node's deletion as bytes. Returns 0, how many there are and, where they fit, the bytes; or 12 or 15.
+/// Writes a node's deletion as bytes. Returns 0, how many there are and, where they fit, the bytes; or 12. No memory.
 #[unsafe(no_mangle)]
 pub extern "C" fn hlc_item_delete(
-    alloc: Global,
     node: u16,
     number: u64,
     stamp: u64,
@@ -48,14 +46,13 @@ pub extern "C" fn hlc_item_delete(
     ensures { ReturnsItem (an_item node number stamp (a_write key.now None))
         result len.new out.old out.new }
 {
-    let stamp = Stamp::from_bits(stamp);
-    log::put_write(alloc, node, number, stamp, key, None, out, len)
+    let item = ItemRef::write(node, number, Stamp::from_bits(stamp), key, None);
+    log::put(&item, out, len)
 }
 
-/// Writes a node's report as bytes. Returns 0, how many there are and, where they fit, the bytes; or 15.
+/// Writes a node's report as bytes. Returns 0, how many there are and, where they fit, the bytes. No memory.
 #[unsafe(no_mangle)]
 pub extern "C" fn hlc_item_report(
-    alloc: Global,
     node: u16,
     number: u64,
     stamp: u64,
@@ -64,14 +61,13 @@ pub extern "C" fn hlc_item_report(
 ) -> u32
     ensures { ReturnsItem (an_item node number stamp a_report) result len.new out.old out.new }
 {
-    let stamp = Stamp::from_bits(stamp);
-    log::put_plain(alloc, node, number, stamp, false, out, len)
+    let item = ItemRef::report(node, number, Stamp::from_bits(stamp));
+    log::put(&item, out, len)
 }
 
-/// Writes a node's retirement as bytes. Returns 0, how many there are and, where they fit, the bytes; or 15.
+/// Writes a node's retirement as bytes. Returns 0, how many there are and, where they fit, the bytes. No memory.
 #[unsafe(no_mangle)]
 pub extern "C" fn hlc_item_retire(
-    alloc: Global,
     node: u16,
     number: u64,
     stamp: u64,
@@ -80,8 +76,8 @@ pub extern "C" fn hlc_item_retire(
 ) -> u32
     ensures { ReturnsItem (an_item node number stamp a_retire) result len.new out.old out.new }
 {
-    let stamp = Stamp::from_bits(stamp);
-    log::put_plain(alloc, node, number, stamp, true, out, len)
+    let item = ItemRef::retire(node, number, Stamp::from_bits(stamp));
+    log::put(&item, out, len)
 }
 
 /// Accepts the items of a log in turn, and passes over those that came before, until one is refused. Returns 0, or its
@@ -101,35 +97,24 @@ pub extern "C" fn hlc_items_accept(
     ensures nodes { nodes_in_handle store.new.room.value ≡ nodes_in_handle store.old.room.value }
 {
     on_core!(alloc, store, [used, many, word], |core| {
-        log::take_all(alloc, core, bytes, used, many, word)
+        log::take_all(core, bytes, used, many, word)
     })
 }
 
-/// Writes a join as bytes. Returns 0, how many there are and, where they fit, the bytes; or 15.
+/// Writes a join as bytes. Returns 0, how many there are and, where they fit, the bytes. No memory.
 #[unsafe(no_mangle)]
-pub extern "C" fn hlc_record_join(
-    alloc: Global,
-    node: u16,
-    start: u64,
-    out: &mut [u8],
-    len: &mut usize,
-) -> u32
+pub extern "C" fn hlc_record_join(node: u16, start: u64, out: &mut [u8], len: &mut usize) -> u32
     ensures { ReturnsRecord (Join node start) result len.new out.old out.new }
 {
-    records::put_join(alloc, node, Stamp::from_bits(start), out, len)
+    records::put_join(node, Stamp::from_bits(start), out, len)
 }
 
-/// Writes a retention threshold as bytes. Returns 0, how many there are and, where they fit, the bytes; or 15.
+/// Writes a retention threshold as bytes. Returns 0, how many there are and, where they fit, the bytes. No memory.
 #[unsafe(no_mangle)]
-pub extern "C" fn hlc_record_threshold(
-    alloc: Global,
-    stamp: u64,
-    out: &mut [u8],
-    len: &mut usize,
-) -> u32
+pub extern "C" fn hlc_record_threshold(stamp: u64, out: &mut [u8], len: &mut usize) -> u32
     ensures { ReturnsRecord (Threshold stamp) result len.new out.old out.new }
 {
-    records::put_threshold(alloc, Stamp::from_bits(stamp), out, len)
+    records::put_threshold(Stamp::from_bits(stamp), out, len)
 }
 
 /// Applies the records of a log in turn, and passes over those that came before, until one is refused. Returns 0, or
@@ -152,6 +137,6 @@ pub extern "C" fn hlc_records_apply(
     ensures nodes { nodes_in_handle store.new.room.value ≡ nodes_in_handle store.old.room.value }
 {
     on_core!(alloc, store, [used, many, threshold, word], |core| {
-        records::apply_all(alloc, core, bytes, used, many, threshold, word)
+        records::apply_all(core, bytes, used, many, threshold, word)
     })
 }

@@ -1,16 +1,23 @@
 -- The result of reading some bytes has that encoding, and an encoding is read back.
-use Rattle.std.proofs.Common.{◌≡◌, ℕ, ◌<◌, zero, suc, List, [], ◌∷◌, ◌++◌, Ok, refl, ap, subst, ◌∙◌}
+use Rattle.std.proofs.Common.{◌≡◌, ℕ, ◌+◌, ◌<◌, ◌≤◌, zero, suc, List, [], ◌∷◌, ◌++◌, length, Some, Ok, refl, sym}
+use Rattle.std.proofs.Common.{ap, subst, ◌∙◌, arith}
 use Rattle.std.proofs.lemmas.List.{append_assoc}
 use Rattle.std.specs.Int.{w16, w64, to_be_bytes}
+use Rattle.hlc_node.specs.Items.{an_item, IsShort}
 use Rattle.hlc_node.specs.declared.item.Item.{Item as AnItem}
+use Rattle.hlc_node.specs.declared.item.Body.{Body}
+use Rattle.hlc_node.specs.declared.item.Body.TheVariants.{Write, Report, Retire}
 use Rattle.hlc_wire.specs.Reading.{◌>>=◌, number_at, item_at}
 use Rattle.hlc_wire.specs.Spelling.{item_bytes, ItemFits}
 use Rattle.hlc_wire.proofs.FieldLemmas.{IsBytes, IsBytes-rest, bind_ok, ok_is, Takes, Takes-then, Takes-cons, IsReader}
 use Rattle.hlc_wire.proofs.FieldLemmas.{number_reader, wide16, wide64}
+use Rattle.hlc_wire.specs.Placing.{with_bytes, PutsFront}
+use Rattle.hlc_wire.proofs.PlacingLemmas.{put_both, put_three, at_front}
 use Rattle.hlc_wire.proofs.ItemLemmas.{item_reader}
 use Rattle.hlc_log.specs.declared.record.Record.{Record}
 use Rattle.hlc_log.specs.declared.record.Record.TheVariants.{Item, Join, Threshold}
 use Rattle.hlc_log.specs.Record.{record_bytes, record_at, item_record_at, join_at, threshold_at, RecordFits}
+use Rattle.hlc_log.specs.Record.{IsShortRecord, StartsWithWrite}
 
 two : IsReader (number_at w16) (to_be_bytes w16) (λ n. n < 65536)
 two = number_reader w16 65536 wide16
@@ -91,12 +98,42 @@ record_again (Threshold at) rest fits = threshold_again at rest fits
 pub record_reader : IsReader record_at record_bytes RecordFits
 record_reader = record { takes = record_takes; again = record_again }
 
--- the first byte, the node and the start of a join, one after the other
-pub join_written : (old one both new : List ℕ) (node start : ℕ) → one ≡ old ++ 2 ∷ []
-    → both ≡ one ++ to_be_bytes w16 node → new ≡ both ++ to_be_bytes w64 start
-    → new ≡ old ++ record_bytes (Join node start)
-join_written old one both new node start first second third =
-    let a : List ℕ = to_be_bytes w16 node in
-    let b : List ℕ = to_be_bytes w64 start in
-    third ∙ ap (λ (x : List ℕ). x ++ b) (second ∙ ap (λ (x : List ℕ). x ++ a) first)
-    ∙ append_assoc (old ++ 2 ∷ []) a b ∙ append_assoc old (2 ∷ []) (a ++ b)
+-- ---- copies
+
+kind_of : (node number stamp : ℕ) (body : Body) (rest : List ℕ) → (IsShort body → ⊥)
+    → StartsWithWrite (item_bytes (an_item node number stamp body) ++ rest)
+kind_of node number stamp (Write key value) rest long = record { item = refl; kind = refl }
+kind_of node number stamp Report rest long = absurd (long tt)
+kind_of node number stamp Retire rest long = absurd (long tt)
+
+write_of : (entry : Record) (rest : List ℕ) → (IsShortRecord entry → ⊥)
+    → StartsWithWrite (record_bytes entry ++ rest)
+write_of (Item item) rest long = kind_of item.node item.number item.stamp item.body rest long
+write_of (Join node start) rest long = absurd (long tt)
+write_of (Threshold at) rest long = absurd (long tt)
+
+-- a record whose copy may need memory is a write
+pub write_at : (bytes rest : List ℕ) (entry : Record) → IsBytes bytes → record_at bytes ≡ Ok (entry, rest)
+    → (IsShortRecord entry → ⊥) → StartsWithWrite bytes
+write_at bytes rest entry fits read long =
+    subst StartsWithWrite (sym (record_reader.takes bytes (entry, rest) fits read).0.parts) (write_of entry rest long)
+
+-- ---- writing
+
+-- the first byte, the node and the start of a join, one after another
+pub join_put : (end b d node start : ℕ) (old one two new : List ℕ) → one ≡ with_bytes 0 (2 ∷ []) old → b ≡ 0 + 1
+    → two ≡ with_bytes b (to_be_bytes w16 node) one → d ≡ b + 2 → new ≡ with_bytes d (to_be_bytes w64 start) two
+    → end ≡ d + 8 → 11 ≤ length old → PutsFront (record_bytes (Join node start)) (Some end) old new
+join_put end b d node start old one two new first at second then third is fits =
+    at_front (record_bytes (Join node start)) end old new
+    (put_three 0 b d (2 ∷ []) (to_be_bytes w16 node) (to_be_bytes w64 start) old one two new first at second then third
+    (omega (arith, fits))) (omega (arith, at, then, is)) (omega (arith, at, then, is, fits))
+
+-- the first byte and the stamp of a threshold
+pub threshold_put : (end b stamp : ℕ) (old one new : List ℕ) → one ≡ with_bytes 0 (3 ∷ []) old → b ≡ 0 + 1
+    → new ≡ with_bytes b (to_be_bytes w64 stamp) one → end ≡ b + 8 → 9 ≤ length old
+    → PutsFront (record_bytes (Threshold stamp)) (Some end) old new
+threshold_put end b stamp old one new first at second is fits =
+    at_front (record_bytes (Threshold stamp)) end old new
+    (put_both 0 b (3 ∷ []) (to_be_bytes w64 stamp) old one new first at second (omega (arith, fits)))
+    (omega (arith, at, is)) (omega (arith, at, is, fits))

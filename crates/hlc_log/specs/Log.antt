@@ -1,10 +1,10 @@
 -- The records of a log as bytes, one after another, and what a store makes of them.
-use Rattle.std.specs.Prelude.{◌≡◌, ◌⊎◌, ◌&&◌, ◌==◌, ℕ, List, [], ◌∷◌, ◌++◌, Bool, false, nat_lt, length, max}
+use Rattle.std.specs.Prelude.{◌≡◌, ◌&&◌, ◌==◌, ℕ, List, [], ◌∷◌, ◌++◌, Bool, false, nat_lt, length, max}
 use Rattle.std.specs.Prelude.{Option, Some, None, Result, Ok, Err, if◌then◌else◌, ⊤}
 use Rattle.std.specs.List.{flat_map}
 use Rattle.hlc_intake.specs.declared.intake.LinkFault.TheVariants.{NotNext}
 use Rattle.hlc_events.specs.declared.fault.CoreFault.{CoreFault}
-use Rattle.hlc_events.specs.declared.fault.CoreFault.TheVariants.{Link, NoMemory}
+use Rattle.hlc_events.specs.declared.fault.CoreFault.TheVariants.{Link}
 use Rattle.hlc_core.specs.Past.{Step, Took, Joined, numbered, count, item_refusal, join_at_refusal}
 use Rattle.hlc_core.specs.Calls.{IsRefusal, IsWrite}
 use Rattle.hlc_core.specs.StoreView.{StoreView, nodes, Represents}
@@ -13,7 +13,7 @@ use Rattle.hlc_log.specs.declared.record.Record.TheVariants.{Item, Join, Thresho
 use Rattle.hlc_log.specs.declared.apply.RecordFault.{RecordFault}
 use Rattle.hlc_log.specs.declared.apply.RecordFault.TheVariants.{Bytes, Refused}
 use Rattle.hlc_log.specs.declared.apply.Applied.{Applied}
-use Rattle.hlc_log.specs.Record.{record_bytes, record_at, StartsWithWrite}
+use Rattle.hlc_log.specs.Record.{record_bytes, record_at}
 
 -- the bytes of some records, one after another
 abbrev pub log_bytes : List Record → List ℕ
@@ -67,13 +67,11 @@ Applies old new entry past (Ok done) = (record_refusal (nodes old) past entry �
     × Represents new (step_of entry ++ past)
 Applies old new entry past (Err fault) = IsRefusal (record_refusal (nodes old) past entry) (MayGrow entry) fault
 
--- the record at the front of some bytes was refused; or out of memory for the copy of a write
+-- the record at the front of some bytes was refused
 abbrev pub IsRefusedAt : ℕ → List ℕ → List Step → CoreFault → Type 0
 IsRefusedAt nodes bytes past fault =
-    ((fault ≡ NoMemory) × StartsWithWrite bytes)
-    ⊎ ((entry : Record) × (rest : List ℕ) × (record_at bytes ≡ Ok (entry, rest))
-    × (came_before nodes past entry ≡ false)
-    × IsRefusal (record_refusal nodes past entry) (MayGrow entry) fault)
+    (entry : Record) × (rest : List ℕ) × (record_at bytes ≡ Ok (entry, rest)) × (came_before nodes past entry ≡ false)
+    × IsRefusal (record_refusal nodes past entry) (MayGrow entry) fault
 
 -- why the record at the front of some bytes was not applied: the first fault of the bytes, or a refusal
 abbrev pub IsStopped : ℕ → List ℕ → List Step → RecordFault → Type 0

@@ -1,16 +1,18 @@
 -- The one encoding of each record of a log, and reading one from left to right, up to the first fault. Numbers are
 -- big-endian.
 use Rattle.std.specs.Prelude.{◌≡◌, ℕ, zero, suc, ◌<◌, List, [], ◌∷◌, ◌++◌, Option, Some, None, Result, Ok, Err}
-use Rattle.std.specs.Prelude.{slice_get}
+use Rattle.std.specs.Prelude.{slice_get, ⊤}
 use Rattle.std.specs.Int.{w16, w64, to_be_bytes}
 use Rattle.hlc_node.specs.declared.item.BodyFault.{BodyFault}
-use Rattle.hlc_node.specs.Items.{body_refusal}
+use Rattle.hlc_node.specs.Items.{body_refusal, IsShort}
 use Rattle.hlc_wire.specs.declared.fault.WireFault.{WireFault}
 use Rattle.hlc_wire.specs.declared.fault.WireFault.TheVariants.{Short, Version}
 use Rattle.hlc_wire.specs.Spelling.{item_bytes, ItemFits}
 use Rattle.hlc_wire.specs.Reading.{◌>>=◌, number_at, item_at}
 use Rattle.hlc_log.specs.declared.record.Record.{Record}
 use Rattle.hlc_log.specs.declared.record.Record.TheVariants.{Item, Join, Threshold}
+use Rattle.hlc_log.specs.declared.record.RecordRef.{RecordRef}
+use Rattle.hlc_log.specs.declared.record.RecordRef.TheVariants as borrowed
 
 -- an item's own bytes, of which the first is 1; or 2, the node of a join in two bytes and its start in eight; or 3 and
 -- a threshold in eight
@@ -30,6 +32,18 @@ abbrev pub record_refusal : Record → Option BodyFault
 record_refusal (Item item) = body_refusal item.body
 record_refusal (Join node start) = None
 record_refusal (Threshold at) = None
+
+-- the record whose key and value are borrowed
+abbrev pub record_seen : RecordRef → Record
+record_seen (borrowed.Item item) = Item item
+record_seen (borrowed.Join node start) = Join node start
+record_seen (borrowed.Threshold at) = Threshold at
+
+-- a copy of the record needs no memory
+abbrev pub IsShortRecord : Record → Type 0
+IsShortRecord (Item item) = IsShort item.body
+IsShortRecord (Join node start) = ⊤
+IsShortRecord (Threshold at) = ⊤
 
 -- a join after its first byte
 unfoldable pub join_at : List ℕ → Result (Record × List ℕ) WireFault

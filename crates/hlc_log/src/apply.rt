@@ -5,14 +5,13 @@ ghost use Rattle.hlc_core.specs.Past.{Step};
 ghost use Rattle.hlc_core.specs.StoreView.{nodes, Represents};
 ghost use Rattle.hlc_core.specs.Calls.{IsRefusal};
 ghost use Rattle.hlc_log.specs.declared.record.Record.{Record as ARecord};
-ghost use Rattle.hlc_log.specs.Record.{record_bytes};
+ghost use Rattle.hlc_log.specs.Record.{record_bytes, record_seen};
 ghost use Rattle.hlc_log.specs.Log.{came_before, with_record, greatest_threshold, record_refusal};
 ghost use Rattle.hlc_log.specs.Log.{MayGrow, Applies, IsStopped, AreApplied};
 
-use crate::record::{Record, record_at};
-use hlc_core::{Core, CoreFault, Item, LinkFault, Stamp};
+use crate::record::{RecordRef, record_ref_at};
+use hlc_core::{Core, CoreFault, ItemRef, LinkFault, Stamp};
 use hlc_wire::{DecodeError, WireFault};
-use std::alloc::Global;
 
 /// Why a record was not applied.
 #[derive(Clone, Copy, PartialEq, Eq, Debug)]
@@ -41,8 +40,8 @@ pub struct Applied {
 ///
 /// Items are accepted, and nodes join at their starts. A threshold changes nothing here: its stamp is returned, and the
 /// caller may vacuum to it. `threshold` is the greatest one so far, or 0.0. The store has what was applied, whatever
-/// stopped it. A write's key and value are copied.
-pub fn apply_records(alloc: Global, core: &mut Core, bytes: &[u8], threshold: Stamp) -> Applied
+/// stopped it. It takes no memory but what the store grows by.
+pub fn apply_records(core: &mut Core, bytes: &[u8], threshold: Stamp) -> Applied
     ensures represents { (past : List Step) → Represents core.old past
         → AreApplied (nodes core.old) core.new bytes.now past threshold result }
     ensures nodes { nodes core.new ≡ nodes core.old }
@@ -51,7 +50,7 @@ pub fn apply_records(alloc: Global, core: &mut Core, bytes: &[u8], threshold: St
     let mut records = 0usize;
     let mut greatest = threshold;
     while !rest.is_empty() {
-        match apply_front(alloc, core, rest, &mut greatest) {
+        match apply_front(core, rest, &mut greatest) {
             Ok(after) => {
                 rest = after;
                 records += 1;
@@ -77,7 +76,6 @@ pub fn apply_records(alloc: Global, core: &mut Core, bytes: &[u8], threshold: St
 /// Applies the record at the front of the bytes, unless it came before, and raises the greatest threshold by it.
 /// Returns the bytes after it, or why it was not applied.
 fn apply_front<'a>(
-    alloc: Global,
     core: &mut Core,
     bytes: &'a [u8],
     greatest: &mut Stamp,
@@ -91,10 +89,10 @@ fn apply_front<'a>(
     ensures same { OnErr result ((core.new ≡ core.old) × (greatest.new ≡ greatest.old)) }
     ensures nodes { nodes core.new ≡ nodes core.old }
 {
-    let (entry, rest) = match record_at(alloc, bytes) {
+    let (entry, rest) = match record_ref_at(bytes) {
         Ok(found) => found,
-        Err(DecodeError::NoMemory) => return Err(RecordFault::Refused(CoreFault::NoMemory)),
         Err(DecodeError::Fault(fault)) => return Err(RecordFault::Bytes(fault)),
+        Err(DecodeError::NoMemory) => unreachable!(),
     };
     match enter(core, &entry, greatest) {
         Ok(()) => Ok(rest),
@@ -103,13 +101,14 @@ fn apply_front<'a>(
 }
 
 /// Applies a record, unless it came before, and raises the greatest threshold by it.
-fn enter(core: &mut Core, entry: &Record, greatest: &mut Stamp) -> Result<(), CoreFault>
+fn enter(core: &mut Core, entry: &RecordRef<'_>, greatest: &mut Stamp) -> Result<(), CoreFault>
     ensures represents { (past : List Step) → Represents core.old past → MatchResult result
-        (λ _. Represents core.new (with_record (nodes core.old) entry.now past))
-        (λ fault. (came_before (nodes core.old) past entry.now ≡ false)
-        × IsRefusal (record_refusal (nodes core.old) past entry.now) (MayGrow entry.now) fault) }
+        (λ _. Represents core.new (with_record (nodes core.old) (record_seen entry.now) past))
+        (λ fault. (came_before (nodes core.old) past (record_seen entry.now) ≡ false)
+        × IsRefusal (record_refusal (nodes core.old) past (record_seen entry.now))
+        (MayGrow (record_seen entry.now)) fault) }
     ensures raised { OnOk result
-        (greatest.new ≡ greatest_threshold greatest.old (entry.now ∷ [])) }
+        (greatest.new ≡ greatest_threshold greatest.old (record_seen entry.now ∷ [])) }
     ensures same { OnErr result ((core.new ≡ core.old) × (greatest.new ≡ greatest.old)) }
     ensures nodes { nodes core.new ≡ nodes core.old }
 {
@@ -123,42 +122,42 @@ fn enter(core: &mut Core, entry: &Record, greatest: &mut Stamp) -> Result<(), Co
 }
 
 /// Returns whether a record came before.
-fn came(core: &Core, entry: &Record) -> bool
+fn came(core: &Core, entry: &RecordRef<'_>) -> bool
     ensures { (past : List Step) → Represents core.now past
-        → result ≡ came_before (nodes core.now) past entry.now }
+        → result ≡ came_before (nodes core.now) past (record_seen entry.now) }
 {
     match entry {
-        Record::Item(item) => match core.count(item.node) {
-            Ok(next) => item.number < next,
+        RecordRef::Item(item) => match core.count(item.node()) {
+            Ok(next) => item.number() < next,
             Err(_) => false,
         },
-        Record::Join { node, start: _ } => (*node as usize) < core.links().len(),
-        Record::Threshold(_) => false,
+        RecordRef::Join { node, start: _ } => (*node as usize) < core.links().len(),
+        RecordRef::Threshold(_) => false,
     }
 }
 
 /// Applies a record that did not come before.
-fn apply(core: &mut Core, entry: &Record) -> Result<(), CoreFault>
+fn apply(core: &mut Core, entry: &RecordRef<'_>) -> Result<(), CoreFault>
     ensures represents { (past : List Step) → Represents core.old past
-        → Applies core.old core.new entry.now past result }
+        → Applies core.old core.new (record_seen entry.now) past result }
     ensures same { OnErr result (core.new ≡ core.old) }
     ensures nodes { nodes core.new ≡ nodes core.old }
 {
     match entry {
-        Record::Item(item) => accept(core, item),
-        Record::Join { node, start } => join(core, *node, *start),
-        Record::Threshold(_) => Ok(()),
+        RecordRef::Item(item) => accept(core, item),
+        RecordRef::Join { node, start } => join(core, *node, *start),
+        RecordRef::Threshold(_) => Ok(()),
     }
 }
 
 /// Accepts an item.
-fn accept(core: &mut Core, item: &Item) -> Result<(), CoreFault>
+fn accept(core: &mut Core, item: &ItemRef<'_>) -> Result<(), CoreFault>
     ensures represents { (past : List Step) → Represents core.old past
         → Applies core.old core.new (ARecord.Item item.now) past result }
     ensures same { OnErr result (core.new ≡ core.old) }
     ensures nodes { nodes core.new ≡ nodes core.old }
 {
-    match core.accept_copy(item) {
+    match core.accept_ref(item) {
         Ok(_) => Ok(()),
         Err(fault) => Err(fault),
     }
@@ -180,11 +179,11 @@ fn join(core: &mut Core, node: u16, start: Stamp) -> Result<(), CoreFault>
 }
 
 /// Returns the greatest threshold, after one more record.
-fn raised(greatest: Stamp, entry: &Record) -> Stamp
-    ensures { result ≡ greatest_threshold greatest (entry.now ∷ []) }
+fn raised(greatest: Stamp, entry: &RecordRef<'_>) -> Stamp
+    ensures { result ≡ greatest_threshold greatest (record_seen entry.now ∷ []) }
 {
     match entry {
-        Record::Threshold(at) => greatest.max(*at),
+        RecordRef::Threshold(at) => greatest.max(*at),
         _ => greatest,
     }
 }

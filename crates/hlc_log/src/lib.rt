@@ -8,9 +8,11 @@ mod record;
 mod recovery;
 
 pub use apply::{Applied, RecordFault, apply_records};
-pub use hlc_core::{Core, CoreFault, Item, Stamp};
+pub use hlc_core::{Core, CoreFault, Item, ItemRef, Stamp};
 pub use hlc_saved::ResumeError;
 pub use hlc_wire::{DecodeError, EncodeError, WireFault};
 pub use laws::a_log_may_be_read_again;
-pub use record::{Record, decode_record, encode_record, put_record, record_at};
+pub use record::{
+    Record, RecordRef, decode_record, encode_record, put_record, record_ref_at, record_size,
+};
 pub use recovery::{Recovered, recover};

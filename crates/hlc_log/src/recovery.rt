@@ -38,7 +38,7 @@ pub fn recover(alloc: Global, checkpoint: &[u8], log: &[u8]) -> Result<Recovered
         Err(error) => return Err(error),
     };
     let mut core = core;
-    let applied = apply_records(alloc, &mut core, log, Stamp::ZERO);
+    let applied = apply_records(&mut core, log, Stamp::ZERO);
     Ok(Recovered {
         core,
         word,

@@ -1,8 +1,8 @@
 -- An item that is read is the item that was written, and what was written is read again; so are messages.
 use Rattle.std.proofs.Common.{◌≡◌, ℕ, zero, suc, ◌+◌, ◌<◌, ◌≤◌, List, [], ◌∷◌, ◌++◌, length, Some, None, Result}
-use Rattle.std.proofs.Common.{Ok, Err, refl, ap, subst, ◌∙◌, append_assoc, arith}
+use Rattle.std.proofs.Common.{Ok, Err, refl, sym, ap, subst, ◌∙◌, append_assoc, arith}
 use Rattle.std.proofs.Common.{length-append}
-use Rattle.std.specs.Prelude.{IfOk}
+use Rattle.std.specs.Prelude.{IfOk, IsOk}
 use Rattle.std.specs.Int.{w16, w64, to_be_bytes}
 use Rattle.hlc_node.specs.Items.{an_item}
 use Rattle.hlc_node.specs.declared.item.Item.{Item}
@@ -15,7 +15,7 @@ use Rattle.hlc_wire.specs.Spelling.{key_bytes, value_bytes, body_bytes, item_byt
 use Rattle.hlc_wire.specs.Spelling.{BodyFits, ItemFits, MessageFits}
 use Rattle.hlc_wire.specs.Reading.{◌>>=◌, Gives, number_at, key_at, value_at, body_at, item_rest_at, item_at}
 use Rattle.hlc_wire.specs.Reading.{message_rest_at, message_at, whole}
-use Rattle.hlc_wire.proofs.FieldLemmas.{IsBytes, IsBytes-rest, bind_ok, ok_is, Takes, Takes-then, Takes-cons, IsReader}
+use Rattle.hlc_wire.proofs.FieldLemmas.{IsBytes, IsBytes-rest, bind_ok, done, ok_is, Takes, Takes-then, Takes-cons, IsReader}
 use Rattle.hlc_wire.proofs.FieldLemmas.{wide16, wide64, number_reader, key_reader, value_reader, whole_takes}
 
 abbrev two : IsReader (number_at w16) (to_be_bytes w16) (λ n. n < 65536)
@@ -173,25 +173,19 @@ message_again message rest fits = message_rest_again message rest fits
 pub message_reader : IsReader message_at message_bytes MessageFits
 message_reader = record { takes = message_takes; again = message_again }
 
+-- what was read from the front is read of all the bytes, if none follows
+pub whole_is_ok : {A : Type 0} (read : Result (A × List ℕ) WireFault) (x : A × List ℕ) → read ≡ Ok x → x.1 ≡ []
+    → IsOk (whole read)
+whole_is_ok read x is none =
+    subst (λ r. IsOk (whole r)) (sym is)
+    (subst (λ (rest : List ℕ). IsOk (whole (done (x.0, rest)))) (sym none) refl)
+
 -- a result that was returned has that encoding
 pub is_found : {A : Type 0} (read : List ℕ → Result (A × List ℕ) WireFault) (spell : A → List ℕ) (Fits : A → Type 0)
     → IsReader read spell Fits → (bytes : List ℕ) (r : Result A DecodeError) → IsBytes bytes
     → Gives (λ (a : A). a) r (whole (read bytes)) → IfOk r (λ a. Fits a × (bytes ≡ spell a))
 is_found read spell Fits is bytes (Ok a) fits found_it = whole_takes read spell Fits is bytes a fits found_it
 is_found read spell Fits is bytes (Err e) fits found_it = tt
-
--- the version, the numbers and the body, one after the other
-pub written : (old one all' new : List ℕ) (item : Item) → one ≡ old ++ 1 ∷ []
-    → all' ≡ one ++ (to_be_bytes w16 item.node ++ to_be_bytes w64 item.number ++ to_be_bytes w64 item.stamp)
-    → new ≡ all' ++ body_bytes item.body → new ≡ old ++ item_bytes item
-written old one all' new item first second third =
-    let a : List ℕ = to_be_bytes w16 item.node in
-    let b : List ℕ = to_be_bytes w64 item.number in
-    let c : List ℕ = to_be_bytes w64 item.stamp in
-    let d : List ℕ = body_bytes item.body in
-    third ∙ ap (λ (x : List ℕ). x ++ d) (second ∙ ap (λ (x : List ℕ). x ++ (a ++ b ++ c)) first)
-    ∙ append_assoc (old ++ 1 ∷ []) (a ++ b ++ c) d ∙ append_assoc old (1 ∷ []) ((a ++ b ++ c) ++ d)
-    ∙ ap (λ (x : List ℕ). old ++ 1 ∷ x) (append_assoc a (b ++ c) d ∙ ap (λ (x : List ℕ). a ++ x) (append_assoc b c d))
 
 -- the version and the numbers of a message, one after the other
 pub message_written : (old one both new : List ℕ) (message : Message) → one ≡ old ++ 1 ∷ []

@@ -1,27 +1,23 @@
--- The byte for the kind of the item, seen from the fields before it.
-use Rattle.std.proofs.Common.{◌≡◌, ℕ, ◌+◌, ◌<◌, List, length, get_or, drop, Some, Ok}
-use Rattle.std.proofs.Common.{take, sym, ap, subst, ◌∙◌, arith, ltb}
-use Rattle.std.specs.List.{slice_get}
-use Rattle.std.specs.Int.{Width, byte_len, from_be_bytes}
-use Rattle.std.proofs.lemmas.Option.{slice_get_within, get_or_from_slice_get, slice_get-get_or}
-use Rattle.std.proofs.lemmas.List.{get_or-drop, length-drop}
-use Rattle.hlc_wire.specs.declared.fault.WireFault.TheVariants.{Short}
-use Rattle.hlc_wire.specs.Reading.{number_at}
-use Rattle.hlc_wire.proofs.FieldLemmas.{guard_ok}
+-- The byte for the kind of an item.
+use Rattle.std.proofs.Common.{◌≡◌, ℕ, ◌++◌, List, refl, sym, subst, slice_get, Some, Ok}
+use Rattle.hlc_node.specs.Items.{an_item, IsShort}
+use Rattle.hlc_node.specs.declared.item.Item.{Item}
+use Rattle.hlc_node.specs.declared.item.Body.{Body}
+use Rattle.hlc_node.specs.declared.item.Body.TheVariants.{Write, Report, Retire}
+use Rattle.hlc_wire.specs.Spelling.{item_bytes}
+use Rattle.hlc_wire.specs.Reading.{item_at}
+use Rattle.hlc_wire.proofs.FieldLemmas.{IsBytes}
+use Rattle.hlc_wire.proofs.ItemLemmas.{item_reader}
 
--- the byte after this many others
-pub after_drop : (n i : ℕ) (bytes : List ℕ) → slice_get (drop n bytes) i ≡ Some 0 → slice_get bytes (n + i) ≡ Some 0
-after_drop n i bytes e =
-    let within : i < length (drop n bytes) = slice_get_within (drop n bytes) i 0 e in
-    let there : get_or (drop n bytes) i 1 ≡ 0 = get_or_from_slice_get (drop n bytes) i 0 1 e in
-    let here : get_or bytes (n + i) 1 ≡ 0 = sym (get_or-drop n bytes i 1) ∙ there in
-    slice_get-get_or bytes (n + i) 1 (omega (arith, length-drop n bytes)) ∙ ap Some here
+kind_of : (node number stamp : ℕ) (body : Body) (rest : List ℕ) → (IsShort body → ⊥)
+    → slice_get (item_bytes (an_item node number stamp body) ++ rest) 19 ≡ Some 0
+kind_of node number stamp (Write key value) rest long = refl
+kind_of node number stamp Report rest long = absurd (long tt)
+kind_of node number stamp Retire rest long = absurd (long tt)
 
--- the byte after a number
-pub after_number : (w : Width) (bytes : List ℕ) (x : ℕ × List ℕ) (i : ℕ) → number_at w bytes ≡ Ok x
-    → slice_get x.1 i ≡ Some 0 → slice_get bytes (byte_len w + i) ≡ Some 0
-after_number w bytes x i e kind =
-    let g = guard_ok (ltb (length bytes) (byte_len w)) Short
-    (from_be_bytes w (take (byte_len w) bytes), drop (byte_len w) bytes) x e in
-    let rest-is : drop (byte_len w) bytes ≡ x.1 = ap (λ (p : ℕ × List ℕ). p.1) g.1 in
-    after_drop (byte_len w) i bytes (subst (λ (rest : List ℕ). slice_get rest i ≡ Some 0) (sym rest-is) kind)
+-- an item whose copy may need memory is a write, which its byte 19 says
+pub kind_at : (bytes rest : List ℕ) (item : Item) → IsBytes bytes → item_at bytes ≡ Ok (item, rest)
+    → (IsShort item.body → ⊥) → slice_get bytes 19 ≡ Some 0
+kind_at bytes rest item fits read long =
+    subst (λ (bs : List ℕ). slice_get bs 19 ≡ Some 0) (sym (item_reader.takes bytes (item, rest) fits read).0.parts)
+    (kind_of item.node item.number item.stamp item.body rest long)

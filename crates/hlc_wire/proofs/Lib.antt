@@ -1,4 +1,5 @@
 pub mod FieldLemmas
 pub mod ItemLemmas
 pub mod SteadyLemmas
+pub mod PlacingLemmas
 mod KindLemmas

@@ -1,4 +1,5 @@
 pub mod Spelling
+pub mod Placing
 pub mod Reading
 pub mod Refusal
 pub mod Faults

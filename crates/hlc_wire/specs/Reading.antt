@@ -76,14 +76,19 @@ body_at (suc zero ∷ rest) = Ok (Report, rest)
 body_at (suc (suc zero) ∷ rest) = Ok (Retire, rest)
 body_at (suc (suc (suc b)) ∷ rest) = Err Kind
 
+-- the body of an item that has these numbers
+abbrev pub numbered_at : ℕ → ℕ → ℕ → List ℕ → Result (Item × List ℕ) WireFault
+numbered_at node number stamp bytes = do
+  body ← body_at bytes
+  Ok (record { node = node; number = number; stamp = stamp; body = body.0 }, body.1)
+
 -- an item after its version
 unfoldable pub item_rest_at : List ℕ → Result (Item × List ℕ) WireFault
 item_rest_at bytes = do
   node ← number_at w16 bytes
   number ← number_at w64 node.1
   stamp ← number_at w64 number.1
-  body ← body_at stamp.1
-  Ok (record { node = node.0; number = number.0; stamp = stamp.0; body = body.0 }, body.1)
+  numbered_at node.0 number.0 stamp.0 stamp.1
 
 -- an item
 unfoldable pub item_at : List ℕ → Result (Item × List ℕ) WireFault

@@ -26,6 +26,10 @@ body_bytes (Write key value) = 0 ∷ (key_bytes key ++ value_bytes value)
 body_bytes Report = 1 ∷ []
 body_bytes Retire = 2 ∷ []
 
+-- the node of an item in two bytes; its number and its stamp in eight each
+abbrev pub numbers_bytes : Item → List ℕ
+numbers_bytes item = to_be_bytes w16 item.node ++ to_be_bytes w64 item.number ++ to_be_bytes w64 item.stamp
+
 -- the version, which is 1; the node in two bytes; the number and the stamp in eight each; the body
 abbrev pub item_bytes : Item → List ℕ
 item_bytes item =
@@ -47,6 +51,11 @@ abbrev pub BodyFits : Body → Type 0
 BodyFits (Write key value) = KeyFits key × ValueFits value
 BodyFits Report = Unit {0}
 BodyFits Retire = Unit {0}
+
+pub record NumbersFit (item : Item) : Type 0 where
+  pub node : item.node < 65536
+  pub number : item.number < 18446744073709551616
+  pub stamp : item.stamp < 18446744073709551616
 
 pub record ItemFits (item : Item) : Type 0 where
   pub node : item.node < 65536

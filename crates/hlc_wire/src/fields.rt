@@ -1,12 +1,14 @@
 //! Fields, read from the front of some bytes and written at the end of others. Numbers are big-endian. Each reader
 //! returns what it read and the bytes after it.
-ghost use Rattle.std.specs.Prelude.{◌≡◌, ◌++◌, OnOk, IsOk, IsErrOf};
+ghost use Rattle.std.specs.Prelude.{◌≡◌, ◌++◌, option_copied, IfOk, OnOk, IsOk, IsErrOf};
 ghost use Rattle.std.specs.Int.{w16, w32, w64};
+ghost use Rattle.hlc_node.specs.Items.{IsShortValue};
 ghost use Rattle.hlc_wire.specs.Spelling.{flag_bytes, key_bytes, value_bytes, KeyFits, ValueFits};
 ghost use Rattle.hlc_wire.specs.Reading.{Gives, byte_at, bytes_at, number_at, flag_at, key_at, value_at};
 
 use crate::fault::{DecodeError, WireFault};
 use hlc_node::Bytes;
+use hlc_values::NoMemory;
 use std::alloc::{AllocError, Global};
 
 /// Reads the first byte. `Short` if there is none.
@@ -61,15 +63,23 @@ pub fn u64_at(bytes: &[u8]) -> Result<(u64, &[u8]), DecodeError>
     Ok((number, rest))
 }
 
+/// Borrows the first `count` bytes. `Short` if there are fewer.
+pub fn slice_at(count: usize, bytes: &[u8]) -> Result<(&[u8], &[u8]), DecodeError>
+    ensures read { Gives (λ x. (x.0.now, x.1.now)) result (bytes_at count bytes.now) }
+    ensures memory { ¬ IsErrOf result DecodeError.NoMemory }
+{
+    if bytes.len() < count {
+        return Err(DecodeError::Fault(WireFault::Short));
+    }
+    Ok(bytes.split_at(count))
+}
+
 /// Copies the first `count` bytes. `Short` if there are fewer, before memory is allocated.
 pub fn bytes_at(alloc: Global, count: usize, bytes: &[u8]) -> Result<(Bytes, &[u8]), DecodeError>
     ensures read { Gives (λ x. (x.0, x.1.now)) result (bytes_at count bytes.now) }
     ensures memory { IsErrOf result DecodeError.NoMemory → IsOk (bytes_at count bytes.now) }
 {
-    if bytes.len() < count {
-        return Err(DecodeError::Fault(WireFault::Short));
-    }
-    let (front, rest) = bytes.split_at(count);
+    let (front, rest) = slice_at(count, bytes)?;
     let copy = Bytes::from_slice(alloc, front)?;
     Ok((copy, rest))
 }
@@ -88,41 +98,69 @@ pub fn flag_at(bytes: &[u8]) -> Result<(bool, &[u8]), DecodeError>
     }
 }
 
-/// Reads and copies a key: a byte of length, 1 to 255, and that many bytes.
+/// Borrows a key: a byte of length, 1 to 255, and that many bytes.
 ///
-/// `Short` if there is no byte of length, `EmptyKey` if it is 0, `Short` if fewer bytes follow;
-/// then out of memory.
+/// `Short` if there is no byte of length, `EmptyKey` if it is 0, `Short` if fewer bytes follow.
 #[tactic(auto, unfolding(crate::specs::Reading::key_at))]
-pub fn key_at(alloc: Global, bytes: &[u8]) -> Result<(Bytes, &[u8]), DecodeError>
-    ensures read { Gives (λ x. (x.0, x.1.now)) result (key_at bytes.now) }
-    ensures memory { IsErrOf result DecodeError.NoMemory → IsOk (key_at bytes.now) }
+pub fn key_slice_at(bytes: &[u8]) -> Result<(&[u8], &[u8]), DecodeError>
+    ensures read { Gives (λ x. (x.0.now, x.1.now)) result (key_at bytes.now) }
+    ensures memory { ¬ IsErrOf result DecodeError.NoMemory }
 {
     match bytes {
         [] => Err(DecodeError::Fault(WireFault::Short)),
         [0, ..] => Err(DecodeError::Fault(WireFault::EmptyKey)),
-        [count, rest @ ..] => bytes_at(alloc, *count as usize, rest),
+        [count, rest @ ..] => slice_at(*count as usize, rest),
     }
 }
 
-/// Reads and copies a value, or a deletion mark: a byte 0; or a byte 1, two bytes of length, and
-/// that many bytes.
+/// Copies a key, which it reads as `key_slice_at` does: its faults, then out of memory.
+pub fn key_at(alloc: Global, bytes: &[u8]) -> Result<(Bytes, &[u8]), DecodeError>
+    ensures read { Gives (λ x. (x.0, x.1.now)) result (key_at bytes.now) }
+    ensures memory { IsErrOf result DecodeError.NoMemory → IsOk (key_at bytes.now) }
+{
+    let (key, rest) = key_slice_at(bytes)?;
+    let copy = Bytes::from_slice(alloc, key)?;
+    Ok((copy, rest))
+}
+
+/// Borrows a value, or reads a deletion mark: a byte 0; or a byte 1, two bytes of length, and that many bytes.
 ///
-/// `Short` if there is no first byte, `Flag` if it is neither 0 nor 1, `Short` if fewer bytes
-/// follow; then out of memory.
+/// `Short` if there is no first byte, `Flag` if it is neither 0 nor 1, `Short` if fewer bytes follow.
 #[tactic(auto, unfolding(crate::specs::Reading::value_at))]
-pub fn value_at(alloc: Global, bytes: &[u8]) -> Result<(Option<Bytes>, &[u8]), DecodeError>
-    ensures read { Gives (λ x. (x.0, x.1.now)) result (value_at bytes.now) }
-    ensures memory { IsErrOf result DecodeError.NoMemory → IsOk (value_at bytes.now) }
+pub fn value_slice_at(bytes: &[u8]) -> Result<(Option<&[u8]>, &[u8]), DecodeError>
+    ensures read { Gives (λ x. (option_copied x.0, x.1.now)) result (value_at bytes.now) }
+    ensures memory { ¬ IsErrOf result DecodeError.NoMemory }
 {
     match bytes {
         [] => Err(DecodeError::Fault(WireFault::Short)),
         [0, rest @ ..] => Ok((None, rest)),
         [1, rest @ ..] => {
             let (count, rest) = u16_at(rest)?;
-            let (value, rest) = bytes_at(alloc, count as usize, rest)?;
+            let (value, rest) = slice_at(count as usize, rest)?;
             Ok((Some(value), rest))
         }
         [_, ..] => Err(DecodeError::Fault(WireFault::Flag)),
+    }
+}
+
+/// Copies a value, or reads a deletion mark, as `value_slice_at` does: its faults, then out of memory.
+pub fn value_at(alloc: Global, bytes: &[u8]) -> Result<(Option<Bytes>, &[u8]), DecodeError>
+    ensures read { Gives (λ x. (x.0, x.1.now)) result (value_at bytes.now) }
+    ensures memory { IsErrOf result DecodeError.NoMemory → IsOk (value_at bytes.now) }
+{
+    let (value, rest) = value_slice_at(bytes)?;
+    let copy = copy_value(alloc, value)?;
+    Ok((copy, rest))
+}
+
+/// Copies a value, if there is one. The only error is out of memory.
+pub(crate) fn copy_value(alloc: Global, value: Option<&[u8]>) -> Result<Option<Bytes>, NoMemory>
+    ensures ok { IfOk result (λ copy. copy ≡ option_copied value.entry) }
+    ensures short { IsShortValue (option_copied value.entry) → IsOk result }
+{
+    match value {
+        None => Ok(None),
+        Some(value) => Ok(Some(Bytes::from_slice(alloc, value)?)),
     }
 }
 

@@ -1,17 +1,20 @@
 //! Items as bytes.
-ghost use Rattle.std.specs.Prelude.{◌≡◌, ◌≤◌, ◌++◌, length, slice_get, IfOk, IfErr, IsErrOf, OnOk, Ok, None, Some};
-ghost use Rattle.std.specs.Int.{w16, w64, to_be_bytes};
-ghost use Rattle.hlc_node.specs.Items.{body_refusal};
+ghost use Rattle.std.specs.Prelude.{◌≡◌, ◌≤◌, length, slice_get, IfOk, IfErr, IsOk, IsErrOf};
+ghost use Rattle.std.specs.Prelude.{Ok, None, Some, IsSome, MatchResult};
+ghost use Rattle.hlc_node.specs.Items.{body_refusal, IsShort};
 ghost use Rattle.hlc_node.specs.declared.item.Item.{Item as AnItem};
-ghost use Rattle.hlc_wire.specs.Spelling.{body_bytes, item_bytes, BodyFits, ItemFits};
-ghost use Rattle.hlc_wire.specs.Reading.{Gives, body_at, item_at, item_rest_at, whole};
+ghost use Rattle.hlc_wire.specs.Spelling.{item_bytes, ItemFits};
+ghost use Rattle.hlc_wire.specs.Placing.{PutsFront};
+ghost use Rattle.hlc_wire.specs.Reading.{Gives, item_at, item_rest_at, numbered_at, whole};
 ghost use Rattle.hlc_wire.specs.Refusal.{IsRefusal};
 
 use crate::fault::{DecodeError, EncodeError, WireFault};
-use crate::fields::{key_at, put_key, put_value, u16_at, u64_at, value_at};
+use crate::fields::{copy_value, key_slice_at, u16_at, u64_at, value_slice_at};
+use crate::placing::{put_body, put_bytes, put_numbers};
 use hlc_clock::Stamp;
-use hlc_node::{Body, Item, body_fault};
-use std::alloc::{AllocError, Global};
+use hlc_node::{Body, BodyFault, Bytes, Item, ItemRef};
+use hlc_values::NoMemory;
+use std::alloc::Global;
 
 /// The maximum number of bytes of an item.
 pub const MOST_ITEM_BYTES: usize = 65_814;
@@ -24,8 +27,8 @@ pub fn most_item_bytes_are_65814()
 
 /// Reads the item from its encoding, which is all of the bytes.
 ///
-/// The error is the first fault from the left, or that memory ran out for the copy of a write's key
-/// or value before that fault was reached.
+/// The error is the first fault from the left; or, if there is none, that memory ran out for the copy of a write's key
+/// or value.
 pub fn decode_item(alloc: Global, bytes: &[u8]) -> Result<Item, DecodeError>
     // The bytes are the encoding of the item that is read.
     ensures found { IfOk result (λ item. ItemFits item × (bytes.now ≡ item_bytes item)) }
@@ -34,10 +37,25 @@ pub fn decode_item(alloc: Global, bytes: &[u8]) -> Result<Item, DecodeError>
         → Gives (λ item. item) result (Ok item) }
     // The fault is exactly this one.
     ensures exact { Gives (λ item. item) result (whole (item_at bytes.now)) }
-    // Only a write needs memory: byte 19 is the kind of the item.
-    ensures memory { IsErrOf result DecodeError.NoMemory → slice_get bytes.now 19 ≡ Some 0 }
+    // Only a write needs memory, byte 19 being the kind of the item, and only if there is no fault.
+    ensures memory { IsErrOf result DecodeError.NoMemory
+        → (slice_get bytes.now 19 ≡ Some 0) × IsOk (whole (item_at bytes.now)) }
 {
     all(alloc, bytes)
+}
+
+/// Reads an item from all of the bytes.
+fn all(alloc: Global, bytes: &[u8]) -> Result<Item, DecodeError>
+    ensures read { Gives (λ item. item) result (whole (item_at bytes.now)) }
+    ensures memory { IsErrOf result DecodeError.NoMemory
+        → (slice_get bytes.now 19 ≡ Some 0) × IsOk (whole (item_at bytes.now)) }
+{
+    let (item, rest) = item_ref_at(bytes)?;
+    if !rest.is_empty() {
+        return Err(DecodeError::Fault(WireFault::Trailing));
+    }
+    let copy = copy_item(alloc, &item)?;
+    Ok(copy)
 }
 
 /// Returns the one encoding of an item, of at most `MOST_ITEM_BYTES` bytes.
@@ -48,122 +66,136 @@ pub fn encode_item(alloc: Global, item: &Item) -> Result<Vec<u8>, EncodeError>
     ensures size { IfOk result (λ bytes. length bytes.items ≤ MOST_ITEM_BYTES) }
     ensures err { IfErr result (λ fault. IsRefusal (body_refusal item.now.body) fault) }
 {
-    if let Some(fault) = body_fault(&item.body) {
-        return Err(EncodeError::BadBody(fault));
-    }
-    let mut out = Vec::new(alloc);
-    put_item(&mut out, item)?;
+    let item = item.as_ref();
+    let size = match item_size(&item) {
+        Ok(size) => size,
+        Err(fault) => return Err(EncodeError::BadBody(fault)),
+    };
+    let mut out = vec![in alloc; 0; size]?;
+    put_item(&item, out.as_mut_slice());
     Ok(out)
 }
 
-/// Writes an item at the end of `out`. The only error is out of memory; the content of `out` is then not specified.
-pub fn put_item(out: &mut Vec<u8>, item: &Item) -> Result<(), AllocError>
-    requires { body_refusal item.now.body ≡ None }
-    ensures ok { OnOk result (out.new.items ≡ out.old.items ++ item_bytes item.now) }
-    ensures fits { ItemFits item.now }
+/// Returns how many bytes the encoding of an item has, or the first reason why it has none.
+pub fn item_size(item: &ItemRef<'_>) -> Result<usize, BodyFault>
+    ensures size { MatchResult result
+        (λ size. (body_refusal item.now.body ≡ None) × (size ≡ length (item_bytes item.now)))
+        (λ fault. body_refusal item.now.body ≡ Some fault) }
+    ensures most { IfOk result (λ size. size ≤ MOST_ITEM_BYTES) }
 {
-    let node = item.node;
-    let number = item.number;
-    let stamp = item.stamp.bits();
-    out.push(1)?;
-    put_numbers(out, node, number, stamp)?;
-    put_body(out, &item.body)?;
-    Ok(())
-}
-
-/// Writes a node, a number and a stamp.
-fn put_numbers(out: &mut Vec<u8>, node: u16, number: u64, stamp: u64) -> Result<(), AllocError>
-    ensures { OnOk result (out.new.items ≡ out.old.items
-        ++ (to_be_bytes w16 node ++ to_be_bytes w64 number ++ to_be_bytes w64 stamp)) }
-{
-    out.extend_from_slice(&node.to_be_bytes())?;
-    out.extend_from_slice(&number.to_be_bytes())?;
-    out.extend_from_slice(&stamp.to_be_bytes())?;
-    Ok(())
-}
-
-/// Writes the body of an item.
-fn put_body(out: &mut Vec<u8>, body: &Body) -> Result<(), AllocError>
-    requires { BodyFits body.now }
-    ensures { OnOk result (out.new.items ≡ out.old.items ++ body_bytes body.now) }
-{
-    match body {
-        Body::Write { key, value } => {
-            out.push(0)?;
-            put_key(out, key.as_slice())?;
-            put_value(out, value)?;
-        }
-        Body::Report => out.push(1)?,
-        Body::Retire => out.push(2)?,
+    match item.body_fault() {
+        Some(fault) => Err(fault),
+        None => Ok(size_of(item)),
     }
-    Ok(())
 }
 
-/// Reads the item at the front of some bytes, and returns it with the bytes after it.
+/// Returns how many bytes the encoding of an item has.
+fn size_of(item: &ItemRef<'_>) -> usize
+    requires { body_refusal item.now.body ≡ None }
+    ensures size { result ≡ length (item_bytes item.now) }
+    ensures most { result ≤ MOST_ITEM_BYTES }
+{
+    match item.written() {
+        None => 20,
+        Some(written) => match written.value {
+            None => 22 + written.key.len(),
+            Some(value) => 24 + written.key.len() + value.len(),
+        },
+    }
+}
+
+/// Writes the encoding of an item, which `encode_item` returns, to the front of a buffer, and returns how many bytes it
+/// has. If they do not fit, nothing is written. It takes no memory.
+pub fn put_item(item: &ItemRef<'_>, out: &mut [u8]) -> Option<usize>
+    requires { body_refusal item.now.body ≡ None }
+    ensures put { PutsFront (item_bytes item.now) result out.old out.new }
+    ensures fits { IsSome result → ItemFits item.now }
+{
+    let size = size_of(item);
+    if out.len() < size {
+        return None;
+    }
+    let at_numbers = put_bytes(out, 0, &[1]);
+    let at_body = put_numbers(out, at_numbers, item);
+    put_body(out, at_body, item);
+    Some(size)
+}
+
+/// Copies an item, with its key and value.
+pub fn copy_item(alloc: Global, item: &ItemRef<'_>) -> Result<Item, NoMemory>
+    ensures ok { IfOk result (λ copy. copy ≡ item.now) }
+    ensures short { IsShort item.now.body → IsOk result }
+{
+    let body = match item.written() {
+        Some(written) => Body::Write {
+            key: Bytes::from_slice(alloc, written.key)?,
+            value: copy_value(alloc, written.value)?,
+        },
+        None => {
+            if item.retires() {
+                Body::Retire
+            } else {
+                Body::Report
+            }
+        }
+    };
+    Ok(Item {
+        node: item.node(),
+        number: item.number(),
+        stamp: item.stamp(),
+        body,
+    })
+}
+
+/// Reads the item at the front of some bytes, and returns it with the bytes after it. Its key and value are those in
+/// the bytes: nothing is copied.
 ///
-/// The error is the first fault from the left, or that memory ran out for the copy of a write's key
-/// or value before that fault was reached.
+/// The error is the first fault from the left, and never `NoMemory`: no memory is needed.
 #[tactic(auto, unfolding(crate::specs::Reading::item_at))]
-pub fn item_at(alloc: Global, bytes: &[u8]) -> Result<(Item, &[u8]), DecodeError>
+pub fn item_ref_at(bytes: &[u8]) -> Result<(ItemRef<'_>, &[u8]), DecodeError>
     ensures read { Gives (λ x. (x.0, x.1.now)) result (item_at bytes.now) }
-    ensures memory { IsErrOf result DecodeError.NoMemory → slice_get bytes.now 19 ≡ Some 0 }
+    ensures memory { ¬ IsErrOf result DecodeError.NoMemory }
 {
     match bytes {
         [] => Err(DecodeError::Fault(WireFault::Short)),
-        [1, rest @ ..] => item_rest_at(alloc, rest),
+        [1, rest @ ..] => item_rest_at(rest),
         [_, ..] => Err(DecodeError::Fault(WireFault::Version)),
     }
 }
 
 /// Reads an item after its version.
 #[tactic(auto, unfolding(crate::specs::Reading::item_rest_at))]
-fn item_rest_at(alloc: Global, bytes: &[u8]) -> Result<(Item, &[u8]), DecodeError>
+fn item_rest_at(bytes: &[u8]) -> Result<(ItemRef<'_>, &[u8]), DecodeError>
     ensures read { Gives (λ x. (x.0, x.1.now)) result (item_rest_at bytes.now) }
-    ensures memory { IsErrOf result DecodeError.NoMemory → slice_get bytes.now 18 ≡ Some 0 }
+    ensures memory { ¬ IsErrOf result DecodeError.NoMemory }
 {
     let (node, rest) = u16_at(bytes)?;
     let (number, rest) = u64_at(rest)?;
     let (stamp, rest) = u64_at(rest)?;
-    let (body, rest) = body_at(alloc, rest)?;
     let stamp = Stamp::from_bits(stamp);
-    Ok((
-        Item {
-            node,
-            number,
-            stamp,
-            body,
-        },
-        rest,
-    ))
+    numbered_at(node, number, stamp, rest)
 }
 
-/// Reads the body of an item.
+/// Reads the body of an item that has these numbers.
 #[tactic(auto, unfolding(crate::specs::Reading::body_at))]
-fn body_at(alloc: Global, bytes: &[u8]) -> Result<(Body, &[u8]), DecodeError>
-    ensures read { Gives (λ x. (x.0, x.1.now)) result (body_at bytes.now) }
-    ensures memory { IsErrOf result DecodeError.NoMemory → slice_get bytes.now 0 ≡ Some 0 }
+fn numbered_at(
+    node: u16,
+    number: u64,
+    stamp: Stamp,
+    bytes: &[u8],
+) -> Result<(ItemRef<'_>, &[u8]), DecodeError>
+    ensures read { Gives (λ x. (x.0, x.1.now)) result (numbered_at node number stamp bytes.now) }
+    ensures memory { ¬ IsErrOf result DecodeError.NoMemory }
 {
     match bytes {
         [] => Err(DecodeError::Fault(WireFault::Short)),
         [0, rest @ ..] => {
-            let (key, rest) = key_at(alloc, rest)?;
-            let (value, rest) = value_at(alloc, rest)?;
-            Ok((Body::Write { key, value }, rest))
+            let (key, rest) = key_slice_at(rest)?;
+            let (value, rest) = value_slice_at(rest)?;
+            Ok((ItemRef::write(node, number, stamp, key, value), rest))
         }
-        [1, rest @ ..] => Ok((Body::Report, rest)),
-        [2, rest @ ..] => Ok((Body::Retire, rest)),
+        [1, rest @ ..] => Ok((ItemRef::report(node, number, stamp), rest)),
+        [2, rest @ ..] => Ok((ItemRef::retire(node, number, stamp), rest)),
         [_, ..] => Err(DecodeError::Fault(WireFault::Kind)),
     }
-}
-
-/// Reads an item from all of the bytes.
-fn all(alloc: Global, bytes: &[u8]) -> Result<Item, DecodeError>
-    ensures read { Gives (λ item. item) result (whole (item_at bytes.now)) }
-    ensures memory { IsErrOf result DecodeError.NoMemory → slice_get bytes.now 19 ≡ Some 0 }
-{
-    let (item, rest) = item_at(alloc, bytes)?;
-    if !rest.is_empty() {
-        return Err(DecodeError::Fault(WireFault::Trailing));
-    }
-    Ok(item)
 }

@@ -7,16 +7,19 @@ mod fault;
 mod fields;
 mod item;
 mod message;
+mod placing;
 
 pub use fault::{DecodeError, EncodeError, WireFault};
 pub use fields::{
     byte_at, bytes_at, flag_at, key_at, put_flag, put_key, put_value, u16_at, u32_at, u64_at,
     value_at,
 };
-pub use hlc_node::{Body, BodyFault, Bytes, Item, Message};
+pub use hlc_node::{Body, BodyFault, Bytes, Item, ItemRef, Message};
 pub use item::{
-    MOST_ITEM_BYTES, decode_item, encode_item, item_at, most_item_bytes_are_65814, put_item,
+    MOST_ITEM_BYTES, copy_item, decode_item, encode_item, item_ref_at, item_size,
+    most_item_bytes_are_65814, put_item,
 };
 pub use message::{
     MESSAGE_BYTES, decode_message, encode_message, message_at, message_bytes_are_11, put_message,
 };
+pub use placing::put_bytes;

@@ -19,24 +19,24 @@ returns-then-came-clause-shorter c =
     front_shortens c.args.bytes.now c.in-Ok.found.0 c.in-Ok.found.1.now
     (λ i. omega (arith, c.type_inv.bytes i)) c.in-Ok.ensures.read
 
-pub returns-in-Ok-accept_copy-clause-answer : goal.returns-in-Ok-accept_copy-clause-answer
-returns-in-Ok-accept_copy-clause-answer c = λ past h. (
+pub returns-in-Ok-accept_ref-clause-answer : goal.returns-in-Ok-accept_ref-clause-answer
+returns-in-Ok-accept_ref-clause-answer c = λ past h. (
   c.in-Ok.found.0,
   front_is c.args.bytes.now c.in-Ok.found.0 c.in-Ok.found.1.now
       (λ i. omega (arith, c.type_inv.bytes i)) c.in-Ok.ensures.read,
-  taken c.accept_copy.new.self _ past c.in-Ok.found.0 (sym (c.came.ensures past h) ∙ c.if-came.false)
-      (c.in-Ok-accept_copy.ensures.represents past h).1,
+  taken c.accept_ref.new.self _ past c.in-Ok.found.0 (sym (c.came.ensures past h) ∙ c.if-came.false)
+      (c.in-Ok-accept_ref.ensures.represents past h).1,
 )
 
-pub returns-in-Ok-accept_copy-clause-shorter : goal.returns-in-Ok-accept_copy-clause-shorter
-returns-in-Ok-accept_copy-clause-shorter c =
+pub returns-in-Ok-accept_ref-clause-shorter : goal.returns-in-Ok-accept_ref-clause-shorter
+returns-in-Ok-accept_ref-clause-shorter c =
     front_shortens c.args.bytes.now c.in-Ok.found.0 c.in-Ok.found.1.now
     (λ i. omega (arith, c.type_inv.bytes i)) c.in-Ok.ensures.read
 
-pub returns-clause-answer : goal.returns-clause-answer
-returns-clause-answer c = λ past h.
+pub returns-in-Err-clause-answer : goal.returns-in-Err-clause-answer
+returns-in-Err-clause-answer c = λ past h.
     let here = refused_here (nodes c.args.core.now) c.args.bytes.now c.in-Ok.found.1.now past c.in-Ok.found.0
-    c.in-Err.fault (λ i. omega (arith, c.type_inv.bytes i)) c.in-Ok.ensures.read
+    c.in-Err.fault c.in-Ok.ensures.read
     (sym (c.came.ensures past h) ∙ c.if-came.false) (c.in-Err.ensures.represents past h) in
     subst (λ (code : ℕ). IsStopped (nodes c.args.core.now) c.args.bytes.now past code c.refuse.new.word)
     (sym c.refuse.ensures.0)

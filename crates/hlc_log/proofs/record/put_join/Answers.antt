@@ -1,15 +1,15 @@
--- The parts of a join, one after the other.
-use Rattle.std.proofs.Common.{◌≡◌, ◌++◌, rules}
-use Rattle.std.specs.Int.{w16, w64, to_be_bytes}
-use Rattle.hlc_log.proofs.RecordLemmas.{join_written}
+-- The parts of a join, one after another.
+use Rattle.std.proofs.Common.{arith}
+use Rattle.hlc_log.proofs.RecordLemmas.{join_put}
 use Rattle.hlc_log.proofs.record.put_join.Goals as goal
 
-pub returns-clause-ok : goal.returns-clause-ok
-returns-clause-ok c =
-    let both : c.extend_from_slice.new.self.items ≡ c.push.new.self.items ++ to_be_bytes w16 c.args.node =
-    search rules in
-    let all' : c.extend_from_slice-2.new.self.items
-    ≡ c.extend_from_slice.new.self.items ++ to_be_bytes w64 c.args.start =
-    rw (← c.bits-start.ensures.value) (search rules) in
-    join_written c.args.out.now.items c.push.new.self.items c.extend_from_slice.new.self.items
-    c.extend_from_slice-2.new.self.items c.args.node c.args.start c.in_ok-push.ensures.items both all'
+pub returns-clause-put : goal.returns-clause-put
+returns-clause-put c =
+    join_put c.put_bytes.result c.put_bytes-at_node.result c.put_bytes-at_start.result c.args.node c.args.start
+    c.args.out.now c.put_bytes-at_node.new.out c.put_bytes-at_start.new.out c.put_bytes.new.out
+    c.put_bytes-at_node.ensures.put c.put_bytes-at_node.ensures.end
+    (rw c.to_be_bytes.ensures at c.put_bytes-at_start.ensures.put)
+    (rw c.to_be_bytes.ensures at c.put_bytes-at_start.ensures.end)
+    (rw (c.to_be_bytes-2.ensures, c.bits-start.ensures.value) at c.put_bytes.ensures.put)
+    (rw c.to_be_bytes-2.ensures at c.put_bytes.ensures.end)
+    (let room = c.if-out-lt11.false in omega (arith, room))

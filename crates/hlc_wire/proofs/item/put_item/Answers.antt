@@ -1,9 +1,12 @@
--- The parts of an item, one after the other.
-use Rattle.hlc_wire.proofs.ItemLemmas.{written}
+-- The parts of an item, one after another.
+use Rattle.hlc_wire.proofs.PlacingLemmas.{item_put}
 use Rattle.hlc_wire.proofs.item.put_item.Goals as goal
+use Rattle.std.proofs.Common.{arith}
 
-pub returns-clause-ok : goal.returns-clause-ok
-returns-clause-ok c =
-    written c.args.out.now.items c.push.new.self.items c.put_numbers.new.out.items c.put_body.new.out.items
-    c.args.item.now c.in_ok-push.ensures.items (rw c.bits-stamp.ensures.value at c.in_ok-put_numbers.ensures)
-    c.in_ok-put_body.ensures
+pub returns-clause-put : goal.returns-clause-put
+returns-clause-put c =
+    item_put c.size_of-size.result c.put_bytes-at_numbers.result c.put_numbers-at_body.result c.args.item.now
+    c.args.out.now c.put_bytes-at_numbers.new.out c.put_numbers-at_body.new.out c.put_body.new.out
+    c.put_bytes-at_numbers.ensures.put c.put_bytes-at_numbers.ensures.end c.put_numbers-at_body.ensures.put
+    c.put_numbers-at_body.ensures.end c.put_body.ensures.put c.size_of-size.ensures.size
+    (let room = c.if-out-size.false in omega (arith, room))

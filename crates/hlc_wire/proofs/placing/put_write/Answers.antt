@@ -1,0 +1,12 @@
+-- The kind with the length of the key, the key and the value, one after another.
+use Rattle.std.proofs.Common.{[], ◌∷◌, length, option_copied}
+use Rattle.hlc_wire.specs.Spelling.{value_bytes}
+use Rattle.hlc_wire.proofs.PlacingLemmas.{put_three}
+use Rattle.hlc_wire.proofs.placing.put_write.Goals as goal
+
+pub returns-clause-put : goal.returns-clause-put
+returns-clause-put c =
+    put_three c.args.at c.put_bytes-at_key.result c.put_bytes-at_value.result (0 ∷ length c.args.key.now ∷ [])
+    c.args.key.now (value_bytes (option_copied c.args.value)) c.args.out.now c.put_bytes-at_key.new.out
+    c.put_bytes-at_value.new.out c.put_value.new.out c.put_bytes-at_key.ensures.put c.put_bytes-at_key.ensures.end
+    c.put_bytes-at_value.ensures.put c.put_bytes-at_value.ensures.end c.put_value.ensures.put c.requires.room
