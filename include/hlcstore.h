@@ -75,10 +75,10 @@
  *   hlc_vacuum_part                     8 9 15                            yes     other stores
  *   hlc_check_vacuum                    8 9                                       reads
  *   hlc_certificate                     108 8 9 109 15                    yes     reads, with other outputs
- *   hlc_item_write, _delete             12 13 15                          yes     all
- *   hlc_item_report, _retire            15                                yes     all
+ *   hlc_item_write, _delete             12 13                                     all
+ *   hlc_item_report, _retire            none                                      all
  *   hlc_items_accept                    106 1 27 6 14 7 15                yes     other stores
- *   hlc_record_join, _threshold         15                                yes     all
+ *   hlc_record_join, _threshold         none                                      all
  *   hlc_records_apply                   106 1 27 6 26 9 14 7 15           yes     other stores
  *   hlc_checkpoint                      108 15                            yes     reads, with other outputs
  *   hlc_increment                       108 9 15                          yes     reads, with other outputs
@@ -150,10 +150,10 @@ enum {
     HLC_BAD_KEY = 12,           /* the key has no bytes, or more than 255 */
     HLC_VALUE_TOO_LONG = 13,    /* the value has more than 65,535 bytes */
     HLC_NUMBERS_SPENT = 14,     /* no link number, or id of a snapshot, is left */
-    HLC_NO_MEMORY = 15,         /* out of memory, and no other refusal is expected; of hlc_restore, hlc_restore_finish,
-                                   hlc_increment_apply, hlc_items_accept and hlc_records_apply it may come in place of
-                                   another refusal, but of a restore not of bytes that are damaged, cut or no frame at
-                                   all; of hlc_certificate in place of 109 */
+    HLC_NO_MEMORY = 15,         /* out of memory, and no other refusal is expected; of hlc_restore, hlc_restore_finish
+                                   and hlc_increment_apply it may come in place of another refusal, but of a restore
+                                   not of bytes that are damaged, cut or no frame at all; of hlc_certificate in place of
+                                   109 */
     HLC_BAD_LINE = 16,          /* of hlc_check; word: the number of the first bad line */
     HLC_NOT_SHOWN = 22,         /* of hlc_check; word: the number of the first reason of docs/formats.md, 1 to 8 */
     HLC_TOO_MANY_NODES = 26,    /* 1,024 node numbers are assigned */
@@ -205,8 +205,9 @@ void hlc_close(hlc_store *store);
 
 /* Accepts the item that a node issued under this number with this stamp. word: the stamp, or the refusal's word.
  * Refusals, in this order: 1, 27, 6, 14, 7, 12, 13, 15. An expected refusal is returned before memory is taken. Costs a
- * copy of the value, and of a key that has no rows yet, each with an allocation where it is longer than 22 bytes; a
- * block for such a key's rows; and a look at one key's newest rows. A report and a retirement take no memory. */
+ * copy of the value, and of a key that has no rows yet, each with an allocation where it is longer than 30 bytes; a
+ * block for a key's second, third and fifth row, and a larger one now and then from there on; and a look at one key's
+ * newest rows. A report and a retirement take no memory. */
 uint32_t hlc_accept_write(hlc_store *store, uint16_t node, uint64_t number, uint64_t stamp,
                           const uint8_t *key, size_t key_len, const uint8_t *value, size_t value_len, uint64_t *word);
 uint32_t hlc_accept_delete(hlc_store *store, uint16_t node, uint64_t number, uint64_t stamp,
@@ -284,7 +285,8 @@ uint32_t hlc_read_all(hlc_store *store, uint64_t id, const hlc_place *places, si
 
 /* Lists all keys with a value in a snapshot, in byte order: for each the key's length, the key, the value's length, and
  * the value. A length has eight bytes, the low one first. len: how many bytes that takes, as in hlc_read, or 2^64 - 1
- * where it would be greater. Refusal: 10. No memory. */
+ * where it would be greater. Refusal: 10. No memory. Goes through the keys once where out has room for 16 bytes a key
+ * and for all bytes of keys and values that hlc_sizes counts, otherwise twice. */
 uint32_t hlc_list(hlc_store *store, uint64_t id, uint8_t *out, size_t out_len, size_t *len);
 
 /* Lists a part of what hlc_list lists: the keys from `from` on and below `to`, or all keys from `from` on if `to`
@@ -398,7 +400,7 @@ uint32_t hlc_check(const uint8_t *text, size_t text_len, uint64_t *rows, uint64_
 /* ---- Restart and replicas ---- */
 
 /* Writes an item that a node issued as bytes, for a log. len: how many bytes it has, as in hlc_read; an item has at
- * most 65,814 bytes. docs/formats.md describes them. Refusals: 12, 13, 15. Takes memory for a copy. */
+ * most 65,814 bytes. docs/formats.md describes them. Refusals: 12, 13. No memory. */
 uint32_t hlc_item_write(uint16_t node, uint64_t number, uint64_t stamp, const uint8_t *key, size_t key_len,
                         const uint8_t *value, size_t value_len, uint8_t *out, size_t out_len, size_t *len);
 uint32_t hlc_item_delete(uint16_t node, uint64_t number, uint64_t stamp, const uint8_t *key, size_t key_len,
@@ -410,14 +412,14 @@ uint32_t hlc_item_retire(uint16_t node, uint64_t number, uint64_t stamp, uint8_t
  * accepted before are passed over, so that a log can be read again from any place. many: how many items were
  * accepted or passed over, also at a refusal; used: how many bytes these have: the next call goes on from there.
  * Bytes that end within an item are refused with 106 and word 1. word: 0, or the refusal's word. Refusals, of each
- * item in this order: 106, 1, 27, 6, 14, 7, 15. Only a write, or a deletion, can get 15: in place of another refusal,
- * where there is no memory for a copy of its key and its value. */
+ * item in this order: 106, 1, 27, 6, 14, 7, 15. Takes memory as hlc_accept_write does: for the rows of writes and
+ * deletions, and nothing beside. */
 uint32_t hlc_items_accept(hlc_store *store, const uint8_t *bytes, size_t bytes_len, size_t *used, size_t *many,
                           uint64_t *word);
 
 /* Writes a record of a log that is no item, as bytes: the join of a node, with the number that it is assigned and its
  * start; or a retention threshold, a stamp below which no more snapshot is opened. An item's own bytes are a record
- * too. len: how many bytes it has, as in hlc_read: 11, or 9. Refusal: 15. Takes memory for a copy. */
+ * too. len: how many bytes it has, as in hlc_read: 11, or 9. Refusals: none. No memory. */
 uint32_t hlc_record_join(uint16_t node, uint64_t start, uint8_t *out, size_t out_len, size_t *len);
 uint32_t hlc_record_threshold(uint64_t stamp, uint8_t *out, size_t out_len, size_t *len);
 

@@ -16,8 +16,8 @@ from raw_calls import ENTRY, HEADER, PLACE, Handle, RawNode
 OK, CLOSED, MORE = 0, 100, 104
 TOP = 2**64 - 1
 KEYS = 10_000
-KEY, VALUE = b"key %06d, which is longer than 22 bytes", b"value %d of key %06d, which is longer than 22 bytes"
-ABSENT = b"no key of a store, and longer than 22 bytes"
+KEY, VALUE = b"key %06d, which is longer than 30 bytes", b"value %d of key %06d, which is longer than 30 bytes"
+ABSENT = b"no key of a store, and longer than 30 bytes"
 PLENTY = 3_000_000
 # Refusals that these calls find in what they take memory for.
 LATE = {"certificate": {109}, "check": {16}, "restore": {107}, "restore_finish": {107}}
@@ -353,14 +353,26 @@ def count_outputs_refused(calls, store, floor):
 
 
 def count_logs(calls, store, next, spent):
-    """Counts the refusals of items as bytes."""
+    """Counts the calls that write records as bytes, and the refusals of such bytes."""
+    kinds = {"write": (KEY % 1, VALUE % (1, 1)), "delete": (KEY % 1,), "report": (), "retire": ()}
+    for kind, parts in kinds.items():
+        for room in 0, 100, PLENTY:
+            calls.count(OK, "item_" + kind, 0, next, next + 1, *parts, room)
+    for room in 0, PLENTY:
+        calls.count(OK, "record_join", 2, next, room)
+        calls.count(OK, "record_threshold", next, room)
     calls.count(12, "item_write", 0, 0, 1, bytes(256), b"", PLENTY)
     calls.count(12, "item_delete", 0, 0, 1, bytes(256), PLENTY)
     calls.count(13, "item_write", 0, 0, 1, KEY % 1, bytes(65536), PLENTY)
-    for answer, (each, item) in item_refusals("report", store, next, spent).items():
-        for name in "items_accept", "records_apply":
-            calls.count(answer, name, each, calls.ok("item_report", *item, PLENTY)[1])
-    calls.count(106, "items_accept", store, b"\1")
+    for name in "items_accept", "records_apply":
+        for kind in kinds:
+            for answer, (each, item) in item_refusals(kind, store, next, spent).items():
+                if answer not in (12, 13):
+                    calls.count(answer, name, each, calls.ok("item_" + kind, *item, PLENTY)[1])
+        write = calls.ok("item_write", 0, next, next + 1, *kinds["write"], PLENTY)[1]
+        old = calls.ok("item_write", 0, 0, 1, *kinds["write"], PLENTY)[1]
+        calls.count(106, name, store, write[:-1])
+        assert calls.starved(name, store, old + old) == (OK, False)
     calls.count(106, "records_apply", store, b"\4")
 
 

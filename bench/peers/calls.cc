@@ -3,45 +3,12 @@
 // processor time per call (per key for a listing), milliseconds of a vacuum, and bytes of memory per row.
 #include PEER
 
-#include <ctime>
-#include <unistd.h>
+#include "measure.hh"
 
 namespace {
 constexpr uint64_t READS = 1'000'000, HOT_READS = 20'000, HOT_SNAPSHOTS = 1'000;
 // The snapshots of a table are evenly spaced over its writes; one in the middle of them is read.
 constexpr uint64_t SNAPSHOTS = 8, PAST = SNAPSHOTS / 2 - 1;
-
-double now() {
-  timespec t;
-  clock_gettime(CLOCK_PROCESS_CPUTIME_ID, &t);
-  return t.tv_sec * 1e9 + t.tv_nsec;
-}
-
-uint64_t resident() {
-  uint64_t pages, resident;
-  std::FILE* file = std::fopen("/proc/self/statm", "r");
-  if (!file || std::fscanf(file, "%lu %lu", &pages, &resident) != 2) give_up("no /proc/self/statm");
-  std::fclose(file);
-  return resident * static_cast<uint64_t>(sysconf(_SC_PAGESIZE));
-}
-
-// Marsaglia's xorshift64 (2003).
-uint64_t random_word() {
-  static uint64_t word = 88172645463325252;
-  word ^= word << 13;
-  word ^= word >> 7;
-  word ^= word << 17;
-  return word;
-}
-
-// A letter and seven digits.
-string_view text_of(char* text, char letter, uint64_t number) {
-  text[0] = letter;
-  for (int i = 7; i > 0; i--, number /= 10) text[i] = '0' + number % 10;
-  return {text, 8};
-}
-
-uint64_t stamp_of(uint64_t write) { return (write + 1) << 16; }
 
 void put(Store& store, uint64_t key, uint64_t write) {
   char key_text[8], value_text[8];
@@ -58,19 +25,6 @@ void read_some_key(Store& store, uint64_t id, uint64_t stamp, uint64_t keys) {
   char text[8];
   read(store, id, stamp, text_of(text, 'k', random_word() % keys));
 }
-
-void tell(const char* name, double value) { std::printf("%s %.1f\n", name, value); }
-
-// Measures the time until it is dropped, divided by a number of calls.
-class Timed {
- public:
-  Timed(const char* name, double calls) : name_(name), calls_(calls), began_(now()) {}
-  ~Timed() { tell(name_, (now() - began_) / calls_); }
-
- private:
-  const char* name_;
-  double calls_, began_;
-};
 
 void table(uint64_t keys, uint64_t writes) {
   std::vector<uint32_t> order(writes);

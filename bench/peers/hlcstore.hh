@@ -37,12 +37,13 @@ class Store {
   }
 
   uint64_t list(uint64_t id, uint64_t) {
+    // With room for 16 bytes a key and all bytes of keys and values, a listing is one pass.
+    uint64_t rows, keys, key_bytes, value_bytes;
+    check(hlc_sizes(&store_, &rows, &keys, &key_bytes, &value_bytes));
+    const size_t most = 16 * keys + key_bytes + value_bytes;
+    if (listing_.size() < most) listing_.resize(most);
     size_t len;
     check(hlc_list(&store_, ids_[id], listing_.data(), listing_.size(), &len));
-    if (len > listing_.size()) {
-      listing_.resize(len);
-      check(hlc_list(&store_, ids_[id], listing_.data(), len, &len));
-    }
     uint64_t count = 0;
     for (size_t at = 0; at < len; count++) {
       at = behind(at);
@@ -51,6 +52,8 @@ class Store {
     }
     return count;
   }
+
+  void tidy() { std::vector<uint8_t>().swap(listing_); }
 
   void vacuum(const Points&, uint64_t) {
     uint64_t floor, kept, bytes, dropped;

@@ -65,6 +65,8 @@ class Store {
     return count;
   }
 
+  void tidy() {}
+
   void vacuum(const Points& points, uint64_t floor) {
     begin();
     MDB_cursor* cursor;

@@ -7,6 +7,7 @@
 //   void open(id, stamp); void close(id);           // a snapshot; ids count up
 //   bool read(id, stamp, key, &value);              // the newest value at or below the stamp, until the next call
 //   uint64_t list(id, stamp);                       // touches each key and value of a snapshot, and counts them
+//   void tidy();                                    // frees what it keeps for its next listing
 //   void vacuum(points, floor);                     // of ascending points, the last of which is the floor
 //   uint64_t rows();                                // of all versions, 0 where it can't be asked
 #pragma once

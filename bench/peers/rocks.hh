@@ -72,6 +72,8 @@ class Store {
     return count(reading(&bound));
   }
 
+  void tidy() {}
+
   void vacuum(const Points& points, uint64_t) {
     flush();
     const uint64_t ts = timestamp(points[0], LAST_NODE);

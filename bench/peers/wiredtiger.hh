@@ -88,6 +88,8 @@ class Store {
     return count;
   }
 
+  void tidy() {}
+
   void vacuum(const Points& points, uint64_t) {
     check(connection_->set_timestamp(connection_, at("oldest_timestamp=", timestamp(points[0], LAST_NODE))));
   }

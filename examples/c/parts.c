@@ -1,5 +1,5 @@
 /* A vacuum in parts, in which keys lose all their rows, and one that ends at the longest key; and restores from pieces
- * that are given up or refused. Keys and values are longer than 22 bytes, so each of them has an allocation. */
+ * that are given up or refused. Keys and values are longer than 30 bytes, so each of them has an allocation. */
 #include "hlcstore.h"
 #include <inttypes.h>
 #include <stdio.h>

@@ -132,11 +132,11 @@ static uint32_t call(int step, hlc_store *store)
     size_t len;
     switch (step) {
     case 0: return hlc_open(store, 2);
-    case 1: return hlc_accept_write(store, 0, 0, AT(10), BYTES("apple"), BYTES("a red that takes memory"), &w);
+    case 1: return hlc_accept_write(store, 0, 0, AT(10), BYTES("apple"), BYTES("a red that is too long in place"), &w);
     case 2: return hlc_accept_report(store, 1, 0, AT(12), &w);
     case 3: return hlc_open_snapshot_at_floor(store, &v, &w);
     case 4: return hlc_accept_write(store, 0, 1, AT(20), BYTES("apple"), BYTES("green"), &w);
-    case 5: return hlc_accept_delete(store, 1, 1, AT(21), BYTES("a pear whose key takes memory"), &w);
+    case 5: return hlc_accept_delete(store, 1, 1, AT(21), BYTES("a pear whose key is long, and so takes memory"), &w);
     case 6: return hlc_open_snapshot(store, AT(20), &v);
     case 7: return hlc_list(store, 1, out, sizeof out, &len);
     case 8: return hlc_close_snapshot(store, 1, &w);
