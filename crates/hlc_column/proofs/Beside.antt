@@ -1,5 +1,5 @@
 -- Three lists side by side.
-use Rattle.std.proofs.Common.{◌≡◌, ℕ, zero, suc, ◌-◌, ◌<◌, ◌≤◌, Bool, true, false, cond, eqb, ltb, ◌||◌, ◌&&◌, List, []}
+use Rattle.std.proofs.Common.{◌≡◌, ℕ, zero, suc, ◌<◌, ◌≤◌, Bool, true, false, cond, eqb, ltb, ◌||◌, ◌&&◌, List, []}
 use Rattle.std.proofs.Common.{◌∷◌, ◌++◌, Option, Some, None, length, get_or, refl, sym, ap, ◌∙◌, subst, inl, inr, arith}
 use Rattle.std.proofs.Common.{All, slice_get, map, filter, leb, ◌+◌}
 use Rattle.std.proofs.lemmas.Bool.{cases_lt}
@@ -211,15 +211,6 @@ stamps_of_cells (s ∷ ss) [] vs b = absurd (let e = b.0 in omega (arith, e))
 stamps_of_cells (s ∷ ss) (n ∷ ns) [] b = absurd (let e = b.1 in omega (arith, e))
 stamps_of_cells (s ∷ ss) (n ∷ ns) (v ∷ vs) b =
     ap (λ xs. s ∷ xs) (stamps_of_cells ss ns vs (let e = b.0 in omega (arith, e), let e = b.1 in omega (arith, e)))
-
-pub only_value : (ss ns : List ℕ) (vs : List (Option (List ℕ))) (cells : List Cell) (cell : Cell) (v : Option (List ℕ))
-    → AreBeside ss ns vs → cells_of ss ns vs ≡ cells → cells ≡ cell ∷ []
-    → Some v ≡ slice_get vs (length vs - 1) → v ≡ cell.value
-only_value ss ns vs cells cell v b is only at =
-    let e : length vs ≡ 1 = b.1 ∙ sym (length_cells ss ns vs b) ∙ ap length is ∙ ap length only in
-    let z : length vs - 1 ≡ 0 = omega (arith, e) in
-    same_Some v cell.value
-    (at ∙ ap (slice_get vs) z ∙ value_there ss ns vs 0 cell (ap (λ (cs : List Cell). slice_get cs 0) (is ∙ only)))
 
 pub nodes_of_cells : (ss ns : List ℕ) (vs : List (Option (List ℕ))) → AreBeside ss ns vs
     → ns ≡ map (λ (c : Cell). c.node) (cells_of ss ns vs)

@@ -7,6 +7,7 @@ use Rattle.std.proofs.lemmas.Option.{none-some, same_Some}
 use Rattle.std.proofs.lemmas.List.{length-take-le, take_more_set}
 use Rattle.std.specs.List.{items_where_true}
 use Rattle.hlc_column.specs.Cells.{Cell, CellsWithRoom, cells_of, AreBeside}
+use Rattle.hlc_order.specs.Order.{IsIndex}
 use Rattle.hlc_column.proofs.Beside.{length_cells, cells_push, cell_there, cells_chosen, length_chosen_same}
 use Rattle.hlc_column.proofs.Chosen.{chosen_front}
 
@@ -111,6 +112,20 @@ front_there len i s n v ss ns vs now lt es en ev is =
     in_front (suc n) (y ∷ ys) zero x lt e = e
     in_front (suc n) (y ∷ ys) (suc i) x lt e = in_front n ys i x (omega (arith, lt)) e
 
+-- other values change no row from a position on if they are the same from there on
+pub front_same : (i len : ℕ) (ss ns : List ℕ) (vs ws : List (Option (List ℕ))) → length vs ≡ length ws
+    → drop i vs ≡ drop i ws → drop i (cells_of (take len ss) (take len ns) (take len vs))
+    ≡ drop i (cells_of (take len ss) (take len ns) (take len ws))
+front_same zero len ss ns vs ws long e = ap (λ l. cells_of (take len ss) (take len ns) (take len l)) e
+front_same (suc i) zero ss ns vs ws long e = refl
+front_same (suc i) (suc len) [] ns vs ws long e = refl
+front_same (suc i) (suc len) (s ∷ ss) [] vs ws long e = refl
+front_same (suc i) (suc len) (s ∷ ss) (n ∷ ns) [] [] long e = refl
+front_same (suc i) (suc len) (s ∷ ss) (n ∷ ns) [] (w ∷ ws) long e = absurd (omega (arith, long))
+front_same (suc i) (suc len) (s ∷ ss) (n ∷ ns) (v ∷ vs) [] long e = absurd (omega (arith, long))
+front_same (suc i) (suc len) (s ∷ ss) (n ∷ ns) (v ∷ vs) (w ∷ ws) long e =
+    front_same i len ss ns vs ws (omega (arith, long)) e
+
 -- one more item after the first
 pub front_push : {X : Type 0} (len N : ℕ) (xs : List X) (x : X) → len < N → length xs ≡ N
     → take (len + 1) (set xs len x) ≡ take len xs ++ x ∷ []
@@ -140,6 +155,27 @@ front_chosen bs len N k kn ks ss ns ss_new ns_new vs vs_new now le a b c flags f
       front_v,
     )
     (cells_chosen bs (take len ss) (take len ns) (take len vs) beside ∙ ap (items_where_true bs) is)
+
+-- lists of the same items are side by side as before, and have the same index
+pub same_lists : (ss ns ss_new ns_new order : List ℕ) (vs vs_new : List (Option (List ℕ))) → ss_new ≡ ss → ns_new ≡ ns
+    → vs_new ≡ vs → AreBeside ss ns vs × IsIndex ss ns order
+    → AreBeside ss_new ns_new vs_new × IsIndex ss_new ns_new order
+same_lists ss ns ss_new ns_new order vs vs_new es en ev is = rw (es, en, ev) is
+
+-- if one more row fits, one more item fits in each list
+pub fits_each : (ss ns : List ℕ) (vs : List (Option (List ℕ))) (a b c : ℕ) (now : CellsWithRoom) → AreBeside ss ns vs
+    → ◌≡◌ {A = CellsWithRoom} (record { cells = cells_of ss ns vs; room = min a (min b c) }) now
+    → length now.cells < now.room → (length ss < a) × (length ns < b) × (length vs < c)
+fits_each ss ns vs a b c now beside is fits =
+    let room = ap (λ (l : CellsWithRoom). l.room) is in
+    let cells = ap (λ (l : CellsWithRoom). length l.cells) is in
+    let count = length_cells ss ns vs beside in
+    let nodes = beside.0 in
+    let values = beside.1 in (
+      omega (arith, fits, room, cells, count),
+      omega (arith, fits, room, cells, count, nodes),
+      omega (arith, fits, room, cells, count, values),
+    )
 
 -- rows and room
 pub with_room : (cells others : List Cell) (room other : ℕ) → cells ≡ others → room ≡ other

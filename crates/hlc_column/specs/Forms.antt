@@ -1,5 +1,5 @@
 -- Where the rows of one key are stored.
-use Rattle.std.specs.Prelude.{List, [], ◌∷◌}
+use Rattle.std.specs.Prelude.{List, [], ◌∷◌, Bool, true, false, nat_lt, length}
 use Rattle.hlc_column.specs.Cells.{Cell}
 use Rattle.hlc_column.specs.declared.rows.Form.{Form}
 use Rattle.hlc_column.specs.declared.rows.Form.TheVariants.{Empty, One, Two, Four, Many}
@@ -11,3 +11,11 @@ cells_in_form (One node stamp value) = record { stamp = stamp; node = node; valu
 cells_in_form (Two block) = block.value
 cells_in_form (Four block) = block.value
 cells_in_form (Many lists) = lists.value.cells
+
+-- whether one more row fits where they are
+abbrev pub has_room : Form → Bool
+has_room Empty = true
+has_room (One node stamp value) = false
+has_room (Two block) = nat_lt (length block.value) 2
+has_room (Four block) = nat_lt (length block.value) 4
+has_room (Many lists) = nat_lt (length lists.value.cells) lists.value.room

@@ -87,61 +87,45 @@ impl<const N: usize> Few<N> {
         requires { length self ≡ 1 }
         ensures { self.entry ≡ result ∷ [] }
     {
-        let Few {
-            len: _,
-            nodes,
-            stamps,
-            values,
-        } = self;
-        let mut values = values;
-        Single {
-            node: item_at(&nodes, 0),
-            stamp: item_at(&stamps, 0),
-            value: take_value(&mut values, 0),
-        }
+        let mut from = self;
+        from.take_row(0)
     }
 
     /// Moves the rows to the end of a block for four with room for them.
     pub(crate) fn pour(self, to: &mut Few<4>)
-        requires { length self + length to.old ≤ 4 }
-        ensures { to.new ≡ to.old ++ self.entry }
+        requires { N + length to.old ≤ 4 }
+        ensures rows { to.new ≡ to.old ++ self.entry }
+        ensures few { length self.entry ≤ N }
     {
-        let Few {
-            len,
-            nodes,
-            stamps,
-            values,
-        } = self;
-        let mut values = values;
-        for place in 0..len as usize {
-            let row = Single {
-                node: item_at(&nodes, place),
-                stamp: item_at(&stamps, place),
-                value: take_value(&mut values, place),
-            };
-            to.push(row);
+        let mut from = self;
+        for place in 0..from.len() {
+            to.push(from.take_row(place));
         }
     }
 
     /// Moves the rows to the end of lists with room for them.
     pub(crate) fn pour_in_lists(self, to: &mut Lists<0>)
-        requires { length self + length to.old.cells ≤ to.old.room }
-        ensures { to.new ≡ record { cells = to.old.cells ++ self.entry; room = to.old.room } }
+        requires { N + length to.old.cells ≤ to.old.room }
+        ensures rows { to.new ≡ record { cells = to.old.cells ++ self.entry; room = to.old.room } }
+        ensures few { length self.entry ≤ N }
     {
-        let Few {
-            len,
-            nodes,
-            stamps,
-            values,
-        } = self;
-        let mut values = values;
-        for place in 0..len as usize {
-            let row = Single {
-                node: item_at(&nodes, place),
-                stamp: item_at(&stamps, place),
-                value: take_value(&mut values, place),
-            };
-            to.push_reserved(row);
+        let mut from = self;
+        for place in 0..from.len() {
+            to.push_reserved(from.take_row(place));
+        }
+    }
+
+    /// Takes the row at a position, and leaves a deletion mark in place of its value.
+    fn take_row(&mut self, place: usize) -> Single
+        requires { place < length self.old }
+        ensures row { slice_get self.old place ≡ Some result }
+        ensures after { drop (place + 1) self.new ≡ drop (place + 1) self.old }
+        ensures long { length self.new ≡ length self.old }
+    {
+        Single {
+            node: item_at(&self.nodes, place),
+            stamp: item_at(&self.stamps, place),
+            value: take_value(&mut self.values, place),
         }
     }
 

@@ -75,6 +75,22 @@ impl<'a> Lanes<'a> {
         self.stamps.len().min(beside).max(self.order.len())
     }
 
+    /// Reads the lengths of the lists, and the last stamp, value and position of the index, for a caller that goes
+    /// through many keys and then reads the newest row of each: none of these reads waits for those of another key. The
+    /// number that it returns has no meaning. It only keeps the compiler from leaving the reads out.
+    pub fn fetched(&self) -> u64 {
+        let last = self.order.last().copied().unwrap_or(0);
+        let stamp = self.stamps.last().copied().unwrap_or(0);
+        let bytes = self
+            .values
+            .last()
+            .map_or(0, |value| length_of(value.as_slice()));
+        stamp
+            .wrapping_add(bytes as u64)
+            .wrapping_add(self.nodes.len() as u64)
+            .wrapping_add(last as u64)
+    }
+
     /// Returns the position of the row that a reader at the bound sees: the greatest by stamp and node at or below it.
     /// It costs one look at the index if its last row is at or below the bound, and otherwise a binary search; and a
     /// pass over the rows after the index: at most 64 and one for each 256 rows of the index, unless memory for the

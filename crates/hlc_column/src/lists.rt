@@ -1,5 +1,5 @@
 //! The rows of one key in lists that grow.
-ghost use Rattle.std.specs.Prelude.{◌≡◌, ◌+◌, ◌/◌, ◌≤◌, ◌<◌, ◌⊎◌, ◌++◌, ◌∷◌, [], length, max};
+ghost use Rattle.std.specs.Prelude.{◌≡◌, ◌+◌, ◌/◌, ◌≤◌, ◌<◌, ◌⊎◌, ◌++◌, ◌∷◌, [], length, max, nat_lt};
 ghost use Rattle.std.specs.Prelude.{IsOk, IfOk, OnOk, OnErr};
 ghost use Rattle.std.specs.List.{items_where_true};
 ghost use Rattle.smallvec.specs.SmallVec.{HasRoomFor};
@@ -85,6 +85,14 @@ impl<const N: usize> Lists<N> {
             self.values.as_slice(),
             self.order.as_slice(),
         )
+    }
+
+    /// Returns whether one more row fits without more memory.
+    pub(crate) fn has_room(&self) -> bool
+        ensures { result ≡ nat_lt (length self.now.cells) self.now.room }
+    {
+        let nodes_or_values = self.nodes.capacity().min(self.values.capacity());
+        self.len() < self.stamps.capacity().min(nodes_or_values)
     }
 
     /// Makes room for one more row. If memory runs out, the rows stay as they were.

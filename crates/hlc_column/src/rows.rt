@@ -1,7 +1,7 @@
 //! The rows of one key in as little memory as they need.
-ghost use Rattle.std.specs.Prelude.{◌≡◌, ◌≤◌, ◌++◌, ◌∷◌, [], length, IfOk, IfErr, OnOk, OnErr};
+ghost use Rattle.std.specs.Prelude.{◌≡◌, ◌≤◌, ◌++◌, ◌∷◌, [], length, true, IfOk, IfErr, OnOk, OnErr};
 ghost use Rattle.std.specs.List.{items_where_true};
-ghost use Rattle.hlc_column.specs.Forms.{cells_in_form};
+ghost use Rattle.hlc_column.specs.Forms.{cells_in_form, has_room};
 
 use crate::few::Few;
 use crate::lanes::Lanes;
@@ -99,17 +99,11 @@ impl Rows {
             ≡ self.old ++ record { stamp = stamp; node = node; value = value } ∷ []) }
         ensures err { OnErr result (self.new ≡ self.old) }
     {
-        let form = replace(&mut self.form, Form::Empty);
-        match longer(alloc, form, Single::new(stamp, node, value)) {
-            Ok(form) => {
-                self.form = form;
-                Ok(())
-            }
-            Err(failed) => {
-                self.form = failed.value;
-                Err(NoMemory)
-            }
+        if !has_room(&self.form) {
+            enlarge(alloc, &mut self.form)?;
         }
+        push_reserved(&mut self.form, Single::new(stamp, node, value));
+        Ok(())
     }
 
     /// Keeps only the flagged rows, in their order. It needs no memory. If one row is left, it moves in place, and if
@@ -132,23 +126,70 @@ fn in_place(row: Single) -> Form
     Form::One { node, stamp, value }
 }
 
-/// Returns the rows and one more, or the rows alone in the error if memory runs out.
-fn longer(alloc: Global, form: Form, row: Single) -> Result<Form, AllocFailed<Form>>
-    ensures ok { IfOk result (λ form_new. cells_in_form form_new ≡ cells_in_form form ++ row ∷ []) }
-    ensures err { IfErr result (λ failed. cells_in_form failed.value ≡ cells_in_form form) }
+/// Returns whether one more row fits where the rows are.
+fn has_room(form: &Form) -> bool
+    ensures { result ≡ has_room form.now }
 {
     match form {
-        Form::Empty => Ok(in_place(row)),
-        Form::One { node, stamp, value } => second(alloc, Single { node, stamp, value }, row),
-        Form::Two(block) => third(alloc, block, row),
-        Form::Four(block) => fifth(alloc, block, row),
-        Form::Many(lists) => later(lists, row),
+        Form::Empty => true,
+        Form::One { .. } => false,
+        Form::Two(block) => block.len() < 2,
+        Form::Four(block) => block.len() < 4,
+        Form::Many(lists) => lists.has_room(),
     }
 }
 
-/// Returns a row and a second in a block for two.
-fn second(alloc: Global, first: Single, row: Single) -> Result<Form, AllocFailed<Form>>
-    ensures ok { IfOk result (λ form. cells_in_form form ≡ first ∷ row ∷ []) }
+/// Appends a row in place, for which there must be room.
+fn push_reserved(form: &mut Form, row: Single)
+    requires { has_room form.old ≡ true }
+    ensures { cells_in_form form.new ≡ cells_in_form form.old ++ row ∷ [] }
+{
+    match form {
+        Form::Empty => *form = in_place(row),
+        Form::One { .. } => unreachable!(),
+        Form::Two(block) => block.push(row),
+        Form::Four(block) => block.push(row),
+        Form::Many(lists) => lists.push_reserved(row),
+    }
+}
+
+/// Makes room for one more row in a larger form. If memory runs out, the rows stay as they were.
+fn enlarge(alloc: Global, form: &mut Form) -> Result<(), NoMemory>
+    ensures cells { cells_in_form form.new ≡ cells_in_form form.old }
+    ensures ok { OnOk result (has_room form.new ≡ true) }
+{
+    let full = replace(form, Form::Empty);
+    match larger(alloc, full) {
+        Ok(roomy) => {
+            *form = roomy;
+            Ok(())
+        }
+        Err(failed) => {
+            *form = failed.value;
+            Err(NoMemory)
+        }
+    }
+}
+
+/// Returns the same rows where one more fits. If memory runs out, the error returns them as they were.
+fn larger(alloc: Global, form: Form) -> Result<Form, AllocFailed<Form>>
+    ensures ok { IfOk result (λ roomy. cells_in_form roomy ≡ cells_in_form form) }
+    ensures room { IfOk result (λ roomy. has_room roomy ≡ true) }
+    ensures err { IfErr result (λ failed. cells_in_form failed.value ≡ cells_in_form form) }
+{
+    match form {
+        Form::Empty => Ok(Form::Empty),
+        Form::One { node, stamp, value } => in_two(alloc, Single { node, stamp, value }),
+        Form::Two(block) => in_four(alloc, block),
+        Form::Four(block) => in_lists(alloc, block),
+        Form::Many(lists) => in_longer(lists),
+    }
+}
+
+/// Returns a row in a block for two.
+fn in_two(alloc: Global, first: Single) -> Result<Form, AllocFailed<Form>>
+    ensures ok { IfOk result (λ form. cells_in_form form ≡ first ∷ []) }
+    ensures room { IfOk result (λ form. has_room form ≡ true) }
     ensures err { IfErr result (λ failed. cells_in_form failed.value ≡ first ∷ []) }
 {
     let Ok(mut block) = Box::new(alloc, Few::<2>::new()) else {
@@ -157,47 +198,36 @@ fn second(alloc: Global, first: Single, row: Single) -> Result<Form, AllocFailed
         });
     };
     block.push(first);
-    block.push(row);
     Ok(Form::Two(block))
 }
 
-/// Returns the rows of a block for two and one more, in a block for four if it is full.
-fn third(alloc: Global, block: Box<Few<2>>, row: Single) -> Result<Form, AllocFailed<Form>>
-    ensures ok { IfOk result (λ form. cells_in_form form ≡ block.value ++ row ∷ []) }
+/// Returns the rows of a block for two in a block for four.
+fn in_four(alloc: Global, block: Box<Few<2>>) -> Result<Form, AllocFailed<Form>>
+    ensures ok { IfOk result (λ form. cells_in_form form ≡ block.value) }
+    ensures room { IfOk result (λ form. has_room form ≡ true) }
     ensures err { IfErr result (λ failed. cells_in_form failed.value ≡ block.value) }
 {
-    let mut block = block;
-    if block.len() < 2 {
-        block.push(row);
-        return Ok(Form::Two(block));
-    }
     let Ok(mut larger) = Box::new(alloc, Few::<4>::new()) else {
         return Err(AllocFailed {
             value: Form::Two(block),
         });
     };
     Box::into_inner(block).pour(&mut larger);
-    larger.push(row);
     Ok(Form::Four(larger))
 }
 
-/// Returns the rows of a block for four and one more, in lists if it is full.
-fn fifth(alloc: Global, block: Box<Few<4>>, row: Single) -> Result<Form, AllocFailed<Form>>
-    ensures ok { IfOk result (λ form. cells_in_form form ≡ block.value ++ row ∷ []) }
+/// Returns the rows of a block for four in lists.
+fn in_lists(alloc: Global, block: Box<Few<4>>) -> Result<Form, AllocFailed<Form>>
+    ensures ok { IfOk result (λ form. cells_in_form form ≡ block.value) }
+    ensures room { IfOk result (λ form. has_room form ≡ true) }
     ensures err { IfErr result (λ failed. cells_in_form failed.value ≡ block.value) }
 {
-    let mut block = block;
-    if block.len() < 4 {
-        block.push(row);
-        return Ok(Form::Four(block));
-    }
     let Ok(mut lists) = lists_for_eight(alloc) else {
         return Err(AllocFailed {
             value: Form::Four(block),
         });
     };
     Box::into_inner(block).pour_in_lists(&mut lists);
-    lists.push_reserved(row);
     Ok(Form::Many(lists))
 }
 
@@ -210,9 +240,10 @@ fn lists_for_eight(alloc: Global) -> Result<Box<Lists<0>>, NoMemory>
     Ok(Box::new(alloc, lists)?)
 }
 
-/// Returns the rows of lists and one more.
-fn later(lists: Box<Lists<0>>, row: Single) -> Result<Form, AllocFailed<Form>>
-    ensures ok { IfOk result (λ form. cells_in_form form ≡ lists.value.cells ++ row ∷ []) }
+/// Returns the same lists with room for one more row.
+fn in_longer(lists: Box<Lists<0>>) -> Result<Form, AllocFailed<Form>>
+    ensures ok { IfOk result (λ form. cells_in_form form ≡ lists.value.cells) }
+    ensures room { IfOk result (λ form. has_room form ≡ true) }
     ensures err { IfErr result (λ failed. cells_in_form failed.value ≡ lists.value.cells) }
 {
     let mut lists = lists;
@@ -221,7 +252,6 @@ fn later(lists: Box<Lists<0>>, row: Single) -> Result<Form, AllocFailed<Form>>
             value: Form::Many(lists),
         });
     }
-    lists.push_reserved(row);
     Ok(Form::Many(lists))
 }
 

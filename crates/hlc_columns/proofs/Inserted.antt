@@ -1,5 +1,5 @@
 -- One more row: at the end of its key's column, or as a column of its own. The rows before and after it do not change.
-use Rattle.std.proofs.Common.{◌≡◌, ℕ, ◌+◌, ◌<◌, Bool, true, false, cond, List, [], ◌∷◌}
+use Rattle.std.proofs.Common.{◌≡◌, ℕ, ◌<◌, Bool, true, false, cond, List, [], ◌∷◌}
 use Rattle.std.proofs.Common.{◌++◌, Some, None, length, refl, sym}
 use Rattle.std.proofs.Common.{ap, ◌∙◌, subst, inl, inr, arith, All, true≢false, Ordering, Less, Equal, Greater, nat_cmp}
 use Rattle.std.specs.Prelude.{IfSome, Result, Ok, Err, OnOk, OnErr}
@@ -11,7 +11,7 @@ use Rattle.std.specs.BTreeMap.{insert_entry}
 use Rattle.std.proofs.lemmas.Map.Entries.{All-lookup}
 use Rattle.std.proofs.lemmas.Bool.{cases_Bool}
 use Rattle.std.proofs.lemmas.Option.{none-some, same_Some}
-use Rattle.std.proofs.lemmas.List.{append_assoc, length-append, map-append}
+use Rattle.std.proofs.lemmas.List.{append_assoc, map-append}
 use Rattle.std.proofs.lemmas.List.Elements.{All-from_recursion, recursion_from_All}
 use Rattle.hlc_node.specs.declared.row.Row.{Row}
 use Rattle.hlc_node.specs.Rows.{IsRowSet}
@@ -199,13 +199,3 @@ pub either-IsRowSet : {R E : Type 0} (result : Result R E) (old : List Row) (row
     → OnOk result (Inserted old row new) → OnErr result (new ≡ old) → HasNoVersion old row → IsRowSet old → IsRowSet new
 either-IsRowSet (Ok r) old row new ok err none apart = inserted-IsRowSet old row new ok none apart
 either-IsRowSet (Err e) old row new ok err none apart = subst IsRowSet (sym err) apart
-
--- there is one more row
-pub inserted-length : (old : List Row) (row : Row) (new : List Row) → Inserted old row new
-    → length new ≡ length old + 1
-inserted-length old row new (front, back, was, is) =
-    let before = ap length was in
-    let after = ap length is in
-    let apart = length-append front back in
-    let more = length-append front (row ∷ back) in
-    omega (arith, before, after, apart, more)

@@ -26,7 +26,7 @@ pub(crate) struct Walk<'a> {
     rest: &'a [(Bytes, KeyRows)],
     next: usize,
     to: Option<&'a [u8]>,
-    // The number of rows in the columns that were fetched and are still to come.
+    // How many columns were fetched and are still to come.
     fetched: usize,
 }
 
@@ -88,14 +88,14 @@ impl<'a> Walk<'a> {
     {
         self.turn();
         if self.fetched == 0 {
-            self.fetched = rows_ahead(self.rest);
+            self.fetched = fetch_ahead(self.rest);
         }
         let (first, rest) = self.rest.split_first()?;
         if !is_below(self.to, first.0.as_slice()) {
             return None;
         }
         self.rest = rest;
-        self.fetched = self.fetched.saturating_sub(first.1.len());
+        self.fetched = self.fetched.saturating_sub(1);
         Some(first)
     }
 
@@ -112,14 +112,16 @@ impl<'a> Walk<'a> {
     }
 }
 
-/// Returns the number of rows of the next columns of a leaf. None of these reads waits for the one before it, so a
-/// caller that then goes through those columns does not wait for memory at each.
-fn rows_ahead(leaf: &[(Bytes, KeyRows)]) -> usize {
-    let mut rows = 0usize;
-    for i in 0..leaf.len().min(AHEAD) {
-        rows = rows.saturating_add(leaf[i].1.lanes().fetched_len());
+/// Fetches the first columns of these from memory, and returns how many. None of these reads waits for the one before
+/// it, so a caller that then goes through those columns does not wait for memory at each.
+fn fetch_ahead(leaf: &[(Bytes, KeyRows)]) -> usize {
+    let count = leaf.len().min(AHEAD);
+    let mut sum = 0u64;
+    for i in 0..count {
+        sum = sum.wrapping_add(leaf[i].1.lanes().fetched());
     }
-    rows
+    // The sum has no meaning, but without this test the compiler could leave the reads out.
+    if sum == u64::MAX { 0 } else { count }
 }
 
 /// Returns whether a key is below the end of a range, if it has one.
@@ -198,6 +200,8 @@ struct WalkBack<'a> {
     rest: &'a [(Bytes, KeyRows)],
     before: usize,
     from: &'a [u8],
+    // How many columns were fetched and are still to come.
+    fetched: usize,
 }
 
 impl<'a> WalkBack<'a> {
@@ -212,6 +216,7 @@ impl<'a> WalkBack<'a> {
             rest: &[],
             before: columns.leaves(),
             from,
+            fetched: 0,
         };
         if let Some(to) = to {
             let (at, slot) = columns.seek(to);
@@ -241,11 +246,15 @@ impl<'a> WalkBack<'a> {
             (λ entry. entries_left_back self.old ≡ entry.now ∷ entries_left_back self.new) }
     {
         self.turn();
+        if self.fetched == 0 {
+            self.fetched = fetch_ahead(&self.rest[self.rest.len().saturating_sub(AHEAD)..]);
+        }
         let (last, rest) = self.rest.split_last()?;
         if last.0.as_slice().cmp(self.from).is_lt() {
             return None;
         }
         self.rest = rest;
+        self.fetched = self.fetched.saturating_sub(1);
         Some(last)
     }
 }

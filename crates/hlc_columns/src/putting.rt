@@ -26,7 +26,7 @@ pub(crate) struct NewRow<'a> {
 }
 
 /// Appends a row to its key's column, or to a new column at the place where the key belongs, as `Index::locate` returns
-/// them; only then is the key copied. If memory runs out, or if there are 2^128 - 1 rows, it is refused, and the rows do not change.
+/// them; only then is the key copied. It is refused if memory runs out, or at 2^128 - 1 rows: then no row changes.
 pub(crate) fn put_row(
     columns: &mut Index<KeyRows>,
     sizes: &mut Sizes,

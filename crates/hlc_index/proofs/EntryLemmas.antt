@@ -1,34 +1,14 @@
--- For callers: the entry of a key at a slot of a leaf, and the entries leaf by leaf.
-use Rattle.std.proofs.Common.{◌≡◌, ◌<◌, ◌+◌, ◌++◌, ◌∷◌, ◌∙◌, ℕ, zero, suc, List, [], Some, get_or, length, arith, refl}
-use Rattle.std.proofs.Common.{ap, take}
+-- For callers: the entry of a key at a slot of a leaf.
+use Rattle.std.proofs.Common.{◌≡◌, ◌+◌, ◌++◌, ℕ, List, [], Some, get_or, refl}
 use Rattle.std.specs.Prelude.{slice_get}
 use Rattle.std.specs.Map.{lookup, set_value, remove_entry}
 use Rattle.std.specs.List.Sorted.{IsStrictlySortedBy}
-use Rattle.std.proofs.lemmas.List.{append-nil}
-use Rattle.std.proofs.lemmas.List.Concat.{flat_map-append}
 use Rattle.hlc_index.specs.Entries.{keys_in, key_cmp, is_key, entries_in, with_value_in, IsEntryAt}
 use Rattle.hlc_index.specs.Entries.{entries_before, entries_from}
 use Rattle.hlc_index.proofs.Values.{valued_is, there_is}
 use Rattle.hlc_index.proofs.RemovalLemmas.{removed_is}
 
-pub taken : {X : Type 0} (xs : List X) (n : ℕ) (none : X) → n < length xs
-    → take (n + 1) xs ≡ take n xs ++ get_or xs n none ∷ []
-taken {X} xs n none lt = ap (λ m. take m xs) (let e : n + 1 ≡ suc n = omega arith in e) ∙ go xs n lt
-  where
-    go : (xs : List X) (n : ℕ) → n < length xs → take (suc n) xs ≡ take n xs ++ get_or xs n none ∷ []
-    go [] n lt = absurd (omega (arith, lt))
-    go (x ∷ xs) zero lt = refl
-    go (x ∷ xs) (suc n) lt = ap (λ l. x ∷ l) (go xs n (omega (arith, lt)))
-
 module _ {V : Type 0} (leaves : List (List (List ℕ × V))) where
-  -- the entries of one more leaf
-  pub entries_more : (n : ℕ) → n < length leaves
-      → entries_in (take (n + 1) leaves) ≡ entries_in (take n leaves) ++ get_or leaves n []
-  entries_more n lt =
-      ap entries_in (taken leaves n [] lt)
-      ∙ flat_map-append (λ (leaf : List (List ℕ × V)). leaf) (take n leaves) (get_or leaves n [] ∷ [])
-      ∙ ap (λ l. entries_in (take n leaves) ++ l) (append-nil (get_or leaves n []))
-
   module _ (key : List ℕ) (at slot : ℕ) (there : IsEntryAt leaves key at slot)
       (ascend : IsStrictlySortedBy key_cmp (keys_in (entries_in leaves))) where
     -- a look-up of the key finds its value

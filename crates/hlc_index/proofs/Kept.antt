@@ -7,7 +7,7 @@ use Rattle.std.specs.List.Sorted.{IsStrictlySortedBy}
 use Rattle.std.proofs.lemmas.Bool.{cases_order}
 use Rattle.std.proofs.lemmas.List.{map-set, get_or-map, length-map, take-map, set-set, take_more, take_more_set}
 use Rattle.std.proofs.lemmas.List.{take-set-le, drop-set-lt, drop_more, get_or-drop, get_or-set_same, length-set}
-use Rattle.std.proofs.lemmas.List.{append-nil, take_all}
+use Rattle.std.proofs.lemmas.List.{append-nil}
 use Rattle.std.proofs.lemmas.List.Concat.{flat_map-append}
 use Rattle.std.proofs.lemmas.List.Elements.{All-from_recursion, recursion_from_All, filter-append}
 use Rattle.hlc_index.specs.Head.{head_of, AreBytes}
@@ -107,17 +107,6 @@ pub record KeepsInPlace {V : Type 0} (p : List ℕ × V → Bool) (xs ys : List 
   pub wide : length tops ≡ length xs
 
 module _ {V : Type 0} (p : List ℕ × V → Bool) (xs ys : List (List (List ℕ × V))) where
-  pub keeps_none : (tops : List ℕ) → length tops ≡ length xs → KeepsInPlace p xs xs tops 0 0
-  keeps_none tops wide = record {
-    leaves = (refl, λ k d lt. absurd (omega (arith, lt)), λ k d lt. absurd (omega (arith, lt)));
-    front = refl;
-    rest = refl;
-    beyond = omega arith;
-    within = omega arith;
-    long = refl;
-    wide = wide;
-  }
-
   -- one more of the old leaves
   front_more : (i : ℕ) (leaf : List (List ℕ × V)) → i < length xs → leaf ≡ get_or xs i leaf
       → filter p (entries_in (take (i + 1) xs)) ≡ filter p (entries_in (take i xs)) ++ filter p leaf
@@ -192,7 +181,3 @@ module _ {V : Type 0} (p : List ℕ × V → Bool) (xs ys : List (List (List ℕ
               (get_or (set ys i now) k now) ∙ length-set (set ys i now) k (get_or (set ys i now) i now) ∙ size ∙ m;
           wide = ap length e ∙ length-set tops k h ∙ n;
         }
-
-  pub keeps_all : (tops : List ℕ) (k i : ℕ) → KeepsInPlace p xs ys tops k i → length xs ≤ i
-      → entries_in (take k ys) ≡ filter p (entries_in xs)
-  keeps_all tops k i keeps le = keeps.front ∙ ap (λ ls. filter p (entries_in ls)) (take_all i xs le)

@@ -161,8 +161,11 @@ module _ {V : Type 0} where
       some_leaf (x ∷ xs) = inl (omega arith)
 
   pub gap_empty : (ls : List (List (List ℕ × V))) (key : List ℕ) → length ls ≡ 0 → IsGap ls key 0 0
-  gap_empty [] key none =
-      (inr refl, omega arith, (omega arith, (λ some. absurd (omega (arith, some))), λ some. absurd (omega (arith, some))))
+  gap_empty [] key none = (
+    inr refl,
+    omega arith,
+    (omega arith, (λ some. absurd (omega (arith, some))), λ some. absurd (omega (arith, some))),
+  )
   gap_empty (x ∷ xs) key none = absurd (omega (arith, none))
 
   -- a key above the last one belongs after all

@@ -187,14 +187,6 @@ module _ {V : Type 0} where
         above_by_head (first_keys now) slice heads_are bytes_are key own n
         (λ inside. subst (λ m. m < get_or slice n 0) is (lt (omega (arith, inside, as_many))))
 
-    pub headed_alike : n < length slice → get_or slice n 0 ≡ head → head_of (get_or (first_keys now) n []) ≡ head
-    headed_alike inside alike =
-        sym (get_or-map head_of (first_keys now) n [] 0 (omega (arith, inside, as_many)))
-        ∙ ap (λ (hs : List ℕ). get_or hs n 0) (sym heads_are) ∙ alike
-
-    pub headed_inside : n < length slice → n < length now
-    headed_inside inside = let m = length-map now first_key in omega (arith, inside, as_many, m)
-
   pub first_bytes : (tops : List ℕ) (leaves now : List (List (List ℕ × V))) (n : ℕ) → AreLeaves tops leaves
       → leaves ≡ now → n < length now → AreBytes (get_or (first_keys now) n [])
   first_bytes tops leaves now n inv view inside =

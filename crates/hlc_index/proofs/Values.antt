@@ -14,7 +14,7 @@ use Rattle.hlc_index.proofs.Heads.{length_keys}
 use Rattle.hlc_index.proofs.LeafLemmas.{keys_with}
 use Rattle.hlc_index.proofs.Joined.{joined_all, joined_set}
 use Rattle.hlc_index.proofs.SlotLemmas.{itself, other, keys_joined, none_some, found_lookup, entry_joined}
-use Rattle.hlc_index.proofs.Places.{none_first, none_there, end_place}
+use Rattle.hlc_index.proofs.Places.{none_first, none_there}
 
 no_none : {X : Type 0} (o : Option X) → None ≡ o → IsSome o → ⊥
 no_none None e s = true≢false (sym s)
@@ -133,24 +133,3 @@ module _ {V : Type 0} where
     let lt = is.0 in let m = length_keys leaf in let e = ap length own in omega (arith, lt, m, e),
     ap (λ (l : List (List ℕ × V)). get_or (keys_in l) slot []) (sym own) ∙ is.1,
   )
-
-  -- the last entry of the last leaf is the last of all
-  pub last_at : (ls : List (List (List ℕ × V))) (count slot : ℕ) (leaf : List (List ℕ × V)) → (count ≡ 0 → ⊥)
-      → count ≡ length ls → leaf ≡ get_or ls (count - 1) [] → 0 < length leaf → slot ≡ length leaf - 1
-      → slice_get (get_or ls (count - 1) []) slot ≡ slice_get (entries_in ls) (length (entries_in ls) - 1)
-  last_at ls count slot leaf some all own filled end =
-      let lt : slot < length leaf = omega (arith, end, filled) in
-      let inside : count - 1 < length ls = omega (arith, some, all) in
-      let whole = joined_all ls (count - 1) inside in
-      let place = end_place ls count (length leaf) leaf some all own refl in
-      sym (ap (slice_get (entries_in ls))
-      (let e : length (entries_in ls) - 1 ≡ length (entries_in (take (count - 1) ls)) + slot = omega (
-        arith,
-        place,
-        end,
-        filled,
-      ) in e)
-      ∙ ap (λ (l : List (List ℕ × V)). slice_get l (length (entries_in (take (count - 1) ls)) + slot)) whole
-      ∙ entry_joined (entries_in (take (count - 1) ls)) (get_or ls (count - 1) []) (entries_in (drop (count - 1 + 1)
-      ls)) slot
-      (let e = ap length own in omega (arith, lt, e)))

@@ -23,13 +23,17 @@ pub(crate) fn rows_ahead(columns: &[Keyed], from: usize) -> usize
     rows
 }
 
-/// Returns the number of rows of the columns of a leaf, which it fetches in the same way.
+/// Returns the number of rows of the columns of a leaf, which it fetches in the same way, with the newest row of each.
 pub(crate) fn rows_of_leaf(leaf: &Columns) -> usize
     ensures { result ≤ length (rows_in leaf.now) }
 {
     let mut rows = 0usize;
+    let mut sum = 0u64;
     for place in 0..leaf.len() {
-        rows = rows.saturating_add(leaf.at(place).column().fetched_len());
+        let column = leaf.at(place).column();
+        rows = rows.saturating_add(column.fetched_len());
+        sum = sum.wrapping_add(column.fetched());
     }
-    rows
+    // The sum has no meaning, but without this test the compiler could leave the reads out.
+    if sum == u64::MAX { 0 } else { rows }
 }

@@ -1,40 +1,40 @@
--- One more leaf.
-use Rattle.std.proofs.Common.{◌≡◌, ◌+◌, ◌∙◌, ap, arith, take, length, filter}
-use Rattle.hlc_columns.specs.Table.{indexed_rows}
-use Rattle.hlc_columns.proofs.WalkLemmas.{within, few_leaves, leaf_few, count_leaf, whole}
+-- One more column.
+use Rattle.std.proofs.Common.{◌≡◌, ◌+◌, ◌∙◌, ap, arith, List, length, filter}
+use Rattle.hlc_column.specs.Rows.{rows_of}
+use Rattle.hlc_columns.specs.Answers.{entries_left}
+use Rattle.hlc_columns.specs.Table.{indexed_rows, table_rows}
+use Rattle.hlc_columns.proofs.Ranged.{all_lead}
+use Rattle.hlc_columns.proofs.WalkLemmas.{Entry, within, few, all_from_first, count_next}
 use Rattle.hlc_columns.proofs.walks.count_rows_at.Goals as goal
 
-pub count_in_leaf-total-requires : goal.count_in_leaf-total-requires
-count_in_leaf-total-requires c =
-    let lt = c.loop-at-test.true in
-    let long = c.leaves-at-end.ensures.count in
-    let few = leaf_few c.args.columns.now c.loop-at.at c.leaf.result.now (omega (arith, lt, long)) c.leaf.ensures in
-    let all = c.requires in
-    omega (arith, few, all)
+pub loop-entry-init : goal.loop-entry-init
+loop-entry-init c =
+    let all = ap (λ (es : List Entry). length (filter (within c.args.bound) (table_rows es)))
+    (c.from_slot-walk.ensures ∙ all_lead _ ∙ all_from_first c.args.columns.now) in
+    omega (arith, all)
 
-one_more : (c : goal.After-count_in_leaf-total) → c.loop-at.total + c.count_in_leaf-total.result
-    ≡ length (filter (within c.args.bound) (indexed_rows (take (c.loop-at.at + 1) c.args.columns.now)))
+one_more : (c : goal.After-count_at) → c.loop-entry.total + c.count_at.result
+    + length (filter (within c.args.bound) (table_rows (entries_left c.next.new.self)))
+    ≡ length (filter (within c.args.bound) (indexed_rows c.args.columns.now))
 one_more c =
-    let lt = c.loop-at-test.true in
-    let long = c.leaves-at-end.ensures.count in
-    count_leaf c.args.bound c.args.columns.now c.loop-at.at c.loop-at.total c.count_in_leaf-total.result
-    c.leaf.result.now
-    (omega (arith, lt, long)) c.leaf.ensures c.loop-at.invariant c.count_in_leaf-total.ensures
+    let entry = c.in-Some.entry.now in
+    count_next c.args.bound (entries_left c.loop-entry.walk) (entries_left c.next.new.self) entry c.loop-entry.total
+    c.count_at.result _ c.in-Some.ensures c.loop-entry.invariant
+    (c.count_at.ensures entry.0
+    ∙ ap (λ cells. length (filter (within c.args.bound) (rows_of entry.0 cells))) c.lanes.ensures)
 
 pub overflow_add-total : goal.overflow_add-total
 overflow_add-total c =
     let more = one_more c in
-    let few = few_leaves c.args.bound c.args.columns.now (c.loop-at.at + 1) in
+    let le = few c.args.bound (indexed_rows c.args.columns.now) in
     let all = c.requires in
-    omega (arith, more, few, all)
+    omega (arith, more, le, all)
 
-pub loop-at-preserved : goal.loop-at-preserved
-loop-at-preserved c = one_more c
+pub loop-entry-preserved : goal.loop-entry-preserved
+loop-entry-preserved c = one_more c
 
 pub returns : goal.returns
 returns c =
-    let done = c.loop-at-test.false in
-    let long = c.leaves-at-end.ensures.count in
-    c.loop-at.invariant
-    ∙ ap (λ ls. length (filter (within c.args.bound) (indexed_rows ls)))
-    (whole c.args.columns.now c.loop-at.at (omega (arith, done, long)))
+    let all = c.loop-entry.invariant in
+    let none = ap (λ (es : List Entry). length (filter (within c.args.bound) (table_rows es))) c.in_default.ensures.0 in
+    omega (arith, all, none)

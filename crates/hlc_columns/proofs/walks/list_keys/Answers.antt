@@ -1,19 +1,18 @@
--- One more leaf.
-use Rattle.std.proofs.Common.{◌∙◌, ap, arith}
-use Rattle.hlc_index.specs.Entries.{entries_in, keys_in}
-use Rattle.hlc_columns.proofs.WalkLemmas.{name_leaf, whole}
+-- One more key.
+use Rattle.std.proofs.Common.{◌∙◌, ◌++◌, ap, sym, map, Bor, List, ℕ}
+use Rattle.std.proofs.lemmas.List.{append-nil}
+use Rattle.hlc_index.specs.Entries.{keys_in}
+use Rattle.hlc_columns.proofs.WalkLemmas.{Entry, name_next}
 use Rattle.hlc_columns.proofs.walks.list_keys.Goals as goal
 
-pub loop-at-preserved : goal.loop-at-preserved
-loop-at-preserved c =
-    let lt = c.loop-at-test.true in
-    let long = c.leaves-at-end.ensures.count in
-    name_leaf c.args.columns.now c.loop-at.keys.items c.add_keys.new.keys.items c.loop-at.at c.leaf.result.now
-    (omega (arith, lt, long)) c.leaf.ensures c.loop-at.invariant c.in_ok-add_keys.ensures
+pub loop-entry-preserved : goal.loop-entry-preserved
+loop-entry-preserved c =
+    name_next c.loop-entry.keys.items c.push.new.self.items c.as_slice.result c.loop-entry.entry-iterator _
+    c.in-Some.entry.now _ c.in-Some.ensures.steps c.in_ok-push.ensures.items c.as_slice.ensures
+    c.loop-entry.invariant
 
 pub returns-clause-list : goal.returns-clause-list
 returns-clause-list c =
-    let done = c.loop-at-test.false in
-    let long = c.leaves-at-end.ensures.count in
-    c.loop-at.invariant
-    ∙ ap (λ ls. keys_in (entries_in ls)) (whole c.args.columns.now c.loop-at.at (omega (arith, done, long)))
+    let listed = map (λ (key : Bor (List ℕ)). key.now) c.loop-entry.keys.items in
+    sym (append-nil listed) ∙ ap (λ (es : List Entry). listed ++ keys_in es) (sym c.in-None.ensures.steps.0)
+    ∙ c.loop-entry.invariant

@@ -1,7 +1,8 @@
--- The keys of the first leaves are listed.
-use Rattle.std.proofs.Common.{◌≡◌, take, map}
+-- The keys so far are listed, and those of the remaining entries come after them.
+use Rattle.std.proofs.Common.{◌≡◌, ◌++◌, map}
 use Rattle.hlc_index.specs.Entries.{entries_in, keys_in}
 use Rattle.hlc_columns.proofs.walks.list_keys.Given as goal
 
-abbrev pub invariant-loop-at : goal.invariant-loop-at
-invariant-loop-at l = map (λ key. key.now) l.keys.items ≡ keys_in (entries_in (take l.at l.columns))
+abbrev pub invariant-loop-entry : goal.invariant-loop-entry
+invariant-loop-entry l =
+    map (λ key. key.now) l.keys.items ++ keys_in l.entry-iterator ≡ keys_in (entries_in l.columns)

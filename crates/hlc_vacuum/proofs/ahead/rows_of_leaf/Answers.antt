@@ -10,12 +10,12 @@ loop-place-preserved c =
     let next = fetched_on c.args.leaf.now c.loop-place.place c.at.result c.at.ensures (omega (arith, lt, long)) in
     let few = c.loop-place.invariant in
     let one = c.fetched_len.ensures in
-    let cells = ap length c.column.ensures in
+    let cells = ap length c.column-column.ensures in
     let sum = c.saturating_add-rows.ensures in
     omega (arith, next, few, one, cells, sum)
 
-pub returns : goal.returns
-returns c =
+pub returns-else-sum : goal.returns-else-sum
+returns-else-sum c =
     let few = c.loop-place.invariant in
     let all = fetched_few c.args.leaf.now c.loop-place.place in
     omega (arith, few, all)

@@ -4,35 +4,29 @@ use Rattle.std.specs.Prelude.{min}
 use Rattle.std.proofs.lemmas.List.{length_push}
 use Rattle.hlc_order.proofs.PlaceLemmas.{index_as, index_of_more}
 use Rattle.hlc_column.specs.Cells.{CellsWithRoom}
-use Rattle.hlc_column.proofs.Beside.{length_cells}
-use Rattle.hlc_column.proofs.Moved.{pushed_cells, with_room}
+use Rattle.hlc_column.proofs.Moved.{fits_each, pushed_cells, with_room}
 use Rattle.hlc_column.proofs.lists.Lists.push_reserved.Goals as goal
 
 pub push_reserved-requires : goal.push_reserved-requires
 push_reserved-requires g c =
-    let room = ap (λ (l : CellsWithRoom). l.room) c.self.view_is in
-    let cells = ap (λ (l : CellsWithRoom). length l.cells) c.self.view_is in
-    let count = length_cells _ _ _ c.self.invariant.0 in
-    let fits = c.requires in
-    omega (arith, fits, room, cells, count)
+    let i = c.self.inside in
+    let fits = fits_each i.stamps.items i.nodes.items i.values.items i.stamps.capacity i.nodes.capacity
+    i.values.capacity c.args.self.now c.self.invariant.0 c.self.view_is c.requires in
+    omega (arith, fits.0)
 
 pub push_reserved-requires-2 : goal.push_reserved-requires-2
 push_reserved-requires-2 g c =
-    let room = ap (λ (l : CellsWithRoom). l.room) c.self.view_is in
-    let cells = ap (λ (l : CellsWithRoom). length l.cells) c.self.view_is in
-    let count = length_cells _ _ _ c.self.invariant.0 in
-    let beside = c.self.invariant.0.0 in
-    let fits = c.requires in
-    omega (arith, fits, room, cells, count, beside)
+    let i = c.self.inside in
+    let fits = fits_each i.stamps.items i.nodes.items i.values.items i.stamps.capacity i.nodes.capacity
+    i.values.capacity c.args.self.now c.self.invariant.0 c.self.view_is c.requires in
+    omega (arith, fits.1)
 
 pub push_reserved-requires-3 : goal.push_reserved-requires-3
 push_reserved-requires-3 g c =
-    let room = ap (λ (l : CellsWithRoom). l.room) c.self.view_is in
-    let cells = ap (λ (l : CellsWithRoom). length l.cells) c.self.view_is in
-    let count = length_cells _ _ _ c.self.invariant.0 in
-    let beside = c.self.invariant.0.1 in
-    let fits = c.requires in
-    omega (arith, fits, room, cells, count, beside)
+    let i = c.self.inside in
+    let fits = fits_each i.stamps.items i.nodes.items i.values.items i.stamps.capacity i.nodes.capacity
+    i.values.capacity c.args.self.now c.self.invariant.0 c.self.view_is c.requires in
+    omega (arith, fits.2)
 
 pub extend_index-requires : goal.extend_index-requires
 extend_index-requires g c =

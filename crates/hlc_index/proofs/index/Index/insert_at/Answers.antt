@@ -44,8 +44,8 @@ module _ (g : Over) (c : After-is_full_end g) where
   at_end last end =
       let back : c.args.at + 1 - 1 ≡ c.args.at = omega arith in
       subst (λ n. length (entries_in (take n leaves)) + c.args.slot ≡ length (entries_in leaves)) back
-      (end_place leaves (c.args.at + 1) c.args.slot (get_or leaves c.args.at []) (λ none. omega (arith, none)) (sym last)
-      (ap (λ n. get_or leaves n []) (sym back)) end)
+      (end_place leaves (c.args.at + 1) c.args.slot (get_or leaves c.args.at []) (λ none. omega (arith, none))
+      (sym last) (ap (λ n. get_or leaves n []) (sym back)) end)
 
   after_all : length leaves ≡ c.args.at + 1 → c.args.slot ≡ length (get_or leaves c.args.at [])
       → IsSlot (keys_in (entries_in leaves)) c.args.key (length (entries_in leaves)) false
@@ -76,7 +76,8 @@ invariant_of-self-then-is_full_end g c =
     grown_ascend c.self.inside.leaves c.push-then-is_full_end.new.self c.args.key c.args.value (length (entries_in
     c.self.inside.leaves))
     c.push-then-is_full_end.result c.self.invariant
-    (after_all g at (c.is_full_end.ensures.last c.if-is_full_end.true) (c.is_full_end.ensures.end c.if-is_full_end.true))
+    (after_all g at (c.is_full_end.ensures.last c.if-is_full_end.true)
+    (c.is_full_end.ensures.end c.if-is_full_end.true))
     (on_ok_weaker c.push-then-is_full_end.result
     (pushed c.self.inside.leaves c.push-then-is_full_end.new.self (c.args.key, c.args.value))
     c.push-then-is_full_end.ensures.ok)
@@ -89,6 +90,7 @@ returns-then-is_full_end-clause-ok g c =
     (λ e. grown c.self.inside.leaves c.push-then-is_full_end.new.self (entries_in c.args.self.now) c.args.key
     c.args.value (length (entries_in c.self.inside.leaves))
     c.self.invariant (ap entries_in c.self.view_is)
-    (after_all g at (c.is_full_end.ensures.last c.if-is_full_end.true) (c.is_full_end.ensures.end c.if-is_full_end.true))
+    (after_all g at (c.is_full_end.ensures.last c.if-is_full_end.true)
+    (c.is_full_end.ensures.end c.if-is_full_end.true))
     (pushed c.self.inside.leaves c.push-then-is_full_end.new.self (c.args.key, c.args.value) e))
     c.push-then-is_full_end.ensures.ok
