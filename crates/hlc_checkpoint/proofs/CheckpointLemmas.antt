@@ -21,9 +21,10 @@ use Rattle.hlc_checkpoint.specs.StoreView.{StoreView, marks_of, with_rows_left, 
 use Rattle.hlc_checkpoint.specs.StoreView.{IsSound}
 use Rattle.hlc_checkpoint.specs.declared.checkpoint.RestoreFault.{RestoreFault}
 use Rattle.hlc_checkpoint.specs.declared.checkpoint.RestoreFault.TheVariants as reasons
-use Rattle.hlc_checkpoint.specs.Checkpoint.{IsCheckpoint, IsCheckpointOf, IsCopyAbove, IsFirstReason, IsUnderHead}
-use Rattle.hlc_checkpoint.specs.Checkpoint.{floor_in}
-use Rattle.hlc_checkpoint.specs.Sorted.{rows_above}
+use Rattle.hlc_checkpoint.specs.Checkpoint.{IsCheckpoint, IsCheckpointOf, IsCopyOf, IsCopyAbove, IsFirstReason}
+use Rattle.hlc_checkpoint.specs.Checkpoint.{IsStore, IsUnderHead, floor_in}
+use Rattle.hlc_witness.specs.Certificate.{RowsAscend}
+use Rattle.hlc_checkpoint.specs.Sorted.{AreRowsAbove, rows_above}
 use Rattle.hlc_checkpoint.proofs.AscendLemmas.{AreApart, apart, apart-swap}
 
 -- the default where there is no link
@@ -109,6 +110,29 @@ restored kept rows is moved = (
   },
 )
 
+-- and so has a copy of a checkpoint, by its own parts
+pub copied : (kept copy : StoreView) → IsCheckpoint kept → IsCopyOf kept copy
+    → HaveHeads copy.links (marks_of copy.links copy.top)
+    × IsConsistent (marks_of copy.links copy.top) copy.snapshots copy.rows
+    × IsSound copy.start copy.links copy.top copy.horizon copy.rows
+copied kept copy is same =
+    subst (λ (c : StoreView). HaveHeads c.links (marks_of c.links c.top)
+    × IsConsistent (marks_of c.links c.top) c.snapshots c.rows × IsSound c.start c.links c.top c.horizon c.rows)
+    {x = with_rows_left kept copy.rows kept.horizon} (sym same.same) (restored kept copy.rows is same.rows)
+
+-- its snapshots are those of a register
+pub copied-register : (kept copy : StoreView) → IsCheckpoint kept → IsCopyOf kept copy
+    → IsRegister (record { snapshots = copy.snapshots; opened = copy.opened })
+copied-register kept copy is same =
+    subst (λ (c : StoreView). IsRegister (record { snapshots = c.snapshots; opened = c.opened }))
+    {x = with_rows_left kept copy.rows kept.horizon} (sym same.same) is.register
+
+-- and there are as many links as heads may be made of
+pub copied-nodes : (kept copy : StoreView) → IsCheckpoint kept → IsCopyOf kept copy → HasNodes copy.start copy.links
+copied-nodes kept copy is same =
+    subst (λ (c : StoreView). HasNodes c.start c.links) {x = with_rows_left kept copy.rows kept.horizon}
+    (sym same.same) is.nodes
+
 under-from : (links : List IntakeView) (top start : ℕ) (row : Row) → HasNodes start links
     → IsUnder (marks_of links top).heads row → IsUnderHead links row
 under-from links top start row has under =
@@ -123,17 +147,15 @@ under-from links top start row has under =
     subst (λ o. MatchOption o ⊥ (λ link. row.stamp ≤ link.head)) (sym (slice_get-get_or links row.node d below))
     (omega arith)
 
--- and the state of a core, with its rows in order, is a checkpoint
-pub checkpoint-of : (kept copy : StoreView) (marks : HeadsView) → HaveHeads kept.links marks → marks.top ≡ kept.top
+-- the state of a core is that of a store
+pub store-of : (kept : StoreView) (marks : HeadsView) → HaveHeads kept.links marks → marks.top ≡ kept.top
     → IsConsistent marks kept.snapshots kept.rows → IsSound kept.start kept.links kept.top kept.horizon kept.rows
-    → IsRegister (record { snapshots = kept.snapshots; opened = kept.opened }) → IsCheckpointOf kept copy
-    → IsCheckpoint copy
-checkpoint-of kept copy marks have top consistent sound register is =
+    → IsRegister (record { snapshots = kept.snapshots; opened = kept.opened }) → IsStore kept
+store-of kept marks have top consistent sound register =
     let same : marks ≡ marks_of kept.links kept.top = have.same ∙ ap (marks_of kept.links) top in
     let consistent' : IsConsistent (marks_of kept.links kept.top) kept.snapshots kept.rows =
     subst (λ m. IsConsistent m kept.snapshots kept.rows) same consistent in
-    let made : StoreView = with_rows_left kept copy.rows kept.horizon in
-    let sound' : IsCheckpoint made = record {
+    record {
       nodes = sound.nodes;
       stamps = sound.stamps;
       last = sound.last;
@@ -141,36 +163,68 @@ checkpoint-of kept copy marks have top consistent sound register is =
       register = register;
       opened = consistent'.opened;
       horizon = sound.horizon;
+      row_set = consistent'.row_set;
+      under = All-weaker (IsUnder (marks_of kept.links kept.top).heads) (IsUnderHead kept.links)
+          (λ row under. under-from kept.links kept.top kept.start row sound.nodes under) kept.rows consistent'.stored;
+      limits = sound.limits;
+    }
+
+-- and that, with its rows in order, is a checkpoint
+pub store-checkpoint : (kept copy : StoreView) → IsStore kept → IsCheckpointOf kept copy → IsCheckpoint copy
+store-checkpoint kept copy store is =
+    let made : StoreView = with_rows_left kept copy.rows kept.horizon in
+    let sound : IsCheckpoint made = record {
+      nodes = store.nodes;
+      stamps = store.stamps;
+      last = store.last;
+      top = store.top;
+      register = store.register;
+      opened = store.opened;
+      horizon = store.horizon;
       ascend = is.ascend;
-      under = All-permutation (IsUnderHead kept.links) kept.rows copy.rows is.copy.rows
-          (All-weaker (IsUnder (marks_of kept.links kept.top).heads) (IsUnderHead kept.links)
-          (λ row under. under-from kept.links kept.top kept.start row sound.nodes under) kept.rows consistent'.stored);
-      limits = All-permutation IsInLimits kept.rows copy.rows is.copy.rows sound.limits;
+      under = All-permutation (IsUnderHead kept.links) kept.rows copy.rows is.copy.rows store.under;
+      limits = All-permutation IsInLimits kept.rows copy.rows is.copy.rows store.limits;
     } in
-    subst IsCheckpoint {x = made} (sym is.copy.same) sound'
+    subst IsCheckpoint {x = made} (sym is.copy.same) sound
 
 -- and so is the state with its rows above a stamp alone, in order
-pub checkpoint-above : (since : ℕ) (kept copy : StoreView) (marks : HeadsView) → HaveHeads kept.links marks
-    → marks.top ≡ kept.top → IsConsistent marks kept.snapshots kept.rows
-    → IsSound kept.start kept.links kept.top kept.horizon kept.rows
-    → IsRegister (record { snapshots = kept.snapshots; opened = kept.opened }) → IsCopyAbove since kept copy
-    → IsCheckpoint copy
-checkpoint-above since kept copy marks have top consistent sound register is =
-    checkpoint-of (with_rows_left kept (rows_above since kept.rows) kept.horizon) copy marks have top
+pub store-above : (since : ℕ) (kept copy : StoreView) → IsStore kept → IsCopyAbove since kept copy → IsCheckpoint copy
+store-above since kept copy store is =
+    store-checkpoint (with_rows_left kept (rows_above since kept.rows) kept.horizon) copy
     (record {
-      opened = consistent.opened;
-      row_set = filter-IsRowSet (λ (row : Row). ltb since row.stamp) kept.rows consistent.row_set;
-      stored = All-filter (λ (row : Row). ltb since row.stamp) (IsUnder marks.heads) kept.rows consistent.stored;
+      nodes = store.nodes;
+      stamps = store.stamps;
+      last = store.last;
+      top = store.top;
+      register = store.register;
+      opened = store.opened;
+      horizon = store.horizon;
+      row_set = filter-IsRowSet (λ (row : Row). ltb since row.stamp) kept.rows store.row_set;
+      under = All-filter (λ (row : Row). ltb since row.stamp) (IsUnderHead kept.links) kept.rows store.under;
+      limits = All-filter (λ (row : Row). ltb since row.stamp) IsInLimits kept.rows store.limits;
     })
-    (record {
-      nodes = sound.nodes;
-      stamps = sound.stamps;
-      last = sound.last;
-      top = sound.top;
-      horizon = sound.horizon;
-      limits = All-filter (λ (row : Row). ltb since row.stamp) IsInLimits kept.rows sound.limits;
-    })
-    register (record { copy = record { same = is.same; rows = is.rows.same }; ascend = is.rows.ascend })
+    (record { copy = record { same = is.same; rows = is.rows.same }; ascend = is.rows.ascend })
+
+-- the same state with a list of its rows in order
+pub listed : (kept store made : StoreView) (rows : List Row) → store ≡ kept
+    → made ≡ with_rows_left store made.rows store.horizon → made.rows ≡ rows → IsPermutation kept.rows rows
+    → RowsAscend rows → IsCheckpointOf kept made
+listed kept store made rows of same is moved up = record {
+  copy = record {
+    same = subst (λ (k : StoreView). made ≡ with_rows_left k made.rows k.horizon) of same;
+    rows = subst (IsPermutation kept.rows) (sym is) moved;
+  };
+  ascend = subst RowsAscend (sym is) up;
+}
+
+-- and with a list of those above a stamp
+pub listed-above : (since : ℕ) (kept store made : StoreView) (rows : List Row) → store ≡ kept
+    → made ≡ with_rows_left store made.rows store.horizon → made.rows ≡ rows → AreRowsAbove kept.rows since rows
+    → IsCopyAbove since kept made
+listed-above since kept store made rows of same is above = record {
+  same = subst (λ (k : StoreView). made ≡ with_rows_left k made.rows k.horizon) of same;
+  rows = subst (AreRowsAbove kept.rows since) (sym is) above;
+}
 
 -- there is no reason against a checkpoint but memory
 pub sound-has_no_reason : (kept : StoreView) (fault : RestoreFault) → IsCheckpoint kept → IsFirstReason kept fault

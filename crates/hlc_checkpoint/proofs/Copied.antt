@@ -14,7 +14,7 @@ use Rattle.hlc_checkpoint.specs.declared.sorted.Side.{Side}
 use Rattle.hlc_checkpoint.specs.declared.sorted.Side.TheVariants.{All, UpTo, Above}
 use Rattle.hlc_checkpoint.specs.Sorted.{is_on, rows_on}
 
-row_more : (rows : List Row) (i : ℕ) (row : Row) → slice_get rows i ≡ Some row
+pub row_more : (rows : List Row) (i : ℕ) (row : Row) → slice_get rows i ≡ Some row
     → take (i + 1) rows ≡ take i rows ++ row ∷ []
 row_more rows i row at = take_more rows i row (slice_get_within rows i row at)
     ∙ ap (λ r. take i rows ++ r ∷ []) (get_or_from_slice_get rows i row row at)

@@ -4,6 +4,7 @@ use Rattle.std.specs.Prelude.{◌≡◌, ℕ, ◌<◌, ◌≤◌, List, All, Mat
 use Rattle.std.specs.Prelude.{slice_get}
 use Rattle.std.specs.List.Sorted.{IsPermutation}
 use Rattle.hlc_node.specs.declared.row.Row.{Row}
+use Rattle.hlc_node.specs.Rows.{IsRowSet}
 use Rattle.hlc_intake.specs.IntakeView.{IntakeView}
 use Rattle.hlc_heads.specs.Heads.{floor_of}
 use Rattle.hlc_snapshot.specs.RegistryView.{IsRegister}
@@ -50,6 +51,19 @@ pub record IsCheckpoint (kept : StoreView) : Type 0 where
   pub under : All (IsUnderHead kept.links) kept.rows
   pub limits : AreInLimits kept.rows
 
+-- A state is that of a store: it is a checkpoint, but that its rows are in any order; no two of them are one version.
+pub record IsStore (kept : StoreView) : Type 0 where
+  pub nodes : HasNodes kept.start kept.links
+  pub stamps : All HasStamps kept.links
+  pub last : All HasLastItem kept.links
+  pub top : kept.top ≡ greatest_head kept.links
+  pub register : HasRegister kept
+  pub opened : AreAtMost (floor_in kept) kept
+  pub horizon : kept.horizon ≤ floor_in kept
+  pub row_set : IsRowSet kept.rows
+  pub under : All (IsUnderHead kept.links) kept.rows
+  pub limits : AreInLimits kept.rows
+
 -- there are nodes, and possible links of them
 abbrev pub HasLinks : StoreView → Type 0
 HasLinks kept = HasNodes kept.start kept.links × All HasStamps kept.links × All HasLastItem kept.links
@@ -75,6 +89,19 @@ IsFirstReason kept RowAboveHead =
 IsFirstReason kept RowOutOfLimits =
     IsSoundHead kept × RowsAscend kept.rows × All (IsUnderHead kept.links) kept.rows × (AreInLimits kept.rows → ⊥)
 IsFirstReason kept NoMemory = IsCheckpoint kept
+
+-- the first reason, and one that needs no rows
+abbrev pub IsHeadReason : StoreView → RestoreFault → Type 0
+IsHeadReason kept NodesOutOfRange = IsFirstReason kept NodesOutOfRange
+IsHeadReason kept NumberAboveHead = IsFirstReason kept NumberAboveHead
+IsHeadReason kept RetiredWithoutItem = IsFirstReason kept RetiredWithoutItem
+IsHeadReason kept SnapshotsNotRising = IsFirstReason kept SnapshotsNotRising
+IsHeadReason kept SnapshotAboveFloor = IsFirstReason kept SnapshotAboveFloor
+IsHeadReason kept HorizonAboveFloor = IsFirstReason kept HorizonAboveFloor
+IsHeadReason kept RowsNotAscending = ⊥
+IsHeadReason kept RowAboveHead = ⊥
+IsHeadReason kept RowOutOfLimits = ⊥
+IsHeadReason kept NoMemory = ⊥
 
 -- the copy is the same state, with its rows in another order
 pub record IsCopyOf (kept copy : StoreView) : Type 0 where

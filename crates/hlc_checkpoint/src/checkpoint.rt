@@ -1,11 +1,13 @@
 //! A checkpoint of a store, and the first reason why some values are not one.
-ghost use Rattle.std.specs.Prelude.{◌≡◌, ◌≢◌, IfSome, ◌↔◌, ◌≤◌, IsTrue, All, MatchOption, max};
+ghost use Rattle.std.specs.Prelude.{◌≡◌, ◌≢◌, IfOk, IfSome, ◌↔◌, ◌≤◌, [], IsTrue, All, MatchOption, max};
 ghost use Rattle.hlc_heads.specs.Low.{lower};
 ghost use Rattle.hlc_heads.specs.Heads.{floor_of};
 ghost use Rattle.hlc_checkpoint.specs.StoreView.{HasNodes, HasStamps, HasLastItem, greatest_head, marks_of};
 ghost use Rattle.hlc_checkpoint.specs.RestoreFaults.{fault_code};
 ghost use Rattle.hlc_checkpoint.specs.declared.checkpoint.RestoreFault.TheVariants.{NoMemory as no_memory};
-ghost use Rattle.hlc_checkpoint.specs.Checkpoint.{IsCheckpoint, IsFirstReason, IsUnderHead, floor_in};
+ghost use Rattle.hlc_checkpoint.specs.Checkpoint.{IsCheckpoint, IsFirstReason, IsHeadReason, IsSoundHead};
+ghost use Rattle.hlc_checkpoint.specs.Checkpoint.{IsUnderHead, floor_in};
+ghost use Rattle.hlc_checkpoint.specs.Growing.{with_rows};
 
 use hlc_clock::Stamp;
 use hlc_heads::{MOST_NODES, MOST_NUMBERS};
@@ -14,7 +16,7 @@ use hlc_node::Row;
 use hlc_snapshot::{Snapshot, is_register};
 use hlc_values::NoMemory;
 use hlc_witness::{are_in_limits, do_rows_ascend};
-use std::alloc::AllocFailed;
+use std::alloc::{AllocFailed, Global};
 use std::error::Error;
 use std::fmt;
 use std::marker::Model;
@@ -245,6 +247,43 @@ impl Checkpoint {
         (self.links, self.snapshots, self.rows)
     }
 
+    /// Copies all but the rows.
+    pub(crate) fn copy_head(&self, alloc: Global) -> Result<Checkpoint, NoMemory>
+        ensures { IfOk result (λ head. head ≡ with_rows self.now []) }
+    {
+        let links = Vec::from_slice(alloc, self.links.as_slice())?;
+        let snapshots = Vec::from_slice(alloc, self.snapshots.as_slice())?;
+        let rows = Vec::new(alloc);
+        Ok(Checkpoint::of(
+            self.start,
+            links,
+            snapshots,
+            self.opened,
+            self.horizon,
+            rows,
+        ))
+    }
+
+    /// Moves the rows out, and returns all else beside them.
+    pub(crate) fn split(self, alloc: Global) -> (Checkpoint, Vec<Row>)
+        ensures head { result.0 ≡ with_rows self [] }
+        ensures rows { result.1.items ≡ self.rows }
+    {
+        let Checkpoint {
+            start,
+            links,
+            snapshots,
+            opened,
+            horizon,
+            rows,
+        } = self;
+        let none = Vec::new(alloc);
+        (
+            Checkpoint::of(start, links, snapshots, opened, horizon, none),
+            rows,
+        )
+    }
+
     /// Returns the first reason why this is no checkpoint, with which `Core::restore` refuses it; never out of memory.
     /// It needs no memory, and looks at each part once.
     pub fn fault(&self) -> Option<RestoreFault>
@@ -260,9 +299,30 @@ fn reason_against(checkpoint: &Checkpoint) -> Option<RestoreFault>
     ensures first { MatchOption result (IsCheckpoint checkpoint.now) (IsFirstReason checkpoint.now) }
     ensures other { IfSome result (λ fault. fault ≢ no_memory) }
 {
+    if let Some(fault) = head_reason(checkpoint) {
+        return Some(fault);
+    }
+    let rows = checkpoint.rows();
+    if !do_rows_ascend(rows) {
+        return Some(RestoreFault::RowsNotAscending);
+    }
+    if !are_under_heads(checkpoint.links(), rows) {
+        return Some(RestoreFault::RowAboveHead);
+    }
+    if !are_in_limits(rows) {
+        return Some(RestoreFault::RowOutOfLimits);
+    }
+    None
+}
+
+/// Returns the first reason that needs no rows, or none.
+pub(crate) fn head_reason(checkpoint: &Checkpoint) -> Option<RestoreFault>
+    ensures { MatchOption result
+        (IsSoundHead checkpoint.now × (checkpoint.now.top ≡ greatest_head checkpoint.now.links))
+        (IsHeadReason checkpoint.now) }
+{
     let links = checkpoint.links();
     let snapshots = checkpoint.snapshots();
-    let rows = checkpoint.rows();
     if !are_nodes(checkpoint.start(), links) {
         return Some(RestoreFault::NodesOutOfRange);
     }
@@ -281,15 +341,6 @@ fn reason_against(checkpoint: &Checkpoint) -> Option<RestoreFault>
     }
     if checkpoint.horizon() > floor {
         return Some(RestoreFault::HorizonAboveFloor);
-    }
-    if !do_rows_ascend(rows) {
-        return Some(RestoreFault::RowsNotAscending);
-    }
-    if !are_under_heads(links, rows) {
-        return Some(RestoreFault::RowAboveHead);
-    }
-    if !are_in_limits(rows) {
-        return Some(RestoreFault::RowOutOfLimits);
     }
     None
 }
@@ -393,7 +444,7 @@ fn are_under_heads(links: &[Intake], rows: &[Row]) -> bool
 }
 
 /// Returns whether a row is of one of the nodes, and not above its head.
-fn is_under_head(links: &[Intake], row: &Row) -> bool
+pub(crate) fn is_under_head(links: &[Intake], row: &Row) -> bool
     ensures { IsTrue result ↔ IsUnderHead links.now row.now }
 {
     match links.get(row.node as usize) {

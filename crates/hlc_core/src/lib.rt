@@ -12,7 +12,7 @@ mod rows;
 mod step;
 mod store;
 
-pub use hlc_checkpoint::{Checkpoint, RestoreFault};
+pub use hlc_checkpoint::{Checked, Checkpoint, Growing, RestoreFault};
 pub use hlc_clock::Stamp;
 pub use hlc_columns::{Answers, AnswersBack, Changes, Sizes, Versions, View};
 pub use hlc_events::{CertificateFault, CoreEvent, CoreFault, NoNode};

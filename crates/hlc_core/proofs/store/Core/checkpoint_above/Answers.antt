@@ -1,12 +1,22 @@
 -- The parts are the state with its rows above the stamp, so they are a checkpoint.
-use Rattle.std.proofs.Common.{refl, rules}
-use Rattle.std.proofs.lemmas.Grind.{common_steps}
+use Rattle.std.proofs.Common.{subst}
+use Rattle.hlc_core.specs.StoreView.{StoreView}
 use Rattle.hlc_core.specs.Checkpoint.{IsCopyAbove}
-use Rattle.hlc_checkpoint.proofs.CheckpointLemmas.{checkpoint-above}
+use Rattle.hlc_checkpoint.specs.Sorted.{AreRowsAbove}
+use Rattle.hlc_checkpoint.proofs.CheckpointLemmas.{listed-above, store-above}
 use Rattle.hlc_core.proofs.store.Core.checkpoint_above.Goals as goal
+use Rattle.hlc_core.proofs.store.Core.checkpoint_above.Goals.{In_ok-with_rows}
+
+is_copy : (c : In_ok-with_rows) → IsCopyAbove c.args.since c.args.self.now c.in_ok-with_rows.field-0
+is_copy c =
+    listed-above c.args.since c.args.self.now c.lent.result c.in_ok-with_rows.field-0 c.in_ok-rows.rows.items
+    c.lent.ensures.same c.in_ok-with_rows.ensures.same c.in_ok-with_rows.ensures.rows
+    (subst (λ (k : StoreView). AreRowsAbove k.rows c.args.since c.in_ok-rows.rows.items) c.self.view_is
+    c.in_ok-rows.ensures)
+
+pub returns-clause-kept : goal.returns-clause-kept
+returns-clause-kept c = is_copy c
 
 pub returns-clause-sound : goal.returns-clause-sound
 returns-clause-sound c =
-    let made : IsCopyAbove c.args.since c.args.self.now c.of.result = search (rules, common_steps) in
-    checkpoint-above c.args.since _ c.of.result c.self.inside.heads c.self.invariant.0 refl c.self.invariant.1
-    c.self.invariant.2 c.snapshots.ensures.register (rw (← c.self.view_is) at made)
+    store-above c.args.since c.args.self.now c.in_ok-with_rows.field-0 c.lent.ensures.sound (is_copy c)

@@ -3,10 +3,10 @@ use Rattle.std.proofs.Common.{◌≡◌, ◌≤◌, All, List, true≢false, sym
 use Rattle.std.proofs.lemmas.Grind.{common_steps}
 use Rattle.hlc_snapshot.specs.declared.snapshot.Snapshot.{Snapshot}
 use Rattle.hlc_checkpoint.specs.Checkpoint.{HasLinks, HasRegister, floor_in}
-use Rattle.hlc_checkpoint.proofs.checkpoint.reason_against.Goals as goal
+use Rattle.hlc_checkpoint.proofs.checkpoint.head_reason.Goals as goal
 
-pub returns-then-not-are_at_most-clause-first : goal.returns-then-not-are_at_most-clause-first
-returns-then-not-are_at_most-clause-first c =
+pub returns-then-not-are_at_most : goal.returns-then-not-are_at_most
+returns-then-not-are_at_most c =
     let has : HasLinks c.args.checkpoint.now = search (rules, common_steps) in
     let register : HasRegister c.args.checkpoint.now = search (rules, common_steps) in
     let at : c.floor_of-floor.result ≡ floor_in c.args.checkpoint.now =

@@ -1,0 +1,154 @@
+-- Lists of columns, one after another, are the list of all columns; and if the keys ascend, its rows ascend.
+use Rattle.std.proofs.Common.{◌≡◌, ℕ, zero, suc, ◌<◌, List, [], ◌∷◌, ◌++◌, length, nat_cmp, Less, Some, slice_get}
+use Rattle.std.proofs.Common.{Option, refl, sym, ap, ap₂, ◌∙◌, subst, append_assoc, arith, IsPermutation}
+use Rattle.std.proofs.Common.{inl, inr, Contains}
+use Rattle.std.specs.Prelude.{All}
+use Rattle.std.specs.List.{AllByRecursion}
+use Rattle.std.specs.Ordering.{ordering_then}
+use Rattle.std.specs.Cmp.Lexicographic.{slice_cmp}
+use Rattle.std.specs.List.Sorted.{IsStrictlySortedBy}
+use Rattle.std.proofs.lemmas.Option.{same_Some, slice_get_within}
+use Rattle.std.proofs.lemmas.List.Elements.{All-nil, All-cons, All-head, All-tail, Contains-append_left}
+use Rattle.std.proofs.lemmas.List.Sorted.{IsPermutation-refl, IsPermutation-sym, IsPermutation-append}
+use Rattle.std.proofs.lemmas.List.Sorted.{Contains-permutation}
+use Rattle.hlc_values.proofs.MemberLemmas.{Contains-none, Contains-first, Contains-rest, Contains-cons_cases}
+use Rattle.hlc_node.specs.declared.row.Row.{Row}
+use Rattle.hlc_node.specs.Rows.{IsRowSet}
+use Rattle.hlc_column.specs.Cells.{Cell}
+use Rattle.hlc_column.specs.Rows.{KeyCells, KeysAscend, rows_of, rows_in, rows_in_one, keys_in}
+use Rattle.hlc_column.proofs.RowLemmas.{row_key, key_among}
+use Rattle.hlc_columns.specs.Table.{columns_in}
+use Rattle.hlc_witness.specs.Certificate.{row_cmp, RowsAscend}
+use Rattle.hlc_witness.specs.Cost.{IsInLimits, AreInLimits}
+use Rattle.hlc_checkpoint.specs.Lent.{IsWritable, IsListOf, AreListOf}
+
+-- the row at a position of a column
+pub row-lent : (key : List ℕ) (cells : List Cell) (place : ℕ) (version : ℕ × ℕ) (value : Option (List ℕ))
+    → place < length cells → ((cell : Cell) → slice_get cells place ≡ Some cell → version ≡ (cell.stamp, cell.node))
+    → ((cell : Cell) → slice_get cells place ≡ Some cell → value ≡ cell.value)
+    → slice_get (rows_of key cells) place
+    ≡ Some (record { key = key; stamp = version.0; node = version.1; value = value })
+row-lent key [] place version value lt is holds = absurd (omega (arith, lt))
+row-lent key (cell ∷ cells) zero version value lt is holds =
+    ap Some (sym (ap₂ (λ (v : ℕ × ℕ) (x : Option (List ℕ)). record { key = key; stamp = v.0; node = v.1; value = x })
+    (is cell refl) (holds cell refl)))
+row-lent key (cell ∷ cells) (suc place) version value lt is holds =
+    row-lent key cells place version value (omega (arith, lt)) is holds
+
+-- ---- lists of columns
+
+-- the list of some columns, and that of others after them
+pub list-append : (columns more : List KeyCells) (rows others : List Row) → AreListOf columns rows
+    → AreListOf more others → AreListOf (columns ++ more) (rows ++ others)
+list-append [] more rows others is also = subst (λ (xs : List Row). AreListOf more (xs ++ others)) (sym is) also
+list-append (one ∷ columns) more rows others (first, left, is, own, so) also = (
+  first,
+  left ++ others,
+  ap (λ (xs : List Row). xs ++ others) is ∙ append_assoc first left others,
+  own,
+  list-append columns more left others so also,
+)
+
+-- it has the rows of the columns
+pub list-same : (columns : List KeyCells) (rows : List Row) → AreListOf columns rows
+    → IsPermutation (rows_in columns) rows
+list-same [] rows is = subst (IsPermutation []) (sym is) (IsPermutation-refl [])
+list-same (one ∷ columns) rows (first, others, is, own, so) =
+    subst (IsPermutation (rows_in (one ∷ columns))) (sym is)
+    (IsPermutation-append (rows_in_one one) first (rows_in columns) others own.same (list-same columns others so))
+
+all_of : (P : Row → Type 0) (rows : List Row) → ((row : Row) → Contains rows row → P row) → AllByRecursion P rows
+all_of P [] each = tt
+all_of P (row ∷ rows) each =
+    (each row (Contains-first row rows), all_of P rows (λ r m. each r (Contains-rest row r rows m)))
+
+all_append : (P : Row → Type 0) (xs ys : List Row) → AllByRecursion P xs → AllByRecursion P ys
+    → AllByRecursion P (xs ++ ys)
+all_append P [] ys front back = back
+all_append P (x ∷ xs) ys front back = (front.0, all_append P xs ys front.1 back)
+
+-- each later key is above the first
+all_less : (k : List ℕ) (keys : List (List ℕ)) (other : List ℕ)
+    → AllByRecursion (λ key. slice_cmp nat_cmp k key ≡ Less) keys → Contains keys other
+    → slice_cmp nat_cmp k other ≡ Less
+all_less k [] other each m = absurd (Contains-none other m)
+all_less k (key ∷ keys) other each m = elim (Contains-cons_cases key other keys m) [
+  | inl is ↦ subst (λ z. slice_cmp nat_cmp k z ≡ Less) is each.0
+  | inr r ↦ all_less k keys other each.1 r
+]
+
+-- rows that ascend, and more above them
+ascend-append : (xs ys : List Row) → RowsAscend xs → RowsAscend ys
+    → ((x y : Row) → Contains xs x → Contains ys y → row_cmp x y ≡ Less) → RowsAscend (xs ++ ys)
+unfolding IsStrictlySortedBy
+ascend-append [] ys up more above = more
+ascend-append (x ∷ xs) ys up more above = (
+  all_append (λ y. row_cmp x y ≡ Less) xs ys up.0
+      (all_of (λ y. row_cmp x y ≡ Less) ys (λ y m. above x y (Contains-first x xs) m)),
+  ascend-append xs ys up.1 more (λ a b m n. above a b (Contains-rest x a xs m) n),
+)
+
+key-less : (x y : Row) → slice_cmp nat_cmp x.key y.key ≡ Less → row_cmp x y ≡ Less
+key-less x y less =
+    ap (λ o. ordering_then o (ordering_then (nat_cmp x.stamp y.stamp) (nat_cmp x.node y.node))) less
+
+-- and ascends, if the keys do
+pub list-ascend : (columns : List KeyCells) (rows : List Row) → KeysAscend columns → AreListOf columns rows
+    → RowsAscend rows
+unfolding IsStrictlySortedBy
+list-ascend [] rows up is = subst RowsAscend (sym is) tt
+list-ascend (one ∷ columns) rows up (first, others, is, own, so) =
+    subst RowsAscend (sym is)
+    (ascend-append first others own.ascend (list-ascend columns others up.1 so)
+    (λ x y m n.
+    let mine : x.key ≡ one.key =
+    row_key one.key one.cells x
+    (Contains-permutation first (rows_in_one one) x (IsPermutation-sym (rows_in_one one) first own.same) m) in
+    let later : Contains (keys_in columns) y.key =
+    key_among columns y (Contains-permutation others (rows_in columns) y
+    (IsPermutation-sym (rows_in columns) others (list-same columns others so)) n) in
+    key-less x y (subst (λ k. slice_cmp nat_cmp k y.key ≡ Less) (sym mine)
+    (all_less one.key (keys_in columns) y.key up.0 later))))
+
+-- ---- the columns of a store
+
+all_left : {X : Type 0} (P : X → Type 0) (xs ys : List X) → All P (xs ++ ys) → All P xs
+all_left P [] ys each = All-nil P
+all_left P (x ∷ xs) ys each =
+    All-cons P x xs (All-head P x (xs ++ ys) each) (all_left P xs ys (All-tail P x (xs ++ ys) each))
+
+all_right : {X : Type 0} (P : X → Type 0) (xs ys : List X) → All P (xs ++ ys) → All P ys
+all_right P [] ys each = each
+all_right P (x ∷ xs) ys each = all_right P xs ys (All-tail P x (xs ++ ys) each)
+
+row_set-left : (xs ys : List Row) → IsRowSet (xs ++ ys) → IsRowSet xs
+row_set-left [] ys apart = tt
+row_set-left (x ∷ xs) ys apart = (
+  λ other m same. apart.0 other (Contains-append_left xs ys other m) same,
+  row_set-left xs ys apart.1,
+)
+
+row_set-right : (xs ys : List Row) → IsRowSet (xs ++ ys) → IsRowSet ys
+row_set-right [] ys apart = apart
+row_set-right (x ∷ xs) ys apart = row_set-right xs ys apart.1
+
+-- a row set whose rows an item may write, column by column
+pub all-writable : (columns : List KeyCells) → IsRowSet (rows_in columns) → AreInLimits (rows_in columns)
+    → All IsWritable columns
+all-writable [] apart low = All-nil IsWritable
+all-writable (one ∷ columns) apart low =
+    All-cons IsWritable one columns (
+      row_set-left (rows_in_one one) (rows_in columns) apart,
+      all_left IsInLimits (rows_in_one one) (rows_in columns) low,
+    )
+    (all-writable columns (row_set-right (rows_in_one one) (rows_in columns) apart)
+    (all_right IsInLimits (rows_in_one one) (rows_in columns) low))
+
+-- the columns of a leaf are among those of all leaves
+pub leaf-writable : (leaves : List (List KeyCells)) (i : ℕ) (leaf : List KeyCells) → slice_get leaves i ≡ Some leaf
+    → All IsWritable (columns_in leaves) → All IsWritable leaf
+leaf-writable [] i leaf at each = absurd (omega (arith, slice_get_within [] i leaf at))
+leaf-writable (first ∷ leaves) zero leaf at each =
+    subst (All IsWritable) (same_Some first leaf at) (all_left IsWritable first (columns_in leaves) each)
+leaf-writable (first ∷ leaves) (suc i) leaf at each =
+    leaf-writable leaves i leaf at (all_right IsWritable first (columns_in leaves) each)

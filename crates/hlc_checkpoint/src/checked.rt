@@ -1,0 +1,75 @@
+//! A checkpoint that was checked, with its rows in a table.
+ghost use Rattle.std.specs.Prelude.{◌≡◌};
+ghost use Rattle.hlc_checkpoint.specs.StoreView.{StoreView};
+ghost use Rattle.hlc_checkpoint.specs.Checkpoint.{IsCheckpoint, IsCopyOf, Restores};
+ghost use Rattle.hlc_checkpoint.specs.Growing.{with_rows};
+
+use crate::checkpoint::{Checkpoint, RestoreFault};
+use crate::restoring::{table_of, table_of_moved};
+use hlc_columns::Table;
+use std::alloc::Global;
+use std::marker::Model;
+
+/// A checkpoint that was checked, with its rows in a table: what a store is made of. In contracts it is the state of
+/// that store.
+#[derive(Debug, Drop)]
+pub struct Checked {
+    head: Checkpoint,
+    table: Table,
+}
+
+impl Model for Checked {
+    ghost use Rattle.hlc_checkpoint.specs.StoreView.{StoreView};
+    ghost use Rattle.hlc_checkpoint.specs.Checkpoint.{IsCheckpoint, IsCopyOf};
+    ghost use Rattle.hlc_checkpoint.specs.Growing.{with_rows};
+
+    ghost Value = { StoreView };
+
+    ghost view = { λ checked. with_rows checked.head checked.table };
+
+    ghost invariant = { λ checked. (kept : StoreView)
+        × IsCheckpoint kept × IsCopyOf kept (with_rows checked.head checked.table) };
+}
+
+impl Checked {
+    /// Checks a checkpoint, and copies its parts and its rows. Refused for the first reason of `RestoreFault`; out of
+    /// memory is the last.
+    pub fn copy_of(alloc: Global, checkpoint: &Checkpoint) -> Result<Checked, RestoreFault>
+        ensures { Restores checkpoint.now result }
+    {
+        if let Some(fault) = checkpoint.fault() {
+            return Err(fault);
+        }
+        let head = checkpoint.copy_head(alloc)?;
+        let table = table_of(alloc, checkpoint.rows())?;
+        Ok(Checked { head, table })
+    }
+
+    /// Does the same by value: the rows are moved. A refused checkpoint is lost.
+    pub fn of(alloc: Global, checkpoint: Checkpoint) -> Result<Checked, RestoreFault>
+        ensures { Restores checkpoint result }
+    {
+        if let Some(fault) = checkpoint.fault() {
+            return Err(fault);
+        }
+        let (head, rows) = checkpoint.split(alloc);
+        let table = table_of_moved(alloc, rows)?;
+        Ok(Checked { head, table })
+    }
+
+    /// Returns the same of parts and a table that were checked.
+    pub(crate) fn grown(head: Checkpoint, table: Table) -> Checked
+        requires { (kept : StoreView) × IsCheckpoint kept × IsCopyOf kept (with_rows head table) }
+        ensures { result ≡ with_rows head table }
+    {
+        Checked { head, table }
+    }
+
+    /// Moves the parts out, without their rows, and the table of these.
+    pub fn into_parts(self) -> (Checkpoint, Table)
+        ensures same { with_rows result.0 result.1 ≡ self }
+        ensures sound { (kept : StoreView) × IsCheckpoint kept × IsCopyOf kept self }
+    {
+        (self.head, self.table)
+    }
+}
