@@ -433,7 +433,8 @@ uint32_t hlc_records_apply(hlc_store *store, const uint8_t *bytes, size_t bytes_
 
 /* Saves the whole state of a store, with a word of the caller's: for example the place in a log up to which the store
  * applied it. The bytes go into an output that has none; len: how many they are. docs/formats.md describes them; they
- * end with a digest. Refusals, in this order: 108, 15. Copies each row, and takes memory for twice that. */
+ * end with a digest. Refusals, in this order: 108, 15. Takes memory for the bytes, and for a list of the rows of one
+ * key at a time. */
 uint32_t hlc_checkpoint(hlc_store *store, uint64_t word, hlc_output *output, size_t *len);
 
 /* Saves an increment: the whole state of a store, but of its rows only those above a stamp, with a word of the
@@ -461,7 +462,8 @@ uint32_t hlc_increment_apply(const uint8_t *older, size_t older_len, const uint8
 /* Opens a closed store from the bytes of hlc_checkpoint, whoever wrote them. It continues as the saved store would
  * have: the same next items, open snapshots, horizon and answers. word: the word that was saved, or the refusal's.
  * Refusals, in this order: 101, 106, 107, 15; but 15 may come in place of 106 and 107, when memory runs out before the
- * fault is found. Bytes that hlc_checkpoint returned are refused with 101 and 15 alone. */
+ * fault is found. Bytes that hlc_checkpoint returned are refused with 101 and 15 alone. Takes memory for the store
+ * alone. */
 uint32_t hlc_restore(hlc_store *store, const uint8_t *bytes, size_t bytes_len, uint64_t *word);
 
 /* A restore from pieces of any size, so that the bytes of a checkpoint need not be in memory at once. Its fields are

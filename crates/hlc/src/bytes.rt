@@ -1,7 +1,7 @@
 //! Items, messages and checkpoints as bytes.
 
 pub use hlc_saved::{
-    CheckpointReader, CheckpointWriter, Decoded, ResumeError, Resumed, copy_by_bytes,
+    CheckpointReader, CheckpointWriter, Decoded, ResumeError, Resumed, StoreWriter, copy_by_bytes,
     decode_checkpoint, encode_checkpoint, resume, save,
 };
 pub use hlc_wire::{

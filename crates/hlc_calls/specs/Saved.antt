@@ -7,7 +7,7 @@ use Rattle.hlc_checkpoint.specs.RestoreFaults.{fault_code as reason_code}
 use Rattle.hlc_checkpoint.specs.declared.checkpoint.RestoreFault.{RestoreFault}
 use Rattle.hlc_core.specs.StoreView.{StoreView}
 use Rattle.hlc_saved.specs.Saved.{AreFrame, AreOf, SpellNone}
-use Rattle.hlc_saved.specs.Reading.{saved}
+use Rattle.hlc_body.specs.Reading.{saved}
 use Rattle.hlc_saved.specs.declared.fault.ResumeError.{ResumeError}
 use Rattle.hlc_saved.specs.declared.fault.ResumeError.TheVariants.{NoMemory, Bytes, Parts}
 

@@ -10,8 +10,8 @@ use Rattle.hlc_frame.proofs.FrameLemmas.{opened_is_frame, frame_is_opened}
 use Rattle.hlc_saved.proofs.SaveLemmas.{body_bytes, saved_again, saved_takes}
 use Rattle.hlc_frame.specs.Frame.{frame_bytes, FrameFits}
 use Rattle.hlc_frame.specs.Opening.{opened}
-use Rattle.hlc_saved.specs.Spelling.{saved_bytes, SavedFits}
-use Rattle.hlc_saved.specs.Reading.{saved}
+use Rattle.hlc_body.specs.Spelling.{saved_bytes, SavedFits}
+use Rattle.hlc_body.specs.Reading.{saved}
 use Rattle.hlc_core.specs.StoreView.{StoreView}
 use Rattle.hlc_increment.specs.declared.bytes.DecodedIncrement.{DecodedIncrement}
 use Rattle.hlc_increment.specs.Increment.{IncrementView}

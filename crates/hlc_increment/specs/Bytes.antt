@@ -5,8 +5,8 @@ use Rattle.hlc_wire.specs.declared.fault.WireFault.TheVariants.{Short, Kind}
 use Rattle.hlc_wire.specs.Reading.{◌>>=◌}
 use Rattle.hlc_frame.specs.Frame.{frame_bytes, FrameFits}
 use Rattle.hlc_frame.specs.Opening.{opened}
-use Rattle.hlc_saved.specs.Spelling.{saved_bytes, SavedFits}
-use Rattle.hlc_saved.specs.Reading.{saved}
+use Rattle.hlc_body.specs.Spelling.{saved_bytes, SavedFits}
+use Rattle.hlc_body.specs.Reading.{saved}
 use Rattle.hlc_increment.specs.Increment.{IncrementView}
 
 -- a byte 1, with which no checkpoint begins, and the state, in a frame whose word is the stamp

@@ -6,7 +6,7 @@ use Rattle.hlc_core.specs.StoreView.{StoreView}
 use Rattle.hlc_core.specs.Checkpoint.{IsFirstReason}
 use Rattle.hlc_checkpoint.specs.declared.checkpoint.RestoreFault.{RestoreFault}
 use Rattle.hlc_checkpoint.specs.declared.checkpoint.RestoreFault.TheVariants as reasons
-use Rattle.hlc_saved.specs.Reading.{saved}
+use Rattle.hlc_body.specs.Reading.{saved}
 use Rattle.hlc_saved.specs.Saved.{AreOf}
 use Rattle.hlc_increment.specs.declared.advancing.AdvanceFault.{AdvanceFault}
 use Rattle.hlc_increment.specs.Increment.{IncrementView, IsIncrementOf, IsAdvanced, IsReason}

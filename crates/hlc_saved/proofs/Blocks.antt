@@ -1,12 +1,11 @@
 -- A checkpoint that is read in blocks is the one that is read at once.
 use Rattle.std.proofs.Common.{◌≡◌, ℕ, ◌+◌, ◌-◌, ◌<◌, ◌≤◌, cond, List, [], ◌++◌, length, take, drop}
-use Rattle.std.proofs.Common.{Result, Ok, Err, refl, sym, ap, ◌∙◌, arith, append_assoc, inl, inr, length-append}
+use Rattle.std.proofs.Common.{Result, Ok, Err, refl, sym, ap, subst, ◌∙◌, arith, append_assoc, inl, inr, length-append}
 use Rattle.std.specs.Prelude.{OnOk, OnErr}
 use Rattle.std.specs.Result.{is_ok}
 use Rattle.std.proofs.lemmas.Bool.{cases_lt}
 use Rattle.std.proofs.lemmas.List.{append-nil, take-append-drop, take-append-le, length-take, length-drop}
 use Rattle.std.proofs.lemmas.List.{get_or_append_left, get_or-append_right}
-use Rattle.hlc_core.specs.StoreView.{StoreView}
 use Rattle.hlc_wire.specs.declared.fault.WireFault.{WireFault}
 use Rattle.hlc_wire.specs.Reading.{◌>>=◌, whole}
 use Rattle.hlc_wire.proofs.FieldLemmas.{IsBytes, bind_ok, ok_is, done}
@@ -19,10 +18,11 @@ use Rattle.hlc_frame.proofs.FrontLemmas.{with_rest}
 use Rattle.hlc_frame.proofs.BlockLemmas.{body_cut}
 use Rattle.hlc_frame.proofs.FrameLemmas.{opened_body}
 use Rattle.hlc_saved.specs.declared.stage.Stage.{Stage}
+use Rattle.hlc_saved.specs.declared.stage.Stage.TheVariants as stages
 use Rattle.hlc_saved.specs.declared.parts.PartsReader.{PartsReader}
 use Rattle.hlc_saved.specs.declared.reader.CheckpointReader.{CheckpointReader}
-use Rattle.hlc_saved.specs.Reading.{checkpoint_at, saved}
-use Rattle.hlc_saved.specs.Blocks.{rest_of, parts_left, HasRead}
+use Rattle.hlc_body.specs.Reading.{checkpoint_at, saved}
+use Rattle.hlc_saved.specs.Blocks.{Reader, Leaves, PartsLeave, HasRead, rows_after}
 use Rattle.hlc_saved.proofs.Stages.{dropped_back}
 
 -- ---- the pending bytes
@@ -37,17 +37,32 @@ pending_back bytes at rest back =
           ∙ sym (append_assoc (take at bytes) back.0 rest),
     )
 
-pub taken : {E : Type 0} (r : Result (Unit {0}) E) (stage : Stage) (at : ℕ) (old new bytes more : List ℕ) → at ≡ 0
-    → new ≡ cond (is_ok r) (old ++ bytes) old
-    → OnOk r (rest_of stage (drop at new ++ more) ≡ rest_of stage (drop at old ++ (bytes ++ more)))
-taken (Err e) stage at old new bytes more none is = tt
-taken (Ok u) stage at old new bytes more none is =
-    ap (rest_of stage) (
-    ap (λ (l : List ℕ). drop at l ++ more) is
-    ∙ ap (λ (n : ℕ). drop n (old ++ bytes) ++ more) none
-    ∙ append_assoc old bytes more
-    ∙ ap (λ (n : ℕ). drop n old ++ (bytes ++ more)) (sym none)
-    )
+-- more bytes are pending, and fewer follow
+leaves_longer : (stage : Stage) (pending bytes : List ℕ) (read : Reader) → Leaves stage pending read
+    → Leaves stage (pending ++ bytes) (λ more. read (bytes ++ more))
+leaves_longer stages.Start pending bytes read has = λ more.
+    ap checkpoint_at (append_assoc pending bytes more) ∙ has (bytes ++ more)
+leaves_longer (stages.Rows growing left) pending bytes read has =
+    (has.0, has.1, λ more. ap (rows_after has.0 left) (append_assoc pending bytes more) ∙ has.2 (bytes ++ more))
+leaves_longer (stages.Wrong fault) pending bytes read has = λ more. has (bytes ++ more)
+
+pub leaves_alike : (stage : Stage) (bytes : List ℕ) (read other : Reader)
+    → ((more : List ℕ) → read more ≡ other more)
+    → Leaves stage bytes read → Leaves stage bytes other
+leaves_alike stages.Start bytes read other same has = λ more. has more ∙ same more
+leaves_alike (stages.Rows growing left) bytes read other same has =
+    (has.0, has.1, λ more. has.2 more ∙ same more)
+leaves_alike (stages.Wrong fault) bytes read other same has = λ more. has more ∙ same more
+
+pub taken : {E : Type 0} (r : Result (Unit {0}) E) (stage : Stage) (at : ℕ) (old new bytes : List ℕ) (read : Reader)
+    → at ≡ 0 → new ≡ cond (is_ok r) (old ++ bytes) old → Leaves stage (drop at old) read
+    → OnOk r (Leaves stage (drop at new) (λ more. read (bytes ++ more)))
+taken (Err e) stage at old new bytes read none is has = tt
+taken (Ok u) stage at old new bytes read none is has =
+    subst (λ (l : List ℕ). Leaves stage l (λ more. read (bytes ++ more)))
+    (sym (ap (drop at) is ∙ ap (λ (n : ℕ). drop n (old ++ bytes)) none))
+    (leaves_longer stage old bytes read
+    (subst (λ (l : List ℕ). Leaves stage l read) (ap (λ (n : ℕ). drop n old) none) has))
 
 -- ---- the frame
 
@@ -116,20 +131,21 @@ both_bytes fed block a b i =
     ]
 
 pub fed_on : {E : Type 0} (r : Result (Unit {0}) E) (old new : CheckpointReader) (fed block piece : List ℕ)
-    (middle after : PartsReader) → HasRead old fed → frames.HasRead new.frame (fed ++ block)
+    (after : PartsReader) → HasRead old fed → frames.HasRead new.frame (fed ++ block)
     → body_so_far fed ++ piece ≡ body_so_far (fed ++ block) → IsBytes block → new.parts ≡ after
-    → ((more : List ℕ) → parts_left middle more ≡ parts_left old.parts more)
-    → ((more : List ℕ) → OnOk r (parts_left after more ≡ parts_left middle (piece ++ more)))
+    → ((read : Reader) → PartsLeave old.parts read → OnOk r (PartsLeave after (λ more. read (piece ++ more))))
     → OnOk r (HasRead new (fed ++ block))
-fed_on (Err e) old new fed block piece middle after has frame body bytes is same step = tt
-fed_on (Ok u) old new fed block piece middle after has frame body bytes is same step = record {
+fed_on (Err e) old new fed block piece after has frame body bytes is step = tt
+fed_on (Ok u) old new fed block piece after has frame body bytes is step = record {
   frame = frame;
   bytes = both_bytes fed block has.bytes bytes;
-  body = λ more.
-      ap (λ (l : List ℕ). checkpoint_at (l ++ more)) (sym body)
-      ∙ ap checkpoint_at (append_assoc (body_so_far fed) piece more)
-      ∙ has.body (piece ++ more) ∙ sym (same (piece ++ more)) ∙ sym (step more)
-      ∙ ap (λ (p : PartsReader). parts_left p more) (sym is);
+  body = leaves_alike new.parts.stage (drop new.parts.at new.parts.pending.items)
+      (λ more. checkpoint_at (body_so_far fed ++ (piece ++ more)))
+      (λ more. checkpoint_at (body_so_far (fed ++ block) ++ more))
+      (λ more. ap checkpoint_at (sym (append_assoc (body_so_far fed) piece more)
+      ∙ ap (λ (l : List ℕ). l ++ more) body))
+      (subst (λ (p : PartsReader). PartsLeave p (λ more. checkpoint_at (body_so_far fed ++ (piece ++ more)))) (sym is)
+      (step (λ more. checkpoint_at (body_so_far fed ++ more)) has.body));
 }
 
 -- there is room for a piece of a block
@@ -154,22 +170,9 @@ word_read fed word e =
     ∙ ap (λ (l : List ℕ). whole (checkpoint_at l) >>= λ kept. done (x.0.0, kept)) (sym body)
     ∙ ap (λ (n : ℕ). whole (checkpoint_at (body_so_far fed)) >>= λ kept. done (n, kept)) same
 
--- what was fed, from the word and what is left to read
-pub saved_fed : (reader : CheckpointReader) (fed : List ℕ) (word : ℕ) → HasRead reader fed → word_of fed ≡ Ok word
-    → saved fed ≡ (whole (parts_left reader.parts []) >>= λ kept. Ok (word, kept))
-saved_fed reader fed word has e =
+-- what was fed, from the word and the body
+pub saved_fed : (fed : List ℕ) (word : ℕ) → word_of fed ≡ Ok word
+    → saved fed ≡ (whole (checkpoint_at (body_so_far fed ++ [])) >>= λ kept. Ok (word, kept))
+saved_fed fed word e =
     word_read fed word e
     ∙ ap (λ (l : List ℕ). whole (checkpoint_at l) >>= λ kept. done (word, kept)) (sym (append-nil (body_so_far fed)))
-    ∙ ap (λ (r : Result (StoreView × List ℕ) WireFault). whole r >>= λ kept. done (word, kept)) (has.body [])
-
-pub saved_ok : (reader : CheckpointReader) (fed : List ℕ) (word : ℕ) (kept : StoreView) → HasRead reader fed
-    → word_of fed ≡ Ok word → whole (parts_left reader.parts []) ≡ Ok kept → saved fed ≡ Ok (word, kept)
-saved_ok reader fed word kept has e read =
-    saved_fed reader fed word has e
-    ∙ ap (λ (r : Result StoreView WireFault). r >>= λ k. done (word, k)) read
-
-pub saved_err : (reader : CheckpointReader) (fed : List ℕ) (word : ℕ) (fault : WireFault) → HasRead reader fed
-    → word_of fed ≡ Ok word → whole (parts_left reader.parts []) ≡ Err fault → saved fed ≡ Err fault
-saved_err reader fed word fault has e read =
-    saved_fed reader fed word has e
-    ∙ ap (λ (r : Result StoreView WireFault). r >>= λ k. done (word, k)) read

@@ -1,8 +1,7 @@
 -- The part before the rows, the rows and the digest are all of the bytes.
-use Rattle.std.proofs.Common.{◌≡◌, ℕ, List, [], ◌∷◌, ◌++◌, length, take, get_or, drop, sym, ap, subst, ◌∙◌}
+use Rattle.std.proofs.Common.{◌≡◌, ℕ, List, [], ◌∷◌, ◌++◌, length, take, get_or, drop, sym, ap, ap₂, subst, ◌∙◌}
 use Rattle.std.proofs.Common.{append_assoc, ◌<◌, ◌+◌}
 use Rattle.std.specs.List.{flat_map}
-use Rattle.std.specs.Int.{w16, w64, to_be_bytes}
 use Rattle.std.proofs.lemmas.List.{take_more, drop_at, append-nil}
 use Rattle.hlc_node.specs.declared.row.Row.{Row}
 use Rattle.hlc_core.specs.StoreView.{StoreView}
@@ -10,8 +9,7 @@ use Rattle.hlc_frame.specs.Frame.{front_bytes}
 use Rattle.hlc_frame.specs.Writing.{HasPut}
 use Rattle.hlc_frame.specs.declared.writer.FrameWriter.{FrameWriter}
 use Rattle.hlc_frame.proofs.FrontLemmas.{length-front}
-use Rattle.hlc_saved.specs.Spelling.{link_bytes, snapshot_bytes, row_bytes, list_bytes, preamble_bytes, preamble_of}
-use Rattle.hlc_saved.specs.Spelling.{checkpoint_bytes, saved_bytes}
+use Rattle.hlc_body.specs.Spelling.{row_bytes, Preamble, preamble_bytes, preamble_of, checkpoint_bytes, saved_bytes}
 use Rattle.hlc_saved.specs.Writing.{front_of, body_to, begin_bytes, end_bytes}
 
 pub pieces : (word : ℕ) (kept : StoreView)
@@ -19,24 +17,6 @@ pub pieces : (word : ℕ) (kept : StoreView)
 pieces word kept =
     ap (λ (l : List ℕ). l ++ end_bytes word kept kept.rows)
     (append_assoc (front_of word kept) (preamble_bytes (preamble_of kept)) (flat_map row_bytes kept.rows))
-
--- one part after the others
-after : (old now part more : List ℕ) → now ≡ old ++ part → now ++ more ≡ old ++ (part ++ more)
-after old now part more is = ap (λ (x : List ℕ). x ++ more) is ∙ append_assoc old part more
-
-pub preamble_spelled : (kept : StoreView) (o a b c d e f : List ℕ) → a ≡ o ++ to_be_bytes w16 kept.start
-    → b ≡ a ++ list_bytes w16 link_bytes kept.links → c ≡ b ++ list_bytes w16 snapshot_bytes kept.snapshots
-    → d ≡ c ++ to_be_bytes w64 kept.opened → e ≡ d ++ to_be_bytes w64 kept.horizon
-    → f ≡ e ++ to_be_bytes w64 (length kept.rows) → f ≡ o ++ preamble_bytes (preamble_of kept)
-preamble_spelled kept o a b c d e f is1 is2 is3 is4 is5 is6 =
-    let x6 : List ℕ = to_be_bytes w64 (length kept.rows) in
-    let x5 : List ℕ = to_be_bytes w64 kept.horizon ++ x6 in
-    let x4 : List ℕ = to_be_bytes w64 kept.opened ++ x5 in
-    let x3 : List ℕ = list_bytes w16 snapshot_bytes kept.snapshots ++ x4 in
-    let x2 : List ℕ = list_bytes w16 link_bytes kept.links ++ x3 in
-    is6 ∙ after d e (to_be_bytes w64 kept.horizon) x6 is5 ∙ after c d (to_be_bytes w64 kept.opened) x5 is4
-    ∙ after b c (list_bytes w16 snapshot_bytes kept.snapshots) x4 is3
-    ∙ after a b (list_bytes w16 link_bytes kept.links) x3 is2 ∙ after o a (to_be_bytes w16 kept.start) x2 is1
 
 -- the bytes after the front
 pub front_dropped : (len word : ℕ) (rest : List ℕ) → drop 20 (front_bytes len word ++ rest) ≡ rest
@@ -58,13 +38,20 @@ noted writer size word kept body sized is has =
     (subst (λ (n : ℕ). HasPut writer (front_bytes n word) body) sized has)
 
 -- a front, and the part before the rows after it
-pub after_front : (kept : StoreView) (size word : ℕ) (none front piece : List ℕ) → none ≡ []
+pub after_front : (p : Preamble) (size word : ℕ) (none front piece : List ℕ) → none ≡ []
     → front ≡ none ++ front_bytes size word
-    → piece ≡ front ++ preamble_bytes (preamble_of kept) → drop 20 piece ≡ preamble_bytes (preamble_of kept)
-after_front kept size word none front piece is1 is2 is3 =
-    ap (drop 20) (is3 ∙ ap (λ (l : List ℕ). l ++ preamble_bytes (preamble_of kept)) (is2
+    → piece ≡ front ++ preamble_bytes p → drop 20 piece ≡ preamble_bytes p
+after_front p size word none front piece is1 is2 is3 =
+    ap (drop 20) (is3 ∙ ap (λ (l : List ℕ). l ++ preamble_bytes p) (is2
     ∙ ap (λ (l : List ℕ). l ++ front_bytes size word) is1))
-    ∙ front_dropped size word (preamble_bytes (preamble_of kept))
+    ∙ front_dropped size word (preamble_bytes p)
+
+-- both are the first piece
+pub first_piece : (p : Preamble) (kept : StoreView) (size word : ℕ) (old new : List ℕ) → p ≡ preamble_of kept
+    → size ≡ length (checkpoint_bytes kept) → new ≡ old ++ (front_bytes size word ++ preamble_bytes p)
+    → new ≡ old ++ begin_bytes word kept
+first_piece p kept size word old new same sized is =
+    is ∙ ap₂ (λ (n : ℕ) (q : Preamble). old ++ (front_bytes n word ++ preamble_bytes q)) sized same
 
 -- the pieces, one after the other
 pub written : (word : ℕ) (kept : StoreView) (none first rows end : List ℕ) → none ≡ []

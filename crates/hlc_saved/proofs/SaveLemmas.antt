@@ -1,17 +1,15 @@
 -- The result of reading some bytes has that encoding, and an encoding is read back; some bytes are the encoding of only
 -- one word and one checkpoint.
-use Rattle.std.proofs.Common.{◌≡◌, ◌≢◌, ℕ, ◌+◌, ◌<◌, List, ◌++◌, length, take, get_or, Result, Ok, Err, refl, sym, ap}
+use Rattle.std.proofs.Common.{◌≡◌, ℕ, ◌+◌, ◌<◌, List, [], ◌++◌, length, take, get_or, Result, Ok, Err, refl, sym, ap}
 use Rattle.std.proofs.Common.{subst, ◌∙◌, arith, inl, inr}
 use Rattle.std.specs.Prelude.{IfOk, IfErr}
 use Rattle.std.proofs.lemmas.Bool.{cases_lt}
-use Rattle.std.proofs.lemmas.List.{take_at, drop_at, get_or-take, get_or-drop, get_or_past}
+use Rattle.std.proofs.lemmas.List.{append-nil, take_at, drop_at, get_or-take, get_or-drop, get_or_past}
 use Rattle.sha2.specs.Sha256.{sha256}
 use Rattle.hlc_core.specs.Past.{Step}
 use Rattle.hlc_core.specs.StoreView.{StoreView, Represents}
 use Rattle.hlc_checkpoint.specs.Checkpoint.{IsCheckpoint, IsCopyOf}
 use Rattle.hlc_checkpoint.proofs.CheckpointLemmas.{sound-has_no_reason}
-use Rattle.hlc_checkpoint.specs.declared.checkpoint.RestoreFault.{RestoreFault}
-use Rattle.hlc_checkpoint.specs.declared.checkpoint.RestoreFault.TheVariants as reasons
 use Rattle.hlc_core.proofs.CheckpointLemmas.{copy-represents}
 use Rattle.hlc_wire.specs.declared.fault.WireFault.{WireFault}
 use Rattle.hlc_wire.specs.declared.fault.DecodeError.{DecodeError}
@@ -25,10 +23,10 @@ use Rattle.hlc_saved.specs.declared.decode.Decoded.{Decoded}
 use Rattle.hlc_saved.specs.declared.saving.Resumed.{Resumed}
 use Rattle.hlc_saved.specs.declared.fault.ResumeError.{ResumeError}
 use Rattle.hlc_saved.specs.declared.fault.ResumeError.TheVariants.{NoMemory, Bytes, Parts}
-use Rattle.hlc_saved.specs.Spelling.{checkpoint_bytes, saved_bytes, CheckpointFits, SavedFits}
-use Rattle.hlc_saved.specs.Reading.{checkpoint_at, saved}
-use Rattle.hlc_saved.specs.Saved.{AreFrame, AreOf, BytesRepresent, Resumes, Restored}
-use Rattle.hlc_saved.proofs.PartLemmas.{checkpoint_reader}
+use Rattle.hlc_body.specs.Spelling.{checkpoint_bytes, saved_bytes, CheckpointFits, SavedFits}
+use Rattle.hlc_body.specs.Reading.{checkpoint_at, saved}
+use Rattle.hlc_saved.specs.Saved.{AreFrame, AreOf, BytesRepresent, EndsWith, Resumes}
+use Rattle.hlc_body.proofs.PartLemmas.{checkpoint_reader}
 
 first_bytes : (xs ys : List ℕ) → IsBytes (xs ++ ys) → IsBytes xs
 first_bytes xs ys h i =
@@ -93,18 +91,33 @@ is_frame bytes word kept e =
 pub framed : (bytes : List ℕ) (word : ℕ) → word_of bytes ≡ Ok word → AreFrame bytes
 framed bytes word e = (let a = bind_ok (opened bytes) (λ frame. Ok frame.0) word e in (a.0, a.1))
 
+-- what is in a frame, and that there is none
+pub saved_body : (bytes : List ℕ) (word : ℕ) (body : List ℕ) → opened bytes ≡ Ok (word, body)
+    → saved bytes ≡ (whole (checkpoint_at (body ++ [])) >>= λ kept. Ok (word, kept))
+saved_body bytes word body e =
+    ap (λ (r : Result (ℕ × List ℕ) WireFault). r >>= λ frame. with_word frame.0 (whole (checkpoint_at frame.1))) e
+    ∙ ap (λ (l : List ℕ). with_word word (whole (checkpoint_at l))) (sym (append-nil body))
+
+pub saved_fault : (bytes : List ℕ) (fault : WireFault) → opened bytes ≡ Err fault → saved bytes ≡ Err fault
+saved_fault bytes fault e =
+    ap (λ (r : Result (ℕ × List ℕ) WireFault). r >>= λ frame. with_word frame.0 (whole (checkpoint_at frame.1))) e
+
 -- ---- stores
 
--- a store was made from what was read
-pub resumes : (r : Result Resumed ResumeError) (kept : StoreView) (word : ℕ) (bytes : List ℕ) → IsBytes bytes
-    → saved bytes ≡ Ok (word, kept) → Restored kept word r → Resumes bytes r
-resumes (Ok made) kept word bytes fits e is =
-    let t = saved_takes bytes word kept fits e in
-    let of : AreOf bytes word kept = record { spelled = t.1; fits = t.0; sound = is.0 } in
-    (kept, subst (λ (n : ℕ). AreOf bytes n kept) (sym is.2) of, is.1)
-resumes (Err NoMemory) kept word bytes fits e is = is_frame bytes word kept e
-resumes (Err (Bytes fault)) kept word bytes fits e is = absurd is
-resumes (Err (Parts fault)) kept word bytes fits e is = (word, kept, e, is.0, is.1)
+-- a store was made from what was read, or not
+pub resumes : (r : Result Resumed ResumeError) (read : Result StoreView WireFault) (word : ℕ) (bytes : List ℕ)
+    → IsBytes bytes → saved bytes ≡ (read >>= λ kept. Ok (word, kept)) → AreFrame bytes → EndsWith read word r
+    → Resumes bytes r
+resumes (Ok made) read word bytes fits e frame is =
+    let kept : StoreView = is.0.0 in
+    let found : saved bytes ≡ Ok (word, kept) = e ∙ ap (with_word word) is.0.1 in
+    let t = saved_takes bytes word kept fits found in
+    let of : AreOf bytes word kept = record { spelled = t.1; fits = t.0; sound = is.0.2 } in
+    (kept, subst (λ (n : ℕ). AreOf bytes n kept) (sym is.1) of, is.0.3)
+resumes (Err NoMemory) read word bytes fits e frame is = frame
+resumes (Err (Bytes fault)) read word bytes fits e frame is = e ∙ ap (with_word word) is
+resumes (Err (Parts fault)) read word bytes fits e frame is =
+    (word, is.0, e ∙ ap (with_word word) is.1, is.2, is.3)
 
 -- there is one word and one checkpoint
 of_saved : (bytes : List ℕ) (word : ℕ) (kept : StoreView) → AreOf bytes word kept → saved bytes ≡ Ok (word, kept)

@@ -1,5 +1,3 @@
-pub mod Spelling
-pub mod Reading
 pub mod Saved
 pub mod Writing
 pub mod Blocks

@@ -4,12 +4,13 @@ use Rattle.hlc_core.specs.Past.{Step}
 use Rattle.hlc_core.specs.StoreView.{StoreView, Represents}
 use Rattle.hlc_checkpoint.specs.Checkpoint.{IsCheckpoint, IsCheckpointOf, IsCopyOf, IsFirstReason}
 use Rattle.hlc_checkpoint.specs.declared.checkpoint.RestoreFault.TheVariants as reasons
+use Rattle.hlc_wire.specs.declared.fault.WireFault.{WireFault}
 use Rattle.hlc_frame.specs.Opening.{opened}
 use Rattle.hlc_saved.specs.declared.fault.ResumeError.{ResumeError}
 use Rattle.hlc_saved.specs.declared.fault.ResumeError.TheVariants.{NoMemory, Bytes, Parts}
 use Rattle.hlc_saved.specs.declared.saving.Resumed.{Resumed}
-use Rattle.hlc_saved.specs.Spelling.{saved_bytes, SavedFits}
-use Rattle.hlc_saved.specs.Reading.{saved}
+use Rattle.hlc_body.specs.Spelling.{saved_bytes, SavedFits}
+use Rattle.hlc_body.specs.Reading.{saved}
 
 -- the bytes are the encoding of a word and a checkpoint
 pub record AreOf (bytes : List ℕ) (word : ℕ) (kept : StoreView) : Type 0 where
@@ -44,13 +45,16 @@ abbrev pub Resumes : List ℕ → Result Resumed ResumeError → Type 0
 Resumes bytes (Ok made) = (kept : StoreView) × AreOf bytes made.word kept × IsCopyOf kept made.core
 Resumes bytes (Err error) = SpellNone bytes error
 
--- the state is no checkpoint, first for this reason
-abbrev pub IsNone : StoreView → ResumeError → Type 0
-IsNone kept NoMemory = Unit {0}
-IsNone kept (Bytes fault) = ⊥
-IsNone kept (Parts fault) = IsFirstReason kept fault × (fault ≢ reasons.NoMemory)
+-- a store was made with exactly the state that was read; or why not: the fault of the reading, or else the first reason
+-- why that state is no checkpoint; or out of memory
+abbrev pub Ends : Result StoreView WireFault → Result StoreView ResumeError → Type 0
+Ends read (Ok core) = (kept : StoreView) × (read ≡ Ok kept) × IsCheckpoint kept × IsCopyOf kept core
+Ends read (Err NoMemory) = Unit {0}
+Ends read (Err (Bytes fault)) = read ≡ Err fault
+Ends read (Err (Parts fault)) =
+    (kept : StoreView) × (read ≡ Ok kept) × IsFirstReason kept fault × (fault ≢ reasons.NoMemory)
 
--- a store was made with exactly this state, and the word; or why not
-abbrev pub Restored : StoreView → ℕ → Result Resumed ResumeError → Type 0
-Restored kept word (Ok made) = IsCheckpoint kept × IsCopyOf kept made.core × (made.word ≡ word)
-Restored kept word (Err error) = IsNone kept error
+-- the same, with the word
+abbrev pub EndsWith : Result StoreView WireFault → ℕ → Result Resumed ResumeError → Type 0
+EndsWith read word (Ok made) = Ends read (Ok made.core) × (made.word ≡ word)
+EndsWith read word (Err error) = Ends read (Err error)

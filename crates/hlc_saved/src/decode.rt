@@ -1,15 +1,15 @@
 //! A checkpoint read from bytes.
 ghost use Rattle.std.specs.Prelude.{◌≡◌, ℕ, IfOk, IsErrOf, Ok};
 ghost use Rattle.hlc_core.specs.StoreView.{StoreView};
-ghost use Rattle.hlc_wire.specs.Reading.{Gives};
-ghost use Rattle.hlc_saved.specs.Spelling.{saved_bytes, SavedFits};
-ghost use Rattle.hlc_saved.specs.Reading.{saved};
+ghost use Rattle.hlc_wire.specs.Reading.{Gives, whole};
+ghost use Rattle.hlc_body.specs.Spelling.{saved_bytes, SavedFits};
+ghost use Rattle.hlc_body.specs.Reading.{checkpoint_at, saved};
 ghost use Rattle.hlc_saved.specs.Saved.{AreFrame};
 
-use crate::stage::{Stage, finish};
+use hlc_body::{preamble_at, rows_at};
 use hlc_core::Checkpoint;
 use hlc_frame::open_frame;
-use hlc_wire::DecodeError;
+use hlc_wire::{DecodeError, WireFault};
 use std::alloc::Global;
 
 /// The content of some bytes.
@@ -50,7 +50,28 @@ fn all(alloc: Global, bytes: &[u8]) -> Result<Decoded, DecodeError>
         Ok(frame) => frame,
         Err(fault) => return Err(DecodeError::Fault(fault)),
     };
-    let checkpoint = finish(alloc, Stage::Start, frame.body)?;
+    let checkpoint = body_of(alloc, frame.body)?;
     let word = frame.word;
     Ok(Decoded { checkpoint, word })
+}
+
+/// Reads a checkpoint from all of the body of a frame.
+fn body_of(alloc: Global, bytes: &[u8]) -> Result<Checkpoint, DecodeError>
+    ensures { Gives (λ made. made) result (whole (checkpoint_at bytes.now)) }
+{
+    let (checkpoint, rest) = checkpoint_at(alloc, bytes)?;
+    if !rest.is_empty() {
+        return Err(DecodeError::Fault(WireFault::Trailing));
+    }
+    Ok(checkpoint)
+}
+
+/// Reads a checkpoint, and returns the bytes after it.
+#[tactic(auto, unfolding(hlc_body::specs::Reading::checkpoint_at))]
+fn checkpoint_at(alloc: Global, bytes: &[u8]) -> Result<(Checkpoint, &[u8]), DecodeError>
+    ensures { Gives (λ x. (x.0, x.1.now)) result (checkpoint_at bytes.now) }
+{
+    let (preamble, rest) = preamble_at(alloc, bytes)?;
+    let (rows, rest) = rows_at(alloc, preamble.count(), rest)?;
+    Ok((preamble.with_rows(rows), rest))
 }

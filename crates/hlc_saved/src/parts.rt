@@ -1,15 +1,16 @@
 //! The body of a checkpoint, read in blocks.
-ghost use Rattle.std.specs.Prelude.{◌≡◌, ◌<◌, ◌≤◌, ◌+◌, ◌++◌, [], List, ℕ, OnOk, OnErr, length, drop};
+ghost use Rattle.std.specs.Prelude.{◌≡◌, ◌<◌, ◌≤◌, ◌+◌, ◌++◌, [], OnOk, OnErr, length, drop};
 ghost use Rattle.std.specs.Vec.{vec_len, vec_capacity};
-ghost use Rattle.hlc_wire.specs.Reading.{Gives, whole};
-ghost use Rattle.hlc_saved.specs.Reading.{checkpoint_at};
-ghost use Rattle.hlc_saved.specs.Blocks.{parts_left, IsStuck};
+ghost use Rattle.hlc_wire.specs.Reading.{whole};
+ghost use Rattle.hlc_body.specs.Reading.{checkpoint_at};
+ghost use Rattle.hlc_saved.specs.Saved.{Ends};
+ghost use Rattle.hlc_saved.specs.Blocks.{Reader, PartsLeave, IsStuck};
 
 use crate::bytes::bytes_from;
+use crate::fault::ResumeError;
 use crate::stage::{Advanced, Stage, advance, finish};
-use hlc_core::Checkpoint;
+use hlc_core::Core;
 use hlc_values::NoMemory;
-use hlc_wire::DecodeError;
 use std::alloc::Global;
 use std::mem;
 
@@ -25,7 +26,7 @@ pub struct PartsReader {
 impl PartsReader {
     /// Makes a reader that has read nothing.
     pub fn new(alloc: Global) -> PartsReader
-        ensures { (more : List ℕ) → parts_left result more ≡ checkpoint_at more }
+        ensures { PartsLeave result checkpoint_at }
     {
         PartsReader {
             alloc,
@@ -37,7 +38,7 @@ impl PartsReader {
 
     /// Reads as far as the pending bytes go. If memory runs out, it has read less far.
     pub fn advance(&mut self) -> Result<(), NoMemory>
-        ensures same { (more : List ℕ) → parts_left self.new more ≡ parts_left self.old more }
+        ensures same { (read : Reader) → PartsLeave self.old read → PartsLeave self.new read }
         ensures stuck { OnOk result
             (IsStuck self.new.stage (drop self.new.at self.new.pending.items)) }
     {
@@ -56,7 +57,7 @@ impl PartsReader {
     /// more than the incomplete part of a row is kept.
     pub fn make_room(&mut self, count: usize) -> Result<(), NoMemory>
         requires { IsStuck self.old.stage (drop self.old.at self.old.pending.items) }
-        ensures same { (more : List ℕ) → parts_left self.new more ≡ parts_left self.old more }
+        ensures same { (read : Reader) → PartsLeave self.old read → PartsLeave self.new read }
         ensures room { OnOk result
             (vec_len self.new.pending + count ≤ vec_capacity self.new.pending) }
         ensures start { OnOk result (self.new.at ≡ 0) }
@@ -73,17 +74,17 @@ impl PartsReader {
     /// Adds the next bytes, after room was made.
     pub fn take(&mut self, bytes: &[u8]) -> Result<(), NoMemory>
         requires { self.old.at ≡ 0 }
-        ensures ok { (more : List ℕ)
-            → OnOk result (parts_left self.new more ≡ parts_left self.old (bytes.now ++ more)) }
+        ensures ok { (read : Reader) → PartsLeave self.old read
+            → OnOk result (PartsLeave self.new (λ more. read (bytes.now ++ more))) }
         ensures full { OnErr result
             (vec_capacity self.old.pending < vec_len self.old.pending + length bytes.now) }
     {
         self.pending.extend_from_slice(bytes)
     }
 
-    /// Returns the checkpoint, after all bytes were added.
-    pub fn finish(self) -> Result<Checkpoint, DecodeError>
-        ensures { Gives (λ made. made) result (whole (parts_left self [])) }
+    /// Returns the store, after all bytes were added.
+    pub fn finish(self) -> Result<Core, ResumeError>
+        ensures { (read : Reader) → PartsLeave self read → Ends (whole (read [])) result }
     {
         let PartsReader {
             alloc,

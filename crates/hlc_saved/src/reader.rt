@@ -5,19 +5,18 @@ ghost use Rattle.hlc_saved.specs.Blocks.{HasRead};
 
 use crate::fault::ResumeError;
 use crate::parts::PartsReader;
-use crate::saving::{Resumed, restored};
+use crate::saving::{Resumed, with_word};
 use hlc_frame::FrameReader;
 use hlc_values::NoMemory;
-use hlc_wire::DecodeError;
 use std::alloc::Global;
 
 /// A checkpoint that is being read.
 ///
-/// It keeps the rows that were read, and of the bytes at most a block and the incomplete part of a row; while it adds a
-/// block, for a moment twice that. Until everything before the rows has come, each block reads that part again.
+/// It keeps the table of the rows that were read, which becomes the store's; and of the bytes at most a block and the
+/// incomplete part of a row, while it adds a block for a moment twice that. After a row that no checkpoint has it keeps
+/// no rows. Until everything before the rows has come, each block reads that part again.
 #[derive(Drop)]
 pub struct CheckpointReader {
-    alloc: Global,
     frame: FrameReader,
     parts: PartsReader,
 }
@@ -28,7 +27,6 @@ impl CheckpointReader {
         ensures { HasRead result [] }
     {
         CheckpointReader {
-            alloc,
             frame: FrameReader::new(),
             parts: PartsReader::new(alloc),
         }
@@ -55,20 +53,11 @@ impl CheckpointReader {
     pub fn finish(self) -> Result<Resumed, ResumeError>
         ensures { (fed : List ℕ) → HasRead self fed → Resumes fed result }
     {
-        let CheckpointReader {
-            alloc,
-            frame,
-            parts,
-        } = self;
+        let CheckpointReader { frame, parts } = self;
         let word = match frame.finish() {
             Ok(word) => word,
             Err(fault) => return Err(ResumeError::Bytes(fault)),
         };
-        let checkpoint = match parts.finish() {
-            Ok(checkpoint) => checkpoint,
-            Err(DecodeError::NoMemory) => return Err(ResumeError::NoMemory),
-            Err(DecodeError::Fault(fault)) => return Err(ResumeError::Bytes(fault)),
-        };
-        restored(alloc, checkpoint, word)
+        with_word(parts.finish(), word)
     }
 }

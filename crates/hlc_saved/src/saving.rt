@@ -1,16 +1,18 @@
 //! A store to bytes and back.
-ghost use Rattle.std.specs.Prelude.{◌≡◌, List, ℕ, IfOk, IfErr};
+ghost use Rattle.std.specs.Prelude.{◌≡◌, List, ℕ, IfOk, IfErr, Result};
 ghost use Rattle.hlc_core.specs.Past.{Step};
 ghost use Rattle.hlc_core.specs.StoreView.{StoreView, Represents};
 ghost use Rattle.hlc_saved.specs.declared.fault.ResumeError.TheVariants.{NoMemory as no_memory};
-ghost use Rattle.hlc_saved.specs.Saved.{AreOf, AreOfStore, BytesRepresent, Restored, Resumes};
+ghost use Rattle.hlc_wire.specs.declared.fault.WireFault.{WireFault as AFault};
+ghost use Rattle.hlc_saved.specs.Saved.{AreOf, AreOfStore, BytesRepresent, Ends, EndsWith, Resumes};
 
-use crate::decode::{Decoded, decode_checkpoint};
 use crate::fault::ResumeError;
-use crate::writer::encoded;
-use hlc_core::{Checkpoint, Core, RestoreFault};
+use crate::stage::{Stage, finish};
+use crate::store_writer::StoreWriter;
+use crate::writer::whole_size;
+use hlc_core::Core;
+use hlc_frame::open_frame;
 use hlc_values::NoMemory;
-use hlc_wire::DecodeError;
 use std::alloc::Global;
 
 /// A store that was made from some bytes.
@@ -23,21 +25,29 @@ pub struct Resumed {
 
 /// Returns the bytes of a store and of a word: they represent every past that the store represents.
 ///
-/// Refused only if memory runs out.
+/// Refused only if memory runs out. It needs memory for the bytes, once, and little more: the rows are not copied.
 pub fn save(alloc: Global, core: &Core, word: u64) -> Result<Vec<u8>, NoMemory>
     ensures kept { IfOk result (λ bytes. AreOfStore bytes.items word core.now) }
     ensures represents { (past : List Step) → Represents core.now past
         → IfOk result (λ bytes. BytesRepresent bytes.items word past) }
 {
-    let checkpoint = core.checkpoint()?;
-    encoded(alloc, &checkpoint, word)
+    let mut out = Vec::new(alloc);
+    let mut writer = StoreWriter::begin(&mut out, core, word)?;
+    out.reserve(whole_size(writer.size)?.saturating_sub(out.len()))?;
+    let left = writer.left();
+    for _ in 0..left {
+        writer.more(&mut out)?;
+    }
+    writer.end(&mut out)?;
+    Ok(out)
 }
 
-/// Makes a store from bytes, whoever wrote them: it represents every past that they represent.
+/// Makes a store from bytes, whoever wrote them: it represents every past that they represent. Beside the bytes, it
+/// needs little more memory than the store: each row is put into the store's table as it is read.
 ///
 /// The bytes are checked first, as by `decode_checkpoint`; then their content, as by `Core::restore`. Memory runs out
-/// only where all of the bytes are a frame, so a damaged file is always reported as one. Bytes that `save` returned are
-/// refused only if memory runs out.
+/// only where all of the bytes are a frame, so a damaged file is always reported as one; it may run out before another
+/// fault is found. Bytes that `save` returned are refused only if memory runs out.
 pub fn resume(alloc: Global, bytes: &[u8]) -> Result<Resumed, ResumeError>
     ensures exact { Resumes bytes.now result }
     ensures word { (word : ℕ) (kept : StoreView) → AreOf bytes.now word kept
@@ -54,26 +64,21 @@ pub fn resume(alloc: Global, bytes: &[u8]) -> Result<Resumed, ResumeError>
 fn resume_exactly(alloc: Global, bytes: &[u8]) -> Result<Resumed, ResumeError>
     ensures { Resumes bytes.now result }
 {
-    let Decoded { checkpoint, word } = match decode_checkpoint(alloc, bytes) {
-        Ok(made) => made,
-        Err(DecodeError::NoMemory) => return Err(ResumeError::NoMemory),
-        Err(DecodeError::Fault(fault)) => return Err(ResumeError::Bytes(fault)),
+    let frame = match open_frame(bytes) {
+        Ok(frame) => frame,
+        Err(fault) => return Err(ResumeError::Bytes(fault)),
     };
-    restored(alloc, checkpoint, word)
+    let word = frame.word;
+    with_word(finish(alloc, Stage::Start, frame.body), word)
 }
 
-/// Makes a store from a checkpoint that was read.
-pub(crate) fn restored(
-    alloc: Global,
-    checkpoint: Checkpoint,
-    word: u64,
-) -> Result<Resumed, ResumeError>
-    ensures { Restored checkpoint word result }
+/// Returns a store with the word that its bytes were saved with, or why there is none.
+pub(crate) fn with_word(made: Result<Core, ResumeError>, word: u64) -> Result<Resumed, ResumeError>
+    ensures { (read : Result StoreView AFault) → Ends read made → EndsWith read word result }
 {
-    match Core::from_checkpoint(alloc, checkpoint) {
+    match made {
         Ok(core) => Ok(Resumed { core, word }),
-        Err(RestoreFault::NoMemory) => Err(ResumeError::NoMemory),
-        Err(fault) => Err(ResumeError::Parts(fault)),
+        Err(error) => Err(error),
     }
 }
 

@@ -1,20 +1,20 @@
 //! The number of bytes of a checkpoint.
-ghost use Rattle.std.specs.Prelude.{◌≡◌, ◌<◌, ◌+◌, ◌*◌, All, OnSome, SomeIff, length};
+ghost use Rattle.std.specs.Prelude.{◌≡◌, ◌<◌, ◌+◌, ◌*◌, All, IfSome, OnSome, SomeIff, length, option_copied};
 ghost use Rattle.std.specs.List.{flat_map};
+ghost use Rattle.hlc_column.specs.Rows.{rows_in, rows_in_one};
+ghost use Rattle.hlc_columns.specs.Table.{columns_in};
 ghost use Rattle.hlc_witness.specs.Cost.{IsInLimits, AreInLimits};
-ghost use Rattle.hlc_checkpoint.specs.Checkpoint.{IsCheckpoint};
-ghost use Rattle.hlc_saved.specs.Spelling.{
-  row_bytes,
-  checkpoint_bytes,
-  LinkFits,
-  SnapshotFits,
-  RowFits,
-  CheckpointFits,
-};
+ghost use Rattle.hlc_checkpoint.specs.Checkpoint.{IsCheckpoint, IsStore};
+ghost use Rattle.hlc_checkpoint.specs.Lent.{IsWritable};
+ghost use Rattle.hlc_body.specs.Seen.{seen};
+ghost use Rattle.hlc_body.specs.Spelling.{row_bytes, preamble_bytes, preamble_of, checkpoint_bytes, LinkFits};
+ghost use Rattle.hlc_body.specs.Spelling.{SnapshotFits, RowFits, PreambleFits, CheckpointFits, AreOfSize};
 ghost use Rattle.hlc_wire.specs.Spelling.{value_bytes, ValueFits};
 
+use hlc_body::PreambleRef;
+use hlc_checkpoint::{Leaves, RowRef, StoreRef};
+use hlc_columns::{Columns, Keyed};
 use hlc_core::{Checkpoint, Intake, Row, Snapshot};
-use hlc_node::Bytes;
 
 /// Returns the number of bytes of a checkpoint, if it fits in eight bytes.
 pub fn checkpoint_size(checkpoint: &Checkpoint) -> Option<u64>
@@ -23,13 +23,34 @@ pub fn checkpoint_size(checkpoint: &Checkpoint) -> Option<u64>
         (length (checkpoint_bytes checkpoint.now)) }
     ensures fits { OnSome result (CheckpointFits checkpoint.now) }
 {
-    let start = checkpoint.start();
-    let opened = checkpoint.opened();
-    let horizon = checkpoint.horizon().bits();
+    let preamble = PreambleRef::of(checkpoint);
     let rows = rows_size(checkpoint.rows())?;
-    let links = links_size(checkpoint.links());
-    let snapshots = snapshots_size(checkpoint.snapshots());
-    rows.checked_add(26 + links + snapshots)
+    rows.checked_add(preamble_size(&preamble))
+}
+
+/// Returns the number of bytes of a store's checkpoint, if it fits in eight bytes. It looks at each row.
+pub fn store_size(store: &StoreRef<'_>, head: &PreambleRef<'_>, leaves: &Leaves<'_>) -> Option<u64>
+    requires store { IsStore store.now }
+    requires head { seen head.now ≡ preamble_of store.now }
+    requires rows { rows_in (columns_in leaves.now) ≡ store.now.rows }
+    ensures size { IfSome result (λ size. size ≡ length (checkpoint_bytes store.now)) }
+    ensures fits { OnSome result (CheckpointFits store.now) }
+{
+    leaves_size(leaves)?.checked_add(preamble_size(head))
+}
+
+/// Returns the number of bytes of the part before the rows.
+fn preamble_size(preamble: &PreambleRef<'_>) -> u64
+    requires links { length preamble.now.links.now < 65536 }
+    requires snapshots { length preamble.now.snapshots.now < 65536 }
+    ensures size { result ≡ length (preamble_bytes (seen preamble.now)) }
+    ensures fits { PreambleFits (seen preamble.now) }
+{
+    let _start = preamble.start;
+    let _opened = preamble.opened;
+    let _count = preamble.count;
+    let _horizon = preamble.horizon.bits();
+    26 + links_size(preamble.links) + snapshots_size(preamble.snapshots)
 }
 
 /// Returns the number of bytes of some links and of their count.
@@ -87,7 +108,7 @@ fn rows_size(rows: &[Row]) -> Option<u64>
 {
     let mut size: u64 = 0;
     for row in rows {
-        match size.checked_add(row_size(row)) {
+        match size.checked_add(row_size(&RowRef::of(row))) {
             None => return None,
             Some(sum) => size = sum,
         }
@@ -95,21 +116,58 @@ fn rows_size(rows: &[Row]) -> Option<u64>
     Some(size)
 }
 
+/// Returns the number of bytes of the rows of some leaves, if it fits in eight bytes.
+fn leaves_size(leaves: &Leaves<'_>) -> Option<u64>
+    ensures { IfSome result (AreOfSize (rows_in (columns_in leaves.now))) }
+{
+    let mut size: u64 = 0;
+    for place in 0..leaves.len() {
+        size = size.checked_add(leaf_size(leaves.at(place))?)?;
+    }
+    Some(size)
+}
+
+/// Returns the number of bytes of the rows of a leaf, if it fits in eight bytes.
+fn leaf_size(leaf: &Columns<'_>) -> Option<u64>
+    requires { All IsWritable leaf.now }
+    ensures { IfSome result (AreOfSize (rows_in leaf.now)) }
+{
+    let mut size: u64 = 0;
+    for place in 0..leaf.len() {
+        size = size.checked_add(column_size(&leaf.at(place))?)?;
+    }
+    Some(size)
+}
+
+/// Returns the number of bytes of the rows of a column, if it fits in eight bytes.
+fn column_size(one: &Keyed<'_>) -> Option<u64>
+    requires { AreInLimits (rows_in_one one.now) }
+    ensures { IfSome result (AreOfSize (rows_in_one one.now)) }
+{
+    let key = one.key();
+    let column = one.column();
+    let mut size: u64 = 0;
+    for place in 0..column.len() {
+        size = size.checked_add(row_size(&RowRef::at(key, &column, place)))?;
+    }
+    Some(size)
+}
+
 /// Returns the number of bytes of a row.
-fn row_size(row: &Row) -> u64
+fn row_size(row: &RowRef<'_>) -> u64
     requires { IsInLimits row.now }
     ensures size { result ≡ length (row_bytes row.now) }
     ensures fits { RowFits row.now }
 {
-    let _stamp = row.stamp.bits();
-    let _node = row.node;
-    11 + row.key.len() as u64 + value_size(&row.value)
+    let _stamp = row.stamp().bits();
+    let _node = row.node();
+    11 + row.key().len() as u64 + value_size(row.value())
 }
 
 /// Returns the number of bytes of a value.
-fn value_size(value: &Option<Bytes>) -> u64
-    requires { ValueFits value.now }
-    ensures { result ≡ length (value_bytes value.now) }
+fn value_size(value: Option<&[u8]>) -> u64
+    requires { ValueFits (option_copied value) }
+    ensures { result ≡ length (value_bytes (option_copied value.entry)) }
 {
     match value {
         None => 1,

@@ -1,18 +1,21 @@
 //! A checkpoint that is written whole, or in pieces.
-ghost use Rattle.std.specs.Prelude.{◌≡◌, ◌≤◌, ◌+◌, ◌^◌, ◌++◌, ◌∷◌, [], ℕ, List};
+ghost use Rattle.std.specs.Prelude.{◌≡◌, ◌<◌, ◌≤◌, ◌+◌, ◌^◌, ◌++◌, ◌∷◌, [], ℕ, List};
 ghost use Rattle.std.specs.Prelude.{IfOk, IfErr, OnOk, OnErr, MatchResult, length};
 ghost use Rattle.std.specs.List.{flat_map};
 ghost use Rattle.hlc_node.specs.declared.row.Row.{Row as ARow};
 ghost use Rattle.hlc_witness.specs.Cost.{IsInLimits, AreInLimits};
 ghost use Rattle.hlc_core.specs.StoreView.{StoreView};
 ghost use Rattle.hlc_checkpoint.specs.Checkpoint.{IsCheckpoint, IsFirstReason};
-ghost use Rattle.hlc_saved.specs.Spelling.{row_bytes, checkpoint_bytes, saved_bytes, CheckpointFits, SavedFits};
+ghost use Rattle.hlc_frame.specs.Frame.{front_bytes};
+ghost use Rattle.hlc_frame.specs.Writing.{HasPut};
+ghost use Rattle.hlc_body.specs.Spelling.{row_bytes, preamble_bytes, checkpoint_bytes, saved_bytes, SavedFits};
+ghost use Rattle.hlc_body.specs.Seen.{seen};
 ghost use Rattle.hlc_saved.specs.Writing.{HasWritten, begin_bytes, end_bytes};
 
 use crate::bytes::bytes_from;
-use crate::preamble::put_preamble;
 use crate::size::checkpoint_size;
-use crate::writing::put_row;
+use hlc_body::{PreambleRef, append_row, put_preamble};
+use hlc_checkpoint::RowRef;
 use hlc_core::{Checkpoint, RestoreFault, Row};
 use hlc_frame::{DIGEST_BYTES, FRONT_BYTES, FrameWriter};
 use hlc_values::NoMemory;
@@ -35,29 +38,42 @@ pub fn encode_checkpoint(
     if let Some(fault) = checkpoint.fault() {
         return Err(fault);
     }
-    Ok(encoded(alloc, checkpoint, word)?)
-}
-
-/// Returns the bytes of a checkpoint, which is one.
-pub(crate) fn encoded(
-    alloc: Global,
-    checkpoint: &Checkpoint,
-    word: u64,
-) -> Result<Vec<u8>, NoMemory>
-    requires { IsCheckpoint checkpoint.now }
-    ensures fits { IfOk result (λ _. SavedFits word checkpoint.now) }
-    ensures spelled { IfOk result (λ bytes. bytes.items ≡ saved_bytes word checkpoint.now) }
-{
-    let size = checkpoint_size(checkpoint).ok_or(NoMemory)?;
+    let size = checkpoint_size(checkpoint).ok_or(RestoreFault::NoMemory)?;
     let mut out = Vec::with_capacity(alloc, whole_size(size)?)?;
-    let mut writer = CheckpointWriter::begin_sized(&mut out, checkpoint, size, word)?;
+    let frame = begin_frame(&mut out, &PreambleRef::of(checkpoint), size, word)?;
+    let piece = Vec::new(alloc);
+    let mut writer = CheckpointWriter { frame, piece };
     writer.rows(&mut out, checkpoint.rows())?;
     writer.end(&mut out)?;
     Ok(out)
 }
 
+/// Appends the front of a frame, and the part before the rows. `out` is unchanged if memory runs out.
+pub(crate) fn begin_frame(
+    out: &mut Vec<u8>,
+    preamble: &PreambleRef<'_>,
+    size: u64,
+    word: u64,
+) -> Result<FrameWriter, NoMemory>
+    requires links { length preamble.now.links.now < 65536 }
+    requires snapshots { length preamble.now.snapshots.now < 65536 }
+    ensures put { IfOk result
+        (λ frame. HasPut frame (front_bytes size word) (preamble_bytes (seen preamble.now))) }
+    ensures ok { OnOk result (out.new.items
+        ≡ out.old.items ++ (front_bytes size word ++ preamble_bytes (seen preamble.now))) }
+    ensures small { size < 18446744073709551616 }
+    ensures unchanged { OnErr result (out.new.items ≡ out.old.items) }
+{
+    let mut piece = Vec::new(*out.allocator());
+    let mut frame = FrameWriter::begin(&mut piece, size, word)?;
+    put_preamble(&mut piece, preamble)?;
+    frame.put(bytes_from(piece.as_slice(), FRONT_BYTES));
+    out.extend_from_slice(piece.as_slice())?;
+    Ok(frame)
+}
+
 /// Returns the number of bytes of a frame with this many bytes in its body. Refused only where that is 2^64 or more.
-fn whole_size(size: u64) -> Result<usize, NoMemory>
+pub(crate) fn whole_size(size: u64) -> Result<usize, NoMemory>
     ensures { MatchResult result (λ whole. whole ≡ size + 52) (λ _. 2 ^ 64 ≤ size + 52) }
 {
     let framed = size
@@ -98,33 +114,9 @@ impl CheckpointWriter {
         if let Some(fault) = checkpoint.fault() {
             return Err(fault);
         }
-        let size = match checkpoint_size(checkpoint) {
-            None => return Err(RestoreFault::NoMemory),
-            Some(size) => size,
-        };
-        Ok(CheckpointWriter::begin_sized(out, checkpoint, size, word)?)
-    }
-
-    /// Appends everything before the rows of a checkpoint, which is one.
-    fn begin_sized(
-        out: &mut Vec<u8>,
-        checkpoint: &Checkpoint,
-        size: u64,
-        word: u64,
-    ) -> Result<CheckpointWriter, NoMemory>
-        requires sound { IsCheckpoint checkpoint.now }
-        requires size { size ≡ length (checkpoint_bytes checkpoint.now) }
-        ensures written { IfOk result (λ writer. HasWritten writer word checkpoint.now []) }
-        ensures ok { OnOk result
-            (out.new.items ≡ out.old.items ++ begin_bytes word checkpoint.now) }
-        ensures unchanged { OnErr result (out.new.items ≡ out.old.items) }
-    {
-        let alloc = *out.allocator();
-        let mut piece = Vec::new(alloc);
-        let mut frame = FrameWriter::begin(&mut piece, size, word)?;
-        put_preamble(&mut piece, checkpoint)?;
-        frame.put(bytes_from(piece.as_slice(), FRONT_BYTES));
-        out.extend_from_slice(piece.as_slice())?;
+        let size = checkpoint_size(checkpoint).ok_or(RestoreFault::NoMemory)?;
+        let frame = begin_frame(out, &PreambleRef::of(checkpoint), size, word)?;
+        let piece = Vec::new(*out.allocator());
         Ok(CheckpointWriter { frame, piece })
     }
 
@@ -141,9 +133,7 @@ impl CheckpointWriter {
             → OnErr result (HasWritten self.new word kept rows) }
         ensures unchanged { OnErr result (out.new.items ≡ out.old.items) }
     {
-        self.piece.clear();
-        put_row(&mut self.piece, row)?;
-        out.extend_from_slice(self.piece.as_slice())?;
+        append_row(out, &mut self.piece, &RowRef::of(row))?;
         self.frame.put(self.piece.as_slice());
         Ok(())
     }

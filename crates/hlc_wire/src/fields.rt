@@ -189,16 +189,17 @@ pub fn put_key(out: &mut Vec<u8>, key: &[u8]) -> Result<(), AllocError>
 }
 
 /// Writes a value of at most 65,535 bytes, or a deletion mark, as `value_at` reads it.
-pub fn put_value(out: &mut Vec<u8>, value: &Option<Bytes>) -> Result<(), AllocError>
-    requires { ValueFits value.now }
-    ensures { OnOk result (out.new.items ≡ out.old.items ++ value_bytes value.now) }
+pub fn put_value(out: &mut Vec<u8>, value: Option<&[u8]>) -> Result<(), AllocError>
+    requires { ValueFits (option_copied value) }
+    ensures { OnOk result
+        (out.new.items ≡ out.old.items ++ value_bytes (option_copied value.entry)) }
 {
     match value {
         None => out.push(0)?,
         Some(bytes) => {
             out.push(1)?;
             out.extend_from_slice(&(bytes.len() as u16).to_be_bytes())?;
-            out.extend_from_slice(bytes.as_slice())?;
+            out.extend_from_slice(bytes)?;
         }
     }
     Ok(())

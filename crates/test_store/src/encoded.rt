@@ -1,14 +1,17 @@
-//! The small callers in the READMEs of `hlc_wire`, `hlc_frame`, `hlc_saved` and `hlc_log`, and a message compared with
-//! bytes that were written by hand.
-ghost use Rattle.std.specs.Prelude.{◌≡◌, ◌⊎◌, ◌++◌, ◌<◌, List, ℕ, IfSome, OnOk, IsErrOf, length};
+//! The small callers in the READMEs of `hlc_wire`, `hlc_frame`, `hlc_body`, `hlc_saved` and `hlc_log`, and a message
+//! compared with bytes that were written by hand.
+ghost use Rattle.std.specs.Prelude.{◌≡◌, ◌⊎◌, ◌++◌, ◌<◌, List, ℕ, IfOk, IfSome, OnOk, IsErrOf, length};
 ghost use Rattle.hlc_frame.specs.Frame.{frame_bytes};
 ghost use Rattle.hlc_frame.specs.Reading.{word_of};
 ghost use Rattle.hlc_core.specs.Past.{Step};
 ghost use Rattle.hlc_core.specs.StoreView.{nodes, Represents};
+ghost use Rattle.hlc_witness.specs.Cost.{IsInLimits};
+ghost use Rattle.hlc_body.specs.Spelling.{row_bytes};
 ghost use Rattle.hlc_saved.specs.Saved.{BytesRepresent, Resumes};
 ghost use Rattle.hlc_log.specs.declared.record.Record.{Record as ARecord};
 ghost use Rattle.hlc_log.specs.Log.{log_bytes, with_records};
 
+use hlc_body::{Row, RowRef, append_row};
 use hlc_clock::Stamp;
 use hlc_core::Core;
 use hlc_frame::{FrameReader, FrameWriter, WireFault};
@@ -45,6 +48,16 @@ pub(crate) fn word_of_two(first: &[u8], second: &[u8]) -> Result<u64, WireFault>
     let _ = reader.feed(first);
     let _ = reader.feed(second);
     reader.finish()
+}
+
+/// Returns the bytes of a row.
+pub(crate) fn row_bytes_of(alloc: Global, row: &Row) -> Result<Vec<u8>, AllocError>
+    requires { IsInLimits row.now }
+    ensures { IfOk result (λ bytes. bytes.items ≡ row_bytes row.now) }
+{
+    let mut out = Vec::new(alloc);
+    append_row(&mut out, &mut Vec::new(alloc), &RowRef::of(row))?;
+    Ok(out)
 }
 
 /// Returns a store made of bytes that come in two blocks.

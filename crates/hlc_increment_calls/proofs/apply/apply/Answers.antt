@@ -3,7 +3,7 @@ use Rattle.std.proofs.Common.{◌≡◌, ℕ, ap, sym, ◌∙◌, subst, refl, i
 use Rattle.std.proofs.lemmas.Grind.{common_steps}
 use Rattle.hlc_wire.proofs.FieldLemmas.{ok_is}
 use Rattle.hlc_core.specs.StoreView.{StoreView, Represents, nodes}
-use Rattle.hlc_saved.specs.Reading.{saved}
+use Rattle.hlc_body.specs.Reading.{saved}
 use Rattle.hlc_saved.specs.Saved.{AreOf}
 use Rattle.hlc_saved.proofs.SaveLemmas.{saved_again}
 use Rattle.hlc_increment.specs.Increment.{IncrementView, IsIncrementOf}

@@ -1,7 +1,7 @@
 -- The size of those so far, which fit.
 use Rattle.std.proofs.Common.{◌≡◌, ℕ, ◌+◌, ◌*◌, ◌<◌, get_or}
 use Rattle.hlc_intake.specs.IntakeView.{IntakeView}
-use Rattle.hlc_saved.specs.Spelling.{LinkFits}
+use Rattle.hlc_body.specs.Spelling.{LinkFits}
 use Rattle.hlc_saved.proofs.size.links_size.Given as goal
 
 abbrev pub invariant-loop-link : goal.invariant-loop-link

@@ -2,7 +2,8 @@
 use Rattle.std.proofs.Common.{◌≡◌, length, arith, ap, ◌∙◌}
 use Rattle.std.specs.List.{flat_map}
 use Rattle.std.proofs.lemmas.List.{take_all}
-use Rattle.hlc_saved.specs.Spelling.{row_bytes}
+use Rattle.hlc_node.specs.declared.row.Row.{Row}
+use Rattle.hlc_body.specs.Spelling.{row_bytes}
 use Rattle.hlc_saved.proofs.Sizes.{size_within}
 use Rattle.hlc_saved.proofs.size.rows_size.Goals as goal
 
@@ -11,7 +12,7 @@ returns-in-None-clause-size c = λ small.
     let within = size_within row_bytes c.args.rows.now c.loop-row.row-index c.row-item.result c.loop-row-test.true
     c.row-item.is in
     let so_far = c.loop-row.invariant.size in
-    let one = c.row_size.ensures.size in
+    let one = c.row_size.ensures.size ∙ ap (λ (row : Row). length (row_bytes row)) c.of.ensures in
     c.in-None.ensures (omega (arith, within, so_far, one, small))
 
 pub returns-clause-size : goal.returns-clause-size

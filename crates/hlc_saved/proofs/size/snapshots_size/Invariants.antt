@@ -1,7 +1,7 @@
 -- The size of those so far, which fit.
 use Rattle.std.proofs.Common.{◌≡◌, ℕ, ◌+◌, ◌*◌, ◌<◌, get_or}
 use Rattle.hlc_snapshot.specs.declared.snapshot.Snapshot.{Snapshot}
-use Rattle.hlc_saved.specs.Spelling.{SnapshotFits}
+use Rattle.hlc_body.specs.Spelling.{SnapshotFits}
 use Rattle.hlc_saved.proofs.size.snapshots_size.Given as goal
 
 abbrev pub invariant-loop-snapshot : goal.invariant-loop-snapshot

@@ -1,36 +1,33 @@
--- A row is read, or none is.
-use Rattle.std.proofs.Common.{◌<◌, ◌∷◌, [], ◌++◌, length, arith, ap, sym, ◌∙◌, length-append}
-use Rattle.hlc_saved.specs.Blocks.{rows_after}
-use Rattle.hlc_saved.proofs.Steady.{rows_steady}
-use Rattle.hlc_saved.proofs.Stages.{rows_on, rows_fail, row_back, back_again, back_fits}
+-- A row is read and added, or none is.
+use Rattle.std.proofs.Common.{◌≡◌, ◌-◌, sym, subst, arith, ℕ}
+use Rattle.hlc_saved.specs.Blocks.{RowsLeave}
+use Rattle.hlc_saved.proofs.Stages.{one_row, row_back, back_again, back_fits, less_again}
 use Rattle.hlc_saved.proofs.stage.advance_rows.Goals as goal
 
-pub halted-requires-clause-fails : goal.halted-requires-clause-fails
-halted-requires-clause-fails c =
-    let left = c.loop.invariant.left in
-    rows_fail c.args.preamble c.loop.rows.items c.loop.rest.now c.in-Err.error (omega (arith, left, c.loop-test.true))
-    c.in-Err.ensures
+pub halted-requires : goal.halted-requires
+halted-requires c = (omega (arith, c.loop-done-test.true), c.in-Err.ensures)
 
-pub halted-requires-clause-steady : goal.halted-requires-clause-steady
-halted-requires-clause-steady c = λ fault more e not.
-    (rows_steady c.args.preamble c.loop.rows.items).wrong c.loop.rest.now more fault e not
+pub loop-done-preserved : goal.loop-done-preserved
+loop-done-preserved c = record {
+  same = λ read has.
+      subst (λ (n : ℕ). RowsLeave c.add.new.self n c.in-Ok.after.now read) (less_again c.args.left c.loop-done.done)
+      (one_row c.loop-done.growing c.add.new.self (c.args.left - c.loop-done.done) c.in-Ok.row c.loop-done.rest.now
+      c.in-Ok.after.now read (omega (arith, c.loop-done-test.true)) c.in-Ok.ensures c.in-Ok-add.ensures.ok
+      (c.loop-done.invariant.same read has));
+  back = back_again c.args.bytes.now c.loop-done.rest.now c.in-Ok.after.now c.loop-done.invariant.back
+      (row_back c.loop-done.rest.now c.in-Ok.row c.in-Ok.after.now
+      (back_fits c.args.bytes.now c.loop-done.rest.now c.loop-done.invariant.back
+      (λ i. omega (arith, c.type_inv.bytes i)))
+      c.in-Ok.ensures);
+}
 
-pub loop-preserved : goal.loop-preserved
-loop-preserved c =
-    let left = c.loop.invariant.left in
-    let lt : length c.loop.rows.items < c.args.preamble.count = omega (arith, left, c.loop-test.true) in
-    let items = c.in-Ok-push.ensures.items in
-    let longer = ap length items in
-    let one = length-append c.loop.rows.items (c.in-Ok.row ∷ []) in
-    record {
-      same = λ more.
-          ap (λ rows. rows_after c.args.preamble rows (c.in-Ok.after.now ++ more)) items
-          ∙ sym (rows_on c.args.preamble c.loop.rows.items c.in-Ok.row c.loop.rest.now c.in-Ok.after.now more lt
-          c.in-Ok.ensures)
-          ∙ c.loop.invariant.same more;
-      back = back_again c.args.bytes.now c.loop.rest.now c.in-Ok.after.now c.loop.invariant.back
-          (row_back c.loop.rest.now c.in-Ok.row c.in-Ok.after.now
-          (back_fits c.args.bytes.now c.loop.rest.now c.loop.invariant.back (λ i. omega (arith, c.type_inv.bytes i)))
-          c.in-Ok.ensures);
-      left = omega (arith, left, longer, one);
-    }
+pub returns-in-Err-add-clause-same : goal.returns-in-Err-add-clause-same
+returns-in-Err-add-clause-same c = λ read has.
+    subst (λ g. RowsLeave g (c.args.left - c.loop-done.done) c.loop-done.rest.now read) (sym c.in-Err-add.ensures.err)
+    (c.loop-done.invariant.same read has)
+
+pub returns-clause-same : goal.returns-clause-same
+returns-clause-same c = λ read has.
+    let none : c.args.left - c.loop-done.done ≡ 0 = omega (arith, c.loop-done-test.false) in
+    subst (λ (n : ℕ). RowsLeave c.loop-done.growing n c.loop-done.rest.now read) none
+    (c.loop-done.invariant.same read has)

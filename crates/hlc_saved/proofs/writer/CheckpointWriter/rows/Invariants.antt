@@ -2,7 +2,7 @@
 use Rattle.std.proofs.Common.{◌≡◌, ◌++◌, ℕ, take, []}
 use Rattle.std.specs.List.{flat_map}
 use Rattle.hlc_core.specs.StoreView.{StoreView}
-use Rattle.hlc_saved.specs.Spelling.{row_bytes}
+use Rattle.hlc_body.specs.Spelling.{row_bytes}
 use Rattle.hlc_saved.specs.Writing.{HasWritten}
 use Rattle.hlc_saved.proofs.writer.CheckpointWriter.rows.Given as goal
 

@@ -1,0 +1,4 @@
+pub mod ListLemmas
+pub mod PartLemmas
+pub mod SteadyLemmas
+mod Preambles

@@ -1,0 +1,10 @@
+-- Those so far, and those that are left, are all of them.
+use Rattle.std.proofs.Common.{◌≡◌, ◌-◌}
+use Rattle.hlc_body.specs.Reading.{times_at, snapshot_at}
+use Rattle.hlc_body.proofs.ListLemmas.{with_front}
+use Rattle.hlc_body.proofs.reading.snapshots_of.Given as goal
+
+abbrev pub invariant-loop : goal.invariant-loop
+invariant-loop l =
+    with_front l.snapshots.items (times_at snapshot_at (l.count - l.counter) l.rest)
+    ≡ times_at snapshot_at l.count l.bytes

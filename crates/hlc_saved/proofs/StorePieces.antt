@@ -1,0 +1,249 @@
+-- The rows of the leaves of a store, one leaf after another, are those of a checkpoint of it.
+use Rattle.std.proofs.Common.{◌≡◌, ℕ, ◌+◌, ◌-◌, ◌<◌, List, [], ◌∷◌, ◌++◌, length, take, drop, Some, slice_get}
+use Rattle.std.proofs.Common.{refl, sym, ap, ap₂, subst, ◌∙◌, arith, append_assoc, length-append, IsPermutation}
+use Rattle.std.specs.Prelude.{All, OnErr, Result, Ok, Err}
+use Rattle.std.specs.List.{flat_map}
+use Rattle.std.proofs.lemmas.Grind.{flat_map-append}
+use Rattle.std.proofs.lemmas.Option.{slice_get_within, get_or_from_slice_get}
+use Rattle.std.proofs.lemmas.List.{append-nil, drop_at, take_all, take_more}
+use Rattle.std.proofs.lemmas.List.Concat.{length-flat_map}
+use Rattle.std.proofs.lemmas.List.Elements.{All-get_or}
+use Rattle.std.proofs.lemmas.List.Sorted.{All-permutation, length_permutation, sum_by-IsPermutation}
+use Rattle.sha2.specs.Sha256.{sha256}
+use Rattle.hlc_node.specs.declared.row.Row.{Row}
+use Rattle.hlc_column.specs.Rows.{KeyCells}
+use Rattle.hlc_columns.specs.Table.{columns_in}
+use Rattle.hlc_witness.specs.Certificate.{RowsAscend}
+use Rattle.hlc_core.specs.Past.{Step}
+use Rattle.hlc_core.specs.StoreView.{StoreView, Represents, with_rows_left}
+use Rattle.hlc_core.proofs.CheckpointLemmas.{copy-represents}
+use Rattle.hlc_checkpoint.specs.Checkpoint.{IsCheckpoint, IsCheckpointOf}
+use Rattle.hlc_checkpoint.specs.Lent.{IsWritable, AreListOf}
+use Rattle.hlc_checkpoint.proofs.CheckpointLemmas.{store-checkpoint}
+use Rattle.hlc_checkpoint.proofs.LentLemmas.{list-append, list-same, list-ascend}
+use Rattle.hlc_frame.specs.Frame.{front_bytes}
+use Rattle.hlc_frame.specs.Writing.{HasPut}
+use Rattle.hlc_frame.specs.declared.writer.FrameWriter.{FrameWriter}
+use Rattle.hlc_saved.specs.declared.store_writer.StoreWriter.{StoreWriter}
+use Rattle.hlc_body.specs.Spelling.{row_bytes, Preamble, preamble_bytes, preamble_of, checkpoint_bytes, saved_bytes}
+use Rattle.hlc_body.specs.Spelling.{RowFits, SavedFits}
+use Rattle.hlc_saved.specs.Saved.{AreOf, AreOfStore, BytesRepresent}
+use Rattle.hlc_saved.specs.Writing.{front_of, body_to, begin_bytes, end_bytes, HasColumns, AreLeavesOf, HasSaved}
+use Rattle.hlc_saved.specs.Writing.{leaves_left}
+use Rattle.hlc_saved.proofs.Pieces.{pieces}
+
+-- ---- lists
+
+pub taken_one : {X : Type 0} (xs : List X) (i : ℕ) (x : X) → slice_get xs i ≡ Some x
+    → take (i + 1) xs ≡ take i xs ++ x ∷ []
+taken_one xs i x at =
+    take_more xs i x (slice_get_within xs i x at)
+    ∙ ap (λ y. take i xs ++ y ∷ []) (get_or_from_slice_get xs i x x at)
+
+pub leaves_one : (leaves : List (List KeyCells)) (i : ℕ) (leaf : List KeyCells) → slice_get leaves i ≡ Some leaf
+    → columns_in (take (i + 1) leaves) ≡ columns_in (take i leaves) ++ leaf
+leaves_one leaves i leaf at =
+    ap columns_in (taken_one leaves i leaf at)
+    ∙ flat_map-append (λ (xs : List KeyCells). xs) (take i leaves) (leaf ∷ [])
+    ∙ ap (λ xs. columns_in (take i leaves) ++ xs) (append-nil leaf)
+
+pub writable_at : (leaf : List KeyCells) (i : ℕ) (one : KeyCells) → slice_get leaf i ≡ Some one
+    → All IsWritable leaf → IsWritable one
+writable_at leaf i one at each =
+    subst IsWritable (get_or_from_slice_get leaf i one one at)
+    (All-get_or IsWritable leaf i one (slice_get_within leaf i one at) each)
+
+-- what is so in any case
+pub on_err : {A E : Type 0} (P : Type 0) (r : Result A E) → P → OnErr r P
+on_err P (Ok a) so = tt
+on_err P (Err e) so = so
+
+-- ---- columns
+
+columns_then : (columns more : List KeyCells) (a b c : List ℕ) → HasColumns columns a b → HasColumns more b c
+    → HasColumns (columns ++ more) a c
+columns_then columns more a b c (rows, listed, is) (others, also, step) = (
+  rows ++ others,
+  list-append columns more rows others listed also,
+  step ∙ ap (λ (xs : List ℕ). xs ++ flat_map row_bytes others) is
+      ∙ append_assoc a (flat_map row_bytes rows) (flat_map row_bytes others)
+      ∙ ap (λ (xs : List ℕ). a ++ xs) (sym (flat_map-append row_bytes rows others)),
+)
+
+-- one more column of a leaf
+pub column_on : (leaf : List KeyCells) (i : ℕ) (one : KeyCells) (a b c : List ℕ) → slice_get leaf i ≡ Some one
+    → HasColumns (take i leaf) a b → HasColumns (one ∷ []) b c → HasColumns (take (i + 1) leaf) a c
+column_on leaf i one a b c at so step =
+    subst (λ xs. HasColumns xs a c) (sym (taken_one leaf i one at))
+    (columns_then (take i leaf) (one ∷ []) a b c so step)
+
+pub columns_all : (leaf : List KeyCells) (i : ℕ) (a b : List ℕ) → (i < length leaf → ⊥)
+    → HasColumns (take i leaf) a b → HasColumns leaf a b
+columns_all leaf i a b past so =
+    subst (λ xs. HasColumns xs a b) (take_all i leaf (omega (arith, past))) so
+
+-- ---- leaves
+
+abbrev pub SavesMore : StoreWriter → ℕ → StoreView → List ℕ → List ℕ → List ℕ → Type 0
+SavesMore writer word kept bytes before after =
+    (piece : List ℕ) × (after ≡ before ++ piece) × HasSaved writer word kept (bytes ++ piece)
+
+-- one more leaf
+pub leaf_saved : (old new : StoreWriter) (word : ℕ) (kept : StoreView) (bytes : List ℕ) (leaf : List KeyCells)
+    (before after piece : List ℕ) → new.leaves ≡ old.leaves → new.next ≡ old.next + 1
+    → slice_get old.leaves old.next ≡ Some leaf → HasColumns leaf before after → piece ≡ drop (length before) after
+    → ((front body : List ℕ) → HasPut old.frame front body → HasPut new.frame front (body ++ piece))
+    → HasSaved old word kept bytes → SavesMore new word kept bytes before after
+leaf_saved old new word kept bytes leaf before after piece same next at (rows, listed, is) cut put has =
+    let fm : List ℕ = flat_map row_bytes rows in
+    let piece_is : piece ≡ fm = cut ∙ ap (drop (length before)) is ∙ drop_at before fm (length before) refl in
+    let body : body_to kept has.rows ++ piece ≡ body_to kept (has.rows ++ rows) =
+    ap (λ (l : List ℕ). body_to kept has.rows ++ l) piece_is
+    ∙ append_assoc (preamble_bytes (preamble_of kept)) (flat_map row_bytes has.rows) fm
+    ∙ ap (λ (l : List ℕ). preamble_bytes (preamble_of kept) ++ l) (sym (flat_map-append row_bytes has.rows rows)) in
+    let columns : columns_in (take new.next new.leaves) ≡ columns_in (take old.next old.leaves) ++ leaf =
+    ap₂ (λ (n : ℕ) (leaves : List (List KeyCells)). columns_in (take n leaves)) next same
+    ∙ leaves_one old.leaves old.next leaf at in (
+      fm,
+      is,
+      record {
+        leaves = subst (λ (leaves : List (List KeyCells)). AreLeavesOf leaves word kept) (sym same) has.leaves;
+        rows = has.rows ++ rows;
+        listed = subst (λ (cs : List KeyCells). AreListOf cs (has.rows ++ rows)) (sym columns)
+            (list-append (columns_in (take old.next old.leaves)) leaf has.rows rows has.listed listed);
+        spelled = ap (λ (l : List ℕ). l ++ fm) has.spelled
+            ∙ append_assoc (begin_bytes word kept) (flat_map row_bytes has.rows) fm
+            ∙ ap (λ (l : List ℕ). begin_bytes word kept ++ l) (sym (flat_map-append row_bytes has.rows rows));
+        put = subst (λ (l : List ℕ). HasPut new.frame (front_of word kept) l) body
+            (put (front_of word kept) (body_to kept has.rows) has.put);
+      },
+    )
+
+pub saves_none : (writer : StoreWriter) (word : ℕ) (kept : StoreView) (bytes before : List ℕ)
+    → HasSaved writer word kept bytes → SavesMore writer word kept bytes before before
+saves_none writer word kept bytes before has =
+    ([], sym (append-nil before), subst (HasSaved writer word kept) (sym (append-nil bytes)) has)
+
+pub saves_then : (mid new : StoreWriter) (word : ℕ) (kept : StoreView) (bytes a b c : List ℕ)
+    → SavesMore mid word kept bytes a b
+    → ((all' : List ℕ) → HasSaved mid word kept all' → SavesMore new word kept all' b c)
+    → SavesMore new word kept bytes a c
+saves_then mid new word kept bytes a b c (x, is, has) step =
+    let more = step (bytes ++ x) has in (
+      x ++ more.0,
+      more.1 ∙ ap (λ (l : List ℕ). l ++ more.0) is ∙ append_assoc a x more.0,
+      subst (HasSaved new word kept) (append_assoc bytes x more.0) more.2,
+    )
+
+-- ---- the whole
+
+-- rows in another order have as many bytes
+rows_take : (rows others : List Row) → IsPermutation rows others
+    → length (flat_map row_bytes rows) ≡ length (flat_map row_bytes others)
+rows_take rows others moved =
+    length-flat_map row_bytes rows
+    ∙ sym (sum_by-IsPermutation (λ (row : Row). length (row_bytes row)) rows others moved)
+    ∙ sym (length-flat_map row_bytes others)
+
+pub saved_whole : (writer : StoreWriter) (word : ℕ) (kept : StoreView) (bytes : List ℕ)
+    → (has : HasSaved writer word kept bytes) → leaves_left writer ≡ 0
+    → AreOfStore (bytes ++ end_bytes word kept has.rows) word kept
+saved_whole writer word kept bytes has none =
+    let rows : List Row = has.rows in
+    let made : StoreView = with_rows_left kept rows kept.horizon in
+    let listed : AreListOf (columns_in writer.leaves) rows =
+    subst (λ (leaves : List (List KeyCells)). AreListOf (columns_in leaves) rows)
+    (take_all writer.next writer.leaves (omega (arith, none))) has.listed in
+    let moved : IsPermutation kept.rows rows =
+    subst (λ (xs : List Row). IsPermutation xs rows) has.leaves.rows
+    (list-same (columns_in writer.leaves) rows listed) in
+    let is : IsCheckpointOf kept made = record {
+      copy = record { same = refl; rows = moved };
+      ascend = list-ascend (columns_in writer.leaves) rows has.leaves.ascend listed;
+    } in
+    let count : length kept.rows ≡ length rows = sym (length_permutation kept.rows rows moved) in
+    let same : preamble_of kept ≡ preamble_of made = ap (λ (n : ℕ). record {
+      start = kept.start;
+      links = kept.links;
+      snapshots = kept.snapshots;
+      opened = kept.opened;
+      horizon = kept.horizon;
+      count = n;
+    }) count in
+    let a : length (checkpoint_bytes kept)
+    ≡ length (preamble_bytes (preamble_of kept)) + length (flat_map row_bytes kept.rows) =
+    length-append (preamble_bytes (preamble_of kept)) (flat_map row_bytes kept.rows) in
+    let b : length (checkpoint_bytes made)
+    ≡ length (preamble_bytes (preamble_of made)) + length (flat_map row_bytes rows) =
+    length-append (preamble_bytes (preamble_of made)) (flat_map row_bytes rows) in
+    let long : length (checkpoint_bytes kept) ≡ length (checkpoint_bytes made) =
+    a ∙ ap₂ (λ (m n : ℕ). m + n) (ap (λ (p : Preamble). length (preamble_bytes p)) same)
+    (rows_take kept.rows rows moved)
+    ∙ sym b in
+    let front : front_of word kept ≡ front_of word made = ap (λ (n : ℕ). front_bytes n word) long in
+    let begin : begin_bytes word kept ≡ begin_bytes word made =
+    ap₂ (λ (f : List ℕ) (p : Preamble). f ++ preamble_bytes p) front same in
+    let end : end_bytes word kept rows ≡ end_bytes word made rows =
+    ap₂ (λ (f : List ℕ) (p : Preamble). sha256 (f ++ (preamble_bytes p ++ flat_map row_bytes rows))) front same in
+    let spelled : bytes ++ end_bytes word kept rows ≡ saved_bytes word made =
+    ap (λ (l : List ℕ). l ++ end_bytes word kept rows) has.spelled
+    ∙ ap₂ (λ (l m : List ℕ). (l ++ flat_map row_bytes rows) ++ m) begin end ∙ pieces word made in
+    let fits : SavedFits word made = record {
+      frame = record {
+        word_fits = has.leaves.fits.frame.word_fits;
+        length_fits = subst (λ (n : ℕ). n < 18446744073709551616) long has.leaves.fits.frame.length_fits;
+      };
+      checkpoint = record {
+        start = has.leaves.fits.checkpoint.start;
+        links = has.leaves.fits.checkpoint.links;
+        top = has.leaves.fits.checkpoint.top;
+        snapshots = has.leaves.fits.checkpoint.snapshots;
+        opened = has.leaves.fits.checkpoint.opened;
+        horizon = has.leaves.fits.checkpoint.horizon;
+        rows = (
+          subst (λ (n : ℕ). n < 18446744073709551616) count has.leaves.fits.checkpoint.rows.0,
+          All-permutation RowFits kept.rows rows moved has.leaves.fits.checkpoint.rows.1,
+        );
+      };
+    } in
+    (made, record { spelled = spelled; fits = fits; sound = store-checkpoint kept made has.leaves.store is }, is)
+
+-- and they represent what the store does
+pub bytes_represent : (bytes : List ℕ) (word : ℕ) (kept : StoreView) (past : List Step) → AreOfStore bytes word kept
+    → Represents kept past → BytesRepresent bytes word past
+bytes_represent bytes word kept past (made, of, is) h = (made, of, copy-represents kept made past h is.copy)
+
+-- a writer that has begun
+pub begun : (writer : StoreWriter) (word : ℕ) (kept : StoreView) → AreLeavesOf writer.leaves word kept
+    → writer.next ≡ 0 → HasPut writer.frame (front_of word kept) (preamble_bytes (preamble_of kept))
+    → HasSaved writer word kept (begin_bytes word kept)
+begun writer word kept of next put = record {
+  leaves = of;
+  rows = [];
+  listed = subst (λ (n : ℕ). AreListOf (columns_in (take n writer.leaves)) []) (sym next) refl;
+  spelled = sym (append-nil (begin_bytes word kept));
+  put = subst (λ (l : List ℕ). HasPut writer.frame (front_of word kept) l)
+      (sym (append-nil (preamble_bytes (preamble_of kept)))) put;
+}
+
+-- the front and the part before the rows were hashed
+pub front_put : (frame : FrameWriter) (size word : ℕ) (p : Preamble) (kept : StoreView) → p ≡ preamble_of kept
+    → size ≡ length (checkpoint_bytes kept) → HasPut frame (front_bytes size word) (preamble_bytes p)
+    → HasPut frame (front_of word kept) (preamble_bytes (preamble_of kept))
+front_put frame size word p kept same sized put =
+    subst (λ (q : Preamble). HasPut frame (front_of word kept) (preamble_bytes q)) same
+    (subst (λ (n : ℕ). HasPut frame (front_bytes n word) (preamble_bytes p)) sized put)
+
+-- all pieces, from no bytes on
+pub all_saved : (writer : StoreWriter) (word : ℕ) (kept : StoreView) (none first second third : List ℕ) → none ≡ []
+    → first ≡ none ++ begin_bytes word kept
+    → SavesMore writer word kept (begin_bytes word kept) first second
+    → ((bytes : List ℕ) → HasSaved writer word kept bytes
+    → (piece : List ℕ) × (third ≡ second ++ piece) × AreOfStore (bytes ++ piece) word kept)
+    → AreOfStore third word kept
+all_saved writer word kept none first second third is1 is2 (x, is3, has) last =
+    let end = last (begin_bytes word kept ++ x) has in
+    let same : third ≡ (begin_bytes word kept ++ x) ++ end.0 =
+    end.1 ∙ ap (λ (l : List ℕ). l ++ end.0) (is3 ∙ ap (λ (l : List ℕ). l ++ x) (is2
+    ∙ ap (λ (l : List ℕ). l ++ begin_bytes word kept) is1)) in
+    subst (λ (l : List ℕ). AreOfStore l word kept) (sym same) end.2

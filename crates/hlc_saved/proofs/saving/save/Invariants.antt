@@ -1,0 +1,11 @@
+-- As many leaves as there were turns are written.
+use Rattle.std.proofs.Common.{◌≡◌, ◌-◌, ◌++◌, ℕ, List, []}
+use Rattle.hlc_saved.specs.Writing.{HasSaved, begin_bytes, leaves_left}
+use Rattle.hlc_saved.proofs.StorePieces.{SavesMore}
+use Rattle.hlc_saved.proofs.saving.save.Given as goal
+
+abbrev pub invariant-loop : goal.invariant-loop
+invariant-loop l = record {
+  saved : SavesMore l.writer l.word l.core (begin_bytes l.word l.core) (begin_bytes l.word l.core) l.out.items;
+  fewer : leaves_left l.writer ≡ l.left - l.counter;
+}

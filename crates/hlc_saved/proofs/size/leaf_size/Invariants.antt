@@ -1,0 +1,8 @@
+-- The size of those so far.
+use Rattle.std.proofs.Common.{take}
+use Rattle.hlc_column.specs.Rows.{rows_in}
+use Rattle.hlc_body.specs.Spelling.{AreOfSize}
+use Rattle.hlc_saved.proofs.size.leaf_size.Given as goal
+
+abbrev pub invariant-loop-place : goal.invariant-loop-place
+invariant-loop-place l = AreOfSize (rows_in (take l.place l.leaf)) l.size

@@ -1,0 +1,11 @@
+-- All pieces together are those of a checkpoint of the store.
+use Rattle.hlc_saved.specs.Writing.{front_of, body_to, end_bytes}
+use Rattle.hlc_saved.proofs.StorePieces.{saved_whole}
+use Rattle.hlc_saved.proofs.store_writer.StoreWriter.end.Goals as goal
+
+pub returns-clause-whole : goal.returns-clause-whole
+returns-clause-whole c = λ word kept bytes has none. (
+  end_bytes word kept has.rows,
+  c.in_ok-end.ensures.ok (front_of word kept) (body_to kept has.rows) has.put,
+  saved_whole c.args.self word kept bytes has none,
+)

@@ -1,0 +1,26 @@
+-- The pieces, one after the other.
+use Rattle.std.proofs.Common.{◌≡◌, ◌<◌, ap, subst, length}
+use Rattle.std.specs.Prelude.{SomeIff}
+use Rattle.hlc_body.specs.Spelling.{preamble_bytes, checkpoint_bytes}
+use Rattle.hlc_body.specs.Seen.{seen}
+use Rattle.hlc_saved.specs.Writing.{front_of, body_to}
+use Rattle.hlc_saved.proofs.Pieces.{first_piece, noted, written}
+use Rattle.hlc_saved.proofs.writer.encode_checkpoint.Goals as goal
+
+pub returns-clause-spelled : goal.returns-clause-spelled
+returns-clause-spelled c =
+    let word = c.args.word in
+    let kept = c.args.checkpoint.now in
+    let sized : c.in_ok-size.size ≡ length (checkpoint_bytes kept) =
+    (subst (λ r. SomeIff r (length (checkpoint_bytes kept) < 18446744073709551616) (length (checkpoint_bytes kept)))
+    c.in_ok-size.ensures.ok_part c.checkpoint_size.ensures.size).1 in
+    written word kept c.in_ok-out.out.items c.begin_frame.new.out.items c.rows-2.new.out.items
+    c.end.new.out.items c.in_ok-out.ensures.items
+    (first_piece (seen c.of.result) kept c.in_ok-size.size word c.in_ok-out.out.items c.begin_frame.new.out.items
+    c.of.ensures sized c.in_ok-frame.ensures.ok)
+    (rw c.rows.ensures at c.in_ok-rows.ensures.ok)
+    (c.in_ok-end.ensures.ok word kept kept.rows
+    (rw c.rows.ensures at
+    (c.in_ok-rows.ensures.written word kept
+    (noted c.in_ok-frame.frame c.in_ok-size.size word kept (preamble_bytes (seen c.of.result)) sized
+    (ap preamble_bytes c.of.ensures) c.in_ok-frame.ensures.put))))
