@@ -3,4 +3,3 @@ pub mod Going
 pub mod Taken
 pub mod Outputs
 pub mod LineParts
-mod Verbs

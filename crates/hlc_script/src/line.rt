@@ -10,7 +10,6 @@ use hlc_text::words::LineWords;
 use hlc_values::NoMemory;
 use hlc_world::{Bytes, Event};
 use std::alloc::Global;
-use std::str;
 
 /// Returns the event of a line, with its bytes still in their spelling, or none where no event has this line.
 #[inline(always)]
@@ -97,27 +96,26 @@ pub(crate) fn owned(alloc: Global, spelled: &Spelled<'_>) -> Result<Bytes, NoMem
 }
 
 /// Returns the event of the words, or none.
-#[tactic(auto, using(crate::proofs::Verbs::verb_is_text))]
 fn event_of_words<'a>(words: &mut LineWords<'a>) -> Option<Event<Spelled<'a>>>
     ensures { Reads event_words HasLine words.old result }
 {
-    match str::from_utf8(words.next()?).ok()? {
-        "write" => write(words),
-        "delete" => delete(words),
-        "report" => report(words),
-        "retire" => retire(words),
-        "join" => join(words),
-        "send" => send(words),
-        "receive" => receive(words),
-        "observe" => observe(words),
-        "deliver" => deliver(words),
-        "open" => open(words),
-        "read" => read(words),
-        "list" => list(words),
-        "close" => close(words),
-        "floor" => floor(words),
-        "vacuum" => vacuum(words),
-        "rows" => rows(words),
+    match words.next()? {
+        b"write" => write(words),
+        b"delete" => delete(words),
+        b"report" => report(words),
+        b"retire" => retire(words),
+        b"join" => join(words),
+        b"send" => send(words),
+        b"receive" => receive(words),
+        b"observe" => observe(words),
+        b"deliver" => deliver(words),
+        b"open" => open(words),
+        b"read" => read(words),
+        b"list" => list(words),
+        b"close" => close(words),
+        b"floor" => floor(words),
+        b"vacuum" => vacuum(words),
+        b"rows" => rows(words),
         _ => None,
     }
 }
