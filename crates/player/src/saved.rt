@@ -4,11 +4,11 @@ ghost use Rattle.std.specs.Prelude.{◌<◌};
 use crate::lines::next_bytes;
 use crate::play::say;
 use crate::stored::Stored;
-use hlc_core::{Checkpoint, Core, RestoreFault};
+use hlc_core::{Checkpoint, Core};
 use hlc_frame::FrameWriter;
 use hlc_saved::{
-    CheckpointReader, CheckpointWriter, ResumeError, Resumed, copy_by_bytes, decode_checkpoint,
-    encode_checkpoint, resume, save,
+    CheckpointReader, NoMemory, ResumeError, Resumed, StoreWriter, copy_by_bytes,
+    decode_checkpoint, encode_checkpoint, resume, save,
 };
 use hlc_text::words::LineWords;
 use std::alloc::AllocError;
@@ -85,11 +85,11 @@ impl Stored {
         self.replace(rt, made)
     }
 
-    /// Does the same by the checkpoint: its rows are written one by one, and read in blocks of at most this size.
+    /// Does the same by pieces: they are written from the store, and read in blocks of at most this size.
     pub(crate) fn move_in_pieces(&mut self, rt: &HostRuntime, word: u64, size: u64) -> Option<()> {
-        let checkpoint = self.saved.checkpoint.as_ref()?;
+        let core = self.core.as_ref()?;
         let mut reader = CheckpointReader::new(rt.alloc());
-        write_rows(rt, &mut reader, checkpoint, word, (size as usize).max(1)).ok()?;
+        write_store(rt, &mut reader, core, word, (size as usize).max(1)).ok()?;
         self.replace(rt, reader.finish())
     }
 
@@ -126,20 +126,20 @@ impl Stored {
     }
 }
 
-/// Writes a checkpoint row by row, and feeds a reader what was written whenever that is a block or more.
-fn write_rows(
+/// Writes a store leaf by leaf, and feeds a reader what was written whenever that is a block or more.
+fn write_store(
     rt: &HostRuntime,
     reader: &mut CheckpointReader,
-    checkpoint: &Checkpoint,
+    core: &Core,
     word: u64,
     size: usize,
-) -> Result<(), RestoreFault>
+) -> Result<(), NoMemory>
     requires { 0 < size }
 {
     let mut out = Vec::new(rt.alloc());
-    let mut writer = CheckpointWriter::begin(&mut out, checkpoint, word)?;
-    for row in checkpoint.rows() {
-        writer.row(&mut out, row)?;
+    let mut writer = StoreWriter::begin(&mut out, core, word)?;
+    for _ in 0..writer.left() {
+        writer.more(&mut out)?;
         if out.len() >= size {
             feed_all(rt, reader, &mut out, size);
         }
