@@ -1,6 +1,7 @@
 /* The memory of rows, in blocks of malloc: where each key has 1, 2, 4, 5 or 10 rows, and after a vacuum that leaves
- * one. Keys and values have 8 bytes; each round writes every key once, in a random order of its own. Prints `all
- * right`. */
+ * one. Keys and values have 8 bytes; each round writes every key once, in a random order of its own. Then the peaks of
+ * resident memory: a checkpoint takes little more than its bytes, and a restore in pieces little more than the store
+ * that it makes. Prints `all right`. */
 #include "hlcstore.h"
 #include <malloc.h>
 #include <stdio.h>
@@ -12,6 +13,8 @@ enum { KEYS = 100000, LEN = 8 };
 static const struct { unsigned rounds; double most; } CASES[] = { { 1, 145 }, { 2, 240 }, { 4, 340 }, { 5, 660 },
                                                                   { 10, 1000 } };
 static const double MOST_OF_ONE = 145;
+/* The most of a peak: how many times the bytes of a checkpoint, or of a restored store. */
+static const double MOST_OF_PEAK = 1.2;
 
 static int wrong;
 
@@ -84,8 +87,72 @@ static void measure(unsigned rounds, double most)
     expect("closed", rounds, (in_blocks() - before) / KEYS, 1);
 }
 
+/* The bytes in a line of /proc/self/status. */
+static double status_of(const char *name)
+{
+    char line[128];
+    double found = 0, kilobytes;
+    FILE *lines = fopen("/proc/self/status", "r");
+    while (lines != NULL && fgets(line, sizeof line, lines) != NULL)
+        if (strncmp(line, name, strlen(name)) == 0 && sscanf(line + strlen(name), "%lf", &kilobytes) == 1)
+            found = kilobytes * 1024;
+    if (lines != NULL) fclose(lines);
+    return found;
+}
+
+/* Lets the peak of resident memory begin at what is resident now, and returns that. */
+static double begin_peak(void)
+{
+    FILE *reset = fopen("/proc/self/clear_refs", "w");
+    if (reset == NULL || fputs("5", reset) < 0 || fclose(reset) != 0) {
+        puts("the peak of memory cannot be set back");
+        wrong++;
+    }
+    return status_of("VmRSS:");
+}
+
+static void expect_peak(const char *what, double before, double bytes)
+{
+    double peak = status_of("VmHWM:") - before;
+    if (peak <= MOST_OF_PEAK * bytes) return;
+    printf("%s: a peak of %.0f bytes, for %.0f\n", what, peak, bytes);
+    wrong++;
+}
+
+static void measure_checkpoint(void)
+{
+    static uint8_t piece[65536];
+    hlc_store store = HLC_CLOSED_STORE, copy = HLC_CLOSED_STORE;
+    hlc_output output = HLC_NO_OUTPUT;
+    hlc_restoring restoring = HLC_NO_RESTORING;
+    uint64_t number = 0, word;
+    size_t len, from = 0, got;
+    check(hlc_open(&store, 1));
+    for (unsigned round = 0; round < 4; round++) write_all(&store, &number);
+    double before = begin_peak();
+    check(hlc_checkpoint(&store, 7, &output, &len));
+    expect_peak("a checkpoint", before, (double)len);
+    double blocks = in_blocks();
+    before = begin_peak();
+    check(hlc_restore_start(&restoring));
+    for (uint32_t code = HLC_MORE; code == HLC_MORE; from += got) {
+        code = hlc_output_read(&output, from, piece, sizeof piece, &got);
+        check(hlc_restore_feed(&restoring, piece, got));
+    }
+    check(hlc_restore_finish(&restoring, &copy, &word));
+    expect_peak("a restore in pieces", before, in_blocks() - blocks);
+    if (word != 7) {
+        puts("the word of the checkpoint is another");
+        wrong++;
+    }
+    hlc_output_drop(&output);
+    hlc_close(&store);
+    hlc_close(&copy);
+}
+
 int main(void)
 {
+    measure_checkpoint();
     for (size_t i = 0; i < sizeof CASES / sizeof *CASES; i++) measure(CASES[i].rounds, CASES[i].most);
     if (wrong == 0) puts("all right");
     return wrong > 0;
