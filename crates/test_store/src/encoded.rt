@@ -1,5 +1,5 @@
-//! The small callers in the READMEs of `hlc_wire`, `hlc_frame`, `hlc_body`, `hlc_saved` and `hlc_log`, and a message
-//! compared with bytes that were written by hand.
+//! The small callers in the READMEs of `hlc_wire`, `hlc_frame`, `hlc_body`, `hlc_saved` and `hlc_log`, a message
+//! compared with bytes that were written by hand, and a checkpoint that is written in pieces.
 ghost use Rattle.std.specs.Prelude.{◌≡◌, ◌⊎◌, ◌++◌, ◌<◌, List, ℕ, IfOk, IfSome, OnOk, IsErrOf, length};
 ghost use Rattle.hlc_frame.specs.Frame.{frame_bytes};
 ghost use Rattle.hlc_frame.specs.Reading.{word_of};
@@ -11,12 +11,13 @@ ghost use Rattle.hlc_saved.specs.Saved.{BytesRepresent, Resumes};
 ghost use Rattle.hlc_log.specs.declared.record.Record.{Record as ARecord};
 ghost use Rattle.hlc_log.specs.Log.{log_bytes, with_records};
 
+use crate::changes::says;
 use hlc_body::{Row, RowRef, append_row};
 use hlc_clock::Stamp;
-use hlc_core::Core;
+use hlc_core::{Checkpoint, Core, RestoreFault};
 use hlc_frame::{FrameReader, FrameWriter, WireFault};
 use hlc_log::recover;
-use hlc_saved::{CheckpointReader, ResumeError, Resumed};
+use hlc_saved::{CheckpointReader, CheckpointWriter, ResumeError, Resumed, encode_checkpoint};
 use hlc_wire::{Message, decode_item, decode_message, encode_item, encode_message};
 use std::alloc::{AllocError, Global};
 use std::test::*;
@@ -97,4 +98,33 @@ fn a_message_as_bytes(rt: HostRuntime) {
     let written = encode_message(rt.alloc(), &message).expect(&rt, "memory");
     assert_eq!(rt; written.as_slice(), MESSAGE.as_slice());
     assert_eq!(rt; decode_message(&MESSAGE), Ok(message));
+}
+
+/// Writes a checkpoint in pieces, each of which is taken out before the next one is written.
+fn in_pieces(alloc: Global, checkpoint: &Checkpoint, word: u64) -> Result<Vec<u8>, RestoreFault> {
+    let mut piece = Vec::new(alloc);
+    let mut whole = Vec::new(alloc);
+    let mut writer = CheckpointWriter::begin(&mut piece, checkpoint, word)?;
+    whole.append(&mut piece)?;
+    for row in checkpoint.rows() {
+        writer.row(&mut piece, row)?;
+        whole.append(&mut piece)?;
+    }
+    writer.end(&mut piece)?;
+    whole.append(&mut piece)?;
+    Ok(whole)
+}
+
+#[test]
+fn a_checkpoint_in_pieces(rt: HostRuntime) {
+    let alloc = rt.alloc();
+    let mut core = Core::new(alloc, 1).ok().expect(&rt, "a store");
+    says(&rt, alloc, &mut core, 0, b"a", Some(b"1"));
+    says(&rt, alloc, &mut core, 1, b"b", None);
+    let checkpoint = core.checkpoint().ok().expect(&rt, "a checkpoint");
+    let pieces = in_pieces(alloc, &checkpoint, 7).ok().expect(&rt, "pieces");
+    let whole = encode_checkpoint(alloc, &checkpoint, 7)
+        .ok()
+        .expect(&rt, "bytes");
+    assert_eq!(rt; pieces.as_slice(), whole.as_slice());
 }
