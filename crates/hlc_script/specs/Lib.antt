@@ -2,3 +2,4 @@ pub mod Line
 pub mod Reply
 pub mod Run
 pub mod OneOutput
+pub mod Asked

@@ -1,12 +1,14 @@
 //! Scripts: the lines of events, the lines of replies, and a whole run from bytes to bytes.
 #![tactic(auto)]
 
+mod asked;
 mod exact;
 mod laws;
 mod line;
 mod reply;
 mod run;
 
+pub use asked::answer_asked;
 pub use laws::{one_event_for_a_line, one_output_for_an_input};
 pub use line::{owned_event, read_line};
 pub use reply::{put_refusal, put_reply};

@@ -1,18 +1,14 @@
 //! The program: what it does for the words after its name.
-ghost use Rattle.std.specs.Prelude.{◌≡◌, false, codes, Option};
+ghost use Rattle.std.specs.Prelude.{◌≡◌, false, Option};
 ghost use Rattle.std.specs.Option.{option_map};
 ghost use Rattle.hlc_text.specs.Watched.{has_failed};
-ghost use Rattle.hlc_text.specs.Text.{printed};
-ghost use Rattle.hlc_text.specs.Printing.{Writes};
-ghost use Rattle.hlc_words.specs.Words.{bytes_of};
-ghost use Rattle.hlcstore.specs.Program.{Asks, Does};
+ghost use Rattle.hlc_words.specs.Words.{Asks, bytes_of};
+ghost use Rattle.hlcstore.specs.Program.{Does};
 
-use hlc_certificate::run_check;
-use hlc_script::run_script;
+use hlc_script::answer_asked;
 use hlc_storm::{print_storm, storm};
-use hlc_text::printer::Printer;
 use hlc_text::watched::Watched;
-use hlc_words::{Words, read_words};
+use hlc_words::{Words, words_asked};
 use std::alloc::Global;
 use std::io::{Read, Write};
 use std::sync::Wait;
@@ -37,28 +33,9 @@ pub fn run_program<H: Threads + Wait + Sync, R: Read, W: Write>(
         × Asks (option_map (λ words. bytes_of words.now) words.entry) asked
         × Does R.remaining W.contents asked reader.old reader.new writer.old writer.new result }
 {
-    match words_asked(words) {
-        Some(Words::Run) => run_script(alloc, reader, writer).status(),
-        Some(Words::Check) => run_check(alloc, reader, writer).status(),
-        Some(Words::Storm(plan)) => print_storm(writer, &storm(rt, alloc, plan)),
-        None => refuse_words(writer),
+    let asked = words_asked(words);
+    if let Some(Words::Storm(plan)) = asked {
+        return print_storm(writer, &storm(rt, alloc, plan));
     }
-}
-
-/// Returns what the words ask for, or none where that is nothing that the program does.
-fn words_asked(words: Option<&[String]>) -> Option<Words>
-    ensures { Asks (option_map (λ words. bytes_of words.now) words.entry) result }
-{
-    read_words(words?).ok()
-}
-
-/// Writes that the words are refused, and returns the status for that, even where the writer fails.
-fn refuse_words<W: Write>(writer: &mut Watched<W>) -> u8
-    ensures written { Writes W.contents writer.old writer.new (printed (codes "refused 25")) }
-    ensures status { result ≡ 1 }
-{
-    let mut printer = Printer::new(writer);
-    printer.put(b"refused 25\n");
-    printer.finish();
-    1
+    answer_asked(alloc, asked, reader, writer)
 }
