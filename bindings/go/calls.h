@@ -1,0 +1,609 @@
+/* The calls of hlcstore.h in the form in which Go makes them cheaply. Results are returned by value: the address of a
+ * variable that is passed to C would move the variable to Go's heap. A call that only asks makes a copy of the handle,
+ * as hlcstore.h wants it of calls that run beside each other; Go would make it on its heap. */
+#ifndef HLCGO_CALLS_H
+#define HLCGO_CALLS_H
+#include <hlcstore.h>
+
+#define HLCGO_SHORT 112
+#define HLCGO_LONGEST_KEY 255
+
+typedef struct {
+    uint32_t code;
+    uint64_t word;
+} hlcgo_answer;
+
+typedef struct {
+    uint32_t code;
+    size_t len;
+    size_t many;
+} hlcgo_part;
+
+static inline const uint8_t *hlcgo_bytes(_GoString_ text) { return (const uint8_t *)_GoStringPtr(text); }
+
+/* ---- Errors ---- */
+
+typedef struct {
+    uint8_t bytes[256];
+    size_t len;
+} hlcgo_text;
+
+static inline hlcgo_text hlcgo_error_name(uint32_t code)
+{
+    hlcgo_text text;
+    hlc_error_name(code, text.bytes, sizeof text.bytes, &text.len);
+    return text;
+}
+
+static inline hlcgo_text hlcgo_error_text(uint32_t code)
+{
+    hlcgo_text text;
+    hlc_error_text(code, text.bytes, sizeof text.bytes, &text.len);
+    return text;
+}
+
+/* ---- Nodes ---- */
+
+typedef struct {
+    uint32_t code;
+    uint64_t number;
+    uint64_t word;
+    hlc_node node;
+} hlcgo_issued;
+
+static inline hlcgo_issued hlcgo_node_restore(uint16_t id, uint64_t last, uint64_t next)
+{
+    hlcgo_issued issued = { 0 };
+    issued.code = hlc_node_restore(id, last, next, &issued.node);
+    return issued;
+}
+
+static inline hlc_node hlcgo_node_raise(hlc_node node, uint64_t stamp)
+{
+    hlc_node_raise(&node, stamp);
+    return node;
+}
+
+static inline hlcgo_issued hlcgo_node_write(hlc_node node, uint64_t reading, const uint8_t *key, size_t key_len,
+                                            const uint8_t *value, size_t value_len)
+{
+    hlcgo_issued issued = { .node = node };
+    issued.code = hlc_node_write(&issued.node, reading, key, key_len, value, value_len, &issued.number, &issued.word);
+    return issued;
+}
+
+static inline hlcgo_issued hlcgo_node_delete(hlc_node node, uint64_t reading, const uint8_t *key, size_t key_len)
+{
+    hlcgo_issued issued = { .node = node };
+    issued.code = hlc_node_delete(&issued.node, reading, key, key_len, &issued.number, &issued.word);
+    return issued;
+}
+
+static inline hlcgo_issued hlcgo_node_report(hlc_node node, uint64_t reading)
+{
+    hlcgo_issued issued = { .node = node };
+    issued.code = hlc_node_report(&issued.node, reading, &issued.number, &issued.word);
+    return issued;
+}
+
+static inline hlcgo_issued hlcgo_node_retire(hlc_node node, uint64_t reading)
+{
+    hlcgo_issued issued = { .node = node };
+    issued.code = hlc_node_retire(&issued.node, reading, &issued.number, &issued.word);
+    return issued;
+}
+
+static inline hlcgo_issued hlcgo_node_send(hlc_node node, uint64_t reading)
+{
+    hlcgo_issued issued = { .node = node };
+    issued.code = hlc_node_send(&issued.node, reading, &issued.word);
+    return issued;
+}
+
+static inline hlcgo_issued hlcgo_node_receive(hlc_node node, uint64_t seen, uint64_t reading)
+{
+    hlcgo_issued issued = { .node = node };
+    issued.code = hlc_node_receive(&issued.node, seen, reading, &issued.word);
+    return issued;
+}
+
+/* ---- Items and records as bytes ---- */
+
+static inline hlcgo_part hlcgo_item_write(uint16_t node, uint64_t number, uint64_t stamp, _GoString_ key,
+                                          _GoString_ value, uint8_t *out, size_t out_len)
+{
+    hlcgo_part part = { 0 };
+    part.code = hlc_item_write(node, number, stamp, hlcgo_bytes(key), _GoStringLen(key), hlcgo_bytes(value),
+                               _GoStringLen(value), out, out_len, &part.len);
+    return part;
+}
+
+static inline hlcgo_part hlcgo_item_delete(uint16_t node, uint64_t number, uint64_t stamp, _GoString_ key,
+                                           uint8_t *out, size_t out_len)
+{
+    hlcgo_part part = { 0 };
+    part.code = hlc_item_delete(node, number, stamp, hlcgo_bytes(key), _GoStringLen(key), out, out_len, &part.len);
+    return part;
+}
+
+static inline hlcgo_part hlcgo_item_report(uint16_t node, uint64_t number, uint64_t stamp, uint8_t *out,
+                                           size_t out_len)
+{
+    hlcgo_part part = { 0 };
+    part.code = hlc_item_report(node, number, stamp, out, out_len, &part.len);
+    return part;
+}
+
+static inline hlcgo_part hlcgo_item_retire(uint16_t node, uint64_t number, uint64_t stamp, uint8_t *out,
+                                           size_t out_len)
+{
+    hlcgo_part part = { 0 };
+    part.code = hlc_item_retire(node, number, stamp, out, out_len, &part.len);
+    return part;
+}
+
+typedef struct {
+    uint8_t bytes[16];
+    size_t len;
+} hlcgo_record;
+
+static inline hlcgo_record hlcgo_record_join(uint16_t node, uint64_t start)
+{
+    hlcgo_record record;
+    hlc_record_join(node, start, record.bytes, sizeof record.bytes, &record.len);
+    return record;
+}
+
+static inline hlcgo_record hlcgo_record_threshold(uint64_t stamp)
+{
+    hlcgo_record record;
+    hlc_record_threshold(stamp, record.bytes, sizeof record.bytes, &record.len);
+    return record;
+}
+
+/* ---- What a store accepts ---- */
+
+static inline hlcgo_answer hlcgo_accept_write(hlc_store *store, uint16_t node, uint64_t number, uint64_t stamp,
+                                              _GoString_ key, _GoString_ value)
+{
+    hlcgo_answer answer;
+    answer.code = hlc_accept_write(store, node, number, stamp, hlcgo_bytes(key), _GoStringLen(key),
+                                   hlcgo_bytes(value), _GoStringLen(value), &answer.word);
+    return answer;
+}
+
+static inline hlcgo_answer hlcgo_accept_delete(hlc_store *store, uint16_t node, uint64_t number, uint64_t stamp,
+                                               _GoString_ key)
+{
+    hlcgo_answer answer;
+    answer.code = hlc_accept_delete(store, node, number, stamp, hlcgo_bytes(key), _GoStringLen(key), &answer.word);
+    return answer;
+}
+
+static inline hlcgo_answer hlcgo_accept_report(hlc_store *store, uint16_t node, uint64_t number, uint64_t stamp)
+{
+    hlcgo_answer answer;
+    answer.code = hlc_accept_report(store, node, number, stamp, &answer.word);
+    return answer;
+}
+
+static inline hlcgo_answer hlcgo_accept_retire(hlc_store *store, uint16_t node, uint64_t number, uint64_t stamp)
+{
+    hlcgo_answer answer;
+    answer.code = hlc_accept_retire(store, node, number, stamp, &answer.word);
+    return answer;
+}
+
+static inline hlcgo_answer hlcgo_check_write(const hlc_store *store, uint16_t node, uint64_t number, uint64_t stamp,
+                                             _GoString_ key, _GoString_ value)
+{
+    hlc_store mine = *store;
+    hlcgo_answer answer;
+    answer.code = hlc_check_write(&mine, node, number, stamp, hlcgo_bytes(key), _GoStringLen(key),
+                                  hlcgo_bytes(value), _GoStringLen(value), &answer.word);
+    return answer;
+}
+
+static inline hlcgo_answer hlcgo_check_delete(const hlc_store *store, uint16_t node, uint64_t number, uint64_t stamp,
+                                              _GoString_ key)
+{
+    hlc_store mine = *store;
+    hlcgo_answer answer;
+    answer.code = hlc_check_delete(&mine, node, number, stamp, hlcgo_bytes(key), _GoStringLen(key), &answer.word);
+    return answer;
+}
+
+static inline hlcgo_answer hlcgo_check_report(const hlc_store *store, uint16_t node, uint64_t number, uint64_t stamp)
+{
+    hlc_store mine = *store;
+    hlcgo_answer answer;
+    answer.code = hlc_check_report(&mine, node, number, stamp, &answer.word);
+    return answer;
+}
+
+typedef struct {
+    uint32_t code;
+    size_t used;
+    size_t many;
+    uint64_t threshold;
+    uint64_t word;
+} hlcgo_applied;
+
+static inline hlcgo_applied hlcgo_accept_all(hlc_store *store, const hlc_entry *entries, size_t entries_len,
+                                             const uint8_t *bytes, size_t bytes_len)
+{
+    hlcgo_applied applied = { 0 };
+    applied.code = hlc_accept_all(store, entries, entries_len, bytes, bytes_len, &applied.many, &applied.word);
+    return applied;
+}
+
+static inline hlcgo_applied hlcgo_items_accept(hlc_store *store, const uint8_t *bytes, size_t bytes_len)
+{
+    hlcgo_applied applied = { 0 };
+    applied.code = hlc_items_accept(store, bytes, bytes_len, &applied.used, &applied.many, &applied.word);
+    return applied;
+}
+
+static inline hlcgo_applied hlcgo_records_apply(hlc_store *store, const uint8_t *bytes, size_t bytes_len)
+{
+    hlcgo_applied applied = { 0 };
+    applied.code = hlc_records_apply(store, bytes, bytes_len, &applied.used, &applied.many, &applied.threshold,
+                                     &applied.word);
+    return applied;
+}
+
+typedef struct {
+    uint32_t code;
+    uint16_t node;
+    uint64_t word;
+} hlcgo_joined;
+
+static inline hlcgo_joined hlcgo_join(hlc_store *store)
+{
+    hlcgo_joined joined;
+    joined.code = hlc_join(store, &joined.node, &joined.word);
+    return joined;
+}
+
+static inline hlcgo_joined hlcgo_join_at(hlc_store *store, uint64_t start)
+{
+    hlcgo_joined joined;
+    joined.code = hlc_join_at(store, start, &joined.node, &joined.word);
+    return joined;
+}
+
+/* ---- Snapshots ---- */
+
+typedef struct {
+    uint32_t code;
+    uint64_t id;
+    uint64_t stamp;
+} hlcgo_snapshot;
+
+static inline hlcgo_snapshot hlcgo_open_snapshot(hlc_store *store, uint64_t stamp)
+{
+    hlcgo_snapshot snapshot = { .stamp = stamp };
+    snapshot.code = hlc_open_snapshot(store, stamp, &snapshot.id);
+    return snapshot;
+}
+
+static inline hlcgo_snapshot hlcgo_open_snapshot_at_floor(hlc_store *store)
+{
+    hlcgo_snapshot snapshot;
+    snapshot.code = hlc_open_snapshot_at_floor(store, &snapshot.id, &snapshot.stamp);
+    return snapshot;
+}
+
+static inline hlcgo_answer hlcgo_close_snapshot(hlc_store *store, uint64_t id)
+{
+    hlcgo_answer answer;
+    answer.code = hlc_close_snapshot(store, id, &answer.word);
+    return answer;
+}
+
+static inline hlcgo_snapshot hlcgo_snapshot_at(const hlc_store *store, uint64_t place)
+{
+    hlc_store mine = *store;
+    hlcgo_snapshot snapshot;
+    snapshot.code = hlc_snapshot(&mine, place, &snapshot.id, &snapshot.stamp);
+    return snapshot;
+}
+
+/* A value that is short enough comes in `bytes`, so that Go allocates just its length. */
+typedef struct {
+    uint32_t code;
+    size_t len;
+    uint8_t bytes[HLCGO_SHORT];
+} hlcgo_value;
+
+static inline hlcgo_value hlcgo_read_short(const hlc_store *store, uint64_t id, const uint8_t *key, size_t key_len)
+{
+    hlc_store mine = *store;
+    hlcgo_value value;
+    value.code = hlc_read(&mine, id, key, key_len, value.bytes, sizeof value.bytes, &value.len);
+    return value;
+}
+
+static inline hlcgo_part hlcgo_read(const hlc_store *store, uint64_t id, const uint8_t *key, size_t key_len,
+                                    uint8_t *out, size_t out_len)
+{
+    hlc_store mine = *store;
+    hlcgo_part part = { 0 };
+    part.code = hlc_read(&mine, id, key, key_len, out, out_len, &part.len);
+    return part;
+}
+
+static inline hlcgo_part hlcgo_read_all(const hlc_store *store, uint64_t id, const hlc_place *places, size_t places_len,
+                                        const uint8_t *bytes, size_t bytes_len, uint8_t *out, size_t out_len)
+{
+    hlc_store mine = *store;
+    hlcgo_part part;
+    part.code = hlc_read_all(&mine, id, places, places_len, bytes, bytes_len, out, out_len, &part.len, &part.many);
+    return part;
+}
+
+static inline hlcgo_part hlcgo_list(const hlc_store *store, uint64_t id, uint8_t *out, size_t out_len)
+{
+    hlc_store mine = *store;
+    hlcgo_part part = { 0 };
+    part.code = hlc_list(&mine, id, out, out_len, &part.len);
+    return part;
+}
+
+static inline hlcgo_part hlcgo_scan(const hlc_store *store, uint64_t id, const uint8_t *from, size_t from_len,
+                                    const uint8_t *to, size_t to_len, uint8_t *out, size_t out_len)
+{
+    hlc_store mine = *store;
+    hlcgo_part part;
+    part.code = hlc_scan(&mine, id, from, from_len, to, to_len, out, out_len, &part.len, &part.many);
+    return part;
+}
+
+static inline hlcgo_part hlcgo_scan_back(const hlc_store *store, uint64_t id, const uint8_t *from, size_t from_len,
+                                         const uint8_t *to, size_t to_len, uint8_t *out, size_t out_len)
+{
+    hlc_store mine = *store;
+    hlcgo_part part;
+    part.code = hlc_scan_back(&mine, id, from, from_len, to, to_len, out, out_len, &part.len, &part.many);
+    return part;
+}
+
+static inline hlcgo_part hlcgo_scan_keys(const hlc_store *store, uint64_t id, const uint8_t *from, size_t from_len,
+                                         const uint8_t *to, size_t to_len, uint8_t *out, size_t out_len)
+{
+    hlc_store mine = *store;
+    hlcgo_part part;
+    part.code = hlc_scan_keys(&mine, id, from, from_len, to, to_len, out, out_len, &part.len, &part.many);
+    return part;
+}
+
+static inline hlcgo_part hlcgo_changes(const hlc_store *store, uint64_t before, uint64_t after, const uint8_t *from,
+                                       size_t from_len, const uint8_t *to, size_t to_len, uint8_t *out,
+                                       size_t out_len)
+{
+    hlc_store mine = *store;
+    hlcgo_part part;
+    part.code = hlc_changes(&mine, before, after, from, from_len, to, to_len, out, out_len, &part.len, &part.many);
+    return part;
+}
+
+static inline hlcgo_answer hlcgo_count(const hlc_store *store, uint64_t id, const uint8_t *from, size_t from_len,
+                                       const uint8_t *to, size_t to_len)
+{
+    hlc_store mine = *store;
+    hlcgo_answer answer;
+    answer.code = hlc_count(&mine, id, from, from_len, to, to_len, &answer.word);
+    return answer;
+}
+
+typedef struct {
+    uint32_t code;
+    uint8_t bytes[32];
+} hlcgo_digest_of;
+
+static inline hlcgo_digest_of hlcgo_digest(const hlc_store *store, uint64_t id, const uint8_t *from, size_t from_len,
+                                           const uint8_t *to, size_t to_len)
+{
+    hlc_store mine = *store;
+    hlcgo_digest_of digest = { 0 };
+    size_t len;
+    digest.code = hlc_digest(&mine, id, from, from_len, to, to_len, digest.bytes, sizeof digest.bytes, &len);
+    return digest;
+}
+
+static inline hlcgo_part hlcgo_versions(const hlc_store *store, const uint8_t *key, size_t key_len, uint64_t above,
+                                        uint64_t to, uint8_t *out, size_t out_len)
+{
+    hlc_store mine = *store;
+    hlcgo_part part;
+    part.code = hlc_versions(&mine, key, key_len, above, to, out, out_len, &part.len, &part.many);
+    return part;
+}
+
+/* ---- What a store has ---- */
+
+static inline hlcgo_answer hlcgo_floor(const hlc_store *store)
+{
+    hlc_store mine = *store;
+    hlcgo_answer answer;
+    answer.code = hlc_floor(&mine, &answer.word);
+    return answer;
+}
+
+static inline hlcgo_answer hlcgo_floor_node(const hlc_store *store)
+{
+    hlc_store mine = *store;
+    hlcgo_answer answer;
+    answer.code = hlc_floor_node(&mine, &answer.word);
+    return answer;
+}
+
+static inline hlcgo_answer hlcgo_horizon(const hlc_store *store)
+{
+    hlc_store mine = *store;
+    hlcgo_answer answer;
+    answer.code = hlc_horizon(&mine, &answer.word);
+    return answer;
+}
+
+static inline hlcgo_answer hlcgo_nodes(const hlc_store *store)
+{
+    hlc_store mine = *store;
+    hlcgo_answer answer;
+    answer.code = hlc_nodes(&mine, &answer.word);
+    return answer;
+}
+
+static inline hlcgo_answer hlcgo_rows(const hlc_store *store)
+{
+    hlc_store mine = *store;
+    hlcgo_answer answer;
+    answer.code = hlc_rows(&mine, &answer.word);
+    return answer;
+}
+
+typedef struct {
+    uint32_t code;
+    uint64_t rows, keys, key_bytes, value_bytes;
+} hlcgo_sizes_of;
+
+static inline hlcgo_sizes_of hlcgo_sizes(const hlc_store *store)
+{
+    hlc_store mine = *store;
+    hlcgo_sizes_of sizes;
+    sizes.code = hlc_sizes(&mine, &sizes.rows, &sizes.keys, &sizes.key_bytes, &sizes.value_bytes);
+    return sizes;
+}
+
+typedef struct {
+    uint32_t code;
+    uint64_t next, head;
+    bool retired;
+} hlcgo_link_of;
+
+static inline hlcgo_link_of hlcgo_link(const hlc_store *store, uint16_t node)
+{
+    hlc_store mine = *store;
+    hlcgo_link_of link = { 0 };
+    link.code = hlc_link(&mine, node, &link.next, &link.head, &link.retired);
+    return link;
+}
+
+/* ---- Vacuums ---- */
+
+typedef struct {
+    uint32_t code;
+    uint64_t word, kept, bytes, dropped;
+} hlcgo_vacuumed;
+
+static inline hlcgo_vacuumed hlcgo_vacuum(hlc_store *store)
+{
+    hlcgo_vacuumed vacuumed;
+    vacuumed.code = hlc_vacuum(store, &vacuumed.word, &vacuumed.kept, &vacuumed.bytes, &vacuumed.dropped);
+    return vacuumed;
+}
+
+static inline hlcgo_vacuumed hlcgo_vacuum_to(hlc_store *store, uint64_t stamp)
+{
+    hlcgo_vacuumed vacuumed;
+    vacuumed.code = hlc_vacuum_to(store, stamp, &vacuumed.word, &vacuumed.kept, &vacuumed.bytes, &vacuumed.dropped);
+    return vacuumed;
+}
+
+typedef struct {
+    hlcgo_vacuumed done;
+    uint8_t last[HLCGO_LONGEST_KEY];
+    size_t len;
+    bool more;
+} hlcgo_vacuum_part_of;
+
+static inline hlcgo_vacuum_part_of hlcgo_vacuum_part(hlc_store *store, uint64_t stamp, const uint8_t *after,
+                                                     size_t after_len, size_t most)
+{
+    hlcgo_vacuum_part_of part = { 0 };
+    part.done.code = hlc_vacuum_part(store, stamp, after, after_len, most, &part.done.word, &part.done.kept,
+                                     &part.done.bytes, &part.done.dropped, part.last, sizeof part.last, &part.len,
+                                     &part.more);
+    return part;
+}
+
+static inline hlcgo_answer hlcgo_check_vacuum(const hlc_store *store, uint64_t stamp)
+{
+    hlc_store mine = *store;
+    hlcgo_answer answer;
+    answer.code = hlc_check_vacuum(&mine, stamp, &answer.word);
+    return answer;
+}
+
+static inline hlcgo_vacuumed hlcgo_check(const uint8_t *text, size_t text_len)
+{
+    hlcgo_vacuumed checked = { 0 };
+    checked.code = hlc_check(text, text_len, &checked.kept, &checked.bytes, &checked.word);
+    return checked;
+}
+
+/* ---- Outputs ---- */
+
+typedef struct {
+    uint32_t code;
+    uint64_t word, kept, bytes;
+    hlc_output output;
+    size_t len;
+} hlcgo_made;
+
+static inline hlcgo_made hlcgo_certificate(const hlc_store *store, uint64_t stamp)
+{
+    hlc_store mine = *store;
+    hlcgo_made made = { 0 };
+    made.code = hlc_certificate(&mine, stamp, &made.word, &made.kept, &made.bytes, &made.output, &made.len);
+    return made;
+}
+
+static inline hlcgo_made hlcgo_checkpoint(const hlc_store *store, uint64_t word)
+{
+    hlc_store mine = *store;
+    hlcgo_made made = { 0 };
+    made.code = hlc_checkpoint(&mine, word, &made.output, &made.len);
+    return made;
+}
+
+static inline hlcgo_made hlcgo_increment(const hlc_store *store, uint64_t since, uint64_t word)
+{
+    hlc_store mine = *store;
+    hlcgo_made made = { 0 };
+    made.code = hlc_increment(&mine, since, word, &made.output, &made.len, &made.word);
+    return made;
+}
+
+static inline hlcgo_made hlcgo_increment_apply(const uint8_t *older, size_t older_len, const uint8_t *increment,
+                                               size_t increment_len)
+{
+    hlcgo_made made = { 0 };
+    made.code = hlc_increment_apply(older, older_len, increment, increment_len, &made.output, &made.len, &made.word);
+    return made;
+}
+
+static inline hlcgo_part hlcgo_output_read(hlc_output *output, size_t from, uint8_t *out, size_t out_len)
+{
+    hlcgo_part part = { 0 };
+    part.code = hlc_output_read(output, from, out, out_len, &part.len);
+    return part;
+}
+
+/* ---- Restores ---- */
+
+static inline hlcgo_answer hlcgo_restore(hlc_store *store, const uint8_t *bytes, size_t bytes_len)
+{
+    hlcgo_answer answer;
+    answer.code = hlc_restore(store, bytes, bytes_len, &answer.word);
+    return answer;
+}
+
+static inline hlcgo_answer hlcgo_restore_finish(hlc_restoring *restoring, hlc_store *store)
+{
+    hlcgo_answer answer;
+    answer.code = hlc_restore_finish(restoring, store, &answer.word);
+    return answer;
+}
+
+#endif

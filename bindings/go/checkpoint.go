@@ -1,0 +1,114 @@
+package hlcstore
+
+// #include "calls.h"
+import "C"
+
+import "io"
+
+// Checkpoint writes the whole state of the store, with a word of the caller's: for example the place in a log up to
+// which the store applied it. docs/formats.md describes the bytes, which end with a digest. It returns how many it
+// wrote. C makes a copy of the state under the lock, beside readers, and that is written after it.
+//
+// Errors: those of the writer, after which a part may be written.
+func (s *Store) Checkpoint(w io.Writer, word uint64) (int64, error) {
+	s.mu.RLock()
+	made := C.hlcgo_checkpoint(&s.raw, C.uint64_t(word))
+	s.mu.RUnlock()
+	return writeOutput(w, made)
+}
+
+// Increment writes the whole state of the store, but of its rows only those above a stamp, with a word of the caller's.
+// As the stamp choose the floor that the store had at an older checkpoint: of both [ApplyIncrement] makes a newer one.
+// Otherwise it is like Checkpoint.
+//
+// Refusal: ErrBelowHorizon, where the stamp is below the horizon: then make a whole checkpoint.
+func (s *Store) Increment(w io.Writer, since Stamp, word uint64) (int64, error) {
+	s.mu.RLock()
+	made := C.hlcgo_increment(&s.raw, C.uint64_t(since), C.uint64_t(word))
+	s.mu.RUnlock()
+	return writeOutput(w, made)
+}
+
+// ApplyIncrement makes a newer checkpoint, of an older one and of an increment of the same store, and writes it. It has
+// the increment's word. It answers as the newer store did, but also has the rows that vacuums dropped since the older
+// checkpoint; its next vacuum drops them.
+//
+// Refusals, in this order: ErrBadBytes, of the older bytes; ErrNoIncrement; ErrNoCheckpoint, of either; ErrNotLater;
+// ErrAboveFloor, with the floor of the older checkpoint; ErrNoIncrement with the word 0, where the stamp of the
+// increment does not fit its rows and its horizon. ErrNoMemory may come in place of each; and errors of the writer.
+func ApplyIncrement(w io.Writer, older, increment []byte) (int64, error) {
+	olderAt, olderLen := pointer(older)
+	incrementAt, incrementLen := pointer(increment)
+	return writeOutput(w, C.hlcgo_increment_apply(olderAt, olderLen, incrementAt, incrementLen))
+}
+
+// The most bytes that are copied from C at once.
+const mostCopied = 64 << 10
+
+// writeOutput writes what a call made, in pieces, and frees it.
+func writeOutput(w io.Writer, made C.hlcgo_made) (int64, error) {
+	output := made.output
+	defer C.hlc_output_drop(&output)
+	if made.code != C.HLC_OK {
+		return 0, refusal(made.code, made.word)
+	}
+	piece := make([]byte, 0, mostCopied)
+	written := int64(0)
+	for written < int64(made.len) {
+		out, outLen := room(piece)
+		read := C.hlcgo_output_read(&output, C.size_t(written), out, outLen)
+		many, err := w.Write(piece[:read.len])
+		written += int64(many)
+		if err != nil {
+			return written, err
+		}
+		if many < int(read.len) {
+			return written, io.ErrShortWrite
+		}
+	}
+	return written, nil
+}
+
+// Restore opens a store from the bytes of a checkpoint, which it reads to their end, in pieces. It continues as the
+// saved store would have: the same next items, open snapshots, horizon and answers. It also returns the word that was
+// saved.
+//
+// Refusals: ErrBadBytes, ErrNoCheckpoint, or ErrNoMemory in their place; and errors of the reader. No fault of the
+// bytes is found before their end.
+func Restore(r io.Reader) (*Store, uint64, error) {
+	var pieces restoring
+	if err := refusal(C.hlc_restore_start(&pieces.raw), 0); err != nil {
+		return nil, 0, err
+	}
+	defer C.hlc_restore_drop(&pieces.raw)
+	if _, err := io.Copy(&pieces, r); err != nil {
+		return nil, 0, err
+	}
+	store := new(Store)
+	return restored(store, C.hlcgo_restore_finish(&pieces.raw, &store.raw))
+}
+
+// RestoreBytes is like Restore, from the bytes of a checkpoint that are in memory.
+func RestoreBytes(checkpoint []byte) (*Store, uint64, error) {
+	bytes, bytesLen := pointer(checkpoint)
+	store := new(Store)
+	return restored(store, C.hlcgo_restore(&store.raw, bytes, bytesLen))
+}
+
+func restored(store *Store, answer C.hlcgo_answer) (*Store, uint64, error) {
+	if answer.code != C.HLC_OK {
+		return nil, 0, refusal(answer.code, answer.word)
+	}
+	return watched(store), uint64(answer.word), nil
+}
+
+// restoring passes what is written to it to a restore that is under way.
+type restoring struct{ raw C.hlc_restoring }
+
+func (p *restoring) Write(piece []byte) (int, error) {
+	bytes, bytesLen := pointer(piece)
+	if code := C.hlc_restore_feed(&p.raw, bytes, bytesLen); code != C.HLC_OK {
+		return 0, refusal(code, 0)
+	}
+	return len(piece), nil
+}

@@ -1,0 +1,173 @@
+package hlcstore_test
+
+import (
+	"bytes"
+	"errors"
+	"io"
+	"testing"
+	"testing/iotest"
+
+	"hlcstore"
+)
+
+func checkpointOf(t testing.TB, store *hlcstore.Store, word uint64) []byte {
+	t.Helper()
+	var saved bytes.Buffer
+	written, err := store.Checkpoint(&saved, word)
+	if err != nil || written != int64(saved.Len()) {
+		t.Fatal(written, err)
+	}
+	return saved.Bytes()
+}
+
+func TestRestoredStoreIsTheSavedOne(t *testing.T) {
+	store, snapshot := rewritten(t, 3000)
+	must(store.VacuumTo(at(4000)))
+	saved := checkpointOf(t, store, 77)
+	for name, reader := range map[string]io.Reader{
+		"whole":       bytes.NewReader(saved),
+		"byte":        iotest.OneByteReader(bytes.NewReader(saved)),
+		"half":        iotest.HalfReader(bytes.NewReader(saved)),
+		"end at once": iotest.DataErrReader(bytes.NewReader(saved)),
+	} {
+		restored, word, err := hlcstore.Restore(reader)
+		if err != nil || word != 77 {
+			t.Fatal(name, word, err)
+		}
+		equal(t, string(checkpointOf(t, restored, 77)), string(saved))
+		equal(t, must(restored.Horizon()), at(4000))
+		same := must(restored.SnapshotByID(snapshot.ID()))
+		equal(t, same.Stamp(), snapshot.Stamp())
+		equal(t, must(same.Digest(nil, nil)), must(snapshot.Digest(nil, nil)))
+		ok(t, restored.Accept(hlcstore.Item{Kind: hlcstore.Report, Number: 9000, Stamp: at(9001)}))
+		ok(t, restored.Close())
+	}
+	restored, word, err := hlcstore.RestoreBytes(saved)
+	ok(t, err)
+	equal(t, word, 77)
+	equal(t, string(checkpointOf(t, restored, 77)), string(saved))
+	ok(t, restored.Close())
+}
+
+func TestBytesThatAreNoCheckpoint(t *testing.T) {
+	saved := checkpointOf(t, filled(t, 10), 0)
+	damaged := append([]byte(nil), saved...)
+	damaged[len(damaged)/2] ^= 1
+	for name, bad := range map[string]struct {
+		bytes []byte
+		word  uint64 // 1 where the bytes are short, 6 where the digest differs, see docs/formats.md
+	}{
+		"none":    {nil, 1},
+		"cut":     {saved[:len(saved)-1], 1},
+		"damaged": {damaged, 0},
+	} {
+		for _, err := range []error{restoreError(bytes.NewReader(bad.bytes)), restoreBytesError(bad.bytes)} {
+			if !errors.Is(err, hlcstore.ErrBadBytes) {
+				t.Errorf("%s: %v", name, err)
+			}
+			if bad.word > 0 {
+				refused(t, err, hlcstore.ErrBadBytes, bad.word)
+			}
+		}
+	}
+}
+
+func restoreError(r io.Reader) error {
+	_, _, err := hlcstore.Restore(r)
+	return err
+}
+
+func restoreBytesError(checkpoint []byte) error {
+	_, _, err := hlcstore.RestoreBytes(checkpoint)
+	return err
+}
+
+func TestErrorOfTheReaderEndsARestore(t *testing.T) {
+	saved := checkpointOf(t, filled(t, 10), 0)
+	cause := errors.New("the disk is gone")
+	err := restoreError(io.MultiReader(bytes.NewReader(saved[:50]), iotest.ErrReader(cause)))
+	if err != cause {
+		t.Error(err)
+	}
+}
+
+// A limited writer takes so many bytes, and then fails; one without an error writes less than it gets.
+type limited struct {
+	left int
+	err  error
+}
+
+func (l *limited) Write(piece []byte) (int, error) {
+	if len(piece) <= l.left {
+		l.left -= len(piece)
+		return len(piece), nil
+	}
+	return l.left, l.err
+}
+
+func TestErrorOfTheWriterEndsACheckpoint(t *testing.T) {
+	store := filled(t, 3000)
+	length := int64(len(checkpointOf(t, store, 0)))
+	if length < 300_000 {
+		t.Fatal("the checkpoint has too few pieces:", length)
+	}
+	cause := errors.New("the disk is full")
+	for _, left := range []int{0, 1, 70_000, 200_000} {
+		written, err := store.Checkpoint(&limited{left, cause}, 0)
+		if err != cause {
+			t.Error(err)
+		}
+		if written < int64(left) || written > length {
+			t.Error(left, written)
+		}
+		_, err = store.Checkpoint(&limited{left, nil}, 0)
+		if err != io.ErrShortWrite {
+			t.Error(err)
+		}
+	}
+	equal(t, int64(len(checkpointOf(t, store, 0))), length)
+}
+
+func TestIncrementMakesANewerCheckpoint(t *testing.T) {
+	store, snapshot := rewritten(t, 100)
+	ok(t, snapshot.Close())
+	older := checkpointOf(t, store, 1)
+	since := must(store.Floor())
+	node := must(hlcstore.RestoreNode(0, since, 300))
+	put(t, store, node, 400, "new", "x")
+	remove(t, store, node, 401, keyOf(7))
+	var increment, newer bytes.Buffer
+	written, err := store.Increment(&increment, since, 2)
+	ok(t, err)
+	equal(t, written, int64(increment.Len()))
+	_, err = hlcstore.ApplyIncrement(&newer, older, increment.Bytes())
+	ok(t, err)
+	equal(t, newer.String(), string(checkpointOf(t, store, 2)))
+	restored, word, err := hlcstore.RestoreBytes(newer.Bytes())
+	ok(t, err)
+	equal(t, word, 2)
+	equal(t, digestOf(t, restored), digestOf(t, store))
+}
+
+func TestRefusalsOfIncrements(t *testing.T) {
+	store := filled(t, 10)
+	older := checkpointOf(t, store, 0)
+	var increment, empty bytes.Buffer
+	must(store.Increment(&increment, at(10), 0))
+	var newer bytes.Buffer
+	_, err := hlcstore.ApplyIncrement(&newer, older[:9], increment.Bytes())
+	refused(t, err, hlcstore.ErrBadBytes, 1)
+	_, err = hlcstore.ApplyIncrement(&newer, older, nil)
+	refused(t, err, hlcstore.ErrNoIncrement, 1)
+	other := open(t, 2)
+	must(other.Increment(&empty, 0, 0))
+	_, err = hlcstore.ApplyIncrement(&newer, older, empty.Bytes())
+	refused(t, err, hlcstore.ErrNotLater, 0)
+	early := checkpointOf(t, filled(t, 5), 0)
+	_, err = hlcstore.ApplyIncrement(&newer, early, increment.Bytes())
+	refused(t, err, hlcstore.ErrAboveFloor, uint64(at(5)))
+	equal(t, newer.Len(), 0)
+	must(store.VacuumTo(at(8)))
+	_, err = store.Increment(&newer, at(7), 0)
+	refused(t, err, hlcstore.ErrBelowHorizon, uint64(at(8)))
+}

@@ -1,0 +1,3 @@
+module hlcstore
+
+go 1.19

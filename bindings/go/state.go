@@ -1,0 +1,86 @@
+package hlcstore
+
+// #include "calls.h"
+import "C"
+
+// Floor returns the floor (closed timestamp): every item that is accepted later has a greater stamp.
+func (s *Store) Floor() (Stamp, error) {
+	s.mu.RLock()
+	defer s.mu.RUnlock()
+	answer := C.hlcgo_floor(&s.raw)
+	return Stamp(answer.word), refusal(answer.code, 0)
+}
+
+// FloorNode returns the first node that holds the floor back: it has not retired, and its last accepted item, or its
+// start, is the floor.
+//
+// Refusal: ErrNoNode, where all nodes have retired.
+func (s *Store) FloorNode() (uint16, error) {
+	s.mu.RLock()
+	defer s.mu.RUnlock()
+	answer := C.hlcgo_floor_node(&s.raw)
+	return uint16(answer.word), refusal(answer.code, 0)
+}
+
+// Horizon returns the horizon (GC threshold): the stamp of the last vacuum, or part of one, or 0 before the first.
+func (s *Store) Horizon() (Stamp, error) {
+	s.mu.RLock()
+	defer s.mu.RUnlock()
+	answer := C.hlcgo_horizon(&s.raw)
+	return Stamp(answer.word), refusal(answer.code, 0)
+}
+
+// Nodes returns how many node numbers are assigned, those of retired nodes too.
+func (s *Store) Nodes() (uint64, error) {
+	s.mu.RLock()
+	defer s.mu.RUnlock()
+	answer := C.hlcgo_nodes(&s.raw)
+	return uint64(answer.word), refusal(answer.code, 0)
+}
+
+// Rows returns how many rows are stored.
+func (s *Store) Rows() (uint64, error) {
+	s.mu.RLock()
+	defer s.mu.RUnlock()
+	answer := C.hlcgo_rows(&s.raw)
+	return uint64(answer.word), refusal(answer.code, 0)
+}
+
+// Sizes is how much a store has. The memory that it takes is more.
+type Sizes struct {
+	Rows       uint64
+	Keys       uint64 // keys with rows
+	KeyBytes   uint64 // the bytes of these keys, each counted once
+	ValueBytes uint64 // the bytes of the values of all rows
+}
+
+// Sizes returns how much is stored, in constant time.
+func (s *Store) Sizes() (Sizes, error) {
+	s.mu.RLock()
+	defer s.mu.RUnlock()
+	sizes := C.hlcgo_sizes(&s.raw)
+	return Sizes{
+		Rows:       uint64(sizes.rows),
+		Keys:       uint64(sizes.keys),
+		KeyBytes:   uint64(sizes.key_bytes),
+		ValueBytes: uint64(sizes.value_bytes),
+	}, refusal(sizes.code, 0)
+}
+
+// Link is what was accepted from a node.
+type Link struct {
+	Next    uint64 // the number of the node's next item
+	Head    Stamp  // the stamp of its last accepted item, or of its start
+	Retired bool   // whether its retirement was accepted
+}
+
+// Link returns what was accepted from a node. With [RestoreNode], its Head and Next continue a node whose items all
+// reached the store, and that sent and received no message since.
+//
+// Refusal: ErrNoNode.
+func (s *Store) Link(node uint16) (Link, error) {
+	s.mu.RLock()
+	defer s.mu.RUnlock()
+	link := C.hlcgo_link(&s.raw, C.uint16_t(node))
+	return Link{uint64(link.next), Stamp(link.head), bool(link.retired)}, refusal(link.code, 0)
+}
