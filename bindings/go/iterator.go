@@ -3,6 +3,8 @@ package hlcstore
 // #include "calls.h"
 import "C"
 
+import "hlcstore/internal/listing"
+
 // An Iterator goes through a range of a snapshot. It begins before the first entry:
 //
 //	pairs := snapshot.Range(from, to)
@@ -15,8 +17,8 @@ import "C"
 // It gets the entries in pieces, and holds the lock of the store only while it gets one; so a loop may call the store.
 // It is for one goroutine at a time. The zero Iterator has no entries.
 type Iterator struct {
-	scan     func(from, to, out []byte) C.hlcgo_part // nil where the range has no further piece
-	form     form
+	scan     listing.Scan // nil where the range has no further piece
+	form     listing.Form
 	from, to []byte // the rest of the range, behind the piece
 	piece    []byte
 	rest     []byte // what is left of the piece
@@ -24,16 +26,6 @@ type Iterator struct {
 	value    []byte
 	err      error
 }
-
-// A form is how an entry is written behind its key, and from which end the range is read.
-type form uint8
-
-const (
-	pairs form = iota
-	pairsBack
-	keysAlone
-	answers
-)
 
 // The room for a piece, at first and at most.
 const (
@@ -46,7 +38,7 @@ const (
 //
 // Refusal, by Err: ErrNoSnapshot.
 func (v *Snapshot) Range(from, to []byte) *Iterator {
-	return iterator(pairs, v.scan, from, to)
+	return IteratorOf(listing.Pairs, v.scan, from, to)
 }
 
 // RangeBack returns an iterator over such a range from its end. So the last key below another is the first of
@@ -54,14 +46,14 @@ func (v *Snapshot) Range(from, to []byte) *Iterator {
 //
 // Refusal, by Err: ErrNoSnapshot.
 func (v *Snapshot) RangeBack(from, to []byte) *Iterator {
-	return iterator(pairsBack, v.scanBack, from, to)
+	return IteratorOf(listing.PairsBack, v.scanBack, from, to)
 }
 
 // Keys returns an iterator over the keys of such a range alone, whose Value is nil.
 //
 // Refusal, by Err: ErrNoSnapshot.
 func (v *Snapshot) Keys(from, to []byte) *Iterator {
-	return iterator(keysAlone, v.scanKeys, from, to)
+	return IteratorOf(listing.Keys, v.scanKeys, from, to)
 }
 
 // Changes returns an iterator over what leads from this snapshot to another one of the same store: the keys of such a
@@ -70,11 +62,12 @@ func (v *Snapshot) Keys(from, to []byte) *Iterator {
 //
 // Refusal, by Err: ErrNoSnapshot, where one of them is not open, or they are of two stores.
 func (v *Snapshot) Changes(after *Snapshot, from, to []byte) *Iterator {
-	scan := func(from, to, out []byte) C.hlcgo_part { return v.scanChanges(after, from, to, out) }
-	return iterator(answers, scan, from, to)
+	scan := func(from, to, out []byte) (listing.Part, error) { return v.scanChanges(after, from, to, out) }
+	return IteratorOf(listing.Answers, scan, from, to)
 }
 
-func iterator(form form, scan func(from, to, out []byte) C.hlcgo_part, from, to []byte) *Iterator {
+// IteratorOf returns an iterator over what a call lists. It is for the packages of this module.
+func IteratorOf(form listing.Form, scan listing.Scan, from, to []byte) *Iterator {
 	return &Iterator{
 		scan: scan,
 		form: form,
@@ -92,9 +85,9 @@ func (i *Iterator) Next() bool {
 	}
 	i.key, i.rest = takeBytes(i.rest)
 	switch i.form {
-	case pairs, pairsBack:
+	case listing.Pairs, listing.PairsBack:
 		i.value, i.rest = takeBytes(i.rest)
-	case answers:
+	case listing.Answers:
 		i.value, i.rest = takeAnswer(i.rest)
 	}
 	return true
@@ -123,17 +116,17 @@ func (i *Iterator) fetch() bool {
 	}
 	i.goOn()
 	i.piece = grown(i.piece[:0], i.nextRoom())
-	part := i.scan(i.from, i.to, i.piece)
-	if part.code == C.HLC_MORE && part.many == 0 {
+	part, err := i.scan(i.from, i.to, i.piece)
+	if part.More && part.Many == 0 {
 		i.piece = grown(i.piece, mostPiece)
-		part = i.scan(i.from, i.to, i.piece)
+		part, err = i.scan(i.from, i.to, i.piece)
 	}
-	if part.code != C.HLC_MORE {
+	if !part.More {
 		i.scan = nil
-		i.err = refusal(part.code, 0)
+		i.err = err
 	}
-	i.rest = i.piece[:part.len]
-	return part.len > 0
+	i.rest = i.piece[:part.Len]
+	return part.Len > 0
 }
 
 // goOn leaves out of the range what was read of it.
@@ -141,7 +134,7 @@ func (i *Iterator) goOn() {
 	if i.key == nil {
 		return
 	}
-	if i.form == pairsBack {
+	if i.form == listing.PairsBack {
 		i.to = append(i.to[:0], i.key...)
 	} else {
 		i.from = append(append(i.from[:0], i.key...), 0)
@@ -161,39 +154,39 @@ func (i *Iterator) nextRoom() int {
 	}
 }
 
-func (v *Snapshot) scan(from, to, out []byte) C.hlcgo_part {
+func (v *Snapshot) scan(from, to, out []byte) (listing.Part, error) {
 	fromAt, fromLen := pointer(from)
 	toAt, toLen := pointer(to)
 	outAt, outLen := room(out)
 	store := v.of()
 	store.mu.RLock()
 	defer store.mu.RUnlock()
-	return C.hlcgo_scan(&store.raw, v.id, fromAt, fromLen, toAt, toLen, outAt, outLen)
+	return partOf(C.hlcgo_scan(&store.raw, v.id, fromAt, fromLen, toAt, toLen, outAt, outLen))
 }
 
-func (v *Snapshot) scanBack(from, to, out []byte) C.hlcgo_part {
+func (v *Snapshot) scanBack(from, to, out []byte) (listing.Part, error) {
 	fromAt, fromLen := pointer(from)
 	toAt, toLen := pointer(to)
 	outAt, outLen := room(out)
 	store := v.of()
 	store.mu.RLock()
 	defer store.mu.RUnlock()
-	return C.hlcgo_scan_back(&store.raw, v.id, fromAt, fromLen, toAt, toLen, outAt, outLen)
+	return partOf(C.hlcgo_scan_back(&store.raw, v.id, fromAt, fromLen, toAt, toLen, outAt, outLen))
 }
 
-func (v *Snapshot) scanKeys(from, to, out []byte) C.hlcgo_part {
+func (v *Snapshot) scanKeys(from, to, out []byte) (listing.Part, error) {
 	fromAt, fromLen := pointer(from)
 	toAt, toLen := pointer(to)
 	outAt, outLen := room(out)
 	store := v.of()
 	store.mu.RLock()
 	defer store.mu.RUnlock()
-	return C.hlcgo_scan_keys(&store.raw, v.id, fromAt, fromLen, toAt, toLen, outAt, outLen)
+	return partOf(C.hlcgo_scan_keys(&store.raw, v.id, fromAt, fromLen, toAt, toLen, outAt, outLen))
 }
 
-func (v *Snapshot) scanChanges(after *Snapshot, from, to, out []byte) C.hlcgo_part {
+func (v *Snapshot) scanChanges(after *Snapshot, from, to, out []byte) (listing.Part, error) {
 	if after.store != v.store {
-		return C.hlcgo_part{code: C.HLC_NO_SNAPSHOT}
+		return listing.Part{}, &Error{Code: ErrNoSnapshot}
 	}
 	fromAt, fromLen := pointer(from)
 	toAt, toLen := pointer(to)
@@ -201,5 +194,12 @@ func (v *Snapshot) scanChanges(after *Snapshot, from, to, out []byte) C.hlcgo_pa
 	store := v.of()
 	store.mu.RLock()
 	defer store.mu.RUnlock()
-	return C.hlcgo_changes(&store.raw, v.id, after.id, fromAt, fromLen, toAt, toLen, outAt, outLen)
+	return partOf(C.hlcgo_changes(&store.raw, v.id, after.id, fromAt, fromLen, toAt, toLen, outAt, outLen))
+}
+
+func partOf(part C.hlcgo_part) (listing.Part, error) {
+	if part.code != C.HLC_OK && part.code != C.HLC_MORE {
+		return listing.Part{}, refusal(part.code, 0)
+	}
+	return listing.Part{Len: int(part.len), Many: int(part.many), More: part.code == C.HLC_MORE}, nil
 }

@@ -15,9 +15,16 @@ import (
 // An open snapshot makes vacuums keep rows, so Close it. One that nothing refers to any more is closed by the garbage
 // collector, at some time, unless [Store.SnapshotByID] returned it.
 type Snapshot struct {
+	store  *Store
+	id     C.uint64_t
+	stamp  Stamp
+	opener *opener // nil where the garbage collector leaves the snapshot open
+}
+
+// An opener is of a snapshot that the garbage collector closes, with it.
+type opener struct {
 	store *Store
-	id    C.uint64_t
-	stamp Stamp
+	id    uint64
 }
 
 // Snapshot opens a snapshot at the floor.
@@ -42,13 +49,13 @@ func (s *Store) opened(answer C.hlcgo_snapshot) (*Snapshot, error) {
 	if answer.code != C.HLC_OK {
 		return nil, refusal(answer.code, answer.id)
 	}
-	snapshot := &Snapshot{s, answer.id, Stamp(answer.stamp)}
-	runtime.SetFinalizer(snapshot, closeLater)
-	return snapshot, nil
+	opener := &opener{s, uint64(answer.id)}
+	runtime.SetFinalizer(opener, closeLater)
+	return &Snapshot{s, answer.id, Stamp(answer.stamp), opener}, nil
 }
 
 // closeLater closes a snapshot beside the other finalizers, which do not wait for the lock of the store.
-func closeLater(snapshot *Snapshot) { go snapshot.Close() }
+func closeLater(opener *opener) { go opener.store.CloseSnapshot(opener.id) }
 
 // SnapshotByID returns the open snapshot with this id, for example after a restore. It stays open until it is closed,
 // or the store is.
@@ -61,7 +68,7 @@ func (s *Store) SnapshotByID(id uint64) (*Snapshot, error) {
 	}
 	for _, open := range all {
 		if open.ID == id {
-			return &Snapshot{s, C.uint64_t(id), open.Stamp}, nil
+			return &Snapshot{s, C.uint64_t(id), open.Stamp, nil}, nil
 		}
 	}
 	return nil, &Error{Code: ErrNoSnapshot}
@@ -110,7 +117,7 @@ func (s *Store) CloseAll() error {
 // Close closes the snapshot; then its calls are refused with ErrNoSnapshot. A snapshot that was closed before, by
 // itself or with all others, or whose store was closed, stays closed. The result is nil in all these cases.
 func (v *Snapshot) Close() error {
-	runtime.SetFinalizer(v, nil)
+	v.Keep()
 	_, err := v.of().CloseSnapshot(v.ID())
 	if errors.Is(err, ErrNoSnapshot) || errors.Is(err, ErrClosed) {
 		return nil
@@ -121,7 +128,9 @@ func (v *Snapshot) Close() error {
 // Keep leaves the snapshot open until [Store.CloseSnapshot], also where nothing refers to it any more, and returns its
 // id.
 func (v *Snapshot) Keep() uint64 {
-	runtime.SetFinalizer(v, nil)
+	if v.opener != nil {
+		runtime.SetFinalizer(v.opener, nil)
+	}
 	return v.ID()
 }
 

@@ -19,6 +19,7 @@ type Store struct {
 	mu      sync.RWMutex
 	raw     C.hlc_store
 	scratch batch
+	watched bool // whether the garbage collector closes it
 }
 
 // closedStore is the store of the zero Snapshot.
@@ -37,6 +38,7 @@ func Open(nodes uint16) (*Store, error) {
 
 // watched returns the open store, which the garbage collector closes if its program does not.
 func watched(store *Store) *Store {
+	store.watched = true
 	runtime.SetFinalizer(store, (*Store).Close)
 	return store
 }
@@ -48,7 +50,10 @@ func (s *Store) Close() error {
 	defer s.mu.Unlock()
 	C.hlc_close(&s.raw)
 	s.scratch = batch{}
-	runtime.SetFinalizer(s, nil)
+	if s.watched {
+		runtime.SetFinalizer(s, nil)
+		s.watched = false
+	}
 	return nil
 }
 

@@ -110,6 +110,20 @@ func TestZeroStoreAndSnapshotAreClosed(t *testing.T) {
 	equal(t, snapshot.Stamp(), 0)
 }
 
+func TestStoreAndSnapshotMayBeFields(t *testing.T) {
+	var service struct {
+		name     string
+		store    hlcstore.Store
+		snapshot hlcstore.Snapshot
+	}
+	ok(t, service.store.Close())
+	ok(t, service.snapshot.Close())
+	service.snapshot = *must(filled(t, 1).Snapshot())
+	equal(t, must(service.snapshot.Has([]byte(keyOf(0)))), true)
+	ok(t, service.snapshot.Close())
+	refused(t, second(service.snapshot.Has(nil)), hlcstore.ErrNoSnapshot, 0)
+}
+
 func TestRefusalsOfAccept(t *testing.T) {
 	store := open(t, 2)
 	node := hlcstore.NewNode(0, 0)

@@ -98,23 +98,30 @@ func numberOf(t *testing.T, snapshot *hlcstore.Snapshot, key string) (n int) {
 	return n
 }
 
+// Eight readers, of whom at each moment some hold the lock, go on until a writer has made its writes. A writer that
+// later readers overtook would never end.
 func TestWriterIsNotStarved(t *testing.T) {
-	store := filled(t, 2000)
+	store := filled(t, 500)
 	snapshot := must(store.Snapshot())
 	node := must(store.Join())
-	var writes atomic.Int64
-	crowd := newCrowd()
+	var done atomic.Bool
+	var group sync.WaitGroup
 	for r := 0; r < 8; r++ {
-		crowd.run(func(int) { must(snapshot.Digest(nil, nil)) })
+		group.Add(1)
+		go func() {
+			defer group.Done()
+			for !done.Load() {
+				must(snapshot.Digest(nil, nil))
+			}
+		}()
 	}
-	crowd.run(func(n int) {
+	late := time.AfterFunc(time.Minute, func() { panic("the writer does not come to its turn") })
+	for n := 1; n <= 20; n++ {
 		put(t, store, node, uint64(3000+n), "key", "x")
-		writes.Add(1)
-	})
-	crowd.group.Wait()
-	if writes.Load() < 10 {
-		t.Error("beside readers that never pause, a writer made only so many writes:", writes.Load())
 	}
+	late.Stop()
+	done.Store(true)
+	group.Wait()
 }
 
 func TestCloseBesideCalls(t *testing.T) {

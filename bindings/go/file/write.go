@@ -1,0 +1,152 @@
+package file
+
+// #include "calls.h"
+import "C"
+
+import (
+	"runtime"
+
+	"hlcstore"
+)
+
+// Append appends a batch as items of a node, in turn, at a reading of the clock, or [Now]; and clears the batch, also
+// where the error is ErrLater. It returns the stamp of the last item, at which a snapshot has all of them. An empty
+// batch does nothing.
+//
+// Refusals: ErrBadOption; ErrNoNode, ErrRetired, ErrNumbersSpent, ErrReadingTooLarge, ErrCounterFull of package
+// hlcstore.
+func (f *File) Append(node uint16, reading uint64, batch *Batch, promise Promise) (hlcstore.Stamp, error) {
+	if err := batch.allocate(); err != nil {
+		return 0, err
+	}
+	defer runtime.KeepAlive(batch.owned)
+	if err := f.use(); err != nil {
+		return 0, err
+	}
+	defer f.done()
+	return stamped(C.file_append(f.raw, C.uint16_t(node), C.uint64_t(reading), batch.owned.at, C.uint32_t(promise)))
+}
+
+// Report appends a report of a node, which lets the floor rise where the node has nothing to write. It returns its
+// stamp.
+//
+// Refusals: those of Append, but ErrBadOption.
+func (f *File) Report(node uint16, reading uint64) (hlcstore.Stamp, error) {
+	if err := f.use(); err != nil {
+		return 0, err
+	}
+	defer f.done()
+	return stamped(C.file_report(f.raw, C.uint16_t(node), C.uint64_t(reading)))
+}
+
+// Retire appends the last item of a node. It returns its stamp.
+//
+// Refusals: those of Report.
+func (f *File) Retire(node uint16, reading uint64) (hlcstore.Stamp, error) {
+	if err := f.use(); err != nil {
+		return 0, err
+	}
+	defer f.done()
+	return stamped(C.file_retire(f.raw, C.uint16_t(node), C.uint64_t(reading)))
+}
+
+// Send sends a message from a node, and returns its stamp.
+//
+// Refusals: ErrNoNode, ErrRetired, ErrReadingTooLarge, ErrCounterFull of package hlcstore.
+func (f *File) Send(node uint16, reading uint64) (hlcstore.Stamp, error) {
+	if err := f.use(); err != nil {
+		return 0, err
+	}
+	defer f.done()
+	return stamped(C.file_send(f.raw, C.uint16_t(node), C.uint64_t(reading)))
+}
+
+// Receive receives a message with this stamp, or observes a snapshot at it, and returns the stamp of that event.
+//
+// Refusals: those of Send.
+func (f *File) Receive(node uint16, seen hlcstore.Stamp, reading uint64) (hlcstore.Stamp, error) {
+	if err := f.use(); err != nil {
+		return 0, err
+	}
+	defer f.done()
+	return stamped(C.file_receive(f.raw, C.uint16_t(node), C.uint64_t(seen), C.uint64_t(reading)))
+}
+
+// Join lets a node join at the floor, and returns its number and its start.
+//
+// Refusal: ErrTooManyNodes of package hlcstore.
+func (f *File) Join() (uint16, hlcstore.Stamp, error) {
+	if err := f.use(); err != nil {
+		return 0, 0, err
+	}
+	defer f.done()
+	joined := C.file_join(f.raw)
+	return uint16(joined.node), hlcstore.Stamp(joined.start), refusal(joined.code, 0)
+}
+
+// AppendRecords appends records as bytes, as other machines made them: all, or none where one is refused. Records that
+// came before are passed over. It returns how many records came before the refused one, or how many there are.
+//
+// Refusals: ErrBadOption, ErrTooLong; of each record those of [hlcstore.Store.ApplyRecords].
+func (f *File) AppendRecords(log []byte, promise Promise) (int, error) {
+	if err := f.use(); err != nil {
+		return 0, err
+	}
+	defer f.done()
+	bytes, bytesLen := pointer(log)
+	applied := C.file_append_records(f.raw, bytes, bytesLen, C.uint32_t(promise))
+	return int(applied.many), refusal(applied.code, applied.word)
+}
+
+// Checkpoint saves a checkpoint, and cuts the log behind the older one of the two newest. It returns the place of the
+// last row of the log that it has. Writes go on meanwhile.
+func (f *File) Checkpoint() (uint64, error) {
+	if err := f.use(); err != nil {
+		return 0, err
+	}
+	defer f.done()
+	answer := C.file_checkpoint(f.raw)
+	return uint64(answer.word), refusal(answer.code, 0)
+}
+
+// VacuumTo does what [hlcstore.Store.VacuumTo] does, in parts between which reads and writes go on.
+//
+// Refusals: ErrAboveFloor, ErrBelowHorizon of package hlcstore.
+func (f *File) VacuumTo(stamp hlcstore.Stamp) (hlcstore.Vacuumed, error) {
+	if err := f.use(); err != nil {
+		return hlcstore.Vacuumed{}, err
+	}
+	defer f.done()
+	return vacuumed(C.file_vacuum_to(f.raw, C.uint64_t(stamp)))
+}
+
+// VacuumOlder does the same, to the stamp that the system's clock had so many milliseconds ago, or to the floor where
+// that is lower; where the horizon is higher, to the horizon.
+//
+// Refusal: ErrNoStamp, where the clock reads less.
+func (f *File) VacuumOlder(milliseconds uint64) (hlcstore.Vacuumed, error) {
+	if err := f.use(); err != nil {
+		return hlcstore.Vacuumed{}, err
+	}
+	defer f.done()
+	return vacuumed(C.file_vacuum_older(f.raw, C.uint64_t(milliseconds)))
+}
+
+func vacuumed(answer C.file_vacuumed) (hlcstore.Vacuumed, error) {
+	if answer.code != C.HLC_OK {
+		return hlcstore.Vacuumed{}, refusal(answer.code, answer.word)
+	}
+	return hlcstore.Vacuumed{
+		Stamp:   hlcstore.Stamp(answer.word),
+		Kept:    uint64(answer.kept),
+		Bytes:   uint64(answer.bytes),
+		Dropped: uint64(answer.dropped),
+	}, nil
+}
+
+func stamped(answer C.file_answer) (hlcstore.Stamp, error) {
+	if answer.code != C.HLC_OK && answer.code != C.HLC_FILE_LATER {
+		return 0, refusal(answer.code, answer.word)
+	}
+	return hlcstore.Stamp(answer.word), refusal(answer.code, 0)
+}
