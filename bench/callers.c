@@ -8,8 +8,9 @@
 #define WRITES 100000
 #define KEYS 1000
 #define BATCH 1000
+#define ITEM 64
 
-static double least[8];
+static double least[10];
 static hlc_store store = HLC_CLOSED_STORE;
 
 static double now(void)
@@ -62,15 +63,62 @@ static void fill_in_batches(void)
     }
 }
 
+static void fill_from_logs(uint8_t logs[WRITES / BATCH][BATCH * ITEM], const size_t *lens)
+{
+    size_t used, many;
+    uint64_t word;
+    for (int i = 0; i < WRITES / BATCH; i++) must(hlc_items_accept(&store, logs[i], lens[i], &used, &many, &word));
+}
+
+/* Measures the same writes as the items of logs. */
+static void take_logs(int kind)
+{
+    static uint8_t logs[WRITES / BATCH][BATCH * ITEM];
+    size_t lens[WRITES / BATCH] = { 0 }, len;
+    uint8_t key[8];
+    for (int i = 0; i < WRITES; i++) {
+        size_t *end = &lens[i / BATCH];
+        key_of(key, i % KEYS);
+        must(hlc_item_write(0, i, (uint64_t)(i + 1) << 16, key, 8, (const uint8_t *)"value000", 8,
+                            logs[i / BATCH] + *end, sizeof *logs - *end, &len));
+        *end += len;
+    }
+    must(hlc_open(&store, 1));
+    double t = now();
+    fill_from_logs(logs, lens);
+    take(kind, t, WRITES);
+    hlc_close(&store);
+}
+
+/* Measures many reads in one call, and a scan per key. */
+static void take_many(uint64_t id, int read, int scan)
+{
+    static uint8_t bytes[KEYS * 8], out[1 << 17];
+    static hlc_place places[KEYS];
+    size_t len, many;
+    for (int i = 0; i < KEYS; i++) {
+        key_of(bytes + 8 * i, i * 7 % KEYS);
+        places[i] = (hlc_place){ 8 * i, 8 };
+    }
+    double t = now();
+    must(hlc_read_all(&store, id, places, KEYS, bytes, sizeof bytes, out, sizeof out, &len, &many));
+    take(read, t, KEYS);
+    t = now();
+    must(hlc_scan(&store, id, NULL, 0, NULL, 0, out, sizeof out, &len, &many));
+    take(scan, t, KEYS);
+}
+
 int main(void)
 {
     static const char *names[] = { "accept of a write", "the same, by 1000", "rows", "floor", "a refused write",
-                                   "read, 100 versions", "node's write" };
+                                   "read, 100 versions", "node's write", "accept from a log, by 1000",
+                                   "read, by 1000", "scan, a key" };
     uint64_t word, id, at, number;
     uint8_t key[8], out[64];
     size_t len;
     for (int run = 0; run < 9; run++) {
         hlc_node node = hlc_node_open(0, 0);
+        take_logs(7);
         must(hlc_open(&store, 1));
         double t = now();
         fill_in_batches();
@@ -97,10 +145,11 @@ int main(void)
             must(hlc_read(&store, id, key, 8, out, sizeof out, &len));
         }
         take(5, t, WRITES);
+        take_many(id, 8, 9);
         hlc_close(&store);
         t = now();
         for (int i = 0; i < WRITES; i++) must(hlc_node_write(&node, i, key, 8, key, 8, &number, &word));
         take(6, t, WRITES);
     }
-    for (int kind = 0; kind < 7; kind++) printf("C: %s %.1f\n", names[kind], least[kind]);
+    for (int kind = 0; kind < 10; kind++) printf("C: %s %.1f\n", names[kind], least[kind]);
 }

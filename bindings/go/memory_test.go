@@ -3,10 +3,12 @@ package hlcstore_test
 import (
 	"bytes"
 	"fmt"
+	"io"
 	"os"
 	"runtime"
 	"runtime/debug"
 	"testing"
+	"testing/iotest"
 	"time"
 
 	"hlcstore"
@@ -55,6 +57,7 @@ func TestClosedStoresLeaveNothing(t *testing.T) {
 		must(store.Vacuum())
 		must(store.Certificate(&saved, at(200)))
 		restoreError(bytes.NewReader(saved.Bytes()))
+		restoreError(io.MultiReader(&saved, iotest.ErrReader(io.ErrUnexpectedEOF)))
 		store.Close()
 	})
 }

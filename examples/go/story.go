@@ -419,8 +419,8 @@ func joinAt(store *hlcstore.Store, start hlcstore.Stamp) {
 	printTwo("join at", node.ID(), node.Last(), err)
 }
 
-// keepAbove lets a node join at a start that the caller names, and vacuums to a stamp below the floor (closed timestamp),
-// which keeps what lies above that stamp.
+// keepAbove lets a node join at a start that the caller names, and vacuums to a stamp below the floor (closed
+// timestamp), which keeps what lies above that stamp.
 func keepAbove(store *hlcstore.Store, node *hlcstore.Node) {
 	write(store, node, 39, text("city"), text("Bern"))
 	report(store, node, 45)
@@ -489,7 +489,9 @@ func begin() *hlcstore.Store {
 }
 
 // writeAndRead lets two nodes write, and returns two snapshots.
-func writeAndRead(store *hlcstore.Store, a, b *hlcstore.Node, closed *hlcstore.Snapshot) (first, second *hlcstore.Snapshot) {
+func writeAndRead(
+	store *hlcstore.Store, a, b *hlcstore.Node, closed *hlcstore.Snapshot,
+) (first, second *hlcstore.Snapshot) {
 	write(store, a, 10, text("city"), text("Lyon"))
 	again := hlcstore.Item{Stamp: at(10), Key: "city", Value: "Lyon"}
 	printAnswer("again", uint64(0), store.Accept(again))

@@ -48,6 +48,15 @@ func is(t *testing.T, err, want error) {
 	}
 }
 
+// refused checks that an error is this one of a file, with this word.
+func refused(t *testing.T, err error, code file.Code, word uint64) {
+	t.Helper()
+	var refusal *file.Error
+	if !errors.As(err, &refusal) || *refusal != (file.Error{Code: code, Word: word}) {
+		t.Fatalf("got %v, want %v with the word %d", err, code, word)
+	}
+}
+
 func second[T any](_ T, err error) error { return err }
 
 // fresh returns a path without a file.
@@ -316,14 +325,9 @@ func changed(t *testing.T, sql string) string {
 
 func TestErrorsOfADamagedFile(t *testing.T) {
 	newer := changed(t, "PRAGMA user_version = 7")
-	var refusal *file.Error
-	if _, err := file.Open(newer, nil); !errors.As(err, &refusal) || *refusal != (file.Error{Code: file.ErrNewer, Word: 7}) {
-		t.Error(err)
-	}
+	refused(t, second(file.Open(newer, nil)), file.ErrNewer, 7)
 	damaged := changed(t, "UPDATE log SET records = zeroblob(30) WHERE place = (SELECT max(place) FROM log)")
-	if _, err := file.Open(damaged, nil); !errors.As(err, &refusal) || refusal.Code != file.ErrDamagedLog || refusal.Word != 2 {
-		t.Error(err)
-	}
+	refused(t, second(file.Open(damaged, nil)), file.ErrDamagedLog, 2)
 	kept := open(t, damaged, &file.Options{KeepBeforeDamage: true})
 	equal(t, must(kept.Status()).Aside, 1)
 	equal(t, must(kept.Floor()), at(1))
