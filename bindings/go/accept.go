@@ -52,6 +52,7 @@ func (s *Store) Check(item Item) error {
 
 // AcceptAll accepts items in turn, as Accept does, until one is refused, and returns how many were accepted: they stay
 // accepted. It takes the lock once, and calls C once for many items, copying their keys and values once more.
+// The store keeps about half a megabyte for that.
 func (s *Store) AcceptAll(items []Item) (int, error) {
 	s.mu.Lock()
 	defer s.mu.Unlock()

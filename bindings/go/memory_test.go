@@ -33,6 +33,9 @@ const growth = 24 << 10
 // grows fails where a turn that is made again and again takes more and more memory.
 func grows(t *testing.T, turns int, turn func()) {
 	t.Helper()
+	if testing.Short() {
+		t.Skip("left out: it takes seconds")
+	}
 	for i := 0; i < turns; i++ {
 		turn()
 	}

@@ -91,6 +91,22 @@ static inline file_answer file_append(hlc_file *file, uint16_t node, uint64_t re
     return answer;
 }
 
+static inline file_answer file_write(hlc_file *file, uint16_t node, uint64_t reading, const uint8_t *key,
+                                     size_t key_len, const uint8_t *value, size_t value_len)
+{
+    file_answer answer;
+    answer.code = hlc_file_write(file, node, reading, key, key_len, value, value_len, &answer.word);
+    return answer;
+}
+
+static inline file_answer file_delete(hlc_file *file, uint16_t node, uint64_t reading, const uint8_t *key,
+                                      size_t key_len)
+{
+    file_answer answer;
+    answer.code = hlc_file_delete(file, node, reading, key, key_len, &answer.word);
+    return answer;
+}
+
 static inline file_answer file_report(hlc_file *file, uint16_t node, uint64_t reading)
 {
     file_answer answer;

@@ -164,6 +164,18 @@ func TestNodesOfAFile(t *testing.T) {
 	}
 }
 
+func TestSingleWrites(t *testing.T) {
+	f := open(t, fresh(t), nil)
+	equal(t, must(f.Write(0, 5, []byte("a"), []byte("x"))), at(5))
+	equal(t, must(f.Delete(0, 6, []byte("a"))), at(6))
+	equal(t, get(f, at(5), "a"), "x")
+	is(t, second(must(f.Snapshot()).Get([]byte("a"))), hlcstore.ErrNoValue)
+	is(t, second(f.Write(0, 7, nil, nil)), hlcstore.ErrBadKey)
+	is(t, second(f.Write(0, 7, []byte("a"), make([]byte, 65536))), hlcstore.ErrValueTooLong)
+	is(t, second(f.Delete(1, 7, []byte("a"))), hlcstore.ErrNoNode)
+	equal(t, must(f.Floor()), at(6))
+}
+
 func TestRecordsComeAllOrNone(t *testing.T) {
 	f := open(t, fresh(t), nil)
 	var node hlcstore.Node
@@ -263,7 +275,8 @@ func TestClosedFileRefusesEachCall(t *testing.T) {
 			"AppendRecords": second(f.AppendRecords(nil, file.Default)), "Checkpoint": second(f.Checkpoint()),
 			"VacuumTo": second(f.VacuumTo(0)), "VacuumOlder": second(f.VacuumOlder(0)), "Status": second(f.Status()),
 			"Snapshot": second(f.Snapshot()), "SnapshotAt": second(f.SnapshotAt(0)), "Floor": second(f.Floor()),
-			"Horizon": second(f.Horizon()),
+			"Horizon": second(f.Horizon()), "Write": second(f.Write(0, 1, []byte("a"), nil)),
+			"Delete": second(f.Delete(0, 1, []byte("a"))),
 		} {
 			if !errors.Is(err, hlcstore.ErrClosed) {
 				t.Error(name, err)

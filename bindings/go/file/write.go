@@ -27,6 +27,32 @@ func (f *File) Append(node uint16, reading uint64, batch *Batch, promise Promise
 	return stamped(C.file_append(f.raw, C.uint16_t(node), C.uint64_t(reading), batch.owned.at, C.uint32_t(promise)))
 }
 
+// Write appends one write of a node, as Options.Promise says. It returns its stamp.
+//
+// Refusals: ErrNoNode, ErrRetired, ErrNumbersSpent, ErrBadKey, ErrValueTooLong, ErrReadingTooLarge, ErrCounterFull of
+// package hlcstore.
+func (f *File) Write(node uint16, reading uint64, key, value []byte) (hlcstore.Stamp, error) {
+	if err := f.use(); err != nil {
+		return 0, err
+	}
+	defer f.done()
+	keyAt, keyLen := pointer(key)
+	valueAt, valueLen := pointer(value)
+	return stamped(C.file_write(f.raw, C.uint16_t(node), C.uint64_t(reading), keyAt, keyLen, valueAt, valueLen))
+}
+
+// Delete appends one deletion of a node, likewise.
+//
+// Refusals: those of Write, but ErrValueTooLong.
+func (f *File) Delete(node uint16, reading uint64, key []byte) (hlcstore.Stamp, error) {
+	if err := f.use(); err != nil {
+		return 0, err
+	}
+	defer f.done()
+	keyAt, keyLen := pointer(key)
+	return stamped(C.file_delete(f.raw, C.uint16_t(node), C.uint64_t(reading), keyAt, keyLen))
+}
+
 // Report appends a report of a node, which lets the floor rise where the node has nothing to write. It returns its
 // stamp.
 //
