@@ -13,10 +13,14 @@ const (
 )
 
 func benchItems() []hlcstore.Item {
+	keys := make([]string, benchKeys)
+	for i := range keys {
+		keys[i] = keyOf(i)
+	}
 	items := make([]hlcstore.Item, benchWrites)
 	for i := range items {
 		items[i] = hlcstore.Item{
-			Number: uint64(i), Stamp: at(uint64(i + 1)), Key: keyOf(i % benchKeys), Value: "value000",
+			Number: uint64(i), Stamp: at(uint64(i + 1)), Key: keys[i%benchKeys], Value: "value000",
 		}
 	}
 	return items
