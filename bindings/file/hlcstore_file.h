@@ -104,7 +104,7 @@ typedef struct {
     uint32_t failure;          /* the last answer from 200 on that was no mistake of the caller, or 0 */
     int32_t sqlite;            /* SQLite's extended result code of it, or 0 */
     uint64_t word;             /* its word, or 0 */
-    uint32_t writes;           /* HLC_OK, or HLC_FILE_UNKNOWN where the next write first finds out, or HLC_FILE_SEALED */
+    uint32_t writes;           /* HLC_OK, HLC_FILE_UNKNOWN where the next write first finds out, or HLC_FILE_SEALED */
     uint32_t created;          /* of open: 1 where the file was made */
     uint64_t damaged;          /* of open: how many damaged checkpoints, the newest ones, it passed over */
     uint64_t applied;          /* of open: how many log records behind the checkpoint it applied */
@@ -116,7 +116,7 @@ typedef struct {
     uint64_t waiting;          /* how many batches are on disk, but not accepted, after HLC_FILE_LATER */
     uint32_t background;       /* the answer of the last checkpoint in the background, or HLC_OK */
     uint32_t spare;
-} hlc_file_status_of;
+} hlc_file_state;
 
 /* ---- The file ---- */
 
@@ -125,7 +125,7 @@ typedef struct {
  * NULL; else how it was opened, also after a refusal: why, and SQLite's code. A recovered store has no open snapshots,
  * and its file is synced as it was found: what it shows stays. Refusals: 200 to 209, 210 where the first sync failed,
  * 15. Costs a restore of the checkpoint and the log behind it. One thread at a time opens one path. */
-uint32_t hlc_file_open(const char *path, const hlc_file_options *options, hlc_file **file, hlc_file_status_of *status);
+uint32_t hlc_file_open(const char *path, const hlc_file_options *options, hlc_file **file, hlc_file_state *status);
 
 /* Waits for a checkpoint that is under way in the background, syncs the file, and frees it in any case. NULL is closed
  * with HLC_OK. Answers: HLC_OK; 205, 206, 210 or 211 where a batch of HLC_FILE_WRITTEN may not be synced; all others
@@ -133,7 +133,7 @@ uint32_t hlc_file_open(const char *path, const hlc_file_options *options, hlc_fi
 uint32_t hlc_file_close(hlc_file *file);
 
 /* Writes how the file is. Answers: HLC_OK, 204. Any thread, beside any call. */
-uint32_t hlc_file_status(hlc_file *file, hlc_file_status_of *status);
+uint32_t hlc_file_status(hlc_file *file, hlc_file_state *status);
 
 /* Writes the name of any answer, of hlcstore.h too, or a sentence in English, as hlc_error_name and _text do. Any
  * thread. */
