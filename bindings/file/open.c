@@ -1,0 +1,193 @@
+/* Opening, closing, and how a file is. */
+#include "file.h"
+#include <errno.h>
+#include <fcntl.h>
+#include <stdio.h>
+#include <stdlib.h>
+#include <string.h>
+#include <sys/file.h>
+#include <unistd.h>
+
+enum { CHECKPOINT_BYTES = 64 << 20, MOST_STARTING = 64, MOST_WAIT = 1000000 };
+
+/* ---- The path and the lock ---- */
+
+/* Returns the one name of a path, whether there is a file or not, or NULL. */
+static char *full_path(const char *path)
+{
+    char *full = realpath(path, NULL), *whole = NULL;
+    if (full || errno != ENOENT) return full;
+    const char *slash = strrchr(path, '/'), *name = slash ? slash + 1 : path;
+    char *folder = slash ? strndup(path, (size_t)(slash - path) + 1) : strdup(".");
+    if (folder) full = realpath(folder, NULL);
+    if (full && *name && asprintf(&whole, "%s/%s", full, name) < 0) whole = NULL;
+    free(full);
+    free(folder);
+    return whole;
+}
+
+/* A lock of its own file: those of POSIX on the file itself end when any descriptor of it is closed in this process. */
+static uint32_t take_lock(hlc_file *file, const char *path)
+{
+    char *name = NULL;
+    if (asprintf(&name, "%s-lock", path) < 0) return HLC_NO_MEMORY;
+    file->lock = open(name, O_RDWR | O_CREAT | O_CLOEXEC, 0666);
+    free(name);
+    if (file->lock < 0) return HLC_FILE_CANNOT_OPEN;
+    if (flock(file->lock, LOCK_EX | LOCK_NB) == 0) return HLC_OK;
+    return errno == EWOULDBLOCK ? HLC_FILE_IN_USE : HLC_FILE_CANNOT_OPEN;
+}
+
+/* ---- Options ---- */
+
+static uint32_t set_options(hlc_file *file, const hlc_file_options *given)
+{
+    hlc_file_options *options = &file->options;
+    size_t size = given ? given->size : 0;
+    if (size > sizeof *options || (size > 0 && size < sizeof *options)) return HLC_FILE_BAD_OPTION;
+    if (given) *options = *given;
+    if (options->nodes == 0) options->nodes = 1;
+    if (options->promise == HLC_FILE_DEFAULT) options->promise = HLC_FILE_SYNCED;
+    if (options->checkpoint_bytes == 0) options->checkpoint_bytes = CHECKPOINT_BYTES;
+    bool known = (options->flags & ~(uint32_t)(HLC_FILE_MUST_EXIST | HLC_FILE_KEEP_BEFORE_DAMAGE)) == 0;
+    bool in_range = options->nodes <= MOST_STARTING && options->promise <= HLC_FILE_WRITTEN;
+    return known && in_range && options->group_microseconds <= MOST_WAIT ? HLC_OK : HLC_FILE_BAD_OPTION;
+}
+
+/* ---- How a file is ---- */
+
+/* Writes as much of the state as the caller has room for. */
+static uint32_t tell(const hlc_file_state *report, hlc_file_state *state)
+{
+    size_t size = state->size == 0 ? sizeof *state : state->size;
+    if (size != sizeof *state) return HLC_FILE_BAD_OPTION;
+    *state = *report;
+    state->size = size;
+    return HLC_OK;
+}
+
+uint32_t hlc_file_status(hlc_file *file, hlc_file_state *state)
+{
+    pthread_rwlock_rdlock(&file->lend);
+    uint64_t waiting = file->waiting;
+    pthread_rwlock_unlock(&file->lend);
+    pthread_mutex_lock(&file->mutex);
+    hlc_file_state report = file->report;
+    report.waiting = waiting;
+    report.clock = file->clock;
+    report.log_bytes = file->logged - file->checkpoint_logged;
+    pthread_mutex_unlock(&file->mutex);
+    return tell(&report, state);
+}
+
+/* ---- The file ---- */
+
+static void turns_init(struct turns *turns)
+{
+    pthread_mutex_init(&turns->mutex, NULL);
+    pthread_cond_init(&turns->changed, NULL);
+}
+
+static void turns_destroy(struct turns *turns)
+{
+    pthread_mutex_destroy(&turns->mutex);
+    pthread_cond_destroy(&turns->changed);
+}
+
+static hlc_file *file_new(void)
+{
+    pthread_rwlockattr_t writers_first;
+    hlc_file *file = calloc(1, sizeof *file);
+    if (!file) return NULL;
+    file->lock = -1;
+    file->store = (hlc_store)HLC_CLOSED_STORE;
+    turns_init(&file->turns);
+    turns_init(&file->changing);
+    pthread_mutex_init(&file->checkpointing, NULL);
+    pthread_mutex_init(&file->vacuuming, NULL);
+    pthread_mutex_init(&file->mutex, NULL);
+    pthread_cond_init(&file->changed, NULL);
+    pthread_cond_init(&file->wake, NULL);
+    pthread_rwlockattr_init(&writers_first);
+    pthread_rwlockattr_setkind_np(&writers_first, PTHREAD_RWLOCK_PREFER_WRITER_NONRECURSIVE_NP);
+    pthread_rwlock_init(&file->lend, &writers_first);
+    pthread_rwlockattr_destroy(&writers_first);
+    return file;
+}
+
+/* The lock ends last, when nothing of the file is used any more. */
+static void file_free(hlc_file *file)
+{
+    db_close(&file->db);
+    drop_behind(file);
+    hlc_close(&file->store);
+    if (file->lock >= 0) close(file->lock);
+    turns_destroy(&file->turns);
+    turns_destroy(&file->changing);
+    pthread_mutex_destroy(&file->checkpointing);
+    pthread_mutex_destroy(&file->vacuuming);
+    pthread_mutex_destroy(&file->mutex);
+    pthread_cond_destroy(&file->changed);
+    pthread_cond_destroy(&file->wake);
+    pthread_rwlock_destroy(&file->lend);
+    free(file);
+}
+
+static uint32_t open_locked(hlc_file *file, const char *path)
+{
+    bool created = false, may_create = !(file->options.flags & HLC_FILE_MUST_EXIST);
+    uint64_t word = 0;
+    uint32_t answer = db_open(&file->db, path, may_create, file->options.nodes, &created, &word);
+    if (answer == HLC_OK) answer = recover(file, &word);
+    if (answer == HLC_OK) answer = background_start(file);
+    file->report.created = created && answer == HLC_OK;
+    note(file, answer, word);
+    return answer;
+}
+
+static uint32_t open_path(hlc_file *file, const char *path, const hlc_file_options *options)
+{
+    uint32_t answer = set_options(file, options);
+    if (answer != HLC_OK) return answer;
+    errno = 0;
+    char *full = full_path(path);
+    if (!full) return note(file, errno == ENOMEM ? HLC_NO_MEMORY : HLC_FILE_CANNOT_OPEN, 0);
+    bool must_exist = file->options.flags & HLC_FILE_MUST_EXIST;
+    bool missing = must_exist && access(full, F_OK) != 0;
+    answer = missing ? HLC_FILE_CANNOT_OPEN : take_lock(file, full);
+    answer = answer == HLC_OK ? open_locked(file, full) : note(file, answer, 0);
+    free(full);
+    return answer;
+}
+
+uint32_t hlc_file_open(const char *path, const hlc_file_options *options, hlc_file **file, hlc_file_state *state)
+{
+    *file = NULL;
+    hlc_file *made = file_new();
+    if (!made) return HLC_NO_MEMORY;
+    uint32_t answer = open_path(made, path, options);
+    if (state && tell(&made->report, state) != HLC_OK && answer == HLC_OK) answer = HLC_FILE_BAD_OPTION;
+    if (answer == HLC_OK) *file = made;
+    else file_free(made);
+    return answer;
+}
+
+/* Writes the clock as it is, so that the next stamps follow it closely, and syncs all that was written before. */
+static uint32_t settle(hlc_file *file)
+{
+    struct state state = file->db.state;
+    state.clock = file->clock;
+    uint32_t answer = db_begin(&file->db, true);
+    if (answer == HLC_OK) answer = db_set_state(&file->db, state);
+    if (answer == HLC_OK) db_shorten(&file->db, -1);
+    return answer;
+}
+
+uint32_t hlc_file_close(hlc_file *file)
+{
+    if (!file) return HLC_OK;
+    background_stop(file);
+    uint32_t answer = settle(file);
+    file_free(file);
+    return answer;
+}

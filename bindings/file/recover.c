@@ -1,0 +1,232 @@
+/* Recovery: the newest checkpoint that is whole, then the log behind it. */
+#include "file.h"
+
+enum { MOST_DAMAGED = 16 };
+
+/* A row of `checkpoint`. */
+struct found {
+    uint64_t id;
+    uint64_t place;
+    uint64_t sum;
+    uint64_t pieces;
+    uint64_t len;
+    uint64_t last_sum;
+    uint64_t row_sum;
+    uint64_t damaged;
+};
+
+/* How far the recovery came: up to this place, with the sum there. */
+struct recovery {
+    uint64_t place;
+    uint64_t sum;
+    uint64_t len;      /* bytes of the checkpoint */
+    uint64_t log_len;  /* bytes of log behind it */
+    uint64_t damaged;
+    uint64_t damaged_ids[MOST_DAMAGED];
+};
+
+/* ---- The checkpoint ---- */
+
+static uint32_t feed_piece(hlc_restoring *restoring, sqlite3_stmt *row, uint64_t number, uint64_t *sum, bool *whole)
+{
+    const uint8_t *bytes = sqlite3_column_blob(row, 2);
+    size_t len = (size_t)sqlite3_column_bytes(row, 2);
+    *sum = sum_bytes(*sum, number, bytes, len);
+    *whole = (uint64_t)sqlite3_column_int64(row, 0) == number && (uint64_t)sqlite3_column_int64(row, 1) == *sum;
+    return *whole ? hlc_restore_feed(restoring, bytes, len) : HLC_OK;
+}
+
+/* Feeds the pieces of a checkpoint. whole: whether all are there and have their sums. */
+static uint32_t feed_pieces(struct db *db, hlc_restoring *restoring, const struct found *found, bool *whole)
+{
+    struct values id = { .many = 1, .numbers = { found->id } };
+    sqlite3_stmt *rows = db_ask(db, PIECES, &id);
+    uint64_t sum = 0, many = 0;
+    uint32_t answer = HLC_OK;
+    *whole = true;
+    while (answer == HLC_OK && *whole && sqlite3_step(rows) == SQLITE_ROW) {
+        answer = feed_piece(restoring, rows, many++, &sum, whole);
+    }
+    int code = sqlite3_reset(rows);
+    if (answer == HLC_OK && code != SQLITE_OK) answer = db_failure(db, code);
+    if (many != found->pieces || sum != found->last_sum || answer == HLC_FILE_CORRUPT) *whole = false;
+    return answer == HLC_FILE_CORRUPT ? HLC_OK : answer;
+}
+
+/* Opens the store from a checkpoint. whole: whether it is undamaged; if not, the store stays closed. */
+static uint32_t restore(hlc_file *file, const struct found *found, bool *whole)
+{
+    hlc_restoring restoring = HLC_NO_RESTORING;
+    uint64_t word;
+    const uint64_t numbers[] = { found->id, found->place, found->sum, found->pieces, found->len, found->last_sum };
+    *whole = found->row_sum == sum_numbers(numbers, 6);
+    if (!*whole) return HLC_OK;
+    uint32_t answer = hlc_restore_start(&restoring);
+    if (answer == HLC_OK) answer = feed_pieces(&file->db, &restoring, found, whole);
+    if (answer == HLC_OK && *whole) {
+        answer = hlc_restore_finish(&restoring, &file->store, &word);
+        *whole = answer == HLC_OK && word == found->place;
+        if (answer == HLC_OK && !*whole) hlc_close(&file->store);
+        if (answer == HLC_BAD_BYTES || answer == HLC_NO_CHECKPOINT) answer = HLC_OK;
+    }
+    hlc_restore_drop(&restoring);
+    return answer;
+}
+
+static struct found found_in(sqlite3_stmt *row)
+{
+    uint64_t n[8];
+    for (int i = 0; i < 8; i++) n[i] = (uint64_t)sqlite3_column_int64(row, i);
+    return (struct found){ n[0], n[1], n[2], n[3], n[4], n[5], n[6], n[7] };
+}
+
+/* Restores the newest checkpoint that is whole, or opens an empty store where there is none. */
+static uint32_t restore_newest(hlc_file *file, struct recovery *recovery)
+{
+    sqlite3_stmt *rows = file->db.statements[CHECKPOINTS];
+    uint32_t answer = HLC_OK;
+    bool whole = false;
+    while (answer == HLC_OK && !whole && sqlite3_step(rows) == SQLITE_ROW) {
+        struct found found = found_in(rows);
+        if (file->newest_id == 0) file->newest_id = found.id;
+        if (found.damaged) continue;
+        answer = restore(file, &found, &whole);
+        if (answer != HLC_OK) break;
+        if (whole) {
+            file->newest = (struct saved){ found.id, found.place };
+            recovery->place = found.place;
+            recovery->sum = found.sum;
+            recovery->len = found.len;
+        } else if (recovery->damaged < MOST_DAMAGED) {
+            recovery->damaged_ids[recovery->damaged++] = found.id;
+        }
+    }
+    int code = sqlite3_reset(rows);
+    if (answer == HLC_OK && code != SQLITE_OK) answer = db_failure(&file->db, code);
+    return answer == HLC_OK && !whole ? hlc_open(&file->store, (uint16_t)file->db.state.nodes) : answer;
+}
+
+/* ---- The log ---- */
+
+/* Answers whether the links take all records of a row, and moves them on. */
+static bool take_row(struct links *links, const uint8_t *bytes, size_t len)
+{
+    struct record record;
+    bool came_before;
+    uint64_t word;
+    for (size_t at = 0; at < len; at += record.len) {
+        if (record_read(bytes + at, len - at, &record, &word) != HLC_OK) return false;
+        if (links_take(links, &record, &came_before, &word) != HLC_OK) return false;
+    }
+    return true;
+}
+
+/* Applies a row, if it is the next one and undamaged. */
+static uint32_t apply_row(hlc_file *file, struct recovery *recovery, sqlite3_stmt *row)
+{
+    uint64_t place = (uint64_t)sqlite3_column_int64(row, 0), threshold, word;
+    size_t len = (size_t)sqlite3_column_bytes(row, 2), used, many;
+    const uint8_t *bytes = sqlite3_column_blob(row, 2);
+    if (place != recovery->place + 1 || place > file->db.state.place) return HLC_FILE_DAMAGED_LOG;
+    uint64_t sum = sum_bytes(recovery->sum, place, bytes, len);
+    if (sum != (uint64_t)sqlite3_column_int64(row, 1)) return HLC_FILE_DAMAGED_LOG;
+    if (!take_row(&file->links, bytes, len)) return HLC_FILE_DAMAGED_LOG;
+    uint32_t answer = hlc_records_apply(&file->store, bytes, len, &used, &many, &threshold, &word);
+    if (answer != HLC_OK) return answer;
+    recovery->place = place;
+    recovery->sum = sum;
+    recovery->log_len += len;
+    file->report.applied += many;
+    return HLC_OK;
+}
+
+/* Applies the rows behind a place, up to the last one or the first that is damaged. */
+static uint32_t apply_log(hlc_file *file, struct recovery *recovery)
+{
+    struct values from = { .many = 1, .numbers = { recovery->place } };
+    sqlite3_stmt *rows = db_ask(&file->db, LOG_FROM, &from);
+    uint32_t answer = HLC_OK;
+    while (answer == HLC_OK && sqlite3_step(rows) == SQLITE_ROW) answer = apply_row(file, recovery, rows);
+    int code = sqlite3_reset(rows);
+    if (answer == HLC_OK && code != SQLITE_OK) answer = db_failure(&file->db, code);
+    return answer == HLC_OK && recovery->place != file->db.state.place ? HLC_FILE_DAMAGED_LOG : answer;
+}
+
+/* Moves the log behind a place into `aside`. */
+static uint32_t move_aside(hlc_file *file, const struct recovery *recovery)
+{
+    struct db *db = &file->db;
+    struct values from = { .many = 1, .numbers = { recovery->place } };
+    struct state state = db->state;
+    state.place = recovery->place;
+    state.sum = recovery->sum;
+    uint32_t answer = db_begin(db, true);
+    if (answer != HLC_OK) return answer;
+    answer = db_do(db, LOG_ASIDE, &from);
+    if (answer == HLC_OK) answer = db_do(db, LOG_DROP, &from);
+    file->report.aside = (uint64_t)sqlite3_changes(db->sqlite);
+    return answer == HLC_OK ? db_set_state(db, state) : db_end(db, answer);
+}
+
+/* ---- Both ---- */
+
+/* So that they do not count as the two newest, and the log stays as long as the one that was restored needs it. */
+static uint32_t mark_damaged(hlc_file *file, const struct recovery *recovery)
+{
+    uint32_t answer = recovery->damaged > 0 ? db_begin(&file->db, true) : HLC_OK;
+    if (recovery->damaged == 0 || answer != HLC_OK) return answer;
+    for (uint64_t i = 0; i < recovery->damaged && answer == HLC_OK; i++) {
+        struct values id = { .many = 1, .numbers = { recovery->damaged_ids[i] } };
+        answer = db_do(&file->db, CHECKPOINT_DAMAGED, &id);
+    }
+    return db_end(&file->db, answer);
+}
+
+/* Answers a damaged log: without a whole checkpoint it may only begin too late. */
+static uint32_t damaged_log(hlc_file *file, const struct recovery *recovery, uint64_t *word)
+{
+    bool cut = recovery->place == 0 && file->newest.id == 0 && file->db.state.place > 0;
+    if (cut && recovery->damaged > 0) {
+        *word = recovery->damaged;
+        return HLC_FILE_NO_CHECKPOINT;
+    }
+    *word = recovery->place + 1;
+    return HLC_FILE_DAMAGED_LOG;
+}
+
+static void begin_at(hlc_file *file, const struct recovery *recovery)
+{
+    const struct state *state = &file->db.state;
+    file->applied = recovery->place;
+    file->applied_sum = recovery->sum;
+    file->logged = file->accepted = recovery->log_len;
+    file->threshold = state->threshold;
+    file->horizon = state->horizon;
+    file->ceiling = file->clock = state->clock;
+    file->report.place = state->place;
+    finish_checkpoint(file, file->newest.place, 0, recovery->len);
+    hlc_close_all(&file->store);
+    raise_horizon(file, state->horizon);
+}
+
+/* Makes the store and the clock of a file from its tables. */
+uint32_t recover(hlc_file *file, uint64_t *word)
+{
+    struct recovery recovery = { 0 };
+    uint32_t answer = restore_newest(file, &recovery);
+    if (answer == HLC_OK) {
+        links_of_store(&file->links, &file->store);
+        answer = apply_log(file, &recovery);
+    }
+    if (answer == HLC_FILE_DAMAGED_LOG) {
+        answer = damaged_log(file, &recovery, word);
+        bool keeps = answer == HLC_FILE_DAMAGED_LOG && file->options.flags & HLC_FILE_KEEP_BEFORE_DAMAGE;
+        if (keeps) answer = move_aside(file, &recovery);
+        /* The links have taken some records of the damaged row. */
+        links_of_store(&file->links, &file->store);
+    }
+    if (answer == HLC_OK) answer = mark_damaged(file, &recovery);
+    if (answer == HLC_OK) begin_at(file, &recovery);
+    file->report.damaged = recovery.damaged;
+    return answer;
+}

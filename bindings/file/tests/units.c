@@ -1,0 +1,749 @@
+/* A test of each decision of the library, on files in the current folder. */
+#include "test.h"
+#include <fcntl.h>
+#include <sys/stat.h>
+#include <sys/wait.h>
+#include <time.h>
+
+static const char PATH[] = "units.hlc";
+
+/* ---- Recovery ---- */
+
+static void a_write_is_there_after_an_opening(void)
+{
+    hlc_file *file = opened(fresh(PATH));
+    EXPECT(state_of(file).created, 1);
+    put(file, 10, "city", "Lyon");
+    put(file, 20, "city", "Paris");
+    EXPECT(state_of(file).place, 2);
+    EXPECT(hlc_file_close(file), HLC_OK);
+    file = opened(PATH);
+    EXPECT(state_of(file).created, 0);
+    EXPECT(state_of(file).applied, 2);
+    EXPECT_VALUE(file, AT(10), "city", "Lyon");
+    EXPECT_VALUE(file, AT(15), "city", "Lyon");
+    EXPECT_VALUE(file, 0, "city", "Paris");
+    EXPECT_VALUE(file, AT(9), "city", "");
+    EXPECT_VALUE(file, AT(21), "city", "refused 8");
+    EXPECT(hlc_file_close(file), HLC_OK);
+}
+
+static void a_checkpoint_replaces_its_log(void)
+{
+    uint64_t place;
+    hlc_file *file = opened(fresh(PATH));
+    for (int i = 1; i <= 5; i++) put(file, (uint64_t)i, "a", "one");
+    EXPECT(hlc_file_checkpoint(file, &place), HLC_OK);
+    EXPECT(place, 5);
+    put(file, 6, "a", "two");
+    EXPECT(hlc_file_checkpoint(file, &place), HLC_OK);
+    EXPECT(place, 6);
+    put(file, 7, "a", "three");
+    EXPECT(state_of(file).checkpoint_place, 6);
+    HOLDS(state_of(file).log_bytes > 0);
+    EXPECT(hlc_file_close(file), HLC_OK);
+    /* The older of the two needs the log from place 6 on. */
+    EXPECT(number_of(PATH, "SELECT min(place) FROM log"), 6);
+    EXPECT(number_of(PATH, "SELECT count(*) FROM checkpoint"), 2);
+    file = opened(PATH);
+    EXPECT(state_of(file).applied, 1);
+    EXPECT(state_of(file).damaged, 0);
+    EXPECT_VALUE(file, AT(5), "a", "one");
+    EXPECT_VALUE(file, 0, "a", "three");
+    for (int i = 0; i < 3; i++) EXPECT(hlc_file_checkpoint(file, &place), HLC_OK);
+    EXPECT(hlc_file_close(file), HLC_OK);
+    EXPECT(number_of(PATH, "SELECT count(*) FROM checkpoint"), 2);
+    EXPECT(number_of(PATH, "SELECT count(DISTINCT checkpoint) FROM piece"), 2);
+    EXPECT(number_of(PATH, "SELECT count(*) FROM log"), 0);
+}
+
+/* Makes a file with checkpoints at the places 2 and 4, and a log from 3 to 5. */
+static void make_two_checkpoints(void)
+{
+    uint64_t place;
+    hlc_file *file = opened(fresh(PATH));
+    put(file, 1, "a", "one");
+    put(file, 2, "a", "two");
+    EXPECT(hlc_file_checkpoint(file, &place), HLC_OK);
+    put(file, 3, "a", "three");
+    put(file, 4, "a", "four");
+    EXPECT(hlc_file_checkpoint(file, &place), HLC_OK);
+    put(file, 5, "a", "five");
+    EXPECT(hlc_file_close(file), HLC_OK);
+}
+
+static uint32_t answer_of_opening(uint32_t flags, hlc_file_state *state)
+{
+    hlc_file *file;
+    hlc_file_options options = { .flags = flags, .checkpoint_bytes = UINT64_MAX };
+    *state = (hlc_file_state){ 0 };
+    uint32_t answer = hlc_file_open(PATH, &options, &file, state);
+    if (answer != HLC_OK) HOLDS(file == NULL);
+    else EXPECT_VALUE(file, AT(1), "a", "one");
+    hlc_file_close(file);
+    return answer;
+}
+
+static void a_damaged_checkpoint_falls_back(void)
+{
+    static const char *const damages[] = {
+        "UPDATE piece SET bytes = zeroblob(length(bytes)) WHERE checkpoint = 2",
+        "DELETE FROM piece WHERE checkpoint = 2",
+        "UPDATE piece SET number = 7 WHERE checkpoint = 2",
+        "UPDATE checkpoint SET place = 3 WHERE id = 2",
+        "UPDATE checkpoint SET sum = sum + 1 WHERE id = 2",
+    };
+    hlc_file_state state;
+    uint64_t place;
+    for (size_t i = 0; i < sizeof damages / sizeof *damages; i++) {
+        make_two_checkpoints();
+        change(PATH, damages[i]);
+        EXPECT(answer_of_opening(0, &state), HLC_OK);
+        EXPECT(state.damaged, 1);
+        EXPECT(state.checkpoint_place, 2);
+        EXPECT(state.applied, 3);
+        EXPECT(number_of(PATH, "SELECT id FROM checkpoint WHERE damaged"), 2);
+        /* It does not count as one of the two newest: the log stays as the older one needs it. */
+        hlc_file *file = opened(PATH);
+        EXPECT(state_of(file).damaged, 0);
+        EXPECT_VALUE(file, 0, "a", "five");
+        EXPECT(hlc_file_checkpoint(file, &place), HLC_OK);
+        EXPECT(hlc_file_close(file), HLC_OK);
+        EXPECT(number_of(PATH, "SELECT min(place) FROM log"), 3);
+        EXPECT(number_of(PATH, "SELECT count(*) FROM checkpoint WHERE damaged = 0"), 2);
+    }
+}
+
+static void without_a_checkpoint_only_a_whole_log_serves(void)
+{
+    hlc_file_state state;
+    make_two_checkpoints();
+    change(PATH, "UPDATE piece SET sum = sum + 1");
+    EXPECT(answer_of_opening(0, &state), HLC_FILE_NO_CHECKPOINT);
+    EXPECT(state.failure, HLC_FILE_NO_CHECKPOINT);
+    EXPECT(state.word, 2);
+    EXPECT(answer_of_opening(HLC_FILE_KEEP_BEFORE_DAMAGE, &state), HLC_FILE_NO_CHECKPOINT);
+    hlc_file *file = opened(fresh(PATH));
+    uint64_t place;
+    put(file, 1, "a", "one");
+    EXPECT(hlc_file_checkpoint(file, &place), HLC_OK);
+    hlc_file_close(file);
+    change(PATH, "UPDATE piece SET sum = sum + 1");
+    EXPECT(answer_of_opening(0, &state), HLC_OK);
+    EXPECT(state.damaged, 1);
+    EXPECT(state.applied, 1);
+}
+
+static void a_damaged_log_is_refused_with_its_place(void)
+{
+    static const struct {
+        const char *sql;
+        uint64_t place;
+    } damages[] = {
+        { "UPDATE log SET records = zeroblob(30) WHERE place = 3", 3 },
+        { "UPDATE log SET sum = sum + 1 WHERE place = 3", 3 },
+        { "DELETE FROM log WHERE place = 3", 3 },
+        { "DELETE FROM log WHERE place = 5", 5 },
+        { "DELETE FROM log", 1 },
+        { "UPDATE log SET place = 9 WHERE place = 5", 5 },
+        { "UPDATE log SET place = -place WHERE place IN (3, 4); UPDATE log SET place = 7 + place WHERE place < 0", 3 },
+        { "INSERT INTO log SELECT 6, sum, records FROM log WHERE place = 5", 6 },
+    };
+    hlc_file_state state;
+    for (size_t i = 0; i < sizeof damages / sizeof *damages; i++) {
+        hlc_file *file = opened(fresh(PATH));
+        for (uint64_t l = 1; l <= 5; l++) put(file, l, "a", l == 1 ? "one" : "more");
+        hlc_file_close(file);
+        change(PATH, damages[i].sql);
+        EXPECT(answer_of_opening(0, &state), HLC_FILE_DAMAGED_LOG);
+        EXPECT(state.failure, HLC_FILE_DAMAGED_LOG);
+        EXPECT(state.word, damages[i].place);
+    }
+}
+
+static void what_is_before_the_damage_is_kept_on_demand(void)
+{
+    hlc_file_state state;
+    uint64_t stamp;
+    hlc_file *file = opened(fresh(PATH));
+    for (uint64_t l = 1; l <= 5; l++) put(file, l, "a", l == 1 ? "one" : "more");
+    put(file, 6, "a", "last");
+    hlc_file_close(file);
+    change(PATH, "UPDATE log SET sum = sum + 1 WHERE place = 4");
+    EXPECT(answer_of_opening(HLC_FILE_KEEP_BEFORE_DAMAGE, &state), HLC_OK);
+    EXPECT(state.aside, 3);
+    EXPECT(state.place, 3);
+    EXPECT(number_of(PATH, "SELECT count(*) FROM aside"), 3);
+    EXPECT(number_of(PATH, "SELECT max(place) FROM aside"), 6);
+    EXPECT(number_of(PATH, "SELECT max(place) FROM log"), 3);
+    /* Stamps that were returned do not come again. */
+    file = opened(PATH);
+    EXPECT_VALUE(file, 0, "a", "more");
+    EXPECT(put_at(file, 1, "a", "new", &stamp), HLC_OK);
+    HOLDS(stamp > AT(6));
+    hlc_file_close(file);
+    file = opened(PATH);
+    EXPECT_VALUE(file, 0, "a", "new");
+    hlc_file_close(file);
+}
+
+static void a_damaged_state_is_refused(void)
+{
+    hlc_file_state state;
+    make_two_checkpoints();
+    change(PATH, "UPDATE state SET clock = 1");
+    EXPECT(answer_of_opening(0, &state), HLC_FILE_CORRUPT);
+    make_two_checkpoints();
+    change(PATH, "DELETE FROM state");
+    EXPECT(answer_of_opening(0, &state), HLC_FILE_CORRUPT);
+    make_two_checkpoints();
+    change(PATH, "DROP TABLE piece");
+    EXPECT(answer_of_opening(0, &state), HLC_FILE_CORRUPT);
+}
+
+/* ---- Whose file it is ---- */
+
+static void copy(const char *from, const char *to)
+{
+    char command[256];
+    snprintf(command, sizeof command, "cp %s %s", from, to);
+    HOLDS(system(command) == 0);
+}
+
+static bool same(const char *one, const char *other)
+{
+    char command[256];
+    snprintf(command, sizeof command, "cmp %s %s", one, other);
+    return system(command) == 0;
+}
+
+static void other_files_are_refused_and_unchanged(void)
+{
+    static const struct {
+        const char *sql;
+        uint32_t answer;
+    } files[] = {
+        { "CREATE TABLE log(x); INSERT INTO log VALUES (1)", HLC_FILE_NOT_OURS },
+        { "PRAGMA journal_mode = WAL; CREATE TABLE log(x)", HLC_FILE_NOT_OURS },
+        { "PRAGMA application_id = 7; CREATE TABLE log(x)", HLC_FILE_NOT_OURS },
+        { "PRAGMA application_id = 0x686c6366; PRAGMA user_version = 2; CREATE TABLE log(x)", HLC_FILE_NEWER },
+    };
+    hlc_file_state state;
+    for (size_t i = 0; i < sizeof files / sizeof *files; i++) {
+        change(fresh(PATH), files[i].sql);
+        copy(PATH, "before");
+        EXPECT(answer_of_opening(0, &state), files[i].answer);
+        EXPECT(state.failure, files[i].answer);
+        EXPECT(state.word, files[i].answer == HLC_FILE_NEWER ? 2 : 0);
+        HOLDS(same(PATH, "before"));
+    }
+    fresh(PATH);
+    HOLDS(system("seq 5000 > units.hlc") == 0);
+    copy(PATH, "before");
+    EXPECT(answer_of_opening(0, &state), HLC_FILE_NOT_OURS);
+    HOLDS(same(PATH, "before"));
+}
+
+/* The write-ahead log of another application, whose process ended early, stays as it is. */
+static void another_log_is_unchanged(void)
+{
+    hlc_file_state state;
+    fresh(PATH);
+    pid_t child = fork();
+    if (child == 0) {
+        sqlite3 *db;
+        sqlite3_open(PATH, &db);
+        sqlite3_exec(db, "PRAGMA journal_mode = WAL; CREATE TABLE t(x); INSERT INTO t VALUES (1)", NULL, NULL, NULL);
+        _exit(0);
+    }
+    waitpid(child, NULL, 0);
+    copy(PATH, "before");
+    copy("units.hlc-wal", "before-wal");
+    EXPECT(answer_of_opening(0, &state), HLC_FILE_NOT_OURS);
+    HOLDS(same(PATH, "before"));
+    HOLDS(same("units.hlc-wal", "before-wal"));
+    EXPECT(number_of(PATH, "SELECT x FROM t"), 1);
+}
+
+static void paths_that_cannot_be_opened(void)
+{
+    hlc_file *file;
+    hlc_file_state state = { 0 };
+    hlc_file_options options = { .flags = HLC_FILE_MUST_EXIST };
+    EXPECT(hlc_file_open("nowhere/file", NULL, &file, &state), HLC_FILE_CANNOT_OPEN);
+    EXPECT(state.failure, HLC_FILE_CANNOT_OPEN);
+    EXPECT(hlc_file_open(".", NULL, &file, NULL), HLC_FILE_CANNOT_OPEN);
+    EXPECT(hlc_file_open("", NULL, &file, NULL), HLC_FILE_CANNOT_OPEN);
+    EXPECT(hlc_file_open(fresh(PATH), &options, &file, NULL), HLC_FILE_CANNOT_OPEN);
+    HOLDS(access(PATH, F_OK) != 0);
+    HOLDS(access("units.hlc-lock", F_OK) != 0);
+}
+
+static void options_out_of_range(void)
+{
+    static const hlc_file_options bad[] = {
+        { .size = 4 }, { .size = sizeof(hlc_file_options) + 8 }, { .flags = 8 }, { .nodes = 65 }, { .promise = 4 },
+        { .group_microseconds = 1000001 },
+    };
+    hlc_file *file;
+    uint64_t word;
+    size_t many;
+    hlc_file_state state = { .size = 4 };
+    fresh(PATH);
+    for (size_t i = 0; i < sizeof bad / sizeof *bad; i++) {
+        EXPECT(hlc_file_open(PATH, &bad[i], &file, NULL), HLC_FILE_BAD_OPTION);
+        HOLDS(file == NULL && access(PATH, F_OK) != 0);
+    }
+    file = opened_with(PATH, (hlc_file_options){ .size = sizeof(hlc_file_options), .nodes = 64 });
+    EXPECT(hlc_file_status(file, &state), HLC_FILE_BAD_OPTION);
+    EXPECT(hlc_file_append_records(file, NULL, 0, 4, &many, &word), HLC_FILE_BAD_OPTION);
+    hlc_file_close(file);
+}
+
+/* ---- One process ---- */
+
+static void a_second_opening_is_refused(void)
+{
+    hlc_file *file = opened(fresh(PATH)), *second;
+    hlc_file_state state = { 0 };
+    put(file, 1, "a", "one");
+    EXPECT(hlc_file_open(PATH, NULL, &second, &state), HLC_FILE_IN_USE);
+    HOLDS(symlink(PATH, "link.hlc") == 0);
+    EXPECT(hlc_file_open("link.hlc", NULL, &second, &state), HLC_FILE_IN_USE);
+    unlink("link.hlc");
+    pid_t child = fork();
+    if (child == 0) _exit(hlc_file_open("./units.hlc", NULL, &second, NULL) == HLC_FILE_IN_USE ? 0 : 1);
+    int status;
+    waitpid(child, &status, 0);
+    EXPECT(status, 0);
+    put(file, 2, "a", "two");
+    hlc_file_close(file);
+    hlc_file_close(opened(PATH));
+}
+
+/* The lock ends with its process, whatever way that ends. */
+static void a_lock_dies_with_its_process(void)
+{
+    fresh(PATH);
+    pid_t child = fork();
+    if (child == 0) {
+        hlc_file *file = opened(PATH);
+        put(file, 1, "a", "one");
+        _exit(wrong);
+    }
+    int status;
+    waitpid(child, &status, 0);
+    EXPECT(status, 0);
+    hlc_file *file = opened(PATH);
+    EXPECT_VALUE(file, 0, "a", "one");
+    hlc_file_close(file);
+}
+
+/* ---- Clocks ---- */
+
+static void stamps_rise_over_openings(void)
+{
+    uint64_t stamp, sent, received, last = 0;
+    hlc_file *file = opened(fresh(PATH));
+    put(file, 10, "a", "one");
+    EXPECT(hlc_file_send(file, 0, 50, &sent), HLC_OK);
+    EXPECT(sent, AT(50));
+    EXPECT(hlc_file_receive(file, 0, AT(70), 20, &received), HLC_OK);
+    EXPECT(received, AT(70) + 1);
+    EXPECT(hlc_file_close(file), HLC_OK);
+    file = opened(PATH);
+    EXPECT(state_of(file).clock, AT(70) + 1);
+    EXPECT(put_at(file, 5, "a", "two", &stamp), HLC_OK);
+    EXPECT(stamp, AT(70) + 2);
+    hlc_file_close(file);
+    /* A process that ends early leaves a clock above all that it returned. */
+    int ends[2];
+    HOLDS(pipe(ends) == 0);
+    pid_t child = fork();
+    if (child == 0) {
+        file = opened(PATH);
+        for (int i = 0; i < 5000; i++) hlc_file_send(file, 0, 100 + (uint64_t)i, &sent);
+        _exit(write(ends[1], &sent, sizeof sent) != sizeof sent);
+    }
+    HOLDS(read(ends[0], &last, sizeof last) == sizeof last);
+    waitpid(child, NULL, 0);
+    EXPECT(last, AT(5099));
+    file = opened(PATH);
+    EXPECT(put_at(file, 5, "a", "three", &stamp), HLC_OK);
+    HOLDS(stamp > last);
+    hlc_file_close(file);
+}
+
+/* A message costs a write of the disk only now and then. */
+static void messages_share_a_written_clock(void)
+{
+    uint64_t sent;
+    hlc_file *file = opened(fresh(PATH));
+    for (int i = 0; i < 1000; i++) EXPECT(hlc_file_send(file, 0, 5, &sent), HLC_OK);
+    EXPECT(sent, AT(5) + 999);
+    hlc_file_close(file);
+    HOLDS(number_of(PATH, "SELECT writes FROM state") < 5);
+}
+
+static void the_system_clock_serves(void)
+{
+    uint64_t stamp, later;
+    struct timespec now;
+    hlc_file *file = opened(fresh(PATH));
+    EXPECT(put_at(file, HLC_FILE_NOW, "a", "one", &stamp), HLC_OK);
+    clock_gettime(CLOCK_REALTIME, &now);
+    uint64_t reading = (uint64_t)now.tv_sec * 1000 + (uint64_t)now.tv_nsec / 1000000;
+    HOLDS(stamp <= AT(reading) + 0xffff && stamp > AT(reading - 10000));
+    /* As if the clock were set back by an hour, with a full counter. */
+    uint64_t far = reading + 3600000;
+    EXPECT(hlc_file_receive(file, 0, AT(far) + 0xfffe, 5, &later), HLC_OK);
+    EXPECT(later, AT(far) + 0xffff);
+    EXPECT(put_at(file, 5, "a", "two", &later), HLC_COUNTER_FULL);
+    EXPECT(later, AT(far) + 0xffff);
+    EXPECT(put_at(file, HLC_FILE_NOW, "a", "two", &later), HLC_OK);
+    EXPECT(later, AT(far + 1));
+    EXPECT(put_at(file, 1, "a", "two", &later), HLC_OK);
+    EXPECT(hlc_file_receive(file, 0, AT(far + 9) + 0xffff, HLC_FILE_NOW, &later), HLC_OK);
+    EXPECT(later, AT(far + 10));
+    hlc_file_close(file);
+}
+
+/* ---- Nodes, batches and records ---- */
+
+static void nodes_join_and_retire(void)
+{
+    uint64_t word, start, floor;
+    uint16_t node;
+    hlc_file *file = opened_with(fresh(PATH), (hlc_file_options){ .nodes = 2 });
+    put(file, 10, "a", "zero");
+    EXPECT(hlc_file_write(file, 1, 20, BYTES("b"), BYTES("one"), &word), HLC_OK);
+    EXPECT(word, AT(20));
+    EXPECT(hlc_file_write(file, 2, 20, BYTES("b"), BYTES("two"), &word), HLC_NO_NODE);
+    EXPECT(hlc_file_join(file, &node, &start), HLC_OK);
+    EXPECT(node, 2);
+    EXPECT(start, AT(10));
+    EXPECT(hlc_file_retire(file, 0, 30, &word), HLC_OK);
+    EXPECT(hlc_file_write(file, 0, 40, BYTES("b"), BYTES("x"), &word), HLC_RETIRED);
+    EXPECT(hlc_file_report(file, 1, 40, &word), HLC_OK);
+    EXPECT(hlc_file_floor(file, &floor), HLC_OK);
+    EXPECT(floor, AT(10));
+    hlc_file_close(file);
+    file = opened(PATH);
+    EXPECT(hlc_file_report(file, 0, 50, &word), HLC_RETIRED);
+    EXPECT(hlc_file_write(file, 2, 50, BYTES("b"), BYTES("late"), &word), HLC_OK);
+    EXPECT(hlc_file_report(file, 1, 60, &word), HLC_OK);
+    EXPECT_VALUE(file, 0, "b", "late");
+    EXPECT(hlc_file_delete(file, 2, 70, BYTES("b"), &word), HLC_OK);
+    EXPECT(hlc_file_report(file, 1, 70, &word), HLC_OK);
+    EXPECT_VALUE(file, 0, "b", "");
+    EXPECT_VALUE(file, AT(50), "b", "late");
+    hlc_file_close(file);
+}
+
+static void refused_writes_change_nothing(void)
+{
+    static uint8_t long_value[70000];
+    uint64_t word;
+    hlc_file *file = opened(fresh(PATH));
+    EXPECT(hlc_file_write(file, 0, 1, NULL, 0, BYTES("x"), &word), HLC_BAD_KEY);
+    EXPECT(hlc_file_write(file, 0, 1, long_value, 256, BYTES("x"), &word), HLC_BAD_KEY);
+    EXPECT(hlc_file_delete(file, 0, 1, NULL, 0, &word), HLC_BAD_KEY);
+    EXPECT(hlc_file_write(file, 0, 1, BYTES("a"), long_value, 65536, &word), HLC_VALUE_TOO_LONG);
+    EXPECT(hlc_file_write(file, 0, (uint64_t)1 << 48, BYTES("a"), BYTES("x"), &word), HLC_READING_TOO_LARGE);
+    EXPECT(state_of(file).place, 0);
+    EXPECT(state_of(file).failure, 0);
+    EXPECT(hlc_file_write(file, 0, 1, long_value, 255, long_value, 65535, &word), HLC_OK);
+    hlc_file_close(file);
+}
+
+static void a_batch_is_one_row(void)
+{
+    hlc_file_batch *batch;
+    uint64_t word;
+    hlc_file *file = opened(fresh(PATH));
+    EXPECT(hlc_file_batch_new(&batch), HLC_OK);
+    EXPECT(hlc_file_append(file, 0, 10, batch, HLC_FILE_SYNCED, &word), HLC_OK);
+    EXPECT(state_of(file).place, 0);
+    EXPECT(hlc_file_batch_put(batch, BYTES("a"), BYTES("one")), HLC_OK);
+    EXPECT(hlc_file_batch_put(batch, NULL, 0, BYTES("one")), HLC_BAD_KEY);
+    EXPECT(hlc_file_batch_put(batch, BYTES("b"), BYTES("two")), HLC_OK);
+    EXPECT(hlc_file_batch_delete(batch, BYTES("a")), HLC_OK);
+    EXPECT(hlc_file_batch_delete(batch, NULL, 0), HLC_BAD_KEY);
+    EXPECT(hlc_file_batch_many(batch), 3);
+    EXPECT(hlc_file_append(file, 1, 10, batch, 0, &word), HLC_NO_NODE);
+    EXPECT(hlc_file_batch_many(batch), 3);
+    EXPECT(hlc_file_append(file, 0, 10, batch, 9, &word), HLC_FILE_BAD_OPTION);
+    for (uint32_t promise = 0; promise <= HLC_FILE_WRITTEN; promise++) {
+        if (promise > 0) EXPECT(hlc_file_batch_put(batch, BYTES("c"), BYTES("three")), HLC_OK);
+        EXPECT(hlc_file_append(file, 0, 10, batch, promise, &word), HLC_OK);
+        EXPECT(hlc_file_batch_many(batch), 0);
+        EXPECT(word, AT(10) + 2 + promise);
+        EXPECT(state_of(file).place, 1 + promise);
+    }
+    EXPECT_VALUE(file, AT(10) + 1, "a", "one");
+    EXPECT_VALUE(file, AT(10) + 2, "a", "");
+    EXPECT_VALUE(file, AT(10) + 2, "b", "two");
+    hlc_file_batch_drop(batch);
+    hlc_file_batch_drop(NULL);
+    hlc_file_close(file);
+    EXPECT(number_of(PATH, "SELECT count(*) FROM log"), 4);
+}
+
+static void a_batch_has_a_limit(void)
+{
+    static uint8_t value[65535];
+    hlc_file_batch *batch;
+    uint64_t word;
+    uint32_t answer = HLC_OK;
+    hlc_file *file = opened(fresh(PATH));
+    EXPECT(hlc_file_batch_new(&batch), HLC_OK);
+    while (answer == HLC_OK) answer = hlc_file_batch_put(batch, BYTES("a"), value, sizeof value);
+    EXPECT(answer, HLC_FILE_TOO_LONG);
+    /* Each has 20 bytes before its body, 2 of the key, 3 before the value, and the value. */
+    EXPECT(hlc_file_batch_many(batch), ((size_t)64 << 20) / (20 + 2 + 3 + 65535));
+    EXPECT(hlc_file_append(file, 0, 10, batch, 0, &word), HLC_OK);
+    hlc_file_batch_drop(batch);
+    hlc_file_close(file);
+    file = opened(PATH);
+    EXPECT(state_of(file).applied, 1023);
+    hlc_file_close(file);
+}
+
+/* Items of another machine's node 1: numbers from 0, stamps from l on. */
+static size_t items(uint8_t *bytes, uint64_t from, uint64_t many, uint64_t l)
+{
+    size_t at = 0, len;
+    for (uint64_t i = from; i < from + many; i++) {
+        hlc_item_write(1, i, AT(l + i), BYTES("far"), BYTES("v"), bytes + at, 100, &len);
+        at += len;
+    }
+    return at;
+}
+
+static void records_come_all_or_none(void)
+{
+    uint8_t bytes[2000];
+    size_t many, len;
+    uint64_t word;
+    hlc_file *file = opened_with(fresh(PATH), (hlc_file_options){ .nodes = 2 });
+    len = items(bytes, 0, 3, 10);
+    EXPECT(hlc_file_append_records(file, bytes, len, 0, &many, &word), HLC_OK);
+    EXPECT(many, 3);
+    EXPECT(state_of(file).clock, AT(12));
+    /* Numbers 1 to 5: the first two came before. */
+    len = items(bytes, 1, 5, 10);
+    EXPECT(hlc_file_append_records(file, bytes, len, 0, &many, &word), HLC_OK);
+    EXPECT(many, 5);
+    len = items(bytes, 6, 2, 10);
+    len += items(bytes + len, 9, 1, 10);
+    EXPECT(hlc_file_append_records(file, bytes, len, 0, &many, &word), HLC_NOT_NEXT);
+    EXPECT(many, 2);
+    EXPECT(word, 8);
+    EXPECT(hlc_file_append_records(file, bytes, len - 1, 0, &many, &word), HLC_BAD_BYTES);
+    EXPECT(word, 1);
+    EXPECT(state_of(file).place, 2);
+    EXPECT(state_of(file).failure, 0);
+    /* The links are as if the refused records had not come. */
+    len = items(bytes, 6, 1, 10);
+    EXPECT(hlc_file_append_records(file, bytes, len, 0, &many, &word), HLC_OK);
+    EXPECT(hlc_file_append_records(file, bytes, HLC_FILE_BATCH_BYTES + 1, 0, &many, &word), HLC_FILE_TOO_LONG);
+    put(file, 1, "near", "w");
+    EXPECT(state_of(file).clock, AT(16) + 1);
+    hlc_file_close(file);
+    EXPECT(number_of(PATH, "SELECT sum(length(records)) FROM log"), 7 * (20 + 4 + 3 + 1) + 20 + 5 + 3 + 1);
+    file = opened(PATH);
+    EXPECT_VALUE(file, AT(16), "far", "v");
+    hlc_file_close(file);
+}
+
+/* ---- Vacuums and snapshots ---- */
+
+static void no_snapshot_opens_below_a_threshold(void)
+{
+    uint64_t word, kept, bytes, dropped, id, place, horizon;
+    hlc_file *file = opened(fresh(PATH));
+    for (uint64_t l = 1; l <= 9; l++) put(file, l, "a", l == 5 ? "five" : l % 2 ? "odd" : "even");
+    EXPECT(hlc_file_open_snapshot(file, AT(3), &id), HLC_OK);
+    EXPECT(hlc_file_vacuum_to(file, AT(10), &word, &kept, &bytes, &dropped), HLC_ABOVE_FLOOR);
+    EXPECT(word, AT(9));
+    EXPECT(hlc_file_vacuum_to(file, AT(5), &word, &kept, &bytes, &dropped), HLC_OK);
+    EXPECT(word, AT(5));
+    EXPECT(kept, 2);
+    EXPECT(dropped, 3);
+    EXPECT(hlc_file_vacuum_to(file, AT(4), &word, &kept, &bytes, &dropped), HLC_BELOW_HORIZON);
+    EXPECT(word, AT(5));
+    EXPECT_VALUE(file, AT(4), "a", "refused 9");
+    EXPECT_VALUE(file, AT(5), "a", "five");
+    hlc_file_close(file);
+    for (int i = 0; i < 3; i++) {
+        file = opened(PATH);
+        EXPECT(hlc_file_horizon(file, &horizon), HLC_OK);
+        EXPECT(horizon, AT(5));
+        EXPECT_VALUE(file, AT(4), "a", "refused 9");
+        EXPECT(hlc_file_close_snapshot(file, id, &word), HLC_NO_SNAPSHOT);
+        EXPECT(hlc_file_checkpoint(file, &place), HLC_OK);
+        hlc_file_close(file);
+    }
+}
+
+/* A threshold of other machines comes into force once the floor reached it, also after an opening. */
+static void a_threshold_waits_for_the_floor(void)
+{
+    uint8_t bytes[9];
+    size_t len, many;
+    uint64_t word, horizon, kept, cost, dropped, place;
+    hlc_file *file = opened(fresh(PATH));
+    put(file, 5, "a", "x");
+    hlc_record_threshold(AT(8), bytes, sizeof bytes, &len);
+    EXPECT(hlc_file_append_records(file, bytes, len, 0, &many, &word), HLC_OK);
+    EXPECT(hlc_file_vacuum_to(file, AT(4), &word, &kept, &cost, &dropped), HLC_OK);
+    for (int i = 0; i < 3; i++) EXPECT(hlc_file_checkpoint(file, &place), HLC_OK);
+    hlc_file_close(file);
+    file = opened(PATH);
+    EXPECT(hlc_file_horizon(file, &horizon), HLC_OK);
+    EXPECT(horizon, AT(4));
+    put(file, 9, "a", "y");
+    EXPECT(hlc_file_horizon(file, &horizon), HLC_OK);
+    EXPECT(horizon, AT(8));
+    hlc_file_close(file);
+}
+
+static void a_vacuum_by_age(void)
+{
+    uint64_t word, kept, bytes, dropped, floor;
+    hlc_file *file = opened_with(fresh(PATH), (hlc_file_options){ .promise = HLC_FILE_WRITTEN });
+    for (int i = 0; i < 3000; i++) {
+        char key[16];
+        snprintf(key, sizeof key, "k%d", i % 1500);
+        put(file, HLC_FILE_NOW, key, i < 1500 ? "x" : "y");
+    }
+    usleep(2000);
+    EXPECT(hlc_file_vacuum_older(file, UINT64_MAX, &word, &kept, &bytes, &dropped), HLC_FILE_NO_STAMP);
+    EXPECT(hlc_file_vacuum_older(file, 3600000, &word, &kept, &bytes, &dropped), HLC_OK);
+    EXPECT(dropped, 0);
+    EXPECT(hlc_file_vacuum_older(file, 0, &word, &kept, &bytes, &dropped), HLC_OK);
+    EXPECT(hlc_file_floor(file, &floor), HLC_OK);
+    EXPECT(word, floor);
+    EXPECT(kept, 1500);
+    EXPECT(dropped, 1500);
+    EXPECT(hlc_file_vacuum_older(file, 3600000, &word, &kept, &bytes, &dropped), HLC_OK);
+    EXPECT(word, floor);
+    hlc_file_close(file);
+}
+
+static void reading_calls_are_those_of_the_store(void)
+{
+    uint8_t out[256];
+    uint64_t id, stamp, many64;
+    size_t len, many;
+    hlc_store mine;
+    hlc_file *file = opened(fresh(PATH));
+    put(file, 1, "a", "x");
+    put(file, 2, "b", "yy");
+    EXPECT(hlc_file_open_snapshot_at_floor(file, &id, &stamp), HLC_OK);
+    EXPECT(stamp, AT(2));
+    EXPECT(hlc_file_scan(file, id, NULL, 0, NULL, 0, out, sizeof out, &len, &many), HLC_OK);
+    EXPECT(many, 2);
+    EXPECT(len, 16 + 2 + 16 + 3);
+    EXPECT(out[8], 'a');
+    EXPECT(hlc_file_scan_back(file, id, NULL, 0, NULL, 0, out, 20, &len, &many), HLC_MORE);
+    EXPECT(many, 1);
+    EXPECT(out[8], 'b');
+    EXPECT(hlc_file_count(file, id, BYTES("b"), NULL, 0, &many64), HLC_OK);
+    EXPECT(many64, 1);
+    EXPECT(hlc_file_read(file, id, BYTES("c"), out, sizeof out, &len), HLC_NO_VALUE);
+    EXPECT(hlc_file_read_begin(file, &mine), HLC_OK);
+    EXPECT(hlc_read(&mine, id, BYTES("b"), out, sizeof out, &len), HLC_OK);
+    EXPECT(len, 2);
+    hlc_file_read_end(file);
+    EXPECT(hlc_file_close_snapshot(file, id, &stamp), HLC_OK);
+    EXPECT(hlc_file_read(file, id, BYTES("a"), out, sizeof out, &len), HLC_NO_SNAPSHOT);
+    hlc_file_close(file);
+}
+
+/* ---- Checkpoints in the background ---- */
+
+static void a_policy_makes_checkpoints(void)
+{
+    char value[1000] = { 0 };
+    hlc_file *file = opened_with(fresh(PATH), (hlc_file_options){ .checkpoint_bytes = 20000 });
+    memset(value, 'v', sizeof value - 1);
+    for (uint64_t l = 1; l <= 30; l++) put(file, l, "a", value);
+    for (int i = 0; i < 500 && state_of(file).checkpoint_place < 10; i++) usleep(10000);
+    HOLDS(state_of(file).checkpoint_place >= 10);
+    EXPECT(state_of(file).background, HLC_OK);
+    hlc_file_close(file);
+    file = opened(PATH);
+    HOLDS(state_of(file).applied < 30);
+    EXPECT_VALUE(file, AT(7), "a", value);
+    hlc_file_close(file);
+}
+
+/* ---- Answers ---- */
+
+static void each_answer_has_a_name_and_a_text(void)
+{
+    uint8_t out[200];
+    size_t len;
+    for (uint32_t answer = HLC_FILE_IN_USE; answer <= HLC_FILE_NO_STAMP; answer++) {
+        hlc_file_error_name(answer, out, sizeof out, &len);
+        HOLDS(len > 9 && memcmp(out, "HLC_FILE_", 9) == 0);
+        hlc_file_error_text(answer, out, sizeof out, &len);
+        HOLDS(len > 10 && len < sizeof out);
+    }
+    hlc_file_error_name(HLC_FILE_LATER, out, sizeof out, &len);
+    HOLDS(len == 14 && memcmp(out, "HLC_FILE_LATER", len) == 0);
+    hlc_file_error_name(HLC_FILE_NO_STAMP, out, sizeof out, &len);
+    HOLDS(len == 17 && memcmp(out, "HLC_FILE_NO_STAMP", len) == 0);
+    memset(out, '#', sizeof out);
+    hlc_file_error_name(HLC_FILE_LATER, out, 13, &len);
+    HOLDS(len == 14 && out[0] == '#');
+    hlc_file_error_name(HLC_NO_VALUE, out, sizeof out, &len);
+    HOLDS(len == 12 && memcmp(out, "HLC_NO_VALUE", len) == 0);
+    hlc_file_error_text(HLC_FILE_NO_STAMP + 1, out, sizeof out, &len);
+    EXPECT(len, 0);
+}
+
+#define TEST(name) { #name, name }
+
+static const struct {
+    const char *name;
+    void (*run)(void);
+} TESTS[] = {
+    TEST(a_write_is_there_after_an_opening),
+    TEST(a_checkpoint_replaces_its_log),
+    TEST(a_damaged_checkpoint_falls_back),
+    TEST(without_a_checkpoint_only_a_whole_log_serves),
+    TEST(a_damaged_log_is_refused_with_its_place),
+    TEST(what_is_before_the_damage_is_kept_on_demand),
+    TEST(a_damaged_state_is_refused),
+    TEST(other_files_are_refused_and_unchanged),
+    TEST(another_log_is_unchanged),
+    TEST(paths_that_cannot_be_opened),
+    TEST(options_out_of_range),
+    TEST(a_second_opening_is_refused),
+    TEST(a_lock_dies_with_its_process),
+    TEST(stamps_rise_over_openings),
+    TEST(messages_share_a_written_clock),
+    TEST(the_system_clock_serves),
+    TEST(nodes_join_and_retire),
+    TEST(refused_writes_change_nothing),
+    TEST(a_batch_is_one_row),
+    TEST(a_batch_has_a_limit),
+    TEST(records_come_all_or_none),
+    TEST(no_snapshot_opens_below_a_threshold),
+    TEST(a_threshold_waits_for_the_floor),
+    TEST(a_vacuum_by_age),
+    TEST(reading_calls_are_those_of_the_store),
+    TEST(a_policy_makes_checkpoints),
+    TEST(each_answer_has_a_name_and_a_text),
+};
+
+int main(void)
+{
+    for (size_t i = 0; i < sizeof TESTS / sizeof *TESTS; i++) {
+        test_name = TESTS[i].name;
+        TESTS[i].run();
+    }
+    return ended();
+}
