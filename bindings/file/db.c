@@ -293,7 +293,8 @@ static uint32_t make_tables(struct db *db, uint32_t nodes)
     if (code == SQLITE_OK) code = sqlite3_exec(db->sqlite, TABLES, NULL, NULL, NULL);
     if (code != SQLITE_OK) return db_failure(db, code);
     uint32_t answer = prepare(db);
-    if (answer == HLC_OK) answer = db_set_state(db, (struct state){ .nodes = nodes });
+    db->state.nodes = nodes;
+    if (answer == HLC_OK) answer = db_set_state(db, db->state);
     return answer == HLC_FILE_UNKNOWN ? db_failure(db, db->code) : answer;
 }
 
