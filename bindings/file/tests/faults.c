@@ -261,7 +261,7 @@ static void reopen(enum fault fault)
         HOLDS(forgot && is_damage(answer));
         return;
     }
-    compare(fault == LOSES_POWER, forgot);
+    compare(fault == LOSES_POWER || fault == DROPS_SYNC, forgot);
     EXPECT(hlc_file_close(file), HLC_OK);
     file = NULL;
 }
@@ -280,10 +280,10 @@ static bool run(enum fault fault, bool lasts, long at, uint64_t seed)
     greatest = horizon = wanted = 0;
     shim_set(fault, lasts, at);
     tell_story();
-    bool met = shim.met;
-    if (fault == LOSES_POWER) power_up(seed);
+    bool met = shim.met, more = shim.done >= at;
+    if (fault == LOSES_POWER || fault == DROPS_SYNC) power_up(seed);
     reopen(fault);
-    return met;
+    return met || more;
 }
 
 int main(void)
@@ -298,6 +298,7 @@ int main(void)
     }
     for (uint64_t seed = 1; seed <= SEEDS; seed++) {
         for (long at = 1; wrong < 20 && run(LOSES_POWER, true, at, seed * 7919 + (uint64_t)at); at++) runs++;
+        for (long at = 1; wrong < 20 && run(DROPS_SYNC, false, at, seed * 7919 + (uint64_t)at); at++) runs++;
     }
     hlc_file_batch_drop(batch);
     fprintf(stderr, "%ld runs with a fault\n", runs);

@@ -17,6 +17,7 @@ enum fault {
     FAILS_SHORT,   /* half of a write is done */
     IS_FULL,       /* nothing is done, since the disk is full */
     IS_FORGOTTEN,  /* nothing is done, and reported as done */
+    DROPS_SYNC,    /* a sync fails, and what it should have brought to disk never gets there; then power is lost */
     LOSES_POWER
 };
 
@@ -107,21 +108,25 @@ static void bring(struct kept *kept, const struct change *change, uint64_t *rand
     }
 }
 
-static void bring_all(struct kept *kept, uint64_t *random)
+static void drop_all(struct kept *kept)
 {
     while (kept->first) {
         struct change *change = kept->first;
-        bring(kept, change, random);
         kept->first = change->next;
         free(change);
     }
     kept->last = &kept->first;
 }
 
+static void bring_all(struct kept *kept, uint64_t *random)
+{
+    for (struct change *change = kept->first; change; change = change->next) bring(kept, change, random);
+    drop_all(kept);
+}
+
 static void forget_kept(struct kept *kept)
 {
-    uint64_t none = 0;
-    bring_all(kept, &none);
+    drop_all(kept);
     free(kept->bytes);
     *kept = (struct kept){ 0 };
 }
@@ -162,6 +167,7 @@ static enum fault meets(bool is_sync)
 {
     shim.done++;
     if (shim.at == 0 || shim.done < shim.at || (shim.done > shim.at && !shim.lasts)) return NO_FAULT;
+    if (shim.fault == DROPS_SYNC && !is_sync) return NO_FAULT;
     if (!shim.met) shim.is_sync = is_sync;
     shim.met = true;
     return shim.fault;
@@ -206,6 +212,7 @@ static int shim_sync(sqlite3_file *file, int flags)
     (void)flags;
     enum fault fault = meets(true);
     if (fault == IS_FORGOTTEN) return SQLITE_OK;
+    if (fault == DROPS_SYNC) drop_all(kept_of(((struct shim_file *)file)->path));
     if (fault != NO_FAULT && fault != FAILS_LATE) return SQLITE_IOERR_FSYNC;
     bring_all(kept_of(((struct shim_file *)file)->path), NULL);
     kept_of(((struct shim_file *)file)->path)->exists = true;
