@@ -311,14 +311,37 @@ static uint32_t read_state(struct db *db)
     return HLC_OK;
 }
 
-/* What is found is synced, so that nothing that a reader sees is lost: the process before may have ended unsynced. */
+/* Writes the write-ahead log over itself, and syncs it. After a failed sync the system may have it in memory only, and
+ * takes it for written. */
+static int write_again(sqlite3_file *wal)
+{
+    static const int BLOCK = 1 << 16;
+    sqlite3_int64 len = 0;
+    if (!wal || !wal->pMethods) return SQLITE_OK;
+    int code = wal->pMethods->xFileSize(wal, &len);
+    if (code != SQLITE_OK || len == 0) return code;
+    uint8_t *block = sqlite3_malloc(BLOCK);
+    if (!block) return SQLITE_NOMEM;
+    for (sqlite3_int64 at = 0; code == SQLITE_OK && at < len; at += BLOCK) {
+        int part = len - at < BLOCK ? (int)(len - at) : BLOCK;
+        code = wal->pMethods->xRead(wal, block, part, at);
+        if (code == SQLITE_OK) code = wal->pMethods->xWrite(wal, block, part, at);
+    }
+    sqlite3_free(block);
+    return code == SQLITE_OK ? wal->pMethods->xSync(wal, SQLITE_SYNC_NORMAL) : code;
+}
+
+/* What is found is brought to disk, so that nothing that a reader sees is lost: the process before may have ended
+ * without a sync, or since one failed. */
 static uint32_t keep_what_is_found(struct db *db)
 {
     int64_t number;
+    sqlite3_file *wal = NULL;
     int code = pragma(db, "PRAGMA journal_mode = WAL", &number);
+    if (code == SQLITE_OK) code = sqlite3_file_control(db->sqlite, "main", SQLITE_FCNTL_JOURNAL_POINTER, &wal);
+    if (code == SQLITE_OK) code = write_again(wal);
     if (code != SQLITE_OK) return db_failure(db, code);
     sqlite3_wal_hook(db->sqlite, count_pages, db);
-    db->wal_pages = 0;
     return db_shorten(db, -1);
 }
 

@@ -172,7 +172,7 @@ static void open_file(void)
         hlc_file_horizon(file, &at);
         HOLDS(at == horizon || at == wanted);
         horizon = at;
-        HOLDS(retire_others());
+        HOLDS(retire_others() || shim.met);
     }
     for (int i = 0; i < many && answer == HLC_OK; i++) find_out(i);
     if (answer == HLC_OK) return;
@@ -255,7 +255,7 @@ static void reopen(enum fault fault)
     hlc_file_options options = { .checkpoint_bytes = UINT64_MAX };
     hlc_file_state state = { 0 };
     bool forgot = fault == IS_FORGOTTEN;
-    shim_set(NO_FAULT, false, 0);
+    shim_set(NO_FAULT, false, 0, 0);
     uint32_t answer = hlc_file_open(PATH, &options, &file, &state);
     if (answer != HLC_OK) {
         HOLDS(forgot && is_damage(answer));
@@ -278,7 +278,7 @@ static bool run(enum fault fault, bool lasts, long at, uint64_t seed)
     memset(steps, 0, sizeof steps);
     for (int i = 0; i < MOST_STEPS; i++) steps[i].known = IS_REFUSED;
     greatest = horizon = wanted = 0;
-    shim_set(fault, lasts, at);
+    shim_set(fault, lasts, at, (long)(seed % 40));
     tell_story();
     bool met = shim.met, more = shim.done >= at;
     if (fault == LOSES_POWER || fault == DROPS_SYNC) power_up(seed);

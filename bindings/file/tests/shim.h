@@ -17,13 +17,15 @@ enum fault {
     FAILS_SHORT,   /* half of a write is done */
     IS_FULL,       /* nothing is done, since the disk is full */
     IS_FORGOTTEN,  /* nothing is done, and reported as done */
-    DROPS_SYNC,    /* a sync fails, and what it should have brought to disk never gets there; then power is lost */
+    DROPS_SYNC,    /* a sync fails, and what it should have brought to disk never gets there; some time later power is
+                      lost */
     LOSES_POWER
 };
 
 static struct {
     enum fault fault;
     bool lasts;   /* whether all later ones fail too */
+    long later;   /* of DROPS_SYNC: after how many operations power is lost */
     long at;      /* the number of the operation, from 1 on */
     long done;    /* how many there were */
     bool met;     /* whether the fault came */
@@ -166,6 +168,10 @@ static sqlite3_vfs *real_vfs;
 static enum fault meets(bool is_sync)
 {
     shim.done++;
+    if (shim.fault == DROPS_SYNC && shim.met && shim.done > shim.at + shim.later) {
+        shim.lasts = true;
+        return LOSES_POWER;
+    }
     if (shim.at == 0 || shim.done < shim.at || (shim.done > shim.at && !shim.lasts)) return NO_FAULT;
     if (shim.fault == DROPS_SYNC && !is_sync) return NO_FAULT;
     if (!shim.met) shim.is_sync = is_sync;
@@ -313,8 +319,9 @@ static void shim_register(void)
 }
 
 /* The next operations meet this fault, or none where `at` is 0. */
-static void shim_set(enum fault fault, bool lasts, long at)
+static void shim_set(enum fault fault, bool lasts, long at, long later)
 {
+    shim.later = later;
     for (int i = 0; i < MOST_FILES; i++) {
         if (kept_files[i].path[0]) forget_kept(&kept_files[i]);
     }
