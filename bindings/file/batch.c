@@ -11,7 +11,8 @@ struct hlc_file_batch {
 
 uint32_t hlc_file_batch_new(hlc_file_batch **batch)
 {
-    *batch = calloc(1, sizeof **batch);
+    *batch = malloc(sizeof **batch);
+    if (*batch) **batch = (struct hlc_file_batch){ 0 };
     return *batch ? HLC_OK : HLC_NO_MEMORY;
 }
 

@@ -97,8 +97,9 @@ static void turns_destroy(struct turns *turns)
 static hlc_file *file_new(void)
 {
     pthread_rwlockattr_t writers_first;
-    hlc_file *file = calloc(1, sizeof *file);
+    hlc_file *file = malloc(sizeof *file);
     if (!file) return NULL;
+    memset(file, 0, sizeof *file);
     file->lock = -1;
     file->store = (hlc_store)HLC_CLOSED_STORE;
     turns_init(&file->turns);
