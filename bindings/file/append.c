@@ -131,6 +131,7 @@ static uint32_t write_group(hlc_file *file, struct call *group)
     for (struct call *call = group; call; call = call->next) {
         if (cover(&state, call->entry, call->promise)) sync = true;
     }
+    uint64_t before = state.place;
     uint32_t answer = db_begin(db, sync);
     if (answer != HLC_OK) return answer;
     for (struct call *call = group; call && answer == HLC_OK; call = call->next) {
@@ -139,7 +140,7 @@ static uint32_t write_group(hlc_file *file, struct call *group)
         entry->place = state.place;
         entry->sum = state.sum;
     }
-    return answer == HLC_OK ? db_set_state(db, state) : db_end(db, answer);
+    return answer == HLC_OK ? db_end_with(db, state, state.place == before) : db_end(db, answer);
 }
 
 /* Writes and accepts a group, unless the store has no memory for what is on disk already. len: the bytes of records
@@ -170,8 +171,8 @@ static uint32_t end_calls(struct call *call, uint32_t answer)
     return last;
 }
 
-/* Ends a group. Where it was refused, the calls that wait behind it may build on it, and are refused too. The caller has
- * the turn and `mutex`. */
+/* Ends a group. Where it was refused, the calls that wait behind it may build on it, and are refused too. The caller
+ * has the turn and `mutex`. */
 static void end_group(hlc_file *file, struct call *group, uint32_t answer, uint64_t len)
 {
     uint32_t last = end_calls(group, answer);
@@ -205,7 +206,7 @@ static void lead(hlc_file *file)
     pthread_cond_broadcast(&file->changed);
     if (file->logged >= file->due) pthread_cond_signal(&file->wake);
     pthread_mutex_unlock(&file->mutex);
-    answer = db_shorten(&file->db, WAL_PAGES);
+    answer = db_shorten(&file->db);
     pthread_mutex_lock(&file->mutex);
     note(file, answer, 0);
     turn_give(&file->turns);

@@ -41,7 +41,7 @@ static uint32_t run_alone(hlc_file *file, enum statement which, const struct val
     uint32_t answer = db_begin(db, false);
     if (answer == HLC_OK) answer = db_end(db, db_do(db, which, values));
     *changed = answer == HLC_OK ? sqlite3_changes(db->sqlite) : 0;
-    if (answer == HLC_OK) answer = db_shorten(db, WAL_PAGES);
+    if (answer == HLC_OK) answer = db_shorten(db);
     turn_give(&file->turns);
     return answer;
 }
@@ -78,7 +78,8 @@ static uint32_t write_pieces(hlc_file *file, struct making *making)
     return answer;
 }
 
-/* Makes a checkpoint complete, synced, and drops those before the two newest. */
+/* Makes a checkpoint complete, synced, and drops those before the two newest. The row of `state` keeps what is known of
+ * the clock by log rows that are cut. */
 static uint32_t complete(hlc_file *file, const struct making *making)
 {
     struct db *db = &file->db;
@@ -93,7 +94,7 @@ static uint32_t complete(hlc_file *file, const struct making *making)
     if (answer == HLC_OK) {
         answer = db_do(db, CHECKPOINT_ADD, &added);
         if (answer == HLC_OK) answer = db_do(db, CHECKPOINT_CUT, &before);
-        answer = db_end(db, answer);
+        answer = answer == HLC_OK ? db_end_with(db, db->state, true) : db_end(db, answer);
     }
     turn_give(&file->turns);
     return answer;

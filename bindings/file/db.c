@@ -18,7 +18,8 @@ static const char *const TABLES =
     "CREATE TABLE state(one INTEGER PRIMARY KEY CHECK (one = 1), nodes INTEGER NOT NULL, place INTEGER NOT NULL,"
     " sum INTEGER NOT NULL, clock INTEGER NOT NULL, horizon INTEGER NOT NULL, threshold INTEGER NOT NULL,"
     " writes INTEGER NOT NULL, row_sum INTEGER NOT NULL) STRICT;"
-    "CREATE TABLE log(place INTEGER PRIMARY KEY, sum INTEGER NOT NULL, records BLOB NOT NULL) STRICT;"
+    "CREATE TABLE log(place INTEGER PRIMARY KEY, sum INTEGER NOT NULL, clock INTEGER NOT NULL,"
+    " horizon INTEGER NOT NULL, threshold INTEGER NOT NULL, records BLOB NOT NULL) STRICT;"
     "CREATE TABLE checkpoint(id INTEGER PRIMARY KEY, place INTEGER NOT NULL, sum INTEGER NOT NULL,"
     " pieces INTEGER NOT NULL, bytes INTEGER NOT NULL, last_sum INTEGER NOT NULL, row_sum INTEGER NOT NULL,"
     " damaged INTEGER NOT NULL DEFAULT 0) STRICT;"
@@ -33,8 +34,8 @@ static const char *const STATEMENT_TEXTS[STATEMENTS] = {
     [ROLLBACK] = "ROLLBACK",
     [STATE_GET] = "SELECT nodes, place, sum, clock, horizon, threshold, writes, row_sum FROM state WHERE one = 1",
     [STATE_SET] = "INSERT OR REPLACE INTO state VALUES (1, ?1, ?2, ?3, ?4, ?5, ?6, ?7, ?8)",
-    [LOG_ADD] = "INSERT INTO log VALUES (?1, ?2, ?3)",
-    [LOG_FROM] = "SELECT place, sum, records FROM log WHERE place > ?1 ORDER BY place",
+    [LOG_ADD] = "INSERT INTO log VALUES (?1, ?2, ?3, ?4, ?5, ?6)",
+    [LOG_FROM] = "SELECT place, sum, clock, horizon, threshold, records FROM log WHERE place > ?1 ORDER BY place",
     [LOG_CUT] = "DELETE FROM log WHERE place <= min(?1, (SELECT min(place) FROM log) + 255)",
     [LOG_ASIDE] = "INSERT INTO aside(place, sum, records) SELECT place, sum, records FROM log WHERE place > ?1",
     [LOG_DROP] = "DELETE FROM log WHERE place > ?1",
@@ -66,6 +67,16 @@ uint64_t sum_numbers(const uint64_t *numbers, int many)
     uint64_t sum = 0;
     for (int i = 0; i < many; i++) sum = sum_bytes(sum, numbers[i], NULL, 0);
     return sum;
+}
+
+/* The sum of a log row with these records, which has the place, the clock and the thresholds of a state, behind the row
+ * with the sum before. */
+uint64_t sum_row(uint64_t before, const struct state *state, const uint8_t *records, size_t len)
+{
+    uint64_t sum = sum_bytes(before, state->place, NULL, 0);
+    sum = sum_bytes(sum, state->clock, NULL, 0);
+    sum = sum_bytes(sum, state->horizon, NULL, 0);
+    return sum_bytes(sum, state->threshold, records, len);
 }
 
 /* ---- Failures ---- */
@@ -200,10 +211,10 @@ uint32_t db_settle(struct db *db)
     return HLC_OK;
 }
 
-/* Ends a transaction with this row of `state`. */
-uint32_t db_set_state(struct db *db, struct state state)
+/* Ends a transaction after which the file has this state, with or without its row. */
+uint32_t db_end_with(struct db *db, struct state state, bool row)
 {
-    int code = write_state(db, &state);
+    int code = row ? write_state(db, &state) : SQLITE_OK;
     uint32_t answer = db_end(db, code == SQLITE_OK ? HLC_OK : db_failure(db, code));
     if (answer == HLC_OK) db->state = state;
     return answer;
@@ -212,23 +223,30 @@ uint32_t db_set_state(struct db *db, struct state state)
 /* Adds a log row behind that of the state, which becomes that of this row. */
 uint32_t db_add_log(struct db *db, struct state *state, const uint8_t *bytes, size_t len)
 {
-    uint64_t sum = sum_bytes(state->sum, state->place + 1, bytes, len);
-    struct values values = { 2, { state->place + 1, sum }, bytes, len };
-    uint32_t answer = db_do(db, LOG_ADD, &values);
-    if (answer != HLC_OK) return answer;
     state->place++;
-    state->sum = sum;
-    return HLC_OK;
+    state->sum = sum_row(state->sum, state, bytes, len);
+    struct values values = {
+        5, { state->place, state->sum, state->clock, state->horizon, state->threshold }, bytes, len,
+    };
+    return db_do(db, LOG_ADD, &values);
 }
 
-/* Moves the write-ahead log into the file, where it has more pages than these. Where that fails it stays as it is. */
-uint32_t db_shorten(struct db *db, int most_pages)
+/* Moves the write-ahead log into the file, all of it with TRUNCATE. Where that fails it stays as it is. */
+uint32_t db_move(struct db *db, int mode)
 {
-    if (db->doubt != NO_DOUBT || db->wal_pages <= most_pages) return HLC_OK;
-    int mode = most_pages < 0 ? SQLITE_CHECKPOINT_TRUNCATE : SQLITE_CHECKPOINT_PASSIVE;
     int code = set_sync(db, true);
     if (code == SQLITE_OK) code = sqlite3_wal_checkpoint_v2(db->sqlite, NULL, mode, NULL, NULL);
     return code == SQLITE_OK ? HLC_OK : db_failure(db, code);
+}
+
+/* Moves the write-ahead log into the file, where it is long. The row of `state` comes first, so that the rest of the
+ * file never lacks a log row that it names, nor has one more. */
+uint32_t db_shorten(struct db *db)
+{
+    if (db->doubt != NO_DOUBT || db->wal_pages <= WAL_PAGES) return HLC_OK;
+    uint32_t answer = db_begin(db, true);
+    if (answer == HLC_OK) answer = db_end_with(db, db->state, true);
+    return answer == HLC_OK ? db_move(db, SQLITE_CHECKPOINT_PASSIVE) : answer;
 }
 
 /* ---- Opening ---- */
@@ -294,8 +312,7 @@ static uint32_t make_tables(struct db *db, uint32_t nodes)
     if (code != SQLITE_OK) return db_failure(db, code);
     uint32_t answer = prepare(db);
     db->state.nodes = nodes;
-    if (answer == HLC_OK) answer = db_set_state(db, db->state);
-    return answer == HLC_FILE_UNKNOWN ? db_failure(db, db->code) : answer;
+    return answer == HLC_OK ? db_end_with(db, db->state, true) : answer;
 }
 
 static uint32_t read_state(struct db *db)
@@ -342,7 +359,7 @@ static uint32_t keep_what_is_found(struct db *db)
     if (code == SQLITE_OK) code = write_again(wal);
     if (code != SQLITE_OK) return db_failure(db, code);
     sqlite3_wal_hook(db->sqlite, count_pages, db);
-    return db_shorten(db, -1);
+    return db_move(db, SQLITE_CHECKPOINT_TRUNCATE);
 }
 
 /* Opens or makes the tables, and reads the row of `state`. Nothing of another application's file is changed. */

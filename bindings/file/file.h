@@ -56,7 +56,8 @@ enum statement {
     PIECE_ADD, PIECE_CUT, PIECES, CHECKPOINTS, CHECKPOINT_ADD, CHECKPOINT_CUT, CHECKPOINT_DAMAGED, STATEMENTS
 };
 
-/* The row of `state`. */
+/* How far the file is. A log row has the last four, as they are after it; the row of `state` is written now and then,
+ * and whenever there is no log row to have them. */
 struct state {
     uint64_t nodes;     /* how many the store had at its start */
     uint64_t place;     /* of the last log row */
@@ -96,10 +97,12 @@ uint32_t db_do(struct db *db, enum statement which, const struct values *values)
 uint32_t db_begin(struct db *db, bool sync);
 uint32_t db_end(struct db *db, uint32_t answer);
 uint32_t db_settle(struct db *db);
-uint32_t db_set_state(struct db *db, struct state state);
+uint32_t db_end_with(struct db *db, struct state state, bool row);
 uint32_t db_add_log(struct db *db, struct state *state, const uint8_t *bytes, size_t len);
-uint32_t db_shorten(struct db *db, int most_pages);
+uint32_t db_move(struct db *db, int mode);
+uint32_t db_shorten(struct db *db);
 uint64_t sum_bytes(uint64_t before, uint64_t number, const uint8_t *bytes, size_t len);
+uint64_t sum_row(uint64_t before, const struct state *state, const uint8_t *records, size_t len);
 uint64_t sum_numbers(const uint64_t *numbers, int many);
 
 /* ---- The file ---- */

@@ -123,8 +123,7 @@ typedef struct {
 /* Makes or recovers a file. path: UTF-8 with a 0 at its end. It is locked before it is read, by `path-lock` beside it,
  * until it is closed or the process ends. options: may be NULL. file: the file, or NULL after a refusal. status: may be
  * NULL; else how it was opened, also after a refusal: why, and SQLite's code. A recovered store has no open snapshots,
- * and its file is synced as it was found: what it shows stays. Refusals: 200 to 209, 210 where the first sync failed,
- * 15. Costs a restore of the checkpoint and the log behind it. One thread at a time opens one path. */
+ * and its file is synced as it was found: what it shows stays. Refusals: 200 to 209, 15. Costs a restore of the checkpoint and the log behind it. One thread at a time opens one path. */
 uint32_t hlc_file_open(const char *path, const hlc_file_options *options, hlc_file **file, hlc_file_state *status);
 
 /* Waits for a checkpoint that is under way in the background, syncs the file, and frees it in any case. NULL is closed

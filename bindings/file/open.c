@@ -140,6 +140,8 @@ static uint32_t open_locked(hlc_file *file, const char *path)
     uint64_t word = 0;
     uint32_t answer = db_open(&file->db, path, may_create, file->options.nodes, &created, &word);
     if (answer == HLC_OK) answer = recover(file, &word);
+    /* There is no batch to be in doubt of. */
+    if (answer == HLC_FILE_UNKNOWN || answer == HLC_FILE_SEALED) answer = db_failure(&file->db, file->db.code);
     if (answer == HLC_OK) answer = background_start(file);
     file->report.created = created && answer == HLC_OK;
     note(file, answer, word);
@@ -179,8 +181,8 @@ static uint32_t settle(hlc_file *file)
     struct state state = file->db.state;
     state.clock = file->clock;
     uint32_t answer = db_begin(&file->db, true);
-    if (answer == HLC_OK) answer = db_set_state(&file->db, state);
-    if (answer == HLC_OK) db_shorten(&file->db, -1);
+    if (answer == HLC_OK) answer = db_end_with(&file->db, state, true);
+    if (answer == HLC_OK) db_move(&file->db, SQLITE_CHECKPOINT_TRUNCATE);
     return answer;
 }
 

@@ -121,19 +121,34 @@ static bool take_row(struct links *links, const uint8_t *bytes, size_t len)
     return true;
 }
 
-/* Applies a row, if it is the next one and undamaged. */
+/* Reads a row of `log`, and returns its sum as it is by the row and by the sum before. */
+static uint64_t read_row(sqlite3_stmt *row, uint64_t before, struct state *state, const uint8_t **bytes, size_t *len)
+{
+    state->place = (uint64_t)sqlite3_column_int64(row, 0);
+    state->sum = (uint64_t)sqlite3_column_int64(row, 1);
+    state->clock = (uint64_t)sqlite3_column_int64(row, 2);
+    state->horizon = (uint64_t)sqlite3_column_int64(row, 3);
+    state->threshold = (uint64_t)sqlite3_column_int64(row, 4);
+    *bytes = sqlite3_column_blob(row, 5);
+    *len = (size_t)sqlite3_column_bytes(row, 5);
+    return sum_row(before, state, *bytes, *len);
+}
+
+/* Applies a row, if it is the next one and undamaged. Behind the place that the row of `state` has, it is newer. */
 static uint32_t apply_row(hlc_file *file, struct recovery *recovery, sqlite3_stmt *row)
 {
-    uint64_t place = (uint64_t)sqlite3_column_int64(row, 0), threshold, word;
-    size_t len = (size_t)sqlite3_column_bytes(row, 2), used, many;
-    const uint8_t *bytes = sqlite3_column_blob(row, 2);
-    if (place != recovery->place + 1 || place > file->db.state.place) return HLC_FILE_DAMAGED_LOG;
-    uint64_t sum = sum_bytes(recovery->sum, place, bytes, len);
-    if (sum != (uint64_t)sqlite3_column_int64(row, 1)) return HLC_FILE_DAMAGED_LOG;
+    struct state *known = &file->db.state, state = *known;
+    const uint8_t *bytes;
+    uint64_t threshold, word;
+    size_t len, used, many;
+    uint64_t sum = read_row(row, recovery->sum, &state, &bytes, &len);
+    if (state.place != recovery->place + 1 || state.sum != sum) return HLC_FILE_DAMAGED_LOG;
+    if (state.place == known->place && sum != known->sum) return HLC_FILE_DAMAGED_LOG;
     if (!take_row(&file->links, bytes, len)) return HLC_FILE_DAMAGED_LOG;
     uint32_t answer = hlc_records_apply(&file->store, bytes, len, &used, &many, &threshold, &word);
     if (answer != HLC_OK) return answer;
-    recovery->place = place;
+    if (state.place > known->place) *known = state;
+    recovery->place = state.place;
     recovery->sum = sum;
     recovery->log_len += len;
     file->report.applied += many;
@@ -149,7 +164,26 @@ static uint32_t apply_log(hlc_file *file, struct recovery *recovery)
     while (answer == HLC_OK && sqlite3_step(rows) == SQLITE_ROW) answer = apply_row(file, recovery, rows);
     int code = sqlite3_reset(rows);
     if (answer == HLC_OK && code != SQLITE_OK) answer = db_failure(&file->db, code);
-    return answer == HLC_OK && recovery->place != file->db.state.place ? HLC_FILE_DAMAGED_LOG : answer;
+    return answer == HLC_OK && recovery->place < file->db.state.place ? HLC_FILE_DAMAGED_LOG : answer;
+}
+
+/* Raises a clock by those of the rows behind a place whose sum fits that of the row before: their stamps were returned,
+ * and do not come again. */
+static uint32_t raise_clock(struct db *db, uint64_t place, uint64_t *clock)
+{
+    struct values from = { .many = 1, .numbers = { place } };
+    sqlite3_stmt *rows = db_ask(db, LOG_FROM, &from);
+    struct state state = { 0 };
+    const uint8_t *bytes;
+    size_t len;
+    uint64_t before = 0;
+    while (sqlite3_step(rows) == SQLITE_ROW) {
+        uint64_t sum = read_row(rows, before, &state, &bytes, &len);
+        if (sum == state.sum && state.clock > *clock) *clock = state.clock;
+        before = state.sum;
+    }
+    int code = sqlite3_reset(rows);
+    return code == SQLITE_OK ? HLC_OK : db_failure(db, code);
 }
 
 /* Moves the log behind a place into `aside`. */
@@ -160,33 +194,36 @@ static uint32_t move_aside(hlc_file *file, const struct recovery *recovery)
     struct state state = db->state;
     state.place = recovery->place;
     state.sum = recovery->sum;
-    uint32_t answer = db_begin(db, true);
+    uint32_t answer = raise_clock(db, recovery->place, &state.clock);
+    if (answer == HLC_OK) answer = db_begin(db, true);
     if (answer != HLC_OK) return answer;
     answer = db_do(db, LOG_ASIDE, &from);
     if (answer == HLC_OK) answer = db_do(db, LOG_DROP, &from);
     file->report.aside = (uint64_t)sqlite3_changes(db->sqlite);
-    return answer == HLC_OK ? db_set_state(db, state) : db_end(db, answer);
+    return answer == HLC_OK ? db_end_with(db, state, true) : db_end(db, answer);
 }
 
 /* ---- Both ---- */
 
-/* So that they do not count as the two newest, and the log stays as long as the one that was restored needs it. */
-static uint32_t mark_damaged(hlc_file *file, const struct recovery *recovery)
+/* Writes down what was found: damaged checkpoints, so that they do not count as the two newest, and the log stays as
+ * long as the one that was restored needs it; and how far the log is. */
+static uint32_t write_down(hlc_file *file, const struct recovery *recovery, uint64_t known_place)
 {
-    uint32_t answer = recovery->damaged > 0 ? db_begin(&file->db, true) : HLC_OK;
-    if (recovery->damaged == 0 || answer != HLC_OK) return answer;
+    struct db *db = &file->db;
+    if (recovery->damaged == 0 && db->state.place == known_place) return HLC_OK;
+    uint32_t answer = db_begin(db, true);
+    if (answer != HLC_OK) return answer;
     for (uint64_t i = 0; i < recovery->damaged && answer == HLC_OK; i++) {
         struct values id = { .many = 1, .numbers = { recovery->damaged_ids[i] } };
-        answer = db_do(&file->db, CHECKPOINT_DAMAGED, &id);
+        answer = db_do(db, CHECKPOINT_DAMAGED, &id);
     }
-    return db_end(&file->db, answer);
+    return answer == HLC_OK ? db_end_with(db, db->state, true) : db_end(db, answer);
 }
 
 /* Answers a damaged log: without a whole checkpoint it may only begin too late. */
-static uint32_t damaged_log(hlc_file *file, const struct recovery *recovery, uint64_t *word)
+static uint32_t damaged_log(const struct recovery *recovery, uint64_t *word)
 {
-    bool cut = recovery->place == 0 && file->newest.id == 0 && file->db.state.place > 0;
-    if (cut && recovery->damaged > 0) {
+    if (recovery->place == 0 && recovery->damaged > 0) {
         *word = recovery->damaged;
         return HLC_FILE_NO_CHECKPOINT;
     }
@@ -213,19 +250,20 @@ static void begin_at(hlc_file *file, const struct recovery *recovery)
 uint32_t recover(hlc_file *file, uint64_t *word)
 {
     struct recovery recovery = { 0 };
+    uint64_t known_place = file->db.state.place;
     uint32_t answer = restore_newest(file, &recovery);
     if (answer == HLC_OK) {
         links_of_store(&file->links, &file->store);
         answer = apply_log(file, &recovery);
     }
     if (answer == HLC_FILE_DAMAGED_LOG) {
-        answer = damaged_log(file, &recovery, word);
+        answer = damaged_log(&recovery, word);
         bool keeps = answer == HLC_FILE_DAMAGED_LOG && file->options.flags & HLC_FILE_KEEP_BEFORE_DAMAGE;
         if (keeps) answer = move_aside(file, &recovery);
         /* The links have taken some records of the damaged row. */
         links_of_store(&file->links, &file->store);
     }
-    if (answer == HLC_OK) answer = mark_damaged(file, &recovery);
+    if (answer == HLC_OK) answer = write_down(file, &recovery, known_place);
     if (answer == HLC_OK) begin_at(file, &recovery);
     file->report.damaged = recovery.damaged;
     return answer;

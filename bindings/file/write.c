@@ -13,8 +13,8 @@ uint64_t system_reading(void)
     return now.tv_sec < 0 ? 0 : (uint64_t)now.tv_sec * 1000 + (uint64_t)now.tv_nsec / 1000000;
 }
 
-/* Returns the reading for an event after the last one, from the system's clock; or a millisecond more than the last one,
- * where its counter is full and the clock is not past it. */
+/* Returns the reading for an event after the last one, from the system's clock; or a millisecond more than the last
+ * one, where its counter is full and the clock is not past it. */
 static uint64_t next_reading(uint64_t now, uint64_t last)
 {
     bool full = (last & COUNTER_FULL) == COUNTER_FULL && now <= last >> 16;

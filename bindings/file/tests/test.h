@@ -71,7 +71,8 @@ static inline const char *value_at(hlc_file *file, uint64_t stamp, const char *k
     static char value[4096];
     uint64_t id, at;
     size_t len = 0;
-    uint32_t answer = stamp ? hlc_file_open_snapshot(file, stamp, &id) : hlc_file_open_snapshot_at_floor(file, &id, &at);
+    uint32_t answer = stamp ? hlc_file_open_snapshot(file, stamp, &id)
+                            : hlc_file_open_snapshot_at_floor(file, &id, &at);
     if (answer != HLC_OK) {
         snprintf(value, sizeof value, "refused %" PRIu32, answer);
         return value;

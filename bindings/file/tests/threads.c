@@ -106,7 +106,8 @@ int main(int argc, char **argv)
     EXPECT(hlc_file_close(file), HLC_OK);
     file = opened(PATH);
     snprintf(value, sizeof value, "%08u", rounds);
-    for (unsigned i = 0; i < WRITERS; i++) EXPECT_VALUE(file, 0, i == 0 ? "a0" : i == 1 ? "b1" : i == 2 ? "a2" : "b3", value);
+    static const char *const keys[WRITERS] = { "a0", "b1", "a2", "b3" };
+    for (int i = 0; i < WRITERS; i++) EXPECT_VALUE(file, 0, keys[i], value);
     EXPECT(hlc_file_close(file), HLC_OK);
     return ended();
 }

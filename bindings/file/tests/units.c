@@ -142,12 +142,15 @@ static void a_damaged_log_is_refused_with_its_place(void)
     } damages[] = {
         { "UPDATE log SET records = zeroblob(30) WHERE place = 3", 3 },
         { "UPDATE log SET sum = sum + 1 WHERE place = 3", 3 },
+        { "UPDATE log SET clock = clock + 1 WHERE place = 3", 3 },
+        { "UPDATE log SET horizon = 1 WHERE place = 3", 3 },
+        { "UPDATE log SET threshold = 1 WHERE place = 3", 3 },
         { "DELETE FROM log WHERE place = 3", 3 },
         { "DELETE FROM log WHERE place = 5", 5 },
         { "DELETE FROM log", 1 },
         { "UPDATE log SET place = 9 WHERE place = 5", 5 },
         { "UPDATE log SET place = -place WHERE place IN (3, 4); UPDATE log SET place = 7 + place WHERE place < 0", 3 },
-        { "INSERT INTO log SELECT 6, sum, records FROM log WHERE place = 5", 6 },
+        { "INSERT INTO log SELECT 6, sum, clock, horizon, threshold, records FROM log WHERE place = 5", 6 },
     };
     hlc_file_state state;
     for (size_t i = 0; i < sizeof damages / sizeof *damages; i++) {
