@@ -5,8 +5,6 @@
  * that succeeds, the failed transaction is not on disk, and else nothing is written until it does. After a failed sync
  * nobody knows which of the pages written before are on disk, so then the file takes no writes at all. */
 #include "file.h"
-#include <errno.h>
-#include <string.h>
 #include <zlib.h>
 
 enum { APPLICATION = 0x686c6366, SCHEMA = 1, STATE_NUMBERS = 7 };
@@ -84,7 +82,6 @@ uint64_t sum_row(uint64_t before, const struct state *state, const uint8_t *reco
 /* Keeps SQLite's code of a failure, and returns the answer for it. */
 uint32_t db_failure(struct db *db, int code)
 {
-    int system = db->sqlite ? sqlite3_system_errno(db->sqlite) : 0;
     db->code = db->sqlite && sqlite3_errcode(db->sqlite) == (code & 0xff) ? sqlite3_extended_errcode(db->sqlite) : code;
     if (db->code == SQLITE_IOERR_FSYNC || db->code == SQLITE_IOERR_DIR_FSYNC) db->doubt = SEALED;
     switch (code & 0xff) {
@@ -96,9 +93,7 @@ uint32_t db_failure(struct db *db, int code)
     case SQLITE_CANTOPEN:
     case SQLITE_READONLY: return HLC_FILE_CANNOT_OPEN;
     }
-    if (db->code == SQLITE_IOERR_NOMEM) return HLC_NO_MEMORY;
-    bool full = system == ENOSPC || system == EDQUOT || system == EFBIG;
-    return full && db->code == SQLITE_IOERR_WRITE ? HLC_FILE_FULL : HLC_FILE_IO;
+    return db->code == SQLITE_IOERR_NOMEM ? HLC_NO_MEMORY : HLC_FILE_IO;
 }
 
 /* ---- Statements ---- */

@@ -12,7 +12,15 @@
 #include <pthread.h>
 #include <sqlite3.h>
 
-enum { MOST_NODES = 1024, ITEM_HEAD = 20, JOIN_LEN = 11, THRESHOLD_LEN = 9, CLOCK_AHEAD = 1000, PIECE = 1 << 19, WAL_PAGES = 4000 };
+enum {
+    MOST_NODES = 1024,
+    ITEM_HEAD = 20, /* bytes of an item before the body of a write */
+    JOIN_LEN = 11,
+    THRESHOLD_LEN = 9,
+    CLOCK_AHEAD = 1000, /* milliseconds that the clock on disk is ahead of stamps that are not */
+    PIECE = 1 << 19,    /* bytes of a piece of a checkpoint */
+    WAL_PAGES = 4000    /* the write-ahead log is moved into the file where it is longer */
+};
 
 #define PHYSICAL(milliseconds) ((uint64_t)(milliseconds) << 16)
 

@@ -121,10 +121,11 @@ typedef struct {
 /* ---- The file ---- */
 
 /* Makes or recovers a file. path: UTF-8 with a 0 at its end. It is locked before it is read, by `path-lock` beside it,
- * until it is closed or the process ends. options: may be NULL. file: the file, or NULL after a refusal. status: may be
- * NULL; else how it was opened, also after a refusal: why, and SQLite's code. A recovered store has no open snapshots,
- * and its file is synced as it was found: what it shows stays. Refusals: 200 to 209, 15. Costs a restore of the checkpoint and the log behind it. One thread at a time opens one path. */
-uint32_t hlc_file_open(const char *path, const hlc_file_options *options, hlc_file **file, hlc_file_state *status);
+ * until it is closed or the process ends. options: may be NULL. file: the file, or NULL after a refusal. state: may be
+ * NULL; else how it was opened, also after a refusal: why, and SQLite's code. A recovered store has no open snapshots.
+ * What is found is synced before it is shown, so that it stays. Refusals: 200 to 209, 15. Costs a restore of the
+ * checkpoint, and the log behind it. Any thread. */
+uint32_t hlc_file_open(const char *path, const hlc_file_options *options, hlc_file **file, hlc_file_state *state);
 
 /* Waits for a checkpoint that is under way in the background, syncs the file, and frees it in any case. NULL is closed
  * with HLC_OK. Answers: HLC_OK; 205, 206, 210 or 211 where a batch of HLC_FILE_WRITTEN may not be synced; all others
@@ -132,7 +133,7 @@ uint32_t hlc_file_open(const char *path, const hlc_file_options *options, hlc_fi
 uint32_t hlc_file_close(hlc_file *file);
 
 /* Writes how the file is. Answers: HLC_OK, 204. Any thread, beside any call. */
-uint32_t hlc_file_status(hlc_file *file, hlc_file_state *status);
+uint32_t hlc_file_status(hlc_file *file, hlc_file_state *state);
 
 /* Writes the name of any answer, of hlcstore.h too, or a sentence in English, as hlc_error_name and _text do. Any
  * thread. */

@@ -1,8 +1,8 @@
 /* A process under load is killed at random moments, again and again, on one file: kills TIMES FILE [SEED].
  *
  * The load: three threads append batches, under all promises, and send messages; a fourth one reports, joins and
- * retires nodes, vacuums and makes checkpoints. What was promised goes to the parent through a pipe, after the call returned.
- * The parent kills the process, opens the file itself, and compares:
+ * retires nodes, vacuums and makes checkpoints. What was promised goes to the parent through a pipe, after the call
+ * returned. The parent kills the process, opens the file itself, and compares:
  *   - each batch that was promised is there, at its stamp, and after the last one of a thread at most the one that was
  *     under way, whole;
  *   - at a stamp at or above the horizon each thread's batches are there up to the last one at or below the stamp, and

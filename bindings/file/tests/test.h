@@ -87,7 +87,7 @@ static inline void expect_value_at(int line, hlc_file *file, uint64_t stamp, con
 {
     const char *value = value_at(file, stamp, key);
     if (strcmp(value, expected) == 0) return;
-    printf("%s, line %d: %s is '%s', not '%s'\n", test_name, line, key, value, expected);
+    printf("%s, line %d: %s is '%.40s', not '%.40s'\n", test_name, line, key, value, expected);
     wrong++;
 }
 

@@ -1,6 +1,7 @@
 /* A test of each decision of the library, on files in the current folder. */
 #include "test.h"
-#include <fcntl.h>
+#include <signal.h>
+#include <sys/resource.h>
 #include <sys/stat.h>
 #include <sys/wait.h>
 #include <time.h>
@@ -682,6 +683,59 @@ static void a_policy_makes_checkpoints(void)
     hlc_file_close(file);
 }
 
+/* ---- A full disk ---- */
+
+static void limit_files(rlim_t bytes)
+{
+    struct rlimit limit;
+    getrlimit(RLIMIT_FSIZE, &limit);
+    limit.rlim_cur = bytes == 0 ? limit.rlim_max : bytes;
+    HOLDS(setrlimit(RLIMIT_FSIZE, &limit) == 0);
+}
+
+static bool is_of_disk(uint32_t answer)
+{
+    return answer == HLC_FILE_FULL || answer == HLC_FILE_IO;
+}
+
+/* Files of limited length are as a full disk. When there is room again, writes go on. */
+static void a_full_disk_refuses(void)
+{
+    char key[16];
+    static char value[10000];
+    uint32_t answer = HLC_OK;
+    uint64_t l = 0, stamp, place;
+    signal(SIGXFSZ, SIG_IGN);
+    memset(value, 'v', sizeof value - 1);
+    for (rlim_t bytes = 200000; bytes < 212000; bytes += 1111) {
+        hlc_file *file = opened(fresh(PATH));
+        limit_files(bytes);
+        for (l = 0, answer = HLC_OK; answer == HLC_OK && l < 100;) {
+            snprintf(key, sizeof key, "k%d", (int)++l);
+            answer = put_at(file, l, key, value, &stamp);
+        }
+        HOLDS(is_of_disk(answer) || answer == HLC_FILE_UNKNOWN);
+        EXPECT(stamp, 0);
+        EXPECT(state_of(file).failure, answer);
+        HOLDS(state_of(file).sqlite != 0);
+        EXPECT(state_of(file).writes, is_of_disk(answer) ? HLC_OK : HLC_FILE_UNKNOWN);
+        EXPECT_VALUE(file, 0, key, "");
+        answer = hlc_file_checkpoint(file, &place);
+        HOLDS(is_of_disk(answer) || answer == HLC_FILE_UNKNOWN || answer == HLC_FILE_SEALED);
+        limit_files(0);
+        put(file, 200, "b", "room");
+        EXPECT(state_of(file).writes, HLC_OK);
+        EXPECT_VALUE(file, 0, "b", "room");
+        hlc_file_close(file);
+        file = opened(PATH);
+        /* All but the refused one, and the one for which there was room. */
+        EXPECT(state_of(file).applied, l);
+        EXPECT_VALUE(file, 0, key, "");
+        EXPECT_VALUE(file, 0, "b", "room");
+        hlc_file_close(file);
+    }
+}
+
 /* ---- Answers ---- */
 
 static void each_answer_has_a_name_and_a_text(void)
@@ -739,6 +793,7 @@ static const struct {
     TEST(a_vacuum_by_age),
     TEST(reading_calls_are_those_of_the_store),
     TEST(a_policy_makes_checkpoints),
+    TEST(a_full_disk_refuses),
     TEST(each_answer_has_a_name_and_a_text),
 };
 

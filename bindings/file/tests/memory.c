@@ -1,0 +1,220 @@
+/* Each request for memory of each call is refused in its turn, by tests/refuse.c of the repository, which is loaded
+ * before the C library. A call that is refused changes nothing, or says that it took place; made again it succeeds. */
+#include "test.h"
+
+enum { MOST_REQUESTS = 3000 };
+
+static const char PATH[] = "memory.hlc", BEGIN[] = "memory-begin.hlc";
+static const size_t REFUSE = (size_t)1 << 60, WAS_REFUSED = (size_t)1 << 61;
+static hlc_file *file;
+static hlc_file_batch *batch;
+/* The compiler does not see what becomes of a request. */
+static void *volatile answered;
+
+static void refuse(size_t number)
+{
+    answered = malloc(REFUSE + number);
+}
+
+static bool was_refused(void)
+{
+    answered = malloc(WAS_REFUSED);
+    bool refused = answered != NULL;
+    free(answered);
+    return refused;
+}
+
+/* ---- The calls: each gives the key `new` the value `x`, or changes no value ---- */
+
+static uint32_t call_write(void)
+{
+    uint64_t word;
+    return put_at(file, 50, "new", "x", &word);
+}
+
+static uint32_t call_append(uint32_t promise)
+{
+    uint64_t word;
+    hlc_file_batch_clear(batch);
+    uint32_t answer = HLC_OK;
+    for (int i = 0; i < 40 && answer == HLC_OK; i++) {
+        char key[40];
+        snprintf(key, sizeof key, "another key of some length %d", i);
+        answer = hlc_file_batch_put(batch, BYTES(key), BYTES("another value of some length, so that it is a block"));
+    }
+    if (answer == HLC_OK) answer = hlc_file_batch_put(batch, BYTES("new"), BYTES("x"));
+    return answer == HLC_OK ? hlc_file_append(file, 0, 50, batch, promise, &word) : answer;
+}
+
+static uint32_t call_append_group(void)
+{
+    return call_append(HLC_FILE_GROUP);
+}
+
+static uint32_t call_append_written(void)
+{
+    return call_append(HLC_FILE_WRITTEN);
+}
+
+static uint32_t call_records(void)
+{
+    uint8_t bytes[100];
+    size_t len, many;
+    uint64_t word;
+    hlc_item_write(0, 5, AT(50), BYTES("new"), BYTES("x"), bytes, sizeof bytes, &len);
+    return hlc_file_append_records(file, bytes, len, 0, &many, &word);
+}
+
+static uint32_t call_join(void)
+{
+    uint16_t node;
+    uint64_t start;
+    return hlc_file_join(file, &node, &start);
+}
+
+/* A node that joined would hold the floor back. */
+static void retire_joined(void)
+{
+    hlc_store mine;
+    uint64_t nodes, word;
+    hlc_file_read_begin(file, &mine);
+    hlc_nodes(&mine, &nodes);
+    hlc_file_read_end(file);
+    if (nodes > 1) EXPECT(hlc_file_retire(file, (uint16_t)(nodes - 1), 60, &word), HLC_OK);
+}
+
+static uint32_t call_send(void)
+{
+    uint64_t word;
+    return hlc_file_send(file, 0, 50000, &word);
+}
+
+static uint32_t call_checkpoint(void)
+{
+    uint64_t place;
+    return hlc_file_checkpoint(file, &place);
+}
+
+static uint32_t call_vacuum(void)
+{
+    uint64_t word, kept, bytes, dropped;
+    return hlc_file_vacuum_to(file, AT(2), &word, &kept, &bytes, &dropped);
+}
+
+static uint32_t call_snapshot(void)
+{
+    uint64_t id, stamp;
+    uint32_t answer = hlc_file_open_snapshot_at_floor(file, &id, &stamp);
+    if (answer == HLC_OK) hlc_file_close_snapshot(file, id, &stamp);
+    return answer;
+}
+
+static uint32_t call_open(void)
+{
+    hlc_file_options options = { .checkpoint_bytes = UINT64_MAX };
+    hlc_file_close(file);
+    return hlc_file_open(PATH, &options, &file, NULL);
+}
+
+static const struct {
+    const char *name;
+    uint32_t (*call)(void);
+    bool writes; /* whether it gives `new` its value */
+} CALLS[] = {
+    { "write", call_write, true },
+    { "append, in a group", call_append_group, true },
+    { "append, not synced", call_append_written, true },
+    { "append of records", call_records, true },
+    { "join", call_join, false },
+    { "send", call_send, false },
+    { "checkpoint", call_checkpoint, false },
+    { "vacuum", call_vacuum, false },
+    { "snapshot", call_snapshot, false },
+    { "open", call_open, false },
+};
+
+static void make_begin(void)
+{
+    uint64_t place;
+    file = opened(fresh(BEGIN));
+    for (uint64_t l = 1; l <= 5; l++) {
+        put(file, l, "old", l % 2 ? "odd" : "even");
+        if (l == 3) EXPECT(hlc_file_checkpoint(file, &place), HLC_OK);
+    }
+    hlc_file_close(file);
+}
+
+static void expect_old(void)
+{
+    EXPECT_VALUE(file, AT(5), "old", "odd");
+    EXPECT_VALUE(file, AT(4), "old", "even");
+}
+
+/* Makes a call once more until it takes place: a refusal that left a doubt is settled by the next write. */
+static void make_again(size_t at)
+{
+    uint64_t word;
+    if (!file) EXPECT(call_open(), HLC_OK);
+    else if (CALLS[at].call != call_open) EXPECT(CALLS[at].call(), HLC_OK);
+    if (CALLS[at].call == call_join) retire_joined();
+    if (CALLS[at].writes) EXPECT_VALUE(file, 0, "new", "x");
+    expect_old();
+    EXPECT(put_at(file, 70, "later", "y", &word), HLC_OK);
+    EXPECT_VALUE(file, 0, "later", "y");
+}
+
+/* Makes a call whose request of this number is refused. Returns whether it was. */
+static bool make_refused(size_t at, size_t number)
+{
+    char command[80];
+    fresh(PATH);
+    snprintf(command, sizeof command, "cp %s %s", BEGIN, PATH);
+    HOLDS(system(command) == 0);
+    file = opened(PATH);
+    refuse(number);
+    uint32_t answer = CALLS[at].call();
+    bool refused = was_refused();
+    HOLDS(answer == HLC_OK || refused);
+    /* SQLite calls some requests that it makes to open a file a failure to open it. */
+    HOLDS(answer == HLC_OK || answer == HLC_NO_MEMORY || answer == HLC_FILE_LATER || answer == HLC_FILE_UNKNOWN ||
+          (answer == HLC_FILE_CANNOT_OPEN && CALLS[at].call == call_open));
+    if (answer == HLC_FILE_LATER) {
+        EXPECT(state_of(file).waiting, 1);
+        put(file, 60, "next", "z");
+        EXPECT(state_of(file).waiting, 0);
+        EXPECT_VALUE(file, 0, "new", "x");
+    } else if (answer != HLC_OK) {
+        if (file) EXPECT_VALUE(file, 0, "new", "");
+        make_again(at);
+    }
+    EXPECT(hlc_file_close(file), HLC_OK);
+    file = opened(PATH);
+    if (CALLS[at].writes) EXPECT_VALUE(file, 0, "new", "x");
+    expect_old();
+    EXPECT(hlc_file_close(file), HLC_OK);
+    file = NULL;
+    return refused;
+}
+
+int main(void)
+{
+    static char name[80];
+    test_name = name;
+    unsigned long cases = 0;
+    setenv("TMPDIR", ".", 1);
+    hlc_file_batch_new(&batch);
+    make_begin();
+    for (size_t at = 0; at < sizeof CALLS / sizeof *CALLS; at++) {
+        bool refused = true;
+        for (size_t number = 1; refused && number < MOST_REQUESTS && wrong < 20; number++) {
+            snprintf(name, sizeof name, "%s, request %zu", CALLS[at].name, number);
+            refused = make_refused(at, number);
+            cases += refused;
+        }
+        HOLDS(!refused);
+    }
+    hlc_file_batch_drop(batch);
+    fprintf(stderr, "%lu requests were refused\n", cases);
+    HOLDS(cases > 10);
+    return ended();
+}
