@@ -75,7 +75,7 @@ uint32_t accept_behind(hlc_file *file)
 }
 
 /* Accepts the entries of a group that was written. From the first one on for which there is no memory they stay
- * behind. */
+ * behind, and are not their callers' any more. */
 void accept_group(hlc_file *file, struct call *group)
 {
     uint32_t answer = HLC_OK;
@@ -83,8 +83,8 @@ void accept_group(hlc_file *file, struct call *group)
     for (struct call *call = group; call; call = call->next) {
         if (answer == HLC_OK) answer = accept_entry(file, call->entry);
         call->answer = answer == HLC_OK ? HLC_OK : HLC_FILE_LATER;
-        if (answer == HLC_OK) free(call->entry);
-        else leave_behind(file, call->entry);
+        if (answer == HLC_OK) continue;
+        leave_behind(file, call->entry);
         call->entry = NULL;
     }
     change_end(file);

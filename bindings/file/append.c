@@ -225,18 +225,19 @@ static void take_entry(hlc_file *file, struct entry *entry)
     entry->horizon = file->horizon;
 }
 
-/* Brings an entry through the queue, and frees it. The caller has `mutex`. */
-uint32_t entry_append(hlc_file *file, struct entry *entry, uint32_t promise)
+/* Brings an entry through the queue. It is the caller's again afterwards, or NULL where it stays behind. The caller has
+ * `mutex`. */
+uint32_t entry_append(hlc_file *file, struct entry **entry, uint32_t promise)
 {
-    struct call call = { .entry = entry, .promise = promise };
-    take_entry(file, entry);
-    if (!file->queue) file->queue_end = &file->queue;
-    *file->queue_end = &call;
-    file->queue_end = &call.next;
+    struct call call = { .entry = *entry, .promise = promise };
+    take_entry(file, *entry);
+    struct call **end = &file->queue;
+    while (*end) end = &(*end)->next;
+    *end = &call;
     while (!call.done) {
         if (file->leading) pthread_cond_wait(&file->changed, &file->mutex);
         else lead(file);
     }
-    free(call.entry);
+    *entry = call.entry;
     return call.answer;
 }

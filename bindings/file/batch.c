@@ -1,11 +1,10 @@
-/* Batches: items one behind the other, whose node, number and stamp are written when they are appended. */
+/* Batches: an entry of items, whose node, number and stamp are written when they are appended. */
 #include "file.h"
 #include <stdlib.h>
 
 struct hlc_file_batch {
-    uint8_t *bytes;
-    size_t len;
-    size_t room;
+    struct entry *entry; /* NULL before the first, and where the last one stays behind */
+    size_t room;         /* for its bytes */
     size_t many;
 };
 
@@ -16,16 +15,28 @@ uint32_t hlc_file_batch_new(hlc_file_batch **batch)
     return *batch ? HLC_OK : HLC_NO_MEMORY;
 }
 
-static uint32_t make_room(hlc_file_batch *batch, size_t len)
+/* Makes room for so many more bytes. out: where they go. */
+static uint32_t make_room(hlc_file_batch *batch, size_t len, uint8_t **out)
 {
-    size_t needed = batch->len + len, room = batch->room < 256 ? 256 : batch->room;
-    if (needed > HLC_FILE_BATCH_BYTES) return HLC_FILE_TOO_LONG;
-    while (room < needed) room *= 2;
-    if (room == batch->room) return HLC_OK;
-    uint8_t *bytes = realloc(batch->bytes, room);
-    if (!bytes) return HLC_NO_MEMORY;
-    batch->bytes = bytes;
-    batch->room = room;
+    size_t before = batch->entry ? batch->entry->len : 0, room = batch->entry ? batch->room : 0;
+    if (before + len > HLC_FILE_BATCH_BYTES) return HLC_FILE_TOO_LONG;
+    if (before + len > room) {
+        if (room < 256) room = 256;
+        while (room < before + len) room *= 2;
+        struct entry *entry = realloc(batch->entry, sizeof *entry + room);
+        if (!entry) return HLC_NO_MEMORY;
+        entry->len = before;
+        batch->entry = entry;
+        batch->room = room;
+    }
+    *out = batch->entry->bytes + before;
+    return HLC_OK;
+}
+
+static uint32_t add(hlc_file_batch *batch, size_t len)
+{
+    batch->entry->len += len;
+    batch->many++;
     return HLC_OK;
 }
 
@@ -33,25 +44,23 @@ uint32_t hlc_file_batch_put(hlc_file_batch *batch, const uint8_t *key, size_t ke
                             size_t value_len)
 {
     size_t len;
+    uint8_t *out;
     uint32_t answer = hlc_item_write(0, 0, 0, key, key_len, value, value_len, NULL, 0, &len);
-    if (answer == HLC_OK) answer = make_room(batch, len);
+    if (answer == HLC_OK) answer = make_room(batch, len, &out);
     if (answer != HLC_OK) return answer;
-    hlc_item_write(0, 0, 0, key, key_len, value, value_len, batch->bytes + batch->len, len, &len);
-    batch->len += len;
-    batch->many++;
-    return HLC_OK;
+    hlc_item_write(0, 0, 0, key, key_len, value, value_len, out, len, &len);
+    return add(batch, len);
 }
 
 uint32_t hlc_file_batch_delete(hlc_file_batch *batch, const uint8_t *key, size_t key_len)
 {
     size_t len;
+    uint8_t *out;
     uint32_t answer = hlc_item_delete(0, 0, 0, key, key_len, NULL, 0, &len);
-    if (answer == HLC_OK) answer = make_room(batch, len);
+    if (answer == HLC_OK) answer = make_room(batch, len, &out);
     if (answer != HLC_OK) return answer;
-    hlc_item_delete(0, 0, 0, key, key_len, batch->bytes + batch->len, len, &len);
-    batch->len += len;
-    batch->many++;
-    return HLC_OK;
+    hlc_item_delete(0, 0, 0, key, key_len, out, len, &len);
+    return add(batch, len);
 }
 
 size_t hlc_file_batch_many(const hlc_file_batch *batch)
@@ -59,20 +68,19 @@ size_t hlc_file_batch_many(const hlc_file_batch *batch)
     return batch->many;
 }
 
-const uint8_t *batch_bytes(const hlc_file_batch *batch, size_t *len)
+struct entry **batch_entry(hlc_file_batch *batch)
 {
-    *len = batch->len;
-    return batch->bytes;
+    return &batch->entry;
 }
 
 void hlc_file_batch_clear(hlc_file_batch *batch)
 {
-    batch->len = 0;
+    if (batch->entry) batch->entry->len = 0;
     batch->many = 0;
 }
 
 void hlc_file_batch_drop(hlc_file_batch *batch)
 {
-    if (batch) free(batch->bytes);
+    if (batch) free(batch->entry);
     free(batch);
 }

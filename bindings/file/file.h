@@ -132,7 +132,7 @@ struct entry {
 /* A caller that waits until its entry is written and accepted. It lies on the stack of its thread. */
 struct call {
     struct call *next;
-    struct entry *entry; /* NULL once it is accepted or stays behind */
+    struct entry *entry; /* NULL where it stays behind */
     uint32_t promise;
     uint32_t answer;
     bool done;
@@ -163,7 +163,6 @@ struct hlc_file {
     pthread_cond_t changed;
     pthread_cond_t wake;
     struct call *queue;
-    struct call **queue_end;
     bool leading;
     bool closing;
     struct links links;
@@ -195,7 +194,7 @@ struct hlc_file {
 
 /* append.c */
 struct entry *entry_new(size_t len);
-uint32_t entry_append(hlc_file *file, struct entry *entry, uint32_t promise);
+uint32_t entry_append(hlc_file *file, struct entry **entry, uint32_t promise);
 uint32_t entry_check(hlc_file *file, struct entry *entry, const uint8_t *bytes, size_t len, size_t *many,
                      uint64_t *word);
 void turn_take(struct turns *turns);
@@ -220,5 +219,5 @@ void finish_checkpoint(hlc_file *file, uint64_t place, uint64_t logged, uint64_t
 uint32_t checkpoint_make(hlc_file *file, uint64_t *place);
 uint32_t background_start(hlc_file *file);
 void background_stop(hlc_file *file);
-const uint8_t *batch_bytes(const hlc_file_batch *batch, size_t *len);
+struct entry **batch_entry(hlc_file_batch *batch);
 #endif

@@ -1,7 +1,6 @@
 /* The calls that write: what a node issues, and records of other machines. */
 #include "file.h"
 #include <stdlib.h>
-#include <string.h>
 #include <time.h>
 
 enum { COUNTER_FULL = 0xffff };
@@ -54,20 +53,26 @@ static bool took_place(uint32_t answer)
     return answer == HLC_OK || answer == HLC_FILE_LATER;
 }
 
-/* Appends an entry of items of a node, and frees it. */
-static uint32_t append_items(hlc_file *file, struct entry *entry, uint16_t node, uint64_t reading, uint32_t promise,
+/* Appends an entry of items of a node. It is the caller's again afterwards, or NULL where it stays behind. */
+static uint32_t append_items(hlc_file *file, struct entry **entry, uint16_t node, uint64_t reading, uint32_t promise,
                              uint64_t *word)
 {
     *word = 0;
     pthread_mutex_lock(&file->mutex);
-    uint32_t answer = stamp_items(file, entry, node, reading, word);
-    if (answer != HLC_OK) {
-        free(entry);
-    } else {
+    uint32_t answer = stamp_items(file, *entry, node, reading, word);
+    if (answer == HLC_OK) {
         answer = entry_append(file, entry, promise);
         if (!took_place(answer)) *word = 0;
     }
     pthread_mutex_unlock(&file->mutex);
+    return answer;
+}
+
+/* Appends the one item of an entry, and frees it. */
+static uint32_t append_item(hlc_file *file, struct entry *entry, uint16_t node, uint64_t reading, uint64_t *word)
+{
+    uint32_t answer = append_items(file, &entry, node, reading, file->options.promise, word);
+    free(entry);
     return answer;
 }
 
@@ -80,14 +85,11 @@ static bool sets_promise(const hlc_file *file, uint32_t *promise)
 uint32_t hlc_file_append(hlc_file *file, uint16_t node, uint64_t reading, hlc_file_batch *batch, uint32_t promise,
                          uint64_t *word)
 {
-    size_t len;
-    const uint8_t *bytes = batch_bytes(batch, &len);
+    struct entry **entry = batch_entry(batch);
     *word = 0;
     if (!sets_promise(file, &promise)) return HLC_FILE_BAD_OPTION;
-    if (len == 0) return HLC_OK;
-    struct entry *entry = entry_new(len);
-    if (!entry) return HLC_NO_MEMORY;
-    memcpy(entry->bytes, bytes, len);
+    if (hlc_file_batch_many(batch) == 0) return HLC_OK;
+    **entry = (struct entry){ .len = (*entry)->len };
     uint32_t answer = append_items(file, entry, node, reading, promise, word);
     if (took_place(answer)) hlc_file_batch_clear(batch);
     return answer;
@@ -103,7 +105,7 @@ uint32_t hlc_file_write(hlc_file *file, uint16_t node, uint64_t reading, const u
     struct entry *entry = entry_new(len);
     if (!entry) return HLC_NO_MEMORY;
     hlc_item_write(node, 0, 0, key, key_len, value, value_len, entry->bytes, len, &len);
-    return append_items(file, entry, node, reading, file->options.promise, word);
+    return append_item(file, entry, node, reading, word);
 }
 
 uint32_t hlc_file_delete(hlc_file *file, uint16_t node, uint64_t reading, const uint8_t *key, size_t key_len,
@@ -116,7 +118,7 @@ uint32_t hlc_file_delete(hlc_file *file, uint16_t node, uint64_t reading, const 
     struct entry *entry = entry_new(len);
     if (!entry) return HLC_NO_MEMORY;
     hlc_item_delete(node, 0, 0, key, key_len, entry->bytes, len, &len);
-    return append_items(file, entry, node, reading, file->options.promise, word);
+    return append_item(file, entry, node, reading, word);
 }
 
 uint32_t hlc_file_report(hlc_file *file, uint16_t node, uint64_t reading, uint64_t *word)
@@ -126,7 +128,7 @@ uint32_t hlc_file_report(hlc_file *file, uint16_t node, uint64_t reading, uint64
     struct entry *entry = entry_new(ITEM_HEAD);
     if (!entry) return HLC_NO_MEMORY;
     hlc_item_report(node, 0, 0, entry->bytes, entry->len, &len);
-    return append_items(file, entry, node, reading, file->options.promise, word);
+    return append_item(file, entry, node, reading, word);
 }
 
 uint32_t hlc_file_retire(hlc_file *file, uint16_t node, uint64_t reading, uint64_t *word)
@@ -136,7 +138,7 @@ uint32_t hlc_file_retire(hlc_file *file, uint16_t node, uint64_t reading, uint64
     struct entry *entry = entry_new(ITEM_HEAD);
     if (!entry) return HLC_NO_MEMORY;
     hlc_item_retire(node, 0, 0, entry->bytes, entry->len, &len);
-    return append_items(file, entry, node, reading, file->options.promise, word);
+    return append_item(file, entry, node, reading, word);
 }
 
 /* ---- Records ---- */
@@ -147,7 +149,7 @@ static uint32_t append_checked(hlc_file *file, struct entry *entry, const uint8_
 {
     *many = 0;
     uint32_t answer = entry_check(file, entry, bytes, len, many, word);
-    if (answer == HLC_OK) return entry_append(file, entry, promise);
+    if (answer == HLC_OK) answer = entry_append(file, &entry, promise);
     free(entry);
     return answer;
 }
@@ -213,7 +215,9 @@ static uint32_t cover_event(hlc_file *file, uint64_t stamp)
         if (!entry) return HLC_NO_MEMORY;
         entry->stamp = stamp;
         entry->ahead = clock_ahead(stamp);
-        return entry_append(file, entry, HLC_FILE_SYNCED);
+        uint32_t answer = entry_append(file, &entry, HLC_FILE_SYNCED);
+        free(entry);
+        return answer;
     }
     file->clock = stamp;
     return HLC_OK;
