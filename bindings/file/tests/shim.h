@@ -134,7 +134,7 @@ static void forget_kept(struct kept *kept)
 }
 
 /* Makes the files what is on disk after a loss of power. */
-static void power_up(uint64_t seed)
+static inline void power_up(uint64_t seed)
 {
     uint64_t random = seed;
     for (int i = 0; i < MOST_FILES; i++) {
