@@ -179,7 +179,7 @@ uint32_t db_end(struct db *db, uint32_t answer)
 
 static int write_state(struct db *db, struct state *state)
 {
-    state->writes++;
+    state->writes = db->state.writes + 1;
     struct values values = { STATE_NUMBERS + 1, { state->nodes, state->place, state->sum, state->clock,
                                                   state->horizon, state->threshold, state->writes }, NULL, 0 };
     values.numbers[STATE_NUMBERS] = sum_numbers(values.numbers, STATE_NUMBERS);

@@ -100,7 +100,7 @@ typedef struct {
 
 /* How a file is. The caller sets the size, and a call writes the rest. */
 typedef struct {
-    size_t size;               /* sizeof(hlc_file_status), or 0 for that of this version */
+    size_t size;               /* sizeof(hlc_file_state), or 0 for that of this version */
     uint32_t failure;          /* the last answer from 200 on that was no mistake of the caller, or 0 */
     int32_t sqlite;            /* SQLite's extended result code of it, or 0 */
     uint64_t word;             /* its word, or 0 */
@@ -224,7 +224,8 @@ uint32_t hlc_file_read_begin(hlc_file *file, hlc_store *mine);
 void hlc_file_read_end(hlc_file *file);
 
 /* Opens a snapshot, which any thread may use until it is closed or the file is; and closes it. As hlc_open_snapshot,
- * hlc_open_snapshot_at_floor and hlc_close_snapshot. They are not kept in the file. */
+ * hlc_open_snapshot_at_floor and hlc_close_snapshot. They are not kept in the file, and wait while a checkpoint copies
+ * the store; other reads do not. */
 uint32_t hlc_file_open_snapshot(hlc_file *file, uint64_t stamp, uint64_t *id);
 uint32_t hlc_file_open_snapshot_at_floor(hlc_file *file, uint64_t *id, uint64_t *stamp);
 uint32_t hlc_file_close_snapshot(hlc_file *file, uint64_t id, uint64_t *stamp);

@@ -56,18 +56,20 @@ static uint32_t set_options(hlc_file *file, const hlc_file_options *given)
 
 /* ---- How a file is ---- */
 
-/* Writes as much of the state as the caller has room for. */
-static uint32_t tell(const hlc_file_state *report, hlc_file_state *state)
+static bool is_of_this_version(const hlc_file_state *state)
 {
-    size_t size = state->size == 0 ? sizeof *state : state->size;
-    if (size != sizeof *state) return HLC_FILE_BAD_OPTION;
+    return state->size == 0 || state->size == sizeof *state;
+}
+
+static void tell(const hlc_file_state *report, hlc_file_state *state)
+{
     *state = *report;
-    state->size = size;
-    return HLC_OK;
+    state->size = sizeof *state;
 }
 
 uint32_t hlc_file_status(hlc_file *file, hlc_file_state *state)
 {
+    if (!is_of_this_version(state)) return HLC_FILE_BAD_OPTION;
     pthread_rwlock_rdlock(&file->lend);
     uint64_t waiting = file->waiting;
     pthread_rwlock_unlock(&file->lend);
@@ -77,7 +79,8 @@ uint32_t hlc_file_status(hlc_file *file, hlc_file_state *state)
     report.clock = file->clock;
     report.log_bytes = file->logged - file->checkpoint_logged;
     pthread_mutex_unlock(&file->mutex);
-    return tell(&report, state);
+    tell(&report, state);
+    return HLC_OK;
 }
 
 /* ---- The file ---- */
@@ -166,10 +169,11 @@ static uint32_t open_path(hlc_file *file, const char *path, const hlc_file_optio
 uint32_t hlc_file_open(const char *path, const hlc_file_options *options, hlc_file **file, hlc_file_state *state)
 {
     *file = NULL;
+    if (state && !is_of_this_version(state)) return HLC_FILE_BAD_OPTION;
     hlc_file *made = file_new();
     if (!made) return HLC_NO_MEMORY;
     uint32_t answer = open_path(made, path, options);
-    if (state && tell(&made->report, state) != HLC_OK && answer == HLC_OK) answer = HLC_FILE_BAD_OPTION;
+    if (state) tell(&made->report, state);
     if (answer == HLC_OK) *file = made;
     else file_free(made);
     return answer;

@@ -298,6 +298,8 @@ static void options_out_of_range(void)
         EXPECT(hlc_file_open(PATH, &bad[i], &file, NULL), HLC_FILE_BAD_OPTION);
         HOLDS(file == NULL && access(PATH, F_OK) != 0);
     }
+    EXPECT(hlc_file_open(PATH, NULL, &file, &state), HLC_FILE_BAD_OPTION);
+    HOLDS(file == NULL && access(PATH, F_OK) != 0);
     file = opened_with(PATH, (hlc_file_options){ .size = sizeof(hlc_file_options), .nodes = 64 });
     EXPECT(hlc_file_status(file, &state), HLC_FILE_BAD_OPTION);
     EXPECT(hlc_file_append_records(file, NULL, 0, 4, &many, &word), HLC_FILE_BAD_OPTION);
