@@ -1,8 +1,8 @@
-// Times durable stores on one disk: `commits STORE BATCH COMMITS FOLDER`, `recover ROWS log|checkpoint FOLDER`.
+// Times durable stores on one disk: `commits BATCH COMMITS TURNS FOLDER`, `recover ROWS log|checkpoint FOLDER`.
 //
-// Each commit is synced, and has BATCH rows: random keys of 8 bytes out of a million, values of 64 bytes. It prints
-// names and numbers: commits a second, and bytes on disk a row after the store was closed; or seconds of an opening.
-// STORE is hlcstore-file, sqlite, lmdb or rocksdb. sqlite keeps the newest value of each key, as lmdb and rocksdb do,
+// The stores make so many commits each, turn about. A commit is synced, and has BATCH rows: random keys of 8 bytes out
+// of a million, values of 64 bytes. It prints for each store the best and the middle number of commits a second of a
+// turn, and bytes on disk a row after it was closed; or the seconds of an opening, and such bytes. sqlite keeps the newest value of each key, as lmdb and rocksdb do,
 // in a table with the key as its primary key; sqlite-log appends each row to a table with a rowid.
 #include <hlcstore_file.h>
 #include <lmdb.h>
@@ -11,13 +11,16 @@
 #include <sqlite3.h>
 #include <sys/stat.h>
 
+#include <algorithm>
 #include <chrono>
 #include <cstdio>
 #include <cstdlib>
 #include <cstring>
 #include <filesystem>
+#include <functional>
 #include <memory>
 #include <string>
+#include <vector>
 
 namespace {
 using std::string;
@@ -183,26 +186,55 @@ uint64_t bytes_in(const string& folder) {
   return bytes;
 }
 
+// A store that takes its turns, and its commits a second in each.
+struct Turns {
+  string name;
+  std::function<void()> turn;
+  std::function<void()> close;
+  std::vector<double> rates;
+};
+
 template <class Store>
-void commits(std::unique_ptr<Store> store, uint64_t batch, uint64_t many, const string& folder) {
-  Rows rows;
-  const double begin = seconds();
-  for (uint64_t i = 0; i < many; i++) {
-    for (uint64_t j = 0; j < batch; j++) store->put(rows.next());
-    store->commit();
-  }
-  const double taken = seconds() - begin;
-  store.reset();
-  std::printf("commits %.0f\nbytes %.1f\n", many / taken, bytes_in(folder) / static_cast<double>(many * batch));
+Turns turns_of(const string& name, std::shared_ptr<Store> store, uint64_t batch, uint64_t many) {
+  auto rows = std::make_shared<Rows>();
+  auto kept = std::make_shared<std::shared_ptr<Store>>(store);
+  const auto turn = [=] {
+    for (uint64_t i = 0; i < many; i++) {
+      for (uint64_t j = 0; j < batch; j++) (*kept)->put(rows->next());
+      (*kept)->commit();
+    }
+  };
+  return {name, turn, [=] { kept->reset(); }, {}};
 }
 
-void commits_of(const string& store, uint64_t batch, uint64_t many, const string& folder) {
-  if (store == "hlcstore-file") return commits(std::make_unique<Ours>(folder), batch, many, folder);
-  if (store == "sqlite") return commits(std::make_unique<Sqlite>(folder, false), batch, many, folder);
-  if (store == "sqlite-log") return commits(std::make_unique<Sqlite>(folder, true), batch, many, folder);
-  if (store == "lmdb") return commits(std::make_unique<Lmdb>(folder), batch, many, folder);
-  if (store == "rocksdb") return commits(std::make_unique<Rocks>(folder), batch, many, folder);
-  give_up("no store " + store);
+string made(const string& folder) {
+  std::filesystem::create_directories(folder);
+  return folder;
+}
+
+// The stores commit in turn, each turn with another one first.
+void commits(uint64_t batch, uint64_t many, uint64_t turns, const string& folder) {
+  const auto in = [&](const char* name) { return made(folder + "/" + name); };
+  std::vector<Turns> stores;
+  stores.push_back(turns_of("hlcstore-file", std::make_shared<Ours>(in("hlcstore-file")), batch, many));
+  stores.push_back(turns_of("sqlite", std::make_shared<Sqlite>(in("sqlite"), false), batch, many));
+  stores.push_back(turns_of("sqlite-log", std::make_shared<Sqlite>(in("sqlite-log"), true), batch, many));
+  stores.push_back(turns_of("lmdb", std::make_shared<Lmdb>(in("lmdb")), batch, many));
+  stores.push_back(turns_of("rocksdb", std::make_shared<Rocks>(in("rocksdb")), batch, many));
+  for (uint64_t turn = 0; turn < turns; turn++) {
+    for (uint64_t i = 0; i < stores.size(); i++) {
+      Turns& store = stores[(turn + i) % stores.size()];
+      const double begin = seconds();
+      store.turn();
+      store.rates.push_back(many / (seconds() - begin));
+    }
+  }
+  for (Turns& store : stores) {
+    store.close();
+    std::sort(store.rates.begin(), store.rates.end());
+    std::printf("%s %.0f %.0f %.1f\n", store.name.c_str(), store.rates.back(), store.rates[turns / 2],
+                bytes_in(folder + "/" + store.name) / static_cast<double>(many * batch * turns));
+  }
 }
 
 void recover(uint64_t many, bool checkpoint, const string& folder) {
@@ -217,18 +249,18 @@ void recover(uint64_t many, bool checkpoint, const string& folder) {
   }
   const double begin = seconds();
   Ours again(folder);
-  std::printf("seconds %.3f\nbytes %.1f\n", seconds() - begin, bytes_in(folder) / static_cast<double>(many));
+  std::printf("%.3f %.1f\n", seconds() - begin, bytes_in(folder) / static_cast<double>(many));
 }
 }  // namespace
 
 int main(int argc, char** argv) {
   const auto number = [&](int at) { return std::strtoull(argv[at], nullptr, 10); };
   if (argc == 6 && string(argv[1]) == "commits") {
-    commits_of(argv[2], number(3), number(4), argv[5]);
+    commits(number(2), number(3), number(4), argv[5]);
   } else if (argc == 5 && string(argv[1]) == "recover") {
     recover(number(2), string(argv[3]) == "checkpoint", argv[4]);
   } else {
-    give_up("commits STORE BATCH COMMITS FOLDER | recover ROWS log|checkpoint FOLDER");
+    give_up("commits BATCH COMMITS TURNS FOLDER | recover ROWS log|checkpoint FOLDER");
   }
   std::_Exit(std::fflush(stdout));
 }
