@@ -2,8 +2,9 @@
 //
 // The stores make so many commits each, turn about. A commit is synced, and has BATCH rows: random keys of 8 bytes out
 // of a million, values of 64 bytes. It prints for each store the best and the middle number of commits a second of a
-// turn, and bytes on disk a row after it was closed; or the seconds of an opening, and such bytes. sqlite keeps the newest value of each key, as lmdb and rocksdb do,
-// in a table with the key as its primary key; sqlite-log appends each row to a table with a rowid.
+// turn, and bytes on disk a row after it was closed; or the seconds of an opening, and such bytes. sqlite keeps the
+// newest value of each key, as lmdb and rocksdb do, in a table with the key as its primary key; sqlite-log appends each
+// row to a table with a rowid.
 #include <hlcstore_file.h>
 #include <lmdb.h>
 #include <rocksdb/db.h>
