@@ -229,8 +229,10 @@ uint32_t db_add_log(struct db *db, struct state *state, const uint8_t *bytes, si
 /* Moves the write-ahead log into the file, all of it with TRUNCATE. Where that fails it stays as it is. */
 uint32_t db_move(struct db *db, int mode)
 {
-    int code = set_sync(db, true);
-    if (code == SQLITE_OK) code = sqlite3_wal_checkpoint_v2(db->sqlite, NULL, mode, NULL, NULL);
+    int pages = 0, code = set_sync(db, true);
+    if (code == SQLITE_OK) code = sqlite3_wal_checkpoint_v2(db->sqlite, NULL, mode, &pages, NULL);
+    /* Less than none: the file could not be set to have a write-ahead log. */
+    if (code == SQLITE_OK && pages < 0) code = SQLITE_CANTOPEN;
     return code == SQLITE_OK ? HLC_OK : db_failure(db, code);
 }
 
