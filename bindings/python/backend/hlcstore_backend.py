@@ -1,6 +1,7 @@
 """Builds the package (PEP 517) with the standard library alone, so that `pip install .` needs no network.
 
-It compiles the extension on the stable ABI, with the whole of libhlcstore.a inside, and writes the wheel.
+It compiles the extension on the stable ABI, with the whole of libhlcstore.a inside, and writes the wheel. Where
+libhlcstore-file.a lies beside that, and SQLite and zlib can be linked with, it compiles the extension for files too.
 """
 
 import base64
@@ -20,8 +21,11 @@ from typing import NamedTuple
 HERE = pathlib.Path(__file__).resolve().parent.parent
 PROJECT = tomllib.loads((HERE / "pyproject.toml").read_text())["project"]
 NAME = PROJECT["name"]
+NATIVE = HERE / "src/native"
 # The oldest version of Python that has what the extension uses, as a tag and as the number of its headers.
 PYTHON_TAG, LIMITED_API = "cp311", "0x030b0000"
+# What libhlcstore-file.a needs of the system.
+FILE_NEEDS = ("-lsqlite3", "-lz")
 MISSING = """\
 hlcstore: libhlcstore.a and hlcstore.h were not found. Do one of these:
   set HLCSTORE_DIR to the folder that has them, or to the one whose lib/ and include/ have them;
@@ -34,6 +38,16 @@ class Library(NamedTuple):
 
     archive: pathlib.Path
     header: pathlib.Path
+
+    @property
+    def file_archive(self):
+        """The library for files, if it is there."""
+        return self.archive.with_name("libhlcstore-file.a")
+
+    def has_files(self):
+        """Whether the library for files is there, and what it needs."""
+        is_there = self.file_archive.is_file() and self.header.with_name("hlcstore_file.h").is_file()
+        return is_there and links_with_needs()
 
 
 def in_folder(folder):
@@ -77,17 +91,37 @@ def version():
     return re.search(r'^#define HLC_VERSION "(.*)"$', find_library().header.read_text(), re.M)[1]
 
 
-def compile_extension(to):
-    """Compiles the extension into a file. CC, CFLAGS and LDFLAGS are those of the environment."""
-    library = find_library()
-    compiler = shlex.split(os.environ.get("CC", "cc"))
+def compiler():
+    """Returns the words that call the C compiler. CC is that of the environment."""
+    return shlex.split(os.environ.get("CC", "cc"))
+
+
+def links_with_needs():
+    """Whether a shared library can be linked with what the library for files needs."""
+    words = [*compiler(), "-shared", "-x", "c", os.devnull, *FILE_NEEDS, "-o", os.devnull]
+    return subprocess.run(words, capture_output=True).returncode == 0
+
+
+def compile_extension(to, sources, archives):
+    """Compiles an extension into a file. CFLAGS and LDFLAGS are those of the environment."""
     flags = ["-shared", "-fPIC", "-fvisibility=hidden", "-pthread", "-std=gnu11", "-O2"]
-    flags += [f"-DPy_LIMITED_API={LIMITED_API}", f"-I{sysconfig.get_path('include')}", f"-I{library.header.parent}"]
-    flags += shlex.split(os.environ.get("CFLAGS", ""))
-    sources = sorted((HERE / "src/native").glob("*.c"))
+    flags += [f"-DPy_LIMITED_API={LIMITED_API}", f"-I{sysconfig.get_path('include')}", f"-I{NATIVE}"]
+    flags += [f"-I{find_library().header.parent}", *shlex.split(os.environ.get("CFLAGS", ""))]
     # The symbols of the library stay inside, so that two extensions with a library of their own don't meet.
     link = ["-Wl,--exclude-libs,ALL", "-Wl,-z,relro,-z,now", *shlex.split(os.environ.get("LDFLAGS", ""))]
-    subprocess.run([*compiler, *flags, *sources, library.archive, *link, "-o", to], check=True)
+    subprocess.run([*compiler(), *flags, *sources, *archives, *link, "-o", to], check=True)
+
+
+def compile_native(to):
+    """Compiles the extension of the store."""
+    compile_extension(to, sorted(NATIVE.glob("*.c")), [find_library().archive])
+
+
+def compile_file(to):
+    """Compiles the extension for files, which shares a part of the sources of the other one."""
+    shared = [NATIVE / f"{name}.c" for name in ("arguments", "objects", "refusals")]
+    library = find_library()
+    compile_extension(to, [HERE / "src/file/file.c", *shared], [library.file_archive, library.archive, *FILE_NEEDS])
 
 
 def metadata():
@@ -120,11 +154,20 @@ def package_files():
     for path in sorted((HERE / "src/hlcstore").iterdir()):
         if path.suffix in (".py", ".pyi") or path.name == "py.typed":
             files[f"{NAME}/{path.name}"] = path.read_bytes()
-    with tempfile.TemporaryDirectory() as folder:
-        extension = pathlib.Path(folder, "_native.abi3.so")
-        compile_extension(extension)
-        files[f"{NAME}/{extension.name}"] = extension.read_bytes()
+    files |= extension_file("_native", compile_native)
+    if find_library().has_files():
+        files |= extension_file("_file", compile_file)
+    else:
+        print("hlcstore: hlcstore.file is left out: libhlcstore-file.a, hlcstore_file.h, SQLite or zlib is not there")
     return files
+
+
+def extension_file(name, compile_it):
+    """Returns an extension, by its name in the wheel."""
+    with tempfile.TemporaryDirectory() as folder:
+        extension = pathlib.Path(folder, f"{name}.abi3.so")
+        compile_it(extension)
+        return {f"{NAME}/{extension.name}": extension.read_bytes()}
 
 
 def record(files):

@@ -63,6 +63,15 @@ class Backend(unittest.TestCase):
         files = self.place("bindings/build", "bindings/build/include")
         self.assertEqual(self.found(), files)
 
+    def test_the_library_for_files(self):
+        archive, header = self.place("usr/lib", "usr/include")
+        archive.with_name("libhlcstore-file.a").touch()
+        self.assertFalse(self.found(HLCSTORE_DIR=self.top / "usr").has_files())
+        header.with_name("hlcstore_file.h").touch()
+        for can_link in True, False:
+            with mock.patch.object(self.backend, "links_with_needs", return_value=can_link):
+                self.assertEqual(self.found(HLCSTORE_DIR=self.top / "usr").has_files(), can_link)
+
     def test_nowhere(self):
         self.place("bindings/build", "bindings/build/include")
         for folder in "nowhere", "bindings/python":
@@ -76,8 +85,12 @@ class Backend(unittest.TestCase):
             sources.extractall(self.top)
         unpacked = load_backend(self.top / name.removesuffix(".tar.gz"))
         self.assertEqual(unpacked.metadata(), self.backend.metadata())
-        with mock.patch.object(unpacked, "compile_extension", pathlib.Path.touch):
-            with mock.patch.object(self.backend, "compile_extension", pathlib.Path.touch):
+
+        def make_empty(to, *sources_and_archives):
+            to.touch()
+
+        with mock.patch.object(unpacked, "compile_extension", make_empty):
+            with mock.patch.object(self.backend, "compile_extension", make_empty):
                 self.assertEqual(unpacked.package_files(), self.backend.package_files())
         self.assertEqual((self.top / name.removesuffix(".tar.gz") / "PKG-INFO").read_text(), unpacked.metadata())
 

@@ -1,11 +1,13 @@
 """What a type checker must accept, and infer."""
 
 from collections.abc import Iterator
+from datetime import timedelta
 from typing import assert_type
 
 import hlcstore
 from hlcstore import AboveFloor, Applied, Certified, Checked, Item, Link, Node, NotNext, Sizes, Snapshot, Store, Vacuum
 from hlcstore import VacuumPart, Version, check, split, stamp
+from hlcstore import file as files
 
 node = Node(0)
 item = assert_type(node.write(1, b"a", bytearray(b"x")), Item)
@@ -45,3 +47,25 @@ with Store(1) as store:
     assert_type(Store.restore(store.checkpoint(word=3)), Store)
     assert_type(hlcstore.apply_increment(store.checkpoint(), bytearray(store.increment(0, word=3))), bytes)
 assert_type(hlcstore.__version__, str)
+
+with files.File("store", nodes=2, promise=files.Promise.GROUP) as file:
+    assert_type(file.write(b"a", bytearray(b"x"), node=1, reading=5), int)
+    assert_type(file.append({b"a": b"x", b"b": None}), int)
+    assert_type(file.append([(b"a", b"x"), (b"b", None)], promise=files.Promise.WRITTEN), int)
+    with file.batch() as batch:
+        batch.write(b"a", memoryview(b"x"))
+    assert_type(batch.stamp, int | None)
+    assert_type(file.join(), tuple[int, int])
+    assert_type(file.vacuum(older_than=timedelta(days=1)), Vacuum)
+    assert_type(file.status.created, bool)
+    with file.snapshot(at=stamp(5)) as past:
+        assert_type(past[b"a"], bytes)
+        assert_type(past.get(b"b"), bytes | None)
+        assert_type(past.get(b"b", 7), bytes | int)
+        assert_type(past.items(start=b"a", reverse=True), Iterator[tuple[bytes, bytes]])
+        assert_type(list(past), list[bytes])
+        assert_type(past.last_below(), tuple[bytes, bytes] | None)
+try:
+    files.File("store")
+except files.CannotOpen as cannot:
+    assert_type(cannot.sqlite, int)

@@ -27,8 +27,11 @@ class Error(Exception):
         self.used = used
         self.threshold = threshold
 
+    def _text(self) -> str:
+        return _native.error_text(self.code)
+
     def __str__(self) -> str:
-        text = _native.error_text(self.code)
+        text = self._text()
         if self._word_is_stamp:
             return f"{text} ({self.word >> 16}.{self.word & 0xFFFF})"
         return f"{text} ({self.word})" if self.word else text

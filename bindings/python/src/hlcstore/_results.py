@@ -93,3 +93,36 @@ class Checked(NamedTuple):
     """How many rows."""
     cost: int
     """What they cost."""
+
+
+class Status(NamedTuple):
+    """How an `hlcstore.file.File` is."""
+
+    failure: int
+    """The code of the last answer from 200 on that was no mistake of the caller, or 0."""
+    sqlite: int
+    """SQLite's extended result code of it, or 0."""
+    word: int
+    """Its word, or 0."""
+    writes: int
+    """0 where the file takes writes; else the code of `Unknown`, where the next write first finds out, or `Sealed`."""
+    damaged: int
+    """How many damaged checkpoints opening passed over."""
+    applied: int
+    """How many log records behind the checkpoint opening applied."""
+    aside: int
+    """How many log rows opening moved aside."""
+    place: int
+    """The place of the last log row on disk, or 0."""
+    checkpoint_place: int
+    """The place that the newest checkpoint has."""
+    log_bytes: int
+    """How many bytes of records are behind it."""
+    clock: int
+    """No stamp above this one was accepted or returned."""
+    waiting: int
+    """How many batches are on disk, but not accepted, after `Later`."""
+    background: int
+    """The code of the last checkpoint in the background, or 0."""
+    created: bool
+    """Whether opening made the file."""

@@ -3,20 +3,6 @@
 
 Classes *classes_of(PyObject *self) { return PyType_GetModuleState(Py_TYPE(self)); }
 
-void *allocate(PyTypeObject *type)
-{
-    allocfunc allocate_object = (allocfunc)PyType_GetSlot(type, Py_tp_alloc);
-    return allocate_object(type, 0);
-}
-
-void release_object(PyObject *self)
-{
-    PyTypeObject *type = Py_TYPE(self);
-    freefunc free_object = (freefunc)PyType_GetSlot(type, Py_tp_free);
-    free_object(self);
-    Py_DECREF((PyObject *)type);
-}
-
 static bool make_class(PyObject *module, PyType_Spec *spec, PyTypeObject **to)
 {
     *to = (PyTypeObject *)PyType_FromModuleAndSpec(module, spec, NULL);

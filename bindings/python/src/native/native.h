@@ -36,11 +36,16 @@ typedef struct {
 /* Returns the classes of the module that made this object. */
 Classes *classes_of(PyObject *self);
 
+/* ---- objects.c ---- */
+
 /* A new object of a class, all of it 0, or NULL. */
 void *allocate(PyTypeObject *type);
 
 /* Frees an object, whose content is released. */
 void release_object(PyObject *self);
+
+/* Makes a lock in which a waiting writer comes before later readers. Returns an error of the system, or 0. */
+int make_lock(pthread_rwlock_t *lock);
 
 /* ---- arguments.c ---- */
 
@@ -88,6 +93,9 @@ PyObject *refuse_after(uint32_t code, uint64_t word, size_t accepted, size_t use
 
 /* Returns a named tuple of hlcstore/_results.py, of these numbers, and of an object after them unless it is NULL. */
 PyObject *result_of(const char *name, const uint64_t *numbers, Py_ssize_t many, PyObject *last);
+
+/* What a call of the library says of an answer: its name, or its text. */
+PyObject *words_of(PyObject *answer, void (*call)(uint32_t, uint8_t *, size_t, size_t *));
 
 extern PyMethodDef refusal_functions[];
 bool add_refusal_numbers(PyObject *module);

@@ -84,8 +84,7 @@ PyObject *result_of(const char *name, const uint64_t *numbers, Py_ssize_t many, 
     return result;
 }
 
-/* What the library says of an answer: its name, or its text. */
-static PyObject *words_of(PyObject *from, void (*call)(uint32_t, uint8_t *, size_t, size_t *))
+PyObject *words_of(PyObject *from, void (*call)(uint32_t, uint8_t *, size_t, size_t *))
 {
     uint8_t out[256];
     size_t len;

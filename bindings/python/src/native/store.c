@@ -4,20 +4,6 @@
 
 /* ---- The lock ---- */
 
-/* Where the library of C lets readers pass by a waiting writer, readers could keep it waiting for good. */
-static int make_lock(pthread_rwlock_t *lock)
-{
-    pthread_rwlockattr_t kind;
-    int failure = pthread_rwlockattr_init(&kind);
-    if (failure) return failure;
-#ifdef __GLIBC__
-    pthread_rwlockattr_setkind_np(&kind, PTHREAD_RWLOCK_PREFER_WRITER_NONRECURSIVE_NP);
-#endif
-    failure = pthread_rwlock_init(lock, &kind);
-    pthread_rwlockattr_destroy(&kind);
-    return failure;
-}
-
 PyThreadState *lock_to_ask(Store *store, Duration duration)
 {
     if (duration == SHORT && pthread_rwlock_tryrdlock(&store->lock) == 0) return NULL;

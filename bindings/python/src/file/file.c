@@ -1,0 +1,554 @@
+/* The module hlcstore._file: the calls of hlcstore_file.h, for the classes of hlcstore/file.py.
+ *
+ * Threads. Each call lets go of the interpreter, since it may wait for another call or for the disk. Meanwhile it has a
+ * share of the file's lock, which closing takes alone: so a call finds the file open until it ends, or closed. */
+#include "hlcstore_file.h"
+#include <stdlib.h>
+#include "native.h"
+
+typedef struct {
+    PyObject_HEAD
+    hlc_file *file; /* NULL where it is closed */
+    pthread_rwlock_t lock;
+    bool has_lock;
+} File;
+
+/* Makes a call with `file`, and puts its answer into `code`. A closed file answers HLC_CLOSED. */
+#define WITH_FILE(self, code, call) \
+    do { \
+        File *with = (File *)(self); \
+        PyThreadState *thread = PyEval_SaveThread(); \
+        pthread_rwlock_rdlock(&with->lock); \
+        hlc_file *file = with->file; \
+        code = file ? (call) : HLC_CLOSED; \
+        pthread_rwlock_unlock(&with->lock); \
+        PyEval_RestoreThread(thread); \
+    } while (0)
+
+/* ---- Arguments and answers ---- */
+
+/* A reading, or None for the system's clock. The header's number for that clock is no reading: it becomes the one below
+ * it, which is refused as too large. */
+static int take_reading(PyObject *from, void *to)
+{
+    uint64_t *reading = to;
+    *reading = HLC_FILE_NOW;
+    if (from == Py_None) return 1;
+    if (!take_u64(from, reading)) return 0;
+    if (*reading == HLC_FILE_NOW) (*reading)--;
+    return 1;
+}
+
+/* A number, or the exception of a refusal. */
+static PyObject *number_or_refusal(uint32_t code, uint64_t number)
+{
+    return code == HLC_OK ? number_object(number) : refuse(code, number);
+}
+
+/* ---- Opening and closing ---- */
+
+/* Gives the exception that was raised SQLite's code. */
+static void add_sqlite_code(int32_t sqlite)
+{
+    PyObject *type, *error, *trace;
+    PyErr_Fetch(&type, &error, &trace);
+    PyErr_NormalizeException(&type, &error, &trace);
+    PyObject *code = PyLong_FromLong(sqlite);
+    if (!code || PyObject_SetAttrString(error, "sqlite", code)) PyErr_Clear();
+    Py_XDECREF(code);
+    PyErr_Restore(type, error, trace);
+}
+
+/* Returns false with an exception. Nobody else has the object yet. */
+static bool open_path(File *self, const char *path, const hlc_file_options *options)
+{
+    hlc_file_state state = { 0 };
+    PyThreadState *thread = PyEval_SaveThread();
+    uint32_t code = hlc_file_open(path, options, &self->file, &state);
+    PyEval_RestoreThread(thread);
+    if (code == HLC_OK) return true;
+    refuse(code, state.word);
+    add_sqlite_code(state.sqlite);
+    return false;
+}
+
+static bool take_options(PyObject *args, PyObject *words, PyObject **path, hlc_file_options *options)
+{
+    static char *names[] = { "path",    "must_exist",         "keep_before_damage", "nodes",
+                             "promise", "group_microseconds", "checkpoint_bytes",   NULL };
+    int must_exist = false, keep_before_damage = false;
+    uint16_t nodes = 0, promise = HLC_FILE_DEFAULT;
+    uint64_t group_microseconds = 0;
+    if (!PyArg_ParseTupleAndKeywords(args, words, "O&|$ppO&O&O&O&:File", names, PyUnicode_FSConverter, path,
+                                     &must_exist, &keep_before_damage, take_u16, &nodes, take_u16, &promise, take_u64,
+                                     &group_microseconds, take_u64, &options->checkpoint_bytes))
+        return false;
+    if (must_exist) options->flags |= HLC_FILE_MUST_EXIST;
+    if (keep_before_damage) options->flags |= HLC_FILE_KEEP_BEFORE_DAMAGE;
+    options->nodes = nodes;
+    options->promise = promise;
+    options->group_microseconds = group_microseconds < UINT32_MAX ? (uint32_t)group_microseconds : UINT32_MAX;
+    return true;
+}
+
+static PyObject *file_new(PyTypeObject *type, PyObject *args, PyObject *words)
+{
+    PyObject *path = NULL;
+    hlc_file_options options = { 0 };
+    if (!take_options(args, words, &path, &options)) return NULL;
+    File *self = allocate(type);
+    if (self) self->has_lock = make_lock(&self->lock) == 0;
+    if (self && !self->has_lock) PyErr_NoMemory();
+    if (self && (!self->has_lock || !open_path(self, PyBytes_AsString(path), &options))) {
+        Py_DECREF((PyObject *)self);
+        self = NULL;
+    }
+    Py_DECREF(path);
+    return (PyObject *)self;
+}
+
+/* Waits for the calls that are under way. A file that is closed already stays closed. */
+static uint32_t close_it(File *self)
+{
+    PyThreadState *thread = PyEval_SaveThread();
+    pthread_rwlock_wrlock(&self->lock);
+    hlc_file *file = self->file;
+    self->file = NULL;
+    pthread_rwlock_unlock(&self->lock);
+    uint32_t code = hlc_file_close(file);
+    PyEval_RestoreThread(thread);
+    return code;
+}
+
+static PyObject *file_close(PyObject *self, PyObject *none)
+{
+    (void)none;
+    uint32_t code = close_it((File *)self);
+    if (code != HLC_OK) return refuse(code, 0);
+    Py_RETURN_NONE;
+}
+
+static void file_dealloc(PyObject *self)
+{
+    File *file = (File *)self;
+    if (file->has_lock) {
+        close_it(file);
+        pthread_rwlock_destroy(&file->lock);
+    }
+    release_object(self);
+}
+
+/* ---- Batches ---- */
+
+/* Adds a pair of a key and its value, or None for a deletion. Returns false with an exception. */
+static bool add_pair(hlc_file_batch *batch, PyObject *pair)
+{
+    Bytes key = { 0 }, value = { 0 };
+    PyObject *from;
+    if (!PyArg_ParseTuple(pair, "O&O;a batch has pairs of a key and its value", take_bytes, &key, &from)) return false;
+    bool deletes = from == Py_None, is_taken = deletes || take_bytes(from, &value);
+    uint32_t code = HLC_OK;
+    if (is_taken)
+        code = deletes ? hlc_file_batch_delete(batch, key.at, key.len)
+                       : hlc_file_batch_put(batch, key.at, key.len, value.at, value.len);
+    drop_bytes(&key);
+    drop_bytes(&value);
+    if (code != HLC_OK) refuse(code, 0);
+    return is_taken && code == HLC_OK;
+}
+
+static bool add_pairs(hlc_file_batch *batch, PyObject *pairs)
+{
+    PyObject *iterator = PyObject_GetIter(pairs), *pair;
+    bool is_added = iterator != NULL;
+    while (is_added && (pair = PyIter_Next(iterator))) {
+        is_added = PyTuple_Check(pair) ? add_pair(batch, pair) : !PyErr_Format(PyExc_TypeError, "%R is no tuple", pair);
+        Py_DECREF(pair);
+    }
+    Py_XDECREF(iterator);
+    return is_added && !PyErr_Occurred();
+}
+
+static PyObject *file_append(PyObject *self, PyObject *args, PyObject *words)
+{
+    static char *names[] = { "pairs", "node", "reading", "promise", NULL };
+    PyObject *pairs, *stamp = NULL;
+    uint16_t node = 0, promise = HLC_FILE_DEFAULT;
+    uint64_t reading = HLC_FILE_NOW, word = 0;
+    hlc_file_batch *batch;
+    if (!PyArg_ParseTupleAndKeywords(args, words, "O|$O&O&O&:append", names, &pairs, take_u16, &node, take_reading,
+                                     &reading, take_u16, &promise))
+        return NULL;
+    uint32_t code = hlc_file_batch_new(&batch);
+    if (code != HLC_OK) return refuse(code, 0);
+    if (add_pairs(batch, pairs)) {
+        WITH_FILE(self, code, hlc_file_append(file, node, reading, batch, promise, &word));
+        stamp = number_or_refusal(code, word);
+    }
+    hlc_file_batch_drop(batch);
+    return stamp;
+}
+
+static PyObject *file_append_records(PyObject *self, PyObject *args, PyObject *words)
+{
+    static char *names[] = { "log", "promise", NULL };
+    Bytes log = { 0 };
+    uint16_t promise = HLC_FILE_DEFAULT;
+    uint64_t word = 0;
+    size_t many = 0;
+    uint32_t code;
+    if (!PyArg_ParseTupleAndKeywords(args, words, "O&|$O&:append_records", names, take_bytes, &log, take_u16, &promise))
+        return NULL;
+    WITH_FILE(self, code, hlc_file_append_records(file, log.at, log.len, promise, &many, &word));
+    drop_bytes(&log);
+    return code == HLC_OK ? PyLong_FromSize_t(many) : refuse_after(code, word, many, 0, 0);
+}
+
+/* ---- One event ---- */
+
+static PyObject *file_write(PyObject *self, PyObject *args, PyObject *words)
+{
+    static char *names[] = { "key", "value", "node", "reading", NULL };
+    Bytes key = { 0 }, value = { 0 };
+    uint16_t node = 0;
+    uint64_t reading = HLC_FILE_NOW, word = 0;
+    uint32_t code;
+    if (!PyArg_ParseTupleAndKeywords(args, words, "O&O&|$O&O&:write", names, take_bytes, &key, take_bytes, &value,
+                                     take_u16, &node, take_reading, &reading))
+        return NULL;
+    WITH_FILE(self, code, hlc_file_write(file, node, reading, key.at, key.len, value.at, value.len, &word));
+    drop_bytes(&key);
+    drop_bytes(&value);
+    return number_or_refusal(code, word);
+}
+
+static PyObject *file_delete(PyObject *self, PyObject *args, PyObject *words)
+{
+    static char *names[] = { "key", "node", "reading", NULL };
+    Bytes key = { 0 };
+    uint16_t node = 0;
+    uint64_t reading = HLC_FILE_NOW, word = 0;
+    uint32_t code;
+    if (!PyArg_ParseTupleAndKeywords(args, words, "O&|$O&O&:delete", names, take_bytes, &key, take_u16, &node,
+                                     take_reading, &reading))
+        return NULL;
+    WITH_FILE(self, code, hlc_file_delete(file, node, reading, key.at, key.len, &word));
+    drop_bytes(&key);
+    return number_or_refusal(code, word);
+}
+
+typedef uint32_t (*Event)(hlc_file *, uint16_t, uint64_t, uint64_t *);
+
+/* An event of a node that has nothing but its stamp. */
+static PyObject *make_event(PyObject *self, Event event, PyObject *args, PyObject *words)
+{
+    static char *names[] = { "node", "reading", NULL };
+    uint16_t node = 0;
+    uint64_t reading = HLC_FILE_NOW, word = 0;
+    uint32_t code;
+    if (!PyArg_ParseTupleAndKeywords(args, words, "|$O&O&", names, take_u16, &node, take_reading, &reading))
+        return NULL;
+    WITH_FILE(self, code, event(file, node, reading, &word));
+    return number_or_refusal(code, word);
+}
+
+#define EVENT(name, call) \
+    static PyObject *name(PyObject *self, PyObject *args, PyObject *words) \
+    { \
+        return make_event(self, call, args, words); \
+    }
+EVENT(file_report, hlc_file_report)
+EVENT(file_retire, hlc_file_retire)
+EVENT(file_send, hlc_file_send)
+
+static PyObject *file_receive(PyObject *self, PyObject *args, PyObject *words)
+{
+    static char *names[] = { "seen", "node", "reading", NULL };
+    uint16_t node = 0;
+    uint64_t seen, reading = HLC_FILE_NOW, word = 0;
+    uint32_t code;
+    if (!PyArg_ParseTupleAndKeywords(args, words, "O&|$O&O&:receive", names, take_u64, &seen, take_u16, &node,
+                                     take_reading, &reading))
+        return NULL;
+    WITH_FILE(self, code, hlc_file_receive(file, node, seen, reading, &word));
+    return number_or_refusal(code, word);
+}
+
+static PyObject *file_join(PyObject *self, PyObject *none)
+{
+    uint16_t node = 0;
+    uint64_t start = 0;
+    uint32_t code;
+    (void)none;
+    WITH_FILE(self, code, hlc_file_join(file, &node, &start));
+    return code == HLC_OK ? Py_BuildValue("(HK)", node, (unsigned long long)start) : refuse(code, start);
+}
+
+/* ---- What the file has ---- */
+
+typedef struct {
+    uint32_t (*call)(hlc_file *, uint64_t *);
+} Question;
+
+static const Question FLOOR = { hlc_file_floor }, HORIZON = { hlc_file_horizon };
+static const Question CHECKPOINT = { hlc_file_checkpoint };
+
+static PyObject *ask(PyObject *self, void *question)
+{
+    uint64_t number = 0;
+    uint32_t code;
+    WITH_FILE(self, code, ((const Question *)question)->call(file, &number));
+    return number_or_refusal(code, number);
+}
+
+static PyObject *file_checkpoint(PyObject *self, PyObject *none)
+{
+    (void)none;
+    return ask(self, (void *)&CHECKPOINT);
+}
+
+static PyObject *status(PyObject *self, void *none)
+{
+    hlc_file_state is = { .size = sizeof is };
+    uint32_t code;
+    (void)none;
+    WITH_FILE(self, code, hlc_file_status(file, &is));
+    uint64_t numbers[] = { is.failure,   (uint64_t)is.sqlite, is.word,  is.writes,           is.damaged,
+                           is.applied,   is.aside,            is.place, is.checkpoint_place, is.log_bytes,
+                           is.clock,     is.waiting,          is.background };
+    Py_ssize_t many = sizeof numbers / sizeof numbers[0];
+    return code == HLC_OK ? result_of("Status", numbers, many, is.created ? Py_True : Py_False) : refuse(code, 0);
+}
+
+/* ---- Vacuums ---- */
+
+typedef uint32_t (*Vacuum)(hlc_file *, uint64_t, uint64_t *, uint64_t *, uint64_t *, uint64_t *);
+
+static PyObject *vacuum(PyObject *self, Vacuum call, PyObject *from)
+{
+    uint64_t to, made[4] = { 0 };
+    uint32_t code;
+    if (!take_u64(from, &to)) return NULL;
+    WITH_FILE(self, code, call(file, to, &made[0], &made[1], &made[2], &made[3]));
+    return code == HLC_OK ? result_of("Vacuum", made, 4, NULL) : refuse(code, made[0]);
+}
+
+static PyObject *file_vacuum_to(PyObject *self, PyObject *stamp) { return vacuum(self, hlc_file_vacuum_to, stamp); }
+
+static PyObject *file_vacuum_older(PyObject *self, PyObject *milliseconds)
+{
+    return vacuum(self, hlc_file_vacuum_older, milliseconds);
+}
+
+/* ---- Snapshots ---- */
+
+/* Returns its id and its stamp. */
+static PyObject *file_open_snapshot(PyObject *self, PyObject *at)
+{
+    uint64_t id = 0, stamp = 0;
+    uint32_t code;
+    if (at == Py_None) WITH_FILE(self, code, hlc_file_open_snapshot_at_floor(file, &id, &stamp));
+    else if (take_u64(at, &stamp)) WITH_FILE(self, code, hlc_file_open_snapshot(file, stamp, &id));
+    else return NULL;
+    return code == HLC_OK ? Py_BuildValue("(KK)", (unsigned long long)id, (unsigned long long)stamp) : refuse(code, id);
+}
+
+/* A snapshot that is closed already, by itself or with the file, stays closed. */
+static PyObject *file_close_snapshot(PyObject *self, PyObject *from)
+{
+    uint64_t id, stamp;
+    uint32_t code;
+    if (!take_u64(from, &id)) return NULL;
+    WITH_FILE(self, code, hlc_file_close_snapshot(file, id, &stamp));
+    if (code != HLC_OK && code != HLC_NO_SNAPSHOT && code != HLC_CLOSED) return refuse(code, 0);
+    Py_RETURN_NONE;
+}
+
+enum { LONGEST_VALUE = 65535 };
+
+/* Returns a key's value, or None. */
+static PyObject *file_read(PyObject *self, PyObject *args)
+{
+    uint8_t value[LONGEST_VALUE];
+    uint64_t id;
+    size_t len = 0;
+    Bytes key = { 0 };
+    uint32_t code;
+    if (!PyArg_ParseTuple(args, "O&O&:_read", take_u64, &id, take_bytes, &key)) return NULL;
+    WITH_FILE(self, code, hlc_file_read(file, id, key.at, key.len, value, sizeof value, &len));
+    drop_bytes(&key);
+    if (code == HLC_NO_VALUE) Py_RETURN_NONE;
+    return code == HLC_OK ? PyBytes_FromStringAndSize((const char *)value, (Py_ssize_t)len) : refuse(code, 0);
+}
+
+static PyObject *file_count(PyObject *self, PyObject *args)
+{
+    uint64_t id, many = 0;
+    Bytes start = { 0 }, end = { 0 };
+    uint32_t code;
+    if (!PyArg_ParseTuple(args, "O&O&O&:_count", take_u64, &id, take_bytes, &start, take_bytes, &end)) return NULL;
+    WITH_FILE(self, code, hlc_file_count(file, id, start.at, start.len, end.at, end.len, &many));
+    drop_bytes(&start);
+    drop_bytes(&end);
+    return number_or_refusal(code, many);
+}
+
+static PyObject *take_pair(const uint8_t **at)
+{
+    const char *parts[2];
+    Py_ssize_t lengths[2];
+    for (int i = 0; i < 2; i++) {
+        lengths[i] = (Py_ssize_t)number_at(*at, LENGTH);
+        parts[i] = (const char *)*at + LENGTH;
+        *at += LENGTH + (size_t)lengths[i];
+    }
+    return Py_BuildValue("(y#y#)", parts[0], lengths[0], parts[1], lengths[1]);
+}
+
+static PyObject *pairs_object(const uint8_t *at, size_t many)
+{
+    PyObject *pairs = PyList_New(0);
+    for (size_t i = 0; pairs && i < many; i++) {
+        PyObject *pair = take_pair(&at);
+        if (!pair || PyList_Append(pairs, pair)) Py_CLEAR(pairs);
+        Py_XDECREF(pair);
+    }
+    return pairs;
+}
+
+/* Returns the pairs of a range that fit into so many bytes, and whether there are more. */
+static PyObject *file_scan(PyObject *self, PyObject *args)
+{
+    uint64_t id;
+    Bytes start = { 0 }, end = { 0 };
+    int is_reverse;
+    size_t room, len = 0, many = 0;
+    uint32_t code;
+    if (!PyArg_ParseTuple(args, "O&O&O&pn:_scan", take_u64, &id, take_bytes, &start, take_bytes, &end, &is_reverse,
+                          &room))
+        return NULL;
+    uint8_t *out = malloc(room);
+    if (out)
+        WITH_FILE(self, code, (is_reverse ? hlc_file_scan_back : hlc_file_scan)(
+            file, id, start.at, start.len, end.at, end.len, out, room, &len, &many));
+    else code = HLC_NO_MEMORY;
+    drop_bytes(&start);
+    drop_bytes(&end);
+    bool is_answered = code == HLC_OK || code == HLC_MORE;
+    PyObject *pairs = is_answered ? pairs_object(out, many) : refuse(code, 0);
+    free(out);
+    return pairs ? Py_BuildValue("(NO)", pairs, code == HLC_MORE ? Py_True : Py_False) : NULL;
+}
+
+/* ---- The class and the module ---- */
+
+static PyMethodDef file_methods[] = {
+    { "close", file_close, METH_NOARGS,
+      "close($self, /)\n--\n\n"
+      "Close the file, after the calls that are under way. Its snapshots and its later calls raise Closed.\n\n"
+      "What was promised as SYNCED or GROUP is on disk already. An exception says that what was WRITTEN may not be;\n"
+      "the file is closed all the same." },
+    METHOD("append", file_append,
+           "append($self, /, pairs, *, node=0, reading=None, promise=0)\n--\n\n"
+           "Append pairs of a key and its value, or None for a deletion, as one batch: all of them or none.\n\n"
+           "Return the stamp of the last one, at which a snapshot has all of them."),
+    METHOD("append_records", file_append_records,
+           "append_records($self, /, log, *, promise=0)\n--\n\n"
+           "Append the records of other machines, one after another as bytes, all or none, and return how many.\n\n"
+           "Records that came before are passed over, and counted. If one is refused, the exception's accepted is how\n"
+           "many came before it."),
+    METHOD("write", file_write,
+           "write($self, /, key, value, *, node=0, reading=None)\n--\n\n"
+           "Write a value to a key, and return the stamp. A reading is in milliseconds; None is the system's clock."),
+    METHOD("delete", file_delete,
+           "delete($self, /, key, *, node=0, reading=None)\n--\n\nDelete a key's value, and return the stamp."),
+    METHOD("report", file_report,
+           "report($self, /, *, node=0, reading=None)\n--\n\n"
+           "Let a node that has nothing to write report, so that the floor rises. Return the stamp."),
+    METHOD("retire", file_retire,
+           "retire($self, /, *, node=0, reading=None)\n--\n\nAppend a node's last item, and return the stamp."),
+    METHOD("send", file_send,
+           "send($self, /, *, node=0, reading=None)\n--\n\nReturn the stamp of a message from a node."),
+    METHOD("receive", file_receive,
+           "receive($self, /, seen, *, node=0, reading=None)\n--\n\n"
+           "Receive a message with this stamp, and return the stamp of that: later stamps are above both."),
+    { "join", file_join, METH_NOARGS,
+      "join($self, /)\n--\n\nLet a node join at the floor, and return its number and the stamp of its start." },
+    { "checkpoint", file_checkpoint, METH_NOARGS,
+      "checkpoint($self, /)\n--\n\n"
+      "Save a checkpoint, and cut the log behind the older one. Return the place in the log up to which it goes." },
+    { "_vacuum_to", file_vacuum_to, METH_O, NULL },
+    { "_vacuum_older", file_vacuum_older, METH_O, NULL },
+    { "_open_snapshot", file_open_snapshot, METH_O, NULL },
+    { "_close_snapshot", file_close_snapshot, METH_O, NULL },
+    { "_read", file_read, METH_VARARGS, NULL },
+    { "_count", file_count, METH_VARARGS, NULL },
+    { "_scan", file_scan, METH_VARARGS, NULL },
+    { 0 },
+};
+
+static PyGetSetDef file_fields[] = {
+    { "floor", ask, NULL, "The floor: snapshots open up to it. All that is appended later has a greater stamp.",
+      (void *)&FLOOR },
+    { "horizon", ask, NULL, "The stamp of the last vacuum, or 0. No snapshot opens below it.", (void *)&HORIZON },
+    { "status", status, NULL, "How the file is.", NULL },
+    { 0 },
+};
+
+static PyType_Slot file_slots[] = {
+    { Py_tp_doc,
+      "File(path, *, must_exist=False, keep_before_damage=False, nodes=0, promise=0, group_microseconds=0, "
+      "checkpoint_bytes=0)\n--\n\nAn open file." },
+    { Py_tp_new, file_new },
+    { Py_tp_dealloc, file_dealloc },
+    { Py_tp_methods, file_methods },
+    { Py_tp_getset, file_fields },
+    { 0, NULL },
+};
+
+static PyType_Spec file_spec = { "hlcstore._file.File", sizeof(File), 0, Py_TPFLAGS_DEFAULT | Py_TPFLAGS_BASETYPE,
+                                 file_slots };
+
+static PyObject *error_name(PyObject *module, PyObject *code)
+{
+    (void)module;
+    return words_of(code, hlc_file_error_name);
+}
+
+static PyObject *error_text(PyObject *module, PyObject *code)
+{
+    (void)module;
+    return words_of(code, hlc_file_error_text);
+}
+
+static PyMethodDef functions[] = {
+    { "error_name", error_name, METH_O,
+      "error_name($module, code, /)\n--\n\n"
+      "Return the name of an answer in hlcstore_file.h or hlcstore.h, or nothing for a number that is no answer." },
+    { "error_text", error_text, METH_O,
+      "error_text($module, code, /)\n--\n\nReturn what an answer says, or nothing for a number that is no answer." },
+    { 0 },
+};
+
+static int fill_module(PyObject *module)
+{
+    PyTypeObject *file = (PyTypeObject *)PyType_FromModuleAndSpec(module, &file_spec, NULL);
+    bool is_filled = file && PyModule_AddType(module, file) == 0;
+    Py_XDECREF((PyObject *)file);
+    return is_filled ? 0 : -1;
+}
+
+static PyModuleDef_Slot slots[] = {
+    { Py_mod_exec, fill_module },
+    { 0, NULL },
+};
+
+static struct PyModuleDef definition = {
+    .m_base = PyModuleDef_HEAD_INIT,
+    .m_name = "hlcstore._file",
+    .m_doc = "A store in a file, from the C library.",
+    .m_methods = functions,
+    .m_slots = slots,
+};
+
+PyMODINIT_FUNC PyInit__file(void) { return PyModuleDef_Init(&definition); }
