@@ -76,6 +76,13 @@ has() {
     return 1
 }
 
+# can_link_files: whether the machine has what libhlcstore-file needs. Where it does not, that is printed.
+can_link_files() {
+    echo 'int one;' | cc -shared -x c - -lsqlite3 -lz -o "$scratch/linked" 2>/dev/null && return
+    echo 'left out: no SQLite or no zlib, so no files'
+    return 1
+}
+
 # install_to VARIABLES..: installs the package, built from a copy of the archive, whose verdict is not known.
 install_to() {
     make -s -C "$bindings" install FFI="$scratch/libhlc_ffi.a" OUT="$scratch/out" "$@"

@@ -6,7 +6,8 @@
 //! 4. in crates/hlc_ffi/out of this repository, where `rt lib` leaves it, with the archive of the toolchain.
 //!
 //! The static library is linked, or the shared one where HLCSTORE_STATIC is 0. A program that was linked with the
-//! shared one must find it when it starts, for example by LD_LIBRARY_PATH.
+//! shared one must find it when it starts, for example by LD_LIBRARY_PATH. The build of hlcstore-file-sys gets the kind
+//! and the folder of the library that was found, and looks for its own beside it.
 
 use std::env;
 use std::path::{Path, PathBuf};
@@ -24,11 +25,15 @@ struct Library {
 impl Library {
     /// Prints what cargo has to pass to the linker.
     fn link(&self) {
+        println!("cargo::metadata=kind={}", self.kind);
         for (folder, name) in &self.files {
             let ending = if self.kind == "dylib" { "so" } else { "a" };
             println!("cargo::rustc-link-search=native={}", folder.display());
             println!("cargo::rustc-link-lib={}={name}", self.kind);
             println!("cargo::rerun-if-changed={}", folder.join(format!("lib{name}.{ending}")).display());
+        }
+        if let Some((folder, _)) = self.files.first() {
+            println!("cargo::metadata=folder={}", folder.display());
         }
     }
 }

@@ -51,7 +51,7 @@ pub struct hlc_output {
 }
 
 #[repr(C)]
-#[derive(Clone, Copy, Debug, PartialEq, Eq)]
+#[derive(Clone, Copy, Debug, Default, PartialEq, Eq)]
 pub struct hlc_node {
     pub id: u16,
     pub last: u64,
@@ -60,7 +60,7 @@ pub struct hlc_node {
 }
 
 #[repr(C)]
-#[derive(Clone, Copy, Debug, PartialEq, Eq)]
+#[derive(Clone, Copy, Debug, Default, PartialEq, Eq)]
 pub struct hlc_entry {
     pub node: u16,
     pub deletes: bool,
@@ -73,7 +73,7 @@ pub struct hlc_entry {
 }
 
 #[repr(C)]
-#[derive(Clone, Copy, Debug, PartialEq, Eq)]
+#[derive(Clone, Copy, Debug, Default, PartialEq, Eq)]
 pub struct hlc_place {
     pub at: usize,
     pub len: usize,

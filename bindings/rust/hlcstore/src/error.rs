@@ -89,7 +89,8 @@ impl Error {
     pub(crate) const NO_MEMORY: Error = Error { code: sys::HLC_NO_MEMORY, word: 0 };
     pub(crate) const NO_SNAPSHOT: Error = Error { code: sys::HLC_NO_SNAPSHOT, word: 0 };
 
-    pub(crate) fn new(code: u32, word: u64) -> Error {
+    /// Returns the refusal with this number and this word, for programs that make calls of the C library themselves.
+    pub fn new(code: u32, word: u64) -> Error {
         Error { code, word }
     }
 

@@ -76,6 +76,12 @@ impl<'a> Iterator for Strings<'a> {
 pub struct Page(pub(crate) Part);
 
 impl Page {
+    /// Returns so many pairs in the form of [`as_bytes`](Page::as_bytes), for programs that make calls of the C library
+    /// themselves.
+    pub fn from_bytes(bytes: Vec<u8>, len: usize, has_more: bool) -> Page {
+        Page(Part { bytes, len, has_more })
+    }
+
     /// Returns how many pairs there are.
     pub fn len(&self) -> usize {
         self.0.len

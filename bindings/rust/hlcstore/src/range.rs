@@ -6,7 +6,21 @@ use std::ops::{Bound, Range, RangeBounds, RangeFrom, RangeFull, RangeInclusive, 
 
 /// A range of keys: any range of byte strings or texts, as `..`, `b"a"..b"f"` or `"a"..`, a pair of bounds, or a
 /// [`Prefix`].
-pub trait KeyRange: sealed::ToBounds {}
+pub trait KeyRange: sealed::ToBounds {
+    /// Returns the range as the C library takes it: the key from which it goes, and the key below which it ends, or no
+    /// bytes where it has no end.
+    ///
+    /// ```
+    /// use hlcstore::{KeyRange, Prefix};
+    ///
+    /// assert_eq!(Prefix("ab").ends()?, (b"ab".to_vec(), b"ac".to_vec()));
+    /// # Ok::<(), hlcstore::Error>(())
+    /// ```
+    fn ends(&self) -> Result<(Vec<u8>, Vec<u8>)> {
+        let Bounds { from, to } = self.to_bounds()?;
+        Ok((from, to))
+    }
+}
 
 impl<R: sealed::ToBounds> KeyRange for R {}
 

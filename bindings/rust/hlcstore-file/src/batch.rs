@@ -1,0 +1,48 @@
+use crate::Result;
+use crate::handle::BatchHandle;
+
+/// Writes and deletions that are appended to a file all or none, by [`File::append`](crate::File::append). That clears
+/// the batch, which may then be filled again.
+#[derive(Debug)]
+pub struct Batch {
+    pub(crate) handle: BatchHandle,
+}
+
+impl Batch {
+    /// Returns an empty batch, for any file.
+    ///
+    /// Refusal: `NoMemory` of the store.
+    pub fn new() -> Result<Batch> {
+        BatchHandle::new().map(|handle| Batch { handle })
+    }
+
+    /// Adds a write.
+    ///
+    /// Refusals: `BadKey` and `ValueTooLong` of the store, `TooLong`, `NoMemory` of the store. The batch keeps what it
+    /// had.
+    pub fn write(&mut self, key: &[u8], value: &[u8]) -> Result<()> {
+        self.handle.put(key, value)
+    }
+
+    /// Adds a deletion.
+    ///
+    /// Refusals: as of [`write`](Batch::write).
+    pub fn delete(&mut self, key: &[u8]) -> Result<()> {
+        self.handle.delete(key)
+    }
+
+    /// Returns how many writes and deletions there are.
+    pub fn len(&self) -> usize {
+        self.handle.many()
+    }
+
+    /// Returns whether there are none.
+    pub fn is_empty(&self) -> bool {
+        self.len() == 0
+    }
+
+    /// Takes all out, and keeps the memory for the next ones.
+    pub fn clear(&mut self) {
+        self.handle.clear();
+    }
+}

@@ -1,0 +1,185 @@
+use crate::handle::{Handle, Origin};
+use crate::{Batch, Error, Options, Promise, Result, Snapshot, Status};
+use hlcstore::{Stamp, Vacuumed};
+use hlcstore_file_sys as sys;
+use std::time::Duration;
+
+/// An open file. Its calls may be made by several threads at once.
+#[derive(Debug)]
+pub struct File {
+    handle: Handle,
+}
+
+impl File {
+    pub(crate) fn new(handle: Handle) -> File {
+        File { handle }
+    }
+
+    pub(crate) fn handle(&self) -> &Handle {
+        &self.handle
+    }
+
+    /// Opens a file, or makes it, with the defaults of [`Options`].
+    pub fn open(path: impl AsRef<std::path::Path>) -> Result<File> {
+        Options::new().open(path)
+    }
+
+    /// Closes the file. A file that is dropped closes too, and what this returns is lost.
+    ///
+    /// Refusals, after which the file is closed all the same: `Full`, `Io`, `Unknown` or `Sealed`, where batches of
+    /// [`Promise::Written`] may not be synced. All others kept their promise.
+    pub fn close(self) -> Result<()> {
+        self.handle.close()
+    }
+
+    /// Returns how the file is.
+    pub fn status(&self) -> Result<Status> {
+        self.handle.status()
+    }
+
+    /// Returns a writer of a node, whose clock is the system's.
+    pub fn node(&self, node: u16) -> Writer<'_> {
+        Writer { handle: &self.handle, from: Origin { node, reading: sys::HLC_FILE_NOW } }
+    }
+
+    /// Writes a value to a key as node 0, and returns the stamp: see [`Writer::write`].
+    pub fn write(&self, key: &[u8], value: &[u8]) -> Result<Stamp> {
+        self.node(0).write(key, value)
+    }
+
+    /// Deletes a key's value as node 0, and returns the stamp: see [`Writer::delete`].
+    pub fn delete(&self, key: &[u8]) -> Result<Stamp> {
+        self.node(0).delete(key)
+    }
+
+    /// Appends a batch as node 0, with the promise of the options: see [`Writer::append`].
+    pub fn append(&self, batch: &mut Batch) -> Result<Stamp> {
+        self.node(0).append(batch, Promise::Default)
+    }
+
+    /// Appends the records of other machines, one after another as bytes, all or none, and returns how many they are.
+    /// Those that came before are passed over.
+    ///
+    /// Refusals, each with how many records came before the refused one: `BadOption`, `TooLong`; of each record those
+    /// of [`Store::apply_records`](hlcstore::Store::apply_records); those of [`Writer`].
+    pub fn append_records(&self, log: &[u8], promise: Promise) -> std::result::Result<usize, (usize, Error)> {
+        self.handle.append_records(log, promise)
+    }
+
+    /// Lets a node join at the floor, and returns its number and its start.
+    ///
+    /// Refusals: `TooManyNodes` of the store, and those of [`Writer`].
+    pub fn join(&self) -> Result<(u16, Stamp)> {
+        self.handle.join()
+    }
+
+    /// Saves a checkpoint, cuts the log behind the older one, and returns the place up to which it goes. Writes go on
+    /// meanwhile, except while the store is copied into memory.
+    ///
+    /// Refusals: those of [`Writer`].
+    pub fn checkpoint(&self) -> Result<u64> {
+        self.handle.checkpoint()
+    }
+
+    /// Drops the rows up to a stamp that neither it nor an open snapshot below it needs, in parts between which reads
+    /// and writes go on. No snapshot opens below the stamp any more.
+    ///
+    /// Refusals: `AboveFloor` and `BelowHorizon` of the store, and those of [`Writer`].
+    pub fn vacuum_to(&self, stamp: Stamp) -> Result<Vacuumed> {
+        self.handle.vacuum_to(stamp)
+    }
+
+    /// Does the same up to the stamp that the system's clock had so long ago, or to the floor where that is lower. Where
+    /// the horizon is higher, vacuums to the horizon.
+    ///
+    /// Refusals: `NoStamp`, and those of [`Writer`].
+    pub fn vacuum_older(&self, age: Duration) -> Result<Vacuumed> {
+        self.handle.vacuum_older(age.as_millis().try_into().unwrap_or(u64::MAX))
+    }
+
+    /// Opens a snapshot at the floor. [`Snapshot::open`] opens one that owns a share of the file.
+    ///
+    /// Refusals: `TooManySnapshots`, `NoMemory` of the store.
+    pub fn snapshot(&self) -> Result<Snapshot<&File>> {
+        Snapshot::open(self, None)
+    }
+
+    /// Opens a snapshot at a stamp, from the horizon to the floor.
+    ///
+    /// Refusals: `AboveFloor`, `BelowHorizon`, `TooManySnapshots`, `NoMemory` of the store.
+    pub fn snapshot_at(&self, stamp: Stamp) -> Result<Snapshot<&File>> {
+        Snapshot::open(self, Some(stamp))
+    }
+
+    /// Returns the floor: snapshots open up to it, and all that is appended later has a greater stamp.
+    pub fn floor(&self) -> Result<Stamp> {
+        self.handle.floor()
+    }
+
+    /// Returns the stamp of the last vacuum, or [`Stamp::ZERO`]. No snapshot opens below it.
+    pub fn horizon(&self) -> Result<Stamp> {
+        self.handle.horizon()
+    }
+}
+
+/// A node of a file, with the reading of its clock. Its calls append items of the node.
+///
+/// Refusals of each call: `NoNode`, `Retired`, `NumbersSpent`, `ReadingTooLarge`, `CounterFull`, `NoMemory` of the
+/// store; `Sealed`; those of the disk, `Full`, `Io`, `Corrupt`, `Unknown`; and `Later`, after which the call did take
+/// place.
+#[derive(Clone, Copy, Debug)]
+pub struct Writer<'a> {
+    handle: &'a Handle,
+    from: Origin,
+}
+
+impl Writer<'_> {
+    /// Takes the reading of the caller's clock, in milliseconds, below 2^48, in place of the system's.
+    pub fn at(mut self, reading: u64) -> Self {
+        // The library's number for the system's clock is no reading: the one below it is refused as too large.
+        self.from.reading = reading.min(sys::HLC_FILE_NOW - 1);
+        self
+    }
+
+    /// Appends a batch, each item with a stamp of its own, and clears it. Returns the stamp of the last one, at which a
+    /// snapshot has all of them. An empty batch does nothing.
+    ///
+    /// Refusals: `BadOption`, and those of the type. The batch keeps what it had, except after `Later`.
+    pub fn append(self, batch: &mut Batch, promise: Promise) -> Result<Stamp> {
+        self.handle.append(self.from, &mut batch.handle, promise)
+    }
+
+    /// Writes a value to a key, and returns the stamp.
+    ///
+    /// Refusals: `BadKey`, `ValueTooLong` of the store, and those of the type.
+    pub fn write(self, key: &[u8], value: &[u8]) -> Result<Stamp> {
+        self.handle.write(self.from, key, value)
+    }
+
+    /// Deletes a key's value, and returns the stamp.
+    ///
+    /// Refusals: `BadKey` of the store, and those of the type.
+    pub fn delete(self, key: &[u8]) -> Result<Stamp> {
+        self.handle.delete(self.from, key)
+    }
+
+    /// Reports, so that the floor rises where the node has nothing to write. Returns the stamp.
+    pub fn report(self) -> Result<Stamp> {
+        self.handle.report(self.from)
+    }
+
+    /// Appends the node's last item, and returns the stamp. The floor does not wait for the node any more.
+    pub fn retire(self) -> Result<Stamp> {
+        self.handle.retire(self.from)
+    }
+
+    /// Returns the stamp of a message from the node.
+    pub fn send(self) -> Result<Stamp> {
+        self.handle.send(self.from)
+    }
+
+    /// Receives a message with this stamp, and returns the stamp of that: later stamps are above both.
+    pub fn receive(self, seen: Stamp) -> Result<Stamp> {
+        self.handle.receive(self.from, seen)
+    }
+}
