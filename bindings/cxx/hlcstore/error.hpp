@@ -16,18 +16,24 @@ namespace hlcstore {
 // A refusal: the number of the answer, and the word that comes with it. Making one takes no memory.
 class error : public std::exception {
  public:
-  explicit error(std::uint32_t code, std::uint64_t word = 0) noexcept : code_(code), word_(word) {
-    std::size_t len;
-    hlc_error_text(code, reinterpret_cast<std::uint8_t*>(text_), sizeof text_ - 1, &len);
-  }
+  explicit error(std::uint32_t code, std::uint64_t word = 0) noexcept : error(code, word, hlc_error_text) {}
   std::uint32_t code() const noexcept { return code_; }
   std::uint64_t word() const noexcept { return word_; }
   const char* what() const noexcept override { return text_; }
 
+ protected:
+  // With the text that a call writes.
+  error(std::uint32_t code, std::uint64_t word,
+        void (*write_text)(std::uint32_t, std::uint8_t*, std::size_t, std::size_t*)) noexcept
+      : code_(code), word_(word) {
+    std::size_t len;
+    write_text(code, reinterpret_cast<std::uint8_t*>(text_), sizeof text_ - 1, &len);
+  }
+
  private:
   std::uint32_t code_;
   std::uint64_t word_;
-  char text_[128] = {};
+  char text_[256] = {};
 };
 
 // What a call answered, where a refusal is an expected outcome.

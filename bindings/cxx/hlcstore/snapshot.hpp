@@ -53,8 +53,9 @@ struct view {
 };
 
 // What a range has: how a part is scanned, how an entry is taken from the bytes, where the next part begins or ends
-// after the key of an entry, and whether another key comes after that.
+// after the key of an entry, and whether another key comes after that. The source is what is scanned.
 struct rising {
+  using source = view;
   static void go_on(const std::string& key, std::string& from, std::string&) { from.assign(key).push_back('\0'); }
   static bool is_after(std::string_view next, std::string_view key) noexcept { return next > key; }
 };
@@ -109,7 +110,7 @@ struct changes : rising {
 template <class Entries>
 class cursor {
  public:
-  cursor(const view& view, Entries entries, std::string_view from, std::string_view to)
+  cursor(const typename Entries::source& view, Entries entries, std::string_view from, std::string_view to)
       : view_(view), entries_(entries), from_(from), to_(to) {}
   cursor(const cursor&) = delete;
   cursor& operator=(const cursor&) = delete;
@@ -155,7 +156,7 @@ class cursor {
     return !has_entry_ || Entries::is_after(take_text(bytes), Entries::key(entry_));
   }
 
-  view view_;
+  typename Entries::source view_;
   Entries entries_;
   std::string from_, to_, piece_;
   std::string_view rest_;
@@ -209,14 +210,14 @@ class range {
     std::shared_ptr<detail::cursor<Entries>> place_;
   };
 
-  range(detail::view view, std::string_view from, std::string_view to, Entries entries = {})
+  range(typename Entries::source view, std::string_view from, std::string_view to, Entries entries = {})
       : view_(std::move(view)), entries_(entries), from_(from), to_(to) {}
 
   iterator begin() const { return iterator(std::make_shared<detail::cursor<Entries>>(view_, entries_, from_, to_)); }
   iterator end() const noexcept { return {}; }
 
  private:
-  detail::view view_;
+  typename Entries::source view_;
   Entries entries_;
   std::string from_, to_;
 };
