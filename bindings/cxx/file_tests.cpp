@@ -1,5 +1,5 @@
 // Stores in a file: what is written is there, also after the file is opened again, and each refusal is thrown. The
-// argument is an empty folder.
+// arguments are an empty folder, and the name of a test where only that shall run.
 #include <sys/resource.h>
 
 #include <atomic>
@@ -285,7 +285,7 @@ void readers_run_beside_a_writer(const std::string& path) {
 
 }  // namespace
 
-int main(int, char** arguments) {
+int main(int many, char** arguments) {
   const std::pair<const char*, void (*)(const std::string&)> tests[] = {
       {"past", past_stamps_are_read},
       {"batches", batches_are_appended_whole},
@@ -300,6 +300,8 @@ int main(int, char** arguments) {
       {"full", a_full_disk_loses_nothing},
       {"threads", readers_run_beside_a_writer},
   };
-  for (const auto& [name, test] : tests) test(std::string(arguments[1]) + "/" + name);
+  for (const auto& [name, test] : tests) {
+    if (many < 3 || arguments[2] == std::string(name)) test(std::string(arguments[1]) + "/" + name);
+  }
   std::cout << "all right\n";
 }

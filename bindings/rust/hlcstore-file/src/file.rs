@@ -1,5 +1,5 @@
 use crate::handle::{Handle, Origin};
-use crate::{Batch, Error, Options, Promise, Result, Snapshot, Status};
+use crate::{Batch, Options, Promise, Result, Snapshot, Status, Stopped};
 use hlcstore::{Stamp, Vacuumed};
 use hlcstore_file_sys as sys;
 use std::time::Duration;
@@ -60,9 +60,9 @@ impl File {
     /// Appends the records of other machines, one after another as bytes, all or none, and returns how many they are.
     /// Those that came before are passed over.
     ///
-    /// Refusals, each with how many records came before the refused one: `BadOption`, `TooLong`; of each record those
-    /// of [`Store::apply_records`](hlcstore::Store::apply_records); those of [`Writer`].
-    pub fn append_records(&self, log: &[u8], promise: Promise) -> std::result::Result<usize, (usize, Error)> {
+    /// Refusals: `BadOption`, `TooLong`; of each record those of
+    /// [`Store::apply_records`](hlcstore::Store::apply_records); those of [`Writer`].
+    pub fn append_records(&self, log: &[u8], promise: Promise) -> std::result::Result<usize, Stopped> {
         self.handle.append_records(log, promise)
     }
 

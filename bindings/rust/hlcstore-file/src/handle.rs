@@ -1,6 +1,6 @@
 //! The calls of a file in the C library, with the types of this crate.
 
-use crate::{Error, Promise, Result, Status};
+use crate::{Error, Promise, Result, Status, Stopped};
 use hlcstore::{Page, Stamp, Vacuumed};
 use hlcstore_file_sys as sys;
 use std::ffi::CStr;
@@ -133,14 +133,13 @@ impl Handle {
         Ok((node, start))
     }
 
-    /// Returns how many records there are, or how many came before the refused one.
-    pub(crate) fn append_records(&self, log: &[u8], promise: Promise) -> std::result::Result<usize, (usize, Error)> {
-        let mut many = 0;
+    pub(crate) fn append_records(&self, log: &[u8], promise: Promise) -> std::result::Result<usize, Stopped> {
+        let mut records = 0;
         let appended = self.call(|file, word| unsafe {
             let promise = promise.to_number();
-            sys::hlc_file_append_records(file, log.as_ptr(), log.len(), promise, &mut many, word)
+            sys::hlc_file_append_records(file, log.as_ptr(), log.len(), promise, &mut records, word)
         });
-        appended.map(|_| many).map_err(|error| (many, error))
+        appended.map(|_| records).map_err(|error| Stopped { records, error })
     }
 
     pub(crate) fn checkpoint(&self) -> Result<u64> {

@@ -38,7 +38,7 @@ mod snapshot;
 mod status;
 
 pub use batch::Batch;
-pub use error::{Error, ErrorKind, Result};
+pub use error::{Error, ErrorKind, Result, Stopped};
 pub use file::{File, Writer};
 pub use options::{Options, Promise};
 pub use snapshot::{Pairs, PairsBack, Snapshot};

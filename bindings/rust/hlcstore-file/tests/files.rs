@@ -1,7 +1,7 @@
 //! Stores in a file: what is written is there, also after the file is opened again, and each refusal is an error.
 
 use hlcstore::{Item, Node, Prefix, Stamp};
-use hlcstore_file::{Batch, Error, ErrorKind, File, Options, Promise, Result, Snapshot};
+use hlcstore_file::{Batch, Error, ErrorKind, File, Options, Pairs, PairsBack, Promise, Result, Snapshot, Writer};
 use std::path::PathBuf;
 use std::sync::Arc;
 use std::sync::atomic::{AtomicBool, Ordering};
@@ -169,8 +169,10 @@ fn records_of_other_machines_are_appended() -> Result<()> {
     assert_eq!(file.append_records(&log, Promise::Default), Ok(2));
     let late = Item { node: 0, number: 9, stamp: at(9), content: hlcstore::Content::Report };
     log.extend(late.encode().unwrap());
-    let (many, refused) = file.append_records(&log, Promise::Default).unwrap_err();
-    assert_eq!((many, refused.kind(), refused.word()), (2, ErrorKind::Store(hlcstore::ErrorKind::NotNext), 2));
+    let refused = file.append_records(&log, Promise::Default).unwrap_err();
+    assert_eq!((refused.records, refused.error.word()), (2, 2));
+    assert_eq!(refused.error.kind(), ErrorKind::Store(hlcstore::ErrorKind::NotNext));
+    assert!(refused.to_string().ends_with(", after 2 records"));
     Ok(())
 }
 
@@ -208,7 +210,7 @@ fn calls_are_refused() -> Result<()> {
         (file.node(1).write(b"a", b"").unwrap_err(), NoNode, None),
         (file.node(0).at(1 << 48).write(b"a", b"").unwrap_err(), ReadingTooLarge, None),
         (file.node(0).at(u64::MAX).write(b"a", b"").unwrap_err(), ReadingTooLarge, None),
-        (file.append_records(&[1], Promise::Default).unwrap_err().1, BadBytes, None),
+        (file.append_records(&[1], Promise::Default).unwrap_err().error, BadBytes, None),
         (file.snapshot_at(at(6)).unwrap_err(), AboveFloor, Some(last)),
         (file.snapshot_at(at(4)).unwrap_err(), BelowHorizon, Some(last)),
         (file.vacuum_to(at(4)).unwrap_err(), BelowHorizon, Some(last)),
@@ -301,4 +303,11 @@ fn snapshots_own_a_share() -> Result<()> {
     assert_eq!(snapshot.count(..)?, 4);
     drop(snapshot);
     File::open(folder.path()).map(drop)
+}
+
+#[test]
+fn threads_may_share_all() {
+    fn is_shared<T: Send + Sync>() {}
+    is_shared::<(File, Batch, Snapshot<&File>, Snapshot<Arc<File>>, Options)>();
+    is_shared::<(Pairs<'_>, PairsBack<'_>, Writer<'_>, Error)>();
 }
