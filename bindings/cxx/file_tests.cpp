@@ -203,6 +203,7 @@ void openings_are_refused(const std::string& path) {
   std::ofstream(path + "-text") << std::string(9000, 't');
   EXPECT(refusal([&] { file(path + "-text"); }).code() == HLC_FILE_NOT_OURS);
   EXPECT(refusal([&] { file(path + "/none"); }).code() == HLC_FILE_CANNOT_OPEN);
+  EXPECT(refusal([&] { file(path + std::string("\0none", 5)); }).code() == HLC_FILE_CANNOT_OPEN);
   file_options options{};
   options.flags = HLC_FILE_MUST_EXIST;
   EXPECT(refusal([&] { file(path, options); }).code() == HLC_FILE_CANNOT_OPEN);

@@ -4,8 +4,9 @@
 //
 // Lifetimes. The calls of a snapshot that outlives its file throw HLC_CLOSED.
 //
-// Threads. All methods of a file and of its snapshots may be called by several threads at once, except those that
-// close, move or destroy a file or a snapshot: these need it alone. One thread at a time uses a batch or an iterator.
+// Threads. All methods of a file and of its snapshots may be called by several threads at once, except these: closing,
+// moving or destroying a file needs it and its snapshots alone; doing so with a snapshot needs that snapshot alone. One
+// thread at a time uses a batch or an iterator.
 #ifndef HLCSTORE_FILE_HPP
 #define HLCSTORE_FILE_HPP
 #include <chrono>
@@ -207,7 +208,8 @@ class file_snapshot {
   timestamp stamp_;
 };
 
-// Writes and deletions that a file appends all or none. Appending clears the batch.
+// Writes and deletions that a file appends all or none. Appending clears the batch. One that was moved from may only be
+// destroyed, or get a new value.
 class file_batch {
  public:
   file_batch() {
@@ -239,6 +241,7 @@ using file_state = hlc_file_state;
 class file {
  public:
   explicit file(const std::string& path, const file_options& options = {}) {
+    if (path.find('\0') != path.npos) throw file_error(HLC_FILE_CANNOT_OPEN);
     file_state state{};
     const std::uint32_t code = hlc_file_open(path.c_str(), &options, &open_->raw, &state);
     if (code != HLC_OK) throw file_error(code, state.word, state.sqlite);
@@ -256,7 +259,8 @@ class file {
     if (open_) hlc_file_close(std::exchange(open_->raw, nullptr));
   }
 
-  // Closes the file. Where it throws, the file is closed all the same, and what was `written` may not be synced.
+  // Closes the file, as a new value does. Where it throws, the file is closed all the same, and what was `written` may
+  // not be synced.
   void close() {
     const std::shared_ptr<detail::open_file> closed = std::move(open_);
     if (closed) detail::check_file(hlc_file_close(std::exchange(closed->raw, nullptr)));
@@ -273,7 +277,7 @@ class file {
 
   timestamp write(std::string_view key, std::string_view value, origin from = {}) {
     return {own().word_of(hlc_file_write, from.node, from.reading, detail::bytes(key), key.size(),
-                           detail::bytes(value), value.size())};
+                          detail::bytes(value), value.size())};
   }
   timestamp erase(std::string_view key, origin from = {}) {
     return {own().word_of(hlc_file_delete, from.node, from.reading, detail::bytes(key), key.size())};

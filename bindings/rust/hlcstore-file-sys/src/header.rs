@@ -78,10 +78,10 @@ unsafe extern "C" {
         path: *const c_char,
         options: *const hlc_file_options,
         file: *mut *mut hlc_file,
-        status: *mut hlc_file_state,
+        state: *mut hlc_file_state,
     ) -> u32;
     pub fn hlc_file_close(file: *mut hlc_file) -> u32;
-    pub fn hlc_file_status(file: *mut hlc_file, status: *mut hlc_file_state) -> u32;
+    pub fn hlc_file_status(file: *mut hlc_file, state: *mut hlc_file_state) -> u32;
     pub fn hlc_file_error_name(answer: u32, out: *mut u8, out_len: usize, len: *mut usize);
     pub fn hlc_file_error_text(answer: u32, out: *mut u8, out_len: usize, len: *mut usize);
     pub fn hlc_file_batch_new(batch: *mut *mut hlc_file_batch) -> u32;

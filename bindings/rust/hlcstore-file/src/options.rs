@@ -92,7 +92,7 @@ impl Options {
     /// Opens a file, or makes it. Costs a restore of its checkpoint and of the log behind it.
     ///
     /// Refusals: `InUse`, `CannotOpen`, `NotOurs`, `Newer`, `BadOption`, `Full`, `Io`, `Corrupt`, `DamagedLog`,
-    /// `NoWholeCheckpoint`, `Unknown`, `NoMemory` of the store.
+    /// `NoWholeCheckpoint`, `NoMemory` of the store.
     pub fn open(&self, path: impl AsRef<Path>) -> Result<File> {
         let path = CString::new(path.as_ref().as_os_str().as_bytes());
         let path = path.map_err(|_| Error::new(sys::HLC_FILE_CANNOT_OPEN, 0))?;
