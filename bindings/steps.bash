@@ -88,9 +88,11 @@ install_to() {
     make -s -C "$bindings" install FFI="$scratch/libhlc_ffi.a" OUT="$scratch/out" "$@"
 }
 
-# example LANGUAGE DOCUMENT NUMBER: prints an example of a document: the first one of the language has the number 1.
+# example LANGUAGE DOCUMENT [NUMBER]: prints an example of a document, the first one of the language where no number is
+# given.
 example() {
-    awk -v fence="\`\`\`$1" -v wanted="$3" '/^```/ { inside = ($0 == fence && ++many == wanted); next } inside' "$2"
+    awk -v fence="\`\`\`$1" -v wanted="${3:-1}" \
+        '/^```/ { inside = ($0 == fence && ++many == wanted); next } inside' "$2"
 }
 
 # summary LANGUAGE: prints the counts, and returns 0 where nothing failed.

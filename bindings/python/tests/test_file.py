@@ -1,7 +1,9 @@
 """Stores in a file: what is written is there, also after the file is opened again, and each refusal is an exception."""
 
+import ast
 import contextlib
 import gc
+import inspect
 import pathlib
 import resource
 import signal
@@ -18,6 +20,7 @@ import hlcstore
 import hlcstore.file
 from hlcstore import Closed, split, stamp
 from hlcstore.file import File, FileError, Promise, Snapshot
+from test_stub import declared, real_parameters, stub_parameters
 
 
 class InFolder(unittest.TestCase):
@@ -328,6 +331,22 @@ class Refusals(InFolder):
         with File(self.path, keep_before_damage=True) as file:
             self.assertEqual((file.snapshot()[b"a"], file.status.aside), (b"3", 1))
 
+    def test_damaged_checkpoints(self):
+        with File(self.path) as file:
+            for number in range(1, 4):
+                file.write(b"a", b"%d" % number, reading=number)
+                file.checkpoint()
+        whole = self.path.read_bytes()
+        # The older one of the two is whole, and the log goes on behind it.
+        self.change("UPDATE piece SET sum = sum + 1 WHERE checkpoint = (SELECT max(id) FROM checkpoint)")
+        with File(self.path) as file:
+            self.assertEqual((file.snapshot()[b"a"], file.status.damaged), (b"3", 1))
+        self.path.write_bytes(whole)
+        self.change("UPDATE piece SET sum = sum + 1")
+        refused = self.refusal(File, self.path)
+        self.assertIsInstance(refused, hlcstore.file.NoWholeCheckpoint)
+        self.assertEqual((refused.word, str(refused).endswith(" (2)")), (2, True))
+
     def test_a_full_disk(self):
         """A file that may not grow refuses writes. What was there stays, and is read on."""
         with File(self.path) as file:
@@ -496,6 +515,27 @@ class Threads(InFolder):
                 file.close()
 
             self.run_all(use, use, use, close)
+
+
+class Stub(unittest.TestCase):
+    """The stub has the parameters of the extension, and all calls are documented."""
+
+    def test_parameters(self):
+        stub = ast.parse(pathlib.Path(hlcstore.file.__file__).with_name("_file.pyi").read_text())
+        named = declared(declared(stub.body)["File"].body)
+        extension = File.__mro__[1]
+        self.assertEqual(set(vars(extension)) - {"__doc__", "__module__"}, set(named))
+        for name, function in named.items():
+            if name == "__new__":
+                self.assertEqual(stub_parameters(function), real_parameters(extension))
+            elif not name.startswith("_") and not function.decorator_list:
+                self.assertEqual(stub_parameters(function), real_parameters(getattr(extension, name)), name)
+
+    def test_documentation(self):
+        for kind in File, Snapshot, hlcstore.file.Batch, *FileError.__subclasses__():
+            for name in [name for name in dir(kind) if not name.startswith("_")] + ["__doc__"]:
+                if callable(getattr(kind, name)) or name == "__doc__":
+                    self.assertTrue(inspect.getdoc(getattr(kind, name)), (kind, name))
 
 
 class Memory(InFolder):
