@@ -164,6 +164,12 @@ class Snapshots(InFolder):
         self.assertEqual(self.snapshot.last_below(), (b"02999", b"v" * 299))
         self.assertIsNone(self.snapshot.last_below(b"00000"))
 
+    def test_long_values(self):
+        values = {b"%d" % length: bytes(length) for length in (0, 1, 1023, 1024, 1025, 65535)}
+        self.file.append(values)
+        snapshot = self.file.snapshot()
+        self.assertEqual({key: snapshot[key] for key in values}, values)
+
     def test_the_longest_pair(self):
         key, value = b"z" * 255, b"v" * 65535
         self.file.write(key, value)
@@ -355,9 +361,8 @@ class Refusals(InFolder):
         self.assertEqual(run.stderr, "")
         with File(self.path) as file:
             self.assertEqual(dict(file.snapshot().items(end=b"b")), {b"a": b"1"})
-            self.assertEqual(file.snapshot()[b"c"], b"1")
-            # A batch of which it was unknown may be there.
-            self.assertIn(len(file.snapshot()) - 1 - int(run.stdout), (0, 1))
+            # Since a later write was not refused, the batch of which it was unknown is not on disk.
+            self.assertEqual((len(file.snapshot()), file.snapshot()[b"c"]), (int(run.stdout) + 1, b"1"))
 
 
 def refusals_of(file, written):

@@ -364,21 +364,40 @@ static PyObject *file_close_snapshot(PyObject *self, PyObject *from)
     Py_RETURN_NONE;
 }
 
-enum { LONGEST_VALUE = 65535 };
+static uint32_t read_key(PyObject *self, uint64_t id, const Bytes *key, uint8_t *out, size_t room, size_t *len)
+{
+    uint32_t code;
+    WITH_FILE(self, code, hlc_file_read(file, id, key->at, key->len, out, room, len));
+    return code;
+}
+
+/* A value that does not fit on the stack. What a snapshot answers never changes, so the second call has the same. */
+static PyObject *read_long(PyObject *self, uint64_t id, const Bytes *key, size_t len)
+{
+    PyObject *value = PyBytes_FromStringAndSize(NULL, (Py_ssize_t)len);
+    if (!value) return NULL;
+    uint32_t code = read_key(self, id, key, (uint8_t *)PyBytes_AsString(value), len, &len);
+    if (code == HLC_OK) return value;
+    Py_DECREF(value);
+    return refuse(code, 0);
+}
 
 /* Returns a key's value, or None. */
 static PyObject *file_read(PyObject *self, PyObject *args)
 {
-    uint8_t value[LONGEST_VALUE];
+    uint8_t out[1024];
     uint64_t id;
     size_t len = 0;
     Bytes key = { 0 };
-    uint32_t code;
+    PyObject *value = NULL;
     if (!PyArg_ParseTuple(args, "O&O&:_read", take_u64, &id, take_bytes, &key)) return NULL;
-    WITH_FILE(self, code, hlc_file_read(file, id, key.at, key.len, value, sizeof value, &len));
+    uint32_t code = read_key(self, id, &key, out, sizeof out, &len);
+    if (code == HLC_OK)
+        value = len <= sizeof out ? PyBytes_FromStringAndSize((const char *)out, (Py_ssize_t)len)
+                                  : read_long(self, id, &key, len);
     drop_bytes(&key);
     if (code == HLC_NO_VALUE) Py_RETURN_NONE;
-    return code == HLC_OK ? PyBytes_FromStringAndSize((const char *)value, (Py_ssize_t)len) : refuse(code, 0);
+    return code == HLC_OK ? value : refuse(code, 0);
 }
 
 static PyObject *file_count(PyObject *self, PyObject *args)
