@@ -27,7 +27,7 @@ try:
     from ._file import error_name, error_text
 except ImportError as _missing:
     raise ImportError(
-        "hlcstore.file needs libhlcstore-file and SQLite (libsqlite3): install both, and then the package again"
+        "hlcstore.file needs libhlcstore-file, SQLite and zlib: install them, and then the package again"
         f" ({_missing})"
     ) from _missing
 
