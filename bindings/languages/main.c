@@ -1,5 +1,5 @@
-/* One of the programs of the test `languages`: `write PATH STEP NAME OLD` appends a batch at the reading 10 * STEP, and
- * `read PATH` prints what the file had after each of four such batches. */
+/* One of the programs of bindings/languages/check: `write PATH STEP NAME OLD` appends a batch at the reading 10 * STEP,
+ * and `read PATH` prints what the file had after each of four such batches. */
 #include <inttypes.h>
 #include <stdio.h>
 #include <stdlib.h>
