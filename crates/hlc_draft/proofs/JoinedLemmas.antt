@@ -1,13 +1,13 @@
 -- The plan of a table is the plans of its columns one after another: rows of other keys change neither the newest row
 -- of a key nor its changes.
-use Rattle.std.proofs.Common.{◌≡◌, ◌≢◌, ◌<◌, ◌≤◌, ◌+◌, ℕ, List, [], ◌∷◌, ◌++◌, length, Bool, sym, ap, ap₂, ◌∙◌, refl}
-use Rattle.std.proofs.Common.{subst}
+use Rattle.std.proofs.Common.{◌≡◌, ◌≢◌, ◌<◌, ◌+◌, ℕ, List, [], ◌∷◌, ◌++◌, length, Bool, sym, ap, ap₂, ◌∙◌, refl}
+use Rattle.std.proofs.Common.{subst, arith}
 use Rattle.std.proofs.Common.{None, take, drop, get_or, Contains, inl, inr, Less, nat_cmp}
 use Rattle.std.specs.List.{AllByRecursion, items_where_true}
 use Rattle.std.specs.Cmp.Lexicographic.{slice_cmp}
 use Rattle.std.specs.List.Sorted.{IsStrictlySortedBy}
 use Rattle.std.proofs.lemmas.Cmp.{nat_list_cmp_total, tied_itself}
-use Rattle.std.proofs.lemmas.List.{append-nil, take_more, take_all, map-append, take-append-drop}
+use Rattle.std.proofs.lemmas.List.{append-nil, length-append, take_more, map-append, take-append-drop}
 use Rattle.std.proofs.lemmas.List.Elements.{Contains-append_cases, Contains-append_right}
 use Rattle.std.proofs.lemmas.Grind.{flat_map-append}
 use Rattle.hlc_node.specs.declared.row.Row.{Row}
@@ -20,11 +20,12 @@ use Rattle.hlc_draft.specs.Vacuumed.{IsVacuumOf}
 use Rattle.hlc_column.specs.Cells.{Cell}
 use Rattle.hlc_column.specs.Rows.{KeyCells, rows_of, rows_in_one, rows_in, keys_in, KeysAscend}
 use Rattle.hlc_draft.specs.Draft.{IsDraft}
-use Rattle.hlc_draft.specs.KeyPlan.{IsKeyPlan, IsKeyVacuum, IsJoined, AddsPlan}
+use Rattle.hlc_draft.specs.declared.draft.Draft.{Draft}
+use Rattle.hlc_draft.specs.KeyPlan.{IsKeyPlan, IsKeyVacuum, IsJoined, IsDraftOf, AddsPlan, own_changes}
 use Rattle.hlc_column.proofs.RowLemmas.{row_key, key_among}
 use Rattle.hlc_node.proofs.NewestLemmas.{newest_after_others, newest_before_others}
 use Rattle.hlc_witness.proofs.ChangeLemmas.{changes_are_found_key_by_key}
-use Rattle.hlc_draft.specs.Plan.{IsPlanOf}
+use Rattle.hlc_draft.specs.Plan.{IsPlanOf, IsTallyOf}
 use Rattle.hlc_draft.proofs.VacuumLemmas.{newest_rows_suffice, vacuums_cost_changes}
 use Rattle.hlc_values.proofs.MemberLemmas.{Contains-none, Contains-first, Contains-rest, Contains-cons_cases}
 use Rattle.hlc_witness.specs.Cost.{changes_cost}
@@ -161,46 +162,102 @@ joined_append points front back up changes more flags keep bytes total so also =
           ∙ ap (λ rows. changes_cost rows (changes ++ more)) (sym rows);
     }
 
--- one more column after others
-pub joined_push : (points : List ℕ) (front : List KeyCells) (one : KeyCells) → KeysAscend (front ++ one ∷ [])
-    → (changes new : List Witness) (flags more : List Bool) (bytes total : ℕ)
-    → IsJoined front points changes flags bytes
-    → AddsPlan (rows_in_one one) one.key points changes new flags more bytes total
-    → IsJoined (front ++ one ∷ []) points new more total
-joined_push points front one up changes new flags more bytes total so plan =
+-- the changes of columns after others
+pub own-append : (points : List ℕ) (front back : List KeyCells)
+    → own_changes points (front ++ back) ≡ own_changes points front ++ own_changes points back
+own-append points front back =
+    flat_map-append (λ (one : KeyCells). key_changes (rows_in_one one) one.key None points) front back
+
+-- the draft of more columns after others
+pub draft_append : (points : List ℕ) (front back : List KeyCells) → KeysAscend (front ++ back)
+    → (old more new : Draft) → IsDraftOf front points old → IsDraftOf back points more
+    → new.keep.items ≡ old.keep.items ++ more.keep.items → new.changes ≡ old.changes + more.changes
+    → new.bytes ≡ old.bytes + more.bytes → IsDraftOf (front ++ back) points new
+draft_append points front back up old more new so also flags number total =
+    let firsts = own_changes points front in
+    let seconds = own_changes points back in
+    let both = own-append points front back in
+    let long = length-append firsts seconds in
+    let first = so.changes in
+    let second = also.changes in
+    record {
+      joined =
+          subst (λ cs. IsJoined (front ++ back) points cs new.keep.items new.bytes) (sym both)
+          (subst (λ fs. IsJoined (front ++ back) points (firsts ++ seconds) fs new.bytes) (sym flags)
+          (subst (IsJoined (front ++ back) points (firsts ++ seconds) (old.keep.items ++ more.keep.items)) (sym total)
+          (joined_append points front back up firsts seconds old.keep.items more.keep.items old.bytes more.bytes
+          so.joined also.joined)));
+      changes =
+          let sum : new.changes ≡ length (firsts ++ seconds) = omega (arith, number, first, second, long) in
+          sum ∙ ap length (sym both);
+    }
+
+-- the draft of one more column after others
+pub draft_push : (points : List ℕ) (front : List KeyCells) (one : KeyCells) → KeysAscend (front ++ one ∷ [])
+    → (old new : Draft) → IsDraftOf front points old
+    → AddsPlan (rows_in_one one) one.key points old.changes new.changes old.keep.items new.keep.items
+    old.bytes new.bytes → IsDraftOf (front ++ one ∷ []) points new
+draft_push points front one up old new so plan =
     let mine = key_changes (rows_in_one one) one.key None points in
-    subst (λ cs. IsJoined (front ++ one ∷ []) points cs more total) (sym plan.news)
-    (subst (λ fs. IsJoined (front ++ one ∷ []) points (changes ++ mine) fs total) (sym plan.mores)
-    (subst (IsJoined (front ++ one ∷ []) points (changes ++ mine) (flags ++ plan.keep)) (sym plan.cost)
-    (joined_append points front (one ∷ []) up changes mine flags plan.keep
-    bytes (changes_cost (rows_in_one one) mine) so (joined_one points one plan.keep plan.draft))))
+    let before = own_changes points front in
+    let both : own_changes points (front ++ one ∷ []) ≡ before ++ mine =
+    own-append points front (one ∷ []) ∙ ap (λ cs. before ++ cs) (append-nil mine) in
+    let long = length-append before mine in
+    let number = plan.news in
+    let first = so.changes in
+    record {
+      joined =
+          subst (λ cs. IsJoined (front ++ one ∷ []) points cs new.keep.items new.bytes) (sym both)
+          (subst (λ fs. IsJoined (front ++ one ∷ []) points (before ++ mine) fs new.bytes) (sym plan.mores)
+          (subst (IsJoined (front ++ one ∷ []) points (before ++ mine) (old.keep.items ++ plan.keep)) (sym plan.cost)
+          (joined_append points front (one ∷ []) up before mine old.keep.items plan.keep
+          old.bytes (changes_cost (rows_in_one one) mine) so.joined (joined_one points one plan.keep plan.draft))));
+      changes =
+          let sum : new.changes ≡ length (before ++ mine) = omega (arith, number, first, long) in
+          sum ∙ ap length (sym both);
+    }
 
 -- one more of the columns
-pub joined_on : (points : List ℕ) (columns : List KeyCells) (i : ℕ) (one : KeyCells) → KeysAscend columns
-    → i < length columns
-    → one ≡ get_or columns i one
-    → (changes new : List Witness) (flags more : List Bool) (bytes total : ℕ)
-    → IsJoined (take i columns) points changes flags bytes
-    → AddsPlan (rows_in_one one) one.key points changes new flags more bytes total
-    → IsJoined (take (i + 1) columns) points new more total
-joined_on points columns i one up lt is changes new flags more bytes total so plan =
-    let next : take (i + 1) columns ≡ take i columns ++ one ∷ [] =
-    take_more columns i one lt ∙ ap (λ x. take i columns ++ x ∷ []) (sym is) in
+pub column_next : (columns : List KeyCells) (i : ℕ) (one : KeyCells) → i < length columns
+    → one ≡ get_or columns i one → take (i + 1) columns ≡ take i columns ++ one ∷ []
+column_next columns i one lt is = take_more columns i one lt ∙ ap (λ x. take i columns ++ x ∷ []) (sym is)
+
+-- the draft of one more of the columns
+pub draft_on : (points : List ℕ) (columns : List KeyCells) (i : ℕ) (one : KeyCells) → KeysAscend columns
+    → i < length columns → one ≡ get_or columns i one
+    → (old new : Draft) → IsDraftOf (take i columns) points old
+    → AddsPlan (rows_in_one one) one.key points old.changes new.changes old.keep.items new.keep.items
+    old.bytes new.bytes → IsDraftOf (take (i + 1) columns) points new
+draft_on points columns i one up lt is old new so plan =
+    let next = column_next columns i one lt is in
     let ascend : KeysAscend (take (i + 1) columns) =
     ascend_front (take (i + 1) columns) (drop (i + 1) columns)
     (subst KeysAscend (sym (take-append-drop (i + 1) columns)) up) in
-    subst (λ xs. IsJoined xs points new more total) (sym next)
-    (joined_push points (take i columns) one (subst KeysAscend next ascend) changes new flags more bytes total so plan)
+    subst (λ xs. IsDraftOf xs points new) (sym next)
+    (draft_push points (take i columns) one (subst KeysAscend next ascend) old new so plan)
 
--- no columns
-pub joined_none : (points : List ℕ) → IsJoined [] points [] [] 0
-joined_none points = record { all_changes = refl; draft = draft-none (last_point points); cost = refl }
+-- the draft of no columns
+pub draft_none : (points : List ℕ) (draft : Draft) → draft.keep.items ≡ [] → draft.changes ≡ 0 → draft.bytes ≡ 0
+    → IsDraftOf [] points draft
+draft_none points draft flags number total =
+    record {
+      joined =
+          subst (λ fs. IsJoined [] points [] fs draft.bytes) (sym flags)
+          (subst (IsJoined [] points [] []) (sym total)
+          (record { all_changes = refl; draft = draft-none (last_point points); cost = refl }));
+      changes = number;
+    }
 
-pub joined_all : (points : List ℕ) (columns : List KeyCells) (i : ℕ) (changes : List Witness) (flags : List Bool)
-    (bytes : ℕ) → length columns ≤ i → IsJoined (take i columns) points changes flags bytes
-    → IsJoined columns points changes flags bytes
-joined_all points columns i changes flags bytes past so =
-    subst (λ xs. IsJoined xs points changes flags bytes) (take_all i columns past) so
+-- another draft of the same
+pub draft_same : (points : List ℕ) (columns : List KeyCells) (old new : Draft) → new.keep.items ≡ old.keep.items
+    → new.changes ≡ old.changes → new.bytes ≡ old.bytes → IsDraftOf columns points old → IsDraftOf columns points new
+draft_same points columns old new flags number total so =
+    record {
+      joined =
+          subst (λ fs. IsJoined columns points (own_changes points columns) fs new.bytes) (sym flags)
+          (subst (IsJoined columns points (own_changes points columns) old.keep.items) (sym total) so.joined);
+      changes = number ∙ so.changes;
+    }
 
 -- the rows that the joined plan keeps are a vacuum
 pub joined_vacuums : (points : List ℕ) (columns : List KeyCells) (changes : List Witness) (flags : List Bool)
@@ -226,6 +283,24 @@ joined_plans points columns changes flags bytes ascend up apart so =
       vacuumed = vacuumed;
       cost = so.cost ∙ sym (vacuums_cost_changes (rows_in columns) (items_where_true flags (rows_in columns)) points
           changes ascend vacuumed);
+    }
+
+-- and so does the draft, with the number of the changes
+pub draft_tallies : (points : List ℕ) (columns : List KeyCells) (draft : Draft) → PointsAscend points
+    → KeysAscend columns → IsRowSet (rows_in columns) → IsDraftOf columns points draft
+    → IsTallyOf (record { keep = draft.keep.items; points = points; kept = draft.changes; bytes = draft.bytes })
+    (rows_in columns)
+draft_tallies points columns draft ascend up apart so =
+    record {
+      plan = record {
+        keep = draft.keep.items;
+        points = points;
+        witnesses = own_changes points columns;
+        bytes = draft.bytes;
+      };
+      made = joined_plans points columns (own_changes points columns) draft.keep.items draft.bytes ascend up apart
+          so.joined;
+      is = ap (λ n. record { keep = draft.keep.items; points = points; kept = n; bytes = draft.bytes }) so.changes;
     }
 
 up_one : (key : List ℕ) → IsStrictlySortedBy (slice_cmp nat_cmp) (key ∷ [])

@@ -1,5 +1,5 @@
 -- The progress of the plan of a key, point by point.
-use Rattle.std.proofs.Common.{◌≡◌, ◌+◌, ◌++◌, drop, ℕ, Bool, zero, suc, List, Option, None, Some, map, slice_index}
+use Rattle.std.proofs.Common.{◌≡◌, ◌+◌, ◌++◌, drop, ℕ, Bool, zero, suc, List, Option, None, Some, map, slice_index, length}
 use Rattle.hlc_node.specs.declared.row.Row.{Row}
 use Rattle.hlc_witness.specs.declared.witness.Witness.{Witness}
 use Rattle.hlc_clock.specs.Points.{last_point}
@@ -25,12 +25,11 @@ pub record KeyPlanSoFar (rows : List Row) (key points : List ℕ) (i : ℕ) (cha
   pub at_points : map (λ change. change.at) found ≡ changes
   pub so : PlanSoFar rows key points i found keep
 
--- the same after other changes and flags, with the bytes that the changes force added to other bytes
-pub record AddedSoFar (rows : List Row) (key points : List ℕ) (i : ℕ) (changes new : List Witness)
+-- the same after a number of other changes and other flags, with the bytes that the changes force added to other bytes
+pub record AddedSoFar (rows : List Row) (key points : List ℕ) (i : ℕ) (found : List Witness) (changes new : ℕ)
     (flags more : List Bool) (bytes total : ℕ) : Type 0 where
-  pub found : List Witness
   pub keep : List Bool
-  pub news : new ≡ changes ++ found
+  pub news : new ≡ changes + length found
   pub mores : more ≡ flags ++ keep
   pub cost : total ≡ bytes + changes_cost rows found
   pub so : PlanSoFar rows key points i found keep

@@ -6,7 +6,7 @@ use Rattle.std.specs.Prelude.{MatchOption, IfSome, option_and_then, Contains}
 use Rattle.std.proofs.lemmas.List.Elements.{Contains-append_cases}
 use Rattle.hlc_values.proofs.MemberLemmas.{Contains-none, Contains-first, Contains-rest, Contains-cons_cases}
 use Rattle.std.proofs.lemmas.Bool.{cases_Bool}
-use Rattle.std.proofs.lemmas.List.{append-nil, drop_more, drop_all, map-append}
+use Rattle.std.proofs.lemmas.List.{append-nil, drop_more, drop_all, length-append, map-append}
 use Rattle.std.proofs.lemmas.Option.{none-some}
 use Rattle.hlc_node.specs.declared.row.Row.{Row}
 use Rattle.hlc_node.specs.Rows.{newest, answer}
@@ -118,7 +118,7 @@ module _ (rows : List Row) (key points : List ℕ) (i : ℕ) (lt : i < length po
         draft = so.draft;
       }
 
-  abbrev change_here : Witness
+  abbrev pub change_here : Witness
   change_here = record { key = key; before = point_before points i; at = get_or points i 0 }
 
   pub change_so : (found : List Witness) (keep more : List Bool)
@@ -159,18 +159,17 @@ module _ (rows : List Row) (key points : List ℕ) (i : ℕ) (lt : i < length po
         so = change_so plan.found keep more differs mark plan.so;
       }
 
-  pub same_added : (changes new : List Witness) (flags more : List Bool) (bytes total : ℕ)
+  pub same_added : (found : List Witness) (changes new : ℕ) (flags more : List Bool) (bytes total : ℕ)
       → answer rows key (get_or points i 0) ≡ answer_at rows key (point_before points i)
-      → AddedSoFar rows key points i changes new flags more bytes total
-      → AddedSoFar rows key points (i + 1) changes new flags more bytes total
-  same_added changes new flags more bytes total same added =
+      → AddedSoFar rows key points i found changes new flags more bytes total
+      → AddedSoFar rows key points (i + 1) found changes new flags more bytes total
+  same_added found changes new flags more bytes total same added =
       record {
-        found = added.found;
         keep = added.keep;
         news = added.news;
         mores = added.mores;
         cost = added.cost;
-        so = same_so added.found added.keep same added.so;
+        so = same_so found added.keep same added.so;
       }
 
   -- the bytes that are forced, with the change here
@@ -179,47 +178,48 @@ module _ (rows : List Row) (key points : List ℕ) (i : ℕ) (lt : i < length po
       → sum ≡ bytes + changes_cost rows (found ++ change_here ∷ [])
   cost_here found bytes total sum so more = let both = cost-push rows found change_here in omega arith
 
-  -- a change is recorded after the others, and its row is marked among the flags of this key
-  pub change_added : (changes new next : List Witness) (flags more after : List Bool) (bytes total sum : ℕ)
+  -- the number of changes, with the change here
+  one_more : (found : List Witness) (changes new next : ℕ) → next ≡ new + 1 → new ≡ changes + length found
+      → next ≡ changes + length (found ++ change_here ∷ [])
+  one_more found changes new next more so = let long = length-append found (change_here ∷ []) in omega (arith, long)
+
+  -- a change is counted after the others, and its row is marked among the flags of this key
+  pub change_added : (found : List Witness) (changes new next : ℕ) (flags more after : List Bool) (bytes total sum : ℕ)
       (place : Option ℕ)
       → answer rows key (get_or points i 0) ≢ answer_at rows key (point_before points i)
       → IfSome place (λ j. j < length rows) → at_place rows place ≡ newest rows key (get_or points i 0)
-      → next ≡ new ++ change_here ∷ []
+      → next ≡ new + 1
       → MatchOption place (after ≡ more) (λ j. after ≡ set more (length flags + j) true)
       → sum ≡ total + cost_of key (answer rows key (get_or points i 0))
-      → AddedSoFar rows key points i changes new flags more bytes total
-      → AddedSoFar rows key points (i + 1) changes next flags after bytes sum
-  change_added changes new next flags more after bytes total sum None differs within at noted is cost added =
+      → AddedSoFar rows key points i found changes new flags more bytes total
+      → AddedSoFar rows key points (i + 1) (found ++ change_here ∷ []) changes next flags after bytes sum
+  change_added found changes new next flags more after bytes total sum None differs within at noted is cost added =
       record {
-        found = added.found ++ change_here ∷ [];
         keep = added.keep;
-        news = noted ∙ ap (λ cs. cs ++ change_here ∷ []) added.news
-            ∙ append_assoc changes added.found (change_here ∷ []);
+        news = one_more found changes new next noted added.news;
         mores = is ∙ added.mores;
-        cost = cost_here added.found bytes total sum added.cost cost;
-        so = change_so added.found added.keep added.keep differs
+        cost = cost_here found bytes total sum added.cost cost;
+        so = change_so found added.keep added.keep differs
             (flagged rows key (get_or points i 0) None added.keep added.keep within at refl) added.so;
       }
-  change_added changes new next flags more after bytes total sum (Some j) differs within at noted is cost added =
+  change_added found changes new next flags more after bytes total sum (Some j) differs within at noted is cost added =
       record {
-        found = added.found ++ change_here ∷ [];
         keep = set added.keep j true;
-        news = noted ∙ ap (λ cs. cs ++ change_here ∷ []) added.news
-            ∙ append_assoc changes added.found (change_here ∷ []);
+        news = one_more found changes new next noted added.news;
         mores = is ∙ ap (λ bs. set bs (length flags + j) true) added.mores ∙ set_after flags added.keep j;
-        cost = cost_here added.found bytes total sum added.cost cost;
-        so = change_so added.found added.keep (set added.keep j true) differs
+        cost = cost_here found bytes total sum added.cost cost;
+        so = change_so found added.keep (set added.keep j true) differs
             (flagged rows key (get_or points i 0) (Some j) added.keep (set added.keep j true) within at refl) added.so;
       }
 
 -- if no points remain, no change does
-none_left : (rows : List Row) (key points : List ℕ) (i : ℕ) → length points ≤ i
+pub none_left : (rows : List Row) (key points : List ℕ) (i : ℕ) → length points ≤ i
     → key_changes rows key (point_before points i) (drop i points) ≡ []
 none_left rows key points i le = ap (key_changes rows key (point_before points i)) (drop_all i points le)
     ∙ key_changes-none rows key (point_before points i)
 
 -- if no change remains to be found, the changes are all
-all_found : (rows : List Row) (key points : List ℕ) (i : ℕ) (found : List Witness) (keep : List Bool)
+pub all_found : (rows : List Row) (key points : List ℕ) (i : ℕ) (found : List Witness) (keep : List Bool)
     → key_changes rows key (point_before points i) (drop i points) ≡ [] → PlanSoFar rows key points i found keep
     → found ≡ key_changes rows key None points
 all_found rows key points i found keep none so = sym (ap (λ ds. found ++ ds) none ∙ append-nil found) ∙ so.rest
@@ -233,25 +233,18 @@ plan_done rows key points i changes keep le plan =
       draft = subst (λ ds. IsDraft rows (last_point points) ds keep) e plan.so.draft;
     }
 
-pub added_all : (rows : List Row) (key points : List ℕ) (i : ℕ) (changes new : List Witness) (flags more : List Bool)
-    (bytes total : ℕ) → key_changes rows key (point_before points i) (drop i points) ≡ []
-    → AddedSoFar rows key points i changes new flags more bytes total
+pub added_all : (rows : List Row) (key points : List ℕ) (i : ℕ) (found : List Witness) (changes new : ℕ)
+    (flags more : List Bool) (bytes total : ℕ) → found ≡ key_changes rows key None points
+    → AddedSoFar rows key points i found changes new flags more bytes total
     → AddsPlan rows key points changes new flags more bytes total
-added_all rows key points i changes new flags more bytes total none added =
-    let e = all_found rows key points i added.found added.keep none added.so in
+added_all rows key points i found changes new flags more bytes total e added =
     record {
       keep = added.keep;
-      news = added.news ∙ ap (λ ds. changes ++ ds) e;
+      news = added.news ∙ ap (λ (ds : List Witness). changes + length ds) e;
       mores = added.mores;
       cost = added.cost ∙ ap (λ ds. bytes + changes_cost rows ds) e;
       draft = subst (λ ds. IsDraft rows (last_point points) ds added.keep) e added.so.draft;
     }
-
-pub added_done : (rows : List Row) (key points : List ℕ) (i : ℕ) (changes new : List Witness) (flags more : List Bool)
-    (bytes total : ℕ) → length points ≤ i → AddedSoFar rows key points i changes new flags more bytes total
-    → AddsPlan rows key points changes new flags more bytes total
-added_done rows key points i changes new flags more bytes total le added =
-    added_all rows key points i changes new flags more bytes total (none_left rows key points i le) added
 
 -- if the answer does not change at any point, there is no change
 pub none_more : (rows : List Row) (key : List ℕ) (before : Option ℕ) (points : List ℕ)

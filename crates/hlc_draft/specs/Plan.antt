@@ -22,3 +22,25 @@ pub record IsPlanOf (plan : PlanView) (rows : List Row) : Type 0 where
   pub ascend : PointsAscend plan.points
   pub vacuumed : IsVacuumOf rows plan.points plan.witnesses (items_where_true plan.keep rows)
   pub cost : plan.bytes ≡ rows_cost (rows_to (last_point plan.points) (items_where_true plan.keep rows))
+
+-- the same with the number of changes in place of the changes
+pub record TallyView : Type 0 where
+  pub keep : List Bool
+  pub points : List ℕ
+  pub kept : ℕ
+  pub bytes : ℕ
+
+-- what a tally has of a plan
+abbrev pub tally_of : PlanView → TallyView
+tally_of plan = record {
+  keep = plan.keep;
+  points = plan.points;
+  kept = length plan.witnesses;
+  bytes = plan.bytes;
+}
+
+-- the tally has what such a plan of these rows has
+pub record IsTallyOf (tally : TallyView) (rows : List Row) : Type 0 where
+  pub plan : PlanView
+  pub made : IsPlanOf plan rows
+  pub is : tally ≡ tally_of plan

@@ -1,8 +1,9 @@
 -- The report of a plan.
 use Rattle.std.specs.Prelude.{[], length, count_by, not}
 use Rattle.hlc_clock.specs.Points.{last_point}
+use Rattle.hlc_draft.specs.declared.report.Numbers.{Numbers}
 use Rattle.hlc_draft.specs.declared.report.Report.{Report}
-use Rattle.hlc_draft.specs.Plan.{PlanView}
+use Rattle.hlc_draft.specs.Plan.{PlanView, TallyView}
 
 -- its last point is the floor; one row is kept for each change, at the cost in the plan; and the rows that it does not
 -- keep are dropped
@@ -14,6 +15,24 @@ report_of plan = record {
   bytes = plan.bytes;
   dropped = count_by not plan.keep;
   witnesses = plan.witnesses;
+}
+
+-- the numbers of a report
+abbrev pub numbers_of : Report → Numbers
+numbers_of report = record {
+  floor = report.floor;
+  kept = report.kept;
+  bytes = report.bytes;
+  dropped = report.dropped;
+}
+
+-- the numbers in a tally: those of the report of a plan that has this tally
+abbrev pub numbers_in : TallyView → Numbers
+numbers_in tally = record {
+  floor = last_point tally.points;
+  kept = tally.kept;
+  bytes = tally.bytes;
+  dropped = count_by not tally.keep;
 }
 
 -- the report of no vacuum

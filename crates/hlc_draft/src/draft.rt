@@ -1,41 +1,39 @@
 //! An unfinished plan: the plans of the columns so far, one after another.
-ghost use Rattle.std.specs.Prelude.{◌≡◌, ◌+◌, ◌*◌, ◌^◌, ◌<◌, ◌≤◌, ◌++◌, ◌∷◌, [], IfSome, MatchOption, OnOk, length};
-ghost use Rattle.std.specs.Prelude.{map, nat_lt, option_copied, slice_set, true, vec_len, vec_capacity};
+ghost use Rattle.std.specs.Prelude.{◌≡◌, ◌+◌, ◌<◌, ◌≤◌, ◌++◌, [], IfSome, MatchOption, None, OnOk, length, map};
+ghost use Rattle.std.specs.Prelude.{nat_lt, slice_set, true, vec_len, vec_capacity};
 ghost use Rattle.hlc_clock.specs.Points.{PointsAscend};
 ghost use Rattle.hlc_column.specs.Rows.{rows_of};
-ghost use Rattle.hlc_witness.specs.Cost.{cost_of};
+ghost use Rattle.hlc_witness.specs.AllChanges.{key_changes};
 ghost use Rattle.hlc_draft.specs.KeyPlan.{AddsPlan};
 
+use crate::changes::Changes;
 use crate::gaps::{gap_end, greatest_of};
 use crate::key_plan::are_equal;
 use crate::points::last_of;
 use hlc_clock::Stamp;
 use hlc_column::Lanes;
-use hlc_node::Bytes;
 use hlc_values::NoMemory;
-use hlc_witness::{Witness, cost_of};
+use hlc_witness::cost_of;
 use std::alloc::Global;
 
-/// For each row so far whether it is kept, the changes so far, and the bytes that they force; each change forces so few
-/// that any sum of them fits.
+/// For each row so far whether it is kept, the number of changes so far, and the bytes that they force.
 #[derive(Drop)]
 pub struct Draft {
     pub keep: Vec<bool>,
-    pub witnesses: Vec<Witness>,
+    pub changes: u64,
     pub bytes: u128,
-    ghost small: { bytes ≤ (2 ^ 64 + 8) * length witnesses.items },
 }
 
 impl Draft {
     /// Returns a draft of no column.
     pub fn new(alloc: Global) -> Draft
         ensures keep { result.keep.items ≡ [] }
-        ensures witnesses { result.witnesses.items ≡ [] }
+        ensures changes { result.changes ≡ 0 }
         ensures bytes { result.bytes ≡ 0 }
     {
         Draft {
             keep: Vec::new(alloc),
-            witnesses: Vec::new(alloc),
+            changes: 0,
             bytes: 0,
         }
     }
@@ -43,7 +41,7 @@ impl Draft {
     /// Makes room for the flags of this many rows.
     pub fn make_room(&mut self, rows: usize) -> Result<(), NoMemory>
         ensures keep { self.new.keep.items ≡ self.old.keep.items }
-        ensures witnesses { self.new.witnesses.items ≡ self.old.witnesses.items }
+        ensures changes { self.new.changes ≡ self.old.changes }
         ensures bytes { self.new.bytes ≡ self.old.bytes }
         ensures room { OnOk result (vec_len self.new.keep + rows ≤ vec_capacity self.new.keep) }
     {
@@ -52,18 +50,22 @@ impl Draft {
     }
 
     /// Adds the plan of the next column: the newest row at a point is kept only if the answer there differs from that
-    /// at the point before, and then a change is recorded. Points in a gap between the stamps of its rows are skipped.
-    pub fn add(
+    /// at the point before, and then a change is counted, and added to others. Points in a gap between the stamps of
+    /// its rows are skipped.
+    pub fn add<C: Changes>(
         &mut self,
         alloc: Global,
         key: &[u8],
         column: Lanes<'_>,
         points: &[Stamp],
+        changes: &mut C,
     ) -> Result<(), NoMemory>
         requires { PointsAscend points.now }
-        ensures { OnOk result (AddsPlan (rows_of key.now column.entry) key.now points.now
-            self.old.witnesses.items self.new.witnesses.items
+        ensures plan { OnOk result (AddsPlan (rows_of key.now column.entry) key.now points.now
+            self.old.changes self.new.changes
             self.old.keep.items self.new.keep.items self.old.bytes self.new.bytes) }
+        ensures changes { OnOk result (C.adds changes.old
+            (key_changes (rows_of key.now column.entry) key.now None points.now) changes.new) }
     {
         let from = self.keep.len();
         let stamps = column.stamps();
@@ -85,7 +87,8 @@ impl Draft {
             let (place, reached) = column.newest_on(*point, near);
             let value_here = column.value_of(place);
             if !are_equal(value_here, value_before) {
-                self.note_change(alloc, key, before, *point, value_here)?;
+                changes.note(alloc, key, before, *point)?;
+                self.count(1, cost_of(key, value_here))?;
                 mark(&mut self.keep, from, place);
             }
             near = reached;
@@ -97,49 +100,43 @@ impl Draft {
         Ok(())
     }
 
-    /// Adds the draft of the columns after these. It is moved, and not copied.
+    /// Adds the draft of the columns after these.
     pub fn append(&mut self, other: Draft) -> Result<(), NoMemory>
         ensures keep { OnOk result (self.new.keep.items ≡ self.old.keep.items ++ other.keep.items) }
-        ensures witnesses { OnOk result (self.new.witnesses.items
-            ≡ self.old.witnesses.items ++ other.witnesses.items) }
+        ensures changes { OnOk result (self.new.changes ≡ self.old.changes + other.changes) }
         ensures bytes { OnOk result (self.new.bytes ≡ self.old.bytes + other.bytes) }
     {
-        if self.keep.is_empty() && self.witnesses.is_empty() {
-            *self = other;
-            return Ok(());
-        }
         let Draft {
-            mut keep,
-            mut witnesses,
+            keep,
+            changes,
             bytes,
         } = other;
-        self.keep.append(&mut keep)?;
-        self.witnesses.append(&mut witnesses)?;
-        self.bytes += bytes;
-        Ok(())
+        append_list(&mut self.keep, keep)?;
+        self.count(changes, bytes)
     }
 
-    /// Records a change of a key at a point, and adds the cost of a row with the value found there.
-    fn note_change(
-        &mut self,
-        alloc: Global,
-        key: &[u8],
-        before: Option<Stamp>,
-        at: Stamp,
-        value: Option<&[u8]>,
-    ) -> Result<(), NoMemory>
+    /// Counts more changes, and the bytes that they force. No memory has so many rows that a sum does not fit; were it
+    /// so, it would count as out of memory.
+    fn count(&mut self, changes: u64, bytes: u128) -> Result<(), NoMemory>
         ensures keep { OnOk result (self.new.keep.items ≡ self.old.keep.items) }
-        ensures witnesses { OnOk result (self.new.witnesses.items ≡ self.old.witnesses.items
-            ++ record { key = key.now; before = before; at = at } ∷ []) }
-        ensures bytes { OnOk result (self.new.bytes
-            ≡ self.old.bytes + cost_of key.now (option_copied value.entry)) }
+        ensures changes { OnOk result (self.new.changes ≡ self.old.changes + changes) }
+        ensures bytes { OnOk result (self.new.bytes ≡ self.old.bytes + bytes) }
     {
-        let cost = cost_of(key, value);
-        let key = Bytes::from_slice(alloc, key)?;
-        self.witnesses.push(Witness { key, before, at })?;
-        self.bytes += cost;
+        self.changes = self.changes.checked_add(changes).ok_or(NoMemory)?;
+        self.bytes = self.bytes.checked_add(bytes).ok_or(NoMemory)?;
         Ok(())
     }
+}
+
+/// Adds a list to another. If that is empty, the list is moved in its place, and not copied.
+pub fn append_list<T: Drop>(list: &mut Vec<T>, mut more: Vec<T>) -> Result<(), NoMemory>
+    ensures { OnOk result (list.new.items ≡ list.old.items ++ more.items) }
+{
+    if list.is_empty() {
+        *list = more;
+        return Ok(());
+    }
+    list.append(&mut more)
 }
 
 /// Adds for each stamp in turn whether it is above a bound.

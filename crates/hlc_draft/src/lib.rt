@@ -3,6 +3,7 @@
 #![tactic(auto)]
 
 mod boxed;
+mod changes;
 mod draft;
 mod exact;
 mod gaps;
@@ -12,11 +13,12 @@ mod report;
 mod witnesses;
 
 pub use boxed::BoxedReport;
-pub use draft::Draft;
+pub use changes::{Changes, Unlisted};
+pub use draft::{Draft, append_list};
 pub use hlc_column::Column;
 pub use hlc_values::NoMemory;
 pub use hlc_witness::{Bytes, Row, Stamp, Witness};
 pub use key_plan::{KeyPlan, plan_key};
 pub use points::{Points, last_of};
-pub use report::Report;
+pub use report::{Numbers, Report};
 pub use witnesses::Witnesses;

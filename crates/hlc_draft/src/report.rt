@@ -19,3 +19,12 @@ pub struct Report {
     /// The changes, ascending by key and point.
     pub witnesses: Witnesses,
 }
+
+/// The numbers of a report.
+#[derive(Clone, Copy, PartialEq, Eq, Debug)]
+pub struct Numbers {
+    pub floor: Stamp,
+    pub kept: u64,
+    pub bytes: u128,
+    pub dropped: u128,
+}

@@ -1,7 +1,7 @@
 -- The drafts of the pieces of some leaves, joined: each piece adds its draft to those before it, since the keys of all
 -- pieces ascend; and so do each leaf and each column.
 use Rattle.std.proofs.Common.{◌≡◌, ◌∙◌, ◌+◌, ◌<◌, ◌≤◌, ℕ, zero, suc, List, [], ◌∷◌, ◌++◌, length, Result, Ok}
-use Rattle.std.proofs.Common.{sym, ap, refl, subst, arith, get_or, slice_get, Some, take, drop}
+use Rattle.std.proofs.Common.{sym, ap, ap₂, refl, subst, arith, get_or, slice_get, None, Some, take, drop}
 use Rattle.std.specs.List.{AllZip}
 use Rattle.std.specs.declared.alloc.AllocError.{AllocError}
 use Rattle.std.proofs.lemmas.List.{append-nil, append_assoc, length-append, length-map, take_more, take-append-drop}
@@ -9,11 +9,14 @@ use Rattle.std.proofs.lemmas.Option.{get_or_from_slice_get}
 use Rattle.std.proofs.lemmas.Grind.{flat_map-append}
 use Rattle.hlc_column.specs.Rows.{KeyCells, KeysAscend, row_of, rows_in, rows_in_one}
 use Rattle.hlc_draft.specs.declared.draft.Draft.{Draft}
-use Rattle.hlc_draft.specs.KeyPlan.{AddsPlan, IsJoined}
+use Rattle.hlc_witness.specs.AllChanges.{key_changes}
+use Rattle.hlc_draft.specs.KeyPlan.{AddsPlan, IsDraftOf, own_changes}
+use Rattle.hlc_vacuum.specs.declared.piece.Piece.{Piece}
 use Rattle.hlc_columns.specs.Table.{columns_in}
-use Rattle.hlc_vacuum.specs.Leaves.{JoinsMore}
+use Rattle.hlc_vacuum.specs.Leaves.{JoinsMore, IsPieceOf}
 use Rattle.hlc_vacuum.specs.Parallel.{DraftsPiece, leaves_of}
-use Rattle.hlc_draft.proofs.JoinedLemmas.{ascend_front, ascend_back, joined_append, joined_none, joined_push}
+use Rattle.hlc_draft.proofs.JoinedLemmas.{ascend_front, ascend_back, column_next, own-append}
+use Rattle.hlc_draft.proofs.JoinedLemmas.{draft_append, draft_none, draft_push, draft_same}
 
 -- the columns of some pieces, and of others after them
 columns_both : (xs ys : List (List KeyCells)) → columns_in (xs ++ ys) ≡ columns_in xs ++ columns_in ys
@@ -54,21 +57,22 @@ last_of_zip R (x ∷ xs) (z ∷ ys) y h =
       lasts = rest.lasts;
     }
 
--- the meaning of the joined draft of some pieces
-abbrev pub JoinsPieces : List (Result Draft AllocError) → Draft → Type 0
+-- the meaning of some pieces that were joined
+abbrev pub JoinsPieces : List (Result Piece AllocError) → Piece → Type 0
 JoinsPieces drafts whole =
     (points : List ℕ) (pieces : List (List (List KeyCells))) → KeysAscend (columns_in (leaves_of pieces))
     → AllZip (DraftsPiece points) pieces drafts
-    → IsJoined (columns_in (leaves_of pieces)) points whole.witnesses.items whole.keep.items whole.bytes
+    → IsPieceOf (columns_in (leaves_of pieces)) points whole
 
 -- one more piece
-pub pieces_on : (drafts : List (Result Draft AllocError)) (whole more new : Draft)
+pub pieces_on : (drafts : List (Result Piece AllocError)) (whole more new : Piece)
     → JoinsPieces drafts whole
     → new.witnesses.items ≡ whole.witnesses.items ++ more.witnesses.items
-    → new.keep.items ≡ whole.keep.items ++ more.keep.items
-    → new.bytes ≡ whole.bytes + more.bytes
+    → new.draft.keep.items ≡ whole.draft.keep.items ++ more.draft.keep.items
+    → new.draft.changes ≡ whole.draft.changes + more.draft.changes
+    → new.draft.bytes ≡ whole.draft.bytes + more.draft.bytes
     → JoinsPieces (drafts ++ Ok more ∷ []) new
-pieces_on drafts whole more new so news keeps total = λ points pieces up each.
+pieces_on drafts whole more new so news keeps number total = λ points pieces up each.
     let parts = last_of_zip (DraftsPiece points) pieces drafts (Ok more) each in
     let first = columns_in (leaves_of parts.front) in
     let last = columns_in parts.last in
@@ -79,61 +83,81 @@ pieces_on drafts whole more new so news keeps total = λ points pieces up each.
     ∙ columns_both (leaves_of parts.front) parts.last in
     let ascend = subst KeysAscend both up in
     let front = so points parts.front (ascend_front first last ascend) parts.fronts in
-    subst (λ xs. IsJoined xs points new.witnesses.items new.keep.items new.bytes) (sym both)
-    (subst (λ cs. IsJoined (first ++ last) points cs new.keep.items new.bytes) (sym news)
-    (subst (λ fs. IsJoined (first ++ last) points (whole.witnesses.items ++ more.witnesses.items) fs new.bytes)
-    (sym keeps)
-    (subst (IsJoined (first ++ last) points (whole.witnesses.items ++ more.witnesses.items)
-    (whole.keep.items ++ more.keep.items)) (sym total)
-    (joined_append points first last ascend whole.witnesses.items more.witnesses.items
-    whole.keep.items more.keep.items whole.bytes more.bytes front parts.lasts))))
+    subst (λ xs. IsPieceOf xs points new) (sym both)
+    (record {
+      draft = draft_append points first last ascend whole.draft more.draft new.draft front.draft parts.lasts.draft
+          keeps number total;
+      changes = news ∙ ap₂ (λ xs ys. xs ++ ys) front.changes parts.lasts.changes
+          ∙ sym (own-append points first last);
+    })
 
 -- no piece
-pub pieces_none : (pieces : List (List (List KeyCells))) (points : List ℕ) → AllZip (DraftsPiece points) pieces []
-    → IsJoined (columns_in (leaves_of pieces)) points [] [] 0
-pieces_none [] points each = joined_none points
-pieces_none (piece ∷ pieces) points each = absurd each
+pub pieces_none : (whole : Piece) → whole.draft.keep.items ≡ [] → whole.draft.changes ≡ 0 → whole.draft.bytes ≡ 0
+    → whole.witnesses.items ≡ [] → JoinsPieces [] whole
+pieces_none whole keeps number total none = λ points pieces up each. no_pieces points pieces each
+  where
+    no_pieces : (points : List ℕ) (pieces : List (List (List KeyCells))) → AllZip (DraftsPiece points) pieces []
+        → IsPieceOf (columns_in (leaves_of pieces)) points whole
+    no_pieces points [] each = record { draft = draft_none points whole.draft keeps number total; changes = none }
+    no_pieces points (piece ∷ pieces) each = absurd each
+
+-- the columns of one more of some leaves
+pub leaf_next : (leaves : List (List KeyCells)) (i : ℕ) (leaf : List KeyCells) → i < length leaves
+    → leaf ≡ get_or leaves i leaf → columns_in (take (i + 1) leaves) ≡ columns_in (take i leaves) ++ leaf
+leaf_next leaves i leaf lt is =
+    ap columns_in (take_more leaves i leaf lt) ∙ columns_both (take i leaves) (get_or leaves i leaf ∷ [])
+    ∙ ap (λ xs. columns_in (take i leaves) ++ xs) (append-nil (get_or leaves i leaf))
+    ∙ ap (λ xs. columns_in (take i leaves) ++ xs) (sym is)
 
 -- one more of some leaves
 pub leaves_on : (points : List ℕ) (leaves : List (List KeyCells)) (i : ℕ) (leaf : List KeyCells)
     (old new : Draft) → KeysAscend (columns_in leaves) → i < length leaves → leaf ≡ get_or leaves i leaf
-    → IsJoined (columns_in (take i leaves)) points old.witnesses.items old.keep.items old.bytes
-    → JoinsMore points leaf old new
-    → IsJoined (columns_in (take (i + 1) leaves)) points new.witnesses.items new.keep.items new.bytes
+    → IsDraftOf (columns_in (take i leaves)) points old → JoinsMore points leaf old new
+    → IsDraftOf (columns_in (take (i + 1) leaves)) points new
 leaves_on points leaves i leaf old new up lt is so more =
-    let next : columns_in (take (i + 1) leaves) ≡ columns_in (take i leaves) ++ leaf =
-    ap columns_in (take_more leaves i leaf lt) ∙ columns_both (take i leaves) (get_or leaves i leaf ∷ [])
-    ∙ ap (λ xs. columns_in (take i leaves) ++ xs) (append-nil (get_or leaves i leaf))
-    ∙ ap (λ xs. columns_in (take i leaves) ++ xs) (sym is) in
+    let next = leaf_next leaves i leaf lt is in
     let ascend : KeysAscend (columns_in (take (i + 1) leaves)) =
     ascend_front (columns_in (take (i + 1) leaves)) (columns_in (drop (i + 1) leaves))
     (subst KeysAscend (ap columns_in (sym (take-append-drop (i + 1) leaves))
     ∙ columns_both (take (i + 1) leaves) (drop (i + 1) leaves)) up) in
-    subst (λ xs. IsJoined xs points new.witnesses.items new.keep.items new.bytes) (sym next)
+    subst (λ xs. IsDraftOf xs points new) (sym next)
     (more (columns_in (take i leaves)) (subst KeysAscend next ascend) so)
 
 -- no column of a leaf
-pub more_none : (points : List ℕ) (draft room : Draft) → room.witnesses.items ≡ draft.witnesses.items
-    → room.keep.items ≡ draft.keep.items → room.bytes ≡ draft.bytes → JoinsMore points [] draft room
-more_none points draft room news keeps total = λ columns up so.
-    subst (λ xs. IsJoined xs points room.witnesses.items room.keep.items room.bytes) (sym (append-nil columns))
-    (rw (news, keeps, total) so)
+pub more_none : (points : List ℕ) (draft room : Draft) → room.keep.items ≡ draft.keep.items
+    → room.changes ≡ draft.changes → room.bytes ≡ draft.bytes → JoinsMore points [] draft room
+more_none points draft room keeps number total = λ columns up so.
+    subst (λ xs. IsDraftOf xs points room) (sym (append-nil columns))
+    (draft_same points columns draft room keeps number total so)
+
+-- one more of some columns
+pub column_on : (columns : List KeyCells) (i : ℕ) (one : KeyCells) → slice_get columns i ≡ Some one
+    → i < length columns → take (i + 1) columns ≡ take i columns ++ one ∷ []
+column_on columns i one read lt =
+    column_next columns i one lt (sym (get_or_from_slice_get columns i one one read))
+
+-- the changes of one more of some columns
+pub own-more : (points : List ℕ) (columns : List KeyCells) (i : ℕ) (one : KeyCells)
+    → take (i + 1) columns ≡ take i columns ++ one ∷ []
+    → own_changes points (take i columns) ++ key_changes (rows_in_one one) one.key None points
+    ≡ own_changes points (take (i + 1) columns)
+own-more points columns i one next =
+    ap (λ xs. own_changes points (take i columns) ++ xs)
+    (sym (append-nil (key_changes (rows_in_one one) one.key None points)))
+    ∙ sym (own-append points (take i columns) (one ∷ [])) ∙ ap (own_changes points) (sym next)
 
 -- one more column of a leaf
 pub more_on : (points : List ℕ) (leaf : List KeyCells) (i : ℕ) (one : KeyCells) (first old new : Draft)
     → slice_get leaf i ≡ Some one → i < length leaf → JoinsMore points (take i leaf) first old
-    → AddsPlan (rows_in_one one) one.key points old.witnesses.items new.witnesses.items
-    old.keep.items new.keep.items old.bytes new.bytes
+    → AddsPlan (rows_in_one one) one.key points old.changes new.changes old.keep.items new.keep.items
+    old.bytes new.bytes
     → JoinsMore points (take (i + 1) leaf) first new
 more_on points leaf i one first old new read lt so plan = λ columns up begun.
-    let is : get_or leaf i one ≡ one = get_or_from_slice_get leaf i one one read in
     let next : columns ++ take (i + 1) leaf ≡ (columns ++ take i leaf) ++ one ∷ [] =
-    ap (λ xs. columns ++ xs) (take_more leaf i one lt ∙ ap (λ x. take i leaf ++ x ∷ []) is)
-    ∙ sym (append_assoc columns (take i leaf) (one ∷ [])) in
+    ap (λ xs. columns ++ xs) (column_on leaf i one read lt) ∙ sym (append_assoc columns (take i leaf) (one ∷ [])) in
     let ascend : KeysAscend ((columns ++ take i leaf) ++ one ∷ []) = subst KeysAscend next up in
-    subst (λ xs. IsJoined xs points new.witnesses.items new.keep.items new.bytes) (sym next)
-    (joined_push points (columns ++ take i leaf) one ascend
-    old.witnesses.items new.witnesses.items old.keep.items new.keep.items old.bytes new.bytes
+    subst (λ xs. IsDraftOf xs points new) (sym next)
+    (draft_push points (columns ++ take i leaf) one ascend old new
     (so columns (ascend_front (columns ++ take i leaf) (one ∷ []) ascend) begun) plan)
 
 -- the rows of the first columns of a leaf, and of one more

@@ -1,12 +1,17 @@
--- The plans of the columns of a leaf, after those of the columns before it.
-use Rattle.std.specs.Prelude.{ℕ, List, ◌++◌}
+-- The plans of the columns of a leaf, after those of the columns before it; and the changes beside a draft.
+use Rattle.std.specs.Prelude.{◌≡◌, ℕ, List, ◌++◌}
 use Rattle.hlc_column.specs.Rows.{KeyCells, KeysAscend}
 use Rattle.hlc_draft.specs.declared.draft.Draft.{Draft}
-use Rattle.hlc_draft.specs.KeyPlan.{IsJoined}
+use Rattle.hlc_draft.specs.KeyPlan.{IsDraftOf, own_changes}
+use Rattle.hlc_vacuum.specs.declared.piece.Piece.{Piece}
 
--- Whatever columns one draft is the joined plans of, the other is that of them and of some more.
+-- Whatever columns one draft is of, the other is of them and of some more.
 abbrev pub JoinsMore : List ℕ → List KeyCells → Draft → Draft → Type 0
 JoinsMore points more old new =
     (columns : List KeyCells) → KeysAscend (columns ++ more)
-    → IsJoined columns points old.witnesses.items old.keep.items old.bytes
-    → IsJoined (columns ++ more) points new.witnesses.items new.keep.items new.bytes
+    → IsDraftOf columns points old → IsDraftOf (columns ++ more) points new
+
+-- the draft of some columns, and their changes
+pub record IsPieceOf (columns : List KeyCells) (points : List ℕ) (piece : Piece) : Type 0 where
+  pub draft : IsDraftOf columns points piece.draft
+  pub changes : piece.witnesses.items ≡ own_changes points columns

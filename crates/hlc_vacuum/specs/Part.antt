@@ -7,9 +7,10 @@ use Rattle.hlc_witness.specs.Cost.{rows_cost}
 use Rattle.hlc_columns.specs.Answers.{AreNext, part_end}
 use Rattle.hlc_column.specs.Rows.{rows_with, KeyCells, keys_in, rows_in}
 use Rattle.hlc_columns.specs.Table.{rows_kept}
-use Rattle.hlc_draft.specs.Plan.{IsPlanOf}
+use Rattle.hlc_draft.specs.Plan.{IsPlanOf, PlanView, tally_of}
 use Rattle.hlc_draft.specs.Vacuumed.{IsVacuumOf, rows_to}
 use Rattle.hlc_vacuum.specs.declared.part.PartPlan.{PartPlan}
+use Rattle.hlc_vacuum.specs.declared.part.PartTally.{PartTally}
 use Rattle.hlc_draft.specs.declared.report.Report.{Report}
 
 -- among some rows those of several keys are kept if their flags are set, each key in turn with as many flags as it has
@@ -37,6 +38,16 @@ pub record IsPartOf (part : PartPlan) (rows : List Row) (after : List ℕ) (most
   pub keys : part.keys.items ≡ keys_in columns
   pub plan : IsPlanOf part.plan (rows_in columns)
   pub end : part.end ≡ part_end after most columns
+
+-- the part with a plan in place of its tally
+abbrev pub with_plan : PartTally → PlanView → PartPlan
+with_plan part plan = record { plan = plan; keys = part.keys; end = part.end }
+
+-- The part has the tally of such a plan, with these keys and where they end.
+pub record IsPartTallyOf (part : PartTally) (rows : List Row) (after : List ℕ) (most : ℕ) : Type 0 where
+  pub plan : PlanView
+  pub made : IsPartOf (with_plan part plan) rows after most
+  pub is : part.tally ≡ tally_of plan
 
 -- Rows of the keys of a kind were vacuumed, as the report says, and all others stayed.
 pub record IsPartVacuum (old new : List Row) (is_of : List ℕ → Bool) (report : Report) : Type 0 where

@@ -3,14 +3,16 @@ ghost use Rattle.std.specs.Prelude.{◌≡◌, ℕ, List, IfOk};
 ghost use Rattle.hlc_clock.specs.Points.{PointsAscend};
 ghost use Rattle.hlc_columns.specs.Answers.{in_part, part_end};
 ghost use Rattle.hlc_column.specs.Rows.{KeyCells, keys_in};
-ghost use Rattle.hlc_vacuum.specs.Part.{all_kept, HaveFlags, IsPartOf, IsPartVacuum};
-ghost use Rattle.hlc_draft.specs.Report.{report_of};
+ghost use Rattle.hlc_vacuum.specs.Part.{all_kept, with_plan, HaveFlags, IsPartOf, IsPartTallyOf, IsPartVacuum};
+ghost use Rattle.hlc_draft.specs.Plan.{PlanView, tally_of};
+ghost use Rattle.hlc_draft.specs.Report.{numbers_in, report_of};
 
-use crate::plan::{Plan, dropped_of};
-use crate::planner::{plan_columns, plan_of};
+use crate::piece::Piece;
+use crate::plan::{Plan, Tally};
+use crate::planner::{plan_columns, plan_of, tally_of};
 use hlc_clock::Stamp;
 use hlc_columns::{Keyed, Table};
-use hlc_draft::{Report, last_of};
+use hlc_draft::{Numbers, Report, Unlisted};
 use hlc_node::Bytes;
 use hlc_values::NoMemory;
 use std::alloc::Global;
@@ -19,6 +21,14 @@ use std::alloc::Global;
 #[derive(Debug, Drop)]
 pub struct PartPlan {
     pub plan: Plan,
+    pub keys: Vec<Bytes>,
+    pub end: Option<Bytes>,
+}
+
+/// The same with a tally in place of the plan.
+#[derive(Debug, Drop)]
+pub struct PartTally {
+    pub tally: Tally,
     pub keys: Vec<Bytes>,
     pub end: Option<Bytes>,
 }
@@ -37,11 +47,32 @@ pub fn plan_part(
     ensures points { IfOk result (λ part. part.plan.points ≡ points.now) }
 {
     let columns = table.columns_after(after, most)?;
-    let draft = plan_columns(alloc, columns.as_slice(), points)?;
-    let plan = plan_of(alloc, points, draft)?;
+    let mut witnesses = Vec::new(alloc);
+    let draft = plan_columns(alloc, columns.as_slice(), points, &mut witnesses)?;
+    let plan = plan_of(alloc, points, Piece { draft, witnesses })?;
     let keys = copy_keys(alloc, columns.as_slice())?;
     let end = end_of(alloc, after, most, keys.as_slice())?;
     Ok(PartPlan { plan, keys, end })
+}
+
+/// Does the same, and counts the changes in place of listing them.
+pub fn tally_part(
+    alloc: Global,
+    table: &Table,
+    after: &[u8],
+    most: usize,
+    points: &[Stamp],
+) -> Result<PartTally, NoMemory>
+    requires { PointsAscend points.now }
+    ensures made { IfOk result (λ part. IsPartTallyOf part table.now after.now most) }
+    ensures points { IfOk result (λ part. part.tally.points ≡ points.now) }
+{
+    let columns = table.columns_after(after, most)?;
+    let draft = plan_columns(alloc, columns.as_slice(), points, &mut Unlisted)?;
+    let tally = tally_of(alloc, points, draft)?;
+    let keys = copy_keys(alloc, columns.as_slice())?;
+    let end = end_of(alloc, after, most, keys.as_slice())?;
+    Ok(PartTally { tally, keys, end })
 }
 
 /// Returns copies of the keys of some columns.
@@ -84,30 +115,31 @@ pub fn apply_part(table: &mut Table, part: PartPlan) -> (Report, Option<Bytes>)
     ensures end { result.1 ≡ part.end }
 {
     let PartPlan { plan, keys, end } = part;
-    (apply_to_keys(table, keys.as_slice(), plan), end)
+    let numbers = apply_to_keys(table, keys.as_slice(), plan.tally());
+    (plan.into_report(numbers), end)
+}
+
+/// Does so with a tally, and returns the numbers of the report of each plan that has this tally.
+pub fn apply_part_tally(table: &mut Table, part: PartTally) -> (Numbers, Option<Bytes>)
+    requires { (after : List ℕ) × (most : ℕ) × IsPartTallyOf part table.old after most }
+    ensures vacuumed { (after : List ℕ) (most : ℕ) (plan : PlanView)
+        → IsPartOf (with_plan part plan) table.old after most → part.tally ≡ tally_of plan
+        → IsPartVacuum table.old table.new (in_part after part.end) (report_of plan) }
+    ensures numbers { result.0 ≡ numbers_in part.tally }
+    ensures end { result.1 ≡ part.end }
+{
+    let PartTally { tally, keys, end } = part;
+    (apply_to_keys(table, keys.as_slice(), &tally), end)
 }
 
 /// Does so for these keys.
-fn apply_to_keys(table: &mut Table, keys: &[Bytes], plan: Plan) -> Report
-    requires { HaveFlags keys.now plan.keep table.old }
-    ensures rows { table.new ≡ all_kept keys.now plan.keep table.old }
-    ensures report { result ≡ report_of plan }
+fn apply_to_keys(table: &mut Table, keys: &[Bytes], tally: &Tally) -> Numbers
+    requires { HaveFlags keys.now tally.now.keep table.old }
+    ensures rows { table.new ≡ all_kept keys.now tally.now.keep table.old }
+    ensures numbers { result ≡ numbers_in tally.now }
 {
-    let Plan {
-        keep,
-        points,
-        witnesses,
-        bytes,
-    } = plan;
-    keep_of_keys(table, keys, keep.as_slice());
-    Report {
-        floor: last_of(points.as_slice()),
-        points,
-        kept: witnesses.len() as u64,
-        bytes,
-        dropped: dropped_of(keep.as_slice()),
-        witnesses,
-    }
+    keep_of_keys(table, keys, tally.keep.as_slice());
+    tally.numbers()
 }
 
 /// Keeps those rows of the keys that the flags select, and all rows of other keys.

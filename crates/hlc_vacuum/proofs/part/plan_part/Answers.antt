@@ -1,10 +1,11 @@
 -- The plan is of the columns listed.
-use Rattle.std.proofs.Common.{◌∙◌, ap, subst}
+use Rattle.std.proofs.Common.{◌≡◌, ◌∙◌, ap, refl, rules, subst}
 use Rattle.hlc_node.specs.Rows.{IsRowSet}
 use Rattle.hlc_column.proofs.FlagLemmas.{filter-IsRowSet}
 use Rattle.hlc_columns.specs.Answers.{in_part, part_end}
-use Rattle.hlc_column.specs.Rows.{keys_in}
-use Rattle.hlc_draft.specs.KeyPlan.{IsJoined}
+use Rattle.hlc_column.specs.Rows.{keys_in, rows_in}
+use Rattle.hlc_draft.specs.KeyPlan.{IsDraftOf, own_changes}
+use Rattle.hlc_vacuum.proofs.Planned.{piece_plans}
 use Rattle.hlc_vacuum.proofs.part.plan_part.Goals as goal
 
 pub returns-clause-made : goal.returns-clause-made
@@ -12,16 +13,23 @@ returns-clause-made c =
     let columns = c.in_ok-columns.columns.items in
     let next = c.in_ok-columns.ensures.next in
     let keys = c.in_ok-keys.ensures ∙ ap keys_in c.as_slice-2.ensures.value in
+    let listed : c.plan_columns.new.changes.items ≡ own_changes c.args.points.now c.as_slice.result.now =
+    search rules in
     record {
       columns = columns;
       next = next;
       row_set = c.in_ok-columns.ensures.row_set;
       keys = keys;
-      plan = c.in_ok-plan.ensures.made columns next.ascend
+      plan = piece_plans columns c.args.points.now (rows_in columns) c.requires next.ascend refl
           (subst IsRowSet next.exact
           (filter-IsRowSet (λ row. in_part c.args.after.now (part_end c.args.after.now c.args.most columns) row.key)
           c.args.table.now c.in_ok-columns.ensures.row_set))
-          (subst (λ columns. IsJoined columns c.args.points.now c.in_ok-draft.draft.witnesses.items
-          c.in_ok-draft.draft.keep.items c.in_ok-draft.draft.bytes) c.as_slice.ensures.value c.in_ok-draft.ensures);
+          (record { draft = c.in_ok-draft.draft; witnesses = c.plan_columns.new.changes }) c.in_ok-plan.plan
+          (record {
+            draft = subst (λ columns. IsDraftOf columns c.args.points.now c.in_ok-draft.draft) c.as_slice.ensures.value
+                c.in_ok-draft.ensures.draft;
+            changes = listed ∙ ap (own_changes c.args.points.now) c.as_slice.ensures.value;
+          })
+          c.in_ok-plan.ensures;
       end = c.in_ok-end.ensures columns (c.as_slice-3.ensures.value ∙ keys);
     }

@@ -1,8 +1,8 @@
--- At each point either nothing is recorded, or a change is and the newest row is marked.
+-- At each point either nothing is counted, or a change is, it is listed, and the newest row is marked.
 use Rattle.std.proofs.Common.{◌≡◌, ◌<◌, ◌+◌, ◌++◌, ◌∷◌, [], ℕ, List, length, map, sym, ap, ◌∙◌, refl, subst, ltb}
 use Rattle.std.proofs.Common.{get_or, option_copied, Option, Some, None, Bool, true, set, ap₂, true≢false, rules, arith}
 use Rattle.std.specs.Prelude.{IfSome, MatchOption}
-use Rattle.std.proofs.lemmas.List.{length-map, get_or_default, length-append, length-set, append-nil}
+use Rattle.std.proofs.lemmas.List.{length-map, get_or_default, length-append, length-set}
 use Rattle.hlc_node.specs.Rows.{answer, newest}
 use Rattle.hlc_witness.specs.Changes.{answer_at}
 use Rattle.hlc_witness.specs.Cost.{cost_of}
@@ -10,14 +10,16 @@ use Rattle.hlc_clock.specs.Points.{last_point}
 use Rattle.hlc_column.specs.Cells.{Cell}
 use Rattle.hlc_column.specs.Rows.{row_of, rows_of}
 use Rattle.hlc_node.specs.declared.row.Row.{Row}
+use Rattle.hlc_witness.specs.declared.witness.Witness.{Witness}
 use Rattle.hlc_draft.specs.declared.draft.Draft.{Draft}
 use Rattle.hlc_draft.proofs.SoFar.{point_before, AddedSoFar}
 use Rattle.hlc_draft.proofs.Costs.{cost-none}
 use Rattle.hlc_draft.proofs.Drafts.{draft-above}
-use Rattle.hlc_draft.proofs.Steps.{same_added, change_added, added_done, added_all, next_before}
+use Rattle.hlc_draft.proofs.Steps.{same_added, change_added, change_here, next_before}
+use Rattle.hlc_draft.proofs.Steps.{added_all, all_found, none_left}
 use Rattle.hlc_draft.proofs.Quiet.{IsQuiet, quiet_answer, quiet_on, quiet_from, quiet_first, quiet_rest, before_below}
 use Rattle.hlc_draft.proofs.draft.Draft.add.Goals as goal
-use Rattle.hlc_draft.proofs.draft.Draft.add.Goals.{then-not-are_equal+in_ok-note_change, else-not-are_equal}
+use Rattle.hlc_draft.proofs.draft.Draft.add.Goals.{then-not-are_equal+in_ok-note+in_ok-count, else-not-are_equal}
 
 -- marking a row does not change the number of flags
 marked_length : (flags more : List Bool) (from : ℕ) (place : Option ℕ)
@@ -25,27 +27,24 @@ marked_length : (flags more : List Bool) (from : ℕ) (place : Option ℕ)
 marked_length flags more from None e = ap length e
 marked_length flags more from (Some j) e = ap length e ∙ length-set flags (from + j) true
 
-abbrev Kept : List Row → List ℕ → List ℕ → ℕ → ℕ → Draft → Draft → Option ℕ → Option (List ℕ) → ℕ → Type 0
-Kept rows key points i many old new before value_here next = record {
+abbrev Kept : List Row → List ℕ → List ℕ → ℕ → ℕ → Draft → Draft → Option ℕ → Option (List ℕ) → ℕ
+    → (List Witness → Type 0) → Type 0
+Kept rows key points i many old new before value_here next IsListed = record {
   long : length new.keep.items ≡ many;
   before : before ≡ point_before points i;
   value_here : value_here ≡ answer_at rows key (point_before points i);
   quiet : IsQuiet rows (point_before points i) next;
-  added : AddedSoFar rows key points i old.witnesses.items new.witnesses.items old.keep.items new.keep.items
-      old.bytes new.bytes;
+  found : List Witness;
+  added : AddedSoFar rows key points i found old.changes new.changes old.keep.items new.keep.items old.bytes new.bytes;
+  listed : IsListed found;
 }
 
-from_is : (c : goal.After-gap_end-next) → c.len-from.result ≡ length c.args.self.now.keep.items
-from_is c = search rules
-
-from_here : (c : goal.After-gap_end-next-in-loop-point) → c.len-from.result ≡ length c.args.self.now.keep.items
-from_here c = search rules
-
 pub loop-point-init : goal.loop-point-init
-loop-point-init c =
+loop-point-init g c =
     let column = c.args.column in
     let bound = last_point c.args.points.now in
     let above = map (λ s. ltb bound s) (map (λ (x : Cell). x.stamp) column) in
+    let from : c.len-from.result ≡ length c.args.self.now.keep.items = search rules in
     let flags : c.add_flags.new.flags.items ≡ c.args.self.now.keep.items ++ above =
     c.in_ok-add_flags.ensures ∙ ap (λ ss. c.args.self.now.keep.items ++ map (λ s. ltb c.bits-last.result s) ss)
     c.stamps-stamps.ensures ∙ ap (λ b. c.args.self.now.keep.items
@@ -53,25 +52,25 @@ loop-point-init c =
     let long : length above ≡ length column =
     length-map (map (λ (x : Cell). x.stamp) column) (λ s. ltb bound s) ∙ length-map column (λ (x : Cell). x.stamp) in
     record {
-      long = ap length flags ∙ length-append c.args.self.now.keep.items above
-          ∙ ap₂ (λ m n. m + n) (sym (from_is c)) long;
+      long = ap length flags ∙ length-append c.args.self.now.keep.items above ∙ ap₂ (λ m n. m + n) (sym from) long;
       before = refl;
       value_here = refl;
       quiet = quiet_first c.args.key.now column c.stamps-stamps.result.now c.gap_end-next.result
           c.stamps-stamps.ensures c.gap_end-next.ensures;
+      found = [];
       added = record {
-        found = [];
         keep = above;
-        news = sym (append-nil c.args.self.now.witnesses.items);
+        news = omega arith;
         mores = flags;
         cost = cost-none (rows_of c.args.key.now column) c.args.self.now.bytes;
         so = record { rest = refl; draft = draft-above c.args.key.now bound column };
       };
+      listed = g.met.C.Changes.none_added c.args.changes.now;
     }
 
 -- no row is in the gap, so nothing changes at a point there
 pub loop-point-preserved-then-bits-next : goal.loop-point-preserved-then-bits-next
-loop-point-preserved-then-bits-next c =
+loop-point-preserved-then-bits-next g c =
     let key = c.args.key.now in
     let points = c.args.points.now in
     let rows = rows_of key c.args.column in
@@ -92,16 +91,17 @@ loop-point-preserved-then-bits-next c =
       value_here = inv.value_here ∙ sym same ∙ ap (answer_at rows key) (sym (next_before points i));
       quiet = subst (λ b. IsQuiet rows b c.loop-point.next) (sym (next_before points i))
           (quiet_on rows (point_before points i) c.loop-point.next (get_or points i 0) inv.quiet before);
-      added = same_added rows key points i c.loop-point-test.true old.witnesses.items on.witnesses.items
+      found = inv.found;
+      added = same_added rows key points i c.loop-point-test.true inv.found old.changes on.changes
           old.keep.items on.keep.items old.bytes on.bytes same inv.added;
+      listed = inv.listed;
     }
 
 -- no point is left after the gap
-pub returns-then-last-next : goal.returns-then-last-next
-returns-then-last-next c =
-    let key = c.args.key.now in
+pub returns-then-last-next-clause-plan : goal.returns-then-last-next-clause-plan
+returns-then-last-next-clause-plan g c =
     let points = c.args.points.now in
-    let rows = rows_of key c.args.column in
+    let rows = rows_of c.args.key.now c.args.column in
     let i = c.loop-point.point-index in
     let inv = c.loop-point.invariant in
     let old = c.args.self.now in
@@ -109,11 +109,26 @@ returns-then-last-next c =
     let past : last_point points < c.loop-point.next =
     let last = c.last_of.ensures in let bits = c.bits-last.ensures.value in let lt = c.if-last-next.true in
     omega arith in
-    added_all rows key points i old.witnesses.items on.witnesses.items old.keep.items on.keep.items old.bytes on.bytes
-    (quiet_rest rows key points i c.loop-point.next c.requires inv.quiet past) inv.added
+    added_all rows c.args.key.now points i inv.found old.changes on.changes old.keep.items on.keep.items old.bytes
+    on.bytes
+    (all_found rows c.args.key.now points i inv.found inv.added.keep
+    (quiet_rest rows c.args.key.now points i c.loop-point.next c.requires inv.quiet past) inv.added.so) inv.added
+
+pub returns-then-last-next-clause-changes : goal.returns-then-last-next-clause-changes
+returns-then-last-next-clause-changes g c =
+    let points = c.args.points.now in
+    let rows = rows_of c.args.key.now c.args.column in
+    let i = c.loop-point.point-index in
+    let inv = c.loop-point.invariant in
+    let past : last_point points < c.loop-point.next =
+    let last = c.last_of.ensures in let bits = c.bits-last.ensures.value in let lt = c.if-last-next.true in
+    omega arith in
+    subst (λ found. g.C.Changes.adds c.args.changes.now found c.loop-point.changes)
+    (all_found rows c.args.key.now points i inv.found inv.added.keep
+    (quiet_rest rows c.args.key.now points i c.loop-point.next c.requires inv.quiet past) inv.added.so) inv.listed
 
 pub loop-point-preserved : goal.loop-point-preserved
-loop-point-preserved c =
+loop-point-preserved g c =
     let column = c.args.column in
     let key = c.args.key.now in
     let points = c.args.points.now in
@@ -126,6 +141,9 @@ loop-point-preserved c =
     let now = c.if-not-are_equal.self in
     let place = c.newest_on-place.result.0 in
     let from = c.len-from.result in
+    let from_is : from ≡ length old.keep.items = search rules in
+    let IsListed : List Witness → Type 0 = λ found. g.C.Changes.adds c.args.changes.now found
+    c.if-not-are_equal.changes in
     let at : p ≡ get_or points i 0 = c.point-item.is ∙ get_or_default points i p 0 c.loop-point-test.true in
     let value_here : option_copied c.value_of-value_here.result ≡ answer rows key (get_or points i 0) =
     c.value_of-value_here.ensures key p c.newest_on-place.ensures.within (c.newest_on-place.ensures.newest key)
@@ -136,55 +154,82 @@ loop-point-preserved c =
     (get_or points i 0) c.stamps-stamps.ensures
     (let sum = c.saturating_add-above.ensures in let bits = c.bits-in-loop-point.ensures.value in omega arith)
     c.gap_end-next-in-loop-point.ensures) in
-    let fields : AddedSoFar rows key points (i + 1) old.witnesses.items now.witnesses.items old.keep.items
-    now.keep.items old.bytes now.bytes → length now.keep.items ≡ length on.keep.items
+    let fields : (found : List Witness) → AddedSoFar rows key points (i + 1) found old.changes now.changes
+    old.keep.items now.keep.items old.bytes now.bytes → IsListed found → length now.keep.items ≡ length on.keep.items
     → Kept rows key points (i + 1) (from + length column) old now (Some p) (option_copied c.value_of-value_here.result)
-    c.gap_end-next-in-loop-point.result =
-    λ added long. record {
+    c.gap_end-next-in-loop-point.result IsListed =
+    λ found added listed long. record {
       long = long ∙ inv.long;
       before = ap Some at ∙ sym (next_before points i);
       value_here = value_here ∙ ap (answer_at rows key) (sym (next_before points i));
       quiet = quiet;
+      found = found;
       added = added;
+      listed = listed;
     } in
     elim c.if-not-are_equal.branch [
-      | then-not-are_equal+in_ok-note_change w ↦
-          let noted = w.in_ok-note_change.ensures in
-          let between = w.note_change.new.self.keep.items in
+      | then-not-are_equal+in_ok-note+in_ok-count w ↦
+          let counted = w.in_ok-count.ensures in
+          let between = w.count.new.self.keep.items in
           let marks : MatchOption place (now.keep.items ≡ on.keep.items)
           (λ j. now.keep.items ≡ set on.keep.items (from + j) true) =
           subst (λ flags. MatchOption place (now.keep.items ≡ flags) (λ j. now.keep.items ≡ set flags (from + j) true))
-          noted.keep
+          counted.keep
           (subst (λ flags. MatchOption place (flags ≡ between) (λ j. flags ≡ set between (from + j) true))
           (sym (ap (λ (draft : Draft). draft.keep.items) w.self-is)) w.mark.ensures) in
-          fields
-          (change_added rows key points i c.loop-point-test.true old.witnesses.items on.witnesses.items
-          now.witnesses.items old.keep.items on.keep.items now.keep.items old.bytes on.bytes now.bytes place
+          let here = change_here rows key points i c.loop-point-test.true in
+          let noted : record { key = key; before = c.loop-point.before; at = p } ≡ here =
+          ap₂ (λ (b : Option ℕ) (q : ℕ). record { key = key; before = b; at = q }) inv.before at in
+          fields (inv.found ++ here ∷ [])
+          (change_added rows key points i c.loop-point-test.true inv.found old.changes on.changes
+          now.changes old.keep.items on.keep.items now.keep.items old.bytes on.bytes now.bytes place
           (λ e. true≢false (sym (c.are_equal.ensures.1 (value_here ∙ e ∙ sym inv.value_here))
           ∙ w.if-not-are_equal.true))
           (subst (λ n. IfSome place (λ j. j < n)) (sym (length-map column (row_of key)))
           c.newest_on-place.ensures.within)
           (c.newest_on-place.ensures.newest key ∙ ap (newest rows key) at)
-          (ap (λ (draft : Draft). draft.witnesses.items) w.self-is ∙ noted.witnesses
-          ∙ ap₂ (λ (b : Option ℕ) (q : ℕ). on.witnesses.items ++ record { key = key; before = b; at = q } ∷ [])
-          inv.before at)
+          (ap (λ (draft : Draft). draft.changes) w.self-is ∙ counted.changes)
           (subst (λ n. MatchOption place (now.keep.items ≡ on.keep.items)
-          (λ j. now.keep.items ≡ set on.keep.items (n + j) true)) (from_here c) marks)
-          (ap (λ (draft : Draft). draft.bytes) w.self-is ∙ noted.bytes ∙ ap (λ v. on.bytes + cost_of key v) value_here)
+          (λ j. now.keep.items ≡ set on.keep.items (n + j) true)) from_is marks)
+          (ap (λ (draft : Draft). draft.bytes) w.self-is ∙ counted.bytes
+          ∙ ap (λ n. on.bytes + n) (w.cost_of.ensures.cost ∙ ap (cost_of key) value_here))
           inv.added)
+          (subst (λ changes. g.C.Changes.adds c.args.changes.now (inv.found ++ here ∷ []) changes) (sym w.changes-is)
+          (g.met.C.Changes.both_added c.args.changes.now c.loop-point.changes w.note.new.self inv.found (here ∷ [])
+          inv.listed
+          (subst (λ change. g.C.Changes.adds c.loop-point.changes (change ∷ []) w.note.new.self) noted
+          w.in_ok-note.ensures)))
           (marked_length on.keep.items now.keep.items from place marks)
       | else-not-are_equal w ↦
-          fields
-          (subst (λ (draft : Draft). AddedSoFar rows key points (i + 1) old.witnesses.items draft.witnesses.items
+          fields inv.found
+          (subst (λ (draft : Draft). AddedSoFar rows key points (i + 1) inv.found old.changes draft.changes
           old.keep.items draft.keep.items old.bytes draft.bytes) (sym w.self-is)
-          (same_added rows key points i c.loop-point-test.true old.witnesses.items on.witnesses.items
+          (same_added rows key points i c.loop-point-test.true inv.found old.changes on.changes
           old.keep.items on.keep.items old.bytes on.bytes
           (sym value_here ∙ c.are_equal.ensures.0 w.if-not-are_equal.false ∙ inv.value_here) inv.added))
+          (subst (λ changes. g.C.Changes.adds c.args.changes.now inv.found changes) (sym w.changes-is) inv.listed)
           (ap (λ (draft : Draft). length draft.keep.items) w.self-is)
     ]
 
-pub returns : goal.returns
-returns c = added_done (rows_of c.args.key.now c.args.column) c.args.key.now c.args.points.now
-    c.loop-point.point-index c.args.self.now.witnesses.items c.loop-point.self.witnesses.items
-    c.args.self.now.keep.items c.loop-point.self.keep.items c.args.self.now.bytes c.loop-point.self.bytes
-    c.loop-point-test.false c.loop-point.invariant.added
+pub returns-clause-plan : goal.returns-clause-plan
+returns-clause-plan g c =
+    let points = c.args.points.now in
+    let rows = rows_of c.args.key.now c.args.column in
+    let i = c.loop-point.point-index in
+    let inv = c.loop-point.invariant in
+    let old = c.args.self.now in
+    let on = c.loop-point.self in
+    added_all rows c.args.key.now points i inv.found old.changes on.changes old.keep.items on.keep.items old.bytes
+    on.bytes
+    (all_found rows c.args.key.now points i inv.found inv.added.keep
+    (none_left rows c.args.key.now points i c.loop-point-test.false) inv.added.so) inv.added
+
+pub returns-clause-changes : goal.returns-clause-changes
+returns-clause-changes g c =
+    let points = c.args.points.now in
+    let rows = rows_of c.args.key.now c.args.column in
+    let i = c.loop-point.point-index in
+    let inv = c.loop-point.invariant in
+    subst (λ found. g.C.Changes.adds c.args.changes.now found c.loop-point.changes)
+    (all_found rows c.args.key.now points i inv.found inv.added.keep
+    (none_left rows c.args.key.now points i c.loop-point-test.false) inv.added.so) inv.listed

@@ -9,7 +9,7 @@ use Rattle.hlc_column.specs.Rows.{KeysAscend}
 use Rattle.hlc_columns.specs.Table.{columns_in}
 use Rattle.hlc_vacuum.specs.Parallel.{DraftsPiece, leaves_of}
 use Rattle.hlc_vacuum.proofs.Pieces.{piece_ascends}
-use Rattle.hlc_vacuum.proofs.parallel.piece_drafts.Goals as goal
+use Rattle.hlc_vacuum.proofs.parallel.plan_pieces.Goals as goal
 
 pub collect-requires-clause-ready : goal.collect-requires-clause-ready
 collect-requires-clause-ready g c κs within =
