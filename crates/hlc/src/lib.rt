@@ -15,9 +15,9 @@ pub use hlc_clock::{ClockFault, ReadingTooLarge};
 pub use hlc_core::{
     Accepted, Answers, AnswersBack, Body, BodyFault, Bytes, CertificateFault, Changes, Checkpoint,
     Core, CoreEvent, CoreFault, CoreReply, Item, ItemRef, JoinFault, LinkFault, Listing, NoMemory,
-    NoNode, NoSnapshot, Pair, Points, Report, RestoreFault, Row, Sizes, Snapshot, SnapshotFault,
-    Stamp, Versions, View, Witness, Witnesses, answers_stay, differences_lead_on,
-    lagging_replicas_answer_alike, vacuums_leave_a_certificate,
+    NoNode, NoSnapshot, Numbers, Pair, Points, Report, RestoreFault, Row, Sizes, Snapshot,
+    SnapshotFault, Stamp, Versions, View, Witness, Witnesses, answers_stay, differences_lead_on,
 };
 pub use hlc_node::{Message, NodeCore, NodeFault, RefusedWrite, Written};
-pub use hlc_passes::parts_are_a_vacuum;
+pub use hlc_passes::{parts_are_a_vacuum, vacuums_leave_a_certificate};
+pub use hlc_replicas::lagging_replicas_answer_alike;

@@ -7,7 +7,9 @@ use Rattle.hlc_node.specs.declared.row.Row.{Row}
 use Rattle.hlc_node.specs.Rows.{answer}
 use Rattle.hlc_columns.specs.Answers.{in_part}
 use Rattle.hlc_columns.specs.Sizes.{Sizes}
+use Rattle.hlc_draft.specs.declared.report.Numbers.{Numbers}
 use Rattle.hlc_draft.specs.declared.report.Report.{Report}
+use Rattle.hlc_draft.specs.Report.{numbers_of}
 use Rattle.hlc_core.specs.Past.{Step, Took, Opened, Closed, Joined, numbered, floor, opened, stamp_of}
 use Rattle.hlc_core.specs.Past.{item_refusal, join_refusal, join_at_refusal, open_refusal, room_refusal, vacuum_refusal}
 use Rattle.hlc_core.specs.StoreView.{StoreView, nodes, Represents}
@@ -79,15 +81,15 @@ ReturnsSizes stored rows keys key_bytes value_bytes =
     × (key_bytes ≡ narrowed sizes.key_bytes) × (value_bytes ≡ narrowed sizes.value_bytes)
 
 -- the numbers of a report: its floor, how many rows were kept, what they cost, and how many were dropped
-abbrev pub AreNumbers : Report → ℕ → ℕ → ℕ → ℕ → Type 0
-AreNumbers report floor kept bytes dropped =
-    (floor ≡ report.floor) × (kept ≡ report.kept) × (bytes ≡ narrowed report.bytes)
-    × (dropped ≡ narrowed report.dropped)
+abbrev pub AreNumbers : Numbers → ℕ → ℕ → ℕ → ℕ → Type 0
+AreNumbers numbers floor kept bytes dropped =
+    (floor ≡ numbers.floor) × (kept ≡ numbers.kept) × (bytes ≡ narrowed numbers.bytes)
+    × (dropped ≡ narrowed numbers.dropped)
 
 -- a vacuum to the stamp took place, and the numbers of its report are returned; its floor is the stamp
 abbrev pub ReturnsVacuumed : StoreView → StoreView → ℕ → List Step → ℕ → ℕ → ℕ → ℕ → Type 0
 ReturnsVacuumed old new at past floor kept bytes dropped =
-    (report : Report) × Vacuums old new at past report × AreNumbers report floor kept bytes dropped
+    (report : Report) × Vacuums old new at past report × AreNumbers (numbers_of report) floor kept bytes dropped
 
 -- a vacuum to the floor took place, and the numbers of its report are returned
 abbrev pub ReturnsVacuumedAtFloor : StoreView → StoreView → List Step → ℕ → ℕ → ℕ → ℕ → Type 0
@@ -118,7 +120,7 @@ abbrev pub ReturnsPart
     → ℕ → ℕ → ℕ → ℕ → ℕ → Bool → List ℕ → List ℕ → Type 0
 ReturnsPart old new at after most past floor kept bytes dropped len more before out =
     (report : Report) × (end : Option (List ℕ)) × EndsAt old after most end
-    × Trims old new at past (in_part after end) report × AreNumbers report floor kept bytes dropped
+    × Trims old new at past (in_part after end) report × AreNumbers (numbers_of report) floor kept bytes dropped
     × ReturnsEnd end len more before out
 
 -- the same, or it was refused

@@ -8,7 +8,7 @@ ghost use Rattle.hlc_calls.specs.Answers.{ReturnsVacuumedTo, ReturnsVacuumChecke
 ghost use Rattle.hlc_calls.specs.Answers.{narrowed, ReturnsVacuumedPart, ReturnsEnd};
 
 use crate::codes::{answer, refuse};
-use hlc_core::{Bytes, Core, Report, Stamp};
+use hlc_core::{Bytes, Core, Numbers, Stamp};
 
 /// Lets a node join. Returns 0, its number and the stamp of its start, or a refusal.
 #[tactic(auto, using(crate::proofs::Refusals::refused_returns, crate::proofs::Refusals::made_returns))]
@@ -169,21 +169,21 @@ pub fn sizes(
     *value_bytes = narrow(sizes.value_bytes);
 }
 
-/// Writes the content of a report: its floor, how many rows were kept, what they cost in bytes, and how many were
+/// Writes the numbers of a report: its floor, how many rows were kept, what they cost in bytes, and how many were
 /// dropped.
-pub(crate) fn put_report(
-    report: &Report,
+pub(crate) fn put_numbers(
+    numbers: Numbers,
     floor: &mut u64,
     kept: &mut u64,
     bytes: &mut u64,
     dropped: &mut u64,
 )
-    ensures { AreNumbers report.now floor.new kept.new bytes.new dropped.new }
+    ensures { AreNumbers numbers floor.new kept.new bytes.new dropped.new }
 {
-    *floor = report.floor.bits();
-    *kept = report.kept;
-    *bytes = narrow(report.bytes);
-    *dropped = narrow(report.dropped);
+    *floor = numbers.floor.bits();
+    *kept = numbers.kept;
+    *bytes = narrow(numbers.bytes);
+    *dropped = narrow(numbers.dropped);
 }
 
 /// Vacuums. Returns 0, the floor, how many rows were kept, what they cost in bytes, and how many were dropped; or 15.
@@ -206,9 +206,9 @@ pub fn vacuum(
     *kept = 0;
     *bytes = 0;
     *dropped = 0;
-    match core.vacuum() {
-        Ok(report) => {
-            put_report(&report, floor, kept, bytes, dropped);
+    match core.vacuum_counted() {
+        Ok(numbers) => {
+            put_numbers(numbers, floor, kept, bytes, dropped);
             0
         }
         Err(_) => 15,
@@ -251,9 +251,9 @@ pub fn vacuum_to(
     *kept = 0;
     *bytes = 0;
     *dropped = 0;
-    match core.vacuum_to(at) {
-        Ok(report) => {
-            put_report(&report, returned, kept, bytes, dropped);
+    match core.vacuum_to_counted(at) {
+        Ok(numbers) => {
+            put_numbers(numbers, returned, kept, bytes, dropped);
             0
         }
         Err(fault) => refuse(&fault, returned),
@@ -289,9 +289,9 @@ pub fn vacuum_part(
     *dropped = 0;
     *len = 0;
     *more = false;
-    match core.vacuum_part(at, after, most) {
-        Ok((report, end)) => {
-            put_report(&report, returned, kept, bytes, dropped);
+    match core.vacuum_part_counted(at, after, most) {
+        Ok((numbers, end)) => {
+            put_numbers(numbers, returned, kept, bytes, dropped);
             put_end(&end, out, len, more);
             0
         }

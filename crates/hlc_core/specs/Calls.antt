@@ -12,7 +12,9 @@ use Rattle.hlc_snapshot.specs.declared.fault.NoSnapshot.{NoSnapshot as NoSuchSna
 use Rattle.hlc_core.specs.declared.listing.Pair.{Pair}
 use Rattle.hlc_heads.specs.Heads.{AcceptedView}
 use Rattle.hlc_heads.specs.declared.heads.TheConstants.{MOST_NODES}
+use Rattle.hlc_draft.specs.declared.report.Numbers.{Numbers}
 use Rattle.hlc_draft.specs.declared.report.Report.{Report as AReport}
+use Rattle.hlc_draft.specs.Report.{numbers_of}
 use Rattle.hlc_core.specs.Listing.{IsListing}
 use Rattle.hlc_core.specs.Past.{Step, Took, Opened, Closed, Vacuumed, Joined, numbered, count, floor, opened, stamp_of}
 use Rattle.hlc_core.specs.Past.{writes, item_refusal, join_refusal, join_at_refusal, room_refusal, open_refusal}
@@ -139,3 +141,15 @@ abbrev pub VacuumsPairTo : StoreView → StoreView → ℕ → List Step → Res
 VacuumsPairTo old new at past (Ok reports) =
     (vacuum_refusal (nodes old) past at ≡ None) × (reports.0 ≡ reports.1) × Vacuums old new at past reports.0
 VacuumsPairTo old new at past (Err fault) = IsRefusal (vacuum_refusal (nodes old) past at) ⊤ fault
+
+-- a vacuum to a stamp took place, and these are the numbers of its report
+pub record VacuumsCounted (old new : StoreView) (at : ℕ) (past : List Step) (numbers : Numbers) : Type 0 where
+  pub report : AReport
+  pub vacuums : Vacuums old new at past report
+  pub are : numbers ≡ numbers_of report
+
+-- the same, or it was refused
+abbrev pub VacuumsToCounted : StoreView → StoreView → ℕ → List Step → Result Numbers CoreFault → Type 0
+VacuumsToCounted old new at past (Ok numbers) =
+    (vacuum_refusal (nodes old) past at ≡ None) × VacuumsCounted old new at past numbers
+VacuumsToCounted old new at past (Err fault) = IsRefusal (vacuum_refusal (nodes old) past at) ⊤ fault

@@ -4,7 +4,9 @@ use Rattle.std.specs.Prelude.{Err, ⊤}
 use Rattle.hlc_node.specs.declared.row.Row.{Row}
 use Rattle.hlc_witness.specs.Changes.{AreChanges}
 use Rattle.hlc_witness.specs.Cost.{changes_cost}
+use Rattle.hlc_draft.specs.declared.report.Numbers.{Numbers}
 use Rattle.hlc_draft.specs.declared.report.Report.{Report}
+use Rattle.hlc_draft.specs.Report.{numbers_of}
 use Rattle.hlc_columns.specs.Answers.{AreNext, in_part, part_end}
 use Rattle.hlc_column.specs.Rows.{KeyCells}
 use Rattle.hlc_events.specs.declared.fault.CoreFault.{CoreFault}
@@ -61,6 +63,22 @@ abbrev pub VacuumsPartPair
 VacuumsPartPair old new at after most past (Ok made) =
     (made.0 ≡ made.1) × VacuumsPart old new at after most past (Ok made.0)
 VacuumsPartPair old new at after most past (Err fault) = VacuumsPart old new at after most past (Err fault)
+
+-- part of a vacuum to the stamp took place, and these are the numbers of its report
+pub record TrimsCounted (old new : StoreView) (at : ℕ) (past : List Step) (is_of : List ℕ → Bool)
+    (numbers : Numbers) : Type 0 where
+  pub report : Report
+  pub trims : Trims old new at past is_of report
+  pub are : numbers ≡ numbers_of report
+
+-- the same as `VacuumsPart` with the numbers of the report in its place
+abbrev pub VacuumsPartCounted
+    : StoreView → StoreView → ℕ → List ℕ → ℕ → List Step
+    → Result (Numbers × Option (List ℕ)) CoreFault → Type 0
+VacuumsPartCounted old new at after most past (Ok made) =
+    (vacuum_refusal (nodes old) past at ≡ None) × EndsAt old after most made.1
+    × TrimsCounted old new at past (in_part after made.1) made.0
+VacuumsPartCounted old new at after most past (Err fault) = IsRefusal (vacuum_refusal (nodes old) past at) ⊤ fault
 
 -- After this past, with this many nodes at the start, part of a vacuum may have this report and end there: in some
 -- store that represents the past it does. Which keys have stored rows also depends on the keys of the parts before it,

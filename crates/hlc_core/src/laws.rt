@@ -1,21 +1,12 @@
 //! What is true of every legal past, and of cores that represent one.
-ghost use Rattle.std.specs.Prelude.{◌≡◌, ◌≢◌, ◌+◌, ◌<◌, ◌≤◌, ◌⊎◌, ◌↔◌, true, false, ℕ, List, ◌∷◌, None, All, length};
-ghost use Rattle.std.specs.Prelude.{Bool, not, ◌++◌, Contains, Some};
+ghost use Rattle.std.specs.Prelude.{◌≡◌, ◌≢◌, ◌+◌, ◌<◌, ◌≤◌, ◌⊎◌, true, false, ℕ, List, ◌∷◌, None, All, length};
+ghost use Rattle.std.specs.Prelude.{not, ◌++◌, Some};
 ghost use Rattle.hlc_node.specs.Rows.{IsRowSet, answer};
-ghost use Rattle.hlc_core.specs.Past.{Step, Took, Joined, Vacuumed, IsLegal, numbered, retired, top, writes, head};
+ghost use Rattle.hlc_core.specs.Past.{Step, Took, Joined, IsLegal, numbered, retired, top, writes, head};
 ghost use Rattle.hlc_core.specs.Past.{floor, open_snapshots, item_refusal, join_refusal, join_at_refusal};
-ghost use Rattle.hlc_core.specs.Past.{greatest_accepted, horizon, stamp_of, vacuum_refusal};
-ghost use Rattle.hlc_core.specs.Replicas.{AreReplicas, CanMeet, items_of, joins_of};
-ghost use Rattle.hlc_clock.specs.Points.{ArePoints};
+ghost use Rattle.hlc_core.specs.Past.{greatest_accepted, stamp_of};
 ghost use Rattle.hlc_snapshot.specs.RegistryView.{stamps};
-ghost use Rattle.hlc_draft.specs.Vacuumed.{IsVacuumOf, rows_to};
-ghost use Rattle.hlc_witness.specs.Cost.{rows_cost};
-ghost use Rattle.hlc_draft.specs.declared.report.Report.{Report as AReport};
-ghost use Rattle.hlc_core.specs.Stored.{AreVacuumPoints, IsReport, IsStoredCount, LeavesFewest};
-ghost use Rattle.hlc_core.specs.StoreView.{StoreView, nodes, with_rows_left, Represents};
-ghost use Rattle.hlc_core.specs.Calls.{Vacuums};
-ghost use Rattle.hlc_core.specs.Certified.{AreNotFewest, IsCertified};
-ghost use Rattle.hlc_core.specs.Parts.{Trims, rows_of_keys};
+ghost use Rattle.hlc_core.specs.StoreView.{StoreView, nodes, Represents};
 ghost use Rattle.hlc_core.specs.Checkpoint.{IsCheckpoint, IsCopyOf, IsFirstReason};
 ghost use Rattle.hlc_witness.specs.Certificate.{RowsAscend};
 ghost use Rattle.hlc_heads.specs.declared.heads.TheConstants.{MOST_NODES};
@@ -111,59 +102,6 @@ pub fn a_join_is_one_at_the_floor()
         → floor nodes (Joined node (floor nodes past) ∷ past) ≡ floor nodes past }
 {}
 
-/// A vacuum without a stamp is a vacuum to the floor: that is not refused, and its points are the stamps of all open
-/// snapshots and the floor.
-pub fn a_vacuum_is_one_to_the_floor()
-    ensures refusal { (nodes : ℕ) (past : List Step) → IsLegal nodes past
-        → vacuum_refusal nodes past (floor nodes past) ≡ None }
-    ensures points { (nodes : ℕ) (past : List Step) (points : List ℕ) → IsLegal nodes past
-        → AreVacuumPoints (floor nodes past) past points
-        ↔ ArePoints (stamps (open_snapshots past)) (floor nodes past) points }
-{}
-
-/// Replicas never diverge in what they accept. If the same nodes joined at the same starts, one accepts an item exactly
-/// if the other does, provided that both accepted the same items of its node, whatever they accepted of others. If both
-/// accepted the same items of all nodes, in any order between links, their floors are equal, and a join at a start is
-/// accepted by both or by none.
-pub fn replicas_accept_alike()
-    ensures items { (nodes : ℕ) (past other : List Step) (item : AnItem)
-        → IsLegal nodes past → IsLegal nodes other → joins_of past ≡ joins_of other
-        → items_of item.node past ≡ items_of item.node other
-        → item_refusal nodes past item ≡ item_refusal nodes other item }
-    ensures floor { (nodes : ℕ) (past other : List Step) → 0 < nodes
-        → IsLegal nodes past → IsLegal nodes other → AreReplicas past other
-        → floor nodes past ≡ floor nodes other }
-    ensures joins { (nodes : ℕ) (past other : List Step) (start : ℕ) → 0 < nodes
-        → IsLegal nodes past → IsLegal nodes other → AreReplicas past other
-        → join_at_refusal nodes past start ≡ join_at_refusal nodes other start }
-{}
-
-/// Replicas that accepted the same items, in any order between links, answer alike at each stamp from the horizons of
-/// both on, whenever either was vacuumed and whatever snapshots are open.
-pub fn replicas_answer_alike()
-    ensures accepted { (nodes : ℕ) (past other : List Step) → IsLegal nodes past
-        → AreReplicas past other → (key : List ℕ) (stamp : ℕ)
-        → answer (writes past) key stamp ≡ answer (writes other) key stamp }
-    ensures stored { (kept copy : StoreView) (past other : List Step) → Represents kept past
-        → Represents copy other → AreReplicas past other → (key : List ℕ) (stamp : ℕ)
-        → horizon past ≤ stamp → horizon other ≤ stamp
-        → answer kept.rows key stamp ≡ answer copy.rows key stamp }
-{}
-
-/// Stores at different places of one log answer alike at each stamp up to the floors of both, if each can go on until
-/// they are replicas: from their horizons on, and at snapshots that they have open.
-pub fn lagging_replicas_answer_alike()
-    ensures accepted { (nodes : ℕ) (past other : List Step) → CanMeet nodes past other
-        → (key : List ℕ) (stamp : ℕ) → stamp ≤ floor nodes past → stamp ≤ floor nodes other
-        → answer (writes past) key stamp ≡ answer (writes other) key stamp }
-    ensures stored { (kept copy : StoreView) (past other : List Step) → Represents kept past
-        → Represents copy other → CanMeet (nodes kept) past other → (key : List ℕ) (stamp : ℕ)
-        → stamp ≤ floor (nodes kept) past → stamp ≤ floor (nodes kept) other
-        → (horizon past ≤ stamp) ⊎ Contains (stamps (open_snapshots past)) stamp
-        → (horizon other ≤ stamp) ⊎ Contains (stamps (open_snapshots other)) stamp
-        → answer kept.rows key stamp ≡ answer copy.rows key stamp }
-{}
-
 /// There is one listing of some rows at a stamp.
 pub fn there_is_one_listing()
     ensures { (rows : List ARow) (stamp : ℕ) (listing other : List APair)
@@ -184,64 +122,6 @@ pub fn differences_lead_on()
         → AreDifferences rows from to (λ key. Unit {0}) differences
         → IsListing rows from listing → IsListing rows to next
         → patched others listing ≡ next → length differences ≤ length others }
-{}
-
-/// After a vacuum of the stored rows up to a stamp, at the points of the past, the core represents the past with the
-/// vacuum, the report is the expected one, and the remaining rows are the fewest, which are the cheapest.
-pub fn vacuums_keep_representing()
-    ensures { (kept : StoreView) (at : ℕ) (past : List Step) (rows : List ARow) (report : AReport)
-        → Represents kept past → vacuum_refusal (nodes kept) past at ≡ None
-        → AreVacuumPoints at past report.points
-        → IsVacuumOf kept.rows report.points report.witnesses rows
-        → report.floor ≡ at
-        → report.kept ≡ length report.witnesses → report.dropped + length rows ≡ length kept.rows
-        → report.bytes ≡ rows_cost (rows_to report.floor rows)
-        → Vacuums kept (with_rows_left kept rows at) at past report }
-{}
-
-/// After a part of a vacuum up to a stamp, of the stored rows of the keys of one kind, at the points of the past, the
-/// core represents the past with the part of a vacuum, all other rows stay, the report is the expected one, and the
-/// remaining rows of these keys are the fewest against all accepted writes of these keys, which are the cheapest.
-pub fn parts_keep_representing()
-    ensures { (kept : StoreView) (at : ℕ) (past : List Step) (rows : List ARow)
-        (is_of : List ℕ → Bool) (report : AReport)
-        → Represents kept past → vacuum_refusal (nodes kept) past at ≡ None
-        → AreVacuumPoints at past report.points → IsRowSet rows
-        → rows_of_keys (λ key. not (is_of key)) rows
-        ≡ rows_of_keys (λ key. not (is_of key)) kept.rows
-        → IsVacuumOf (rows_of_keys is_of kept.rows) report.points report.witnesses
-        (rows_of_keys is_of rows)
-        → report.floor ≡ at
-        → report.kept ≡ length report.witnesses → report.dropped + length rows ≡ length kept.rows
-        → report.bytes ≡ rows_cost (rows_to report.floor (rows_of_keys is_of rows))
-        → Trims kept (with_rows_left kept rows at) at past is_of report }
-{}
-
-/// Just after a vacuum the rows at or below its stamp are the fewest, and the cheapest, against all accepted writes.
-pub fn vacuums_leave_the_fewest()
-    ensures { (kept : StoreView) (at : ℕ) (past : List Step) (report : AReport)
-        → Represents kept (Vacuumed at ∷ past)
-        → IsReport at past report → LeavesFewest kept.rows (writes past) report }
-{}
-
-/// Just after a vacuum the rows at or below its stamp have a certificate: no fewer answer alike, so `Core::certificate`
-/// is not refused for that, and it returns the report of the vacuum, with no row dropped.
-pub fn vacuums_leave_a_certificate()
-    ensures fewest { (kept : StoreView) (at : ℕ) (past : List Step)
-        → Represents kept (Vacuumed at ∷ past) → AreNotFewest kept at (Vacuumed at ∷ past) → ⊥ }
-    ensures report { (kept : StoreView) (at : ℕ) (past : List Step) (report certificate : AReport)
-        → IsReport at past report → IsCertified kept at (Vacuumed at ∷ past) certificate
-        → certificate ≡ record report { dropped = 0 } }
-{}
-
-/// After a past there is at most one report of a vacuum to a stamp, and one number of stored rows.
-pub fn there_is_one_report()
-    ensures report { (at : ℕ) (past : List Step) (report other : AReport)
-        → IsReport at past report
-        → IsReport at past other → report ≡ other }
-    ensures count { (past : List Step) (count other : ℕ)
-        → IsStoredCount past count
-        → IsStoredCount past other → count ≡ other }
 {}
 
 /// A core is faithful to each history that it represents: its reads returned the newest accepted values, and no answer

@@ -11,6 +11,7 @@ mod reply;
 mod rows;
 mod step;
 mod store;
+mod vacuum;
 
 pub use hlc_checkpoint::{Checked, Checkpoint, Growing, RestoreFault};
 pub use hlc_clock::Stamp;
@@ -20,17 +21,14 @@ pub use hlc_heads::{Accepted, JoinFault};
 pub use hlc_intake::{Intake, LinkFault};
 pub use hlc_node::{Body, BodyFault, Bytes, Item, ItemRef, Row};
 pub use hlc_snapshot::{NoSnapshot, Snapshot, SnapshotFault};
-pub use hlc_vacuum::{BoxedReport, Points, Report, Witnesses};
+pub use hlc_vacuum::{BoxedReport, Numbers, Points, Report, Witnesses};
 pub use hlc_values::NoMemory;
 pub use hlc_witness::Witness;
 pub use laws::{
-    a_join_is_one_at_the_floor, a_vacuum_is_one_to_the_floor, accepted_writes_are_a_row_set,
-    answers_stay, checkpoints_restore, differences_lead_on, floor_is_the_least_head,
-    histories_are_faithful, joins_keep_the_floor, lagging_replicas_answer_alike,
-    later_items_are_above_the_floor, open_snapshots_are_at_most_the_floor, parts_keep_representing,
-    replicas_accept_alike, replicas_answer_alike, retired_nodes_leave_the_greatest_stamp,
-    the_floor_never_falls, there_is_one_listing, there_is_one_report, vacuums_keep_representing,
-    vacuums_leave_a_certificate, vacuums_leave_the_fewest,
+    a_join_is_one_at_the_floor, accepted_writes_are_a_row_set, answers_stay, checkpoints_restore,
+    differences_lead_on, floor_is_the_least_head, histories_are_faithful, joins_keep_the_floor,
+    later_items_are_above_the_floor, open_snapshots_are_at_most_the_floor,
+    retired_nodes_leave_the_greatest_stamp, the_floor_never_falls, there_is_one_listing,
 };
 pub use listing::{Listing, Pair};
 pub use reply::CoreReply;

@@ -11,7 +11,7 @@ use Rattle.hlc_core.specs.PlanAt.{IsPartPlanAt}
 use Rattle.hlc_core.proofs.PastLemmas.{vacuum-none}
 use Rattle.hlc_core.proofs.Consistent.{consistent-fewer}
 use Rattle.hlc_core.proofs.Sound.{sound-vacuum, floor-in}
-use Rattle.hlc_core.proofs.Trimming.{trims}
+use Rattle.hlc_core.proofs.TrimLemmas.{trims}
 use Rattle.hlc_core.proofs.store.Core.carry_out_part.Goals as goal
 use Rattle.hlc_core.proofs.store.Core.carry_out_part.Goals.{After-apply_part-made}
 

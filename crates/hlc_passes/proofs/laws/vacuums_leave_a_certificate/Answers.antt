@@ -1,6 +1,6 @@
 -- The vacuum left the fewest rows, and its points and changes are those of a vacuum after it.
 use Rattle.hlc_core.proofs.CertifiedLemmas.{vacuums-leave-certified, certificate-is-report}
-use Rattle.hlc_core.proofs.laws.vacuums_leave_a_certificate.Goals as goal
+use Rattle.hlc_passes.proofs.laws.vacuums_leave_a_certificate.Goals as goal
 
 pub returns-clause-fewest : goal.returns-clause-fewest
 returns-clause-fewest c = vacuums-leave-certified

@@ -4,7 +4,7 @@ use Rattle.hlc_clock.specs.Points.{ArePoints}
 use Rattle.hlc_snapshot.proofs.RegisterLemmas.{stamps_to-all}
 use Rattle.hlc_core.specs.Past.{floor, open_snapshots}
 use Rattle.hlc_core.proofs.PastLemmas.{horizon-low, vacuum-none, open-low}
-use Rattle.hlc_core.proofs.laws.a_vacuum_is_one_to_the_floor.Goals as goal
+use Rattle.hlc_passes.proofs.laws.a_vacuum_is_one_to_the_floor.Goals as goal
 
 pub returns-clause-refusal : goal.returns-clause-refusal
 returns-clause-refusal c = λ nodes past legal.

@@ -1,6 +1,6 @@
 -- The accepted writes are the same rows.
 use Rattle.hlc_core.proofs.ReplicaLemmas.{answers-agree, stores-agree}
-use Rattle.hlc_core.proofs.laws.replicas_answer_alike.Goals as goal
+use Rattle.hlc_replicas.proofs.replicas_answer_alike.Goals as goal
 
 pub returns-clause-accepted : goal.returns-clause-accepted
 returns-clause-accepted c = answers-agree

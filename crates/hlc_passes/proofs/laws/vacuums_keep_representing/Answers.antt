@@ -1,6 +1,6 @@
 -- The remaining stored rows are a vacuum of all accepted ones.
 use Rattle.hlc_core.proofs.VacuumLemmas.{vacuums}
-use Rattle.hlc_core.proofs.laws.vacuums_keep_representing.Goals as goal
+use Rattle.hlc_passes.proofs.laws.vacuums_keep_representing.Goals as goal
 
 pub returns : goal.returns
 returns c = vacuums

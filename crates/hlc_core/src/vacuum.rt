@@ -1,0 +1,263 @@
+//! The vacuums of a store.
+ghost use Rattle.std.specs.Prelude.{◌≡◌, ◌≤◌, IfOk, OnErr, List};
+ghost use Rattle.hlc_core.specs.Past.{Step, floor};
+ghost use Rattle.hlc_core.specs.StoreView.{nodes, Represents};
+ghost use Rattle.hlc_core.specs.Parts.{VacuumsPart, VacuumsPartPair, VacuumsPartCounted};
+ghost use Rattle.hlc_core.specs.Calls.{Vacuums, VacuumsTo, VacuumsPairTo, VacuumsCounted, VacuumsToCounted};
+ghost use Rattle.hlc_core.specs.Certified.{Certifies};
+ghost use Rattle.hlc_core.specs.Checkpoint.{floor_in};
+
+use crate::store::Core;
+use hlc_clock::Stamp;
+use hlc_events::{CertificateFault, CoreFault};
+use hlc_node::Bytes;
+use hlc_vacuum::{Numbers, Report};
+use hlc_values::NoMemory;
+use std::thread::Threads;
+
+impl Core {
+    /// Drops all rows at or below the floor except the fewest that answer as all accepted writes do at each open
+    /// snapshot and at the floor, and returns a report. The floor becomes the horizon. It is `vacuum_to` the floor. All
+    /// memory that it needs is allocated before anything changes.
+    pub fn vacuum(&mut self) -> Result<Report, NoMemory>
+        ensures ok { IfOk result
+            (λ report. (past : List Step) → Represents self.old past
+            → Vacuums self.old self.new (floor (nodes self.old) past) past report) }
+        ensures err { OnErr result (self.new ≡ self.old) }
+        ensures nodes { nodes self.new ≡ nodes self.old }
+    {
+        let floor = self.floor();
+        let plan = self.plan(floor)?;
+        Ok(self.carry_out(floor, plan))
+    }
+
+    /// Does the same as `vacuum`, but several threads plan the rows. Of several rows it may keep another one.
+    pub fn vacuum_parallel(&mut self, rt: &(impl Threads + Sync)) -> Result<Report, NoMemory>
+        ensures ok { IfOk result
+            (λ report. (past : List Step) → Represents self.old past
+            → Vacuums self.old self.new (floor (nodes self.old) past) past report) }
+        ensures err { OnErr result (self.new ≡ self.old) }
+        ensures nodes { nodes self.new ≡ nodes self.old }
+    {
+        let floor = self.floor();
+        let plan = self.plan_parallel(rt, floor)?;
+        Ok(self.carry_out(floor, plan))
+    }
+
+    /// Does the same as `vacuum`, and returns the report twice. All memory is allocated before anything changes.
+    pub fn vacuum_pair(&mut self) -> Result<(Report, Report), NoMemory>
+        ensures ok { IfOk result
+            (λ reports. (past : List Step) → Represents self.old past
+            → Vacuums self.old self.new (floor (nodes self.old) past) past reports.0) }
+        ensures alike { IfOk result (λ reports. reports.0 ≡ reports.1) }
+        ensures err { OnErr result (self.new ≡ self.old) }
+        ensures nodes { nodes self.new ≡ nodes self.old }
+    {
+        let floor = self.floor();
+        let plan = self.plan(floor)?;
+        let report = plan.report()?;
+        Ok((self.carry_out(floor, plan), report))
+    }
+
+    /// Does the same as `vacuum_parallel`, and returns the report twice, allocated before anything changes.
+    pub fn vacuum_pair_parallel(
+        &mut self,
+        rt: &(impl Threads + Sync),
+    ) -> Result<(Report, Report), NoMemory>
+        ensures ok { IfOk result
+            (λ reports. (past : List Step) → Represents self.old past
+            → Vacuums self.old self.new (floor (nodes self.old) past) past reports.0) }
+        ensures alike { IfOk result (λ reports. reports.0 ≡ reports.1) }
+        ensures err { OnErr result (self.new ≡ self.old) }
+        ensures nodes { nodes self.new ≡ nodes self.old }
+    {
+        let floor = self.floor();
+        let plan = self.plan_parallel(rt, floor)?;
+        let report = plan.report()?;
+        Ok((self.carry_out(floor, plan), report))
+    }
+
+    /// Does the same as `vacuum`, and returns the numbers of the report alone. The changes are counted and not listed,
+    /// so it needs no memory for them.
+    pub fn vacuum_counted(&mut self) -> Result<Numbers, NoMemory>
+        ensures ok { IfOk result
+            (λ numbers. (past : List Step) → Represents self.old past
+            → VacuumsCounted self.old self.new (floor (nodes self.old) past) past numbers) }
+        ensures err { OnErr result (self.new ≡ self.old) }
+        ensures nodes { nodes self.new ≡ nodes self.old }
+    {
+        let floor = self.floor();
+        self.vacuum_by_tally(floor)
+    }
+
+    /// Drops all rows at or below a stamp except the fewest that answer as all accepted writes do at the open snapshots
+    /// at or below it and at the stamp itself, and returns a report, with the stamp as its floor. All rows above the
+    /// stamp stay, so the answers of each snapshot that is open above it do not change. The stamp becomes the horizon.
+    /// All memory that it needs is allocated before anything changes.
+    ///
+    /// Refused, in this order: the stamp is above the floor; it is below the horizon; out of memory. A refusal leaves
+    /// the core unchanged.
+    pub fn vacuum_to(&mut self, at: Stamp) -> Result<Report, CoreFault>
+        ensures represents { (past : List Step) → Represents self.old past
+            → VacuumsTo self.old self.new at past result }
+        ensures err { OnErr result (self.new ≡ self.old) }
+        ensures nodes { nodes self.new ≡ nodes self.old }
+    {
+        self.check_vacuum(at)?;
+        let plan = self.plan(at)?;
+        Ok(self.carry_out(at, plan))
+    }
+
+    /// Does the same as `vacuum_to`, but several threads plan the rows. Of several rows it may keep another one.
+    pub fn vacuum_to_parallel(
+        &mut self,
+        rt: &(impl Threads + Sync),
+        at: Stamp,
+    ) -> Result<Report, CoreFault>
+        ensures represents { (past : List Step) → Represents self.old past
+            → VacuumsTo self.old self.new at past result }
+        ensures err { OnErr result (self.new ≡ self.old) }
+        ensures nodes { nodes self.new ≡ nodes self.old }
+    {
+        self.check_vacuum(at)?;
+        let plan = self.plan_parallel(rt, at)?;
+        Ok(self.carry_out(at, plan))
+    }
+
+    /// Does the same as `vacuum_to`, and returns the report twice. All memory is allocated before anything changes.
+    pub fn vacuum_pair_to(&mut self, at: Stamp) -> Result<(Report, Report), CoreFault>
+        ensures represents { (past : List Step) → Represents self.old past
+            → VacuumsPairTo self.old self.new at past result }
+        ensures alike { IfOk result (λ reports. reports.0 ≡ reports.1) }
+        ensures err { OnErr result (self.new ≡ self.old) }
+        ensures nodes { nodes self.new ≡ nodes self.old }
+    {
+        self.check_vacuum(at)?;
+        let plan = self.plan(at)?;
+        let report = plan.report()?;
+        Ok((self.carry_out(at, plan), report))
+    }
+
+    /// Does the same as `vacuum_to_parallel`, and returns the report twice, allocated before anything changes.
+    pub fn vacuum_pair_to_parallel(
+        &mut self,
+        rt: &(impl Threads + Sync),
+        at: Stamp,
+    ) -> Result<(Report, Report), CoreFault>
+        ensures represents { (past : List Step) → Represents self.old past
+            → VacuumsPairTo self.old self.new at past result }
+        ensures alike { IfOk result (λ reports. reports.0 ≡ reports.1) }
+        ensures err { OnErr result (self.new ≡ self.old) }
+        ensures nodes { nodes self.new ≡ nodes self.old }
+    {
+        self.check_vacuum(at)?;
+        let plan = self.plan_parallel(rt, at)?;
+        let report = plan.report()?;
+        Ok((self.carry_out(at, plan), report))
+    }
+
+    /// Does the same as `vacuum_to`, and returns the numbers of the report alone, as `vacuum_counted` does.
+    pub fn vacuum_to_counted(&mut self, at: Stamp) -> Result<Numbers, CoreFault>
+        ensures represents { (past : List Step) → Represents self.old past
+            → VacuumsToCounted self.old self.new at past result }
+        ensures err { OnErr result (self.new ≡ self.old) }
+        ensures nodes { nodes self.new ≡ nodes self.old }
+    {
+        match self.check_vacuum(at) {
+            Ok(()) => Ok(self.vacuum_by_tally(at)?),
+            Err(fault) => Err(fault),
+        }
+    }
+
+    /// Does a part of `vacuum_to`, so that one call does bounded work: it drops rows of the first keys above `after`,
+    /// at most `most` keys, and returns a report of the rows of these keys, and the last of the keys: the next part
+    /// begins above it. It returns no key if there is none left. The first part begins with the empty key, and between
+    /// parts all calls are possible: each part vacuums its keys at the snapshots that are open then. The stamp becomes
+    /// the horizon with the first part. Rows of other keys stay.
+    ///
+    /// Refused as `vacuum_to`. It looks up one key, and each key of the part once more. All memory that it needs is
+    /// allocated before anything changes: that of the report, and a copy of each key.
+    pub fn vacuum_part(
+        &mut self,
+        at: Stamp,
+        after: &[u8],
+        most: usize,
+    ) -> Result<(Report, Option<Bytes>), CoreFault>
+        ensures represents { (past : List Step) → Represents self.old past
+            → VacuumsPart self.old self.new at after.now most past result }
+        ensures err { OnErr result (self.new ≡ self.old) }
+        ensures nodes { nodes self.new ≡ nodes self.old }
+    {
+        self.check_vacuum(at)?;
+        let part = self.plan_next(at, after, most)?;
+        Ok(self.carry_out_part(at, part))
+    }
+
+    /// Does the same, and returns the report and the key twice. All memory is allocated before anything changes.
+    pub fn vacuum_part_pair(
+        &mut self,
+        at: Stamp,
+        after: &[u8],
+        most: usize,
+    ) -> Result<((Report, Option<Bytes>), (Report, Option<Bytes>)), CoreFault>
+        ensures represents { (past : List Step) → Represents self.old past
+            → VacuumsPartPair self.old self.new at after.now most past result }
+        ensures alike { IfOk result (λ made. made.0 ≡ made.1) }
+        ensures err { OnErr result (self.new ≡ self.old) }
+        ensures nodes { nodes self.new ≡ nodes self.old }
+    {
+        self.check_vacuum(at)?;
+        let part = self.plan_next(at, after, most)?;
+        let report = part.plan.report()?;
+        let end = part.end.clone()?;
+        Ok((self.carry_out_part(at, part), (report, end)))
+    }
+
+    /// Does the same as `vacuum_part`, and returns the numbers of the report alone, as `vacuum_counted` does.
+    pub fn vacuum_part_counted(
+        &mut self,
+        at: Stamp,
+        after: &[u8],
+        most: usize,
+    ) -> Result<(Numbers, Option<Bytes>), CoreFault>
+        ensures represents { (past : List Step) → Represents self.old past
+            → VacuumsPartCounted self.old self.new at after.now most past result }
+        ensures err { OnErr result (self.new ≡ self.old) }
+        ensures nodes { nodes self.new ≡ nodes self.old }
+    {
+        self.check_vacuum(at)?;
+        let part = self.tally_next(at, after, most)?;
+        Ok(self.carry_out_part_tally(at, part))
+    }
+
+    /// Returns the certificate of the stored rows at or below a stamp: the report of a vacuum to the stamp that would
+    /// drop none of them. It changes nothing. `rows_to` has the rows that it certifies.
+    ///
+    /// Refused, in this order: the stamp is above the floor; it is below the horizon; a row at or below it would be
+    /// dropped, as none is right after a vacuum to the stamp; out of memory, which may come before that is known.
+    pub fn certificate(&self, at: Stamp) -> Result<Report, CertificateFault>
+        ensures { (past : List Step) → Represents self.now past
+            → Certifies self.now at past result }
+    {
+        self.check_vacuum(at)?;
+        let report = self.plan(at)?.report()?;
+        if report.dropped > 0 {
+            return Err(CertificateFault::NotFewest);
+        }
+        Ok(report)
+    }
+
+    /// Vacuums to a stamp that `check_vacuum` does not refuse, with a tally in place of a plan.
+    fn vacuum_by_tally(&mut self, at: Stamp) -> Result<Numbers, NoMemory>
+        requires low { at ≤ floor_in self.old }
+        requires high { self.old.horizon ≤ at }
+        ensures ok { IfOk result
+            (λ numbers. (past : List Step) → Represents self.old past
+            → VacuumsCounted self.old self.new at past numbers) }
+        ensures err { OnErr result (self.new ≡ self.old) }
+        ensures nodes { nodes self.new ≡ nodes self.old }
+    {
+        let tally = self.tally(at)?;
+        Ok(self.carry_out_tally(at, &tally))
+    }
+}
