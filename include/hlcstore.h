@@ -353,8 +353,8 @@ uint32_t hlc_versions(hlc_store *store, const uint8_t *key, size_t key_len, uint
 /* Drops all rows at or below the floor except the fewest, and the cheapest, that give the same answers as all accepted
  * writes at each open snapshot and at the floor. kept, dropped: numbers of rows at or below the floor; bytes: the cost
  * of those that were kept, which is for each the length of its key and of its value, and 10. The last two are 2^64 - 1
- * where they would be greater. Refusal: 15. Reads each key once at each point. Until it returns it takes some more than
- * one byte of memory for each stored row. */
+ * where they would be greater. Refusal: 15. Reads each key once at each point. Until it returns it takes at
+ * most some three bytes of memory for each stored row. */
 uint32_t hlc_vacuum(hlc_store *store, uint64_t *floor, uint64_t *kept, uint64_t *bytes, uint64_t *dropped);
 
 /* Drops all rows at or below a stamp except the fewest, and the cheapest, that give the same answers as all accepted

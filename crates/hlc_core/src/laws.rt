@@ -1,11 +1,10 @@
 //! What is true of every legal past, and of cores that represent one.
 ghost use Rattle.std.specs.Prelude.{◌≡◌, ◌≢◌, ◌+◌, ◌<◌, ◌≤◌, ◌⊎◌, true, false, ℕ, List, ◌∷◌, None, All, length};
-ghost use Rattle.std.specs.Prelude.{not, ◌++◌, Some};
+ghost use Rattle.std.specs.Prelude.{◌++◌, Some};
 ghost use Rattle.hlc_node.specs.Rows.{IsRowSet, answer};
 ghost use Rattle.hlc_core.specs.Past.{Step, Took, Joined, IsLegal, numbered, retired, top, writes, head};
 ghost use Rattle.hlc_core.specs.Past.{floor, open_snapshots, item_refusal, join_refusal, join_at_refusal};
 ghost use Rattle.hlc_core.specs.Past.{greatest_accepted, stamp_of};
-ghost use Rattle.hlc_snapshot.specs.RegistryView.{stamps};
 ghost use Rattle.hlc_core.specs.StoreView.{StoreView, nodes, Represents};
 ghost use Rattle.hlc_core.specs.Checkpoint.{IsCheckpoint, IsCopyOf, IsFirstReason};
 ghost use Rattle.hlc_witness.specs.Certificate.{RowsAscend};
