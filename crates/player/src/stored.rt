@@ -96,8 +96,9 @@ impl Played for Stored {
 fn change(rt: &HostRuntime, core: &mut Core, name: &str, words: &mut LineWords<'_>) -> Option<()> {
     match name {
         "write" | "delete" | "report" | "retire" => {
-            accept_copy(rt, core, item_of(rt.alloc(), name, words))
-        },
+            let item = item_of(rt.alloc(), name, words)?;
+            answer(rt, "accepted", core.accept_copy(&item))
+        }
         "join" => answer(rt, "joined", core.join()),
         "join_at" => answer(rt, "joined", core.join_at(next_stamp(words))),
         "open" => answer(rt, "snapshot", core.open(next_stamp(words))),
@@ -106,25 +107,25 @@ fn change(rt: &HostRuntime, core: &mut Core, name: &str, words: &mut LineWords<'
         "close_all" => Some(core.close_all()),
         "vacuum" => say_made(rt, "vacuumed", core.vacuum().ok()),
         "vacuum_to" => answer(rt, "vacuumed", core.vacuum_to(next_stamp(words))),
+        "vacuum_counted" => say_made(rt, "vacuumed", core.vacuum_counted().ok()),
+        "vacuum_to_counted" => answer(rt, "vacuumed", core.vacuum_to_counted(next_stamp(words))),
+        "vacuum_part_counted" => {
+            let (at, mut room) = (next_stamp(words), [0; LONGEST]);
+            let (after, most) = (next_key(words, &mut room), next_number(words) as usize);
+            answer(rt, "vacuumed", core.vacuum_part_counted(at, after, most))
+        }
         "fill" => fill(rt, core, words),
         _ => ask(rt, core, name, words),
     }
 }
 
-/// Lets a store accept a copy of an item.
-fn accept_copy(rt: &HostRuntime, core: &mut Core, item: Option<Item>) -> Option<()> {
-    answer(rt, "accepted", core.accept_copy(&item?))
-}
-
-/// Asks whether a store accepts an item.
-fn check(rt: &HostRuntime, core: &Core, item: Option<Item>) -> Option<()> {
-    answer(rt, "accepted", core.check_item(&item?))
-}
-
 /// Asks a store what changes nothing.
 fn ask(rt: &HostRuntime, core: &Core, name: &str, words: &mut LineWords<'_>) -> Option<()> {
     match name {
-        "check" => check(rt, core, item_of(rt.alloc(), next_name(words), words)),
+        "check" => {
+            let item = item_of(rt.alloc(), next_name(words), words)?;
+            answer(rt, "accepted", core.check_item(&item))
+        }
         "read" => {
             let (id, mut room) = (next_number(words), [0; LONGEST]);
             say(rt, "value", &core.read(id, next_key(words, &mut room)))

@@ -118,8 +118,7 @@ fn vacuum(rt: &HostRuntime, table: &mut Table) -> Result<Report, AllocError> {
 fn plan_whole_part(alloc: Global, table: &Table) -> Result<PartPlan, AllocError>
     ensures { IfOk result (λ part. IsPartOf part table.now [] 9) }
 {
-    let points = [Stamp::from_bits(8)];
-    plan_part(alloc, table, &[], 9, &points)
+    plan_part(alloc, table, &[], 9, &[Stamp::from_bits(8)])
 }
 
 /// Vacuums these keys, also so that the next request would be refused once there is a plan.
