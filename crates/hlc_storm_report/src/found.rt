@@ -73,8 +73,8 @@ fn kept_by_vacuum(core: &mut Core) -> Result<u64, StormFault>
         × (kept ≡ report.kept)) }
     ensures memory { IfErr result (λ fault. fault ≡ StormFault.NoMemory) }
 {
-    match core.vacuum() {
-        Ok(report) => Ok(report.kept),
+    match core.vacuum_counted() {
+        Ok(numbers) => Ok(numbers.kept),
         Err(_) => Err(StormFault::NoMemory),
     }
 }
