@@ -1,12 +1,12 @@
 /* One of the programs of bindings/languages/check: `write PATH STEP NAME OLD` appends a batch at the reading 10 * STEP,
- * and `read PATH` prints what the file had after each of four such batches. */
+ * and `read PATH` prints what the file had after each of five such batches. */
 #include <inttypes.h>
 #include <stdio.h>
 #include <stdlib.h>
 #include <string.h>
 #include "hlcstore_file.h"
 
-enum { STEPS = 4, LAST_COUNTER = 3, LONG_STEP = 10000, ROOM = 65536 };
+enum { STEPS = 5, LAST_COUNTER = 3, LONG_STEP = 10000, ROOM = 65536 };
 
 static const uint8_t LONG_KEY[] = { 0, 255 };
 static uint8_t buffer[ROOM];

@@ -6,7 +6,7 @@
 
 namespace {
 
-constexpr std::uint64_t steps = 4, last_counter = 3, long_step = 10000;
+constexpr std::uint64_t steps = 5, last_counter = 3, long_step = 10000;
 constexpr std::string_view long_key("\0\xff", 2);
 
 void write_step(hlcstore::file& file, const std::string& step, const std::string& name, const std::string& old) {

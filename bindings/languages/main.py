@@ -5,7 +5,7 @@ import sys
 from hlcstore import AboveFloor, split, stamp
 from hlcstore.file import File
 
-STEPS, LAST_COUNTER, LONG_STEP = 4, 3, 10000
+STEPS, LAST_COUNTER, LONG_STEP = 5, 3, 10000
 LONG_KEY = b"\0\xff"
 
 

@@ -3,7 +3,7 @@
 use hlcstore::Stamp;
 use hlcstore_file::{Batch, File, Promise, Result};
 
-const STEPS: u64 = 4;
+const STEPS: u64 = 5;
 const LAST_COUNTER: u16 = 3;
 const LONG_STEP: usize = 10_000;
 const LONG_KEY: &[u8] = &[0, 255];
