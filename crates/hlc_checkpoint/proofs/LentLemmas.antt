@@ -2,13 +2,13 @@
 use Rattle.std.proofs.Common.{◌≡◌, ℕ, zero, suc, ◌<◌, List, [], ◌∷◌, ◌++◌, length, nat_cmp, Less, Some, slice_get}
 use Rattle.std.proofs.Common.{Option, refl, sym, ap, ap₂, ◌∙◌, subst, append_assoc, arith, IsPermutation}
 use Rattle.std.proofs.Common.{inl, inr, Contains}
-use Rattle.std.specs.Prelude.{All}
+use Rattle.std.specs.Prelude.{All, Bool}
 use Rattle.std.specs.List.{AllByRecursion}
 use Rattle.std.specs.Ordering.{ordering_then}
 use Rattle.std.specs.Cmp.Lexicographic.{slice_cmp}
 use Rattle.std.specs.List.Sorted.{IsStrictlySortedBy}
 use Rattle.std.proofs.lemmas.Option.{same_Some, slice_get_within}
-use Rattle.std.proofs.lemmas.List.Elements.{All-nil, All-cons, All-head, All-tail, Contains-append_left}
+use Rattle.std.proofs.lemmas.List.Elements.{All-nil, All-cons, All-head, All-tail, All-filter, Contains-append_left}
 use Rattle.std.proofs.lemmas.List.Sorted.{IsPermutation-refl, IsPermutation-sym, IsPermutation-append}
 use Rattle.std.proofs.lemmas.List.Sorted.{Contains-permutation}
 use Rattle.hlc_values.proofs.MemberLemmas.{Contains-none, Contains-first, Contains-rest, Contains-cons_cases}
@@ -17,6 +17,8 @@ use Rattle.hlc_node.specs.Rows.{IsRowSet}
 use Rattle.hlc_column.specs.Cells.{Cell}
 use Rattle.hlc_column.specs.Rows.{KeyCells, KeysAscend, rows_of, rows_in, rows_in_one, keys_in}
 use Rattle.hlc_column.proofs.RowLemmas.{row_key, key_among}
+use Rattle.hlc_column.proofs.FlagLemmas.{filter-IsRowSet}
+use Rattle.hlc_columns.specs.Answers.{AreNext, in_part, part_end}
 use Rattle.hlc_columns.specs.Table.{columns_in}
 use Rattle.hlc_witness.specs.Certificate.{row_cmp, RowsAscend}
 use Rattle.hlc_witness.specs.Cost.{IsInLimits, AreInLimits}
@@ -68,7 +70,7 @@ all_append P [] ys front back = back
 all_append P (x ∷ xs) ys front back = (front.0, all_append P xs ys front.1 back)
 
 -- each later key is above the first
-all_less : (k : List ℕ) (keys : List (List ℕ)) (other : List ℕ)
+pub all_less : (k : List ℕ) (keys : List (List ℕ)) (other : List ℕ)
     → AllByRecursion (λ key. slice_cmp nat_cmp k key ≡ Less) keys → Contains keys other
     → slice_cmp nat_cmp k other ≡ Less
 all_less k [] other each m = absurd (Contains-none other m)
@@ -78,7 +80,7 @@ all_less k (key ∷ keys) other each m = elim (Contains-cons_cases key other key
 ]
 
 -- rows that ascend, and more above them
-ascend-append : (xs ys : List Row) → RowsAscend xs → RowsAscend ys
+pub ascend-append : (xs ys : List Row) → RowsAscend xs → RowsAscend ys
     → ((x y : Row) → Contains xs x → Contains ys y → row_cmp x y ≡ Less) → RowsAscend (xs ++ ys)
 unfolding IsStrictlySortedBy
 ascend-append [] ys up more above = more
@@ -88,7 +90,7 @@ ascend-append (x ∷ xs) ys up more above = (
   ascend-append xs ys up.1 more (λ a b m n. above a b (Contains-rest x a xs m) n),
 )
 
-key-less : (x y : Row) → slice_cmp nat_cmp x.key y.key ≡ Less → row_cmp x y ≡ Less
+pub key-less : (x y : Row) → slice_cmp nat_cmp x.key y.key ≡ Less → row_cmp x y ≡ Less
 key-less x y less =
     ap (λ o. ordering_then o (ordering_then (nat_cmp x.stamp y.stamp) (nat_cmp x.node y.node))) less
 
@@ -152,3 +154,12 @@ leaf-writable (first ∷ leaves) zero leaf at each =
     subst (All IsWritable) (same_Some first leaf at) (all_left IsWritable first (columns_in leaves) each)
 leaf-writable (first ∷ leaves) (suc i) leaf at each =
     leaf-writable leaves i leaf at (all_right IsWritable first (columns_in leaves) each)
+
+-- the columns of the next keys of a table are such columns
+pub next-writable : (rows : List Row) (key : List ℕ) (most : ℕ) (columns : List KeyCells)
+    → IsRowSet rows → AreInLimits rows → AreNext rows key most columns
+    → All IsWritable columns
+next-writable rows key most columns apart low next =
+    let is_in : Row → Bool = λ row. in_part key (part_end key most columns) row.key in
+    all-writable columns (subst IsRowSet next.exact (filter-IsRowSet is_in rows apart))
+    (subst AreInLimits next.exact (All-filter is_in IsInLimits rows low))

@@ -2,6 +2,7 @@
 ghost use Rattle.std.specs.Prelude.{◌≡◌, ◌<◌, IfOk, All, Some, length, slice_get};
 ghost use Rattle.hlc_snapshot.specs.RegistryView.{IsRegister};
 ghost use Rattle.hlc_column.specs.Rows.{rows_in, KeysAscend};
+ghost use Rattle.hlc_columns.specs.Answers.{AreNext};
 ghost use Rattle.hlc_columns.specs.Table.{columns_in};
 ghost use Rattle.hlc_witness.specs.Cost.{AreInLimits};
 ghost use Rattle.hlc_checkpoint.specs.StoreView.{greatest_head, with_rows_left};
@@ -9,7 +10,7 @@ ghost use Rattle.hlc_checkpoint.specs.Lent.{IsWritable};
 
 use crate::checkpoint::Checkpoint;
 use hlc_clock::Stamp;
-use hlc_columns::{Columns, Table};
+use hlc_columns::{Columns, Keyed, Table};
 use hlc_intake::Intake;
 use hlc_node::Row;
 use hlc_snapshot::{Registry, Snapshot};
@@ -124,6 +125,17 @@ impl<'a> StoreRef<'a> {
     {
         let list = self.table.leaves()?;
         Ok(Leaves { list })
+    }
+
+    /// Returns the columns of the first keys above a key, at most so many, in byte order. It looks up the key, and
+    /// needs memory for each column, and none for a row.
+    pub fn columns_after(&self, key: &[u8], most: usize) -> Result<Vec<Keyed<'a>>, NoMemory>
+        requires { AreInLimits self.now.rows }
+        ensures next { IfOk result (λ columns. AreNext self.now.rows key.now most columns.items) }
+        ensures writable { IfOk result (λ columns. All IsWritable columns.items) }
+    {
+        let columns = self.table.columns_after(key, most)?;
+        Ok(columns)
     }
 
     /// Makes a checkpoint of copies of the links and of the open snapshots, and of these rows.

@@ -1,5 +1,5 @@
 //! A frame, written in pieces.
-ghost use Rattle.std.specs.Prelude.{◌≡◌, ◌++◌, List, ℕ, [], IfOk, OnOk, OnErr};
+ghost use Rattle.std.specs.Prelude.{◌≡◌, ◌+◌, ◌++◌, List, ℕ, [], IfOk, OnOk, OnErr, length};
 ghost use Rattle.sha2.specs.Sha256.{sha256};
 ghost use Rattle.hlc_frame.specs.Frame.{front_bytes};
 ghost use Rattle.hlc_frame.specs.Writing.{HasPut};
@@ -46,8 +46,18 @@ impl FrameWriter {
             → OnOk result (out.new.items ≡ out.old.items ++ sha256 (front ++ body)) }
         ensures err { OnErr result (out.new.items ≡ out.old.items) }
     {
-        let FrameWriter { hasher } = self;
-        let digest = hasher.finalize();
+        self.append_digest(out)
+    }
+
+    /// Appends the digest, which ends the frame, and leaves the writer as it is: if memory runs out, `out` is
+    /// unchanged, and the call may be repeated.
+    pub fn append_digest(&self, out: &mut Vec<u8>) -> Result<(), AllocError>
+        ensures ok { (front body : List ℕ) → HasPut self.now front body
+            → OnOk result (out.new.items ≡ out.old.items ++ sha256 (front ++ body)) }
+        ensures long { OnOk result (length out.new.items ≡ length out.old.items + 32) }
+        ensures err { OnErr result (out.new.items ≡ out.old.items) }
+    {
+        let digest = self.hasher.clone()?.finalize();
         out.extend_from_slice(&digest)?;
         Ok(())
     }
