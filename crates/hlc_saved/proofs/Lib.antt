@@ -4,3 +4,5 @@ mod Blocks
 pub mod SaveLemmas
 mod Pieces
 mod StorePieces
+mod Makes
+mod Savers

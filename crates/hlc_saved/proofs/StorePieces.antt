@@ -17,7 +17,7 @@ use Rattle.hlc_witness.specs.Certificate.{RowsAscend}
 use Rattle.hlc_core.specs.Past.{Step}
 use Rattle.hlc_core.specs.StoreView.{StoreView, Represents, with_rows_left}
 use Rattle.hlc_core.proofs.CheckpointLemmas.{copy-represents}
-use Rattle.hlc_checkpoint.specs.Checkpoint.{IsCheckpoint, IsCheckpointOf}
+use Rattle.hlc_checkpoint.specs.Checkpoint.{IsCheckpoint, IsCheckpointOf, IsStore}
 use Rattle.hlc_checkpoint.specs.Lent.{IsWritable, AreListOf}
 use Rattle.hlc_checkpoint.proofs.CheckpointLemmas.{store-checkpoint}
 use Rattle.hlc_checkpoint.proofs.LentLemmas.{list-append, list-same, list-ascend}
@@ -145,21 +145,14 @@ rows_take rows others moved =
     ∙ sym (sum_by-IsPermutation (λ (row : Row). length (row_bytes row)) rows others moved)
     ∙ sym (length-flat_map row_bytes others)
 
-pub saved_whole : (writer : StoreWriter) (word : ℕ) (kept : StoreView) (bytes : List ℕ)
-    → (has : HasSaved writer word kept bytes) → leaves_left writer ≡ 0
-    → AreOfStore (bytes ++ end_bytes word kept has.rows) word kept
-saved_whole writer word kept bytes has none =
-    let rows : List Row = has.rows in
+pub sorted_whole : (word : ℕ) (kept : StoreView) (rows : List Row) → IsStore kept → SavedFits word kept
+    → IsPermutation kept.rows rows → RowsAscend rows
+    → AreOfStore ((begin_bytes word kept ++ flat_map row_bytes rows) ++ end_bytes word kept rows) word kept
+sorted_whole word kept rows store fits moved ascend =
     let made : StoreView = with_rows_left kept rows kept.horizon in
-    let listed : AreListOf (columns_in writer.leaves) rows =
-    subst (λ (leaves : List (List KeyCells)). AreListOf (columns_in leaves) rows)
-    (take_all writer.next writer.leaves (omega (arith, none))) has.listed in
-    let moved : IsPermutation kept.rows rows =
-    subst (λ (xs : List Row). IsPermutation xs rows) has.leaves.rows
-    (list-same (columns_in writer.leaves) rows listed) in
     let is : IsCheckpointOf kept made = record {
       copy = record { same = refl; rows = moved };
-      ascend = list-ascend (columns_in writer.leaves) rows has.leaves.ascend listed;
+      ascend = ascend;
     } in
     let count : length kept.rows ≡ length rows = sym (length_permutation kept.rows rows moved) in
     let same : preamble_of kept ≡ preamble_of made = ap (λ (n : ℕ). record {
@@ -185,28 +178,42 @@ saved_whole writer word kept bytes has none =
     ap₂ (λ (f : List ℕ) (p : Preamble). f ++ preamble_bytes p) front same in
     let end : end_bytes word kept rows ≡ end_bytes word made rows =
     ap₂ (λ (f : List ℕ) (p : Preamble). sha256 (f ++ (preamble_bytes p ++ flat_map row_bytes rows))) front same in
-    let spelled : bytes ++ end_bytes word kept rows ≡ saved_bytes word made =
-    ap (λ (l : List ℕ). l ++ end_bytes word kept rows) has.spelled
-    ∙ ap₂ (λ (l m : List ℕ). (l ++ flat_map row_bytes rows) ++ m) begin end ∙ pieces word made in
-    let fits : SavedFits word made = record {
+    let spelled : (begin_bytes word kept ++ flat_map row_bytes rows) ++ end_bytes word kept rows ≡ saved_bytes word made =
+    ap₂ (λ (l m : List ℕ). (l ++ flat_map row_bytes rows) ++ m) begin end ∙ pieces word made in
+    let fit : SavedFits word made = record {
       frame = record {
-        word_fits = has.leaves.fits.frame.word_fits;
-        length_fits = subst (λ (n : ℕ). n < 18446744073709551616) long has.leaves.fits.frame.length_fits;
+        word_fits = fits.frame.word_fits;
+        length_fits = subst (λ (n : ℕ). n < 18446744073709551616) long fits.frame.length_fits;
       };
       checkpoint = record {
-        start = has.leaves.fits.checkpoint.start;
-        links = has.leaves.fits.checkpoint.links;
-        top = has.leaves.fits.checkpoint.top;
-        snapshots = has.leaves.fits.checkpoint.snapshots;
-        opened = has.leaves.fits.checkpoint.opened;
-        horizon = has.leaves.fits.checkpoint.horizon;
+        start = fits.checkpoint.start;
+        links = fits.checkpoint.links;
+        top = fits.checkpoint.top;
+        snapshots = fits.checkpoint.snapshots;
+        opened = fits.checkpoint.opened;
+        horizon = fits.checkpoint.horizon;
         rows = (
-          subst (λ (n : ℕ). n < 18446744073709551616) count has.leaves.fits.checkpoint.rows.0,
-          All-permutation RowFits kept.rows rows moved has.leaves.fits.checkpoint.rows.1,
+          subst (λ (n : ℕ). n < 18446744073709551616) count fits.checkpoint.rows.0,
+          All-permutation RowFits kept.rows rows moved fits.checkpoint.rows.1,
         );
       };
     } in
-    (made, record { spelled = spelled; fits = fits; sound = store-checkpoint kept made has.leaves.store is }, is)
+    (made, record { spelled = spelled; fits = fit; sound = store-checkpoint kept made store is }, is)
+
+pub saved_whole : (writer : StoreWriter) (word : ℕ) (kept : StoreView) (bytes : List ℕ)
+    → (has : HasSaved writer word kept bytes) → leaves_left writer ≡ 0
+    → AreOfStore (bytes ++ end_bytes word kept has.rows) word kept
+saved_whole writer word kept bytes has none =
+    let rows : List Row = has.rows in
+    let listed : AreListOf (columns_in writer.leaves) rows =
+    subst (λ (leaves : List (List KeyCells)). AreListOf (columns_in leaves) rows)
+    (take_all writer.next writer.leaves (omega (arith, none))) has.listed in
+    let moved : IsPermutation kept.rows rows =
+    subst (λ (xs : List Row). IsPermutation xs rows) has.leaves.rows
+    (list-same (columns_in writer.leaves) rows listed) in
+    subst (λ (l : List ℕ). AreOfStore (l ++ end_bytes word kept rows) word kept) (sym has.spelled)
+    (sorted_whole word kept rows has.leaves.store has.leaves.fits moved
+    (list-ascend (columns_in writer.leaves) rows has.leaves.ascend listed))
 
 -- and they represent what the store does
 pub bytes_represent : (bytes : List ℕ) (word : ℕ) (kept : StoreView) (past : List Step) → AreOfStore bytes word kept

@@ -4,8 +4,14 @@ use Rattle.hlc_checkpoint.specs.RestoreFaults as reasons
 use Rattle.hlc_wire.specs.Faults.{fault_text}
 use Rattle.hlc_saved.specs.declared.fault.ResumeError.{ResumeError}
 use Rattle.hlc_saved.specs.declared.fault.ResumeError.TheVariants.{NoMemory, Bytes, Parts}
+use Rattle.hlc_saved.specs.declared.fault.SaverError.{SaverError}
+use Rattle.hlc_saved.specs.declared.fault.SaverError.TheVariants.{NoMemory as ShortOfMemory, Changed}
 
 abbrev pub resume_text : ResumeError → List ℕ
 resume_text NoMemory = codes "out of memory"
 resume_text (Bytes fault) = fault_text fault
 resume_text (Parts fault) = reasons.fault_text fault
+
+abbrev pub saver_text : SaverError → List ℕ
+saver_text ShortOfMemory = codes "out of memory"
+saver_text Changed = codes "the store changed while it was saved"

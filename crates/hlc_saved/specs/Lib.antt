@@ -1,4 +1,5 @@
 pub mod Saved
 pub mod Writing
+pub mod Saver
 pub mod Blocks
 pub mod Faults

@@ -2,10 +2,16 @@
 ghost use Rattle.std.proofs.Common.{rules};
 ghost use Rattle.std.proofs.lemmas.Grind.{common_steps};
 
-use crate::fault::ResumeError;
+use crate::fault::{ResumeError, SaverError};
 use hlc_values::Exact;
 
 impl Exact for ResumeError {
+    ghost equal = { Prim.search (rules, common_steps) };
+
+    ghost copied = { Prim.search rules };
+}
+
+impl Exact for SaverError {
     ghost equal = { Prim.search (rules, common_steps) };
 
     ghost copied = { Prim.search rules };

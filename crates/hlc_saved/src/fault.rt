@@ -1,6 +1,6 @@
-//! Why no store is made from some bytes.
+//! Why no store is made from some bytes, and why no bytes of a store are read.
 ghost use Rattle.std.specs.Prelude.{◌≡◌, Some};
-ghost use Rattle.hlc_saved.specs.Faults.{resume_text};
+ghost use Rattle.hlc_saved.specs.Faults.{resume_text, saver_text};
 
 use hlc_core::RestoreFault;
 use hlc_values::NoMemory;
@@ -42,3 +42,25 @@ impl From<NoMemory> for ResumeError {
         ResumeError::NoMemory
     }
 }
+
+/// Why no bytes of a store are read.
+#[derive(Clone, Copy, Debug, PartialEq, Eq)]
+pub enum SaverError {
+    /// Memory ran out.
+    NoMemory,
+    /// The store is not as it was when the saving began.
+    Changed,
+}
+
+impl fmt::Display for SaverError {
+    ghost output = { λ error. Some (saver_text error) };
+
+    fn fmt<W: fmt::Write>(&self, f: &mut fmt::Formatter<W>) -> fmt::Result {
+        f.write_str(match self {
+            SaverError::NoMemory => "out of memory",
+            SaverError::Changed => "the store changed while it was saved",
+        })
+    }
+}
+
+impl Error for SaverError {}

@@ -29,6 +29,20 @@ pub fn append_leaf<'a>(
     Ok(())
 }
 
+/// Appends the rows of some columns.
+pub fn append_columns(out: &mut Vec<u8>, columns: &[Keyed<'_>]) -> Result<(), AllocError>
+    requires { All IsWritable columns.now }
+    ensures ok { OnOk result (HasColumns columns.now out.old.items out.new.items) }
+    ensures err { OnErr result (HasMore out.old.items out.new.items) }
+{
+    let mut rows = Vec::new(*out.allocator());
+    let mut piece = Vec::new(*out.allocator());
+    for one in columns {
+        append_column(out, &mut rows, &mut piece, one)?;
+    }
+    Ok(())
+}
+
 /// Appends the rows of a column.
 fn append_column<'a>(
     out: &mut Vec<u8>,

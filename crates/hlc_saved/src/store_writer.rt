@@ -1,6 +1,7 @@
 //! A checkpoint that is written from the rows of a store, which are not copied.
-ghost use Rattle.std.specs.Prelude.{◌≡◌, ◌<◌, ◌-◌, ◌↔◌, ◌++◌, ℕ, List, IsTrue, IfOk, OnOk, OnErr};
+ghost use Rattle.std.specs.Prelude.{◌≡◌, ◌<◌, ◌-◌, ◌↔◌, ◌++◌, ℕ, List, IsTrue, IfOk, OnOk, OnErr, length};
 ghost use Rattle.hlc_core.specs.StoreView.{StoreView};
+ghost use Rattle.hlc_body.specs.Spelling.{checkpoint_bytes};
 ghost use Rattle.hlc_saved.specs.Saved.{AreOfStore};
 ghost use Rattle.hlc_saved.specs.Writing.{HasSaved, begin_bytes, leaves_left};
 
@@ -38,6 +39,7 @@ impl<'a> StoreWriter<'a> {
         ensures written { IfOk result
             (λ writer. HasSaved writer word core.now (begin_bytes word core.now)) }
         ensures ok { OnOk result (out.new.items ≡ out.old.items ++ begin_bytes word core.now) }
+        ensures size { IfOk result (λ writer. writer.size ≡ length (checkpoint_bytes core.now)) }
         ensures unchanged { OnErr result (out.new.items ≡ out.old.items) }
     {
         let store = core.lent();
@@ -105,14 +107,23 @@ impl<'a> StoreWriter<'a> {
             × AreOfStore (bytes ++ piece) word kept) }
         ensures unchanged { OnErr result (out.new.items ≡ out.old.items) }
     {
+        let (frame, _) = self.into_frame();
+        Ok(frame.end(out)?)
+    }
+
+    /// Returns the frame, and the number of bytes of its body.
+    pub(crate) fn into_frame(self) -> (FrameWriter, u64)
+        ensures frame { result.0 ≡ self.entry.frame }
+        ensures size { result.1 ≡ self.entry.size }
+    {
         let StoreWriter {
             frame,
-            size: _,
+            size,
             leaves: _,
             next: _,
             rows: _,
             piece: _,
         } = self;
-        Ok(frame.end(out)?)
+        (frame, size)
     }
 }

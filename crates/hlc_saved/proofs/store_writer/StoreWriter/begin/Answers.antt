@@ -44,3 +44,6 @@ returns-clause-ok c =
     first_piece (seen c.of_store-preamble.result) c.args.core.now c.in_ok-size.size c.args.word c.args.out.now.items
     c.begin_frame.new.out.items (c.of_store-preamble.ensures ∙ ap preamble_of c.lent-store.ensures.same)
     (is_sized at) c.in_ok-frame.ensures.ok
+
+pub returns-clause-size : goal.returns-clause-size
+returns-clause-size c = is_sized (goal.at.returns-clause-size c).In_ok-size

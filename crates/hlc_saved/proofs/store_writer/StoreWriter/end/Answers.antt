@@ -1,4 +1,7 @@
 -- All pieces together are those of a checkpoint of the store.
+use Rattle.std.proofs.Common.{subst, sym}
+use Rattle.hlc_frame.specs.Writing.{HasPut}
+use Rattle.hlc_frame.specs.declared.writer.FrameWriter.{FrameWriter}
 use Rattle.hlc_saved.specs.Writing.{front_of, body_to, end_bytes}
 use Rattle.hlc_saved.proofs.StorePieces.{saved_whole}
 use Rattle.hlc_saved.proofs.store_writer.StoreWriter.end.Goals as goal
@@ -6,6 +9,8 @@ use Rattle.hlc_saved.proofs.store_writer.StoreWriter.end.Goals as goal
 pub returns-clause-whole : goal.returns-clause-whole
 returns-clause-whole c = λ word kept bytes has none. (
   end_bytes word kept has.rows,
-  c.in_ok-end.ensures.ok (front_of word kept) (body_to kept has.rows) has.put,
+  c.in_ok-end.ensures.ok (front_of word kept) (body_to kept has.rows)
+      (subst (λ (frame : FrameWriter). HasPut frame (front_of word kept) (body_to kept has.rows))
+      (sym c.into_frame.ensures.frame) has.put),
   saved_whole c.args.self word kept bytes has none,
 )
