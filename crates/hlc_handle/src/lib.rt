@@ -1,18 +1,20 @@
 //! A store that C owns through a handle: a pointer and a flag. Zero bytes are a closed handle. A copy of the handle
-//! reads the store, beside other copies. A restore that is under way has such a handle too, and so have the bytes that
-//! a call made.
+//! reads the store, beside other copies. A restore and a saving that are under way have such a handle too, and so have
+//! the bytes that a call made.
 #![tactic(auto)]
 
 mod loose;
 mod output;
 mod reader;
 mod restoring;
+mod saving;
 mod sends;
 mod store;
 
 pub use output::{Output, OutputRoom};
 pub use reader::{LentCore, LentRoom, Reader};
 pub use restoring::{RestoreRoom, Restoring};
+pub use saving::{SaveRoom, Saving};
 pub use sends::handles_may_change_threads;
 pub use store::{Room, Store, opened};
 
