@@ -1,15 +1,15 @@
 -- The rows of the next keys follow those of the keys so far.
-use Rattle.std.proofs.Common.{◌≡◌, ℕ, zero, suc, ◌+◌, ◌-◌, ◌<◌, ◌≤◌, List, [], ◌∷◌, ◌++◌, length, drop, cond, Bool}
+use Rattle.std.proofs.Common.{◌≡◌, ℕ, zero, suc, ◌-◌, ◌<◌, List, [], ◌∷◌, ◌++◌, length, cond, Bool}
 use Rattle.std.proofs.Common.{true, false, refl, sym, ap, subst, ◌∙◌, inl, inr, arith, append_assoc, Contains}
 use Rattle.std.proofs.Common.{IsPermutation, nat_cmp, Ordering, Less, Equal, Greater, filter, ◌&&◌, get_or}
-use Rattle.std.specs.Prelude.{All, ◌⊎◌, not, nat_lt, Some, None, Option}
+use Rattle.std.specs.Prelude.{All, ◌⊎◌, not, nat_lt, Some, None}
 use Rattle.std.specs.Ordering.{is_le, is_gt, ordering_reverse}
 use Rattle.std.specs.Cmp.Lexicographic.{slice_cmp}
 use Rattle.std.specs.BTreeMap.Comparable.{le_lt_trans}
 use Rattle.std.specs.List.Sorted.{IsStrictlySortedBy}
 use Rattle.std.proofs.lemmas.Cmp.{nat_list_cmp_total}
 use Rattle.std.specs.List.{flat_map}
-use Rattle.std.proofs.lemmas.List.{append-nil, get_or-map, length-map}
+use Rattle.std.proofs.lemmas.List.{append-nil, length-map}
 use Rattle.std.proofs.lemmas.List.Elements.{All-head, All-tail}
 use Rattle.std.proofs.lemmas.List.Sorted.{IsPermutation-refl, IsPermutation-sym, IsPermutation-trans}
 use Rattle.std.proofs.lemmas.List.Sorted.{IsPermutation-cons, IsPermutation-append, IsPermutation-append_left}
@@ -21,8 +21,7 @@ use Rattle.hlc_node.specs.declared.row.Row.{Row}
 use Rattle.hlc_column.specs.Rows.{KeyCells, KeysAscend, keys_in, rows_in, rows_in_one, row_of}
 use Rattle.hlc_column.proofs.RowLemmas.{key_among}
 use Rattle.hlc_columns.specs.Answers.{AreNext, in_part, is_upto, part_end, last_key}
-use Rattle.hlc_vacuum.proofs.PartRows.{end-last}
-use Rattle.hlc_witness.specs.Certificate.{row_cmp, RowsAscend}
+use Rattle.hlc_witness.specs.Certificate.{RowsAscend}
 use Rattle.hlc_checkpoint.specs.Lent.{AreListOf}
 use Rattle.hlc_checkpoint.proofs.LentLemmas.{list-same, list-ascend, ascend-append, key-less, all_less}
 use Rattle.hlc_body.specs.Spelling.{row_bytes}
@@ -250,11 +249,16 @@ some_bytes (one ∷ columns) new some each ([], others, is, own, so) =
 some_bytes (one ∷ columns) new some each (row ∷ first, others, is, own, so) =
     subst (λ (rows : List Row). 0 < length (flat_map row_bytes rows)) (sym is) (omega arith)
 
+last_nth : (key : List ℕ) (list : List KeyCells) (i : ℕ) (d : KeyCells) → length list ≡ suc i
+    → (get_or list i d).key ≡ last_key key list
+last_nth key [] i d long = absurd (omega (arith, long))
+last_nth key (one ∷ []) zero d long = refl
+last_nth key (one ∷ []) (suc i) d long = absurd (omega (arith, long))
+last_nth key (one ∷ two ∷ list) zero d long = absurd (omega (arith, long))
+last_nth key (one ∷ two ∷ list) (suc i) d long = last_nth one.key (two ∷ list) i d (omega (arith, long))
+
 -- the last of some columns has the last key
-pub last_at : (key : List ℕ) (columns : List KeyCells) (one : KeyCells) → 0 < length columns
-    → one ≡ get_or columns (length columns - 1) one → one.key ≡ last_key key columns
+pub last_at : (key : List ℕ) (list : List KeyCells) (one : KeyCells) → 0 < length list
+    → one ≡ get_or list (length list - 1) one → one.key ≡ last_key key list
 last_at key list one some at =
-    let long = length-map list (λ (one : KeyCells). one.key) in
-    ap (λ (one : KeyCells). one.key) at
-    ∙ sym (get_or-map (λ (one : KeyCells). one.key) list (length list - 1) one one.key (omega (arith, some)))
-    ∙ end-last key list (length list - 1) one.key (omega (arith, some, long))
+    ap (λ (one : KeyCells). one.key) at ∙ last_nth key list (length list - 1) one (omega (arith, some))

@@ -1,8 +1,8 @@
 -- What a saver has made, step by step.
 use Rattle.std.proofs.Common.{◌≡◌, ℕ, zero, suc, ◌+◌, ◌-◌, ◌<◌, ◌≤◌, List, [], ◌∷◌, ◌++◌, length, take, drop, cond}
 use Rattle.std.proofs.Common.{Bool, true, false, refl, sym, ap, ap₂, subst, ◌∙◌, inl, inr, arith, append_assoc}
-use Rattle.std.proofs.Common.{zero-add, add-zero, length-append, IsPermutation, nat_cmp, filter, min, Option, None, Some}
-use Rattle.std.specs.Prelude.{All, ◌⊎◌, nat_lt, OnOk, Result, Ok, Err, is_err}
+use Rattle.std.proofs.Common.{zero-add, length-append, IsPermutation, nat_cmp, filter, min, Option, None}
+use Rattle.std.specs.Prelude.{◌⊎◌, nat_lt, OnOk, Result, Ok, Err, is_err}
 use Rattle.std.specs.List.{flat_map}
 use Rattle.std.specs.List.Sorted.{IsStrictlySortedBy}
 use Rattle.std.specs.Ordering.{is_le}
@@ -20,19 +20,17 @@ use Rattle.hlc_node.specs.Items.{body_refusal}
 use Rattle.hlc_node.specs.declared.item.Body.TheVariants.{Write as a_write}
 use Rattle.hlc_column.specs.Rows.{KeyCells}
 use Rattle.hlc_columns.specs.Answers.{AreNext, last_key}
-use Rattle.hlc_witness.specs.Certificate.{RowsAscend}
 use Rattle.hlc_witness.specs.Cost.{IsInLimits, AreInLimits}
 use Rattle.hlc_core.specs.StoreView.{StoreView}
-use Rattle.hlc_checkpoint.specs.Checkpoint.{IsStore}
 use Rattle.hlc_frame.specs.Frame.{front_bytes}
 use Rattle.hlc_frame.specs.Writing.{HasPut}
 use Rattle.hlc_frame.proofs.FrontLemmas.{length-front}
-use Rattle.hlc_body.specs.Spelling.{row_bytes, preamble_bytes, preamble_of, checkpoint_bytes, saved_bytes, SavedFits}
+use Rattle.hlc_body.specs.Spelling.{row_bytes, preamble_bytes, preamble_of, checkpoint_bytes, saved_bytes}
 use Rattle.hlc_saved.specs.declared.savings.Saver.{Saver}
 use Rattle.hlc_saved.specs.declared.store_writer.StoreWriter.{StoreWriter}
 use Rattle.hlc_saved.specs.Saved.{AreOfStore}
 use Rattle.hlc_saved.specs.Saver.{HasMade, mark_of, rows_upto, bytes_upto}
-use Rattle.hlc_saved.specs.Writing.{front_of, body_to, begin_bytes, end_bytes, HasColumns, HasSaved}
+use Rattle.hlc_saved.specs.Writing.{front_of, body_to, begin_bytes, HasColumns, HasSaved}
 use Rattle.hlc_saved.proofs.Makes.{rows_follow, rows_all}
 use Rattle.hlc_saved.proofs.StorePieces.{sorted_whole}
 

@@ -1,5 +1,5 @@
 -- The rows of the leaves of a store, one leaf after another, are those of a checkpoint of it.
-use Rattle.std.proofs.Common.{◌≡◌, ℕ, ◌+◌, ◌-◌, ◌<◌, List, [], ◌∷◌, ◌++◌, length, take, drop, Some, slice_get}
+use Rattle.std.proofs.Common.{◌≡◌, ℕ, ◌+◌, ◌<◌, List, [], ◌∷◌, ◌++◌, length, take, drop, Some, slice_get}
 use Rattle.std.proofs.Common.{refl, sym, ap, ap₂, subst, ◌∙◌, arith, append_assoc, length-append, IsPermutation}
 use Rattle.std.specs.Prelude.{All, OnErr, Result, Ok, Err}
 use Rattle.std.specs.List.{flat_map}
@@ -17,7 +17,7 @@ use Rattle.hlc_witness.specs.Certificate.{RowsAscend}
 use Rattle.hlc_core.specs.Past.{Step}
 use Rattle.hlc_core.specs.StoreView.{StoreView, Represents, with_rows_left}
 use Rattle.hlc_core.proofs.CheckpointLemmas.{copy-represents}
-use Rattle.hlc_checkpoint.specs.Checkpoint.{IsCheckpoint, IsCheckpointOf, IsStore}
+use Rattle.hlc_checkpoint.specs.Checkpoint.{IsCheckpointOf, IsStore}
 use Rattle.hlc_checkpoint.specs.Lent.{IsWritable, AreListOf}
 use Rattle.hlc_checkpoint.proofs.CheckpointLemmas.{store-checkpoint}
 use Rattle.hlc_checkpoint.proofs.LentLemmas.{list-append, list-same, list-ascend}
@@ -27,7 +27,7 @@ use Rattle.hlc_frame.specs.declared.writer.FrameWriter.{FrameWriter}
 use Rattle.hlc_saved.specs.declared.store_writer.StoreWriter.{StoreWriter}
 use Rattle.hlc_body.specs.Spelling.{row_bytes, Preamble, preamble_bytes, preamble_of, checkpoint_bytes, saved_bytes}
 use Rattle.hlc_body.specs.Spelling.{RowFits, SavedFits}
-use Rattle.hlc_saved.specs.Saved.{AreOf, AreOfStore, BytesRepresent}
+use Rattle.hlc_saved.specs.Saved.{AreOfStore, BytesRepresent}
 use Rattle.hlc_saved.specs.Writing.{front_of, body_to, begin_bytes, end_bytes, HasColumns, AreLeavesOf, HasSaved}
 use Rattle.hlc_saved.specs.Writing.{leaves_left}
 use Rattle.hlc_saved.proofs.Pieces.{pieces}

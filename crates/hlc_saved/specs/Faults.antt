@@ -1,4 +1,4 @@
--- The text of each fault.
+-- The text of each fault, and its number.
 use Rattle.std.specs.Prelude.{ℕ, List, codes}
 use Rattle.hlc_checkpoint.specs.RestoreFaults as reasons
 use Rattle.hlc_wire.specs.Faults.{fault_text}
@@ -14,4 +14,8 @@ resume_text (Parts fault) = reasons.fault_text fault
 
 abbrev pub saver_text : SaverError → List ℕ
 saver_text ShortOfMemory = codes "out of memory"
-saver_text Changed = codes "the store changed while it was saved"
+saver_text Changed = codes "the store changed since the saving began"
+
+abbrev pub saver_code : SaverError → ℕ
+saver_code ShortOfMemory = 15
+saver_code Changed = 112

@@ -1,5 +1,5 @@
 -- The bytes of a store, made as they are read.
-use Rattle.std.specs.Prelude.{◌≡◌, ℕ, ◌+◌, ◌%◌, List, ◌++◌, Bool, true, false, length, drop, filter, fold}
+use Rattle.std.specs.Prelude.{◌≡◌, ◌≤◌, ℕ, ◌+◌, ◌%◌, List, ◌++◌, Bool, true, false, length, drop, filter, fold}
 use Rattle.std.specs.List.{flat_map}
 use Rattle.std.specs.List.Sorted.{IsPermutation}
 use Rattle.std.specs.Cmp.Lexicographic.{slice_cmp}
@@ -51,3 +51,7 @@ pub record HasMade (saver : Saver) (word : ℕ) (kept : StoreView) (read : List 
   pub ascend : RowsAscend rows
   pub spelled : read ++ drop saver.at saver.made.items ≡ bytes_upto saver.is_whole word kept rows
   pub put : HasPut saver.frame (front_of word kept) (body_to kept rows)
+
+-- all bytes were made, and read
+abbrev pub IsRead : Saver → Type 0
+IsRead saver = (saver.is_whole ≡ true) × (length saver.made.items ≤ saver.at)

@@ -1,6 +1,6 @@
 //! Why no store is made from some bytes, and why no bytes of a store are read.
 ghost use Rattle.std.specs.Prelude.{◌≡◌, Some};
-ghost use Rattle.hlc_saved.specs.Faults.{resume_text, saver_text};
+ghost use Rattle.hlc_saved.specs.Faults.{resume_text, saver_code, saver_text};
 
 use hlc_core::RestoreFault;
 use hlc_values::NoMemory;
@@ -52,13 +52,25 @@ pub enum SaverError {
     Changed,
 }
 
+impl SaverError {
+    /// Returns the number of this refusal: 15 or 112.
+    pub fn code(self) -> u32
+        ensures { result ≡ saver_code self }
+    {
+        match self {
+            SaverError::NoMemory => 15,
+            SaverError::Changed => 112,
+        }
+    }
+}
+
 impl fmt::Display for SaverError {
     ghost output = { λ error. Some (saver_text error) };
 
     fn fmt<W: fmt::Write>(&self, f: &mut fmt::Formatter<W>) -> fmt::Result {
         f.write_str(match self {
             SaverError::NoMemory => "out of memory",
-            SaverError::Changed => "the store changed while it was saved",
+            SaverError::Changed => "the store changed since the saving began",
         })
     }
 }

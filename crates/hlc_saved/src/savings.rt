@@ -1,5 +1,5 @@
 //! The bytes of a store, made as they are read, without a borrow of the store between two calls.
-ghost use Rattle.std.specs.Prelude.{◌≡◌, ◌≢◌, ◌<◌, ◌≤◌, ◌+◌, ◌++◌, ◌⊎◌, ℕ, List, [], false, true, IsTrue};
+ghost use Rattle.std.specs.Prelude.{◌≡◌, ◌≢◌, ◌↔◌, ◌<◌, ◌≤◌, ◌+◌, ◌++◌, ◌⊎◌, ℕ, List, [], false, true, IsTrue};
 ghost use Rattle.std.specs.Prelude.{All, IfOk, IfErr, OnOk, OnErr, length, take, drop, min, ◌-◌};
 ghost use Rattle.hlc_columns.specs.Answers.{AreNext};
 ghost use Rattle.hlc_body.specs.Spelling.{saved_bytes};
@@ -8,7 +8,7 @@ ghost use Rattle.hlc_checkpoint.specs.Lent.{IsWritable};
 ghost use Rattle.hlc_core.specs.StoreView.{StoreView};
 ghost use Rattle.hlc_saved.specs.declared.fault.SaverError.TheVariants.{Changed as changed};
 ghost use Rattle.hlc_saved.specs.Saved.{AreOfStore};
-ghost use Rattle.hlc_saved.specs.Saver.{HasMade, mark_of};
+ghost use Rattle.hlc_saved.specs.Saver.{HasMade, IsRead, mark_of};
 
 use crate::bytes::{bytes_from, copy_front};
 use crate::fault::SaverError;
@@ -69,7 +69,8 @@ impl Saver {
 
     /// Returns whether all bytes were read.
     pub fn is_read(&self) -> bool
-        ensures { IsTrue result → (word : ℕ) (kept : StoreView) (read : List ℕ)
+        ensures exact { IsTrue result ↔ IsRead self.now }
+        ensures whole { IsTrue result → (word : ℕ) (kept : StoreView) (read : List ℕ)
             → HasMade self.now word kept read → AreOfStore read word kept }
     {
         self.is_whole && self.made.len() <= self.at
@@ -82,8 +83,8 @@ impl Saver {
     pub fn read(&mut self, core: &Core, out: &mut [u8]) -> Result<usize, SaverError>
         ensures made { IfOk result (λ len. (word : ℕ) (read : List ℕ) → HasMade self.old word core.now read
             → HasMade self.new word core.now (read ++ take len out.new)) }
-        ensures some { IfOk result (λ len. (0 < len) ⊎ (length out.old ≡ 0)
-            ⊎ ((self.new.is_whole ≡ true) × (length self.new.made.items ≤ self.new.at))) }
+        ensures some { IfOk result
+            (λ len. (0 < len) ⊎ (length out.old ≡ 0) ⊎ IsRead self.new) }
         ensures room { IfOk result (λ len. len ≤ length out.old) }
         ensures rest { IfOk result (λ len. drop len out.new ≡ drop len out.old) }
         ensures same { IfOk result (λ _. mark_of core.now ≡ self.old.mark) }
