@@ -14,14 +14,14 @@
  * Every answer writes to every pointer, with 0 where there is nothing to return. A buffer that an answer does not fill
  * keeps its bytes.
  *
- * Ownership. A store owns its memory until hlc_close, and an output until hlc_output_drop; a program that forgets one
- * leaks its memory. A node is a plain value without memory: it may be copied, and two copies are independent. Keys,
- * values and buffers stay the caller's and are not used after the call.
+ * Ownership. A store owns its memory until hlc_close, an output until hlc_output_drop, and a restore or a saving until
+ * it ends; a program that forgets one leaks its memory. A node is a plain value without memory: it may be copied, and
+ * two copies are independent. Keys, values and buffers stay the caller's and are not used after the call.
  *
  * What the caller must ensure, and nothing checks:
- *   - a store is HLC_CLOSED_STORE at first, a restore HLC_NO_RESTORING, an output HLC_NO_OUTPUT, and only these
- *     functions change them. Between calls each of them may be moved: assigned to another place, if only that one is
- *     used from then on. No other copy of a restore or an output is used;
+ *   - a store is HLC_CLOSED_STORE at first, a restore HLC_NO_RESTORING, a saving HLC_NO_SAVING, an output
+ *     HLC_NO_OUTPUT, and only these functions change them. Between calls each of them may be moved: assigned to another
+ *     place, if only that one is used from then on. No other copy of a restore, a saving or an output is used;
  *   - one call at a time with a store: where several threads call, a lock orders their calls. Calls with different
  *     stores and nodes may run concurrently. No call comes from a signal handler, or from the child of a fork of a
  *     process with threads;
@@ -81,6 +81,9 @@
  *   hlc_record_join, _threshold         none                                      all
  *   hlc_records_apply                   106 1 27 6 26 9 14 7 15           yes     other stores
  *   hlc_checkpoint                      108 15                            yes     reads, with other outputs
+ *   hlc_saving_start                    101 15                            yes     reads, with other savings
+ *   hlc_saving_read                     100 112 15                        yes     reads, with other savings
+ *   hlc_saving_drop                                                               other savings
  *   hlc_increment                       108 9 15                          yes     reads, with other outputs
  *   hlc_increment_apply                 108 106 110 107 111 8 110 15      yes     all, with other outputs
  *   hlc_restore                         101 106 107 15                    yes     other stores
@@ -159,13 +162,15 @@ enum {
     HLC_TOO_MANY_NODES = 26,    /* 1,024 node numbers are assigned */
     HLC_RETIRED = 27,           /* the node retired */
     HLC_CLOSED = 100,           /* the store is closed, or another thread makes a call with it, against the rules; of
-                                   hlc_restore_feed, _finish: no restore is under way */
+                                   hlc_restore_feed, _finish: no restore is under way; of hlc_saving_read: no saving
+                                   is under way */
     HLC_IS_OPEN = 101,          /* of hlc_open, hlc_restore, _finish: the store is open, and is unchanged; of
-                                   hlc_restore_start: a restore is under way, and goes on */
+                                   hlc_restore_start: a restore is under way, and goes on; of hlc_saving_start: a
+                                   saving is under way, and goes on */
     HLC_NO_VALUE = 102,         /* of hlc_read: the key has no value in the snapshot */
     HLC_OUTSIDE = 103,          /* of hlc_accept_all, hlc_read_all: a key or a value lies outside the bytes */
-    HLC_MORE = 104,             /* of hlc_scan, _scan_keys, _scan_back, hlc_changes, hlc_read_all, hlc_output_read: a
-                                   part is left, which did not fit */
+    HLC_MORE = 104,             /* of hlc_scan, _scan_keys, _scan_back, hlc_changes, hlc_read_all, hlc_output_read,
+                                   hlc_saving_read: a part is left, which did not fit */
     HLC_NO_SUCH_NODE = 105,     /* of hlc_node_restore: no node has issued so many items up to this stamp */
     HLC_BAD_BYTES = 106,        /* of hlc_restore, hlc_items_accept, hlc_records_apply, and of the older checkpoint of
                                    hlc_increment_apply; word: the number of the first fault, 1 to 7 */
@@ -175,7 +180,8 @@ enum {
     HLC_NOT_FEWEST = 109,       /* of hlc_certificate: a vacuum to the stamp would drop a row */
     HLC_NO_INCREMENT = 110,     /* of hlc_increment_apply; word: the number of the first fault of the increment's
                                    bytes, 1 to 7; or 0, where its stamp does not fit its rows and its horizon */
-    HLC_NOT_LATER = 111         /* of hlc_increment_apply: the increment is not of a later state of this store */
+    HLC_NOT_LATER = 111,        /* of hlc_increment_apply: the increment is not of a later state of this store */
+    HLC_CHANGED = 112           /* of hlc_saving_read: the store changed since the saving began */
 };
 
 /* ---- The library ---- */
@@ -437,6 +443,34 @@ uint32_t hlc_records_apply(hlc_store *store, const uint8_t *bytes, size_t bytes_
  * end with a digest. Refusals, in this order: 108, 15. Takes memory for the bytes, and for a list of the rows of one
  * key at a time. */
 uint32_t hlc_checkpoint(hlc_store *store, uint64_t word, hlc_output *output, size_t *len);
+
+/* A saving in pieces of any size, so that the bytes of a checkpoint need not be in memory at once. Its fields are the
+ * library's. */
+typedef struct {
+    void *at;
+    bool live;
+} hlc_saving;
+
+#define HLC_NO_SAVING { 0, false }
+
+/* Begins to save the whole state of a store, with a word of the caller's, as hlc_checkpoint does. len: how many bytes
+ * it will be in all. Refusals, in this order: 101 where a saving is under way, 15. Looks at each row, to add up its
+ * length, and takes memory for a list of 16 bytes for each 64 to 128 keys, which is freed at once. */
+uint32_t hlc_saving_start(hlc_saving *saving, hlc_store *store, uint64_t word, uint64_t *len);
+
+/* Writes the next bytes of a saving, as many as out has room for. len: how many were written. Returns HLC_OK where they
+ * are the last: all pieces, one after another, are the bytes of hlc_checkpoint, and the saving has ended. Returns
+ * HLC_MORE where bytes are left; then len is less than out_len only if memory ran out after some bytes. Refusals, in
+ * this order: 100 where no saving is under way; 112 where the store changed since hlc_saving_start: where an item was
+ * accepted, a node joined, a snapshot opened or closed, or a vacuum moved the horizon or dropped a row; 15, before any
+ * byte. After 112 and 15 the saving is as it was: after 15 the call may be repeated, and after 112 hlc_saving_drop ends
+ * the saving. Each call gets the store of hlc_saving_start: another one is refused with 112 only if these numbers of it
+ * differ. Between two calls a saving has the rows of at most 32 keys as bytes, and a call takes memory for as many. It
+ * looks at each node, and looks a key up for each 32 keys. */
+uint32_t hlc_saving_read(hlc_saving *saving, hlc_store *store, uint8_t *out, size_t out_len, size_t *len);
+
+/* Ends a saving before all its bytes were read, and frees what it has. A saving that is not ended leaks its memory. */
+void hlc_saving_drop(hlc_saving *saving);
 
 /* Saves an increment: the whole state of a store, but of its rows only those above a stamp, with a word of the
  * caller's. As the stamp choose the floor that the store had at an older checkpoint: what was accepted since is above

@@ -31,10 +31,10 @@ answer_words answer =
     )
     else if answer == 26 then (codes "HLC_TOO_MANY_NODES", codes "1,024 node numbers are assigned")
     else if answer == 27 then (codes "HLC_RETIRED", codes "the node retired")
-    else if answer == 100 then (codes "HLC_CLOSED", codes "the store is closed, or no restore is under way")
+    else if answer == 100 then (codes "HLC_CLOSED", codes "the store is closed, or no restore or saving is under way")
     else if answer == 101 then (
       codes "HLC_IS_OPEN",
-      codes "the store is open already, or a restore is under way",
+      codes "the store is open already, or a restore or saving is under way",
     )
     else if answer == 102 then (codes "HLC_NO_VALUE", codes "the key has no value in the snapshot")
     else if answer == 103 then (codes "HLC_OUTSIDE", codes "the bytes of an entry or a key are not there")
@@ -46,6 +46,7 @@ answer_words answer =
     else if answer == 109 then (codes "HLC_NOT_FEWEST", codes "a row at or below the stamp would be dropped")
     else if answer == 110 then (codes "HLC_NO_INCREMENT", codes "the bytes are no increment")
     else if answer == 111 then (codes "HLC_NOT_LATER", codes "the increment is not of a later state of the store")
+    else if answer == 112 then (codes "HLC_CHANGED", codes "the store changed since the saving began")
     else ([], [])
 
 abbrev pub answer_name : ℕ → List ℕ

@@ -44,11 +44,11 @@ fn words(answer: u32) -> (&'static str, &'static str)
         27 => ("HLC_RETIRED", "the node retired"),
         100 => (
             "HLC_CLOSED",
-            "the store is closed, or no restore is under way",
+            "the store is closed, or no restore or saving is under way",
         ),
         101 => (
             "HLC_IS_OPEN",
-            "the store is open already, or a restore is under way",
+            "the store is open already, or a restore or saving is under way",
         ),
         102 => ("HLC_NO_VALUE", "the key has no value in the snapshot"),
         103 => (
@@ -74,6 +74,10 @@ fn words(answer: u32) -> (&'static str, &'static str)
         111 => (
             "HLC_NOT_LATER",
             "the increment is not of a later state of the store",
+        ),
+        112 => (
+            "HLC_CHANGED",
+            "the store changed since the saving began",
         ),
         _ => ("", ""),
     }

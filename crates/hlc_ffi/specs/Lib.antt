@@ -1,3 +1,4 @@
 pub mod Handle
 pub mod Outputs
 pub mod Pieces
+pub mod Savings

@@ -12,12 +12,13 @@ pub mod output;
 pub mod pieces;
 pub mod read;
 pub mod saved;
+pub mod savings;
 pub mod status;
 pub mod texts;
 pub mod vacuum;
 
 use hlc_core::Core;
-pub use hlc_handle::{Output, Reader, Restoring, Store};
+pub use hlc_handle::{Output, Reader, Restoring, Saving, Store};
 use std::alloc::Global;
 
 /// Opens a closed store of 1 to 64 nodes. Returns 0, 1, 15, or 101 for an open store, which stays unchanged.

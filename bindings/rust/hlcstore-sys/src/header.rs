@@ -35,6 +35,7 @@ pub const HLC_HAS_BYTES: u32 = 108;
 pub const HLC_NOT_FEWEST: u32 = 109;
 pub const HLC_NO_INCREMENT: u32 = 110;
 pub const HLC_NOT_LATER: u32 = 111;
+pub const HLC_CHANGED: u32 = 112;
 
 #[repr(C)]
 #[derive(Clone, Copy, Debug, PartialEq, Eq)]
@@ -77,6 +78,13 @@ pub struct hlc_entry {
 pub struct hlc_place {
     pub at: usize,
     pub len: usize,
+}
+
+#[repr(C)]
+#[derive(Clone, Copy, Debug, PartialEq, Eq)]
+pub struct hlc_saving {
+    pub at: *mut c_void,
+    pub live: bool,
 }
 
 #[repr(C)]
@@ -346,6 +354,15 @@ unsafe extern "C" {
         word: *mut u64,
     ) -> u32;
     pub fn hlc_checkpoint(store: *mut hlc_store, word: u64, output: *mut hlc_output, len: *mut usize) -> u32;
+    pub fn hlc_saving_start(saving: *mut hlc_saving, store: *mut hlc_store, word: u64, len: *mut u64) -> u32;
+    pub fn hlc_saving_read(
+        saving: *mut hlc_saving,
+        store: *mut hlc_store,
+        out: *mut u8,
+        out_len: usize,
+        len: *mut usize,
+    ) -> u32;
+    pub fn hlc_saving_drop(saving: *mut hlc_saving);
     pub fn hlc_increment(
         store: *mut hlc_store,
         since: u64,

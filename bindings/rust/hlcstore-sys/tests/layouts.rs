@@ -1,6 +1,6 @@
 //! Compares the structs with those of the header, as the C compiler lays them out.
 
-use hlcstore_sys::{hlc_entry, hlc_node, hlc_output, hlc_place, hlc_restoring, hlc_store};
+use hlcstore_sys::{hlc_entry, hlc_node, hlc_output, hlc_place, hlc_restoring, hlc_saving, hlc_store};
 use std::fs;
 use std::path::Path;
 use std::process::Command;
@@ -36,6 +36,7 @@ fn structs_are_laid_out_as_in_c() {
     compare!(program, expected, hlc_entry { node, deletes, number, stamp, key_at, key_len, value_at, value_len });
     compare!(program, expected, hlc_place { at, len });
     compare!(program, expected, hlc_restoring { at, live });
+    compare!(program, expected, hlc_saving { at, live });
     program.push_str("return 0;\n}\n");
     let structs = include_str!("../src/header.rs").matches("pub struct").count();
     assert_eq!(expected.matches("hlc_").count(), structs, "a struct is not compared");
