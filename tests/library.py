@@ -14,8 +14,8 @@ from raw_calls import PLACE, Handle, Library
 
 ROUNDS = 300
 OK, NOT_NEXT, ABOVE_FLOOR, BELOW_HORIZON, NO_SNAPSHOT, NO_MEMORY = 0, 6, 8, 9, 10, 15
-CLOSED, MORE, BAD_BYTES, NO_CHECKPOINT, HAS_BYTES, NOT_FEWEST = 100, 104, 106, 107, 108, 109
-NO_INCREMENT, NOT_LATER = 110, 111
+CLOSED, IS_OPEN, MORE, BAD_BYTES, NO_CHECKPOINT, HAS_BYTES, NOT_FEWEST = 100, 101, 104, 106, 107, 108, 109
+NO_INCREMENT, NOT_LATER, CHANGED = 110, 111, 112
 TOP = 2**64 - 1
 
 
@@ -459,6 +459,50 @@ def sizes(rows):
     return len(rows), len(keys), sum(map(len, keys)), sum(len(row[3]) for row in rows if row[3] is not None)
 
 
+def read_saving(pick, saving, store):
+    """Reads a saving to its end, in pieces of sizes by lot, and returns the bytes. In some calls a request for memory
+    is refused: such a call returns fewer bytes, or none, and the next one goes on."""
+    read, code = b"", MORE
+    while code == MORE:
+        room, granted = pick.choice((0, 1, 7, 100, 5000)), pick.choice((-1, -1, 0, 3))
+        library.granted.value = granted
+        code, many, piece = library.call("saving_read", saving, store, room)
+        library.granted.value = -1
+        if code == NO_MEMORY:
+            assert granted >= 0 and many == 0
+            code = MORE
+        assert many == len(piece) and (code == OK or many == room or granted >= 0)
+        read += piece
+    assert code == OK
+    return read
+
+
+def save_in_pieces(pick, store, word):
+    """Saves a store in pieces, and returns the bytes."""
+    saving = Handle()
+    length = ok("saving_start", saving, store, word)
+    assert library.call("saving_start", saving, store, word) == (IS_OPEN, 0)
+    saved = read_saving(pick, saving, store)
+    assert len(saved) == length
+    assert library.call("saving_read", saving, store, 9) == (CLOSED, 0, b"")
+    return saved
+
+
+def change_while_saved(pick, saved):
+    """Opens a snapshot while a store is saved in pieces, which is refused from then on."""
+    saving, store = Handle(), restored(saved)
+    ok("saving_start", saving, store, 5)
+    room = pick.randrange(len(saved))
+    assert library.call("saving_read", saving, store, room) == (MORE, room, saved[:room])
+    id, _ = ok("open_snapshot_at_floor", store)
+    assert library.call("saving_read", saving, store, 9) == (CHANGED, 0, b"")
+    ok("close_snapshot", store, id)
+    assert library.call("saving_read", saving, store, 9) == (CHANGED, 0, b"")
+    library.call("saving_drop", saving)
+    assert library.call("saving_read", saving, store, 9) == (CLOSED, 0, b"")
+    library.call("close", store)
+
+
 def restore_in_pieces(pick, store, saved):
     """Restores a store from pieces by lot, and returns the answer and the word."""
     restoring = Handle()
@@ -650,6 +694,8 @@ def play(pick):
     assert ok("restore", copy, saved) == 5 and whole_state(pick, copy) == saved
     library.call("close", copy)
     assert tuple(restore_in_pieces(pick, copy, saved)) == (OK, 5) and whole_state(pick, copy) == saved
+    assert save_in_pieces(pick, store, 5) == saved == save_in_pieces(pick, copy, 5)
+    change_while_saved(pick, saved)
     for each in store, copy:
         compare(pick, each, model, keys, len(nodes))
     assert ok("rows", store) == ok("sizes", store)[0]

@@ -389,6 +389,19 @@ def count_restores(calls, store):
     calls.count(106, "restore_finish", restoring, Handle())
 
 
+def count_savings(calls, store, other):
+    """Counts the refusals of savings, and their end."""
+    saving = Handle()
+    calls.count(CLOSED, "saving_start", saving, Handle(), 5)
+    calls.count(CLOSED, "saving_read", saving, store, 5)
+    calls.ok("saving_start", saving, store, 5)
+    calls.count(101, "saving_start", saving, store, 5)
+    calls.count(CLOSED, "saving_read", saving, Handle(), 5)
+    calls.count(112, "saving_read", saving, other, 5)
+    for _ in range(2):
+        calls.count(None, "saving_drop", saving)
+
+
 def check(library):
     """Checks all calls of the header."""
     calls = Counted(library)
@@ -407,6 +420,7 @@ def check(library):
     count_outputs_refused(calls, store, next)
     count_logs(calls, store, next, spent)
     count_restores(calls, store)
+    count_savings(calls, store, retired)
     count_outputs(calls, store)
     calls.count(OK, "accept_report", store, 0, next, next + 1)
     calls.count(OK, "accept_retire", store, 0, next + 1, next + 2)

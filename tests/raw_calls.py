@@ -23,7 +23,7 @@ SIZES = {"uint8_t": 1, "hlc_entry": ENTRY.size, "hlc_place": PLACE.size}
 
 
 class Handle(c.Structure):
-    """A store, closed at first; a restore, not started; or an output, without bytes."""
+    """A store, closed at first; a restore or a saving, not started; or an output, without bytes."""
 
     _fields_ = [("at", c.c_void_p), ("live", c.c_bool)]
 
@@ -32,7 +32,8 @@ class RawNode(c.Structure):
     _fields_ = [("id", c.c_uint16), ("last", c.c_uint64), ("next", c.c_uint64), ("retired", c.c_bool)]
 
 
-STRUCTURES = {"hlc_store": Handle, "hlc_output": Handle, "hlc_restoring": Handle, "hlc_node": RawNode}
+STRUCTURES = {name: Handle for name in ("hlc_store", "hlc_output", "hlc_restoring", "hlc_saving")}
+STRUCTURES["hlc_node"] = RawNode
 
 
 class Number:
@@ -58,7 +59,7 @@ class Place:
 
 
 class Structure:
-    """A store, an output, a restore or a node."""
+    """A store, an output, a restore, a saving or a node."""
 
     def __init__(self, type):
         self.types = [c.POINTER(STRUCTURES[type])]

@@ -1,7 +1,7 @@
 /* The memory of rows, in blocks of malloc: where each key has 1, 2, 4, 5 or 10 rows, and after a vacuum that leaves
  * one. Keys and values have 8 bytes; each round writes every key once, in a random order of its own. Then the peaks of
- * resident memory: a checkpoint takes little more than its bytes, and a restore in pieces little more than the store
- * that it makes. Prints `all right`. */
+ * resident memory: a checkpoint takes little more than its bytes, a saving in pieces little beside the store, and a
+ * restore in pieces little more than the store that it makes. Prints `all right`. */
 #include "hlcstore.h"
 #include <malloc.h>
 #include <stdio.h>
@@ -15,6 +15,8 @@ static const struct { unsigned rounds; double most; } CASES[] = { { 1, 145 }, { 
 static const double MOST_OF_ONE = 145;
 /* The most of a peak: how many times the bytes of a checkpoint, or of a restored store. */
 static const double MOST_OF_PEAK = 1.2;
+/* The most of the peak of a saving in pieces: what part of the store. */
+static const double MOST_OF_SAVING = 0.05;
 
 static int wrong;
 
@@ -111,12 +113,31 @@ static double begin_peak(void)
     return status_of("VmRSS:");
 }
 
-static void expect_peak(const char *what, double before, double bytes)
+static void expect_peak(const char *what, double before, double most)
 {
     double peak = status_of("VmHWM:") - before;
-    if (peak <= MOST_OF_PEAK * bytes) return;
-    printf("%s: a peak of %.0f bytes, for %.0f\n", what, peak, bytes);
+    if (peak <= most) return;
+    printf("%s: a peak of %.0f bytes, more than %.0f\n", what, peak, most);
     wrong++;
+}
+
+static void measure_saving(hlc_store *store, double store_bytes)
+{
+    static uint8_t piece[65536];
+    hlc_saving saving = HLC_NO_SAVING;
+    uint64_t all, read = 0;
+    size_t len;
+    uint32_t code = HLC_MORE;
+    double before = begin_peak();
+    check(hlc_saving_start(&saving, store, 7, &all));
+    for (; code == HLC_MORE; read += len) code = hlc_saving_read(&saving, store, piece, sizeof piece, &len);
+    check(code);
+    expect_peak("a saving in pieces", before, MOST_OF_SAVING * store_bytes);
+    if (read != all) {
+        puts("a saving has another length");
+        wrong++;
+    }
+    hlc_saving_drop(&saving);
 }
 
 static void measure_checkpoint(void)
@@ -127,11 +148,13 @@ static void measure_checkpoint(void)
     hlc_restoring restoring = HLC_NO_RESTORING;
     uint64_t number = 0, word;
     size_t len, from = 0, got;
+    double empty = in_blocks();
     check(hlc_open(&store, 1));
     for (unsigned round = 0; round < 4; round++) write_all(&store, &number);
+    measure_saving(&store, in_blocks() - empty);
     double before = begin_peak();
     check(hlc_checkpoint(&store, 7, &output, &len));
-    expect_peak("a checkpoint", before, (double)len);
+    expect_peak("a checkpoint", before, MOST_OF_PEAK * (double)len);
     double blocks = in_blocks();
     before = begin_peak();
     check(hlc_restore_start(&restoring));
@@ -140,7 +163,7 @@ static void measure_checkpoint(void)
         check(hlc_restore_feed(&restoring, piece, got));
     }
     check(hlc_restore_finish(&restoring, &copy, &word));
-    expect_peak("a restore in pieces", before, in_blocks() - blocks);
+    expect_peak("a restore in pieces", before, MOST_OF_PEAK * (in_blocks() - blocks));
     if (word != 7) {
         puts("the word of the checkpoint is another");
         wrong++;

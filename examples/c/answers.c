@@ -122,10 +122,11 @@ int main(void)
     hlc_output output = HLC_NO_OUTPUT;
     uint64_t word;
     size_t len;
-    expect_text(HLC_CLOSED, "the store is closed, or no restore is under way");
-    expect_text(HLC_IS_OPEN, "the store is open already, or a restore is under way");
+    expect_text(HLC_CLOSED, "the store is closed, or no restore or saving is under way");
+    expect_text(HLC_IS_OPEN, "the store is open already, or a restore or saving is under way");
     expect_text(HLC_NO_INCREMENT, "the bytes are no increment");
     expect_text(HLC_NOT_LATER, "the increment is not of a later state of the store");
+    expect_text(HLC_CHANGED, "the store changed since the saving began");
     expect("open", hlc_open(&store, 1), 0, HLC_OK, 0);
     uint32_t code = hlc_accept_write(&store, 0, 0, AT(1), BYTES("k"), BYTES("v"), &word);
     expect("accept", code, word, HLC_OK, AT(1));

@@ -1,5 +1,5 @@
-/* A vacuum in parts, in which keys lose all their rows, and one that ends at the longest key; and restores from pieces
- * that are given up or refused. Keys and values are longer than 30 bytes, so each of them has an allocation. */
+/* A vacuum in parts, in which keys lose all their rows, and one that ends at the longest key; savings in pieces of which
+ * some are given up or refused, and restores from pieces likewise. Keys and values are longer than 30 bytes, so each of them has an allocation. */
 #include "hlcstore.h"
 #include <inttypes.h>
 #include <stdio.h>
@@ -114,6 +114,57 @@ static void write_again(void)
     expect_sizes(2, 2, 255 + 255, 2 * VALUE);
 }
 
+/* Saves the store with the word 7, so many bytes in a call, which are those of a checkpoint with this word. Each call
+ * gets a copy of the store, as a reader does. */
+static void save_in_pieces(const uint8_t *saved, size_t saved_len, size_t piece)
+{
+    hlc_saving saving = HLC_NO_SAVING;
+    uint8_t bytes[ROOM];
+    uint64_t all;
+    size_t at = 0, len;
+    uint32_t code = hlc_saving_start(&saving, &store, 7, &all);
+    expect("saving", code, all, HLC_OK, saved_len);
+    for (code = HLC_MORE; code == HLC_MORE && at < saved_len; at += len) {
+        hlc_store copy = store;
+        size_t room = saved_len - at < piece ? saved_len - at : piece;
+        code = hlc_saving_read(&saving, &copy, bytes + at, room, &len);
+        if (len != room) wrong++;
+    }
+    expect("saved", code, at, HLC_OK, saved_len);
+    if (memcmp(bytes, saved, saved_len) != 0) wrong++;
+    code = hlc_saving_read(&saving, &store, bytes, 1, &len);
+    expect("the saving has ended", code, len, HLC_CLOSED, 0);
+}
+
+/* A saving is refused once the store has changed, and goes on until it is dropped. */
+static void save_in_vain(void)
+{
+    hlc_saving saving = HLC_NO_SAVING;
+    hlc_store closed = HLC_CLOSED_STORE;
+    uint8_t bytes[ROOM];
+    uint64_t word;
+    size_t len;
+    uint32_t code = hlc_saving_read(&saving, &store, bytes, sizeof bytes, &len);
+    expect("no saving", code, len, HLC_CLOSED, 0);
+    code = hlc_saving_start(&saving, &closed, 7, &word);
+    expect("of a closed store", code, word, HLC_CLOSED, 0);
+    expect("saving", hlc_saving_start(&saving, &store, 7, &word), 0, HLC_OK, 0);
+    code = hlc_saving_start(&saving, &store, 8, &word);
+    expect("a second start", code, word, HLC_IS_OPEN, 0);
+    code = hlc_saving_read(&saving, &store, bytes, 0, &len);
+    expect("no room", code, len, HLC_MORE, 0);
+    code = hlc_saving_read(&saving, &store, bytes, 9, &len);
+    expect("nine bytes", code, len, HLC_MORE, 9);
+    write_key(A);
+    for (int turn = 0; turn < 2; turn++) {
+        code = hlc_saving_read(&saving, &store, bytes, sizeof bytes, &len);
+        expect("a changed store", code, len, HLC_CHANGED, 0);
+    }
+    hlc_saving_drop(&saving);
+    code = hlc_saving_read(&saving, &store, bytes, sizeof bytes, &len);
+    expect("dropped", code, len, HLC_CLOSED, 0);
+}
+
 static void feed(hlc_restoring *restoring, const uint8_t *bytes, size_t len)
 {
     expect("start", hlc_restore_start(restoring), 0, HLC_OK, 0);
@@ -137,6 +188,7 @@ static void restore_in_vain(void)
     if (code == HLC_OK) code = hlc_output_read(&output, 0, saved, sizeof saved, &len);
     hlc_output_drop(&output);
     expect("checkpoint", code, len, HLC_OK, saved_len);
+    for (size_t piece = 1; piece < 2 * saved_len; piece *= 5) save_in_pieces(saved, saved_len, piece);
     for (int part = 0; part < 3; part++) {
         feed(&restoring, saved, saved_len * part / 2);
         hlc_restore_drop(&restoring);
@@ -165,6 +217,7 @@ int main(void)
     vacuum_in_parts();
     write_again();
     restore_in_vain();
+    save_in_vain();
     hlc_close(&store);
     printf("%s\n", wrong ? "wrong" : "all right");
     return wrong != 0;

@@ -25,6 +25,8 @@ mod keys;
 #[cfg(test)]
 mod run;
 #[cfg(test)]
+mod savings;
+#[cfg(test)]
 mod scripts;
 #[cfg(test)]
 mod stamps;
