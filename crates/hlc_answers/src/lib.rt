@@ -75,10 +75,7 @@ fn words(answer: u32) -> (&'static str, &'static str)
             "HLC_NOT_LATER",
             "the increment is not of a later state of the store",
         ),
-        112 => (
-            "HLC_CHANGED",
-            "the store changed since the saving began",
-        ),
+        112 => ("HLC_CHANGED", "the store changed since the saving began"),
         _ => ("", ""),
     }
 }
