@@ -1,4 +1,3 @@
 pub mod Handle
 pub mod Outputs
 pub mod Pieces
-pub mod Savings

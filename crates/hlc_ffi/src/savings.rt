@@ -1,12 +1,11 @@
 //! A checkpoint whose bytes are read in pieces of any size.
 ghost use Rattle.std.specs.Prelude.{◌≡◌, None};
 ghost use Rattle.hlc_ffi.specs.Handle.{OnReader, IsGivenBack};
-ghost use Rattle.hlc_ffi.specs.Savings.{HasBegun, HasReadOn};
+ghost use Rattle.hlc_saving_calls.specs.Savings.{HasBegun, HasReadOn};
 
 use crate::handle::of_core;
-use hlc_core::Core;
 use hlc_handle::{Reader, Saving};
-use hlc_saved::Saver;
+use hlc_saving_calls::{begin, read_on};
 use std::alloc::Global;
 
 /// Begins to save a store and a word of the caller's. Returns 0 and how many bytes it will be; or 101 where a saving is
@@ -51,49 +50,4 @@ pub extern "C" fn hlc_saving_drop(alloc: Global, saving: &mut Saving)
     ensures { saving.new.room.value ≡ None }
 {
     let _ = saving.take(alloc);
-}
-
-/// Puts a saver of a store where there is none.
-fn begin(alloc: Global, saving: &mut Saving, core: &Core, word: u64, len: &mut u64) -> u32
-    requires { len.old ≡ 0 }
-    ensures { HasBegun saving.old.room.value saving.new.room.value word core.now result len.new }
-{
-    if let Some(saver) = saving.take(alloc) {
-        saving.put(saver);
-        return 101;
-    }
-    let Ok((saver, many)) = Saver::start(alloc, core, word) else {
-        return 15;
-    };
-    let Ok(boxed) = Box::new(alloc, saver) else {
-        return 15;
-    };
-    saving.put(boxed);
-    *len = many;
-    0
-}
-
-/// Reads the next bytes, and takes the saver out with the last.
-fn read_on(alloc: Global, saving: &mut Saving, core: &Core, out: &mut [u8], len: &mut usize) -> u32
-    requires { len.old ≡ 0 }
-    ensures { HasReadOn saving.old.room.value saving.new.room.value core.now result len.new out.old out.new }
-{
-    let Some(taken) = saving.take(alloc) else {
-        return 100;
-    };
-    let mut saver = taken;
-    match saver.read(core, out) {
-        Ok(many) => {
-            *len = many;
-            if saver.is_read() {
-                return 0;
-            }
-            saving.put(saver);
-            104
-        }
-        Err(error) => {
-            saving.put(saver);
-            error.code()
-        }
-    }
 }

@@ -2,7 +2,7 @@
 use Rattle.std.proofs.Common.{refl, sym, subst, ◌++◌, take, List, ℕ}
 use Rattle.hlc_saved.specs.declared.savings.Saver.{Saver}
 use Rattle.hlc_saved.specs.Saver.{HasMade}
-use Rattle.hlc_ffi.proofs.savings.read_on.Goals as goal
+use Rattle.hlc_saving_calls.proofs.read_on.Goals as goal
 
 pub returns-then-is_read : goal.returns-then-is_read
 returns-then-is_read c =
