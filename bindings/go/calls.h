@@ -590,6 +590,22 @@ static inline hlcgo_part hlcgo_output_read(hlc_output *output, size_t from, uint
     return part;
 }
 
+static inline hlcgo_answer hlcgo_saving_start(hlc_saving *saving, const hlc_store *store, uint64_t word)
+{
+    hlc_store mine = *store;
+    hlcgo_answer answer;
+    answer.code = hlc_saving_start(saving, &mine, word, &answer.word);
+    return answer;
+}
+
+static inline hlcgo_part hlcgo_saving_read(hlc_saving *saving, const hlc_store *store, uint8_t *out, size_t out_len)
+{
+    hlc_store mine = *store;
+    hlcgo_part part = { 0 };
+    part.code = hlc_saving_read(saving, &mine, out, out_len, &part.len);
+    return part;
+}
+
 /* ---- Restores ---- */
 
 static inline hlcgo_answer hlcgo_restore(hlc_store *store, const uint8_t *bytes, size_t bytes_len)

@@ -17,6 +17,23 @@ func (s *Store) Checkpoint(w io.Writer, word uint64) (int64, error) {
 	return writeOutput(w, made)
 }
 
+// CheckpointTo writes what Checkpoint writes, in pieces that C makes one after another, so that the bytes need no memory.
+// Reads go on beside it, and calls that change the store wait until all is written.
+//
+// Errors: those of the writer, after which a part may be written; ErrNoMemory likewise.
+func (s *Store) CheckpointTo(w io.Writer, word uint64) (int64, error) {
+	s.mu.RLock()
+	defer s.mu.RUnlock()
+	var saving C.hlc_saving
+	defer C.hlc_saving_drop(&saving)
+	if started := C.hlcgo_saving_start(&saving, &s.raw, C.uint64_t(word)); started.code != C.HLC_OK {
+		return 0, refusal(started.code, 0)
+	}
+	return writePieces(w, func(out *C.uint8_t, outLen C.size_t) C.hlcgo_part {
+		return C.hlcgo_saving_read(&saving, &s.raw, out, outLen)
+	})
+}
+
 // Increment writes the whole state of the store, but of its rows only those above a stamp, with a word of the caller's.
 // As the stamp choose the floor that the store had at an older checkpoint: of both [ApplyIncrement] makes a newer one.
 // Otherwise it is like Checkpoint.
@@ -52,21 +69,32 @@ func writeOutput(w io.Writer, made C.hlcgo_made) (int64, error) {
 	if made.code != C.HLC_OK {
 		return 0, refusal(made.code, made.word)
 	}
+	from := C.size_t(0)
+	return writePieces(w, func(out *C.uint8_t, outLen C.size_t) C.hlcgo_part {
+		read := C.hlcgo_output_read(&output, from, out, outLen)
+		from += read.len
+		return read
+	})
+}
+
+// writePieces writes the pieces that a call reads, until it answers other than that bytes are left.
+func writePieces(w io.Writer, read func(out *C.uint8_t, outLen C.size_t) C.hlcgo_part) (int64, error) {
 	piece := make([]byte, 0, mostCopied)
 	written := int64(0)
-	for written < int64(made.len) {
-		out, outLen := room(piece)
-		read := C.hlcgo_output_read(&output, C.size_t(written), out, outLen)
-		many, err := w.Write(piece[:read.len])
+	for {
+		part := read(room(piece))
+		many, err := w.Write(piece[:part.len])
 		written += int64(many)
 		if err != nil {
 			return written, err
 		}
-		if many < int(read.len) {
+		if many < int(part.len) {
 			return written, io.ErrShortWrite
 		}
+		if part.code != C.HLC_MORE {
+			return written, refusal(part.code, 0)
+		}
 	}
-	return written, nil
 }
 
 // Restore opens a store from the bytes of a checkpoint, which it reads to their end, in pieces. It continues as the

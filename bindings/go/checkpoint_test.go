@@ -49,6 +49,18 @@ func TestRestoredStoreIsTheSavedOne(t *testing.T) {
 	ok(t, restored.Close())
 }
 
+func TestPiecesAreTheCheckpoint(t *testing.T) {
+	store, _ := rewritten(t, 3000)
+	var pieces bytes.Buffer
+	written, err := store.CheckpointTo(&pieces, 77)
+	ok(t, err)
+	equal(t, written, int64(pieces.Len()))
+	equal(t, pieces.String(), string(checkpointOf(t, store, 77)))
+	ok(t, store.Close())
+	_, err = store.CheckpointTo(&pieces, 77)
+	refused(t, err, hlcstore.ErrClosed, 0)
+}
+
 func TestBytesThatAreNoCheckpoint(t *testing.T) {
 	saved := checkpointOf(t, filled(t, 10), 0)
 	damaged := append([]byte(nil), saved...)

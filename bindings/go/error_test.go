@@ -24,6 +24,7 @@ var codes = map[string]hlcstore.Code{
 	"HLC_NO_VALUE": hlcstore.ErrNoValue, "HLC_NO_SUCH_NODE": hlcstore.ErrNoSuchNode, "HLC_BAD_BYTES": hlcstore.ErrBadBytes,
 	"HLC_NO_CHECKPOINT": hlcstore.ErrNoCheckpoint, "HLC_NOT_FEWEST": hlcstore.ErrNotFewest,
 	"HLC_NO_INCREMENT": hlcstore.ErrNoIncrement, "HLC_NOT_LATER": hlcstore.ErrNotLater,
+	"HLC_CHANGED": hlcstore.ErrChanged,
 }
 
 // Answers that never reach the caller of the package: a call that was made, and those whose cause would be its own.
