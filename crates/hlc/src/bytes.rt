@@ -1,8 +1,8 @@
 //! Items, messages and checkpoints as bytes.
 
 pub use hlc_saved::{
-    CheckpointReader, CheckpointWriter, Decoded, ResumeError, Resumed, StoreWriter, copy_by_bytes,
-    decode_checkpoint, encode_checkpoint, resume, save,
+    CheckpointReader, CheckpointWriter, Decoded, ResumeError, Resumed, Saver, SaverError,
+    StoreWriter, copy_by_bytes, decode_checkpoint, encode_checkpoint, resume, save,
 };
 pub use hlc_wire::{
     DecodeError, EncodeError, MESSAGE_BYTES, MOST_ITEM_BYTES, WireFault, decode_item,
