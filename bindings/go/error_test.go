@@ -24,12 +24,12 @@ var codes = map[string]hlcstore.Code{
 	"HLC_NO_VALUE": hlcstore.ErrNoValue, "HLC_NO_SUCH_NODE": hlcstore.ErrNoSuchNode, "HLC_BAD_BYTES": hlcstore.ErrBadBytes,
 	"HLC_NO_CHECKPOINT": hlcstore.ErrNoCheckpoint, "HLC_NOT_FEWEST": hlcstore.ErrNotFewest,
 	"HLC_NO_INCREMENT": hlcstore.ErrNoIncrement, "HLC_NOT_LATER": hlcstore.ErrNotLater,
-	"HLC_CHANGED": hlcstore.ErrChanged,
 }
 
 // Answers that never reach the caller of the package: a call that was made, and those whose cause would be its own.
 var within = map[string]bool{
 	"HLC_OK": true, "HLC_IS_OPEN": true, "HLC_OUTSIDE": true, "HLC_MORE": true, "HLC_HAS_BYTES": true,
+	"HLC_CHANGED": true,
 }
 
 func TestErrorsAreThoseOfTheHeader(t *testing.T) {
@@ -80,7 +80,7 @@ func TestErrorsAsText(t *testing.T) {
 		{Code: hlcstore.ErrAboveFloor}:                 "hlcstore: the stamp is above the floor (0.0)",
 		{Code: hlcstore.ErrNotNext}:                    "hlcstore: the number is not the next one of the node (0)",
 		{Code: hlcstore.ErrNotNext, Word: 7}:           "hlcstore: the number is not the next one of the node (7)",
-		{Code: hlcstore.ErrClosed}:                     "hlcstore: the store is closed, or no restore is under way",
+		{Code: hlcstore.ErrClosed}:                     "hlcstore: the store is closed, or no restore or saving is under way",
 		{Code: hlcstore.ErrNoIncrement}:                "hlcstore: " + hlcstore.ErrNoIncrement.Text(),
 		{Code: hlcstore.ErrBadBytes, Word: 3}:          "hlcstore: " + hlcstore.ErrBadBytes.Text() + " (3)",
 		{Code: hlcstore.Code(4_000_000_000)}:           "hlcstore: unknown refusal 4000000000",

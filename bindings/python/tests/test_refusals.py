@@ -10,8 +10,8 @@ import unittest
 import hlcstore
 from hlcstore import Error, Item, Node, Store, stamp
 
-# Handles, buffers and outputs are the package's own, so it never meets these.
-WITHOUT_CLASS = {"HLC_OK", "HLC_IS_OPEN", "HLC_OUTSIDE", "HLC_MORE", "HLC_HAS_BYTES"}
+# Handles, buffers, outputs and savings are the package's own, so it never meets these.
+WITHOUT_CLASS = {"HLC_OK", "HLC_IS_OPEN", "HLC_OUTSIDE", "HLC_MORE", "HLC_HAS_BYTES", "HLC_CHANGED"}
 FULL = stamp(5, 65535)
 
 

@@ -141,10 +141,6 @@ class NotLater(Error):
     code = _native.HLC_NOT_LATER
 
 
-class Changed(Error):
-    code = _native.HLC_CHANGED
-
-
 REFUSALS: dict[int, type[Error]] = {refusal.code: refusal for refusal in Error.__subclasses__()}
 
 # In tracebacks and pickles they have the name by which a program knows them.

@@ -36,7 +36,6 @@ HLC_NO_CHECKPOINT: Final[int]
 HLC_NOT_FEWEST: Final[int]
 HLC_NO_INCREMENT: Final[int]
 HLC_NOT_LATER: Final[int]
-HLC_CHANGED: Final[int]
 
 def apply_increment(older: ReadableBuffer, increment: ReadableBuffer) -> bytes: ...
 def check(certificate: ReadableBuffer, /) -> Checked: ...

@@ -33,7 +33,6 @@ static const struct {
     REFUSAL(HLC_NOT_FEWEST),
     REFUSAL(HLC_NO_INCREMENT),
     REFUSAL(HLC_NOT_LATER),
-    REFUSAL(HLC_CHANGED),
 #undef REFUSAL
 };
 

@@ -81,8 +81,6 @@ pub enum ErrorKind {
     NoIncrement,
     /// The increment is not of a later state of the store from which the checkpoint is.
     NotLater,
-    /// The store changed while a checkpoint of it was written in pieces.
-    Changed,
     /// An answer that this version of the crate does not know.
     Other,
 }
@@ -134,7 +132,6 @@ impl Error {
             sys::HLC_NOT_FEWEST => ErrorKind::NotFewest,
             sys::HLC_NO_INCREMENT => ErrorKind::NoIncrement,
             sys::HLC_NOT_LATER => ErrorKind::NotLater,
-            sys::HLC_CHANGED => ErrorKind::Changed,
             _ => ErrorKind::Other,
         }
     }
