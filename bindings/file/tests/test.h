@@ -132,4 +132,20 @@ static inline int ended(void)
     if (wrong == 0) puts("all right");
     return wrong != 0;
 }
+
+struct test {
+    const char *name;
+    void (*run)(void);
+};
+
+#define TEST(name) { #name, name }
+
+static inline int run_tests(const struct test *tests, size_t many)
+{
+    for (size_t i = 0; i < many; i++) {
+        test_name = tests[i].name;
+        tests[i].run();
+    }
+    return ended();
+}
 #endif

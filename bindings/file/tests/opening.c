@@ -1,0 +1,365 @@
+/* A test of each decision of an opening, on files in the current folder: what it recovers, what it refuses, and whose
+ * file it is. */
+#include "test.h"
+#include <sys/stat.h>
+#include <sys/wait.h>
+
+static const char PATH[] = "opening.hlc";
+
+/* ---- Recovery ---- */
+
+static void a_write_is_there_after_an_opening(void)
+{
+    hlc_file *file = opened(fresh(PATH));
+    EXPECT(state_of(file).created, 1);
+    put(file, 10, "city", "Lyon");
+    put(file, 20, "city", "Paris");
+    EXPECT(state_of(file).place, 2);
+    EXPECT(hlc_file_close(file), HLC_OK);
+    file = opened(PATH);
+    EXPECT(state_of(file).created, 0);
+    EXPECT(state_of(file).applied, 2);
+    EXPECT_VALUE(file, AT(10), "city", "Lyon");
+    EXPECT_VALUE(file, AT(15), "city", "Lyon");
+    EXPECT_VALUE(file, 0, "city", "Paris");
+    EXPECT_VALUE(file, AT(9), "city", "");
+    EXPECT_VALUE(file, AT(21), "city", "refused 8");
+    EXPECT(hlc_file_close(file), HLC_OK);
+}
+
+static void a_checkpoint_replaces_its_log(void)
+{
+    uint64_t place;
+    hlc_file *file = opened(fresh(PATH));
+    for (int i = 1; i <= 5; i++) put(file, (uint64_t)i, "a", "one");
+    EXPECT(hlc_file_checkpoint(file, &place), HLC_OK);
+    EXPECT(place, 5);
+    put(file, 6, "a", "two");
+    EXPECT(hlc_file_checkpoint(file, &place), HLC_OK);
+    EXPECT(place, 6);
+    put(file, 7, "a", "three");
+    EXPECT(state_of(file).checkpoint_place, 6);
+    HOLDS(state_of(file).log_bytes > 0);
+    EXPECT(hlc_file_close(file), HLC_OK);
+    /* The older of the two needs the log from place 6 on. */
+    EXPECT(number_of(PATH, "SELECT min(place) FROM log"), 6);
+    EXPECT(number_of(PATH, "SELECT count(*) FROM checkpoint"), 2);
+    file = opened(PATH);
+    EXPECT(state_of(file).applied, 1);
+    EXPECT(state_of(file).damaged, 0);
+    EXPECT_VALUE(file, AT(5), "a", "one");
+    EXPECT_VALUE(file, 0, "a", "three");
+    for (int i = 0; i < 3; i++) EXPECT(hlc_file_checkpoint(file, &place), HLC_OK);
+    EXPECT(hlc_file_close(file), HLC_OK);
+    EXPECT(number_of(PATH, "SELECT count(*) FROM checkpoint"), 2);
+    EXPECT(number_of(PATH, "SELECT count(DISTINCT checkpoint) FROM piece"), 2);
+    EXPECT(number_of(PATH, "SELECT count(*) FROM log"), 0);
+}
+
+/* Makes a file with checkpoints at the places 2 and 4, and a log from 3 to 5. */
+static void make_two_checkpoints(void)
+{
+    uint64_t place;
+    hlc_file *file = opened(fresh(PATH));
+    put(file, 1, "a", "one");
+    put(file, 2, "a", "two");
+    EXPECT(hlc_file_checkpoint(file, &place), HLC_OK);
+    put(file, 3, "a", "three");
+    put(file, 4, "a", "four");
+    EXPECT(hlc_file_checkpoint(file, &place), HLC_OK);
+    put(file, 5, "a", "five");
+    EXPECT(hlc_file_close(file), HLC_OK);
+}
+
+static uint32_t answer_of_opening(uint32_t flags, hlc_file_state *state)
+{
+    hlc_file *file;
+    hlc_file_options options = { .flags = flags, .checkpoint_bytes = UINT64_MAX };
+    *state = (hlc_file_state){ 0 };
+    uint32_t answer = hlc_file_open(PATH, &options, &file, state);
+    if (answer != HLC_OK) HOLDS(file == NULL);
+    else EXPECT_VALUE(file, AT(1), "a", "one");
+    hlc_file_close(file);
+    return answer;
+}
+
+static void a_damaged_checkpoint_falls_back(void)
+{
+    static const char *const damages[] = {
+        "UPDATE piece SET bytes = zeroblob(length(bytes)) WHERE checkpoint = 2",
+        "DELETE FROM piece WHERE checkpoint = 2",
+        "UPDATE piece SET number = 7 WHERE checkpoint = 2",
+        "UPDATE checkpoint SET place = 3 WHERE id = 2",
+        "UPDATE checkpoint SET sum = sum + 1 WHERE id = 2",
+    };
+    hlc_file_state state;
+    uint64_t place;
+    for (size_t i = 0; i < sizeof damages / sizeof *damages; i++) {
+        make_two_checkpoints();
+        change(PATH, damages[i]);
+        EXPECT(answer_of_opening(0, &state), HLC_OK);
+        EXPECT(state.damaged, 1);
+        EXPECT(state.checkpoint_place, 2);
+        EXPECT(state.applied, 3);
+        EXPECT(number_of(PATH, "SELECT id FROM checkpoint WHERE damaged"), 2);
+        /* It does not count as one of the two newest: the log stays as the older one needs it. */
+        hlc_file *file = opened(PATH);
+        EXPECT(state_of(file).damaged, 0);
+        EXPECT_VALUE(file, 0, "a", "five");
+        EXPECT(hlc_file_checkpoint(file, &place), HLC_OK);
+        EXPECT(hlc_file_close(file), HLC_OK);
+        EXPECT(number_of(PATH, "SELECT min(place) FROM log"), 3);
+        EXPECT(number_of(PATH, "SELECT count(*) FROM checkpoint WHERE damaged = 0"), 2);
+    }
+}
+
+static void without_a_checkpoint_only_a_whole_log_serves(void)
+{
+    hlc_file_state state;
+    make_two_checkpoints();
+    change(PATH, "UPDATE piece SET sum = sum + 1");
+    EXPECT(answer_of_opening(0, &state), HLC_FILE_NO_CHECKPOINT);
+    EXPECT(state.failure, HLC_FILE_NO_CHECKPOINT);
+    EXPECT(state.word, 2);
+    EXPECT(answer_of_opening(HLC_FILE_KEEP_BEFORE_DAMAGE, &state), HLC_FILE_NO_CHECKPOINT);
+    hlc_file *file = opened(fresh(PATH));
+    uint64_t place;
+    put(file, 1, "a", "one");
+    EXPECT(hlc_file_checkpoint(file, &place), HLC_OK);
+    hlc_file_close(file);
+    change(PATH, "UPDATE piece SET sum = sum + 1");
+    EXPECT(answer_of_opening(0, &state), HLC_OK);
+    EXPECT(state.damaged, 1);
+    EXPECT(state.applied, 1);
+}
+
+static void a_damaged_log_is_refused_with_its_place(void)
+{
+    static const struct {
+        const char *sql;
+        uint64_t place;
+    } damages[] = {
+        { "UPDATE log SET records = zeroblob(30) WHERE place = 3", 3 },
+        { "UPDATE log SET sum = sum + 1 WHERE place = 3", 3 },
+        { "UPDATE log SET clock = clock + 1 WHERE place = 3", 3 },
+        { "UPDATE log SET horizon = 1 WHERE place = 3", 3 },
+        { "UPDATE log SET threshold = 1 WHERE place = 3", 3 },
+        { "DELETE FROM log WHERE place = 3", 3 },
+        { "DELETE FROM log WHERE place = 5", 5 },
+        { "DELETE FROM log", 1 },
+        { "UPDATE log SET place = 9 WHERE place = 5", 5 },
+        { "UPDATE log SET place = -place WHERE place IN (3, 4); UPDATE log SET place = 7 + place WHERE place < 0", 3 },
+        { "INSERT INTO log SELECT 6, sum, clock, horizon, threshold, records FROM log WHERE place = 5", 6 },
+    };
+    hlc_file_state state;
+    for (size_t i = 0; i < sizeof damages / sizeof *damages; i++) {
+        hlc_file *file = opened(fresh(PATH));
+        for (uint64_t l = 1; l <= 5; l++) put(file, l, "a", l == 1 ? "one" : "more");
+        hlc_file_close(file);
+        change(PATH, damages[i].sql);
+        EXPECT(answer_of_opening(0, &state), HLC_FILE_DAMAGED_LOG);
+        EXPECT(state.failure, HLC_FILE_DAMAGED_LOG);
+        EXPECT(state.word, damages[i].place);
+    }
+}
+
+static void what_is_before_the_damage_is_kept_on_demand(void)
+{
+    hlc_file_state state;
+    uint64_t stamp;
+    hlc_file *file = opened(fresh(PATH));
+    for (uint64_t l = 1; l <= 5; l++) put(file, l, "a", l == 1 ? "one" : "more");
+    put(file, 6, "a", "last");
+    hlc_file_close(file);
+    change(PATH, "UPDATE log SET sum = sum + 1 WHERE place = 4");
+    EXPECT(answer_of_opening(HLC_FILE_KEEP_BEFORE_DAMAGE, &state), HLC_OK);
+    EXPECT(state.aside, 3);
+    EXPECT(state.place, 3);
+    EXPECT(number_of(PATH, "SELECT count(*) FROM aside"), 3);
+    EXPECT(number_of(PATH, "SELECT max(place) FROM aside"), 6);
+    EXPECT(number_of(PATH, "SELECT max(place) FROM log"), 3);
+    /* Stamps that were returned do not come again. */
+    file = opened(PATH);
+    EXPECT_VALUE(file, 0, "a", "more");
+    EXPECT(put_at(file, 1, "a", "new", &stamp), HLC_OK);
+    HOLDS(stamp > AT(6));
+    hlc_file_close(file);
+    file = opened(PATH);
+    EXPECT_VALUE(file, 0, "a", "new");
+    hlc_file_close(file);
+}
+
+static void a_damaged_state_is_refused(void)
+{
+    hlc_file_state state;
+    make_two_checkpoints();
+    change(PATH, "UPDATE state SET clock = 1");
+    EXPECT(answer_of_opening(0, &state), HLC_FILE_CORRUPT);
+    make_two_checkpoints();
+    change(PATH, "DELETE FROM state");
+    EXPECT(answer_of_opening(0, &state), HLC_FILE_CORRUPT);
+    make_two_checkpoints();
+    change(PATH, "DROP TABLE piece");
+    EXPECT(answer_of_opening(0, &state), HLC_FILE_CORRUPT);
+}
+
+/* ---- Whose file it is ---- */
+
+static void copy(const char *from, const char *to)
+{
+    char command[256];
+    snprintf(command, sizeof command, "cp %s %s", from, to);
+    HOLDS(system(command) == 0);
+}
+
+static bool same(const char *one, const char *other)
+{
+    char command[256];
+    snprintf(command, sizeof command, "cmp %s %s", one, other);
+    return system(command) == 0;
+}
+
+static void other_files_are_refused_and_unchanged(void)
+{
+    static const struct {
+        const char *sql;
+        uint32_t answer;
+    } files[] = {
+        { "CREATE TABLE log(x); INSERT INTO log VALUES (1)", HLC_FILE_NOT_OURS },
+        { "PRAGMA journal_mode = WAL; CREATE TABLE log(x)", HLC_FILE_NOT_OURS },
+        { "PRAGMA application_id = 7; CREATE TABLE log(x)", HLC_FILE_NOT_OURS },
+        { "PRAGMA application_id = 0x686c6366; PRAGMA user_version = 2; CREATE TABLE log(x)", HLC_FILE_NEWER },
+    };
+    hlc_file_state state;
+    for (size_t i = 0; i < sizeof files / sizeof *files; i++) {
+        change(fresh(PATH), files[i].sql);
+        copy(PATH, "before");
+        EXPECT(answer_of_opening(0, &state), files[i].answer);
+        EXPECT(state.failure, files[i].answer);
+        EXPECT(state.word, files[i].answer == HLC_FILE_NEWER ? 2 : 0);
+        HOLDS(same(PATH, "before"));
+    }
+    fresh(PATH);
+    HOLDS(system("seq 5000 > opening.hlc") == 0);
+    copy(PATH, "before");
+    EXPECT(answer_of_opening(0, &state), HLC_FILE_NOT_OURS);
+    HOLDS(same(PATH, "before"));
+}
+
+/* The write-ahead log of another application, whose process ended early, stays as it is. */
+static void another_log_is_unchanged(void)
+{
+    hlc_file_state state;
+    fresh(PATH);
+    pid_t child = fork();
+    if (child == 0) {
+        sqlite3 *db;
+        sqlite3_open(PATH, &db);
+        sqlite3_exec(db, "PRAGMA journal_mode = WAL; CREATE TABLE t(x); INSERT INTO t VALUES (1)", NULL, NULL, NULL);
+        _exit(0);
+    }
+    waitpid(child, NULL, 0);
+    copy(PATH, "before");
+    copy("opening.hlc-wal", "before-wal");
+    EXPECT(answer_of_opening(0, &state), HLC_FILE_NOT_OURS);
+    HOLDS(same(PATH, "before"));
+    HOLDS(same("opening.hlc-wal", "before-wal"));
+    EXPECT(number_of(PATH, "SELECT x FROM t"), 1);
+}
+
+static void paths_that_cannot_be_opened(void)
+{
+    hlc_file *file;
+    hlc_file_state state = { 0 };
+    hlc_file_options options = { .flags = HLC_FILE_MUST_EXIST };
+    EXPECT(hlc_file_open("nowhere/file", NULL, &file, &state), HLC_FILE_CANNOT_OPEN);
+    EXPECT(state.failure, HLC_FILE_CANNOT_OPEN);
+    EXPECT(hlc_file_open(".", NULL, &file, NULL), HLC_FILE_CANNOT_OPEN);
+    EXPECT(hlc_file_open("", NULL, &file, NULL), HLC_FILE_CANNOT_OPEN);
+    EXPECT(hlc_file_open(fresh(PATH), &options, &file, NULL), HLC_FILE_CANNOT_OPEN);
+    HOLDS(access(PATH, F_OK) != 0);
+    HOLDS(access("opening.hlc-lock", F_OK) != 0);
+}
+
+static void options_out_of_range(void)
+{
+    static const hlc_file_options bad[] = {
+        { .size = 4 }, { .size = sizeof(hlc_file_options) + 8 }, { .flags = 8 }, { .nodes = 65 }, { .promise = 4 },
+        { .group_microseconds = 1000001 },
+    };
+    hlc_file *file;
+    uint64_t word;
+    size_t many;
+    hlc_file_state state = { .size = 4 };
+    fresh(PATH);
+    for (size_t i = 0; i < sizeof bad / sizeof *bad; i++) {
+        EXPECT(hlc_file_open(PATH, &bad[i], &file, NULL), HLC_FILE_BAD_OPTION);
+        HOLDS(file == NULL && access(PATH, F_OK) != 0);
+    }
+    EXPECT(hlc_file_open(PATH, NULL, &file, &state), HLC_FILE_BAD_OPTION);
+    HOLDS(file == NULL && access(PATH, F_OK) != 0);
+    file = opened_with(PATH, (hlc_file_options){ .size = sizeof(hlc_file_options), .nodes = 64 });
+    EXPECT(hlc_file_status(file, &state), HLC_FILE_BAD_OPTION);
+    EXPECT(hlc_file_append_records(file, NULL, 0, 4, &many, &word), HLC_FILE_BAD_OPTION);
+    hlc_file_close(file);
+}
+
+/* ---- One process ---- */
+
+static void a_second_opening_is_refused(void)
+{
+    hlc_file *file = opened(fresh(PATH)), *second;
+    hlc_file_state state = { 0 };
+    put(file, 1, "a", "one");
+    EXPECT(hlc_file_open(PATH, NULL, &second, &state), HLC_FILE_IN_USE);
+    HOLDS(symlink(PATH, "link.hlc") == 0);
+    EXPECT(hlc_file_open("link.hlc", NULL, &second, &state), HLC_FILE_IN_USE);
+    unlink("link.hlc");
+    pid_t child = fork();
+    if (child == 0) _exit(hlc_file_open("./opening.hlc", NULL, &second, NULL) == HLC_FILE_IN_USE ? 0 : 1);
+    int status;
+    waitpid(child, &status, 0);
+    EXPECT(status, 0);
+    put(file, 2, "a", "two");
+    hlc_file_close(file);
+    hlc_file_close(opened(PATH));
+}
+
+/* The lock ends with its process, whatever way that ends. */
+static void a_lock_dies_with_its_process(void)
+{
+    fresh(PATH);
+    pid_t child = fork();
+    if (child == 0) {
+        hlc_file *file = opened(PATH);
+        put(file, 1, "a", "one");
+        _exit(wrong);
+    }
+    int status;
+    waitpid(child, &status, 0);
+    EXPECT(status, 0);
+    hlc_file *file = opened(PATH);
+    EXPECT_VALUE(file, 0, "a", "one");
+    hlc_file_close(file);
+}
+
+static const struct test TESTS[] = {
+    TEST(a_write_is_there_after_an_opening),
+    TEST(a_checkpoint_replaces_its_log),
+    TEST(a_damaged_checkpoint_falls_back),
+    TEST(without_a_checkpoint_only_a_whole_log_serves),
+    TEST(a_damaged_log_is_refused_with_its_place),
+    TEST(what_is_before_the_damage_is_kept_on_demand),
+    TEST(a_damaged_state_is_refused),
+    TEST(other_files_are_refused_and_unchanged),
+    TEST(another_log_is_unchanged),
+    TEST(paths_that_cannot_be_opened),
+    TEST(options_out_of_range),
+    TEST(a_second_opening_is_refused),
+    TEST(a_lock_dies_with_its_process),
+};
+
+int main(void)
+{
+    return run_tests(TESTS, sizeof TESTS / sizeof *TESTS);
+}
