@@ -345,8 +345,8 @@ static int write_again(sqlite3_file *wal)
     return code == SQLITE_OK ? wal->pMethods->xSync(wal, SQLITE_SYNC_NORMAL) : code;
 }
 
-/* What is found is brought to disk, so that nothing that a reader sees is lost: the process before may have ended
- * without a sync, or since one failed. */
+/* What is found is synced, so that nothing that a reader sees is lost: the process before may have ended without a
+ * sync, or since one failed. */
 static uint32_t keep_what_is_found(struct db *db)
 {
     int64_t number;
@@ -356,6 +356,14 @@ static uint32_t keep_what_is_found(struct db *db)
     if (code == SQLITE_OK) code = write_again(wal);
     if (code != SQLITE_OK) return db_failure(db, code);
     sqlite3_wal_hook(db->sqlite, count_pages, db);
+    return HLC_OK;
+}
+
+/* Moves what was found into the file. Before, the row of `state` names the last log row: so a page of the log that the
+ * disk forgets is missed. A refused opening leaves the write-ahead log as it is. */
+uint32_t db_opened(struct db *db)
+{
+    sqlite3_db_config(db->sqlite, SQLITE_DBCONFIG_NO_CKPT_ON_CLOSE, 0, NULL);
     return db_move(db, SQLITE_CHECKPOINT_TRUNCATE);
 }
 
@@ -371,7 +379,6 @@ uint32_t db_open(struct db *db, const char *path, bool may_create, uint32_t node
     uint32_t answer = recognise(db, created, word);
     if (answer == HLC_OK && *created && !may_create) answer = HLC_FILE_CANNOT_OPEN;
     if (answer != HLC_OK) return answer;
-    sqlite3_db_config(db->sqlite, SQLITE_DBCONFIG_NO_CKPT_ON_CLOSE, 0, NULL);
     answer = *created ? make_tables(db, nodes) : prepare(db);
     if (answer == HLC_OK) answer = read_state(db);
     return answer == HLC_OK ? keep_what_is_found(db) : answer;

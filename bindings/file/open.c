@@ -143,6 +143,7 @@ static uint32_t open_locked(hlc_file *file, const char *path)
     uint64_t word = 0;
     uint32_t answer = db_open(&file->db, path, may_create, file->options.nodes, &created, &word);
     if (answer == HLC_OK) answer = recover(file, &word);
+    if (answer == HLC_OK) answer = db_opened(&file->db);
     /* There is no batch to be in doubt of. */
     if (answer == HLC_FILE_UNKNOWN || answer == HLC_FILE_SEALED) answer = db_failure(&file->db, file->db.code);
     if (answer == HLC_OK) answer = background_start(file);
