@@ -15,14 +15,14 @@ void change_end(hlc_file *file)
 }
 
 /* Makes a stamp the horizon, where it is above it. A part of no keys is all it takes. */
-void raise_horizon(hlc_file *file, uint64_t stamp)
+uint32_t raise_horizon(hlc_file *file, uint64_t stamp)
 {
     uint64_t horizon, word, kept, bytes, dropped;
     size_t len;
     bool more;
     hlc_horizon(&file->store, &horizon);
-    if (stamp <= horizon) return;
-    hlc_vacuum_part(&file->store, stamp, NULL, 0, 0, &word, &kept, &bytes, &dropped, NULL, 0, &len, &more);
+    if (stamp <= horizon) return HLC_OK;
+    return hlc_vacuum_part(&file->store, stamp, NULL, 0, 0, &word, &kept, &bytes, &dropped, NULL, 0, &len, &more);
 }
 
 /* Lets the store accept the rest of an entry. Only memory can be missing: the links took all of its records. */
@@ -33,11 +33,11 @@ static uint32_t accept_entry(hlc_file *file, struct entry *entry)
     uint32_t answer = hlc_records_apply(&file->store, entry->bytes + entry->used, entry->len - entry->used, &used,
                                         &many, &threshold, &word);
     entry->used += used;
+    if (answer == HLC_OK) answer = raise_horizon(file, entry->horizon);
     if (answer != HLC_OK) return answer;
     file->accepted += entry->len;
     file->applied = entry->place;
     file->applied_sum = entry->sum;
-    raise_horizon(file, entry->horizon);
     return HLC_OK;
 }
 

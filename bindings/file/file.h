@@ -207,7 +207,7 @@ void change_begin(hlc_file *file);
 void change_end(hlc_file *file);
 uint32_t accept_behind(hlc_file *file);
 void accept_group(hlc_file *file, struct call *group);
-void raise_horizon(hlc_file *file, uint64_t stamp);
+uint32_t raise_horizon(hlc_file *file, uint64_t stamp);
 void drop_behind(hlc_file *file);
 
 /* write.c */

@@ -204,8 +204,8 @@ uint32_t hlc_file_checkpoint(hlc_file *file, uint64_t *place);
 
 /* Vacuums to a stamp, as hlc_vacuum_to does, in parts between which reads and writes go on. The stamp is on disk first,
  * as a retention threshold: no snapshot opens below it any more. word: the stamp, or the refusal's word; kept, bytes,
- * dropped: sums over the parts. Refusals: 8, 9, those of the section, and 15 after which the horizon stays where it
- * is put and the next call goes on. Writes. */
+ * dropped: sums over the parts. Refusals: 8, 9, and those of the section. After 15 and 212 the threshold stays on disk,
+ * if it was put there, and the next call goes on. Writes. */
 uint32_t hlc_file_vacuum_to(hlc_file *file, uint64_t stamp, uint64_t *word, uint64_t *kept, uint64_t *bytes,
                             uint64_t *dropped);
 
@@ -225,7 +225,7 @@ void hlc_file_read_end(hlc_file *file);
 
 /* Opens a snapshot, which any thread may use until it is closed or the file is; and closes it. As hlc_open_snapshot,
  * hlc_open_snapshot_at_floor and hlc_close_snapshot. They are not kept in the file, and wait while a checkpoint copies
- * the store; other reads do not. */
+ * the store; other reads do not. While there is no memory for a batch after 212, opening one answers 15. */
 uint32_t hlc_file_open_snapshot(hlc_file *file, uint64_t stamp, uint64_t *id);
 uint32_t hlc_file_open_snapshot_at_floor(hlc_file *file, uint64_t *id, uint64_t *stamp);
 uint32_t hlc_file_close_snapshot(hlc_file *file, uint64_t id, uint64_t *stamp);

@@ -15,18 +15,20 @@ void hlc_file_read_end(hlc_file *file)
 
 uint32_t hlc_file_open_snapshot(hlc_file *file, uint64_t stamp, uint64_t *id)
 {
+    *id = 0;
     change_begin(file);
-    accept_behind(file);
-    uint32_t answer = hlc_open_snapshot(&file->store, stamp, id);
+    uint32_t answer = accept_behind(file);
+    if (answer == HLC_OK) answer = hlc_open_snapshot(&file->store, stamp, id);
     change_end(file);
     return answer;
 }
 
 uint32_t hlc_file_open_snapshot_at_floor(hlc_file *file, uint64_t *id, uint64_t *stamp)
 {
+    *id = *stamp = 0;
     change_begin(file);
-    accept_behind(file);
-    uint32_t answer = hlc_open_snapshot_at_floor(&file->store, id, stamp);
+    uint32_t answer = accept_behind(file);
+    if (answer == HLC_OK) answer = hlc_open_snapshot_at_floor(&file->store, id, stamp);
     change_end(file);
     return answer;
 }

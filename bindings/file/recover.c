@@ -231,7 +231,7 @@ static uint32_t damaged_log(const struct recovery *recovery, uint64_t *word)
     return HLC_FILE_DAMAGED_LOG;
 }
 
-static void begin_at(hlc_file *file, const struct recovery *recovery)
+static uint32_t begin_at(hlc_file *file, const struct recovery *recovery)
 {
     const struct state *state = &file->db.state;
     file->applied = recovery->place;
@@ -243,7 +243,7 @@ static void begin_at(hlc_file *file, const struct recovery *recovery)
     file->report.place = state->place;
     finish_checkpoint(file, file->newest.place, 0, recovery->len);
     hlc_close_all(&file->store);
-    raise_horizon(file, state->horizon);
+    return raise_horizon(file, state->horizon);
 }
 
 /* Makes the store and the clock of a file from its tables. */
@@ -264,7 +264,7 @@ uint32_t recover(hlc_file *file, uint64_t *word)
         links_of_store(&file->links, &file->store);
     }
     if (answer == HLC_OK) answer = write_down(file, &recovery, known_place);
-    if (answer == HLC_OK) begin_at(file, &recovery);
+    if (answer == HLC_OK) answer = begin_at(file, &recovery);
     file->report.damaged = recovery.damaged;
     return answer;
 }

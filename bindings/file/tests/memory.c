@@ -98,7 +98,16 @@ static uint32_t call_checkpoint(void)
 static uint32_t call_vacuum(void)
 {
     uint64_t word, kept, bytes, dropped;
-    return hlc_file_vacuum_to(file, AT(2), &word, &kept, &bytes, &dropped);
+    return hlc_file_vacuum_to(file, AT(3), &word, &kept, &bytes, &dropped);
+}
+
+static uint32_t call_threshold(void)
+{
+    uint8_t bytes[9];
+    size_t len, many;
+    uint64_t word;
+    hlc_record_threshold(AT(3), bytes, sizeof bytes, &len);
+    return hlc_file_append_records(file, bytes, len, 0, &many, &word);
 }
 
 static uint32_t call_snapshot(void)
@@ -119,28 +128,31 @@ static uint32_t call_open(void)
 static const struct {
     const char *name;
     uint32_t (*call)(void);
-    bool writes; /* whether it gives `new` its value */
+    bool writes;   /* whether it gives `new` its value */
+    bool advances; /* whether it advances the horizon */
 } CALLS[] = {
-    { "write", call_write, true },
-    { "append, in a group", call_append_group, true },
-    { "append, not synced", call_append_written, true },
-    { "append of records", call_records, true },
-    { "join", call_join, false },
-    { "send", call_send, false },
-    { "checkpoint", call_checkpoint, false },
-    { "vacuum", call_vacuum, false },
-    { "snapshot", call_snapshot, false },
-    { "open", call_open, false },
+    { "write", call_write, true, false },
+    { "append, in a group", call_append_group, true, false },
+    { "append, not synced", call_append_written, true, false },
+    { "append of records", call_records, true, false },
+    { "join", call_join, false, false },
+    { "send", call_send, false, false },
+    { "checkpoint", call_checkpoint, false, false },
+    { "vacuum", call_vacuum, false, true },
+    { "threshold", call_threshold, false, true },
+    { "snapshot", call_snapshot, false, false },
+    { "open", call_open, false, false },
 };
 
 static void make_begin(void)
 {
-    uint64_t place;
+    uint64_t place, word, kept, bytes, dropped;
     file = opened(fresh(BEGIN));
     for (uint64_t l = 1; l <= 5; l++) {
         put(file, l, "old", l % 2 ? "odd" : "even");
         if (l == 3) EXPECT(hlc_file_checkpoint(file, &place), HLC_OK);
     }
+    EXPECT(hlc_file_vacuum_to(file, AT(2), &word, &kept, &bytes, &dropped), HLC_OK);
     hlc_file_close(file);
 }
 
@@ -148,6 +160,25 @@ static void expect_old(void)
 {
     EXPECT_VALUE(file, AT(5), "old", "odd");
     EXPECT_VALUE(file, AT(4), "old", "even");
+}
+
+static void expect_horizon(size_t at)
+{
+    uint64_t horizon;
+    hlc_file_horizon(file, &horizon);
+    EXPECT(horizon, AT(CALLS[at].advances ? 3 : 2));
+}
+
+/* While there is no memory for a batch that is on disk, no snapshot opens, where half of it could be seen. */
+static void expect_no_snapshot(void)
+{
+    uint64_t id, stamp;
+    refuse(1);
+    EXPECT(hlc_file_open_snapshot_at_floor(file, &id, &stamp), HLC_NO_MEMORY);
+    HOLDS(was_refused() && id == 0 && stamp == 0);
+    refuse(1);
+    EXPECT(hlc_file_open_snapshot(file, AT(5), &id), HLC_NO_MEMORY);
+    HOLDS(was_refused() && id == 0);
 }
 
 /* Makes a call once more until it takes place: a refusal that left a doubt is settled by the next write. */
@@ -179,16 +210,19 @@ static bool make_refused(size_t at, size_t number)
     HOLDS(answer == HLC_OK || answer == HLC_NO_MEMORY || answer == HLC_FILE_LATER || answer == HLC_FILE_UNKNOWN ||
           (answer == HLC_FILE_CANNOT_OPEN && CALLS[at].call == call_open));
     if (answer == HLC_FILE_LATER) {
+        expect_no_snapshot();
         EXPECT(state_of(file).waiting, 1);
         put(file, 60, "next", "z");
         EXPECT(state_of(file).waiting, 0);
-        EXPECT_VALUE(file, 0, "new", "x");
+        if (CALLS[at].writes) EXPECT_VALUE(file, 0, "new", "x");
     } else if (answer != HLC_OK) {
         if (file) EXPECT_VALUE(file, 0, "new", "");
         make_again(at);
     }
+    expect_horizon(at);
     EXPECT(hlc_file_close(file), HLC_OK);
     file = opened(PATH);
+    expect_horizon(at);
     if (CALLS[at].writes) EXPECT_VALUE(file, 0, "new", "x");
     expect_old();
     EXPECT(hlc_file_close(file), HLC_OK);
