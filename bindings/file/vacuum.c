@@ -31,19 +31,18 @@ static uint32_t vacuum_part(hlc_file *file, uint64_t stamp, uint8_t *after, size
     return HLC_OK;
 }
 
-/* Vacuums to a stamp. The caller has `vacuuming`, so that the threshold on disk is not below a horizon in memory. */
+/* Vacuums to a stamp. The caller has `vacuuming`, so that the threshold on disk is not below a horizon in memory. It is
+ * appended also where the stamp is the horizon, which may not be synced. */
 static uint32_t vacuum(hlc_file *file, uint64_t stamp, struct vacuumed *sum)
 {
     hlc_store mine;
-    uint64_t horizon;
     uint8_t after[MOST_KEY];
     size_t after_len = 0;
     bool more = true;
     hlc_file_read_begin(file, &mine);
     uint32_t answer = hlc_check_vacuum(&mine, stamp, &sum->word);
-    hlc_horizon(&mine, &horizon);
     hlc_file_read_end(file);
-    if (answer == HLC_OK && stamp > horizon) answer = append_threshold(file, stamp);
+    if (answer == HLC_OK) answer = append_threshold(file, stamp);
     while (answer == HLC_OK && more) answer = vacuum_part(file, stamp, after, &after_len, sum, &more);
     return answer;
 }

@@ -49,8 +49,42 @@ static void synced_rows_are_never_lost_silently(void)
     }
 }
 
+/* Power is lost, with all that is not synced. */
+static void lose_power(hlc_file *file)
+{
+    shim.fault = LOSES_POWER;
+    shim.lasts = true;
+    shim.at = shim.done + 1;
+    hlc_file_close(file);
+    for (int i = 0; i < MOST_FILES; i++) {
+        if (kept_files[i].path[0]) drop_all(&kept_files[i]);
+    }
+    power_up(1);
+    shim_set(NO_FAULT, false, 0, 0);
+}
+
+/* A vacuum syncs its stamp, also where that is the horizon by a threshold which was only written. */
+static void a_vacuum_outlives_a_loss_of_power(void)
+{
+    uint8_t bytes[9];
+    size_t len, many;
+    uint64_t word, kept, cost, dropped;
+    shim_set(NO_FAULT, false, 0, 0);
+    hlc_file *file = opened(fresh(PATH));
+    for (uint64_t l = 1; l <= 5; l++) put(file, l, "a", "x");
+    hlc_record_threshold(AT(4), bytes, sizeof bytes, &len);
+    EXPECT(hlc_file_append_records(file, bytes, len, HLC_FILE_WRITTEN, &many, &word), HLC_OK);
+    EXPECT(hlc_file_vacuum_to(file, AT(4), &word, &kept, &cost, &dropped), HLC_OK);
+    lose_power(file);
+    file = opened(PATH);
+    EXPECT_VALUE(file, AT(3), "a", "refused 9");
+    EXPECT_VALUE(file, AT(4), "a", "x");
+    hlc_file_close(file);
+}
+
 static const struct test TESTS[] = {
     TEST(synced_rows_are_never_lost_silently),
+    TEST(a_vacuum_outlives_a_loss_of_power),
 };
 
 int main(void)
