@@ -212,15 +212,28 @@ static void lead(hlc_file *file)
     turn_give(&file->turns);
 }
 
+/* Returns the greatest threshold of an entry that a floor reached, or 0. */
+static uint64_t reached_threshold(const struct entry *entry, uint64_t floor)
+{
+    struct record record;
+    uint64_t greatest = 0, fault;
+    for (size_t at = 0; at < entry->len; at += record.len) {
+        record_read(entry->bytes + at, entry->len - at, &record, &fault);
+        if (record.kind == RECORD_THRESHOLD && record.stamp <= floor) rise(&greatest, record.stamp);
+    }
+    return greatest;
+}
+
 /* Raises the file's clock and its thresholds by an entry whose records the links have taken. A threshold becomes the
- * horizon once the floor has reached it. */
+ * horizon once the floor has reached it; of those that wait for the floor, the greatest is kept. */
 static void take_entry(hlc_file *file, struct entry *entry)
 {
+    bool waits = file->threshold > file->horizon;
+    uint64_t floor = waits || entry->threshold > 0 ? links_floor(&file->links) : 0;
     rise(&file->clock, entry->stamp);
+    if (waits && file->threshold <= floor) rise(&file->horizon, file->threshold);
+    if (entry->threshold > 0) rise(&file->horizon, reached_threshold(entry, floor));
     rise(&file->threshold, entry->threshold);
-    uint64_t floor = file->threshold > file->horizon ? links_floor(&file->links) : 0;
-    if (entry->threshold <= floor) rise(&file->horizon, entry->threshold);
-    if (file->threshold <= floor) rise(&file->horizon, file->threshold);
     entry->threshold = file->threshold;
     entry->horizon = file->horizon;
 }

@@ -185,8 +185,9 @@ uint32_t hlc_file_join(hlc_file *file, uint16_t *node, uint64_t *start);
 
 /* Appends records as bytes (docs/formats.md), as other machines made them: all, or none where one is refused. Records
  * that came before are passed over, and are not written again. A threshold becomes the horizon as soon as the floor
- * reached it. many: how many records came before the refused one, or how many there are; word: 0, or the refusal's
- * word. Refusals: 204, 213, then of each record those of hlc_records_apply, and those of the section. Writes. */
+ * reached it; of several that wait for the floor, the greatest alone counts. many: how many records came before the
+ * refused one, or how many there are; word: 0, or the refusal's word. Refusals: 204, 213, then of each record those of
+ * hlc_records_apply, and those of the section. Writes. */
 uint32_t hlc_file_append_records(hlc_file *file, const uint8_t *bytes, size_t bytes_len, uint32_t promise, size_t *many,
                                  uint64_t *word);
 

@@ -276,6 +276,45 @@ static void a_threshold_waits_for_the_floor(void)
     hlc_file_close(file);
 }
 
+static uint64_t horizon_of(hlc_file *file)
+{
+    uint64_t horizon;
+    EXPECT(hlc_file_horizon(file, &horizon), HLC_OK);
+    return horizon;
+}
+
+/* Appends two thresholds and a write between them as one batch. */
+static void append_thresholds(hlc_file *file, uint64_t one, uint64_t number, uint64_t l, uint64_t other)
+{
+    uint8_t bytes[100];
+    size_t at, len, many;
+    uint64_t word;
+    hlc_record_threshold(AT(one), bytes, sizeof bytes, &at);
+    hlc_item_write(0, number, AT(l), BYTES("a"), BYTES("x"), bytes + at, sizeof bytes - at, &len);
+    hlc_record_threshold(AT(other), bytes + at + len, sizeof bytes - at - len, &many);
+    EXPECT(hlc_file_append_records(file, bytes, at + len + many, 0, &many, &word), HLC_OK);
+}
+
+/* A threshold that the floor reached counts beside those that wait, of which the greatest counts. */
+static void each_threshold_that_is_reached_counts(void)
+{
+    hlc_file *file = opened(fresh(PATH));
+    put(file, 10, "a", "x");
+    append_thresholds(file, 15, 1, 20, 100);
+    EXPECT(horizon_of(file), AT(15));
+    hlc_file_close(file);
+    file = opened(PATH);
+    EXPECT(horizon_of(file), AT(15));
+    put(file, 99, "a", "x");
+    EXPECT(horizon_of(file), AT(15));
+    /* The floor reaches 100 by the batch in which 200 begins to wait. */
+    append_thresholds(file, 16, 3, 101, 200);
+    EXPECT(horizon_of(file), AT(100));
+    put(file, 200, "a", "x");
+    EXPECT(horizon_of(file), AT(200));
+    hlc_file_close(file);
+}
+
 static void a_vacuum_by_age(void)
 {
     uint64_t word, kept, bytes, dropped, floor;
@@ -436,6 +475,7 @@ static const struct test TESTS[] = {
     TEST(records_come_all_or_none),
     TEST(no_snapshot_opens_below_a_threshold),
     TEST(a_threshold_waits_for_the_floor),
+    TEST(each_threshold_that_is_reached_counts),
     TEST(a_vacuum_by_age),
     TEST(reading_calls_are_those_of_the_store),
     TEST(a_policy_makes_checkpoints),
