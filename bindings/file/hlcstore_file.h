@@ -43,13 +43,15 @@ typedef struct hlc_file_batch hlc_file_batch;
 /* What a file answers beside the refusals of hlcstore.h. docs: "What an operator does" in README.md. */
 typedef enum {
     HLC_FILE_IN_USE = 200,        /* another process, or this one, has the file open */
-    HLC_FILE_CANNOT_OPEN = 201,   /* the path, or the lock file beside it, cannot be opened or made */
+    HLC_FILE_CANNOT_OPEN = 201,   /* the path, or the lock file beside it, cannot be opened or made; or the file has
+                                     several hard links */
     HLC_FILE_NOT_OURS = 202,      /* another application's file, or none of SQLite; it is unchanged */
     HLC_FILE_NEWER = 203,         /* its schema is newer than this library; word: its version; it is unchanged */
     HLC_FILE_BAD_OPTION = 204,    /* an option, a promise or a size is out of range */
     HLC_FILE_FULL = 205,          /* the disk is full */
     HLC_FILE_IO = 206,            /* the disk failed */
-    HLC_FILE_CORRUPT = 207,       /* SQLite finds its own structure damaged */
+    HLC_FILE_CORRUPT = 207,       /* SQLite finds its own structure damaged; or the file is missing or empty beside
+                                     its write-ahead log, which stays as it is */
     HLC_FILE_DAMAGED_LOG = 208,   /* a log row is missing, swapped or altered; word: its place */
     HLC_FILE_NO_CHECKPOINT = 209, /* each checkpoint is damaged, and the log does not begin at the first record; word:
                                      how many are */

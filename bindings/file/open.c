@@ -6,6 +6,7 @@
 #include <stdlib.h>
 #include <string.h>
 #include <sys/file.h>
+#include <sys/stat.h>
 #include <unistd.h>
 
 enum { CHECKPOINT_BYTES = 64 << 20, MOST_STARTING = 64, MOST_WAIT = 1000000 };
@@ -36,6 +37,19 @@ static uint32_t take_lock(hlc_file *file, const char *path)
     if (file->lock < 0) return HLC_FILE_CANNOT_OPEN;
     if (flock(file->lock, LOCK_EX | LOCK_NB) == 0) return HLC_OK;
     return errno == EWOULDBLOCK ? HLC_FILE_IN_USE : HLC_FILE_CANNOT_OPEN;
+}
+
+/* Refuses what SQLite would open without its write-ahead log: a file with a second name, whose log may lie beside the
+ * other one; and an empty file, whose log SQLite would delete. */
+static uint32_t check_log(const char *path)
+{
+    struct stat found = { 0 }, log = { 0 };
+    char *name = NULL;
+    if (stat(path, &found) == 0 && found.st_nlink > 1) return HLC_FILE_CANNOT_OPEN;
+    if (asprintf(&name, "%s-wal", path) < 0) return HLC_NO_MEMORY;
+    bool has_log = stat(name, &log) == 0 && log.st_size > 0;
+    free(name);
+    return has_log && found.st_size == 0 ? HLC_FILE_CORRUPT : HLC_OK;
 }
 
 /* ---- Options ---- */
@@ -119,13 +133,21 @@ static hlc_file *file_new(void)
     return file;
 }
 
+/* The lock ends here, though a child of a fork may have its descriptor open. */
+static void give_lock(hlc_file *file)
+{
+    if (file->lock < 0) return;
+    flock(file->lock, LOCK_UN);
+    close(file->lock);
+}
+
 /* The lock ends last, when nothing of the file is used any more. */
 static void file_free(hlc_file *file)
 {
     db_close(&file->db);
     drop_behind(file);
     hlc_close(&file->store);
-    if (file->lock >= 0) close(file->lock);
+    give_lock(file);
     turns_destroy(&file->turns);
     turns_destroy(&file->changing);
     pthread_mutex_destroy(&file->checkpointing);
@@ -162,6 +184,7 @@ static uint32_t open_path(hlc_file *file, const char *path, const hlc_file_optio
     bool must_exist = file->options.flags & HLC_FILE_MUST_EXIST;
     bool missing = must_exist && access(full, F_OK) != 0;
     answer = missing ? HLC_FILE_CANNOT_OPEN : take_lock(file, full);
+    if (answer == HLC_OK) answer = check_log(full);
     answer = answer == HLC_OK ? open_locked(file, full) : note(file, answer, 0);
     free(full);
     return answer;

@@ -343,6 +343,78 @@ static void a_lock_dies_with_its_process(void)
     hlc_file_close(file);
 }
 
+/* Leaves a file whose last write is in its write-ahead log alone. */
+static void leave_a_log(void)
+{
+    fresh(PATH);
+    pid_t child = fork();
+    if (child == 0) {
+        hlc_file *file = opened(PATH);
+        put(file, 1, "a", "one");
+        _exit(wrong);
+    }
+    int status;
+    waitpid(child, &status, 0);
+    EXPECT(status, 0);
+}
+
+/* The write-ahead log lies beside one of two names. */
+static void a_second_hard_link_is_refused(void)
+{
+    hlc_file *file;
+    leave_a_log();
+    HOLDS(link(PATH, fresh("link.hlc")) == 0);
+    EXPECT(hlc_file_open("link.hlc", NULL, &file, NULL), HLC_FILE_CANNOT_OPEN);
+    EXPECT(hlc_file_open(PATH, NULL, &file, NULL), HLC_FILE_CANNOT_OPEN);
+    fresh("link.hlc");
+    file = opened(PATH);
+    EXPECT_VALUE(file, 0, "a", "one");
+    hlc_file_close(file);
+}
+
+/* SQLite would delete the write-ahead log. */
+static void a_log_without_its_file_is_refused(void)
+{
+    hlc_file *file;
+    hlc_file_state state = { 0 };
+    hlc_file_options options = { .flags = HLC_FILE_MUST_EXIST };
+    leave_a_log();
+    copy("opening.hlc-wal", "before-wal");
+    copy(PATH, "before");
+    HOLDS(truncate(PATH, 0) == 0);
+    EXPECT(hlc_file_open(PATH, &options, &file, &state), HLC_FILE_CORRUPT);
+    EXPECT(state.failure, HLC_FILE_CORRUPT);
+    EXPECT(hlc_file_open(PATH, NULL, &file, NULL), HLC_FILE_CORRUPT);
+    unlink(PATH);
+    EXPECT(hlc_file_open(PATH, NULL, &file, NULL), HLC_FILE_CORRUPT);
+    HOLDS(access(PATH, F_OK) != 0);
+    HOLDS(same("opening.hlc-wal", "before-wal"));
+    copy("before", PATH);
+    file = opened(PATH);
+    EXPECT_VALUE(file, 0, "a", "one");
+    hlc_file_close(file);
+}
+
+/* A child of a fork has the descriptor of the lock too. */
+static void closing_ends_the_lock(void)
+{
+    int ends[2];
+    char byte;
+    HOLDS(pipe(ends) == 0);
+    hlc_file *file = opened(fresh(PATH));
+    pid_t child = fork();
+    if (child == 0) {
+        close(ends[1]);
+        _exit(read(ends[0], &byte, 1) != 0);
+    }
+    hlc_file_close(file);
+    EXPECT(hlc_file_open(PATH, NULL, &file, NULL), HLC_OK);
+    hlc_file_close(file);
+    close(ends[0]);
+    close(ends[1]);
+    waitpid(child, NULL, 0);
+}
+
 static const struct test TESTS[] = {
     TEST(a_write_is_there_after_an_opening),
     TEST(a_checkpoint_replaces_its_log),
@@ -357,6 +429,9 @@ static const struct test TESTS[] = {
     TEST(options_out_of_range),
     TEST(a_second_opening_is_refused),
     TEST(a_lock_dies_with_its_process),
+    TEST(a_second_hard_link_is_refused),
+    TEST(a_log_without_its_file_is_refused),
+    TEST(closing_ends_the_lock),
 };
 
 int main(void)
