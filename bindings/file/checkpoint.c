@@ -88,7 +88,8 @@ static uint32_t complete(hlc_file *file, const struct making *making)
         .many = 7,
         .numbers = { making->id, making->place, making->log_sum, making->pieces, making->len, making->sum },
     };
-    added.numbers[6] = sum_numbers(added.numbers, 6);
+    /* The sum is of these and of `damaged`, which is 0. */
+    added.numbers[6] = sum_numbers(added.numbers, 7);
     turn_take(&file->turns);
     uint32_t answer = db_begin(db, true);
     if (answer == HLC_OK) {

@@ -45,7 +45,7 @@ static const char *const STATEMENT_TEXTS[STATEMENTS] = {
                     " ORDER BY id DESC",
     [CHECKPOINT_ADD] = "INSERT INTO checkpoint VALUES (?1, ?2, ?3, ?4, ?5, ?6, ?7, 0)",
     [CHECKPOINT_CUT] = "DELETE FROM checkpoint WHERE id < ?1",
-    [CHECKPOINT_DAMAGED] = "UPDATE checkpoint SET damaged = 1 WHERE id = ?1",
+    [CHECKPOINT_DAMAGED] = "UPDATE checkpoint SET damaged = 1, row_sum = ?2 WHERE id = ?1",
 };
 
 /* ---- Sums ---- */

@@ -53,8 +53,8 @@ typedef enum {
     HLC_FILE_CORRUPT = 207,       /* SQLite finds its own structure damaged; or the file is missing or empty beside
                                      its write-ahead log, which stays as it is */
     HLC_FILE_DAMAGED_LOG = 208,   /* a log row is missing, swapped or altered; word: its place */
-    HLC_FILE_NO_CHECKPOINT = 209, /* each checkpoint is damaged, and the log does not begin at the first record; word:
-                                     how many are */
+    HLC_FILE_NO_CHECKPOINT = 209, /* no checkpoint is whole, and the log does not begin at the first record; word: how
+                                     many checkpoints are damaged */
     HLC_FILE_UNKNOWN = 210,       /* whether the batch is on disk cannot be known before the file is opened again; it is
                                      not visible. The file tries to find out before the next write; see
                                      hlc_file_status */

@@ -12,7 +12,7 @@ struct found {
     uint64_t len;
     uint64_t last_sum;
     uint64_t row_sum;
-    uint64_t damaged;
+    uint64_t damaged; /* 1 where an opening found it so */
 };
 
 /* How far the recovery came: up to this place, with the sum there. */
@@ -21,8 +21,10 @@ struct recovery {
     uint64_t sum;
     uint64_t len;      /* bytes of the checkpoint */
     uint64_t log_len;  /* bytes of log behind it */
+    uint64_t first;    /* place of the first log row behind the checkpoint, or 0 */
+    uint64_t unusable; /* how many checkpoints are damaged, with those of earlier openings */
     uint64_t damaged;
-    uint64_t damaged_ids[MOST_DAMAGED];
+    struct found damaged_ones[MOST_DAMAGED];
 };
 
 /* ---- The checkpoint ---- */
@@ -53,13 +55,20 @@ static uint32_t feed_pieces(struct db *db, hlc_restoring *restoring, const struc
     return answer == HLC_FILE_CORRUPT ? HLC_OK : answer;
 }
 
+/* The sum of a row of `checkpoint`. */
+static uint64_t sum_found(const struct found *found)
+{
+    const uint64_t numbers[] = { found->id, found->place, found->sum, found->pieces, found->len, found->last_sum,
+                                 found->damaged };
+    return sum_numbers(numbers, 7);
+}
+
 /* Opens the store from a checkpoint. whole: whether it is undamaged; if not, the store stays closed. */
 static uint32_t restore(hlc_file *file, const struct found *found, bool *whole)
 {
     hlc_restoring restoring = HLC_NO_RESTORING;
     uint64_t word;
-    const uint64_t numbers[] = { found->id, found->place, found->sum, found->pieces, found->len, found->last_sum };
-    *whole = found->row_sum == sum_numbers(numbers, 6);
+    *whole = found->row_sum == sum_found(found);
     if (!*whole) return HLC_OK;
     uint32_t answer = hlc_restore_start(&restoring);
     if (answer == HLC_OK) answer = feed_pieces(&file->db, &restoring, found, whole);
@@ -89,16 +98,17 @@ static uint32_t restore_newest(hlc_file *file, struct recovery *recovery)
     while (answer == HLC_OK && !whole && sqlite3_step(rows) == SQLITE_ROW) {
         struct found found = found_in(rows);
         if (file->newest_id == 0) file->newest_id = found.id;
-        if (found.damaged) continue;
-        answer = restore(file, &found, &whole);
+        bool marked = found.damaged && found.row_sum == sum_found(&found);
+        if (!marked) answer = restore(file, &found, &whole);
         if (answer != HLC_OK) break;
+        if (!whole) recovery->unusable++;
         if (whole) {
             file->newest = (struct saved){ found.id, found.place };
             recovery->place = found.place;
             recovery->sum = found.sum;
             recovery->len = found.len;
-        } else if (recovery->damaged < MOST_DAMAGED) {
-            recovery->damaged_ids[recovery->damaged++] = found.id;
+        } else if (!marked && recovery->damaged < MOST_DAMAGED) {
+            recovery->damaged_ones[recovery->damaged++] = found;
         }
     }
     int code = sqlite3_reset(rows);
@@ -142,6 +152,7 @@ static uint32_t apply_row(hlc_file *file, struct recovery *recovery, sqlite3_stm
     uint64_t threshold, word;
     size_t len, used, many;
     uint64_t sum = read_row(row, recovery->sum, &state, &bytes, &len);
+    if (recovery->first == 0) recovery->first = state.place;
     if (state.place != recovery->place + 1 || state.sum != sum) return HLC_FILE_DAMAGED_LOG;
     if (state.place == known->place && sum != known->sum) return HLC_FILE_DAMAGED_LOG;
     if (!take_row(&file->links, bytes, len)) return HLC_FILE_DAMAGED_LOG;
@@ -214,17 +225,19 @@ static uint32_t write_down(hlc_file *file, const struct recovery *recovery, uint
     uint32_t answer = db_begin(db, true);
     if (answer != HLC_OK) return answer;
     for (uint64_t i = 0; i < recovery->damaged && answer == HLC_OK; i++) {
-        struct values id = { .many = 1, .numbers = { recovery->damaged_ids[i] } };
-        answer = db_do(db, CHECKPOINT_DAMAGED, &id);
+        struct found marked = recovery->damaged_ones[i];
+        marked.damaged = 1;
+        struct values values = { .many = 2, .numbers = { marked.id, sum_found(&marked) } };
+        answer = db_do(db, CHECKPOINT_DAMAGED, &values);
     }
     return answer == HLC_OK ? db_end_with(db, db->state, true) : db_end(db, answer);
 }
 
-/* Answers a damaged log: without a whole checkpoint it may only begin too late. */
-static uint32_t damaged_log(const struct recovery *recovery, uint64_t *word)
+/* Answers a damaged log. Where no checkpoint was restored and the first record is not there, nothing is to be kept. */
+static uint32_t damaged_log(const hlc_file *file, const struct recovery *recovery, uint64_t *word)
 {
-    if (recovery->place == 0 && recovery->damaged > 0) {
-        *word = recovery->damaged;
+    if (file->newest.id == 0 && (recovery->first != 1 || (recovery->place == 0 && recovery->unusable > 0))) {
+        *word = recovery->unusable;
         return HLC_FILE_NO_CHECKPOINT;
     }
     *word = recovery->place + 1;
@@ -257,7 +270,7 @@ uint32_t recover(hlc_file *file, uint64_t *word)
         answer = apply_log(file, &recovery);
     }
     if (answer == HLC_FILE_DAMAGED_LOG) {
-        answer = damaged_log(&recovery, word);
+        answer = damaged_log(file, &recovery, word);
         bool keeps = answer == HLC_FILE_DAMAGED_LOG && file->options.flags & HLC_FILE_KEEP_BEFORE_DAMAGE;
         if (keeps) answer = move_aside(file, &recovery);
         /* The links have taken some records of the damaged row. */

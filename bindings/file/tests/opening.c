@@ -91,6 +91,7 @@ static void a_damaged_checkpoint_falls_back(void)
         "UPDATE piece SET number = 7 WHERE checkpoint = 2",
         "UPDATE checkpoint SET place = 3 WHERE id = 2",
         "UPDATE checkpoint SET sum = sum + 1 WHERE id = 2",
+        "UPDATE checkpoint SET damaged = 1 WHERE id = 2",
     };
     hlc_file_state state;
     uint64_t place;
@@ -122,7 +123,16 @@ static void without_a_checkpoint_only_a_whole_log_serves(void)
     EXPECT(state.failure, HLC_FILE_NO_CHECKPOINT);
     EXPECT(state.word, 2);
     EXPECT(answer_of_opening(HLC_FILE_KEEP_BEFORE_DAMAGE, &state), HLC_FILE_NO_CHECKPOINT);
+    make_two_checkpoints();
+    change(PATH, "DELETE FROM checkpoint");
+    EXPECT(answer_of_opening(HLC_FILE_KEEP_BEFORE_DAMAGE, &state), HLC_FILE_NO_CHECKPOINT);
+    EXPECT(state.word, 0);
     hlc_file *file = opened(fresh(PATH));
+    put(file, 1, "a", "one");
+    hlc_file_close(file);
+    change(PATH, "DELETE FROM log");
+    EXPECT(answer_of_opening(HLC_FILE_KEEP_BEFORE_DAMAGE, &state), HLC_FILE_NO_CHECKPOINT);
+    file = opened(fresh(PATH));
     uint64_t place;
     put(file, 1, "a", "one");
     EXPECT(hlc_file_checkpoint(file, &place), HLC_OK);
@@ -146,7 +156,6 @@ static void a_damaged_log_is_refused_with_its_place(void)
         { "UPDATE log SET threshold = 1 WHERE place = 3", 3 },
         { "DELETE FROM log WHERE place = 3", 3 },
         { "DELETE FROM log WHERE place = 5", 5 },
-        { "DELETE FROM log", 1 },
         { "UPDATE log SET place = 9 WHERE place = 5", 5 },
         { "UPDATE log SET place = -place WHERE place IN (3, 4); UPDATE log SET place = 7 + place WHERE place < 0", 3 },
         { "INSERT INTO log SELECT 6, sum, clock, horizon, threshold, records FROM log WHERE place = 5", 6 },
@@ -201,6 +210,21 @@ static void a_damaged_state_is_refused(void)
     make_two_checkpoints();
     change(PATH, "DROP TABLE piece");
     EXPECT(answer_of_opening(0, &state), HLC_FILE_CORRUPT);
+}
+
+/* What an opening found damaged is written down. A later opening does not take the file for an empty one. */
+static void checkpoints_that_are_marked_do_not_serve(void)
+{
+    hlc_file_state state;
+    make_two_checkpoints();
+    change(PATH, "UPDATE piece SET sum = sum + 1 WHERE checkpoint = 2");
+    EXPECT(answer_of_opening(0, &state), HLC_OK);
+    change(PATH, "UPDATE piece SET sum = sum + 1 WHERE checkpoint = 1");
+    EXPECT(answer_of_opening(0, &state), HLC_FILE_NO_CHECKPOINT);
+    EXPECT(state.word, 2);
+    EXPECT(answer_of_opening(HLC_FILE_KEEP_BEFORE_DAMAGE, &state), HLC_FILE_NO_CHECKPOINT);
+    EXPECT(state.word, 2);
+    EXPECT(number_of(PATH, "SELECT count(*) FROM aside"), 0);
 }
 
 /* ---- Whose file it is ---- */
@@ -423,6 +447,7 @@ static const struct test TESTS[] = {
     TEST(a_damaged_log_is_refused_with_its_place),
     TEST(what_is_before_the_damage_is_kept_on_demand),
     TEST(a_damaged_state_is_refused),
+    TEST(checkpoints_that_are_marked_do_not_serve),
     TEST(other_files_are_refused_and_unchanged),
     TEST(another_log_is_unchanged),
     TEST(paths_that_cannot_be_opened),
