@@ -194,10 +194,11 @@ uint32_t hlc_file_open(const char *path, const hlc_file_options *options, hlc_fi
 {
     *file = NULL;
     if (state && !is_of_this_version(state)) return HLC_FILE_BAD_OPTION;
+    if (state) tell(&(hlc_file_state){ 0 }, state);
     hlc_file *made = file_new();
     if (!made) return HLC_NO_MEMORY;
     uint32_t answer = open_path(made, path, options);
-    if (state) tell(&made->report, state);
+    if (state) hlc_file_status(made, state);
     if (answer == HLC_OK) *file = made;
     else file_free(made);
     return answer;

@@ -121,8 +121,14 @@ static uint32_t call_snapshot(void)
 static uint32_t call_open(void)
 {
     hlc_file_options options = { .checkpoint_bytes = UINT64_MAX };
+    hlc_file_state state;
     hlc_file_close(file);
-    return hlc_file_open(PATH, &options, &file, NULL);
+    memset(&state, 0xff, sizeof state);
+    state.size = 0;
+    uint32_t answer = hlc_file_open(PATH, &options, &file, &state);
+    EXPECT(state.failure, answer < HLC_FILE_IN_USE ? 0 : answer);
+    EXPECT(state.size, sizeof state);
+    return answer;
 }
 
 static const struct {

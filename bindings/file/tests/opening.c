@@ -16,7 +16,10 @@ static void a_write_is_there_after_an_opening(void)
     put(file, 20, "city", "Paris");
     EXPECT(state_of(file).place, 2);
     EXPECT(hlc_file_close(file), HLC_OK);
-    file = opened(PATH);
+    hlc_file_state state = { 0 };
+    EXPECT(hlc_file_open(PATH, NULL, &file, &state), HLC_OK);
+    EXPECT(state.clock, AT(20));
+    EXPECT(state.log_bytes, 2 * 20 + 2 * (1 + 4 + 3) + 4 + 5);
     EXPECT(state_of(file).created, 0);
     EXPECT(state_of(file).applied, 2);
     EXPECT_VALUE(file, AT(10), "city", "Lyon");
