@@ -5,6 +5,7 @@
  * that succeeds, the failed transaction is not on disk, and else nothing is written until it does. After a failed sync
  * nobody knows which of the pages written before are on disk, so then the file takes no writes at all. */
 #include "file.h"
+#include <string.h>
 #include <zlib.h>
 
 enum { APPLICATION = 0x686c6366, SCHEMA = 1, STATE_NUMBERS = 7 };
@@ -265,6 +266,20 @@ static int pragma(struct db *db, const char *text, int64_t *number)
     return sqlite3_finalize(statement);
 }
 
+/* Makes a check of SQLite, which says `ok` where it finds no damage. */
+uint32_t db_check(struct db *db, const char *text)
+{
+    sqlite3_stmt *statement;
+    int code = sqlite3_prepare_v2(db->sqlite, text, -1, &statement, NULL);
+    if (code != SQLITE_OK) return db_failure(db, code);
+    const char *said = sqlite3_step(statement) == SQLITE_ROW ? (const char *)sqlite3_column_text(statement, 0) : NULL;
+    bool has_answer = said, whole = has_answer && strcmp(said, "ok") == 0;
+    code = sqlite3_finalize(statement);
+    if (code == SQLITE_OK && !has_answer) code = SQLITE_NOMEM;
+    if (code != SQLITE_OK) return db_failure(db, code);
+    return whole ? HLC_OK : HLC_FILE_CORRUPT;
+}
+
 static int configure(struct db *db)
 {
     sqlite3_db_config(db->sqlite, SQLITE_DBCONFIG_NO_CKPT_ON_CLOSE, 1, NULL);
@@ -360,9 +375,13 @@ static uint32_t keep_what_is_found(struct db *db)
 }
 
 /* Moves what was found into the file. Before, the row of `state` names the last log row: so a page of the log that the
- * disk forgets is missed. A refused opening leaves the write-ahead log as it is. */
+ * disk forgets is missed. A refused opening leaves the write-ahead log as it is. Pages of small tables that are damaged
+ * where no row is were read, but could not be written. */
 uint32_t db_opened(struct db *db)
 {
+    uint32_t answer = db_check(db, "PRAGMA quick_check('state')");
+    if (answer == HLC_OK) answer = db_check(db, "PRAGMA quick_check('checkpoint')");
+    if (answer != HLC_OK) return answer;
     sqlite3_db_config(db->sqlite, SQLITE_DBCONFIG_NO_CKPT_ON_CLOSE, 0, NULL);
     return db_move(db, SQLITE_CHECKPOINT_TRUNCATE);
 }

@@ -98,6 +98,7 @@ struct values {
 };
 
 uint32_t db_open(struct db *db, const char *path, bool may_create, uint32_t nodes, bool *created, uint64_t *word);
+uint32_t db_check(struct db *db, const char *text);
 uint32_t db_opened(struct db *db);
 void db_close(struct db *db);
 uint32_t db_failure(struct db *db, int code);

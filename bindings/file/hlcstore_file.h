@@ -103,7 +103,8 @@ typedef struct {
 /* How a file is. The caller sets the size, and a call writes the rest. */
 typedef struct {
     size_t size;               /* sizeof(hlc_file_state), or 0 for that of this version */
-    uint32_t failure;          /* the last answer from 200 on that was no mistake of the caller, or 0 */
+    uint32_t failure;          /* the last answer from 200 on that was no mistake of the caller, or 0; 208 where a damage
+                                  was found with HLC_FILE_KEEP_BEFORE_DAMAGE */
     int32_t sqlite;            /* SQLite's extended result code of it, or 0 */
     uint64_t word;             /* its word, or 0 */
     uint32_t writes;           /* HLC_OK, HLC_FILE_UNKNOWN where the next write first finds out, or HLC_FILE_SEALED */

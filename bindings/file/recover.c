@@ -197,7 +197,7 @@ static uint32_t raise_clock(struct db *db, uint64_t place, uint64_t *clock)
     return code == SQLITE_OK ? HLC_OK : db_failure(db, code);
 }
 
-/* Moves the log behind a place into `aside`. */
+/* Moves the log behind a place into `aside`. A tree that is damaged itself could keep some of its rows. */
 static uint32_t move_aside(hlc_file *file, const struct recovery *recovery)
 {
     struct db *db = &file->db;
@@ -205,7 +205,8 @@ static uint32_t move_aside(hlc_file *file, const struct recovery *recovery)
     struct state state = db->state;
     state.place = recovery->place;
     state.sum = recovery->sum;
-    uint32_t answer = raise_clock(db, recovery->place, &state.clock);
+    uint32_t answer = db_check(db, "PRAGMA quick_check(1)");
+    if (answer == HLC_OK) answer = raise_clock(db, recovery->place, &state.clock);
     if (answer == HLC_OK) answer = db_begin(db, true);
     if (answer != HLC_OK) return answer;
     answer = db_do(db, LOG_ASIDE, &from);
@@ -272,7 +273,10 @@ uint32_t recover(hlc_file *file, uint64_t *word)
     if (answer == HLC_FILE_DAMAGED_LOG) {
         answer = damaged_log(file, &recovery, word);
         bool keeps = answer == HLC_FILE_DAMAGED_LOG && file->options.flags & HLC_FILE_KEEP_BEFORE_DAMAGE;
-        if (keeps) answer = move_aside(file, &recovery);
+        if (keeps) {
+            note(file, answer, *word);
+            answer = move_aside(file, &recovery);
+        }
         /* The links have taken some records of the damaged row. */
         links_of_store(&file->links, &file->store);
     }

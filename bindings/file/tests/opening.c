@@ -187,6 +187,8 @@ static void what_is_before_the_damage_is_kept_on_demand(void)
     EXPECT(answer_of_opening(HLC_FILE_KEEP_BEFORE_DAMAGE, &state), HLC_OK);
     EXPECT(state.aside, 3);
     EXPECT(state.place, 3);
+    EXPECT(state.failure, HLC_FILE_DAMAGED_LOG);
+    EXPECT(state.word, 4);
     EXPECT(number_of(PATH, "SELECT count(*) FROM aside"), 3);
     EXPECT(number_of(PATH, "SELECT max(place) FROM aside"), 6);
     EXPECT(number_of(PATH, "SELECT max(place) FROM log"), 3);
@@ -199,6 +201,12 @@ static void what_is_before_the_damage_is_kept_on_demand(void)
     file = opened(PATH);
     EXPECT_VALUE(file, 0, "a", "new");
     hlc_file_close(file);
+    /* Rows that are missing leave nothing aside, and are not passed over in silence. */
+    change(PATH, "DELETE FROM log WHERE place = 4");
+    EXPECT(answer_of_opening(HLC_FILE_KEEP_BEFORE_DAMAGE, &state), HLC_OK);
+    EXPECT(state.aside, 0);
+    EXPECT(state.failure, HLC_FILE_DAMAGED_LOG);
+    EXPECT(state.word, 4);
 }
 
 static void a_damaged_state_is_refused(void)
@@ -228,6 +236,67 @@ static void checkpoints_that_are_marked_do_not_serve(void)
     EXPECT(answer_of_opening(HLC_FILE_KEEP_BEFORE_DAMAGE, &state), HLC_FILE_NO_CHECKPOINT);
     EXPECT(state.word, 2);
     EXPECT(number_of(PATH, "SELECT count(*) FROM aside"), 0);
+}
+
+/* Writes bytes into a closed file. */
+static void patch(long at, const void *bytes, size_t len)
+{
+    FILE *file = fopen(PATH, "r+b");
+    HOLDS(file && fseek(file, at, SEEK_SET) == 0 && fwrite(bytes, 1, len, file) == len);
+    fclose(file);
+}
+
+static long page_of(const char *table)
+{
+    char sql[100];
+    snprintf(sql, sizeof sql, "SELECT 4096 * (rootpage - 1) FROM sqlite_schema WHERE name = '%s'", table);
+    return (long)number_of(PATH, sql);
+}
+
+/* A page whose list of free blocks is damaged can be read, but not written. */
+static void a_page_that_cannot_be_written_is_refused(void)
+{
+    static const char *const tables[] = { "state", "checkpoint" };
+    hlc_file_state state;
+    for (size_t i = 0; i < sizeof tables / sizeof *tables; i++) {
+        make_two_checkpoints();
+        patch(page_of(tables[i]) + 1, "\x80", 1);
+        EXPECT(answer_of_opening(0, &state), HLC_FILE_CORRUPT);
+    }
+}
+
+/* Makes a log of many pages, and swaps two of its leaves. */
+static void make_swapped(void)
+{
+    uint8_t pages[2][4096];
+    static char value[3000];
+    hlc_file *file = opened(fresh(PATH));
+    memset(value, 'v', sizeof value - 1);
+    put(file, 1, "a", "one");
+    for (uint64_t l = 2; l <= 20; l++) put(file, l, "a", value);
+    hlc_file_close(file);
+    FILE *read = fopen(PATH, "rb");
+    uint8_t root[4096];
+    HOLDS(fseek(read, page_of("log"), SEEK_SET) == 0 && fread(root, sizeof root, 1, read) == 1);
+    /* An inner page: after its head of 12 bytes, the places of its cells, each of which begins with a page. The first
+     * leaf has the first record. */
+    long at[2];
+    for (int i = 0; i < 2; i++) {
+        const uint8_t *cell = root + (root[14 + 10 * i] << 8) + root[15 + 10 * i];
+        at[i] = 4096L * ((cell[2] << 8) + cell[3] - 1);
+        HOLDS(fseek(read, at[i], SEEK_SET) == 0 && fread(pages[i], sizeof pages[i], 1, read) == 1);
+    }
+    fclose(read);
+    patch(at[0], pages[1], sizeof pages[1]);
+    patch(at[1], pages[0], sizeof pages[0]);
+}
+
+/* The rest of a log in a damaged tree cannot be moved aside as a whole. */
+static void nothing_is_kept_of_a_damaged_tree(void)
+{
+    hlc_file_state state;
+    make_swapped();
+    EXPECT(answer_of_opening(HLC_FILE_KEEP_BEFORE_DAMAGE, &state), HLC_FILE_CORRUPT);
 }
 
 /* ---- Whose file it is ---- */
@@ -451,6 +520,8 @@ static const struct test TESTS[] = {
     TEST(what_is_before_the_damage_is_kept_on_demand),
     TEST(a_damaged_state_is_refused),
     TEST(checkpoints_that_are_marked_do_not_serve),
+    TEST(a_page_that_cannot_be_written_is_refused),
+    TEST(nothing_is_kept_of_a_damaged_tree),
     TEST(other_files_are_refused_and_unchanged),
     TEST(another_log_is_unchanged),
     TEST(paths_that_cannot_be_opened),
