@@ -14,13 +14,16 @@ void change_end(hlc_file *file)
     turn_give(&file->changing);
 }
 
-/* Makes a stamp the horizon, where it is above it. A part of no keys is all it takes. */
+/* Makes a stamp the horizon, where it is above it. A part of no keys is all it takes. The floor is lower than that after
+ * the end of a damaged log was moved aside: then the horizon follows the floor. */
 uint32_t raise_horizon(hlc_file *file, uint64_t stamp)
 {
-    uint64_t horizon, word, kept, bytes, dropped;
+    uint64_t floor, horizon, word, kept, bytes, dropped;
     size_t len;
     bool more;
+    hlc_floor(&file->store, &floor);
     hlc_horizon(&file->store, &horizon);
+    if (stamp > floor) stamp = floor;
     if (stamp <= horizon) return HLC_OK;
     return hlc_vacuum_part(&file->store, stamp, NULL, 0, 0, &word, &kept, &bytes, &dropped, NULL, 0, &len, &more);
 }

@@ -85,7 +85,8 @@ enum {
 enum {
     HLC_FILE_MUST_EXIST = 1,        /* refuses a path without a file with 201 */
     HLC_FILE_KEEP_BEFORE_DAMAGE = 2 /* where the log is damaged, opens what is before the damage, and moves the rest of
-                                       the log into the table `aside` */
+                                       the log into the table `aside`; a horizon that is above the floor then follows
+                                       the floor until that reached it */
 };
 
 /* Options. A zeroed struct means the defaults. */

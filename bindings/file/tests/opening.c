@@ -209,6 +209,28 @@ static void what_is_before_the_damage_is_kept_on_demand(void)
     EXPECT(state.word, 4);
 }
 
+/* Where the floor falls below the horizon, only the floor is left to read, until it reaches the horizon again. */
+static void a_horizon_above_the_floor_is_kept(void)
+{
+    uint64_t word, kept, bytes, dropped;
+    hlc_file *file = opened(fresh(PATH));
+    for (uint64_t l = 1; l <= 10; l++) put(file, l, "a", "x");
+    EXPECT(hlc_file_vacuum_to(file, AT(8), &word, &kept, &bytes, &dropped), HLC_OK);
+    hlc_file_close(file);
+    change(PATH, "UPDATE log SET sum = sum + 1 WHERE place = 5");
+    file = opened_with(PATH, (hlc_file_options){ .flags = HLC_FILE_KEEP_BEFORE_DAMAGE });
+    for (int i = 0; i < 2; i++) {
+        EXPECT_VALUE(file, AT(3), "a", "refused 9");
+        EXPECT_VALUE(file, AT(4), "a", "x");
+        hlc_file_close(file);
+        file = opened(PATH);
+    }
+    put(file, 20, "a", "y");
+    EXPECT_VALUE(file, AT(7), "a", "refused 9");
+    EXPECT_VALUE(file, AT(8), "a", "x");
+    hlc_file_close(file);
+}
+
 static void a_damaged_state_is_refused(void)
 {
     hlc_file_state state;
@@ -518,6 +540,7 @@ static const struct test TESTS[] = {
     TEST(without_a_checkpoint_only_a_whole_log_serves),
     TEST(a_damaged_log_is_refused_with_its_place),
     TEST(what_is_before_the_damage_is_kept_on_demand),
+    TEST(a_horizon_above_the_floor_is_kept),
     TEST(a_damaged_state_is_refused),
     TEST(checkpoints_that_are_marked_do_not_serve),
     TEST(a_page_that_cannot_be_written_is_refused),
