@@ -290,6 +290,24 @@ static int configure(struct db *db)
     return sqlite3_exec(db->sqlite, "PRAGMA locking_mode = EXCLUSIVE; PRAGMA cell_size_check = ON", NULL, NULL, NULL);
 }
 
+/* Refuses a file of SQLite with another application's number in its head, before SQLite reads it: it would undo what a
+ * process of that application left half done. */
+static uint32_t check_head(struct db *db)
+{
+    enum { NUMBER_AT = 68, HEAD = 72 };
+    static const uint8_t number[] = { APPLICATION >> 24, APPLICATION >> 16 & 0xff, APPLICATION >> 8 & 0xff,
+                                      APPLICATION & 0xff };
+    uint8_t head[HEAD] = { 0 };
+    sqlite3_file *file = NULL;
+    int code = sqlite3_file_control(db->sqlite, "main", SQLITE_FCNTL_FILE_POINTER, &file);
+    if (code == SQLITE_OK) code = file->pMethods->xRead(file, head, HEAD, 0);
+    /* One that is as short as this is left to SQLite. */
+    if (code == SQLITE_IOERR_SHORT_READ) return HLC_OK;
+    if (code != SQLITE_OK) return db_failure(db, code);
+    bool is_of_sqlite = memcmp(head, "SQLite format 3", 16) == 0;
+    return is_of_sqlite && memcmp(head + NUMBER_AT, number, sizeof number) != 0 ? HLC_FILE_NOT_OURS : HLC_OK;
+}
+
 /* Answers whether the file is one of this library, or empty. */
 static uint32_t recognise(struct db *db, bool *empty, uint64_t *word)
 {
@@ -395,7 +413,8 @@ uint32_t db_open(struct db *db, const char *path, bool may_create, uint32_t node
     if (code == SQLITE_OK && sqlite3_db_readonly(db->sqlite, "main")) code = SQLITE_READONLY;
     if (code == SQLITE_OK) code = configure(db);
     if (code != SQLITE_OK) return db_failure(db, code);
-    uint32_t answer = recognise(db, created, word);
+    uint32_t answer = check_head(db);
+    if (answer == HLC_OK) answer = recognise(db, created, word);
     if (answer == HLC_OK && *created && !may_create) answer = HLC_FILE_CANNOT_OPEN;
     if (answer != HLC_OK) return answer;
     answer = *created ? make_tables(db, nodes) : prepare(db);

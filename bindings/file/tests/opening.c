@@ -385,6 +385,29 @@ static void another_log_is_unchanged(void)
     EXPECT(number_of(PATH, "SELECT x FROM t"), 1);
 }
 
+/* A transaction of another application, whose process ended early, is not undone. */
+static void another_journal_is_unchanged(void)
+{
+    hlc_file_state state;
+    fresh(PATH);
+    pid_t child = fork();
+    if (child == 0) {
+        sqlite3 *db;
+        sqlite3_open(PATH, &db);
+        sqlite3_exec(db, "PRAGMA application_id = 77; CREATE TABLE t(x); INSERT INTO t VALUES (randomblob(100000));"
+                     "PRAGMA cache_size = 1; BEGIN; UPDATE t SET x = randomblob(100000);"
+                     "INSERT INTO t VALUES (randomblob(1000000))", NULL, NULL, NULL);
+        _exit(0);
+    }
+    waitpid(child, NULL, 0);
+    copy(PATH, "before");
+    copy("opening.hlc-journal", "before-journal");
+    EXPECT(answer_of_opening(0, &state), HLC_FILE_NOT_OURS);
+    HOLDS(same(PATH, "before"));
+    HOLDS(same("opening.hlc-journal", "before-journal"));
+    EXPECT(number_of(PATH, "SELECT count(*) FROM t"), 1);
+}
+
 static void paths_that_cannot_be_opened(void)
 {
     hlc_file *file;
@@ -547,6 +570,7 @@ static const struct test TESTS[] = {
     TEST(nothing_is_kept_of_a_damaged_tree),
     TEST(other_files_are_refused_and_unchanged),
     TEST(another_log_is_unchanged),
+    TEST(another_journal_is_unchanged),
     TEST(paths_that_cannot_be_opened),
     TEST(options_out_of_range),
     TEST(a_second_opening_is_refused),
