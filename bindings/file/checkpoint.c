@@ -32,6 +32,16 @@ static uint32_t copy_store(hlc_file *file, struct making *making)
     return answer;
 }
 
+/* Ends a turn at SQLite, and keeps what became of it. */
+static uint32_t end_turn(hlc_file *file, uint32_t answer)
+{
+    pthread_mutex_lock(&file->mutex);
+    note(file, answer, 0);
+    pthread_mutex_unlock(&file->mutex);
+    turn_give(&file->turns);
+    return answer;
+}
+
 /* Runs a statement as a transaction of its own, with numbers and bytes as far as there are some. changed: how many rows
  * it changed. */
 static uint32_t run_alone(hlc_file *file, enum statement which, const struct values *values, int *changed)
@@ -42,8 +52,7 @@ static uint32_t run_alone(hlc_file *file, enum statement which, const struct val
     if (answer == HLC_OK) answer = db_end(db, db_do(db, which, values));
     *changed = answer == HLC_OK ? sqlite3_changes(db->sqlite) : 0;
     if (answer == HLC_OK) answer = db_shorten(db);
-    turn_give(&file->turns);
-    return answer;
+    return end_turn(file, answer);
 }
 
 /* Deletes in parts until none is left. */
@@ -97,8 +106,7 @@ static uint32_t complete(hlc_file *file, const struct making *making)
         if (answer == HLC_OK) answer = db_do(db, CHECKPOINT_CUT, &before);
         answer = answer == HLC_OK ? db_end_with(db, db->state, true) : db_end(db, answer);
     }
-    turn_give(&file->turns);
-    return answer;
+    return end_turn(file, answer);
 }
 
 static uint32_t write_checkpoint(hlc_file *file, struct making *making)
@@ -122,19 +130,15 @@ void finish_checkpoint(hlc_file *file, uint64_t place, uint64_t logged, uint64_t
 }
 
 /* Where it failed, it is due again after some more log. */
-static uint32_t end_checkpoint(hlc_file *file, const struct making *making, uint32_t answer)
+static void end_checkpoint(hlc_file *file, const struct making *making)
 {
-    turn_take(&file->turns);
     pthread_mutex_lock(&file->mutex);
     if (file->newest.id == making->id) {
         finish_checkpoint(file, making->place, making->logged, making->len);
     } else if (file->due <= file->logged) {
         file->due = file->logged + file->options.checkpoint_bytes / 4 + 1;
     }
-    note(file, answer, 0);
     pthread_mutex_unlock(&file->mutex);
-    turn_give(&file->turns);
-    return answer;
 }
 
 /* Cuts what the two newest checkpoints do not need. */
@@ -155,9 +159,10 @@ static uint32_t make(hlc_file *file, uint64_t *place)
         file->newest = (struct saved){ making.id, making.place };
         file->newest_id = making.id;
         answer = cut_before(file, &older);
-        *place = making.place;
     }
-    return end_checkpoint(file, &making, answer);
+    end_checkpoint(file, &making);
+    if (answer == HLC_OK) *place = making.place;
+    return answer;
 }
 
 uint32_t checkpoint_make(hlc_file *file, uint64_t *place)

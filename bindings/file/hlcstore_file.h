@@ -203,8 +203,9 @@ uint32_t hlc_file_send(hlc_file *file, uint16_t node, uint64_t reading, uint64_t
 uint32_t hlc_file_receive(hlc_file *file, uint16_t node, uint64_t seen, uint64_t reading, uint64_t *word);
 
 /* Saves a checkpoint, and cuts the log behind the older one of the two newest. place: the place of the last log row
- * that it has. Where one is under way, waits for it and makes another. Writes go on meanwhile, except while the store
- * is copied into memory. Refusals: those of the section. Takes memory for the bytes. */
+ * that it has, or 0 after a refusal; where only the cut failed, hlc_file_status has it. Where one is under way, waits
+ * for it and makes another. Writes go on meanwhile, except while the store is copied into memory. Refusals: those of
+ * the section. Takes memory for the bytes. */
 uint32_t hlc_file_checkpoint(hlc_file *file, uint64_t *place);
 
 /* Vacuums to a stamp, as hlc_vacuum_to does, in parts between which reads and writes go on. The stamp is on disk first,
