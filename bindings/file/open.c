@@ -52,6 +52,20 @@ static uint32_t check_log(const char *path)
     return has_log && found.st_size == 0 ? HLC_FILE_CORRUPT : HLC_OK;
 }
 
+/* Syncs the names of the file and of its log: SQLite does not say where it cannot. */
+static uint32_t sync_folder(const char *path)
+{
+    char *name = strndup(path, (size_t)(strrchr(path, '/') - path) + 1);
+    if (!name) return HLC_NO_MEMORY;
+    int folder = open(name, O_RDONLY | O_DIRECTORY | O_CLOEXEC);
+    free(name);
+    if (folder < 0) return HLC_FILE_CANNOT_OPEN;
+    /* Some file systems have no sync of a folder. */
+    bool synced = fsync(folder) == 0 || errno == EINVAL;
+    close(folder);
+    return synced ? HLC_OK : HLC_FILE_IO;
+}
+
 /* ---- Options ---- */
 
 static uint32_t set_options(hlc_file *file, const hlc_file_options *given)
@@ -166,6 +180,7 @@ static uint32_t open_locked(hlc_file *file, const char *path)
     uint32_t answer = db_open(&file->db, path, may_create, file->options.nodes, &created, &word);
     if (answer == HLC_OK) answer = recover(file, &word);
     if (answer == HLC_OK) answer = db_opened(&file->db);
+    if (answer == HLC_OK) answer = sync_folder(path);
     /* There is no batch to be in doubt of. */
     if (answer == HLC_FILE_UNKNOWN || answer == HLC_FILE_SEALED) answer = db_failure(&file->db, file->db.code);
     if (answer == HLC_OK) answer = background_start(file);

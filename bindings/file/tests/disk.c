@@ -1,6 +1,7 @@
 /* A test of each decision that shows by a disk which fails at one place, on files in the current folder. */
 #include "test.h"
 #include "shim.h"
+#include <errno.h>
 #include <sys/wait.h>
 
 static const char PATH[] = "disk.hlc", LEFT[] = "left.hlc";
@@ -82,9 +83,60 @@ static void a_vacuum_outlives_a_loss_of_power(void)
     hlc_file_close(file);
 }
 
+/* A checkpoint that is refused has no place, also where only what it makes needless could not be cut. */
+static void a_refused_checkpoint_has_no_place(void)
+{
+    uint64_t place;
+    uint32_t after = 0;
+    bool met = true;
+    for (long at = 1; met; at++) {
+        shim_set(NO_FAULT, false, 0, 0);
+        hlc_file *file = opened(fresh(PATH));
+        for (uint64_t l = 1; l <= 3; l++) {
+            put(file, l, "a", "x");
+            if (l < 3) EXPECT(hlc_file_checkpoint(file, &place), HLC_OK);
+        }
+        shim_set(FAILS, false, at, 0);
+        uint32_t answer = hlc_file_checkpoint(file, &place);
+        met = shim.met;
+        shim_set(NO_FAULT, false, 0, 0);
+        EXPECT(place, answer == HLC_OK ? 3 : 0);
+        after += answer != HLC_OK && state_of(file).checkpoint_place == 3;
+        hlc_file_close(file);
+    }
+    HOLDS(after > 0);
+}
+
+static bool folder_fails;
+
+/* In place of that of the system: the files themselves are synced by the shim. */
+int fsync(int file)
+{
+    (void)file;
+    if (!folder_fails) return 0;
+    errno = EIO;
+    return -1;
+}
+
+/* The name of a new file is on disk before it is shown. */
+static void a_folder_is_synced(void)
+{
+    hlc_file *file;
+    hlc_file_state state;
+    shim_set(NO_FAULT, false, 0, 0);
+    fresh(PATH);
+    folder_fails = true;
+    EXPECT(open_as_is(&file, &state), HLC_FILE_IO);
+    HOLDS(file == NULL && state.failure == HLC_FILE_IO);
+    folder_fails = false;
+    hlc_file_close(opened(PATH));
+}
+
 static const struct test TESTS[] = {
     TEST(synced_rows_are_never_lost_silently),
     TEST(a_vacuum_outlives_a_loss_of_power),
+    TEST(a_refused_checkpoint_has_no_place),
+    TEST(a_folder_is_synced),
 };
 
 int main(void)
