@@ -14,8 +14,8 @@ void change_end(hlc_file *file)
     turn_give(&file->changing);
 }
 
-/* Makes a stamp the horizon, where it is above it. A part of no keys is all it takes. The floor is lower than that after
- * the end of a damaged log was moved aside: then the horizon follows the floor. */
+/* Makes a stamp the horizon, where it is above it. A part of no keys is all it takes. After a damaged log the floor
+ * may be below the stamp: then the horizon follows the floor. */
 uint32_t raise_horizon(hlc_file *file, uint64_t stamp)
 {
     uint64_t floor, horizon, word, kept, bytes, dropped;

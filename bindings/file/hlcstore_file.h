@@ -104,8 +104,8 @@ typedef struct {
 /* How a file is. The caller sets the size, and a call writes the rest. */
 typedef struct {
     size_t size;               /* sizeof(hlc_file_state), or 0 for that of this version */
-    uint32_t failure;          /* the last answer from 200 on that was no mistake of the caller, or 0; 208 where a damage
-                                  was found with HLC_FILE_KEEP_BEFORE_DAMAGE */
+    uint32_t failure;          /* the last answer from 200 on that was no mistake of the caller, or 0; also 208 where
+                                  HLC_FILE_KEEP_BEFORE_DAMAGE left out the rest of a log */
     int32_t sqlite;            /* SQLite's extended result code of it, or 0 */
     uint64_t word;             /* its word, or 0 */
     uint32_t writes;           /* HLC_OK, HLC_FILE_UNKNOWN where the next write first finds out, or HLC_FILE_SEALED */
@@ -126,9 +126,9 @@ typedef struct {
 
 /* Makes or recovers a file. path: UTF-8 with a 0 at its end. It is locked before it is read, by `path-lock` beside it,
  * until it is closed or the process ends. options: may be NULL. file: the file, or NULL after a refusal. state: may be
- * NULL; else how it was opened, also after a refusal: why, and SQLite's code. A recovered store has no open snapshots.
- * What is found is synced before it is shown, so that it stays. Refusals: 200 to 209, 15. Costs a restore of the
- * checkpoint, and the log behind it. Any thread. */
+ * NULL; else how the file is, also after a refusal: why, and SQLite's code. One of another size gets 204, and keeps its
+ * bytes. A recovered store has no open snapshots. What is found is synced before it is shown, so that it stays.
+ * Refusals: 200 to 209, 15. Costs a restore of the checkpoint, and the log behind it. Any thread. */
 uint32_t hlc_file_open(const char *path, const hlc_file_options *options, hlc_file **file, hlc_file_state *state);
 
 /* Waits for a checkpoint that is under way in the background, syncs the file, and frees it in any case. NULL is closed
