@@ -9,15 +9,15 @@ struct answer {
 
 static const struct answer ANSWERS[] = {
     { "HLC_FILE_IN_USE", "another process, or this one, has the file open" },
-    { "HLC_FILE_CANNOT_OPEN", "the file, or the lock file beside it, cannot be opened or made" },
+    { "HLC_FILE_CANNOT_OPEN", "the file, or the lock file beside it, cannot be opened or made; or it has several hard links" },
     { "HLC_FILE_NOT_OURS", "the file is another application's, or none of SQLite" },
     { "HLC_FILE_NEWER", "the file's schema is newer than this library" },
     { "HLC_FILE_BAD_OPTION", "an option, a promise or a size is out of range" },
     { "HLC_FILE_FULL", "the disk is full" },
     { "HLC_FILE_IO", "the disk failed" },
-    { "HLC_FILE_CORRUPT", "the structure of the SQLite file is damaged" },
+    { "HLC_FILE_CORRUPT", "the structure of the SQLite file is damaged, or it is missing beside its write-ahead log" },
     { "HLC_FILE_DAMAGED_LOG", "a row of the log is missing, swapped or altered" },
-    { "HLC_FILE_NO_CHECKPOINT", "each checkpoint is damaged, and the log does not begin at the first record" },
+    { "HLC_FILE_NO_CHECKPOINT", "no checkpoint is whole, and the log does not begin at the first record" },
     { "HLC_FILE_UNKNOWN", "it is not known whether the batch is on disk" },
     { "HLC_FILE_SEALED", "the file takes no writes until it is opened again" },
     { "HLC_FILE_LATER", "the batch is on disk, and is accepted when there is memory" },

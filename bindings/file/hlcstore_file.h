@@ -66,7 +66,7 @@ typedef enum {
     HLC_FILE_NO_STAMP = 214       /* of hlc_file_vacuum_older: no stamp is so old */
 } hlc_file_answer;
 
-/* How many bytes of records a batch may have. A write takes 22 bytes beside its key and its value. */
+/* How many bytes of records a batch may have. A write takes 24 bytes beside its key and its value. */
 #define HLC_FILE_BATCH_BYTES ((size_t)64 << 20)
 
 /* A reading: the system's clock. */
