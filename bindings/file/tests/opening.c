@@ -466,24 +466,6 @@ static void a_second_opening_is_refused(void)
     hlc_file_close(opened(PATH));
 }
 
-/* The lock ends with its process, whatever way that ends. */
-static void a_lock_dies_with_its_process(void)
-{
-    fresh(PATH);
-    pid_t child = fork();
-    if (child == 0) {
-        hlc_file *file = opened(PATH);
-        put(file, 1, "a", "one");
-        _exit(wrong);
-    }
-    int status;
-    waitpid(child, &status, 0);
-    EXPECT(status, 0);
-    hlc_file *file = opened(PATH);
-    EXPECT_VALUE(file, 0, "a", "one");
-    hlc_file_close(file);
-}
-
 /* Leaves a file whose last write is in its write-ahead log alone. */
 static void leave_a_log(void)
 {
@@ -497,6 +479,15 @@ static void leave_a_log(void)
     int status;
     waitpid(child, &status, 0);
     EXPECT(status, 0);
+}
+
+/* The lock ends with its process, whatever way that ends. */
+static void a_lock_dies_with_its_process(void)
+{
+    leave_a_log();
+    hlc_file *file = opened(PATH);
+    EXPECT_VALUE(file, 0, "a", "one");
+    hlc_file_close(file);
 }
 
 /* The write-ahead log lies beside one of two names. */
