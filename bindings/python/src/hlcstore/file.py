@@ -82,7 +82,7 @@ class InUse(FileError):
 
 
 class CannotOpen(FileError):
-    """The path, or the lock file beside it, cannot be opened or made."""
+    """The path, or the lock file beside it, cannot be opened or made; or the file has several hard links."""
 
     code = 201
 
@@ -118,7 +118,7 @@ class Io(FileError):
 
 
 class Corrupt(FileError):
-    """SQLite finds its own structure damaged."""
+    """SQLite finds its own structure damaged; or the file is missing or empty beside its write-ahead log."""
 
     code = 207
 
@@ -130,7 +130,7 @@ class DamagedLog(FileError):
 
 
 class NoWholeCheckpoint(FileError):
-    """Each checkpoint is damaged, as many as the word, and the log does not begin at the first record."""
+    """No checkpoint is whole, and the log does not begin at the first record. The word is how many are damaged."""
 
     code = 209
 

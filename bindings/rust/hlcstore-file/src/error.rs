@@ -23,7 +23,7 @@ pub enum ErrorKind {
     Store(hlcstore::ErrorKind),
     /// Another process, or this one, has the file open.
     InUse,
-    /// The path, or the lock file beside it, cannot be opened or made.
+    /// The path, or the lock file beside it, cannot be opened or made; or the file has several hard links.
     CannotOpen,
     /// Another application's file, or none of SQLite. It is unchanged.
     NotOurs,
@@ -35,11 +35,11 @@ pub enum ErrorKind {
     Full,
     /// The disk failed.
     Io,
-    /// SQLite finds its own structure damaged.
+    /// SQLite finds its own structure damaged; or the file is missing or empty beside its write-ahead log.
     Corrupt,
     /// A log row is missing, swapped or altered: that at the place of the word.
     DamagedLog,
-    /// Each checkpoint is damaged, as many as the word, and the log does not begin at the first record.
+    /// No checkpoint is whole, and the log does not begin at the first record. The word is how many are damaged.
     NoWholeCheckpoint,
     /// Whether the batch is on disk cannot be known before the file is opened again. It is not visible.
     Unknown,
