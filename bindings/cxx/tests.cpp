@@ -7,6 +7,7 @@
 #include <iterator>
 #include <map>
 #include <optional>
+#include <sstream>
 #include <stdexcept>
 #include <string>
 #include <string_view>
@@ -189,6 +190,9 @@ void ownership() {
   EXPECT(refusal_of([&] { moved.restore(pieces); }) == HLC_IS_OPEN);
   store copy;
   EXPECT(copy.restore(pieces) == 7 && copy.checkpoint(7) == saved);
+  std::ostringstream written;
+  copy.checkpoint_to(written, 7);
+  EXPECT(written.str() == saved);
   EXPECT(refusal_of([&] { pieces.feed("more"); }) == HLC_CLOSED);
   early = moved.open_snapshot();
   EXPECT(moved.snapshots().size() == 1 && early.get("a") == "y");

@@ -89,6 +89,20 @@ class output {
   hlc_output raw_ = HLC_NO_OUTPUT;
 };
 
+// A saving in pieces, which ends where it goes out of scope.
+class saving {
+ public:
+  saving() noexcept = default;
+  saving(const saving&) = delete;
+  saving& operator=(const saving&) = delete;
+  ~saving() { hlc_saving_drop(&raw_); }
+
+  hlc_saving* raw() noexcept { return &raw_; }
+
+ private:
+  hlc_saving raw_ = HLC_NO_SAVING;
+};
+
 // Takes a number of so many bytes, the low one first, from the front of some bytes.
 inline std::uint64_t take_number(std::string_view& rest, std::size_t size) {
   std::uint64_t number = 0;

@@ -6,6 +6,7 @@
 #include <cstdint>
 #include <memory>
 #include <optional>
+#include <ostream>
 #include <string>
 #include <string_view>
 #include <utility>
@@ -395,6 +396,22 @@ class store {
     std::size_t len;
     detail::check(hlc_checkpoint(&mine, word, saved.raw(), &len));
     return saved.text(len);
+  }
+
+  // Writes what `checkpoint` returns to a stream, in pieces, so that not all bytes are in memory at once. No call may
+  // change the store meanwhile. A stream that fails gets no more: its state says so.
+  void checkpoint_to(std::ostream& out, std::uint64_t word) const {
+    hlc_store mine = copy();
+    detail::saving saved;
+    std::size_t len;
+    std::uint64_t all;
+    detail::check(hlc_saving_start(saved.raw(), &mine, word, &all));
+    std::string piece(std::size_t{1} << 16, '\0');
+    for (std::uint32_t code = HLC_MORE; code == HLC_MORE && out;) {
+      code = hlc_saving_read(saved.raw(), &mine, detail::bytes(piece), piece.size(), &len);
+      if (code != HLC_MORE) detail::check(code);
+      out.write(piece.data(), static_cast<std::streamsize>(len));
+    }
   }
 
   // An increment: the whole state, but of the rows only those above a stamp, with a word of the program's. As the stamp
