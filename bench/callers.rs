@@ -25,7 +25,7 @@ fn main() {
         let snapshot = store.snapshot().unwrap();
         let start = Instant::now();
         for i in 0..WRITES {
-            snapshot.get(&keys[(i * 7 % 1_000) as usize]).unwrap().unwrap();
+            snapshot.get(keys[(i * 7 % 1_000) as usize]).unwrap().unwrap();
         }
         read = read.min(start.elapsed().as_nanos() as f64 / WRITES as f64);
     }

@@ -9,6 +9,7 @@ use crate::lanes::Lanes;
 use crate::lists::Lists;
 use crate::single::Single;
 use hlc_clock::Stamp;
+use hlc_flags::Flags;
 use hlc_node::Bytes;
 use std::alloc::{AllocFailed, Global};
 use std::marker::Model;
@@ -108,7 +109,7 @@ impl Column {
         requires { length keep.now ≡ length self.old }
         ensures { self.new ≡ items_where_true keep.now self.old }
     {
-        self.lists.keep(keep);
+        self.lists.keep(&Flags::of(keep));
         self.lists.shrink();
     }
 }

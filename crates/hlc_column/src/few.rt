@@ -6,6 +6,7 @@ use crate::flags::move_flagged;
 use crate::lanes::{Lanes, item_at};
 use crate::lists::Lists;
 use crate::single::Single;
+use hlc_flags::Flags;
 use hlc_node::ValueOrMark;
 use std::marker::Model;
 use std::mem::replace;
@@ -130,7 +131,7 @@ impl<const N: usize> Few<N> {
     }
 
     /// Keeps only the flagged rows, in their order.
-    pub(crate) fn keep(&mut self, keep: &[bool])
+    pub(crate) fn keep(&mut self, keep: &Flags<'_>)
         requires { length keep.now ≡ length self.old }
         ensures { self.new ≡ items_where_true keep.now self.old }
     {

@@ -7,6 +7,7 @@ ghost use Rattle.smallvec.specs.SmallVec.{HasRoomFor};
 use crate::flags::keep_flagged;
 use crate::lanes::{Lanes, item_at};
 use crate::single::Single;
+use hlc_flags::Flags;
 use hlc_node::ValueOrMark;
 use hlc_order::{extend_index, index_again};
 use hlc_values::NoMemory;
@@ -126,7 +127,7 @@ impl<const N: usize> Lists<N> {
     }
 
     /// Keeps only the flagged rows, in their order. It needs no memory, and sorts the index if a row was dropped.
-    pub(crate) fn keep(&mut self, keep: &[bool])
+    pub(crate) fn keep(&mut self, keep: &Flags<'_>)
         requires { length keep.now ≡ length self.old.cells }
         ensures { self.new ≡ record {
           cells = items_where_true keep.now self.old.cells;

@@ -8,6 +8,7 @@ use crate::lanes::Lanes;
 use crate::lists::Lists;
 use crate::single::Single;
 use hlc_clock::Stamp;
+use hlc_flags::Flags;
 use hlc_node::{Bytes, ValueOrMark};
 use hlc_values::NoMemory;
 use std::alloc::{AllocFailed, Global};
@@ -109,7 +110,7 @@ impl Rows {
     /// Keeps only the flagged rows, in their order. It needs no memory. If one row is left, it moves in place, and if
     /// none is, nothing is: what the rows were in is freed. Otherwise they stay where they were, in lists that give
     /// back what they do not use.
-    pub fn keep(&mut self, keep: &[bool])
+    pub fn keep(&mut self, keep: &Flags<'_>)
         requires { length keep.now ≡ length self.old }
         ensures { self.new ≡ items_where_true keep.now self.old }
     {
@@ -256,14 +257,14 @@ fn in_longer(lists: Box<Lists<0>>) -> Result<Form, AllocFailed<Form>>
 }
 
 /// Returns the flagged rows, in their order.
-fn kept(form: Form, keep: &[bool]) -> Form
+fn kept(form: Form, keep: &Flags<'_>) -> Form
     requires { length keep.now ≡ length (cells_in_form form) }
     ensures { cells_in_form result ≡ items_where_true keep.now (cells_in_form form) }
 {
     match form {
         Form::Empty => Form::Empty,
         Form::One { node, stamp, value } => {
-            if keep[0] {
+            if keep.is_set(0) {
                 Form::One { node, stamp, value }
             } else {
                 Form::Empty

@@ -1,8 +1,8 @@
 -- Rows of a column are dropped: what becomes of the sizes of the columns that have rows.
 use Rattle.std.proofs.Common.{◌≡◌, ℕ, ◌+◌, ◌<◌, ◌≤◌, Bool, true, false, cond, List, [], ◌∷◌, ◌++◌, refl, sym, ap, ap₂}
-use Rattle.std.proofs.Common.{◌||◌, true≢false, ◌∙◌, inl, inr, arith, length, get_or, set, subst, filter, ltb, All}
+use Rattle.std.proofs.Common.{true≢false, ◌∙◌, inl, inr, arith, length, get_or, set, subst, filter, ltb, All}
 use Rattle.std.specs.Prelude.{sum_by}
-use Rattle.std.specs.List.{items_where_true, list_any, AllByRecursion}
+use Rattle.std.specs.List.{items_where_true, list_all, AllByRecursion}
 use Rattle.std.proofs.lemmas.Bool.{cases_Bool, lt-ltb, ltb-true}
 use Rattle.std.proofs.lemmas.List.{set-get_or}
 use Rattle.std.proofs.lemmas.List.Sums.{sum_by-cons}
@@ -145,18 +145,11 @@ all_have es filled = go es (recursion_from_All (λ (e : Entry). 0 < length e.1) 
         ap (λ b. cond b (e ∷ filter is_filled es) (filter is_filled es)) (lt-ltb 0 (length e.1) h.0)
         ∙ ap (λ l. e ∷ l) (go es h.1)
 
--- neither of two
-or_second : (a b : Bool) → (a || b) ≡ false → b ≡ false
-or_second true b h = absurd (true≢false h)
-or_second false b h = h
-
--- if no flag is unset, all rows are kept
-pub all_set : (is_unset : Bool → Bool) → is_unset false ≡ true → (flags : List Bool) (cells : List Cell)
-    → length flags ≡ length cells → list_any is_unset flags ≡ false → items_where_true flags cells ≡ cells
-all_set p unset [] [] many none = refl
-all_set p unset [] (c ∷ cells) many none = absurd (omega (arith, many))
-all_set p unset (b ∷ flags) [] many none = absurd (omega (arith, many))
-all_set p unset (true ∷ flags) (c ∷ cells) many none =
-    ap (λ l. c ∷ l) (all_set p unset flags cells (omega (arith, many)) (or_second (p true) (list_any p flags) none))
-all_set p unset (false ∷ flags) (c ∷ cells) many none =
-    absurd (true≢false (sym (ap (λ b. b || list_any p flags) unset) ∙ none))
+-- if all flags are set, all rows are kept
+pub all_set : (flags : List Bool) (cells : List Cell) → length flags ≡ length cells
+    → list_all (λ flag. flag) flags ≡ true → items_where_true flags cells ≡ cells
+all_set [] [] many all = refl
+all_set [] (c ∷ cells) many all = absurd (omega (arith, many))
+all_set (b ∷ flags) [] many all = absurd (omega (arith, many))
+all_set (true ∷ flags) (c ∷ cells) many all = ap (λ l. c ∷ l) (all_set flags cells (omega (arith, many)) all)
+all_set (false ∷ flags) (c ∷ cells) many all = absurd (true≢false (sym all))

@@ -7,17 +7,18 @@ ghost use Rattle.hlc_columns.specs.Sizes.{sizes_of, filled_sizes, Fit};
 
 use crate::key_rows::KeyRows;
 use crate::sizes::sizes_at;
+use hlc_flags::Flags;
 use hlc_index::Index;
 use hlc_sizes::Sizes;
 
 /// Keeps only the flagged rows, in their order, and reads no column that keeps them all. A key without rows is removed.
 /// It needs no memory.
-pub(crate) fn keep_rows(columns: &mut Index<KeyRows>, sizes: &mut Sizes, flags: &[bool])
-    requires many { length flags.now ≡ length (indexed_rows columns.old) }
+pub(crate) fn keep_rows(columns: &mut Index<KeyRows>, sizes: &mut Sizes, flags: Flags<'_>)
+    requires many { length flags ≡ length (indexed_rows columns.old) }
     requires sizes { sizes.old ≡ filled_sizes columns.old }
     requires fit { Fit sizes.old }
     ensures rows { indexed_rows columns.new
-        ≡ items_where_true flags.now (indexed_rows columns.old) }
+        ≡ items_where_true flags.entry (indexed_rows columns.old) }
     ensures filled { AreFilled columns.new }
     ensures sizes { sizes.new ≡ sizes_of (entries_in columns.new) }
     ensures fit { Fit sizes.new }
@@ -34,15 +35,15 @@ fn keep_in_leaf<'a>(
     columns: &mut Index<KeyRows>,
     sizes: &mut Sizes,
     at: usize,
-    flags: &'a [bool],
-) -> &'a [bool]
+    flags: Flags<'a>,
+) -> Flags<'a>
     requires leaf { at < length columns.old }
-    requires many { length (table_rows (slice_index_or columns.old at [])) ≤ length flags.now }
+    requires many { length (table_rows (slice_index_or columns.old at [])) ≤ length flags }
     requires sizes { sizes.old ≡ filled_sizes columns.old }
     requires fit { Fit sizes.old }
     ensures kept { columns.new
-        ≡ slice_set columns.old at (kept_in flags.now (slice_index_or columns.old at [])) }
-    ensures left { result.now ≡ drop (length (table_rows (slice_index_or columns.old at []))) flags.now }
+        ≡ slice_set columns.old at (kept_in flags.entry (slice_index_or columns.old at [])) }
+    ensures left { result ≡ drop (length (table_rows (slice_index_or columns.old at []))) flags.entry }
     ensures sizes { sizes.new ≡ filled_sizes columns.new }
     ensures fit { Fit sizes.new }
 {
@@ -59,29 +60,35 @@ fn keep_at<'a>(
     sizes: &mut Sizes,
     at: usize,
     slot: usize,
-    flags: &'a [bool],
-) -> &'a [bool]
+    flags: Flags<'a>,
+) -> Flags<'a>
     requires leaf { at < length columns.old }
     requires inside { slot < length (slice_index_or columns.old at []) }
-    requires many { length (cells_at columns.old at slot) ≤ length flags.now }
+    requires many { length (cells_at columns.old at slot) ≤ length flags }
     requires sizes { sizes.old ≡ filled_sizes columns.old }
     requires fit { Fit sizes.old }
     ensures kept { columns.new ≡ with_value_in columns.old at slot (items_where_true
-        (take (length (cells_at columns.old at slot)) flags.now) (cells_at columns.old at slot)) }
-    ensures left { result.now ≡ drop (length (cells_at columns.old at slot)) flags.now }
+        (take (length (cells_at columns.old at slot)) flags.entry) (cells_at columns.old at slot)) }
+    ensures left { result ≡ drop (length (cells_at columns.old at slot)) flags.entry }
     ensures sizes { sizes.new ≡ filled_sizes columns.new }
     ensures fit { Fit sizes.new }
 {
     let (first, left) = flags.split_at(columns.leaf(at)[slot].1.len());
-    if !first.contains(&false) {
+    if first.are_set() {
         return left;
     }
-    drop_at(columns, sizes, at, slot, first);
+    drop_at(columns, sizes, at, slot, &first);
     left
 }
 
 /// Keeps only the flagged rows of a column.
-fn drop_at(columns: &mut Index<KeyRows>, sizes: &mut Sizes, at: usize, slot: usize, flags: &[bool])
+fn drop_at(
+    columns: &mut Index<KeyRows>,
+    sizes: &mut Sizes,
+    at: usize,
+    slot: usize,
+    flags: &Flags<'_>,
+)
     requires leaf { at < length columns.old }
     requires inside { slot < length (slice_index_or columns.old at []) }
     requires many { length flags.now ≡ length (cells_at columns.old at slot) }
@@ -99,7 +106,7 @@ fn drop_at(columns: &mut Index<KeyRows>, sizes: &mut Sizes, at: usize, slot: usi
 }
 
 /// Keeps only the flagged rows of a column, which may be left without rows.
-pub(crate) fn keep_cells(columns: &mut Index<KeyRows>, at: usize, slot: usize, flags: &[bool])
+pub(crate) fn keep_cells(columns: &mut Index<KeyRows>, at: usize, slot: usize, flags: &Flags<'_>)
     requires leaf { at < length columns.old }
     requires inside { slot < length (slice_index_or columns.old at []) }
     requires many { length flags.now ≡ length (cells_at columns.old at slot) }

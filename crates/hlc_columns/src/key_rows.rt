@@ -4,6 +4,7 @@ ghost use Rattle.std.specs.List.{items_where_true};
 
 use hlc_clock::Stamp;
 use hlc_column::{Lanes, Rows};
+use hlc_flags::Flags;
 use hlc_index::Filled;
 use hlc_node::Bytes;
 use hlc_values::NoMemory;
@@ -67,7 +68,7 @@ impl KeyRows {
     }
 
     /// Keeps only the flagged rows, in their order. It needs no memory.
-    pub(crate) fn keep(&mut self, flags: &[bool])
+    pub(crate) fn keep(&mut self, flags: &Flags<'_>)
         requires { length flags.now ≡ length self.old }
         ensures { self.new ≡ items_where_true flags.now self.old }
     {

@@ -8,6 +8,7 @@ ghost use Rattle.hlc_columns.specs.Table.{cells_at, key_at, if_filled};
 use crate::dropping::keep_cells;
 use crate::key_rows::KeyRows;
 use crate::sizes::sizes_at;
+use hlc_flags::Flags;
 use hlc_index::Index;
 use hlc_sizes::Sizes;
 
@@ -18,7 +19,7 @@ pub(crate) fn keep_column(
     sizes: &mut Sizes,
     at: usize,
     slot: usize,
-    flags: &[bool],
+    flags: &Flags<'_>,
 )
     requires leaf { at < length columns.old }
     requires inside { slot < length (slice_index_or columns.old at []) }

@@ -171,7 +171,7 @@ own-append points front back =
 -- the draft of more columns after others
 pub draft_append : (points : List ℕ) (front back : List KeyCells) → KeysAscend (front ++ back)
     → (old more new : Draft) → IsDraftOf front points old → IsDraftOf back points more
-    → new.keep.items ≡ old.keep.items ++ more.keep.items → new.changes ≡ old.changes + more.changes
+    → new.keep ≡ old.keep ++ more.keep → new.changes ≡ old.changes + more.changes
     → new.bytes ≡ old.bytes + more.bytes → IsDraftOf (front ++ back) points new
 draft_append points front back up old more new so also flags number total =
     let firsts = own_changes points front in
@@ -182,10 +182,10 @@ draft_append points front back up old more new so also flags number total =
     let second = also.changes in
     record {
       joined =
-          subst (λ cs. IsJoined (front ++ back) points cs new.keep.items new.bytes) (sym both)
+          subst (λ cs. IsJoined (front ++ back) points cs new.keep new.bytes) (sym both)
           (subst (λ fs. IsJoined (front ++ back) points (firsts ++ seconds) fs new.bytes) (sym flags)
-          (subst (IsJoined (front ++ back) points (firsts ++ seconds) (old.keep.items ++ more.keep.items)) (sym total)
-          (joined_append points front back up firsts seconds old.keep.items more.keep.items old.bytes more.bytes
+          (subst (IsJoined (front ++ back) points (firsts ++ seconds) (old.keep ++ more.keep)) (sym total)
+          (joined_append points front back up firsts seconds old.keep more.keep old.bytes more.bytes
           so.joined also.joined)));
       changes =
           let sum : new.changes ≡ length (firsts ++ seconds) = omega (arith, number, first, second, long) in
@@ -195,7 +195,7 @@ draft_append points front back up old more new so also flags number total =
 -- the draft of one more column after others
 pub draft_push : (points : List ℕ) (front : List KeyCells) (one : KeyCells) → KeysAscend (front ++ one ∷ [])
     → (old new : Draft) → IsDraftOf front points old
-    → AddsPlan (rows_in_one one) one.key points old.changes new.changes old.keep.items new.keep.items
+    → AddsPlan (rows_in_one one) one.key points old.changes new.changes old.keep new.keep
     old.bytes new.bytes → IsDraftOf (front ++ one ∷ []) points new
 draft_push points front one up old new so plan =
     let mine = key_changes (rows_in_one one) one.key None points in
@@ -207,10 +207,10 @@ draft_push points front one up old new so plan =
     let first = so.changes in
     record {
       joined =
-          subst (λ cs. IsJoined (front ++ one ∷ []) points cs new.keep.items new.bytes) (sym both)
+          subst (λ cs. IsJoined (front ++ one ∷ []) points cs new.keep new.bytes) (sym both)
           (subst (λ fs. IsJoined (front ++ one ∷ []) points (before ++ mine) fs new.bytes) (sym plan.mores)
-          (subst (IsJoined (front ++ one ∷ []) points (before ++ mine) (old.keep.items ++ plan.keep)) (sym plan.cost)
-          (joined_append points front (one ∷ []) up before mine old.keep.items plan.keep
+          (subst (IsJoined (front ++ one ∷ []) points (before ++ mine) (old.keep ++ plan.keep)) (sym plan.cost)
+          (joined_append points front (one ∷ []) up before mine old.keep plan.keep
           old.bytes (changes_cost (rows_in_one one) mine) so.joined (joined_one points one plan.keep plan.draft))));
       changes =
           let sum : new.changes ≡ length (before ++ mine) = omega (arith, number, first, long) in
@@ -226,7 +226,7 @@ column_next columns i one lt is = take_more columns i one lt ∙ ap (λ x. take 
 pub draft_on : (points : List ℕ) (columns : List KeyCells) (i : ℕ) (one : KeyCells) → KeysAscend columns
     → i < length columns → one ≡ get_or columns i one
     → (old new : Draft) → IsDraftOf (take i columns) points old
-    → AddsPlan (rows_in_one one) one.key points old.changes new.changes old.keep.items new.keep.items
+    → AddsPlan (rows_in_one one) one.key points old.changes new.changes old.keep new.keep
     old.bytes new.bytes → IsDraftOf (take (i + 1) columns) points new
 draft_on points columns i one up lt is old new so plan =
     let next = column_next columns i one lt is in
@@ -237,7 +237,7 @@ draft_on points columns i one up lt is old new so plan =
     (draft_push points (take i columns) one (subst KeysAscend next ascend) old new so plan)
 
 -- the draft of no columns
-pub draft_none : (points : List ℕ) (draft : Draft) → draft.keep.items ≡ [] → draft.changes ≡ 0 → draft.bytes ≡ 0
+pub draft_none : (points : List ℕ) (draft : Draft) → draft.keep ≡ [] → draft.changes ≡ 0 → draft.bytes ≡ 0
     → IsDraftOf [] points draft
 draft_none points draft flags number total =
     record {
@@ -249,13 +249,13 @@ draft_none points draft flags number total =
     }
 
 -- another draft of the same
-pub draft_same : (points : List ℕ) (columns : List KeyCells) (old new : Draft) → new.keep.items ≡ old.keep.items
+pub draft_same : (points : List ℕ) (columns : List KeyCells) (old new : Draft) → new.keep ≡ old.keep
     → new.changes ≡ old.changes → new.bytes ≡ old.bytes → IsDraftOf columns points old → IsDraftOf columns points new
 draft_same points columns old new flags number total so =
     record {
       joined =
           subst (λ fs. IsJoined columns points (own_changes points columns) fs new.bytes) (sym flags)
-          (subst (IsJoined columns points (own_changes points columns) old.keep.items) (sym total) so.joined);
+          (subst (IsJoined columns points (own_changes points columns) old.keep) (sym total) so.joined);
       changes = number ∙ so.changes;
     }
 
@@ -288,19 +288,19 @@ joined_plans points columns changes flags bytes ascend up apart so =
 -- and so does the draft, with the number of the changes
 pub draft_tallies : (points : List ℕ) (columns : List KeyCells) (draft : Draft) → PointsAscend points
     → KeysAscend columns → IsRowSet (rows_in columns) → IsDraftOf columns points draft
-    → IsTallyOf (record { keep = draft.keep.items; points = points; kept = draft.changes; bytes = draft.bytes })
+    → IsTallyOf (record { keep = draft.keep; points = points; kept = draft.changes; bytes = draft.bytes })
     (rows_in columns)
 draft_tallies points columns draft ascend up apart so =
     record {
       plan = record {
-        keep = draft.keep.items;
+        keep = draft.keep;
         points = points;
         witnesses = own_changes points columns;
         bytes = draft.bytes;
       };
-      made = joined_plans points columns (own_changes points columns) draft.keep.items draft.bytes ascend up apart
+      made = joined_plans points columns (own_changes points columns) draft.keep draft.bytes ascend up apart
           so.joined;
-      is = ap (λ n. record { keep = draft.keep.items; points = points; kept = n; bytes = draft.bytes }) so.changes;
+      is = ap (λ n. record { keep = draft.keep; points = points; kept = n; bytes = draft.bytes }) so.changes;
     }
 
 up_one : (key : List ℕ) → IsStrictlySortedBy (slice_cmp nat_cmp) (key ∷ [])

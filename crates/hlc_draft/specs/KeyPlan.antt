@@ -38,7 +38,7 @@ own_changes points columns = flat_map (λ (one : KeyCells). key_changes (rows_in
 
 -- the draft of some columns: their plans joined, and the number of their changes
 pub record IsDraftOf (columns : List KeyCells) (points : List ℕ) (draft : Draft) : Type 0 where
-  pub joined : IsJoined columns points (own_changes points columns) draft.keep.items draft.bytes
+  pub joined : IsJoined columns points (own_changes points columns) draft.keep draft.bytes
   pub changes : draft.changes ≡ length (own_changes points columns)
 
 -- the plan of one more key was added to a number of changes, flags and bytes: all its changes, a flag for each of its

@@ -1,6 +1,6 @@
 //! An unfinished plan: the plans of the columns so far, one after another.
 ghost use Rattle.std.specs.Prelude.{◌≡◌, ◌+◌, ◌<◌, ◌≤◌, ◌++◌, [], IfSome, MatchOption, None, OnOk, length, map};
-ghost use Rattle.std.specs.Prelude.{nat_lt, slice_set, true, vec_len, vec_capacity};
+ghost use Rattle.std.specs.Prelude.{nat_lt, slice_set, true};
 ghost use Rattle.hlc_clock.specs.Points.{PointsAscend};
 ghost use Rattle.hlc_column.specs.Rows.{rows_of};
 ghost use Rattle.hlc_witness.specs.AllChanges.{key_changes};
@@ -12,6 +12,7 @@ use crate::key_plan::are_equal;
 use crate::points::last_of;
 use hlc_clock::Stamp;
 use hlc_column::Lanes;
+use hlc_flags::FlagList;
 use hlc_values::NoMemory;
 use hlc_witness::cost_of;
 use std::alloc::Global;
@@ -19,7 +20,7 @@ use std::alloc::Global;
 /// For each row so far whether it is kept, the number of changes so far, and the bytes that they force.
 #[derive(Drop)]
 pub struct Draft {
-    pub keep: Vec<bool>,
+    pub keep: FlagList,
     pub changes: u64,
     pub bytes: u128,
 }
@@ -27,12 +28,12 @@ pub struct Draft {
 impl Draft {
     /// Returns a draft of no column.
     pub fn new(alloc: Global) -> Draft
-        ensures keep { result.keep.items ≡ [] }
+        ensures keep { result.keep ≡ [] }
         ensures changes { result.changes ≡ 0 }
         ensures bytes { result.bytes ≡ 0 }
     {
         Draft {
-            keep: Vec::new(alloc),
+            keep: FlagList::new(alloc),
             changes: 0,
             bytes: 0,
         }
@@ -40,10 +41,9 @@ impl Draft {
 
     /// Makes room for the flags of this many rows.
     pub fn make_room(&mut self, rows: usize) -> Result<(), NoMemory>
-        ensures keep { self.new.keep.items ≡ self.old.keep.items }
+        ensures keep { self.new.keep ≡ self.old.keep }
         ensures changes { self.new.changes ≡ self.old.changes }
         ensures bytes { self.new.bytes ≡ self.old.bytes }
-        ensures room { OnOk result (vec_len self.new.keep + rows ≤ vec_capacity self.new.keep) }
     {
         self.keep.reserve(rows)?;
         Ok(())
@@ -63,7 +63,7 @@ impl Draft {
         requires { PointsAscend points.now }
         ensures plan { OnOk result (AddsPlan (rows_of key.now column.entry) key.now points.now
             self.old.changes self.new.changes
-            self.old.keep.items self.new.keep.items self.old.bytes self.new.bytes) }
+            self.old.keep self.new.keep self.old.bytes self.new.bytes) }
         ensures changes { OnOk result (C.adds changes.old
             (key_changes (rows_of key.now column.entry) key.now None points.now) changes.new) }
     {
@@ -102,7 +102,7 @@ impl Draft {
 
     /// Adds the draft of the columns after these.
     pub fn append(&mut self, other: Draft) -> Result<(), NoMemory>
-        ensures keep { OnOk result (self.new.keep.items ≡ self.old.keep.items ++ other.keep.items) }
+        ensures keep { OnOk result (self.new.keep ≡ self.old.keep ++ other.keep) }
         ensures changes { OnOk result (self.new.changes ≡ self.old.changes + other.changes) }
         ensures bytes { OnOk result (self.new.bytes ≡ self.old.bytes + other.bytes) }
     {
@@ -111,14 +111,14 @@ impl Draft {
             changes,
             bytes,
         } = other;
-        append_list(&mut self.keep, keep)?;
+        self.keep.append(keep)?;
         self.count(changes, bytes)
     }
 
     /// Counts more changes, and the bytes that they force. No memory has so many rows that a sum does not fit; were it
     /// so, it would count as out of memory.
     fn count(&mut self, changes: u64, bytes: u128) -> Result<(), NoMemory>
-        ensures keep { OnOk result (self.new.keep.items ≡ self.old.keep.items) }
+        ensures keep { OnOk result (self.new.keep ≡ self.old.keep) }
         ensures changes { OnOk result (self.new.changes ≡ self.old.changes + changes) }
         ensures bytes { OnOk result (self.new.bytes ≡ self.old.bytes + bytes) }
     {
@@ -140,24 +140,24 @@ pub fn append_list<T: Drop>(list: &mut Vec<T>, mut more: Vec<T>) -> Result<(), N
 }
 
 /// Adds for each stamp in turn whether it is above a bound.
-fn add_flags(flags: &mut Vec<bool>, stamps: &[u64], bound: u64) -> Result<(), NoMemory>
-    ensures { OnOk result (flags.new.items
-        ≡ flags.old.items ++ map (λ stamp. nat_lt bound stamp) stamps.now) }
+fn add_flags(flags: &mut FlagList, stamps: &[u64], bound: u64) -> Result<(), NoMemory>
+    ensures { OnOk result (flags.new
+        ≡ flags.old ++ map (λ stamp. nat_lt bound stamp) stamps.now) }
 {
     flags.reserve(stamps.len())?;
     for stamp in stamps {
-        flags.push_reserved(*stamp > bound);
+        flags.push(*stamp > bound)?;
     }
     Ok(())
 }
 
 /// Sets the flag of a row, if there is one, among those from a position on.
-fn mark(flags: &mut Vec<bool>, from: usize, place: Option<usize>)
-    requires { IfSome place (λ i. from + i < length flags.old.items) }
-    ensures { MatchOption place (flags.new.items ≡ flags.old.items)
-        (λ i. flags.new.items ≡ slice_set flags.old.items (from + i) true) }
+fn mark(flags: &mut FlagList, from: usize, place: Option<usize>)
+    requires { IfSome place (λ i. from + i < length flags.old) }
+    ensures { MatchOption place (flags.new ≡ flags.old)
+        (λ i. flags.new ≡ slice_set flags.old (from + i) true) }
 {
     if let Some(i) = place {
-        flags[from + i] = true;
+        flags.set_after(from, i);
     }
 }

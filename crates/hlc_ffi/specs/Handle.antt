@@ -1,12 +1,10 @@
 -- What a handle contains before and after a call.
-use Rattle.std.specs.Prelude.{◌≡◌, ℕ, List, [], Option, Some, None, IsSome, MatchOption, ⊤}
+use Rattle.std.specs.Prelude.{◌≡◌, ℕ, List, Option, Some, None, IsSome, MatchOption}
 use Rattle.hlc_core.specs.StoreView.{StoreView, Represents, nodes}
-use Rattle.hlc_core.specs.Calls.{new_refusal}
 use Rattle.hlc_core.specs.Past.{Step}
 use Rattle.hlc_node.specs.declared.item.Item.{Item}
 use Rattle.hlc_handle.specs.contracts.reader.LentRoom.{the_row}
 use Rattle.hlc_calls.specs.Answers.{ReturnsAccepted, ReturnsChecked}
-use Rattle.hlc_calls.specs.Outcome.{IsAnswered}
 use Rattle.hlc_calls.specs.Saved.{IsMade, IsNotMade}
 
 -- the answer is about an open store, which stays open; a closed one stays closed, and its answer is this
@@ -50,14 +48,6 @@ IsChecking kept item code word =
 -- the answer for a closed store, of a call that lists: nothing is listed
 abbrev pub ListsNothing : ℕ → ℕ → ℕ → List ℕ → List ℕ → Type 0
 ListsNothing code len many old new = (code ≡ 100) × (len ≡ 0) × (many ≡ 0) × (new ≡ old)
-
--- A closed store was opened, and nothing took place in it; or it stays closed, for the expected reason or because it
--- ran out of memory. An open one is unchanged.
-abbrev pub IsOpening : Option StoreView → Option StoreView → ℕ → ℕ → Type 0
-IsOpening (Some before) new count code = (code ≡ 101) × (new ≡ Some before)
-IsOpening None new count code =
-    MatchOption new (IsAnswered (new_refusal count) ⊤ ⊥ code 0) (λ core. (code ≡ 0) × (nodes core ≡ count)
-    × (new_refusal count ≡ None) × Represents core [])
 
 -- how many nodes there were at the start, 0 where the store is closed
 abbrev pub nodes_in_handle : Option StoreView → ℕ

@@ -11,7 +11,7 @@ use crate::handle::{of_core, on_core};
 use hlc_calls::batch::{Entry, enter_all};
 use hlc_calls::{items, open_store};
 use hlc_core::{Core, ItemRef, Stamp};
-use hlc_handle::{Reader, Store};
+use hlc_handle::{Reader, Slot, Store};
 use std::alloc::Global;
 
 /// Accepts the write that a node issued under this number. Returns 0 and its stamp, or a refusal and its word.
@@ -26,10 +26,10 @@ pub extern "C" fn hlc_accept_write(
     value: &[u8],
     word: &mut u64,
 ) -> u32
-    ensures answer { IsAccepting store.old.room.value store.new.room.value
+    ensures answer { IsAccepting store.old.value store.new.value
         (an_item node number stamp (a_write key.now (Some value.now))) result word.new }
-    ensures same { result ≢ 0 → store.new.room.value ≡ store.old.room.value }
-    ensures nodes { nodes_in_handle store.new.room.value ≡ nodes_in_handle store.old.room.value }
+    ensures same { result ≢ 0 → store.new.value ≡ store.old.value }
+    ensures nodes { nodes_in_handle store.new.value ≡ nodes_in_handle store.old.value }
 {
     *word = 0;
     let item = ItemRef::write(node, number, Stamp::from_bits(stamp), key, Some(value));
@@ -47,10 +47,10 @@ pub extern "C" fn hlc_accept_delete(
     key: &[u8],
     word: &mut u64,
 ) -> u32
-    ensures answer { IsAccepting store.old.room.value store.new.room.value
+    ensures answer { IsAccepting store.old.value store.new.value
         (an_item node number stamp (a_write key.now None)) result word.new }
-    ensures same { result ≢ 0 → store.new.room.value ≡ store.old.room.value }
-    ensures nodes { nodes_in_handle store.new.room.value ≡ nodes_in_handle store.old.room.value }
+    ensures same { result ≢ 0 → store.new.value ≡ store.old.value }
+    ensures nodes { nodes_in_handle store.new.value ≡ nodes_in_handle store.old.value }
 {
     *word = 0;
     let item = ItemRef::write(node, number, Stamp::from_bits(stamp), key, None);
@@ -67,10 +67,10 @@ pub extern "C" fn hlc_accept_report(
     stamp: u64,
     word: &mut u64,
 ) -> u32
-    ensures answer { IsAccepting store.old.room.value store.new.room.value
+    ensures answer { IsAccepting store.old.value store.new.value
         (an_item node number stamp a_report) result word.new }
-    ensures same { result ≢ 0 → store.new.room.value ≡ store.old.room.value }
-    ensures nodes { nodes_in_handle store.new.room.value ≡ nodes_in_handle store.old.room.value }
+    ensures same { result ≢ 0 → store.new.value ≡ store.old.value }
+    ensures nodes { nodes_in_handle store.new.value ≡ nodes_in_handle store.old.value }
 {
     *word = 0;
     let item = ItemRef::report(node, number, Stamp::from_bits(stamp));
@@ -87,10 +87,10 @@ pub extern "C" fn hlc_accept_retire(
     stamp: u64,
     word: &mut u64,
 ) -> u32
-    ensures answer { IsAccepting store.old.room.value store.new.room.value
+    ensures answer { IsAccepting store.old.value store.new.value
         (an_item node number stamp a_retire) result word.new }
-    ensures same { result ≢ 0 → store.new.room.value ≡ store.old.room.value }
-    ensures nodes { nodes_in_handle store.new.room.value ≡ nodes_in_handle store.old.room.value }
+    ensures same { result ≢ 0 → store.new.value ≡ store.old.value }
+    ensures nodes { nodes_in_handle store.new.value ≡ nodes_in_handle store.old.value }
 {
     *word = 0;
     let item = ItemRef::retire(node, number, Stamp::from_bits(stamp));
@@ -158,12 +158,12 @@ pub extern "C" fn hlc_check_report(
 /// Lets a node join. Returns 0, its number and the stamp at which its clock starts; or 26 or 15.
 #[unsafe(no_mangle)]
 pub extern "C" fn hlc_join(alloc: Global, store: &mut Store, node: &mut u16, start: &mut u64) -> u32
-    ensures answer { OnStorePast store.old.room.value store.new.room.value
+    ensures answer { OnStorePast store.old.value store.new.value
         ((result ≡ 100) × (node.new ≡ 0) × (start.new ≡ 0))
         (λ old new past. ReturnsJoined old new past result node.new start.new) }
     ensures nothing { result ≢ 0 → (node.new ≡ 0) × (start.new ≡ 0) }
-    ensures same { result ≢ 0 → store.new.room.value ≡ store.old.room.value }
-    ensures nodes { nodes_in_handle store.new.room.value ≡ nodes_in_handle store.old.room.value }
+    ensures same { result ≢ 0 → store.new.value ≡ store.old.value }
+    ensures nodes { nodes_in_handle store.new.value ≡ nodes_in_handle store.old.value }
 {
     *node = 0;
     *start = 0;
@@ -179,12 +179,12 @@ pub extern "C" fn hlc_join_at(
     node: &mut u16,
     word: &mut u64,
 ) -> u32
-    ensures answer { OnStorePast store.old.room.value store.new.room.value
+    ensures answer { OnStorePast store.old.value store.new.value
         ((result ≡ 100) × (node.new ≡ 0) × (word.new ≡ 0))
         (λ old new past. ReturnsJoinedAt old new start past result node.new word.new) }
     ensures nothing { result ≢ 0 → node.new ≡ 0 }
-    ensures same { result ≢ 0 → store.new.room.value ≡ store.old.room.value }
-    ensures nodes { nodes_in_handle store.new.room.value ≡ nodes_in_handle store.old.room.value }
+    ensures same { result ≢ 0 → store.new.value ≡ store.old.value }
+    ensures nodes { nodes_in_handle store.new.value ≡ nodes_in_handle store.old.value }
 {
     let start = Stamp::from_bits(start);
     on_core!(alloc, store, [node, word], |core| {
@@ -203,10 +203,10 @@ pub extern "C" fn hlc_accept_all(
     many: &mut usize,
     word: &mut u64,
 ) -> u32
-    ensures answer { OnStorePast store.old.room.value store.new.room.value
+    ensures answer { OnStorePast store.old.value store.new.value
         ((result ≡ 100) × (many.new ≡ 0) × (word.new ≡ 0))
         (λ old new past. AreEntered new entries.now bytes.now past result many.new word.new) }
-    ensures nodes { nodes_in_handle store.new.room.value ≡ nodes_in_handle store.old.room.value }
+    ensures nodes { nodes_in_handle store.new.value ≡ nodes_in_handle store.old.value }
 {
     on_core!(alloc, store, [many, word], |core| {
         enter_all(core, entries, bytes, many, word)

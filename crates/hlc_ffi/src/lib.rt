@@ -2,7 +2,7 @@
 #![tactic(auto)]
 
 ghost use Rattle.std.specs.Prelude.{◌≡◌, None};
-ghost use Rattle.hlc_ffi.specs.Handle.{IsOpening};
+ghost use Rattle.hlc_handle_calls.specs.Opening.{IsOpening};
 
 pub mod accept;
 mod handle;
@@ -17,36 +17,23 @@ pub mod status;
 pub mod texts;
 pub mod vacuum;
 
-use hlc_core::Core;
+use hlc_handle::Slot;
 pub use hlc_handle::{Output, Reader, Restoring, Saving, Store};
+use hlc_handle_calls::opening::open;
 use std::alloc::Global;
 
 /// Opens a closed store of 1 to 64 nodes. Returns 0, 1, 15, or 101 for an open store, which stays unchanged.
 #[unsafe(no_mangle)]
 pub extern "C" fn hlc_open(alloc: Global, store: &mut Store, count: u16) -> u32
-    ensures { IsOpening store.old.room.value store.new.room.value count result }
+    ensures { IsOpening store.old.value store.new.value count result }
 {
-    if let Some(handle) = store.take(alloc) {
-        store.put(handle);
-        return 101;
-    }
-    let core = match Core::new(alloc, count) {
-        Ok(core) => core,
-        Err(fault) => return fault.code(),
-    };
-    match Box::new(alloc, core) {
-        Ok(handle) => {
-            store.put(handle);
-            0
-        }
-        Err(_) => 15,
-    }
+    open(alloc, store, count)
 }
 
 /// Closes a store, and frees what it contains. A closed one stays closed.
 #[unsafe(no_mangle)]
 pub extern "C" fn hlc_close(alloc: Global, store: &mut Store)
-    ensures { store.new.room.value ≡ None }
+    ensures { store.new.value ≡ None }
 {
     let _ = store.take(alloc);
 }

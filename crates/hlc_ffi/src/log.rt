@@ -12,7 +12,7 @@ ghost use Rattle.hlc_ffi.specs.Handle.{OnStorePast, nodes_in_handle};
 use crate::handle::on_core;
 use hlc_calls::{log, records};
 use hlc_core::{ItemRef, Stamp};
-use hlc_handle::Store;
+use hlc_handle::{Slot, Store};
 use std::alloc::Global;
 
 /// Writes a node's write as bytes. Returns 0, how many there are and, where they fit, the bytes; or 12 or 13. No memory.
@@ -91,10 +91,10 @@ pub extern "C" fn hlc_items_accept(
     many: &mut usize,
     word: &mut u64,
 ) -> u32
-    ensures answer { OnStorePast store.old.room.value store.new.room.value
+    ensures answer { OnStorePast store.old.value store.new.value
         ((result ≡ 100) × (used.new ≡ 0) × (many.new ≡ 0) × (word.new ≡ 0))
         (λ old new past. AreTaken (nodes old) new bytes.now past result used.new many.new word.new) }
-    ensures nodes { nodes_in_handle store.new.room.value ≡ nodes_in_handle store.old.room.value }
+    ensures nodes { nodes_in_handle store.new.value ≡ nodes_in_handle store.old.value }
 {
     on_core!(alloc, store, [used, many, word], |core| {
         log::take_all(core, bytes, used, many, word)
@@ -130,11 +130,11 @@ pub extern "C" fn hlc_records_apply(
     threshold: &mut u64,
     word: &mut u64,
 ) -> u32
-    ensures answer { OnStorePast store.old.room.value store.new.room.value
+    ensures answer { OnStorePast store.old.value store.new.value
         ((result ≡ 100) × (used.new ≡ 0) × (many.new ≡ 0) × (threshold.new ≡ 0) × (word.new ≡ 0))
         (λ old new past. ReturnsApplied (nodes old) new bytes.now past result used.new many.new
         threshold.new word.new) }
-    ensures nodes { nodes_in_handle store.new.room.value ≡ nodes_in_handle store.old.room.value }
+    ensures nodes { nodes_in_handle store.new.value ≡ nodes_in_handle store.old.value }
 {
     on_core!(alloc, store, [used, many, threshold, word], |core| {
         records::apply_all(core, bytes, used, many, threshold, word)

@@ -3,48 +3,28 @@ ghost use Rattle.std.specs.Prelude.{◌≡◌, ℕ, List, None};
 ghost use Rattle.hlc_core.specs.Past.{Step};
 ghost use Rattle.hlc_saved.specs.Saved.{BytesRepresent};
 ghost use Rattle.hlc_ffi.specs.Handle.{RestoresPast};
-ghost use Rattle.hlc_ffi.specs.Pieces.{HasStarted, HasFed, HasReadAll, HasFinished};
+ghost use Rattle.hlc_ffi.specs.Pieces.{HasReadAll, HasFinished};
+ghost use Rattle.hlc_handle_calls.specs.Restorings.{HasStarted, HasFed};
 
 use hlc_calls::saved::answered;
-use hlc_handle::{Restoring, Store, opened};
-use hlc_saved::CheckpointReader;
+use hlc_handle::{Restoring, Slot, Store, opened};
+use hlc_handle_calls::restorings::{feed, start};
 use std::alloc::Global;
 
 /// Starts a restore. Returns 0; or 101 where one is under way, which goes on; or 15.
 #[unsafe(no_mangle)]
 pub extern "C" fn hlc_restore_start(alloc: Global, restoring: &mut Restoring) -> u32
-    ensures { HasStarted restoring.old.room.value restoring.new.room.value result }
+    ensures { HasStarted restoring.old.value restoring.new.value result }
 {
-    if let Some(reader) = restoring.take(alloc) {
-        restoring.put(reader);
-        return 101;
-    }
-    match Box::new(alloc, CheckpointReader::new(alloc)) {
-        Ok(reader) => {
-            restoring.put(reader);
-            0
-        }
-        Err(_) => 15,
-    }
+    start(alloc, restoring)
 }
 
 /// Adds the next bytes of a checkpoint. Returns 0; or 100 where no restore is under way; or 15, and nothing was added.
 #[unsafe(no_mangle)]
 pub extern "C" fn hlc_restore_feed(alloc: Global, restoring: &mut Restoring, bytes: &[u8]) -> u32
-    ensures { HasFed restoring.old.room.value restoring.new.room.value bytes.now result }
+    ensures { HasFed restoring.old.value restoring.new.value bytes.now result }
 {
-    match restoring.take(alloc) {
-        None => 100,
-        Some(taken) => {
-            let mut reader = taken;
-            let fed = reader.feed(bytes);
-            restoring.put(reader);
-            match fed {
-                Ok(()) => 0,
-                Err(_) => 15,
-            }
-        }
-    }
+    feed(alloc, restoring, bytes)
 }
 
 /// Ends a restore as `hlc_restore` of all its bytes; or returns 100 for none under way; or 101, and it goes on.
@@ -55,11 +35,11 @@ pub extern "C" fn hlc_restore_finish(
     store: &mut Store,
     word: &mut u64,
 ) -> u32
-    ensures answer { HasFinished restoring.old.room.value restoring.new.room.value
-        store.old.room.value store.new.room.value result word.new }
+    ensures answer { HasFinished restoring.old.value restoring.new.value
+        store.old.value store.new.value result word.new }
     ensures represents { (fed : List ℕ) (saved : ℕ) (past : List Step)
-        → HasReadAll restoring.old.room.value fed → BytesRepresent fed saved past
-        → RestoresPast store.old.room.value store.new.room.value saved past result word.new }
+        → HasReadAll restoring.old.value fed → BytesRepresent fed saved past
+        → RestoresPast store.old.value store.new.value saved past result word.new }
 {
     *word = 0;
     let Some(reader) = restoring.take(alloc) else {
@@ -77,7 +57,7 @@ pub extern "C" fn hlc_restore_finish(
 /// Ends a restore, and frees what it has read.
 #[unsafe(no_mangle)]
 pub extern "C" fn hlc_restore_drop(alloc: Global, restoring: &mut Restoring)
-    ensures { restoring.new.room.value ≡ None }
+    ensures { restoring.new.value ≡ None }
 {
     let _ = restoring.take(alloc);
 }

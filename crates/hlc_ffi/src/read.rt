@@ -17,7 +17,7 @@ use hlc_calls::digest::digest;
 use hlc_calls::open_store;
 use hlc_calls::read_all::{Place, read_all};
 use hlc_core::{Core, Stamp};
-use hlc_handle::{Reader, Store};
+use hlc_handle::{Reader, Slot, Store};
 use hlc_range_calls::changes::changes;
 use hlc_range_calls::list::list;
 use hlc_range_calls::scan::{count, scan};
@@ -33,11 +33,11 @@ pub extern "C" fn hlc_open_snapshot(
     stamp: u64,
     id: &mut u64,
 ) -> u32
-    ensures answer { OnStorePast store.old.room.value store.new.room.value
+    ensures answer { OnStorePast store.old.value store.new.value
         ((result ≡ 100) × (id.new ≡ 0))
         (λ old new past. ReturnsOpened old new stamp past result id.new) }
-    ensures same { result ≢ 0 → store.new.room.value ≡ store.old.room.value }
-    ensures nodes { nodes_in_handle store.new.room.value ≡ nodes_in_handle store.old.room.value }
+    ensures same { result ≢ 0 → store.new.value ≡ store.old.value }
+    ensures nodes { nodes_in_handle store.new.value ≡ nodes_in_handle store.old.value }
 {
     on_core!(alloc, store, [id], |core| {
         open_store::open(core, Stamp::from_bits(stamp), id)
@@ -52,12 +52,12 @@ pub extern "C" fn hlc_open_snapshot_at_floor(
     id: &mut u64,
     stamp: &mut u64,
 ) -> u32
-    ensures answer { OnStorePast store.old.room.value store.new.room.value
+    ensures answer { OnStorePast store.old.value store.new.value
         ((result ≡ 100) × (id.new ≡ 0) × (stamp.new ≡ 0))
         (λ old new past. ReturnsOpenedAtFloor old new past result id.new stamp.new) }
     ensures nothing { result ≢ 0 → stamp.new ≡ 0 }
-    ensures same { result ≢ 0 → store.new.room.value ≡ store.old.room.value }
-    ensures nodes { nodes_in_handle store.new.room.value ≡ nodes_in_handle store.old.room.value }
+    ensures same { result ≢ 0 → store.new.value ≡ store.old.value }
+    ensures nodes { nodes_in_handle store.new.value ≡ nodes_in_handle store.old.value }
 {
     *id = 0;
     *stamp = 0;
@@ -91,11 +91,11 @@ pub extern "C" fn hlc_close_snapshot(
     id: u64,
     stamp: &mut u64,
 ) -> u32
-    ensures answer { OnStorePast store.old.room.value store.new.room.value
+    ensures answer { OnStorePast store.old.value store.new.value
         ((result ≡ 100) × (stamp.new ≡ 0))
         (λ old new past. ReturnsClosed new id past result stamp.new) }
-    ensures same { result ≢ 0 → store.new.room.value ≡ store.old.room.value }
-    ensures nodes { nodes_in_handle store.new.room.value ≡ nodes_in_handle store.old.room.value }
+    ensures same { result ≢ 0 → store.new.value ≡ store.old.value }
+    ensures nodes { nodes_in_handle store.new.value ≡ nodes_in_handle store.old.value }
 {
     *stamp = 0;
     on_core!(alloc, store, |core| open_store::close(core, id, stamp))
@@ -104,9 +104,9 @@ pub extern "C" fn hlc_close_snapshot(
 /// Closes all open snapshots. Returns 0. It takes no memory.
 #[unsafe(no_mangle)]
 pub extern "C" fn hlc_close_all(alloc: Global, store: &mut Store) -> u32
-    ensures answer { OnStorePast store.old.room.value store.new.room.value (result ≡ 100)
+    ensures answer { OnStorePast store.old.value store.new.value (result ≡ 100)
         (λ old new past. (result ≡ 0) × Represents new (closed_all old.snapshots past)) }
-    ensures nodes { nodes_in_handle store.new.room.value ≡ nodes_in_handle store.old.room.value }
+    ensures nodes { nodes_in_handle store.new.value ≡ nodes_in_handle store.old.value }
 {
     on_core!(alloc, store, |core| {
         core.close_all();

@@ -10,7 +10,7 @@ ghost use Rattle.hlc_increment_calls.specs.Increments.{AreAdvanced, AreIncrement
 use crate::handle::{into_output, of_core};
 use hlc_calls::saved;
 use hlc_core::Stamp;
-use hlc_handle::{Output, Reader, Store, opened};
+use hlc_handle::{Output, Reader, Slot, Store, opened};
 use hlc_increment_calls::apply::apply;
 use hlc_increment_calls::increment::increment;
 use std::alloc::Global;
@@ -25,14 +25,14 @@ pub extern "C" fn hlc_checkpoint(
     len: &mut usize,
 ) -> u32
     ensures saved { OnReader store.old.room.value (result ≡ 100) (λ core.
-        OnOutput output.old.room.value output.new.room.value result len.new ⊤
+        OnOutput output.old.value output.new.value result len.new ⊤
         (λ bytes. AreOfStore bytes word core) (result ≡ 15)) }
     ensures represents { OnReader store.old.room.value (result ≡ 100) (λ core.
-        OnOutput output.old.room.value output.new.room.value result len.new ⊤
+        OnOutput output.old.value output.new.value result len.new ⊤
         (λ bytes. (past : List Step) → Represents core past → BytesRepresent bytes word past)
         (result ≡ 15)) }
     ensures nothing { result ≢ 0 → (len.new ≡ 0)
-        × (output.new.room.value ≡ output.old.room.value) }
+        × (output.new.value ≡ output.old.value) }
     ensures same { IsGivenBack store.old.room store.new.room }
 {
     *len = 0;
@@ -55,11 +55,11 @@ pub extern "C" fn hlc_increment(
     horizon: &mut u64,
 ) -> u32
     ensures saved { OnReader store.old.room.value (result ≡ 100) (λ core.
-        OnOutput output.old.room.value output.new.room.value result len.new ⊤
+        OnOutput output.old.value output.new.value result len.new ⊤
         (λ bytes. AreIncrementOf bytes word since core)
         (IsRefusedIncrement core since result horizon.new)) }
     ensures nothing { result ≢ 0 → (len.new ≡ 0)
-        × (output.new.room.value ≡ output.old.room.value) }
+        × (output.new.value ≡ output.old.value) }
     ensures same { IsGivenBack store.old.room store.new.room }
 {
     *horizon = 0;
@@ -86,10 +86,10 @@ pub extern "C" fn hlc_increment_apply(
     len: &mut usize,
     word: &mut u64,
 ) -> u32
-    ensures answer { OnOutput output.old.room.value output.new.room.value result len.new (word.new ≡ 0)
+    ensures answer { OnOutput output.old.value output.new.value result len.new (word.new ≡ 0)
         (λ made. AreAdvanced older.now bytes.now made) (IsNotAdvanced older.now bytes.now result word.new) }
     ensures nothing { result ≢ 0 → (len.new ≡ 0)
-        × (output.new.room.value ≡ output.old.room.value) }
+        × (output.new.value ≡ output.old.value) }
 {
     *len = 0;
     *word = 0;
@@ -100,9 +100,9 @@ pub extern "C" fn hlc_increment_apply(
 /// stays as it is; or 106 and the first fault of the bytes, 107 and the first reason against their content, or 15.
 #[unsafe(no_mangle)]
 pub extern "C" fn hlc_restore(alloc: Global, store: &mut Store, bytes: &[u8], word: &mut u64) -> u32
-    ensures answer { IsRestoring store.old.room.value store.new.room.value bytes.now result word.new }
+    ensures answer { IsRestoring store.old.value store.new.value bytes.now result word.new }
     ensures represents { (saved : ℕ) (past : List Step) → BytesRepresent bytes.now saved past
-        → RestoresPast store.old.room.value store.new.room.value saved past result word.new }
+        → RestoresPast store.old.value store.new.value saved past result word.new }
 {
     *word = 0;
     if let Some(handle) = store.take(alloc) {

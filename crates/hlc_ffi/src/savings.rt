@@ -1,11 +1,11 @@
 //! A checkpoint whose bytes are read in pieces of any size.
 ghost use Rattle.std.specs.Prelude.{◌≡◌, None};
 ghost use Rattle.hlc_ffi.specs.Handle.{OnReader, IsGivenBack};
-ghost use Rattle.hlc_saving_calls.specs.Savings.{HasBegun, HasReadOn};
+ghost use Rattle.hlc_handle_calls.specs.Savings.{HasBegun, HasReadOn};
 
 use crate::handle::of_core;
-use hlc_handle::{Reader, Saving};
-use hlc_saving_calls::{begin, read_on};
+use hlc_handle::{Reader, Saving, Slot};
+use hlc_handle_calls::savings::{begin, read_on};
 use std::alloc::Global;
 
 /// Begins to save a store and a word of the caller's. Returns 0 and how many bytes it will be; or 101 where a saving is
@@ -19,8 +19,8 @@ pub extern "C" fn hlc_saving_start(
     len: &mut u64,
 ) -> u32
     ensures answer { OnReader store.old.room.value
-        ((result ≡ 100) × (len.new ≡ 0) × (saving.new.room.value ≡ saving.old.room.value))
-        (λ core. HasBegun saving.old.room.value saving.new.room.value word core result len.new) }
+        ((result ≡ 100) × (len.new ≡ 0) × (saving.new.value ≡ saving.old.value))
+        (λ core. HasBegun saving.old.value saving.new.value word core result len.new) }
     ensures same { IsGivenBack store.old.room store.new.room }
 {
     of_core!(store, [len], |core| begin(alloc, saving, core, word, len))
@@ -37,8 +37,8 @@ pub extern "C" fn hlc_saving_read(
     len: &mut usize,
 ) -> u32
     ensures answer { OnReader store.old.room.value
-        ((result ≡ 100) × (len.new ≡ 0) × (saving.new.room.value ≡ saving.old.room.value) × (out.new ≡ out.old))
-        (λ core. HasReadOn saving.old.room.value saving.new.room.value core result len.new out.old out.new) }
+        ((result ≡ 100) × (len.new ≡ 0) × (saving.new.value ≡ saving.old.value) × (out.new ≡ out.old))
+        (λ core. HasReadOn saving.old.value saving.new.value core result len.new out.old out.new) }
     ensures same { IsGivenBack store.old.room store.new.room }
 {
     of_core!(store, [len], |core| read_on(alloc, saving, core, out, len))
@@ -47,7 +47,7 @@ pub extern "C" fn hlc_saving_read(
 /// Ends a saving, and frees what it has.
 #[unsafe(no_mangle)]
 pub extern "C" fn hlc_saving_drop(alloc: Global, saving: &mut Saving)
-    ensures { saving.new.room.value ≡ None }
+    ensures { saving.new.value ≡ None }
 {
     let _ = saving.take(alloc);
 }

@@ -14,7 +14,7 @@ use hlc_calls::certify::certify;
 use hlc_calls::check::check;
 use hlc_calls::open_store;
 use hlc_core::Stamp;
-use hlc_handle::{Output, Reader, Store};
+use hlc_handle::{Output, Reader, Slot, Store};
 use std::alloc::Global;
 
 /// Drops the rows that no reader needs. Returns 0, the floor, the rows kept up to it, their cost, those dropped; or 15.
@@ -27,15 +27,15 @@ pub extern "C" fn hlc_vacuum(
     bytes: &mut u64,
     dropped: &mut u64,
 ) -> u32
-    ensures answer { OnStore store.old.room.value store.new.room.value
+    ensures answer { OnStore store.old.value store.new.value
         (result ≡ 100) (λ old new. result ≡ 0 → (past : List Step) → Represents old past
         → ReturnsVacuumedAtFloor old new past floor.new kept.new bytes.new dropped.new) }
-    ensures shortage { OnStore store.old.room.value store.new.room.value (result ≡ 100)
+    ensures shortage { OnStore store.old.value store.new.value (result ≡ 100)
         (λ old new. result ≢ 0 → result ≡ 15) }
     ensures nothing { result ≢ 0
         → (floor.new ≡ 0) × (kept.new ≡ 0) × (bytes.new ≡ 0) × (dropped.new ≡ 0) }
-    ensures same { result ≢ 0 → store.new.room.value ≡ store.old.room.value }
-    ensures nodes { nodes_in_handle store.new.room.value ≡ nodes_in_handle store.old.room.value }
+    ensures same { result ≢ 0 → store.new.value ≡ store.old.value }
+    ensures nodes { nodes_in_handle store.new.value ≡ nodes_in_handle store.old.value }
 {
     *floor = 0;
     *kept = 0;
@@ -73,12 +73,12 @@ pub extern "C" fn hlc_vacuum_to(
     bytes: &mut u64,
     dropped: &mut u64,
 ) -> u32
-    ensures answer { OnStore store.old.room.value store.new.room.value
+    ensures answer { OnStore store.old.value store.new.value
         ((result ≡ 100) × (word.new ≡ 0)) (λ old new. (past : List Step) → Represents old past
         → ReturnsVacuumedTo old new at past result word.new kept.new bytes.new dropped.new) }
     ensures nothing { result ≢ 0 → (kept.new ≡ 0) × (bytes.new ≡ 0) × (dropped.new ≡ 0) }
-    ensures same { result ≢ 0 → store.new.room.value ≡ store.old.room.value }
-    ensures nodes { nodes_in_handle store.new.room.value ≡ nodes_in_handle store.old.room.value }
+    ensures same { result ≢ 0 → store.new.value ≡ store.old.value }
+    ensures nodes { nodes_in_handle store.new.value ≡ nodes_in_handle store.old.value }
 {
     *word = 0;
     *kept = 0;
@@ -109,14 +109,14 @@ pub extern "C" fn hlc_vacuum_part(
     len: &mut usize,
     more: &mut bool,
 ) -> u32
-    ensures answer { OnStore store.old.room.value store.new.room.value
+    ensures answer { OnStore store.old.value store.new.value
         ((result ≡ 100) × (word.new ≡ 0)) (λ old new. (past : List Step) → Represents old past
         → ReturnsVacuumedPart old new at after.now most past result word.new kept.new bytes.new
         dropped.new len.new more.new out.old out.new) }
     ensures nothing { result ≢ 0 → (kept.new ≡ 0) × (bytes.new ≡ 0) × (dropped.new ≡ 0)
         × (len.new ≡ 0) × (more.new ≡ false) × (out.new ≡ out.old) }
-    ensures same { result ≢ 0 → store.new.room.value ≡ store.old.room.value }
-    ensures nodes { nodes_in_handle store.new.room.value ≡ nodes_in_handle store.old.room.value }
+    ensures same { result ≢ 0 → store.new.value ≡ store.old.value }
+    ensures nodes { nodes_in_handle store.new.value ≡ nodes_in_handle store.old.value }
 {
     *word = 0;
     *kept = 0;
@@ -149,13 +149,13 @@ pub extern "C" fn hlc_certificate(
     len: &mut usize,
 ) -> u32
     ensures answer { OnReader store.old.room.value ((result ≡ 100) × (word.new ≡ 0)) (λ core.
-        OnOutput output.old.room.value output.new.room.value result len.new (word.new ≡ 0)
+        OnOutput output.old.value output.new.value result len.new (word.new ≡ 0)
         (λ text. (past : List Step) → Represents core past
         → ReturnsCertificate core stamp past word.new kept.new bytes.new text)
         ((past : List Step) → Represents core past
         → ReturnsNoCertificate core stamp past result word.new)) }
     ensures nothing { result ≢ 0 → (kept.new ≡ 0) × (bytes.new ≡ 0) × (len.new ≡ 0)
-        × (output.new.room.value ≡ output.old.room.value) }
+        × (output.new.value ≡ output.old.value) }
     ensures same { IsGivenBack store.old.room store.new.room }
 {
     *word = 0;

@@ -5,17 +5,20 @@ use base.Shift.{Keyless}
 use denote.RattleType.{RattleType}
 use denote.Memory.{lone}
 use denote.RawPtr.{Ptr}
-use denote.Builtin.{RawPtr}
+use denote.Builtin.{RawPtr, bool}
 use denote.Param.Send.{IsSend, IsSync, sendable}
 use Rattle.std.specs.Borrow.{u8}
 use Rattle.std.proofs.Crossing.{frees, Vec-send}
 use Rattle.std_alloc.proofs.SendSync.{lies, seen}
-use Rattle.hlc_handle.specs.Room.{room_owns}
+use Rattle.hlc_handle.specs.Slot.{slot_owns}
 use Rattle.hlc_handle.specs.Lent.{Loan, lent_room_owns}
 use Rattle.hlc_handle.specs.Rows.{bytes_row}
 
 pub pointer_send : IsSend RawPtr
 pointer_send = search sendable
+
+pub flag_send : IsSend bool
+flag_send = search sendable
 
 byte_send : IsSend u8
 byte_send = search sendable
@@ -23,9 +26,9 @@ byte_send = search sendable
 pub bytes_send : IsSend bytes_row
 bytes_send = Vec-send u8 byte_send
 
-pub room_keyless : (R : RattleType) → IsSend R → (at : Ptr) (value : Option R.Denot) → Keyless (room_owns R at value)
-room_keyless R s at (Some value) = (lies R s at value, frees.frees _ (raw (lone R.mir)) at)
-room_keyless R s at None = tt
+pub slot_keyless : (R : RattleType) → IsSend R → (at : Ptr) (value : Option R.Denot) → Keyless (slot_owns R at value)
+slot_keyless R s at (Some value) = (lies R s at value, frees.frees _ (raw (lone R.mir)) at)
+slot_keyless R s at None = tt
 
 pub lent_keyless : (R : RattleType) → IsSync R → (at : Ptr) (value : Option (Loan R))
     → Keyless (lent_room_owns R at value)

@@ -4,3 +4,5 @@ pub mod Promise
 pub mod Rooms
 pub mod Values
 mod Crossing
+mod Handles
+mod Slots

@@ -9,14 +9,16 @@ mod reader;
 mod restoring;
 mod saving;
 mod sends;
+mod slot;
 mod store;
 
-pub use output::{Output, OutputRoom};
+pub use output::Output;
 pub use reader::{LentCore, LentRoom, Reader};
-pub use restoring::{RestoreRoom, Restoring};
-pub use saving::{SaveRoom, Saving};
+pub use restoring::Restoring;
+pub use saving::Saving;
 pub use sends::handles_may_change_threads;
-pub use store::{Room, Store, opened};
+pub use slot::Slot;
+pub use store::{Store, opened};
 
 /// The type that C sees at the pointer.
 #[repr(C)]

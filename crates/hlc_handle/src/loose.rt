@@ -6,10 +6,10 @@ use std::alloc::Allocator;
 use std::marker::Model;
 
 /// A box that was taken apart. It owns what the box owned.
-pub(crate) struct Loose<T, A: Allocator> {
+pub struct Loose<T, A: Allocator> {
     pub(crate) at: *mut T,
     pub(crate) alloc: A,
-    pub(crate) ghost value: { T },
+    pub ghost value: { T },
 }
 
 impl<T, A: Allocator> Model for Loose<T, A> {

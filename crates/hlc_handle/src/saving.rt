@@ -1,109 +1,65 @@
-//! What C has of a saving that is under way: an opaque pointer, and a flag.
-ghost use Rattle.std.specs.Prelude.{◌≡◌, Option, Some, None, IsSome, MatchOption, is_some};
+//! What C has of a saving that is under way.
+ghost use Rattle.std.specs.Prelude.{◌≡◌, Option, Some, is_some};
 ghost use Rattle.hlc_saved.specs.declared.savings.Saver.{Saver};
 
 use crate::Opaque;
 use crate::loose::Loose;
+use crate::slot::Slot;
 use hlc_saved::Saver;
 use std::alloc::Global;
 use std::marker::Model;
 
-/// What a saving contains: a boxed saver, or nothing. Neither it nor a `Saving` is `Drop`, so that
-/// none is forgotten.
-#[repr(C)]
-pub struct SaveRoom {
-    at: *mut Opaque,
-    pub ghost value: { Option Saver },
-}
-
-impl Model for SaveRoom {
-    ghost use Rattle.hlc_handle.specs.Room.{room_owns};
-    ghost use Rattle.hlc_saved.specs.contracts.savings.Saver.{the_row};
-
-    ghost also_owns = { λ r. room_owns the_row r.at r.value };
-}
-
-// SAFETY: a room owns a box of plain data, or nothing, in whichever thread it is.
-unsafe impl Send for SaveRoom {}
-
-impl SaveRoom {
-    /// Returns an empty room, with a null pointer.
-    pub(crate) fn empty() -> SaveRoom
-        ensures { result.value ≡ None }
-    {
-        SaveRoom {
-            at: std::ptr::null_mut(),
-        }
-    }
-
-    /// Returns a room with the content of the box, which the room owns from now on. The allocator has no bytes.
-    pub(crate) fn of(loose: Loose<Saver, Global>) -> SaveRoom
-        ensures { result.value ≡ Some loose.value }
-    {
-        let Loose { at, alloc: _ } = loose;
-        SaveRoom {
-            at: at as *mut Opaque,
-        }
-    }
-
-    /// Returns the box that was put there.
-    pub(crate) fn loose(self, alloc: Global) -> Loose<Saver, Global>
-        requires { IsSome self.value }
-        ensures { self.value ≡ Some result.value }
-    {
-        let SaveRoom { at } = self;
-        Loose {
-            at: at as *mut Saver,
-            alloc,
-        }
-    }
-}
-
-/// What C has of it. Zero bytes are none. C promises that the bytes are still those that a call left, and that it uses
-/// no copy of them besides.
+/// A saver in a box, or nothing where no saving is under way.
 #[repr(C)]
 pub struct Saving {
-    pub room: SaveRoom,
+    at: *mut Opaque,
     live: bool,
-    ghost same: { live ≡ is_some room.value },
+    pub ghost value: { Option Saver },
+    ghost same: { live ≡ is_some value },
 }
 
-impl Saving {
-    /// Returns none.
-    pub fn none() -> Saving
-        ensures { result.room.value ≡ None }
-    {
+impl Model for Saving {
+    ghost use Rattle.hlc_handle.specs.Slot.{slot_owns};
+    ghost use Rattle.hlc_saved.specs.contracts.savings.Saver.{the_row};
+
+    ghost also_owns = { λ s. slot_owns the_row s.at s.value };
+}
+
+// SAFETY: it owns a box of plain data, or nothing, in whichever thread it is.
+unsafe impl Send for Saving {}
+
+impl Slot<Saver> for Saving {
+    ghost held = { λ s. s.value };
+
+    fn none() -> Saving {
         Saving {
-            room: SaveRoom::empty(),
+            at: std::ptr::null_mut(),
             live: false,
         }
     }
 
-    /// Takes the saver out, which ends the saving, and returns it, or none where none was under way.
-    pub fn take(&mut self, alloc: Global) -> Option<Box<Saver>>
-        ensures boxed { MatchOption result (self.old.room.value ≡ None)
-            (λ boxed. self.old.room.value ≡ Some boxed.value) }
-        ensures closed { self.new.room.value ≡ None }
+    fn of(loose: Loose<Saver, Global>) -> Saving
+        ensures { result.value ≡ Some loose.value }
     {
-        let old = std::mem::replace(self, Saving::none());
-        let Saving { room, live } = old;
-        if !live {
-            let SaveRoom { at: _ } = room;
-            return None;
+        let Loose { at, alloc: _ } = loose;
+        Saving {
+            at: at as *mut Opaque,
+            live: true,
         }
-        Some(room.loose(alloc).into_box())
     }
 
-    /// Puts a saver where there is none.
-    pub fn put(&mut self, boxed: Box<Saver>)
-        requires { self.old.room.value ≡ None }
-        ensures { self.new.room.value ≡ Some boxed.value }
-    {
-        let full = Saving {
-            room: SaveRoom::of(Loose::of(boxed)),
-            live: true,
-        };
-        let Saving { room, live: _ } = std::mem::replace(self, full);
-        let SaveRoom { at: _ } = room;
+    fn loose(self, alloc: Global) -> Option<Loose<Saver, Global>> {
+        let Saving { at, live } = self;
+        if !live {
+            return None;
+        }
+        Some(Loose {
+            at: at as *mut Saver,
+            alloc,
+        })
+    }
+
+    fn end(self) {
+        let Saving { at: _, live: _ } = self;
     }
 }

@@ -68,7 +68,7 @@ JoinsPieces drafts whole =
 pub pieces_on : (drafts : List (Result Piece AllocError)) (whole more new : Piece)
     → JoinsPieces drafts whole
     → new.witnesses.items ≡ whole.witnesses.items ++ more.witnesses.items
-    → new.draft.keep.items ≡ whole.draft.keep.items ++ more.draft.keep.items
+    → new.draft.keep ≡ whole.draft.keep ++ more.draft.keep
     → new.draft.changes ≡ whole.draft.changes + more.draft.changes
     → new.draft.bytes ≡ whole.draft.bytes + more.draft.bytes
     → JoinsPieces (drafts ++ Ok more ∷ []) new
@@ -92,7 +92,7 @@ pieces_on drafts whole more new so news keeps number total = λ points pieces up
     })
 
 -- no piece
-pub pieces_none : (whole : Piece) → whole.draft.keep.items ≡ [] → whole.draft.changes ≡ 0 → whole.draft.bytes ≡ 0
+pub pieces_none : (whole : Piece) → whole.draft.keep ≡ [] → whole.draft.changes ≡ 0 → whole.draft.bytes ≡ 0
     → whole.witnesses.items ≡ [] → JoinsPieces [] whole
 pieces_none whole keeps number total none = λ points pieces up each. no_pieces points pieces each
   where
@@ -124,7 +124,7 @@ leaves_on points leaves i leaf old new up lt is so more =
     (more (columns_in (take i leaves)) (subst KeysAscend next ascend) so)
 
 -- no column of a leaf
-pub more_none : (points : List ℕ) (draft room : Draft) → room.keep.items ≡ draft.keep.items
+pub more_none : (points : List ℕ) (draft room : Draft) → room.keep ≡ draft.keep
     → room.changes ≡ draft.changes → room.bytes ≡ draft.bytes → JoinsMore points [] draft room
 more_none points draft room keeps number total = λ columns up so.
     subst (λ xs. IsDraftOf xs points room) (sym (append-nil columns))
@@ -149,7 +149,7 @@ own-more points columns i one next =
 -- one more column of a leaf
 pub more_on : (points : List ℕ) (leaf : List KeyCells) (i : ℕ) (one : KeyCells) (first old new : Draft)
     → slice_get leaf i ≡ Some one → i < length leaf → JoinsMore points (take i leaf) first old
-    → AddsPlan (rows_in_one one) one.key points old.changes new.changes old.keep.items new.keep.items
+    → AddsPlan (rows_in_one one) one.key points old.changes new.changes old.keep new.keep
     old.bytes new.bytes
     → JoinsMore points (take (i + 1) leaf) first new
 more_on points leaf i one first old new read lt so plan = λ columns up begun.

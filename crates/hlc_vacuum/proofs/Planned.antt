@@ -21,33 +21,33 @@ module _ (columns : List KeyCells) (points : List ℕ) (rows : List Row) (ascend
   -- the plan of a piece of all columns
   pub piece_plans : (piece : Piece) (plan : PlanView) → IsPieceOf columns points piece
       → plan ≡ record {
-        keep = piece.draft.keep.items;
+        keep = piece.draft.keep;
         points = points;
         witnesses = piece.witnesses.items;
         bytes = piece.draft.bytes;
       }
       → IsPlanOf plan rows
   piece_plans piece plan so made =
-      let joined = subst (λ cs. IsJoined columns points cs piece.draft.keep.items piece.draft.bytes) (sym so.changes)
+      let joined = subst (λ cs. IsJoined columns points cs piece.draft.keep piece.draft.bytes) (sym so.changes)
       so.draft.joined in
       subst (λ plan. IsPlanOf plan rows) (sym made)
       (subst (IsPlanOf (record {
-        keep = piece.draft.keep.items;
+        keep = piece.draft.keep;
         points = points;
         witnesses = piece.witnesses.items;
         bytes = piece.draft.bytes;
       })) is
-      (joined_plans points columns piece.witnesses.items piece.draft.keep.items piece.draft.bytes ascend up
+      (joined_plans points columns piece.witnesses.items piece.draft.keep piece.draft.bytes ascend up
       (subst IsRowSet (sym is) row_set) joined))
 
   -- the tally of a draft of all columns
   pub draft_is_tally : (draft : Draft) (tally : TallyView) → IsDraftOf columns points draft
-      → tally ≡ record { keep = draft.keep.items; points = points; kept = draft.changes; bytes = draft.bytes }
+      → tally ≡ record { keep = draft.keep; points = points; kept = draft.changes; bytes = draft.bytes }
       → IsTallyOf tally rows
   draft_is_tally draft tally so made =
       subst (λ tally. IsTallyOf tally rows) (sym made)
       (subst (IsTallyOf (record {
-        keep = draft.keep.items;
+        keep = draft.keep;
         points = points;
         kept = draft.changes;
         bytes = draft.bytes;

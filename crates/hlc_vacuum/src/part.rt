@@ -13,6 +13,7 @@ use crate::planner::{plan_columns, plan_of, tally_of};
 use hlc_clock::Stamp;
 use hlc_columns::{Keyed, Table};
 use hlc_draft::{Numbers, Report, Unlisted};
+use hlc_flags::Flags;
 use hlc_node::Bytes;
 use hlc_values::NoMemory;
 use std::alloc::Global;
@@ -138,14 +139,14 @@ fn apply_to_keys(table: &mut Table, keys: &[Bytes], tally: &Tally) -> Numbers
     ensures rows { table.new ≡ all_kept keys.now tally.now.keep table.old }
     ensures numbers { result ≡ numbers_in tally.now }
 {
-    keep_of_keys(table, keys, tally.keep.as_slice());
+    keep_of_keys(table, keys, tally.keep.flags());
     tally.numbers()
 }
 
 /// Keeps those rows of the keys that the flags select, and all rows of other keys.
-fn keep_of_keys(table: &mut Table, keys: &[Bytes], flags: &[bool])
-    requires { HaveFlags keys.now flags.now table.old }
-    ensures { table.new ≡ all_kept keys.now flags.now table.old }
+fn keep_of_keys(table: &mut Table, keys: &[Bytes], flags: Flags<'_>)
+    requires { HaveFlags keys.now flags table.old }
+    ensures { table.new ≡ all_kept keys.now flags.entry table.old }
 {
     let mut left = flags;
     for key in keys {

@@ -16,7 +16,7 @@ pub(crate) struct Piece {
 impl Piece {
     /// Returns the piece of no column.
     pub(crate) fn new(alloc: Global) -> Piece
-        ensures keep { result.draft.keep.items ≡ [] }
+        ensures keep { result.draft.keep ≡ [] }
         ensures changes { result.draft.changes ≡ 0 }
         ensures bytes { result.draft.bytes ≡ 0 }
         ensures witnesses { result.witnesses.items ≡ [] }
@@ -29,8 +29,8 @@ impl Piece {
 
     /// Adds the piece of the columns after these. Where this piece is of no column, nothing is copied.
     pub(crate) fn append(&mut self, other: Piece) -> Result<(), NoMemory>
-        ensures keep { OnOk result (self.new.draft.keep.items
-            ≡ self.old.draft.keep.items ++ other.draft.keep.items) }
+        ensures keep { OnOk result (self.new.draft.keep
+            ≡ self.old.draft.keep ++ other.draft.keep) }
         ensures changes { OnOk result (self.new.draft.changes
             ≡ self.old.draft.changes + other.draft.changes) }
         ensures bytes { OnOk result (self.new.draft.bytes ≡ self.old.draft.bytes + other.draft.bytes) }

@@ -14,8 +14,8 @@ pub loop-slot-init : goal.loop-slot-init
 loop-slot-init c = record {
   columns = sym (set-get_or c.args.columns.now c.args.at [])
       ∙ ap (set c.args.columns.now c.args.at)
-      (run_none kept_one many c.args.flags.now (get_or c.args.columns.now c.args.at []));
-  left = total_none kept_one many c.args.flags.now (get_or c.args.columns.now c.args.at []);
+      (run_none kept_one many c.args.flags (get_or c.args.columns.now c.args.at []));
+  left = total_none kept_one many c.args.flags (get_or c.args.columns.now c.args.at []);
   sizes = c.requires.sizes;
   fit = c.requires.fit;
 }
@@ -23,32 +23,32 @@ loop-slot-init c = record {
 pub keep_at-left-requires-clause-leaf : goal.keep_at-left-requires-clause-leaf
 keep_at-left-requires-clause-leaf c =
     let at = (goal.at.keep_at-left-requires-clause-leaf c).In-loop-slot in
-    leaf_inside c.args.columns.now c.loop-slot.columns c.args.at c.loop-slot.slot c.args.flags.now c.loop-slot.left.now
+    leaf_inside c.args.columns.now c.loop-slot.columns c.args.at c.loop-slot.slot c.args.flags c.loop-slot.left
     c.requires.leaf (below at) c.loop-slot.invariant.columns c.loop-slot.invariant.left
 
 pub keep_at-left-requires-clause-inside : goal.keep_at-left-requires-clause-inside
 keep_at-left-requires-clause-inside c =
     let at = (goal.at.keep_at-left-requires-clause-inside c).In-loop-slot in
-    slot_inside c.args.columns.now c.loop-slot.columns c.args.at c.loop-slot.slot c.args.flags.now c.loop-slot.left.now
+    slot_inside c.args.columns.now c.loop-slot.columns c.args.at c.loop-slot.slot c.args.flags c.loop-slot.left
     c.requires.leaf (below at) c.loop-slot.invariant.columns c.loop-slot.invariant.left
 
 pub keep_at-left-requires-clause-many : goal.keep_at-left-requires-clause-many
 keep_at-left-requires-clause-many c =
     let at = (goal.at.keep_at-left-requires-clause-many c).In-loop-slot in
-    many_inside c.args.columns.now c.loop-slot.columns c.args.at c.loop-slot.slot c.args.flags.now c.loop-slot.left.now
+    many_inside c.args.columns.now c.loop-slot.columns c.args.at c.loop-slot.slot c.args.flags c.loop-slot.left
     c.requires.leaf (below at) c.loop-slot.invariant.columns c.loop-slot.invariant.left c.requires.many
 
 pub loop-slot-preserved : goal.loop-slot-preserved
 loop-slot-preserved c =
     let at = (goal.at.loop-slot-preserved c).In-loop-slot in
     record {
-      columns = next_columns c.args.columns.now c.loop-slot.columns c.args.at c.loop-slot.slot c.args.flags.now
-          c.loop-slot.left.now
+      columns = next_columns c.args.columns.now c.loop-slot.columns c.args.at c.loop-slot.slot c.args.flags
+          c.loop-slot.left
           c.requires.leaf (below at) c.loop-slot.invariant.columns c.loop-slot.invariant.left c.keep_at-left.new.columns
           c.keep_at-left.ensures.kept;
-      left = next_flags c.args.columns.now c.loop-slot.columns c.args.at c.loop-slot.slot c.args.flags.now
-          c.loop-slot.left.now
-          c.requires.leaf (below at) c.loop-slot.invariant.columns c.loop-slot.invariant.left c.keep_at-left.result.now
+      left = next_flags c.args.columns.now c.loop-slot.columns c.args.at c.loop-slot.slot c.args.flags
+          c.loop-slot.left
+          c.requires.leaf (below at) c.loop-slot.invariant.columns c.loop-slot.invariant.left c.keep_at-left.result
           c.keep_at-left.ensures.left;
       sizes = c.keep_at-left.ensures.sizes;
       fit = c.keep_at-left.ensures.fit;
@@ -60,18 +60,18 @@ returns-clause-kept c =
     let e = ap length c.leaf-slot-end.ensures in
     c.loop-slot.invariant.columns
     ∙ ap (set c.args.columns.now c.args.at)
-    (run_all kept_one many c.args.flags.now (get_or c.args.columns.now c.args.at []) c.loop-slot.slot (omega (
+    (run_all kept_one many c.args.flags (get_or c.args.columns.now c.args.at []) c.loop-slot.slot (omega (
       arith,
       over,
       e,
     ))
-    ∙ sym (kept_run c.args.flags.now (get_or c.args.columns.now c.args.at [])))
+    ∙ sym (kept_run c.args.flags (get_or c.args.columns.now c.args.at [])))
 
 pub returns-clause-left : goal.returns-clause-left
 returns-clause-left c =
     let over = c.loop-slot-test.false in
     let e = ap length c.leaf-slot-end.ensures in
     c.loop-slot.invariant.left
-    ∙ ap (λ n. drop n c.args.flags.now)
+    ∙ ap (λ n. drop n c.args.flags)
     (ap (total kept_one many) (whole (get_or c.args.columns.now c.args.at []) c.loop-slot.slot (omega (arith, over, e)))
     ∙ many_rows (get_or c.args.columns.now c.args.at []))

@@ -7,9 +7,9 @@ use Rattle.hlc_columns.proofs.dropping.keep_in_leaf.Given as goal
 abbrev pub invariant-loop-slot : goal.invariant-loop-slot
 invariant-loop-slot l = record {
   columns : l.columns ≡ set l.initial.columns l.at
-      (run kept_one many l.flags (take l.slot (get_or l.initial.columns l.at []))
+      (run kept_one many l.fn.flags (take l.slot (get_or l.initial.columns l.at []))
       ++ drop l.slot (get_or l.initial.columns l.at []));
-  left : l.left ≡ drop (total kept_one many (take l.slot (get_or l.initial.columns l.at []))) l.flags;
+  left : l.left ≡ drop (total kept_one many (take l.slot (get_or l.initial.columns l.at []))) l.fn.flags;
   sizes : l.sizes ≡ filled_sizes l.columns;
   fit : Fit l.sizes;
 }

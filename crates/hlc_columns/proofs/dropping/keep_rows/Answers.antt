@@ -13,8 +13,8 @@ below c = let lt = c.loop-at-test.true in let e = c.leaves-at-end.ensures.count 
 
 pub loop-at-init : goal.loop-at-init
 loop-at-init c = record {
-  columns = run_none kept_in leaf_rows c.args.flags.now c.args.columns.now;
-  left = total_none kept_in leaf_rows c.args.flags.now c.args.columns.now;
+  columns = run_none kept_in leaf_rows c.args.flags c.args.columns.now;
+  left = total_none kept_in leaf_rows c.args.flags c.args.columns.now;
   sizes = c.requires.sizes;
   fit = c.requires.fit;
 }
@@ -22,25 +22,25 @@ loop-at-init c = record {
 pub keep_in_leaf-left-requires-clause-leaf : goal.keep_in_leaf-left-requires-clause-leaf
 keep_in_leaf-left-requires-clause-leaf c =
     let at = (goal.at.keep_in_leaf-left-requires-clause-leaf c).In-loop-at in
-    column_inside c.args.columns.now c.loop-at.columns c.loop-at.at c.args.flags.now c.loop-at.left.now (below at)
+    column_inside c.args.columns.now c.loop-at.columns c.loop-at.at c.args.flags c.loop-at.left (below at)
     c.loop-at.invariant.columns c.loop-at.invariant.left
 
 pub keep_in_leaf-left-requires-clause-many : goal.keep_in_leaf-left-requires-clause-many
 keep_in_leaf-left-requires-clause-many c =
     let at = (goal.at.keep_in_leaf-left-requires-clause-many c).In-loop-at in
-    leaf_enough c.args.columns.now c.loop-at.columns c.loop-at.at c.args.flags.now c.loop-at.left.now (below at)
+    leaf_enough c.args.columns.now c.loop-at.columns c.loop-at.at c.args.flags c.loop-at.left (below at)
     c.loop-at.invariant.columns c.loop-at.invariant.left c.requires.many
 
 pub loop-at-preserved : goal.loop-at-preserved
 loop-at-preserved c =
     let at = (goal.at.loop-at-preserved c).In-loop-at in
     record {
-      columns = next_leaves c.args.columns.now c.loop-at.columns c.loop-at.at c.args.flags.now c.loop-at.left.now (below
+      columns = next_leaves c.args.columns.now c.loop-at.columns c.loop-at.at c.args.flags c.loop-at.left (below
           at)
           c.loop-at.invariant.columns c.loop-at.invariant.left c.keep_in_leaf-left.new.columns
           c.keep_in_leaf-left.ensures.kept;
-      left = next_left c.args.columns.now c.loop-at.columns c.loop-at.at c.args.flags.now c.loop-at.left.now (below at)
-          c.loop-at.invariant.columns c.loop-at.invariant.left c.keep_in_leaf-left.result.now
+      left = next_left c.args.columns.now c.loop-at.columns c.loop-at.at c.args.flags c.loop-at.left (below at)
+          c.loop-at.invariant.columns c.loop-at.invariant.left c.keep_in_leaf-left.result
           c.keep_in_leaf-left.ensures.left;
       sizes = c.keep_in_leaf-left.ensures.sizes;
       fit = c.keep_in_leaf-left.ensures.fit;
@@ -53,9 +53,9 @@ returns-clause-rows c =
     ap table_rows c.keep_filled.ensures
     ∙ filled_rows (entries_in c.loop-at.columns)
     ∙ ap (λ ls. table_rows (entries_in ls)) (c.loop-at.invariant.columns
-    ∙ run_all kept_in leaf_rows c.args.flags.now c.args.columns.now c.loop-at.at (omega (arith, over, e)))
-    ∙ ap table_rows (kept_leaves c.args.flags.now c.args.columns.now)
-    ∙ kept_rows (entries_in c.args.columns.now) c.args.flags.now c.requires.many
+    ∙ run_all kept_in leaf_rows c.args.flags c.args.columns.now c.loop-at.at (omega (arith, over, e)))
+    ∙ ap table_rows (kept_leaves c.args.flags c.args.columns.now)
+    ∙ kept_rows (entries_in c.args.columns.now) c.args.flags c.requires.many
 
 pub returns-clause-filled : goal.returns-clause-filled
 returns-clause-filled c =

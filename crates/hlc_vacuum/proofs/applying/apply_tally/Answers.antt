@@ -13,7 +13,7 @@ rows_left : (c : After-drop_rows)
     → c.drop_rows.new.table ≡ items_where_true c.requires.plan.keep c.args.table.now
 rows_left c =
     c.drop_rows.ensures ∙ ap (λ flags. items_where_true flags c.args.table.now)
-    (c.as_slice.ensures.value ∙ ap (λ (tally : TallyView). tally.keep) (c.tally.view_is ∙ c.requires.is))
+    (c.flags.ensures ∙ ap (λ (tally : TallyView). tally.keep) (c.tally.view_is ∙ c.requires.is))
 
 floor_is : (c : After-drop_rows) → c.numbers-numbers.result.floor ≡ last_point c.requires.plan.points
 floor_is c =

@@ -5,5 +5,5 @@ use Rattle.hlc_vacuum.proofs.applying.drop_rows.Goals as goal
 
 pub returns-else-dropped-gt0 : goal.returns-else-dropped-gt0
 returns-else-dropped-gt0 c =
-    let none : count_by not c.args.keep.now ≡ 0 = omega arith in
-    sym (all_chosen c.args.keep.now c.args.table.now c.requires.each none)
+    let none : count_by not c.args.keep ≡ 0 = omega arith in
+    sym (all_chosen c.args.keep c.args.table.now c.requires.each none)

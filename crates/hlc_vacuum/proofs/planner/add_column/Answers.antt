@@ -15,9 +15,9 @@ returns-clause-plan g c =
     let new = c.add.new.self in
     on_ok_weaker c.add.result
     (λ adds. subst (λ (k : List ℕ). AddsPlan (rows_of k one.cells) k points old.changes new.changes
-    old.keep.items new.keep.items old.bytes new.bytes) c.key.ensures
+    old.keep new.keep old.bytes new.bytes) c.key.ensures
     (subst (λ (cells : List Cell). AddsPlan (rows_of c.key.result.now cells) c.key.result.now points
-    old.changes new.changes old.keep.items new.keep.items old.bytes new.bytes) c.column.ensures adds))
+    old.changes new.changes old.keep new.keep old.bytes new.bytes) c.column.ensures adds))
     c.add.ensures.plan
 
 pub returns-clause-changes : goal.returns-clause-changes

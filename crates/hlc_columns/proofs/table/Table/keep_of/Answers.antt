@@ -31,9 +31,9 @@ read_many c =
 same_many : (c : After-len) → c.len.result ≡ length (rows_with c.args.key.now c.args.self.now)
 same_many c = read_many c ∙ sym (its_many c)
 
-pub split_at-requires : goal.split_at-requires
-split_at-requires c =
-    let e = same_many ((goal.at.split_at-requires c).After-len) in
+pub split_at-first-requires : goal.split_at-first-requires
+split_at-first-requires c =
+    let e = same_many ((goal.at.split_at-first-requires c).After-len) in
     let le = c.requires in
     omega (arith, e, le)
 
@@ -42,7 +42,7 @@ keep_column-requires-clause-many c =
     let at = (goal.at.keep_column-requires-clause-many c).After-len in
     let e = same_many at in
     let le = c.requires in
-    ap length c.split_at.ensures.front ∙ length-take-le c.len.result c.args.flags.now (omega (arith, e, le))
+    ap length c.split_at-first.ensures.first ∙ length-take-le c.len.result c.args.flags (omega (arith, e, le))
     ∙ read_many at
 
 pub invariant_of-self : goal.invariant_of-self
@@ -50,15 +50,15 @@ invariant_of-self c =
     let at = (goal.at.invariant_of-self c).After-len in
     let e = same_many at in
     let le = c.requires in
-    let long = ap length c.split_at.ensures.front ∙ length-take-le c.len.result c.args.flags.now (omega (arith, e, le))
+    let long = ap length c.split_at-first.ensures.first ∙ length-take-le c.len.result c.args.flags (omega (arith, e, le))
     ∙ read_many at in (
       filled_left c.self.inside.columns c.args.key.now c.in-Some.at c.in-Some.slot c.in-Some.ensures.place
-          c.in-Some.ensures.ascend c.split_at.result.0.now (entries_in c.keep_column.new.columns)
+          c.in-Some.ensures.ascend c.split_at-first.result.0 (entries_in c.keep_column.new.columns)
           c.keep_column.ensures.entries c.self.invariant.0,
       subst IsRowSet (sym (rows_left c.self.inside.columns c.args.key.now c.in-Some.at c.in-Some.slot
-          c.in-Some.ensures.place c.in-Some.ensures.ascend c.split_at.result.0.now
+          c.in-Some.ensures.place c.in-Some.ensures.ascend c.split_at-first.result.0
           (entries_in c.keep_column.new.columns) long c.keep_column.ensures.entries))
-          (kept_row_set c.args.key.now c.split_at.result.0.now _ c.self.invariant.1),
+          (kept_row_set c.args.key.now c.split_at-first.result.0 _ c.self.invariant.1),
       c.keep_column.ensures.sizes,
       c.keep_column.ensures.fit,
     )
@@ -68,19 +68,19 @@ returns-clause-kept c =
     let at = (goal.at.returns-clause-kept c).After-len in
     let e = same_many at in
     let le = c.requires in
-    let long = ap length c.split_at.ensures.front ∙ length-take-le c.len.result c.args.flags.now (omega (arith, e, le))
+    let long = ap length c.split_at-first.ensures.first ∙ length-take-le c.len.result c.args.flags (omega (arith, e, le))
     ∙ read_many at in
     rows_left c.self.inside.columns c.args.key.now c.in-Some.at c.in-Some.slot
-    c.in-Some.ensures.place c.in-Some.ensures.ascend c.split_at.result.0.now
+    c.in-Some.ensures.place c.in-Some.ensures.ascend c.split_at-first.result.0
     (entries_in c.keep_column.new.columns) long c.keep_column.ensures.entries
-    ∙ ap (λ (rows : List Row). rows_kept c.args.key.now c.split_at.result.0.now rows) c.self.view_is
+    ∙ ap (λ (rows : List Row). rows_kept c.args.key.now c.split_at-first.result.0 rows) c.self.view_is
     ∙ ap (λ flags. rows_kept c.args.key.now flags c.args.self.now)
-    (c.split_at.ensures.front ∙ ap (λ n. take n c.args.flags.now) e)
+    (c.split_at-first.ensures.first ∙ ap (λ n. take n c.args.flags) e)
 
 pub returns-clause-left : goal.returns-clause-left
 returns-clause-left c =
-    c.split_at.ensures.back
-    ∙ ap (λ n. drop n c.args.flags.now) (same_many ((goal.at.returns-clause-left c).After-len))
+    c.split_at-first.ensures.others
+    ∙ ap (λ n. drop n c.args.flags) (same_many ((goal.at.returns-clause-left c).After-len))
 
 -- a key without rows
 its_none : (c : In_default) → rows_with c.args.key.now c.args.self.now ≡ []
@@ -91,8 +91,8 @@ its_none c =
 pub returns-in_default-clause-kept : goal.returns-in_default-clause-kept
 returns-in_default-clause-kept c =
     sym (kept_none c.args.key.now
-    (take (length (rows_with c.args.key.now c.args.self.now)) c.args.flags.now) c.args.self.now
+    (take (length (rows_with c.args.key.now c.args.self.now)) c.args.flags) c.args.self.now
     (none_of c.args.key.now c.args.self.now (its_none c)))
 
 pub returns-in_default-clause-left : goal.returns-in_default-clause-left
-returns-in_default-clause-left c = ap (λ rows. drop (length rows) c.args.flags.now) (sym (its_none c))
+returns-in_default-clause-left c = ap (λ rows. drop (length rows) c.args.flags) (sym (its_none c))

@@ -30,12 +30,12 @@ marked_length flags more from (Some j) e = ap length e ∙ length-set flags (fro
 abbrev Kept : List Row → List ℕ → List ℕ → ℕ → ℕ → Draft → Draft → Option ℕ → Option (List ℕ) → ℕ
     → (List Witness → Type 0) → Type 0
 Kept rows key points i many old new before value_here next IsListed = record {
-  long : length new.keep.items ≡ many;
+  long : length new.keep ≡ many;
   before : before ≡ point_before points i;
   value_here : value_here ≡ answer_at rows key (point_before points i);
   quiet : IsQuiet rows (point_before points i) next;
   found : List Witness;
-  added : AddedSoFar rows key points i found old.changes new.changes old.keep.items new.keep.items old.bytes new.bytes;
+  added : AddedSoFar rows key points i found old.changes new.changes old.keep new.keep old.bytes new.bytes;
   listed : IsListed found;
 }
 
@@ -44,15 +44,15 @@ loop-point-init g c =
     let column = c.args.column in
     let bound = last_point c.args.points.now in
     let above = map (λ s. ltb bound s) (map (λ (x : Cell). x.stamp) column) in
-    let from : c.len-from.result ≡ length c.args.self.now.keep.items = search rules in
-    let flags : c.add_flags.new.flags.items ≡ c.args.self.now.keep.items ++ above =
-    c.in_ok-add_flags.ensures ∙ ap (λ ss. c.args.self.now.keep.items ++ map (λ s. ltb c.bits-last.result s) ss)
-    c.stamps-stamps.ensures ∙ ap (λ b. c.args.self.now.keep.items
+    let from : c.len-from.result ≡ length c.args.self.now.keep = search rules in
+    let flags : c.add_flags.new.flags ≡ c.args.self.now.keep ++ above =
+    c.in_ok-add_flags.ensures ∙ ap (λ ss. c.args.self.now.keep ++ map (λ s. ltb c.bits-last.result s) ss)
+    c.stamps-stamps.ensures ∙ ap (λ b. c.args.self.now.keep
     ++ map (λ s. ltb b s) (map (λ (x : Cell). x.stamp) column)) (c.bits-last.ensures.value ∙ c.last_of.ensures) in
     let long : length above ≡ length column =
     length-map (map (λ (x : Cell). x.stamp) column) (λ s. ltb bound s) ∙ length-map column (λ (x : Cell). x.stamp) in
     record {
-      long = ap length flags ∙ length-append c.args.self.now.keep.items above ∙ ap₂ (λ m n. m + n) (sym from) long;
+      long = ap length flags ∙ length-append c.args.self.now.keep above ∙ ap₂ (λ m n. m + n) (sym from) long;
       before = refl;
       value_here = refl;
       quiet = quiet_first c.args.key.now column c.stamps-stamps.result.now c.gap_end-next.result
@@ -93,7 +93,7 @@ loop-point-preserved-then-bits-next g c =
           (quiet_on rows (point_before points i) c.loop-point.next (get_or points i 0) inv.quiet before);
       found = inv.found;
       added = same_added rows key points i c.loop-point-test.true inv.found old.changes on.changes
-          old.keep.items on.keep.items old.bytes on.bytes same inv.added;
+          old.keep on.keep old.bytes on.bytes same inv.added;
       listed = inv.listed;
     }
 
@@ -109,7 +109,7 @@ returns-then-last-next-clause-plan g c =
     let past : last_point points < c.loop-point.next =
     let last = c.last_of.ensures in let bits = c.bits-last.ensures.value in let lt = c.if-last-next.true in
     omega arith in
-    added_all rows c.args.key.now points i inv.found old.changes on.changes old.keep.items on.keep.items old.bytes
+    added_all rows c.args.key.now points i inv.found old.changes on.changes old.keep on.keep old.bytes
     on.bytes
     (all_found rows c.args.key.now points i inv.found inv.added.keep
     (quiet_rest rows c.args.key.now points i c.loop-point.next c.requires inv.quiet past) inv.added.so) inv.added
@@ -141,7 +141,7 @@ loop-point-preserved g c =
     let now = c.if-not-are_equal.self in
     let place = c.newest_on-place.result.0 in
     let from = c.len-from.result in
-    let from_is : from ≡ length old.keep.items = search rules in
+    let from_is : from ≡ length old.keep = search rules in
     let IsListed : List Witness → Type 0 = λ found. g.C.Changes.adds c.args.changes.now found
     c.if-not-are_equal.changes in
     let at : p ≡ get_or points i 0 = c.point-item.is ∙ get_or_default points i p 0 c.loop-point-test.true in
@@ -155,7 +155,7 @@ loop-point-preserved g c =
     (let sum = c.saturating_add-above.ensures in let bits = c.bits-in-loop-point.ensures.value in omega arith)
     c.gap_end-next-in-loop-point.ensures) in
     let fields : (found : List Witness) → AddedSoFar rows key points (i + 1) found old.changes now.changes
-    old.keep.items now.keep.items old.bytes now.bytes → IsListed found → length now.keep.items ≡ length on.keep.items
+    old.keep now.keep old.bytes now.bytes → IsListed found → length now.keep ≡ length on.keep
     → Kept rows key points (i + 1) (from + length column) old now (Some p) (option_copied c.value_of-value_here.result)
     c.gap_end-next-in-loop-point.result IsListed =
     λ found added listed long. record {
@@ -170,27 +170,27 @@ loop-point-preserved g c =
     elim c.if-not-are_equal.branch [
       | then-not-are_equal+in_ok-note+in_ok-count w ↦
           let counted = w.in_ok-count.ensures in
-          let between = w.count.new.self.keep.items in
-          let marks : MatchOption place (now.keep.items ≡ on.keep.items)
-          (λ j. now.keep.items ≡ set on.keep.items (from + j) true) =
-          subst (λ flags. MatchOption place (now.keep.items ≡ flags) (λ j. now.keep.items ≡ set flags (from + j) true))
+          let between = w.count.new.self.keep in
+          let marks : MatchOption place (now.keep ≡ on.keep)
+          (λ j. now.keep ≡ set on.keep (from + j) true) =
+          subst (λ flags. MatchOption place (now.keep ≡ flags) (λ j. now.keep ≡ set flags (from + j) true))
           counted.keep
           (subst (λ flags. MatchOption place (flags ≡ between) (λ j. flags ≡ set between (from + j) true))
-          (sym (ap (λ (draft : Draft). draft.keep.items) w.self-is)) w.mark.ensures) in
+          (sym (ap (λ (draft : Draft). draft.keep) w.self-is)) w.mark.ensures) in
           let here = change_here rows key points i c.loop-point-test.true in
           let noted : record { key = key; before = c.loop-point.before; at = p } ≡ here =
           ap₂ (λ (b : Option ℕ) (q : ℕ). record { key = key; before = b; at = q }) inv.before at in
           fields (inv.found ++ here ∷ [])
           (change_added rows key points i c.loop-point-test.true inv.found old.changes on.changes
-          now.changes old.keep.items on.keep.items now.keep.items old.bytes on.bytes now.bytes place
+          now.changes old.keep on.keep now.keep old.bytes on.bytes now.bytes place
           (λ e. true≢false (sym (c.are_equal.ensures.1 (value_here ∙ e ∙ sym inv.value_here))
           ∙ w.if-not-are_equal.true))
           (subst (λ n. IfSome place (λ j. j < n)) (sym (length-map column (row_of key)))
           c.newest_on-place.ensures.within)
           (c.newest_on-place.ensures.newest key ∙ ap (newest rows key) at)
           (ap (λ (draft : Draft). draft.changes) w.self-is ∙ counted.changes)
-          (subst (λ n. MatchOption place (now.keep.items ≡ on.keep.items)
-          (λ j. now.keep.items ≡ set on.keep.items (n + j) true)) from_is marks)
+          (subst (λ n. MatchOption place (now.keep ≡ on.keep)
+          (λ j. now.keep ≡ set on.keep (n + j) true)) from_is marks)
           (ap (λ (draft : Draft). draft.bytes) w.self-is ∙ counted.bytes
           ∙ ap (λ n. on.bytes + n) (w.cost_of.ensures.cost ∙ ap (cost_of key) value_here))
           inv.added)
@@ -199,16 +199,16 @@ loop-point-preserved g c =
           inv.listed
           (subst (λ change. g.C.Changes.adds c.loop-point.changes (change ∷ []) w.note.new.self) noted
           w.in_ok-note.ensures)))
-          (marked_length on.keep.items now.keep.items from place marks)
+          (marked_length on.keep now.keep from place marks)
       | else-not-are_equal w ↦
           fields inv.found
           (subst (λ (draft : Draft). AddedSoFar rows key points (i + 1) inv.found old.changes draft.changes
-          old.keep.items draft.keep.items old.bytes draft.bytes) (sym w.self-is)
+          old.keep draft.keep old.bytes draft.bytes) (sym w.self-is)
           (same_added rows key points i c.loop-point-test.true inv.found old.changes on.changes
-          old.keep.items on.keep.items old.bytes on.bytes
+          old.keep on.keep old.bytes on.bytes
           (sym value_here ∙ c.are_equal.ensures.0 w.if-not-are_equal.false ∙ inv.value_here) inv.added))
           (subst (λ changes. g.C.Changes.adds c.args.changes.now inv.found changes) (sym w.changes-is) inv.listed)
-          (ap (λ (draft : Draft). length draft.keep.items) w.self-is)
+          (ap (λ (draft : Draft). length draft.keep) w.self-is)
     ]
 
 pub returns-clause-plan : goal.returns-clause-plan
@@ -219,7 +219,7 @@ returns-clause-plan g c =
     let inv = c.loop-point.invariant in
     let old = c.args.self.now in
     let on = c.loop-point.self in
-    added_all rows c.args.key.now points i inv.found old.changes on.changes old.keep.items on.keep.items old.bytes
+    added_all rows c.args.key.now points i inv.found old.changes on.changes old.keep on.keep old.bytes
     on.bytes
     (all_found rows c.args.key.now points i inv.found inv.added.keep
     (none_left rows c.args.key.now points i c.loop-point-test.false) inv.added.so) inv.added

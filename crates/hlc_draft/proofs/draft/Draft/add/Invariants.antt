@@ -10,13 +10,13 @@ use Rattle.hlc_draft.proofs.draft.Draft.add.Given as goal
 
 abbrev pub invariant-loop-point : goal.invariant-loop-point
 invariant-loop-point g l = record {
-  long : length l.self.keep.items ≡ l.from + length l.column;
+  long : length l.self.keep ≡ l.from + length l.column;
   before : l.before ≡ point_before l.points l.point-index;
   value_here : option_copied l.value_before
       ≡ answer_at (rows_of l.key l.column) l.key (point_before l.points l.point-index);
   quiet : IsQuiet (rows_of l.key l.column) (point_before l.points l.point-index) l.next;
   found : List Witness;
   added : AddedSoFar (rows_of l.key l.column) l.key l.points l.point-index found l.fn.self.changes
-      l.self.changes l.fn.self.keep.items l.self.keep.items l.fn.self.bytes l.self.bytes;
+      l.self.changes l.fn.self.keep l.self.keep l.fn.self.bytes l.self.bytes;
   listed : g.C.Changes.adds l.fn.changes found l.changes;
 }

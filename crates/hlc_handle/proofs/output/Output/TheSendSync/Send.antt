@@ -1,0 +1,10 @@
+-- The bytes that a call made may go to another thread.
+use denote.Param.Send.{IsSend, owning_send}
+use Rattle.hlc_handle.specs.Rows.{bytes_row}
+use Rattle.hlc_handle.specs.contracts.output.Output.{the_row, the_type}
+use Rattle.hlc_handle.proofs.Crossing.{pointer_send, flag_send, bytes_send, slot_keyless}
+
+pub send : IsSend the_row
+send =
+    owning_send the_type (pointer_send, (flag_send, tt))
+    (λ d. slot_keyless bytes_row bytes_send d.at d.value) (λ k x w. tt)

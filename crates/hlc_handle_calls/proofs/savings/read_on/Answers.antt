@@ -1,0 +1,19 @@
+-- With the last bytes, all were read.
+use Rattle.std.proofs.Common.{refl, sym, subst, ◌++◌, take, List, ℕ}
+use Rattle.hlc_saved.specs.declared.savings.Saver.{Saver}
+use Rattle.hlc_saved.specs.Saver.{HasMade}
+use Rattle.hlc_handle_calls.proofs.savings.read_on.Goals as goal
+
+pub returns-then-is_read : goal.returns-then-is_read
+returns-then-is_read c =
+    rw (c.in-Some.ensures.boxed, c.take.ensures.closed) (
+      refl,
+      (c.in-Ok.ensures.room, c.in-Ok.ensures.rest),
+      λ word read has.
+          let all' : List ℕ = read ++ take c.in-Ok.many c.read.new.out in
+          c.is_read.ensures.whole c.if-is_read.true word c.args.core.now all'
+          (subst (λ (saver : Saver). HasMade saver word c.args.core.now all')
+          (sym c.deref.ensures)
+          (c.in-Ok.ensures.made word read
+          (subst (λ (saver : Saver). HasMade saver word c.args.core.now read) (sym c.deref_mut.ensures.value) has))),
+    )

@@ -1,0 +1,4 @@
+pub mod Opening
+pub mod Outputs
+pub mod Restorings
+pub mod Savings
