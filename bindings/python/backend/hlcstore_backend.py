@@ -10,10 +10,12 @@ import os
 import pathlib
 import re
 import shlex
+import stat
 import subprocess
 import sysconfig
 import tarfile
 import tempfile
+import time
 import tomllib
 import zipfile
 from typing import NamedTuple
@@ -24,6 +26,8 @@ NAME = PROJECT["name"]
 NATIVE = HERE / "src/native"
 # The oldest version of Python that has what the extension uses, as a tag and as the number of its headers.
 PYTHON_TAG, LIMITED_API = "cp311", "0x030b0000"
+# The first time that a file in an archive of zip can have: the start of 1980, in seconds from that of 1970.
+FIRST_TIME = 315532800
 # What libhlcstore-file.a needs of the system.
 FILE_NEEDS = ("-lsqlite3", "-lz")
 MISSING = """\
@@ -137,14 +141,18 @@ def info_folder():
     return f"{NAME}-{version()}.dist-info"
 
 
-def tag():
-    platform = re.sub(r"[-.]", "_", sysconfig.get_platform())
+def this_platform():
+    """Returns the tag of the platform that the build is for: this machine, and what is installed on it."""
+    return re.sub(r"[-.]", "_", sysconfig.get_platform())
+
+
+def tag(platform):
     return f"{PYTHON_TAG}-abi3-{platform}"
 
 
-def info_files():
+def info_files(platform):
     """Returns the files of the folder .dist-info but RECORD."""
-    wheel = f"Wheel-Version: 1.0\nGenerator: hlcstore_backend\nRoot-Is-Purelib: false\nTag: {tag()}\n"
+    wheel = f"Wheel-Version: 1.0\nGenerator: hlcstore_backend\nRoot-Is-Purelib: false\nTag: {tag(platform)}\n"
     return {f"{info_folder()}/METADATA": metadata().encode(), f"{info_folder()}/WHEEL": wheel.encode()}
 
 
@@ -179,11 +187,32 @@ def record(files):
     return "".join(lines) + f"{info_folder()}/RECORD,,\n"
 
 
+def entry(name):
+    """Returns the head of a file in the wheel. Its time is SOURCE_DATE_EPOCH, or the first one that an archive can have,
+    so that the same files make the same wheel."""
+    seconds = max(int(os.environ.get("SOURCE_DATE_EPOCH", FIRST_TIME)), FIRST_TIME)
+    head = zipfile.ZipInfo(name, time.gmtime(seconds)[:6])
+    head.compress_type = zipfile.ZIP_DEFLATED
+    head.external_attr = (stat.S_IFREG | 0o644) << 16
+    return head
+
+
+def write_wheel(folder, files, platform):
+    """Writes the wheel of these files of the package, with this tag of the platform, and returns its name."""
+    files = files | info_files(platform)
+    files[f"{info_folder()}/RECORD"] = record(files).encode()
+    name = f"{NAME}-{version()}-{tag(platform)}.whl"
+    with zipfile.ZipFile(pathlib.Path(folder, name), "w") as wheel:
+        for path, content in files.items():
+            wheel.writestr(entry(path), content)
+    return name
+
+
 # ---- What pip calls ----
 
 
 def prepare_metadata_for_build_wheel(metadata_directory, config_settings=None):
-    for name, content in info_files().items():
+    for name, content in info_files(this_platform()).items():
         path = pathlib.Path(metadata_directory, name)
         path.parent.mkdir(exist_ok=True)
         path.write_bytes(content)
@@ -191,13 +220,7 @@ def prepare_metadata_for_build_wheel(metadata_directory, config_settings=None):
 
 
 def build_wheel(wheel_directory, config_settings=None, metadata_directory=None):
-    files = package_files() | info_files()
-    files[f"{info_folder()}/RECORD"] = record(files).encode()
-    name = f"{NAME}-{version()}-{tag()}.whl"
-    with zipfile.ZipFile(pathlib.Path(wheel_directory, name), "w", zipfile.ZIP_DEFLATED) as wheel:
-        for path, content in files.items():
-            wheel.writestr(path, content)
-    return name
+    return write_wheel(wheel_directory, package_files(), this_platform())
 
 
 def build_sdist(sdist_directory, config_settings=None):

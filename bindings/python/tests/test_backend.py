@@ -7,6 +7,7 @@ import shutil
 import tarfile
 import tempfile
 import unittest
+import zipfile
 from unittest import mock
 
 PACKAGE = pathlib.Path(__file__).resolve().parent.parent
@@ -93,6 +94,21 @@ class Backend(unittest.TestCase):
             with mock.patch.object(self.backend, "compile_extension", make_empty):
                 self.assertEqual(unpacked.package_files(), self.backend.package_files())
         self.assertEqual((self.top / name.removesuffix(".tar.gz") / "PKG-INFO").read_text(), unpacked.metadata())
+
+    def test_a_wheel_has_the_time_of_its_sources(self):
+        for said, year in ("1700000000", 2023), ("0", 1980):
+            with mock.patch.dict(os.environ, {"SOURCE_DATE_EPOCH": said}):
+                name = self.backend.write_wheel(self.top, {"hlcstore/file": b"bytes"}, "linux_x86_64")
+            with zipfile.ZipFile(self.top / name) as wheel:
+                self.assertEqual({head.date_time[0] for head in wheel.infolist()}, {year})
+                self.assertEqual({head.external_attr >> 16 for head in wheel.infolist()}, {0o100644})
+
+    def test_a_wheel_is_for_the_platform_that_is_named(self):
+        name = self.backend.write_wheel(self.top, {}, "manylinux_2_34_x86_64")
+        self.assertTrue(name.endswith("-cp311-abi3-manylinux_2_34_x86_64.whl"), name)
+        with zipfile.ZipFile(self.top / name) as wheel:
+            info = wheel.read(f"{self.backend.info_folder()}/WHEEL").decode()
+        self.assertIn("Tag: cp311-abi3-manylinux_2_34_x86_64\n", info)
 
 
 if __name__ == "__main__":

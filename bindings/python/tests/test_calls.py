@@ -1,18 +1,22 @@
 """Each call of the package, and what it takes and returns."""
 
+import copy
 import doctest
 import hashlib
 import importlib.metadata
+import io
 import pickle
 import struct
 import subprocess
 import sys
 import textwrap
+import tracemalloc
 import unittest
 from unittest import mock
 
 import hlcstore
-from hlcstore import Certified, Checked, Item, Link, Node, Sizes, Store, Vacuum, VacuumPart, Version, split, stamp
+from hlcstore import Certified, Checked, Item, Link, Node, Sizes, Stamp, Store, Vacuum, VacuumPart, Version
+from hlcstore import split, stamp
 
 
 def filled(pairs):
@@ -65,6 +69,70 @@ class Items(unittest.TestCase):
         with self.assertRaises(AttributeError):
             first.stamp = 4
 
+    def test_items_are_read_from_their_bytes(self):
+        """Each field has a value of its own, the high byte first."""
+        encoded = bytes.fromhex("01 0002 0000000000000003 0000000000050004 00 01 6b 01 0002 7676")
+        item = Item.write(2, 3, stamp(5, 4), b"k", b"vv")
+        self.assertEqual((bytes(item), Item.decode(encoded)), (encoded, (item, len(encoded))))
+        log, at = b"".join(map(bytes, self.each_kind())), 0
+        for item in self.each_kind():
+            self.assertEqual(Item.decode(log, at), (item, at + len(bytes(item))))
+            at = Item.decode(bytearray(log), at=at)[1]
+        self.assertEqual(at, len(log))
+        for at in len(log), len(log) + 1, 2**64 - 1:
+            with self.assertRaises(hlcstore.BadBytes) as met:
+                Item.decode(log, at)
+            self.assertEqual(met.exception.word, 1)
+
+    def each_kind(self):
+        key, value = b"k" * 255, bytes(65535)
+        items = [Item.write(0, 0, 1, b"a", b"x"), Item.write(0, 1, 2, key, value), Item.write(0, 2, 3, b"b", b"")]
+        return [*items, Item.delete(0, 3, 4, key), Item.report(0, 4, 5), Item.retire(0, 5, 2**64 - 1)]
+
+    def test_bad_bytes_have_the_fault_that_the_library_finds(self):
+        for item in self.each_kind():
+            encoded = bytes(item)
+            changes = [encoded[:length] for length in range(1, min(len(encoded), 300))]
+            for place in range(min(len(encoded), 30)):
+                changes += [encoded[:place] + bytes([byte]) + encoded[place + 1 :] for byte in (0, 1, 2, 3, 254, 255)]
+            for changed in changes:
+                self.compare_faults(changed)
+
+    def compare_faults(self, log):
+        try:
+            Store(1).accept_items(log)
+            fault = 0
+        except hlcstore.BadBytes as refused:
+            fault = refused.word if refused.used == 0 else 0
+        except hlcstore.Error:
+            fault = 0
+        if fault:
+            with self.assertRaises(hlcstore.BadBytes) as met:
+                Item.decode(log)
+            self.assertEqual(met.exception.word, fault, log)
+        else:
+            item, end = Item.decode(log)
+            self.assertEqual(bytes(item), log[:end])
+
+    def test_logs_are_read_where_they_are(self):
+        item = Item.report(1, 2, 3)
+        log = bytearray(bytes(item) + bytes(2**20))
+        tracemalloc.start()
+        try:
+            self.assertEqual(Item.decode(log), (item, 20))
+            self.assertLess(tracemalloc.get_traced_memory()[1], 2**16)
+        finally:
+            tracemalloc.stop()
+        doubled = bytes(byte for byte in bytes(item) for _ in range(2))
+        self.assertEqual(Item.decode(memoryview(doubled)[::2]), (item, 20))
+        log.clear()
+
+    def test_items_are_pickled_and_copied(self):
+        for item in [*self.each_kind(), Item.write(0, 0, 0, b"", bytes(70_000))]:
+            for protocol in range(2, pickle.HIGHEST_PROTOCOL + 1):
+                self.assertEqual(pickle.loads(pickle.dumps(item, protocol)), item)
+            self.assertEqual((copy.copy(item), copy.deepcopy(item)), (item, item))
+
     def test_clocks(self):
         sender, receiver = Node(0), Node(1)
         sent = sender.send(12)
@@ -75,12 +143,6 @@ class Items(unittest.TestCase):
         again = Node.restore(id=receiver.id, last=receiver.last, next=7)
         self.assertEqual((again.id, again.last, again.next), (1, stamp(20, 6), 7))
         self.assertEqual(repr(again), f"<Node 1, last={stamp(20, 6)}, next=7>")
-
-    def test_stamps(self):
-        self.assertEqual((stamp(1), stamp(2, 3)), (65536, 131075))
-        self.assertEqual(split(stamp(2, 3)), (2, 3))
-        self.assertEqual((stamp(0), stamp(2**48 - 1, counter=65535)), (0, 2**64 - 1))
-        self.assertEqual((split(0), split(2**64 - 1)), ((0, 0), (2**48 - 1, 65535)))
 
 
 class Feeding(unittest.TestCase):
@@ -379,6 +441,15 @@ class Snapshots(unittest.TestCase):
         self.assertEqual(list(items), [(b"a", b"x")])
 
 
+    def test_values(self):
+        store, _ = filled([(b"%04d" % i, b"%d" % i * 50) for i in range(2000)])
+        snapshot = store.snapshot()
+        values = [value for _, value in snapshot.items()]
+        self.assertEqual((len(values), list(snapshot.values())), (2000, values))
+        self.assertEqual(list(snapshot.values(reverse=True)), values[::-1])
+        self.assertEqual(list(snapshot.values(b"0007", end=b"0009")), [b"7" * 50, b"8" * 50])
+
+
 class Vacuums(unittest.TestCase):
     def setUp(self):
         self.store, node = filled([(b"a", b"x"), (b"a", b"yy"), (b"b", b"z")])
@@ -442,6 +513,16 @@ class Vacuums(unittest.TestCase):
         self.assertEqual(store.versions(key=b"a", above=0, to=stamp(1)), rows[2:])
         self.assertEqual((store.versions(b"b"), store.versions(b""), store.versions(b"a", 5, 4)), ([], [], []))
         self.assertEqual(len(filled([(b"a", b"%d" % i) for i in range(300)])[0].versions(b"a")), 300)
+
+
+class Texts(unittest.TestCase):
+    def test_of_a_store(self):
+        store, node = filled([(b"a", b"x"), (b"b", b"y")])
+        self.assertEqual(repr(store), "<Store, floor=2.0, rows=2>")
+        store.accept(node.report(2))
+        self.assertEqual(str(store), "<Store, floor=2.1, rows=2>")
+        store.close()
+        self.assertEqual(repr(store), "<Store, closed>")
 
 
 class Restarts(unittest.TestCase):
@@ -509,14 +590,17 @@ class Arguments(unittest.TestCase):
         store, node = Store(1), Node(0)
         snapshot, item = store.snapshot(), node.report(1)
         calls = [
+            (Stamp, 1.0), (Stamp,), (Stamp.from_number, "1"), (Stamp.parse, 5), (Stamp.parse, b"5.0"),
             (stamp, 1.0), (stamp, "1"), (stamp, 1, None), (split, 1.5), (split, b"1"), (hlcstore.error_name, "1"),
             (Store, "1"), (Store,), (Store, 1, 2), (Node, None), (Node.restore, 1, 2), (Item,), (hlcstore.Snapshot,),
+            (Item.decode,), (Item.decode, "a"), (Item.decode, b"a", "1"), (snapshot.values, 1),
             (Item.write, 0, 0, 0, "a", b""), (Item.write, 0, 0, 0, b"a", 5), (Item.report, 0.5, 0, 0),
             (node.write, 1, "a", b""), (node.write, 1, b"a", None), (node.write, 1, b"a"), (node.report, "1"),
             (node.report,), (node.receive, 1), (node.raise_to, None), (store.accept, (0, 0, 1)), (store.accept, None),
             (store.accept_all, 5), (store.accept_all, [item, None]), (store.accept_items, [1, 2]),
             (store.accept_items, 8), (store.accept_write, 0, 0, 1, ["a"], b""), (store.snapshot, "floor"),
             (store.close_snapshot, None), (store.restore, None), (store.checkpoint, b""), (store.link, None),
+            (store.checkpoint_to,), (store.checkpoint_to, io.BytesIO(), b""), (store.checkpoint_to, io.StringIO()),
             (snapshot.get, "a"), (snapshot.get,), (snapshot.get, b"a", 1, 2), (snapshot.items, 1),
             (snapshot.read_all, b"ab"), (snapshot.read_all, None), (snapshot.digest, b"", "z"),
             (snapshot.items, b"", b"", True), (snapshot.last_below, 1), (snapshot.changes,), (snapshot.changes, store),
@@ -539,6 +623,7 @@ class Arguments(unittest.TestCase):
             (Store, 65536), (Store, -1), (Node, 65536), (Node, 0, 2**64), (Item.report, 65536, 0, 0),
             (Item.report, 0, -1, 0), (node.report, 2**64), (node.send, -1), (store.snapshot, 2**64),
             (store.link, 65536), (store.checkpoint, 2**64), (store.vacuum_to, -1), (hlcstore.error_text, -1),
+            (store.checkpoint_to, io.BytesIO(), 2**64),
         ]  # fmt: skip
         for call, *args in calls:
             with self.assertRaisesRegex(OverflowError, f"{words}|{halves}", msg=f"{call} {args}"):
@@ -559,7 +644,7 @@ class Arguments(unittest.TestCase):
             ],
             halves: [(Store, -1), (Node, -1), (store.link, -1), (Item.report, 2**64, 0, 0), (stamp, 1, 70000),
                      (stamp, 1, -1), (store.check_report, 65536, 0, 0), (Node.restore, -1, 0, 0)],
-            parts: [(stamp, -1), (stamp, 2**48), (stamp, 2**50, 1), (stamp, 10**5000)],
+            parts: [(Stamp, -1), (Stamp, 2**48, 1), (stamp, -1), (stamp, 2**48), (stamp, 2**50, 1), (stamp, 10**5000)],
         }  # fmt: skip
         for text, calls in texts.items():
             for call, *args in calls:

@@ -38,7 +38,7 @@ class Calls(InFolder):
             before = file.write(b"capital", b"Lyon", reading=5)
             deleted = file.delete(b"capital", reading=6)
             file.write(bytearray(b"capital"), memoryview(b"Paris"), reading=6)
-            self.assertEqual((split(before), split(deleted), split(file.floor)), ((5, 0), (6, 0), (6, 1)))
+            self.assertEqual((str(before), str(deleted), str(file.floor)), ("5.0", "6.0", "6.1"))
             self.assertEqual(file.snapshot(before)[b"capital"], b"Lyon")
             self.assertIsNone(file.snapshot(at=deleted).get(b"capital"))
             self.assertEqual(file.snapshot()[b"capital"], b"Paris")
@@ -133,6 +133,39 @@ class Calls(InFolder):
             self.assertEqual((status.created, status.failure, status.writes), (True, 0, 0))
 
 
+def at_each_depth(call):
+    """Makes a call within more and more others, until there are too many. Returns what it returned."""
+    made, most = [], sys.getrecursionlimit()
+
+    def at(depth):
+        return at(depth - 1) if depth else call()
+
+    for depth in range(most - 200, most):
+        with contextlib.suppress(RecursionError):
+            made.append(at(depth))
+    assert 0 < len(made) < 200
+    return made
+
+
+class Depth(InFolder):
+    """A call does nothing where Python refuses it since calls are too deep."""
+
+    def test_events(self):
+        with File(self.path) as file:
+            written = at_each_depth(lambda: file.write(b"a", b"x"))
+            self.assertEqual((file.rows, file.floor), (len(written), written[-1]))
+            joined = at_each_depth(file.join)
+            self.assertEqual(file.nodes, 1 + len(joined))
+
+    def test_snapshots(self):
+        """None stays open."""
+        with File(self.path) as file:
+            file.write(b"a", b"1")
+            at_each_depth(lambda: file.snapshot().stamp)
+            file.write(b"a", b"2")
+            self.assertEqual(file.vacuum().kept, 1)
+
+
 class Snapshots(InFolder):
     def setUp(self):
         super().setUp()
@@ -160,6 +193,8 @@ class Snapshots(InFolder):
         self.assertEqual(list(self.snapshot.keys(b"00100", b"01200", reverse=True)), keys[100:1200][::-1])
         self.assertEqual(list(self.snapshot.items(end=b"00002")), [(b"00000", b""), (b"00001", b"v")])
         self.assertEqual(self.snapshot.count(start=b"02990"), 10)
+        self.assertEqual(list(self.snapshot.values(b"00001", b"00004")), [b"v", b"vv", b"vvv"])
+        self.assertEqual(list(self.snapshot.values(end=b"00003", reverse=True)), [b"vv", b"v", b""])
         self.assertEqual(self.snapshot.last_below(b"00002"), (b"00001", b"v"))
         self.assertEqual(self.snapshot.last_below(), (b"02999", b"v" * 299))
         self.assertIsNone(self.snapshot.last_below(b"00000"))
@@ -200,6 +235,72 @@ class Snapshots(InFolder):
         del self.snapshot
         gc.collect()
         self.assertEqual(self.file.vacuum().dropped, 3000)
+
+
+class Reads(InFolder):
+    """What a file reads is what a store in memory with the same items does."""
+
+    def setUp(self):
+        super().setUp()
+        self.file = File(self.path, promise=Promise.WRITTEN)
+        self.addCleanup(self.file.close)
+        self.store, node = hlcstore.Store(1), hlcstore.Node(0)
+        # The listings have some pages. Each third key is deleted at the end.
+        for reading in range(1, 901):
+            key, value = b"key %03d" % (reading % 300), b"v" * (reading % 700)
+            if reading > 600 and reading % 3 == 0:
+                self.store.accept(node.delete(reading, key))
+                self.file.delete(key, reading=reading)
+            else:
+                self.store.accept(node.write(reading, key, value))
+                self.file.write(key, value, reading=reading)
+
+    def test_what_it_has(self):
+        file, store = self.file, self.store
+        self.assertEqual(repr(file), "<File, floor=900.0, rows=900>")
+        self.assertEqual((file.rows, file.nodes, file.sizes, file.floor_node()), (900, 1, store.sizes, 0))
+        self.assertEqual(file.link(0), (900, stamp(900), False))
+        file.retire(reading=901)
+        self.assertEqual(file.link(0), (901, stamp(901), True))
+        with self.assertRaises(hlcstore.NoNode):
+            file.link(1)
+        with self.assertRaises(hlcstore.NoNode):
+            file.floor_node()
+
+    def test_versions(self):
+        rows = [(stamp(603), 0, None), (stamp(303), 0, b"v" * 303), (stamp(3), 0, b"vvv")]
+        self.assertEqual(self.file.versions(b"key 003"), rows)
+        self.assertEqual(self.file.versions(bytearray(b"key 003"), stamp(3), to=stamp(602)), rows[1:2])
+        self.assertEqual(self.file.versions(key=b"none"), [])
+        # More than there is room for at first.
+        for reading in (950, 951):
+            self.file.write(b"long", b"%d" % reading * 20_000, reading=reading)
+        self.assertEqual([row.value[:3] for row in self.file.versions(b"long")], [b"951", b"950"])
+
+    def test_listings(self):
+        mine, theirs = self.file.snapshot(stamp(500)), self.store.snapshot(stamp(500))
+        later, their_later = self.file.snapshot(), self.store.snapshot()
+        self.assertEqual(mine.digest(), theirs.digest())
+        self.assertEqual(later.digest(b"key 1", end=b"key 2"), their_later.digest(b"key 1", b"key 2"))
+        changes = list(mine.changes(later))
+        self.assertEqual(changes, list(theirs.changes(their_later)))
+        self.assertEqual((len(changes), changes[0], changes[1]), (300, (b"key 000", None), (b"key 001", b"v" * 601)))
+        self.assertEqual(list(mine.changes(later, start=b"key 003", end=b"key 004")), changes[3:4])
+        self.assertEqual((len(list(later.changes(mine))), list(mine.changes(mine))), (300, []))
+
+    def test_changes_are_of_one_file(self):
+        with File(self.path.with_name("other")) as other, self.assertRaises(hlcstore.NoSnapshot):
+            self.file.snapshot().changes(other.snapshot())
+        for after in None, self.store.snapshot(), 5:
+            with self.assertRaises(TypeError):
+                self.file.snapshot().changes(after)
+
+    def test_of_a_closed_snapshot(self):
+        with self.file.snapshot() as closed:
+            pass
+        for call in closed.digest, lambda: list(closed.changes(self.file.snapshot())):
+            with self.assertRaises(hlcstore.NoSnapshot):
+                call()
 
 
 class Refusals(InFolder):
@@ -287,6 +388,9 @@ class Refusals(InFolder):
                 lambda: file.batch().write(5, b""),
                 lambda: file.snapshot("5"),
                 lambda: file.snapshot().items(5),
+                lambda: file.snapshot().digest("a"),
+                lambda: file.versions("a"),
+                lambda: file.link(None),
                 lambda: file.vacuum(1, older_than=timedelta(1)),
             ):
                 with self.assertRaises(TypeError):
@@ -302,13 +406,22 @@ class Refusals(InFolder):
         snapshot, rest = file.snapshot(), file.snapshot().items()
         file.close()
         file.close()
+        self.assertEqual(repr(file), "<File, closed>")
         for call in (
             lambda: file.write(b"a", b""),
             lambda: file.floor,
             lambda: file.status,
             file.snapshot,
             file.checkpoint,
+            lambda: file.rows,
+            lambda: file.sizes,
+            lambda: file.nodes,
+            lambda: file.link(0),
+            lambda: file.versions(b"a"),
+            file.floor_node,
             lambda: snapshot.get(b"a"),
+            snapshot.digest,
+            lambda: list(snapshot.changes(snapshot)),
             lambda: list(rest),
         ):
             with self.assertRaises(Closed):
@@ -547,10 +660,13 @@ class Memory(InFolder):
     def play(self):
         """One round: each call, also refused."""
         with File(self.path, promise=Promise.WRITTEN) as file:
+            before = file.snapshot()
             self.write(file)
             snapshot = file.snapshot()
             snapshot[b"key"], snapshot.get(b"none"), list(snapshot.items()), list(reversed(snapshot)), len(snapshot)
             snapshot.last_below(), next(snapshot.items()), file.status, file.horizon, snapshot.read_all([b"key"])
+            snapshot.digest(), list(before.changes(snapshot)), file.versions(b"key"), file.versions(b"none")
+            file.sizes, file.rows, file.link(0), file.floor_node(), file.nodes
             file.vacuum(), file.vacuum(older_than=timedelta(1)), file.checkpoint(), file.report(), file.send()
             for call in (
                 lambda: File(self.path),

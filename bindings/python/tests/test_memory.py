@@ -1,6 +1,8 @@
 """Memory and references: calls free and drop what they took, also where they are refused."""
 
 import gc
+import io
+import pickle
 import resource
 import sys
 import tracemalloc
@@ -40,6 +42,9 @@ def feed(store, node):
     refuse(hlcstore.ValueTooLong, node.write, 9, KEY, TOO_LONG)
     refuse(hlcstore.ValueTooLong, bytes, Item.write(0, 0, 1, KEY, TOO_LONG))
     hash(items[0]), repr(items), items[0] == items[3], items[0].kind, items[0].value
+    for item in items:
+        Item.decode(bytes(item)), pickle.loads(pickle.dumps(item))
+    repr(store)
     return items
 
 
@@ -52,11 +57,28 @@ def read(snapshot):
     refuse(TypeError, snapshot.read_all, [KEY, None])
     list(snapshot.items()), list(snapshot.keys(KEY, b"z")), len(snapshot), snapshot.count(KEY), snapshot.digest(b"a")
     list(snapshot.items(end=bytearray(b"z"), reverse=True)), list(reversed(snapshot)), snapshot.last_below(LONG_KEY)
+    list(snapshot.values()), list(snapshot.values(KEY, reverse=True))
     snapshot.last_below(b"a"), list(snapshot.changes(snapshot, KEY, b"z"))
     next(snapshot.items()), next(snapshot.keys(reverse=True))
     refuse(TypeError, snapshot.changes, None)
     refuse(TypeError, snapshot.changes, snapshot, KEY, 5)
     refuse(TypeError, snapshot.items, KEY, 5)
+
+
+class ShortFile:
+    """A file that takes 2,000 bytes at a time, and drops a snapshot."""
+
+    def __init__(self, snapshot):
+        self.snapshot = snapshot
+
+    def write(self, piece):
+        self.snapshot = None
+        return min(len(piece), 2000)
+
+
+class FullFile:
+    def write(self, piece):
+        return None
 
 
 def keep(store):
@@ -74,6 +96,10 @@ def keep(store):
     hlcstore.check(certificate)
     refuse(hlcstore.BadLine, hlcstore.check, b"point")
     saved = store.checkpoint()
+    store.checkpoint_to(io.BytesIO()), store.checkpoint_to(file=ShortFile(store.snapshot()), word=5)
+    refuse(BlockingIOError, store.checkpoint_to, FullFile())
+    refuse(TypeError, store.checkpoint_to, io.StringIO())
+    refuse(AttributeError, store.checkpoint_to, KEY)
     with Store.restore(saved) as copy:
         copy.snapshots(), copy.link(0), copy.floor, copy.join(), copy.join_at(2**50), copy.floor_node()
     with Store.restore(saved[at : at + 500] for at in range(0, len(saved), 500)) as copy:
@@ -143,7 +169,7 @@ class Memory(unittest.TestCase):
         """What Python allocates is counted. An object that stayed in each round would have 16 bytes or more. Some are
         left in the lists of free objects, which Python keeps."""
         tracemalloc.start()
-        for _ in range(200):
+        for _ in range(2000):
             play()
         gc.collect()
         before, _ = tracemalloc.get_traced_memory()
@@ -169,6 +195,8 @@ class Memory(unittest.TestCase):
             refuse(hlcstore.NotNext, store.accept_all, items)
             Node(1).write(1, KEY, VALUE), Item.delete(0, 1, 2, KEY), items[0].key, store.link(0).retired, node.retired
             bytes(items[0]), repr(items[0]), hash(items[0])
+            Item.decode(bytes(items[0])), items[0].__reduce__(), list(snapshot.values(KEY)), repr(store)
+            refuse(hlcstore.BadBytes, Item.decode, KEY)
 
         watched = [KEY, VALUE, TOO_LONG, default, store, node, snapshot, items[0], Store, Node, Item, Error, None, True]
         for _ in range(50):

@@ -1,6 +1,7 @@
 """Each exception of the package: what raises it, its code, its word and its text."""
 
 import hashlib
+import io
 import pickle
 import subprocess
 import sys
@@ -10,8 +11,8 @@ import unittest
 import hlcstore
 from hlcstore import Error, Item, Node, Store, stamp
 
-# Handles, buffers, outputs and savings are the package's own, so it never meets these.
-WITHOUT_CLASS = {"HLC_OK", "HLC_IS_OPEN", "HLC_OUTSIDE", "HLC_MORE", "HLC_HAS_BYTES", "HLC_CHANGED"}
+# Handles, buffers and outputs are the package's own, so it never meets these.
+WITHOUT_CLASS = {"HLC_OK", "HLC_IS_OPEN", "HLC_OUTSIDE", "HLC_MORE", "HLC_HAS_BYTES"}
 FULL = stamp(5, 65535)
 
 
@@ -61,6 +62,24 @@ def checkpoint_without_nodes():
     return saved
 
 
+class ChangingFile:
+    """A file that changes the store when it is written to."""
+
+    def __init__(self, store):
+        self.store = store
+
+    def write(self, piece):
+        self.store.join()
+        return len(piece)
+
+
+def saved_in_vain():
+    """Saves a store of several pieces, which the file changes."""
+    store = Store(1)
+    store.accept_all([Item.write(0, i, i + 1, b"%d" % i, bytes(60_000)) for i in range(9)])
+    store.checkpoint_to(ChangingFile(store))
+
+
 def increment():
     """Returns a checkpoint of a store with one item, and an increment of a store with one more."""
     store = fed()
@@ -95,6 +114,7 @@ REFUSED = {
     hlcstore.NotFewest: (lambda: deleted().certificate(stamp(3)), 0),
     hlcstore.NoIncrement: (lambda: hlcstore.apply_increment(fed().checkpoint(), fed().checkpoint()), 3),
     hlcstore.NotLater: (lambda: hlcstore.apply_increment(Store(2).checkpoint(), increment()[1]), 0),
+    hlcstore.Changed: (saved_in_vain, 0),
 }
 # How the text of a refusal has its word.
 WORDS = {
@@ -223,7 +243,7 @@ class AfterClose(unittest.TestCase):
             (store.join,), (store.join_at, 5), (store.link, 0), (store.floor_node,), (store.snapshot,),
             (store.snapshot, 0), (store.snapshots,), (store.close_snapshot, 1), (store.close_all,), (store.vacuum,),
             (store.vacuum_to, 0), (store.vacuum_part, 0), (store.check_vacuum, 0), (store.certificate, 0),
-            (store.checkpoint,), (store.increment, 0), (store.versions, b"a"),
+            (store.checkpoint,), (store.checkpoint_to, io.BytesIO()), (store.increment, 0), (store.versions, b"a"),
             *[(getattr, store, name) for name in ("floor", "horizon", "rows", "sizes", "nodes")],
         ]  # fmt: skip
         for call, *args in calls:

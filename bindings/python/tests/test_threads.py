@@ -3,6 +3,7 @@
 import collections
 import faulthandler
 import gc
+import io
 import operator
 import random
 import subprocess
@@ -147,9 +148,16 @@ class OneStore(unittest.TestCase):
             if pick.random() < 0.1:
                 self.certify(store)
             if pick.random() < 0.05:
-                with Store.restore(store.checkpoint(reading)) as copy:
+                with Store.restore(self.save(pick, store, reading)) as copy:
                     check(copy.word == reading, "the word")
                     self.compare(pick, copy.snapshot())
+
+    def save(self, pick, store, word):
+        if pick.random() < 0.5:
+            return store.checkpoint(word)
+        saved = io.BytesIO()
+        store.checkpoint_to(saved, word)
+        return saved.getvalue()
 
     def certify(self, store):
         """Other threads may vacuum to a later stamp in between, or close a snapshot for which a row was kept."""
@@ -265,6 +273,7 @@ class LongCalls(unittest.TestCase):
             "certificate": partial(self.store.certificate, vacuum.stamp),
             "check": partial(hlcstore.check, certificate),
             "checkpoint": self.store.checkpoint,
+            "checkpoint_to": lambda: self.store.checkpoint_to(io.BytesIO()),
             "digest": self.snapshot.digest,
             "increment": partial(wide.increment, 0),
             "restore": partial(Store.restore, saved),
@@ -345,6 +354,7 @@ class AtExit(unittest.TestCase):
         thread never gets the interpreter again."""
         program = """
             import collections
+            import io
             import threading
             import time
             import hlcstore
@@ -352,7 +362,8 @@ class AtExit(unittest.TestCase):
             store, node = hlcstore.Store(1), hlcstore.Node(0)
             store.accept_all([node.write(1, b"%d" % i, bytes(1000)) for i in range(1000)])
             snapshots = [store.snapshot() for _ in range(50)]
-            for call in (snapshots[0].digest, store.vacuum, store.checkpoint, snapshots[1].count):
+            save = lambda: store.checkpoint_to(io.BytesIO())
+            for call in (snapshots[0].digest, store.vacuum, store.checkpoint, snapshots[1].count, save):
                 forever = iter(call, None)
                 threading.Thread(target=collections.deque, args=(forever, 0), daemon=True).start()
             time.sleep(0.1)

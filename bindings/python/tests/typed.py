@@ -1,18 +1,20 @@
 """What a type checker must accept, and infer."""
 
+import io
 from collections.abc import Iterator
 from datetime import timedelta
 from typing import assert_type
 
 import hlcstore
 from hlcstore import AboveFloor, Applied, Certified, Checked, Item, Link, Node, NotNext, Sizes, Snapshot, Store, Vacuum
-from hlcstore import VacuumPart, Version, check, split, stamp
+from hlcstore import Stamp, VacuumPart, Version, check, split, stamp
 from hlcstore import file as files
 
 node = Node(0)
 item = assert_type(node.write(1, b"a", bytearray(b"x")), Item)
 with Store(1) as store:
     store.accept(item)
+    assert_type(Item.decode(bytes(item)), tuple[Item, int])
     assert_type(store.accept_all([item, node.report(2)]), int)
     assert_type(store.accept_items(memoryview(bytes(item))), int)
     assert_type(store.apply_records(bytes(item)), Applied)
@@ -21,6 +23,7 @@ with Store(1) as store:
     assert_type(store.link(0), Link)
     assert_type(store.sizes, Sizes)
     assert_type(store.snapshots(), list[Snapshot])
+    assert_type((store.floor, stamp(5), Stamp.parse("5.0")), tuple[Stamp, Stamp, Stamp])
     try:
         with store.snapshot() as snapshot:
             assert_type(snapshot[b"a"], bytes)
@@ -28,6 +31,7 @@ with Store(1) as store:
             assert_type(snapshot.get(b"b", 7), bytes | int)
             assert_type(snapshot.items(start=b"a"), Iterator[tuple[bytes, bytes]])
             assert_type(snapshot.keys(reverse=True), Iterator[bytes])
+            assert_type(snapshot.values(b"a"), Iterator[bytes])
             assert_type(snapshot.last_below(b"b"), tuple[bytes, bytes] | None)
             assert_type(snapshot.changes(snapshot, end=b"z"), Iterator[tuple[bytes, bytes | None]])
             assert_type(list(snapshot), list[bytes])
@@ -45,17 +49,19 @@ with Store(1) as store:
     assert_type(store.vacuum_part(0, bytearray(b"a"), most=2), VacuumPart)
     assert_type(check(certified.certificate), Checked)
     assert_type(Store.restore(store.checkpoint(word=3)), Store)
+    assert_type(store.checkpoint_to(io.BytesIO(), word=3), int)
+    assert_type(store.checkpoint_to(open("saved", "wb", buffering=0)), int)
     assert_type(hlcstore.apply_increment(store.checkpoint(), bytearray(store.increment(0, word=3))), bytes)
 assert_type(hlcstore.__version__, str)
 
 with files.File("store", nodes=2, promise=files.Promise.GROUP) as file:
-    assert_type(file.write(b"a", bytearray(b"x"), node=1, reading=5), int)
-    assert_type(file.append({b"a": b"x", b"b": None}), int)
-    assert_type(file.append([(b"a", b"x"), (b"b", None)], promise=files.Promise.WRITTEN), int)
+    assert_type(file.write(b"a", bytearray(b"x"), node=1, reading=5), Stamp)
+    assert_type(file.append({b"a": b"x", b"b": None}), Stamp)
+    assert_type(file.append([(b"a", b"x"), (b"b", None)], promise=files.Promise.WRITTEN), Stamp)
     with file.batch() as batch:
         batch.write(b"a", memoryview(b"x"))
-    assert_type(batch.stamp, int | None)
-    assert_type(file.join(), tuple[int, int])
+    assert_type(batch.stamp, Stamp | None)
+    assert_type(file.join(), tuple[int, Stamp])
     assert_type(file.vacuum(older_than=timedelta(days=1)), Vacuum)
     assert_type(file.status.created, bool)
     with file.snapshot(at=stamp(5)) as past:
@@ -65,6 +71,10 @@ with files.File("store", nodes=2, promise=files.Promise.GROUP) as file:
         assert_type(past.items(start=b"a", reverse=True), Iterator[tuple[bytes, bytes]])
         assert_type(list(past), list[bytes])
         assert_type(past.last_below(), tuple[bytes, bytes] | None)
+        assert_type(past.changes(past, end=b"z"), Iterator[tuple[bytes, bytes | None]])
+        assert_type(past.digest(b"a"), bytes)
+    assert_type(file.versions(b"a", to=file.floor), list[Version])
+    assert_type((file.link(0), file.sizes), tuple[Link, Sizes])
 try:
     files.File("store")
 except files.CannotOpen as cannot:

@@ -11,6 +11,7 @@ typedef struct {
     hlc_file *file; /* NULL where it is closed */
     pthread_rwlock_t lock;
     bool has_lock;
+    PyTypeObject *stamp; /* the class of stamps, which is here since a subclass does not lead to the module */
 } File;
 
 /* Makes a call with `file`, and puts its answer into `code`. A closed file answers HLC_CLOSED. */
@@ -24,6 +25,16 @@ typedef struct {
         pthread_rwlock_unlock(&with->lock); \
         PyEval_RestoreThread(thread); \
     } while (0)
+
+/* Makes a reading call of hlcstore.h with `store`, a copy of the handle of the file's store, in the same way. */
+#define WITH_STORE(self, code, call) WITH_FILE(self, code, (hlc_file_read_begin(file, store), ended(file, (call))))
+
+/* Ends the reading of a file, after a call that answered this. */
+static uint32_t ended(hlc_file *file, uint32_t code)
+{
+    hlc_file_read_end(file);
+    return code;
+}
 
 /* ---- Arguments and answers ---- */
 
@@ -43,6 +54,14 @@ static int take_reading(PyObject *from, void *to)
 static PyObject *number_or_refusal(uint32_t code, uint64_t number)
 {
     return code == HLC_OK ? number_object(number) : refuse(code, number);
+}
+
+static PyObject *stamp_of(PyObject *self, uint64_t stamp) { return stamp_object(((File *)self)->stamp, stamp); }
+
+/* A stamp, or the exception of a refusal. */
+static PyObject *stamp_or_refusal(PyObject *self, uint32_t code, uint64_t stamp)
+{
+    return code == HLC_OK ? stamp_of(self, stamp) : refuse(code, stamp);
 }
 
 /* ---- Opening and closing ---- */
@@ -91,15 +110,22 @@ static bool take_options(PyObject *args, PyObject *words, PyObject **path, hlc_f
     return true;
 }
 
+/* Makes what a new file has of its own. Returns false with an exception. */
+static bool prepare(File *self)
+{
+    self->has_lock = make_lock(&self->lock) == 0;
+    if (!self->has_lock) PyErr_NoMemory();
+    else self->stamp = stamp_class();
+    return self->stamp != NULL;
+}
+
 static PyObject *file_new(PyTypeObject *type, PyObject *args, PyObject *words)
 {
     PyObject *path = NULL;
     hlc_file_options options = { 0 };
     if (!take_options(args, words, &path, &options)) return NULL;
     File *self = allocate(type);
-    if (self) self->has_lock = make_lock(&self->lock) == 0;
-    if (self && !self->has_lock) PyErr_NoMemory();
-    if (self && (!self->has_lock || !open_path(self, PyBytes_AsString(path), &options))) {
+    if (self && (!prepare(self) || !open_path(self, PyBytes_AsString(path), &options))) {
         Py_DECREF((PyObject *)self);
         self = NULL;
     }
@@ -135,6 +161,7 @@ static void file_dealloc(PyObject *self)
         close_it(file);
         pthread_rwlock_destroy(&file->lock);
     }
+    Py_XDECREF((PyObject *)file->stamp);
     release_object(self);
 }
 
@@ -183,7 +210,7 @@ static PyObject *file_append(PyObject *self, PyObject *args, PyObject *words)
     if (code != HLC_OK) return refuse(code, 0);
     if (add_pairs(batch, pairs)) {
         WITH_FILE(self, code, hlc_file_append(file, node, reading, batch, promise, &word));
-        stamp = number_or_refusal(code, word);
+        stamp = stamp_or_refusal(self, code, word);
     }
     hlc_file_batch_drop(batch);
     return stamp;
@@ -219,7 +246,7 @@ static PyObject *file_write(PyObject *self, PyObject *args, PyObject *words)
     WITH_FILE(self, code, hlc_file_write(file, node, reading, key.at, key.len, value.at, value.len, &word));
     drop_bytes(&key);
     drop_bytes(&value);
-    return number_or_refusal(code, word);
+    return stamp_or_refusal(self, code, word);
 }
 
 static PyObject *file_delete(PyObject *self, PyObject *args, PyObject *words)
@@ -234,7 +261,7 @@ static PyObject *file_delete(PyObject *self, PyObject *args, PyObject *words)
         return NULL;
     WITH_FILE(self, code, hlc_file_delete(file, node, reading, key.at, key.len, &word));
     drop_bytes(&key);
-    return number_or_refusal(code, word);
+    return stamp_or_refusal(self, code, word);
 }
 
 typedef uint32_t (*Event)(hlc_file *, uint16_t, uint64_t, uint64_t *);
@@ -249,7 +276,7 @@ static PyObject *make_event(PyObject *self, Event event, PyObject *args, PyObjec
     if (!PyArg_ParseTupleAndKeywords(args, words, "|$O&O&", names, take_u16, &node, take_reading, &reading))
         return NULL;
     WITH_FILE(self, code, event(file, node, reading, &word));
-    return number_or_refusal(code, word);
+    return stamp_or_refusal(self, code, word);
 }
 
 #define EVENT(name, call) \
@@ -271,7 +298,7 @@ static PyObject *file_receive(PyObject *self, PyObject *args, PyObject *words)
                                      take_reading, &reading))
         return NULL;
     WITH_FILE(self, code, hlc_file_receive(file, node, seen, reading, &word));
-    return number_or_refusal(code, word);
+    return stamp_or_refusal(self, code, word);
 }
 
 static PyObject *file_join(PyObject *self, PyObject *none)
@@ -281,24 +308,27 @@ static PyObject *file_join(PyObject *self, PyObject *none)
     uint32_t code;
     (void)none;
     WITH_FILE(self, code, hlc_file_join(file, &node, &start));
-    return code == HLC_OK ? Py_BuildValue("(HK)", node, (unsigned long long)start) : refuse(code, start);
+    return code == HLC_OK ? Py_BuildValue("(HN)", node, stamp_of(self, start)) : refuse(code, start);
 }
 
 /* ---- What the file has ---- */
 
+/* A call that asks for a number, and whether that is a stamp. */
 typedef struct {
     uint32_t (*call)(hlc_file *, uint64_t *);
+    bool is_stamp;
 } Question;
 
-static const Question FLOOR = { hlc_file_floor }, HORIZON = { hlc_file_horizon };
-static const Question CHECKPOINT = { hlc_file_checkpoint };
+static const Question FLOOR = { hlc_file_floor, true }, HORIZON = { hlc_file_horizon, true };
+static const Question CHECKPOINT = { hlc_file_checkpoint, false };
 
-static PyObject *ask(PyObject *self, void *question)
+static PyObject *ask(PyObject *self, void *asked)
 {
+    const Question *question = asked;
     uint64_t number = 0;
     uint32_t code;
-    WITH_FILE(self, code, ((const Question *)question)->call(file, &number));
-    return number_or_refusal(code, number);
+    WITH_FILE(self, code, question->call(file, &number));
+    return question->is_stamp ? stamp_or_refusal(self, code, number) : number_or_refusal(code, number);
 }
 
 static PyObject *file_checkpoint(PyObject *self, PyObject *none)
@@ -318,6 +348,84 @@ static PyObject *status(PyObject *self, void *none)
                            is.clock,     is.waiting,          is.background };
     Py_ssize_t many = sizeof numbers / sizeof numbers[0];
     return code == HLC_OK ? result_of("Status", numbers, many, is.created ? Py_True : Py_False) : refuse(code, 0);
+}
+
+/* A call of hlcstore.h that asks for a number. */
+typedef struct {
+    uint32_t (*call)(hlc_store *, uint64_t *);
+} StoreQuestion;
+
+static const StoreQuestion ROWS = { hlc_rows }, NODES = { hlc_nodes }, FLOOR_NODE = { hlc_floor_node };
+
+static PyObject *ask_store(PyObject *self, void *question)
+{
+    uint64_t number = 0;
+    uint32_t code;
+    hlc_store mine, *store = &mine;
+    WITH_STORE(self, code, ((const StoreQuestion *)question)->call(store, &number));
+    return number_or_refusal(code, number);
+}
+
+static PyObject *file_floor_node(PyObject *self, PyObject *none)
+{
+    (void)none;
+    return ask_store(self, (void *)&FLOOR_NODE);
+}
+
+static PyObject *sizes(PyObject *self, void *none)
+{
+    uint64_t numbers[4];
+    uint32_t code;
+    hlc_store mine, *store = &mine;
+    (void)none;
+    WITH_STORE(self, code, hlc_sizes(store, &numbers[0], &numbers[1], &numbers[2], &numbers[3]));
+    return code == HLC_OK ? result_of("Sizes", numbers, 4, NULL) : refuse(code, 0);
+}
+
+static PyObject *file_link(PyObject *self, PyObject *from)
+{
+    uint16_t node;
+    uint64_t numbers[2];
+    bool retired = false;
+    uint32_t code;
+    hlc_store mine, *store = &mine;
+    if (!take_u16(from, &node)) return NULL;
+    WITH_STORE(self, code, hlc_link(store, node, &numbers[0], &numbers[1], &retired));
+    return code == HLC_OK ? result_of("Link", numbers, 2, retired ? Py_True : Py_False) : refuse(code, 0);
+}
+
+/* The rows of a key in a buffer, which is made longer until they fit: other threads may add some between two calls. */
+static uint32_t list_versions(PyObject *self, const Bytes *key, uint64_t above, uint64_t to, uint8_t **rows,
+                              size_t *many)
+{
+    size_t room = 0, len = 1024;
+    uint32_t code = HLC_OK;
+    hlc_store mine, *store = &mine;
+    while (code == HLC_OK && len > room) {
+        free(*rows);
+        room = len;
+        *rows = malloc(room);
+        if (!*rows) return HLC_NO_MEMORY;
+        WITH_STORE(self, code, hlc_versions(store, key->at, key->len, above, to, *rows, room, &len, many));
+    }
+    return code;
+}
+
+static PyObject *file_versions(PyObject *self, PyObject *args, PyObject *words)
+{
+    static char *names[] = { "key", "above", "to", NULL };
+    Bytes key = { 0 };
+    uint64_t above = 0, to = UINT64_MAX;
+    uint8_t *rows = NULL;
+    size_t many = 0;
+    if (!PyArg_ParseTupleAndKeywords(args, words, "O&|O&O&:versions", names, take_bytes, &key, take_u64, &above,
+                                     take_u64, &to))
+        return NULL;
+    uint32_t code = list_versions(self, &key, above, to, &rows, &many);
+    PyObject *list = code == HLC_OK ? list_of(rows, many, version_at) : refuse(code, 0);
+    free(rows);
+    drop_bytes(&key);
+    return list;
 }
 
 /* ---- Vacuums ---- */
@@ -342,6 +450,22 @@ static PyObject *file_vacuum_older(PyObject *self, PyObject *milliseconds)
 
 /* ---- Snapshots ---- */
 
+static uint32_t close_snapshot(PyObject *self, uint64_t id)
+{
+    uint64_t stamp;
+    uint32_t code;
+    WITH_FILE(self, code, hlc_file_close_snapshot(file, id, &stamp));
+    return code;
+}
+
+/* The id and the stamp of a snapshot that was opened. Where they cannot be returned, it is closed. */
+static PyObject *opened(PyObject *self, uint64_t id, uint64_t stamp)
+{
+    PyObject *parts = Py_BuildValue("(KN)", (unsigned long long)id, stamp_of(self, stamp));
+    if (!parts) close_snapshot(self, id);
+    return parts;
+}
+
 /* Returns its id and its stamp. */
 static PyObject *file_open_snapshot(PyObject *self, PyObject *at)
 {
@@ -350,16 +474,15 @@ static PyObject *file_open_snapshot(PyObject *self, PyObject *at)
     if (at == Py_None) WITH_FILE(self, code, hlc_file_open_snapshot_at_floor(file, &id, &stamp));
     else if (take_u64(at, &stamp)) WITH_FILE(self, code, hlc_file_open_snapshot(file, stamp, &id));
     else return NULL;
-    return code == HLC_OK ? Py_BuildValue("(KK)", (unsigned long long)id, (unsigned long long)stamp) : refuse(code, id);
+    return code == HLC_OK ? opened(self, id, stamp) : refuse(code, id);
 }
 
 /* A snapshot that is closed already, by itself or with the file, stays closed. */
 static PyObject *file_close_snapshot(PyObject *self, PyObject *from)
 {
-    uint64_t id, stamp;
-    uint32_t code;
+    uint64_t id;
     if (!take_u64(from, &id)) return NULL;
-    WITH_FILE(self, code, hlc_file_close_snapshot(file, id, &stamp));
+    uint32_t code = close_snapshot(self, id);
     if (code != HLC_OK && code != HLC_NO_SNAPSHOT && code != HLC_CLOSED) return refuse(code, 0);
     Py_RETURN_NONE;
 }
@@ -424,15 +547,21 @@ static PyObject *take_pair(const uint8_t **at)
     return Py_BuildValue("(y#y#)", parts[0], lengths[0], parts[1], lengths[1]);
 }
 
-static PyObject *pairs_object(const uint8_t *at, size_t many)
+static PyObject *take_change(const uint8_t **at)
 {
-    PyObject *pairs = PyList_New(0);
-    for (size_t i = 0; pairs && i < many; i++) {
-        PyObject *pair = take_pair(&at);
-        if (!pair || PyList_Append(pairs, pair)) Py_CLEAR(pairs);
-        Py_XDECREF(pair);
-    }
-    return pairs;
+    Py_ssize_t len = (Py_ssize_t)number_at(*at, LENGTH);
+    const char *key = (const char *)*at + LENGTH;
+    *at += LENGTH + (size_t)len;
+    PyObject *value = answer_object(at);
+    return value ? Py_BuildValue("(y#N)", key, len, value) : NULL;
+}
+
+/* The entries of a page, and whether there are more; or the exception of a refusal. */
+static PyObject *page_object(uint32_t code, const uint8_t *at, size_t many, Reader read)
+{
+    if (code != HLC_OK && code != HLC_MORE) return refuse(code, 0);
+    PyObject *entries = list_of(at, many, read);
+    return entries ? Py_BuildValue("(NO)", entries, code == HLC_MORE ? Py_True : Py_False) : NULL;
 }
 
 /* Returns the pairs of a range that fit into so many bytes, and whether there are more. */
@@ -453,10 +582,47 @@ static PyObject *file_scan(PyObject *self, PyObject *args)
     else code = HLC_NO_MEMORY;
     drop_bytes(&start);
     drop_bytes(&end);
-    bool is_answered = code == HLC_OK || code == HLC_MORE;
-    PyObject *pairs = is_answered ? pairs_object(out, many) : refuse(code, 0);
+    PyObject *page = page_object(code, out, many, take_pair);
     free(out);
-    return pairs ? Py_BuildValue("(NO)", pairs, code == HLC_MORE ? Py_True : Py_False) : NULL;
+    return page;
+}
+
+/* The same of the changes from one snapshot to another. */
+static PyObject *file_changes(PyObject *self, PyObject *args)
+{
+    uint64_t before, after;
+    Bytes start = { 0 }, end = { 0 };
+    size_t room, len = 0, many = 0;
+    uint32_t code;
+    hlc_store mine, *store = &mine;
+    if (!PyArg_ParseTuple(args, "O&O&O&O&n:_changes", take_u64, &before, take_u64, &after, take_bytes, &start,
+                          take_bytes, &end, &room))
+        return NULL;
+    uint8_t *out = malloc(room);
+    if (out)
+        WITH_STORE(self, code, hlc_changes(store, before, after, start.at, start.len, end.at, end.len, out, room, &len,
+                                           &many));
+    else code = HLC_NO_MEMORY;
+    drop_bytes(&start);
+    drop_bytes(&end);
+    PyObject *page = page_object(code, out, many, take_change);
+    free(out);
+    return page;
+}
+
+static PyObject *file_digest(PyObject *self, PyObject *args)
+{
+    uint64_t id;
+    Bytes start = { 0 }, end = { 0 };
+    uint8_t out[32];
+    size_t len = 0;
+    uint32_t code;
+    hlc_store mine, *store = &mine;
+    if (!PyArg_ParseTuple(args, "O&O&O&:_digest", take_u64, &id, take_bytes, &start, take_bytes, &end)) return NULL;
+    WITH_STORE(self, code, hlc_digest(store, id, start.at, start.len, end.at, end.len, out, sizeof out, &len));
+    drop_bytes(&start);
+    drop_bytes(&end);
+    return code == HLC_OK ? PyBytes_FromStringAndSize((const char *)out, (Py_ssize_t)len) : refuse(code, 0);
 }
 
 /* ---- The class and the module ---- */
@@ -496,6 +662,13 @@ static PyMethodDef file_methods[] = {
     { "checkpoint", file_checkpoint, METH_NOARGS,
       "checkpoint($self, /)\n--\n\n"
       "Save a checkpoint, and cut the log behind the older one. Return the place in the log up to which it goes." },
+    { "link", file_link, METH_O, "link($self, node, /)\n--\n\nReturn what was appended as a node." },
+    { "floor_node", file_floor_node, METH_NOARGS,
+      "floor_node($self, /)\n--\n\nReturn the number of the first node that holds the floor back." },
+    METHOD("versions", file_versions,
+           "versions($self, /, key, above=0, to=18446744073709551615)\n--\n\n"
+           "Return the stored rows of a key above one stamp and at or below another, the newest first, as\n"
+           "hlcstore.Store.versions does."),
     { "_vacuum_to", file_vacuum_to, METH_O, NULL },
     { "_vacuum_older", file_vacuum_older, METH_O, NULL },
     { "_open_snapshot", file_open_snapshot, METH_O, NULL },
@@ -503,6 +676,8 @@ static PyMethodDef file_methods[] = {
     { "_read", file_read, METH_VARARGS, NULL },
     { "_count", file_count, METH_VARARGS, NULL },
     { "_scan", file_scan, METH_VARARGS, NULL },
+    { "_changes", file_changes, METH_VARARGS, NULL },
+    { "_digest", file_digest, METH_VARARGS, NULL },
     { 0 },
 };
 
@@ -510,6 +685,10 @@ static PyGetSetDef file_fields[] = {
     { "floor", ask, NULL, "The floor: snapshots open up to it. All that is appended later has a greater stamp.",
       (void *)&FLOOR },
     { "horizon", ask, NULL, "The stamp of the last vacuum, or 0. No snapshot opens below it.", (void *)&HORIZON },
+    { "nodes", ask_store, NULL, "How many node numbers are assigned, those of retired nodes too.", (void *)&NODES },
+    { "rows", ask_store, NULL, "How many rows are stored.", (void *)&ROWS },
+    { "sizes", sizes, NULL, "How many rows and keys are stored, and how many bytes these have. In constant time.",
+      NULL },
     { "status", status, NULL, "How the file is.", NULL },
     { 0 },
 };

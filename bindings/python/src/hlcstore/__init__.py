@@ -13,14 +13,13 @@ the child must make no call: another thread may have been in the middle of one. 
 below `Error`. A number that is negative or has too many bits is an OverflowError.
 """
 
-from operator import index as _index
-
 from ._errors import (
     AboveFloor,
     BadBytes,
     BadKey,
     BadLine,
     BelowHorizon,
+    Changed,
     Closed,
     CounterFull,
     Error,
@@ -58,6 +57,7 @@ from ._native import (
     version,
 )
 from ._results import Applied, Certified, Checked, Link, Sizes, Vacuum, VacuumPart, Version
+from ._stamp import Stamp
 
 __all__ = [
     "AboveFloor",
@@ -67,6 +67,7 @@ __all__ = [
     "BadLine",
     "BelowHorizon",
     "Certified",
+    "Changed",
     "Checked",
     "Closed",
     "CounterFull",
@@ -90,6 +91,7 @@ __all__ = [
     "Retired",
     "Sizes",
     "Snapshot",
+    "Stamp",
     "StampNotRising",
     "Store",
     "TooManyNodes",
@@ -111,19 +113,12 @@ __all__ = [
 ]
 
 
-def stamp(physical: int, counter: int = 0) -> int:
-    """Return the word of a stamp with this physical part, below 2^48, and this counter, below 2^16."""
-    physical, counter = _index(physical), _index(counter)
-    if not 0 <= physical < 1 << 48:
-        raise OverflowError("the physical part must be from 0 to 281474976710655")
-    if not 0 <= counter < 1 << 16:
-        raise OverflowError("the counter must be from 0 to 65535")
-    return physical << 16 | counter
+def stamp(physical: int, counter: int = 0) -> Stamp:
+    """Return the stamp with this physical part, below 2^48, and this counter, below 2^16."""
+    return Stamp(physical, counter)
 
 
 def split(stamp: int) -> tuple[int, int]:
     """Return the physical part and the counter of a stamp."""
-    stamp = _index(stamp)
-    if not 0 <= stamp < 1 << 64:
-        raise OverflowError("the stamp must be from 0 to 18446744073709551615")
-    return stamp >> 16, stamp & 0xFFFF
+    whole = Stamp.from_number(stamp)
+    return whole.physical, whole.counter

@@ -3,6 +3,7 @@
 from typing import ClassVar
 
 from . import _native
+from ._stamp import Stamp, stamp_of
 
 
 class Error(Exception):
@@ -11,30 +12,28 @@ class Error(Exception):
     code: ClassVar[int] = 0
     """The number of the refusal in hlcstore.h."""
     word: int
-    """The word that hlcstore.h names with the refusal, or 0."""
+    """The word that hlcstore.h names with the refusal, a number or a `Stamp`, or 0."""
     accepted: int
     """How many items `accept_all` or `accept_items`, or records `apply_records`, accepted before the refusal."""
     used: int
     """How many bytes of the log these have. The next call of `accept_items` or `apply_records` goes on from there."""
-    threshold: int
+    threshold: Stamp
     """The greatest retention threshold among the records before the refusal, or 0."""
     _word_is_stamp: ClassVar[bool] = False
 
     def __init__(self, word: int = 0, accepted: int = 0, used: int = 0, threshold: int = 0) -> None:
         super().__init__(word, accepted, used, threshold)
-        self.word = word
+        self.word = stamp_of(word) if self._word_is_stamp else word
         self.accepted = accepted
         self.used = used
-        self.threshold = threshold
+        self.threshold = stamp_of(threshold)
 
     def _text(self) -> str:
         return _native.error_text(self.code)
 
     def __str__(self) -> str:
         text = self._text()
-        if self._word_is_stamp:
-            return f"{text} ({self.word >> 16}.{self.word & 0xFFFF})"
-        return f"{text} ({self.word})" if self.word else text
+        return f"{text} ({self.word})" if self.word or self._word_is_stamp else text
 
 
 class NoNode(Error):
@@ -139,6 +138,10 @@ class NoIncrement(Error):
 
 class NotLater(Error):
     code = _native.HLC_NOT_LATER
+
+
+class Changed(Error):
+    code = _native.HLC_CHANGED
 
 
 REFUSALS: dict[int, type[Error]] = {refusal.code: refusal for refusal in Error.__subclasses__()}

@@ -1,12 +1,15 @@
 """What calls return that have several numbers to return."""
 
-from typing import NamedTuple
+from collections.abc import Callable
+from typing import Any, NamedTuple, get_type_hints
+
+from ._stamp import Stamp, stamp_of
 
 
 class Vacuum(NamedTuple):
     """What a vacuum left up to a stamp, and what it dropped there."""
 
-    stamp: int
+    stamp: Stamp
     """The stamp: that of the call, or the floor."""
     kept: int
     """How many rows are left up to it."""
@@ -19,7 +22,7 @@ class Vacuum(NamedTuple):
 class VacuumPart(NamedTuple):
     """What a part of a vacuum left of the rows of its keys up to a stamp, and what it dropped there."""
 
-    stamp: int
+    stamp: Stamp
     """The stamp of the call."""
     kept: int
     """How many rows of these keys are left up to it."""
@@ -45,7 +48,7 @@ class Certified(NamedTuple):
 class Version(NamedTuple):
     """A stored row of a key."""
 
-    stamp: int
+    stamp: Stamp
     """The stamp of the write, or of the deletion."""
     node: int
     """The number of the node that issued it."""
@@ -58,7 +61,7 @@ class Applied(NamedTuple):
 
     records: int
     """How many were applied, or had been before."""
-    threshold: int
+    threshold: Stamp
     """The greatest retention threshold among them, or 0."""
 
 
@@ -67,7 +70,7 @@ class Link(NamedTuple):
 
     next: int
     """The number of the node's next item."""
-    head: int
+    head: Stamp
     """The stamp of its last accepted item, or of its start."""
     retired: bool
     """Whether its retirement was accepted."""
@@ -118,7 +121,7 @@ class Status(NamedTuple):
     """The place that the newest checkpoint has."""
     log_bytes: int
     """How many bytes of records are behind it."""
-    clock: int
+    clock: Stamp
     """No stamp above this one was accepted or returned."""
     waiting: int
     """How many batches are on disk, but not accepted, after `Later`."""
@@ -126,3 +129,20 @@ class Status(NamedTuple):
     """The code of the last checkpoint in the background, or 0."""
     created: bool
     """Whether opening made the file."""
+
+
+def _is_stamp_of(kind: type) -> list[bool]:
+    """Of each field of a class whether it is a stamp."""
+    return [annotation is Stamp for annotation in get_type_hints(kind).values()]
+
+
+_CLASSES: dict[str, tuple[Callable[..., tuple[Any, ...]], list[bool]]] = {
+    kind.__name__: (kind, _is_stamp_of(kind))
+    for kind in (Vacuum, VacuumPart, Certified, Version, Applied, Link, Sizes, Checked, Status)
+}
+
+
+def result(name: str, values: tuple[Any, ...]) -> tuple[Any, ...]:
+    """Return a result of the class of this name, in whose values stamps are numbers. The extensions call it."""
+    kind, is_stamp = _CLASSES[name]
+    return kind(*(stamp_of(value) if is_one else value for value, is_one in zip(values, is_stamp, strict=True)))

@@ -19,8 +19,9 @@ from enum import IntEnum
 from types import TracebackType
 from typing import TYPE_CHECKING, Self, TypeVar, final, overload
 
-from ._errors import REFUSALS, Error, NoValue
+from ._errors import REFUSALS, Closed, Error, NoSnapshot, NoValue
 from ._results import Status, Vacuum
+from ._stamp import Stamp
 
 try:
     from . import _file
@@ -204,7 +205,7 @@ class Snapshot:
         return self._id
 
     @property
-    def stamp(self) -> int:
+    def stamp(self) -> Stamp:
         """The stamp at which it was opened."""
         return self._stamp
 
@@ -223,7 +224,7 @@ class Snapshot:
         self.close()
 
     def __repr__(self) -> str:
-        return f"<Snapshot {self._id} at {self._stamp >> 16}.{self._stamp & 0xFFFF}>"
+        return f"<Snapshot {self._id} at {self._stamp}>"
 
     def __getitem__(self, key: "_ReadableBuffer", /) -> bytes:
         value = self._file._read(self._id, key)
@@ -268,6 +269,12 @@ class Snapshot:
         """Iterate over such keys and their values. They are read in pieces, so that writes wait for a piece at most."""
         return self._pairs(bytes(memoryview(start)), bytes(memoryview(end)), reverse)
 
+    def values(
+        self, start: "_ReadableBuffer" = b"", end: "_ReadableBuffer" = b"", *, reverse: bool = False
+    ) -> Iterator[bytes]:
+        """Iterate over the values of such keys, in the order of these."""
+        return (value for _, value in self.items(start, end, reverse=reverse))
+
     def _pairs(self, start: bytes, end: bytes, reverse: bool) -> Iterator[tuple[bytes, bytes]]:
         room, has_more = _FIRST_ROOM, True
         while has_more:
@@ -278,6 +285,30 @@ class Snapshot:
                 end = pairs[-1][0]
             elif pairs:
                 start = pairs[-1][0] + b"\0"
+
+    def changes(
+        self, after: "Snapshot", start: "_ReadableBuffer" = b"", end: "_ReadableBuffer" = b""
+    ) -> Iterator[tuple[bytes, bytes | None]]:
+        """Iterate over such keys whose answers in another snapshot of the file differ, each with its value there, or
+        None. Either snapshot may be the older one."""
+        if not isinstance(after, Snapshot):
+            raise TypeError(f"a Snapshot of a file is required, not {type(after)}")
+        if after._file is not self._file:
+            raise NoSnapshot
+        return self._changes(after, bytes(memoryview(start)), bytes(memoryview(end)))
+
+    def _changes(self, after: "Snapshot", start: bytes, end: bytes) -> Iterator[tuple[bytes, bytes | None]]:
+        room, has_more = _FIRST_ROOM, True
+        while has_more:
+            changes, has_more = self._file._changes(self._id, after._id, start, end, room)
+            room = _ROOM
+            yield from changes
+            if changes:
+                start = changes[-1][0] + b"\0"
+
+    def digest(self, start: "_ReadableBuffer" = b"", end: "_ReadableBuffer" = b"") -> bytes:
+        """Return the SHA-256 of such keys and their values. Replicas compare it."""
+        return self._file._digest(self._id, start, end)
 
     def last_below(self, key: "_ReadableBuffer" = b"") -> tuple[bytes, bytes] | None:
         """Return the last key below this one and its value, or None. No key means the last of all."""
@@ -293,7 +324,7 @@ class Batch:
     """Writes and deletions that a with statement appends at its end, all or none; and none where it is left by an
     exception. One thread at a time uses a batch."""
 
-    stamp: int | None
+    stamp: Stamp | None
     """The stamp of the last of them, at which a snapshot has all; None before the end, and of an empty batch."""
 
     def __init__(self, file: "File", node: int, reading: int | None, promise: int) -> None:
@@ -336,6 +367,13 @@ class File(_file.File):
     def __exit__(self, *exception: type[BaseException] | BaseException | TracebackType | None) -> None:
         self.close()
 
+    def __repr__(self) -> str:
+        try:
+            floor, rows = self.floor, self.rows
+        except Closed:
+            return "<File, closed>"
+        return f"<File, floor={floor}, rows={rows}>"
+
     def append(
         self,
         pairs: "_Pairs",
@@ -343,7 +381,7 @@ class File(_file.File):
         node: int = 0,
         reading: int | None = None,
         promise: int = Promise.DEFAULT,
-    ) -> int:
+    ) -> Stamp:
         """Append writes, as pairs of a key and its value, and deletions, with None as the value: all or none.
 
         Return the stamp of the last one, at which a snapshot has all of them. An empty batch does nothing.

@@ -79,6 +79,17 @@ PyObject *answer_object(const uint8_t **at)
     return PyBytes_FromStringAndSize((const char *)*at - len, (Py_ssize_t)len);
 }
 
+PyObject *list_of(const uint8_t *at, size_t many, Reader read)
+{
+    PyObject *list = PyList_New(0);
+    for (size_t i = 0; list && i < many; i++) {
+        PyObject *entry = read(&at);
+        if (!entry || PyList_Append(list, entry)) Py_CLEAR(list);
+        Py_XDECREF(entry);
+    }
+    return list;
+}
+
 /* Work on fewer bytes is shorter than the 5 ms for which Python lets a thread run at a time. */
 enum { MANY_BYTES = 1 << 20 };
 

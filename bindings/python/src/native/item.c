@@ -121,6 +121,9 @@ static const char *const REPR_FORMATS[] = {
     "Item.retire(%d, %llu, %llu)",
 };
 
+/* A format that is shorter ignores the last values. */
+static const char *const REDUCE_FORMATS[] = { "N(HKKOO)", "N(HKKO)", "N(HKK)", "N(HKK)" };
+
 static PyObject *item_repr(PyObject *self)
 {
     const Content *item = &((Item *)self)->content;
@@ -134,6 +137,17 @@ static PyObject *item_kind(PyObject *self, void *none)
     return PyUnicode_FromString(KIND_NAMES[((Item *)self)->content.kind]);
 }
 
+/* The call that makes the same item, as a pickle has it. */
+static PyObject *item_reduce(PyObject *self, PyObject *none)
+{
+    const Content *item = &((Item *)self)->content;
+    PyObject *maker = attribute_of((PyObject *)Py_TYPE(self), KIND_NAMES[item->kind]);
+    (void)none;
+    return maker ? Py_BuildValue(REDUCE_FORMATS[item->kind], maker, item->node, (unsigned long long)item->number,
+                                 (unsigned long long)item->stamp, item->key.owner, item->value.owner)
+                 : NULL;
+}
+
 static PyMethodDef item_methods[] = {
     CLASS_METHOD("write", item_write,
                  "write($type, /, node, number, stamp, key, value)\n--\n\nReturn the item of a write."),
@@ -143,6 +157,11 @@ static PyMethodDef item_methods[] = {
                  "report($type, /, node, number, stamp)\n--\n\nReturn the item of a report."),
     CLASS_METHOD("retire", item_retire,
                  "retire($type, /, node, number, stamp)\n--\n\nReturn the item of a retirement."),
+    CLASS_METHOD("decode", item_decode,
+                 "decode($type, /, log, at=0)\n--\n\n"
+                 "Return the item of a log that begins at a place in its bytes, and the place after it.\n\n"
+                 "BadBytes is raised where there is none; its word is 1 if the bytes end within the item."),
+    { "__reduce__", item_reduce, METH_NOARGS, "__reduce__($self, /)\n--\n\nReturn what makes the same item." },
     { "__bytes__", item_bytes, METH_NOARGS,
       "__bytes__($self, /)\n--\n\nReturn the item as bytes, for a log that Store.accept_items reads." },
     { 0 },
@@ -151,13 +170,19 @@ static PyMethodDef item_methods[] = {
 static PyMemberDef item_members[] = {
     { "node", T_USHORT, offsetof(Item, content.node), READONLY, "The number of the node that issued it." },
     { "number", T_ULONGLONG, offsetof(Item, content.number), READONLY, "Its number on the node's link, from 0 on." },
-    { "stamp", T_ULONGLONG, offsetof(Item, content.stamp), READONLY, "Its stamp." },
     { "key", T_OBJECT, offsetof(Item, content.key.owner), READONLY, "The key of a write or a deletion, or None." },
     { "value", T_OBJECT, offsetof(Item, content.value.owner), READONLY, "The value of a write, or None." },
     { 0 },
 };
 
+static PyObject *item_stamp(PyObject *self, void *none)
+{
+    (void)none;
+    return stamp_object(classes_of(self)->stamp, ((Item *)self)->content.stamp);
+}
+
 static PyGetSetDef item_fields[] = {
+    { "stamp", item_stamp, NULL, "Its stamp.", NULL },
     { "kind", item_kind, NULL, "What it is: 'write', 'delete', 'report' or 'retire'.", NULL },
     { 0 },
 };

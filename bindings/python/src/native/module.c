@@ -18,9 +18,10 @@ static bool add_class(PyObject *module, PyType_Spec *spec, PyTypeObject **to)
 static bool add_classes(PyObject *module)
 {
     Classes *classes = PyModule_GetState(module);
-    return add_class(module, &item_spec, &classes->item) && add_class(module, &node_spec, &classes->node)
-           && add_class(module, &store_spec, &classes->store) && add_class(module, &snapshot_spec, &classes->snapshot)
-           && make_class(module, &pairs_spec, &classes->pairs);
+    classes->stamp = stamp_class();
+    return classes->stamp && add_class(module, &item_spec, &classes->item)
+           && add_class(module, &node_spec, &classes->node) && add_class(module, &store_spec, &classes->store)
+           && add_class(module, &snapshot_spec, &classes->snapshot) && make_class(module, &pairs_spec, &classes->pairs);
 }
 
 static int fill_module(PyObject *module)
@@ -43,6 +44,7 @@ static int visit_module(PyObject *module, visitproc visit, void *arg)
     Py_VISIT(classes->store);
     Py_VISIT(classes->snapshot);
     Py_VISIT(classes->pairs);
+    Py_VISIT(classes->stamp);
     return 0;
 }
 
@@ -54,6 +56,7 @@ static int clear_module(PyObject *module)
     Py_CLEAR(classes->store);
     Py_CLEAR(classes->snapshot);
     Py_CLEAR(classes->pairs);
+    Py_CLEAR(classes->stamp);
     return 0;
 }
 

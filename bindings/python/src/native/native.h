@@ -3,10 +3,11 @@
  * Threads. A store has a lock that many calls may take to ask, or one call to change it. A thread lets go of the
  * interpreter before it waits for a store's lock, and releases the store's lock before it waits for the interpreter.
  * So threads never wait for each other in a ring. Between lock and unlock no object of Python is made or dropped: that
- * could collect garbage, which closes snapshots. Nodes and items have no lock: their calls keep the interpreter.
+ * could collect garbage, which closes snapshots. Nodes and items have no lock: their calls keep the interpreter. The
+ * gate of a store, which a saving keeps while it makes calls of Python, is described in saving.c.
  *
- * Bytes. A call uses only buffers of its own. An argument that is not a bytes object is copied, since its owner could
- * change it while the call runs without the interpreter. */
+ * Bytes. A call that may let go of the interpreter uses only buffers of its own: an argument that is not a bytes object
+ * is copied, since its owner could change it meanwhile. */
 #ifndef HLCSTORE_NATIVE_H
 #define HLCSTORE_NATIVE_H
 #define PY_SSIZE_T_CLEAN
@@ -23,6 +24,7 @@ typedef struct {
     PyTypeObject *store;
     PyTypeObject *snapshot;
     PyTypeObject *pairs;
+    PyTypeObject *stamp; /* that of hlcstore/_stamp.py */
 } Classes;
 
 /* A class without subclasses, whose attributes stay as they are. */
@@ -43,6 +45,9 @@ void *allocate(PyTypeObject *type);
 
 /* Frees an object, whose content is released. */
 void release_object(PyObject *self);
+
+/* An attribute of an object, or NULL with an exception. */
+PyObject *attribute_of(PyObject *object, const char *name);
 
 /* Makes a lock in which a waiting writer comes before later readers. Returns an error of the system, or 0. */
 int make_lock(pthread_rwlock_t *lock);
@@ -75,6 +80,12 @@ uint64_t number_at(const uint8_t *at, size_t size);
  * answer's place, and then that of what follows. */
 PyObject *answer_object(const uint8_t **at);
 
+/* Makes an object of the entry at a place, which becomes that of the next one. Returns NULL with an exception. */
+typedef PyObject *(*Reader)(const uint8_t **at);
+
+/* A list of so many entries. */
+PyObject *list_of(const uint8_t *at, size_t many, Reader read);
+
 /* Lets go of the interpreter for work on so many bytes, if they are many. Returns what take_back needs: the thread, or
  * NULL. Where other threads of Python run, taking it back may last milliseconds. */
 PyThreadState *let_go_for(size_t len);
@@ -91,8 +102,17 @@ PyObject *refuse(uint32_t code, uint64_t word);
 /* Raises the exception of a refusal of one of many items: so many were accepted before it, in so many bytes. */
 PyObject *refuse_after(uint32_t code, uint64_t word, size_t accepted, size_t used, uint64_t threshold);
 
+/* The class Stamp of hlcstore/_stamp.py, or NULL with an exception. */
+PyTypeObject *stamp_class(void);
+
+/* A stamp of this class. No function of Python is called: it may be made after a call has changed something. */
+PyObject *stamp_object(PyTypeObject *stamp_type, uint64_t stamp);
+
 /* Returns a named tuple of hlcstore/_results.py, of these numbers, and of an object after them unless it is NULL. */
 PyObject *result_of(const char *name, const uint64_t *numbers, Py_ssize_t many, PyObject *last);
+
+/* A stored row of a key, as hlc_versions writes it. It is a Reader. */
+PyObject *version_at(const uint8_t **at);
 
 /* What a call of the library says of an answer: its name, or its text. */
 PyObject *words_of(PyObject *answer, void (*call)(uint32_t, uint8_t *, size_t, size_t *));
@@ -125,6 +145,11 @@ void drop_content(Content *content);
 
 extern PyType_Spec item_spec;
 
+/* ---- decode.c ---- */
+
+/* A method of the class of items. */
+PyObject *item_decode(PyObject *type, PyObject *args, PyObject *words);
+
 /* ---- record.c ---- */
 
 extern PyMethodDef record_functions[];
@@ -138,25 +163,56 @@ typedef struct {
 
 extern PyType_Spec node_spec;
 
+/* As many snapshots as a store may have open. */
+enum { MOST_OPEN = 1024 };
+
+/* A thread that saves a store in pieces, and the snapshots that were dropped meanwhile, which it closes at its end. */
+typedef struct Saver {
+    pthread_t thread;
+    bool is_gated; /* whether it has the gate */
+    struct Saver *next;
+    size_t many_dropped;
+    uint64_t dropped[MOST_OPEN];
+} Saver;
+
 /* ---- store.c ---- */
 
 typedef struct {
     PyObject_HEAD
     hlc_store handle;
     pthread_rwlock_t lock;
-    bool has_lock;
+    pthread_rwlock_t gate; /* a saving has its reading side, and a change that may wait the other, before the lock */
+    bool has_locks;
+    bool is_gated; /* whether the change that has the lock has the gate too */
+    Saver *savers; /* under the lock of the interpreter */
     uint64_t word; /* the word of the checkpoint of which it was restored */
 } Store;
 
 /* Whether a call may keep the interpreter while it runs. */
 typedef enum { SHORT, LONG } Duration;
 
-/* Locks a store. Returns what unlock needs: the thread that let go of the interpreter, or NULL. */
+/* Locks a store. Returns what unlock needs: the thread that let go of the interpreter, or NULL. A change waits until no
+ * other thread saves the store. */
 PyThreadState *lock_to_ask(Store *store, Duration duration);
 PyThreadState *lock_to_change(Store *store, Duration duration);
 void unlock(Store *store, PyThreadState *thread);
 
 extern PyType_Spec store_spec;
+
+/* ---- saving.c ---- */
+
+/* A method of a store. */
+PyObject *store_checkpoint_to(PyObject *self, PyObject *args, PyObject *words);
+
+/* Whether this thread saves a store. */
+bool is_saver(const Store *store);
+
+/* Whether a thread may wait at the gate of a store: not at the end of the interpreter, which ends threads within calls
+ * of Python, so that the gate may be kept for good. */
+bool may_wait_at_gate(void);
+
+/* Leaves a snapshot to a thread that saves the store, which closes it at the end. Returns false where there is none. */
+bool close_later(Store *store, uint64_t id);
 
 /* ---- vacuum.c ---- */
 
@@ -198,6 +254,9 @@ PyObject *store_snapshot(PyObject *self, PyObject *args, PyObject *words);
 PyObject *store_snapshots(PyObject *self, PyObject *none);
 PyObject *store_close_snapshot(PyObject *self, PyObject *id);
 
+/* Closes a snapshot, if it is open. */
+void close_snapshot_id(Store *store, uint64_t id);
+
 extern PyType_Spec snapshot_spec;
 
 /* ---- read_all.c ---- */
@@ -207,10 +266,11 @@ PyObject *snapshot_read_all(PyObject *self, PyObject *keys);
 
 /* ---- pairs.c ---- */
 
-/* What an iterator gives: keys, alone or with their values, in byte order or from the last on; or the keys whose
+/* What an iterator gives: keys, values or both, in the byte order of the keys or from the last on; or the keys whose
  * answers differ in another snapshot, with the values there. */
+typedef enum { KEYS, VALUES, PAIRS } Entries;
 typedef struct {
-    bool with_values;
+    Entries entries;
     bool is_reverse;
     Snapshot *after; /* that other snapshot, or NULL */
 } Listed;

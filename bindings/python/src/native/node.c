@@ -102,7 +102,7 @@ static PyObject *node_send(PyObject *self, PyObject *from)
     uint64_t reading, word;
     if (!take_u64(from, &reading)) return NULL;
     uint32_t code = hlc_node_send(&((Node *)self)->node, reading, &word);
-    return code == HLC_OK ? number_object(word) : refuse(code, word);
+    return code == HLC_OK ? stamp_object(classes_of(self)->stamp, word) : refuse(code, word);
 }
 
 static PyObject *node_receive(PyObject *self, PyObject *args, PyObject *words)
@@ -112,7 +112,7 @@ static PyObject *node_receive(PyObject *self, PyObject *args, PyObject *words)
     if (!PyArg_ParseTupleAndKeywords(args, words, "O&O&:receive", names, take_u64, &seen, take_u64, &reading))
         return NULL;
     uint32_t code = hlc_node_receive(&((Node *)self)->node, seen, reading, &word);
-    return code == HLC_OK ? number_object(word) : refuse(code, word);
+    return code == HLC_OK ? stamp_object(classes_of(self)->stamp, word) : refuse(code, word);
 }
 
 static PyObject *node_raise_to(PyObject *self, PyObject *from)
@@ -126,8 +126,15 @@ static PyObject *node_raise_to(PyObject *self, PyObject *from)
 static PyObject *node_repr(PyObject *self)
 {
     const hlc_node *node = &((Node *)self)->node;
-    return PyUnicode_FromFormat("<Node %d, last=%llu, next=%llu>", node->id, (unsigned long long)node->last,
+    return PyUnicode_FromFormat("<Node %d, last=%llu.%llu, next=%llu>", node->id,
+                                (unsigned long long)(node->last >> 16), (unsigned long long)(node->last & 0xffff),
                                 (unsigned long long)node->next);
+}
+
+static PyObject *node_last(PyObject *self, void *none)
+{
+    (void)none;
+    return stamp_object(classes_of(self)->stamp, ((Node *)self)->node.last);
 }
 
 static PyMethodDef node_methods[] = {
@@ -151,9 +158,13 @@ static PyMethodDef node_methods[] = {
 
 static PyMemberDef node_members[] = {
     { "id", T_USHORT, offsetof(Node, node.id), READONLY, "Its number." },
-    { "last", T_ULONGLONG, offsetof(Node, node.last), READONLY, "The stamp of its last event." },
     { "next", T_ULONGLONG, offsetof(Node, node.next), READONLY, "The number of its next item." },
     { "retired", T_BOOL, offsetof(Node, node.retired), READONLY, "Whether it retired." },
+    { 0 },
+};
+
+static PyGetSetDef node_fields[] = {
+    { "last", node_last, NULL, "The stamp of its last event.", NULL },
     { 0 },
 };
 
@@ -165,6 +176,7 @@ static PyType_Slot node_slots[] = {
     { Py_tp_dealloc, release_object },
     { Py_tp_methods, node_methods },
     { Py_tp_members, node_members },
+    { Py_tp_getset, node_fields },
     { Py_tp_repr, node_repr },
     { 0, NULL },
 };

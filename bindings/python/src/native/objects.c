@@ -15,6 +15,15 @@ void release_object(PyObject *self)
     Py_DECREF((PyObject *)type);
 }
 
+/* A name of its own in each call would stay in the interpreter's cache of attributes, in one place after another. */
+PyObject *attribute_of(PyObject *object, const char *name)
+{
+    PyObject *interned = PyUnicode_InternFromString(name);
+    PyObject *attribute = interned ? PyObject_GetAttr(object, interned) : NULL;
+    Py_XDECREF(interned);
+    return attribute;
+}
+
 /* Where the library of C lets readers pass by a waiting writer, readers could keep it waiting for good. */
 int make_lock(pthread_rwlock_t *lock)
 {

@@ -61,7 +61,7 @@ static uint32_t make_call(Pairs *pairs, hlc_store *store, size_t *many)
     if (listed->after)
         return hlc_changes(store, id, listed->after->id, start->at, start->len, end->at, end->len, pairs->buffer, ROOM,
                            &pairs->len, many);
-    return (listed->is_reverse ? hlc_scan_back : listed->with_values ? hlc_scan : hlc_scan_keys)(
+    return (listed->is_reverse ? hlc_scan_back : listed->entries == KEYS ? hlc_scan_keys : hlc_scan)(
         store, id, start->at, start->len, end->at, end->len, pairs->buffer, ROOM, &pairs->len, many);
 }
 
@@ -143,10 +143,20 @@ static PyObject *key_at(const Pairs *pairs, size_t *at)
     return key;
 }
 
+static PyObject *value_at(const Pairs *pairs, size_t *at)
+{
+    *at += LENGTH + (size_t)number_at(pairs->buffer + *at, LENGTH);
+    return part_at(pairs, at);
+}
+
 static PyObject *entry_at(const Pairs *pairs, size_t *at)
 {
     if (pairs->listed.after) return change_at(pairs, at);
-    return pairs->listed.with_values ? pair_at(pairs, at) : key_at(pairs, at);
+    switch (pairs->listed.entries) {
+    case KEYS: return key_at(pairs, at);
+    case VALUES: return value_at(pairs, at);
+    default: return pair_at(pairs, at);
+    }
 }
 
 static PyObject *take_next(Pairs *pairs)

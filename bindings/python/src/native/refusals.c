@@ -33,6 +33,7 @@ static const struct {
     REFUSAL(HLC_NOT_FEWEST),
     REFUSAL(HLC_NO_INCREMENT),
     REFUSAL(HLC_NOT_LATER),
+    REFUSAL(HLC_CHANGED),
 #undef REFUSAL
 };
 
@@ -43,13 +44,23 @@ bool add_refusal_numbers(PyObject *module)
     return true;
 }
 
+/* Calls a function of a module, and drops the reference to its arguments, which may be NULL with an exception. */
+static PyObject *call_function(const char *module_name, const char *name, PyObject *arguments)
+{
+    PyObject *module = arguments ? PyImport_ImportModule(module_name) : NULL;
+    PyObject *function = module ? attribute_of(module, name) : NULL;
+    PyObject *result = function ? PyObject_CallObject(function, arguments) : NULL;
+    Py_XDECREF(function);
+    Py_XDECREF(module);
+    Py_XDECREF(arguments);
+    return result;
+}
+
 PyObject *refuse_after(uint32_t code, uint64_t word, size_t accepted, size_t used, uint64_t threshold)
 {
-    PyObject *errors = PyImport_ImportModule("hlcstore._errors");
-    if (!errors) return NULL;
-    PyObject *error = PyObject_CallMethod(errors, "refusal", "IKnnK", (unsigned int)code, (unsigned long long)word,
-                                          (Py_ssize_t)accepted, (Py_ssize_t)used, (unsigned long long)threshold);
-    Py_DECREF(errors);
+    PyObject *arguments = Py_BuildValue("(IKnnK)", (unsigned int)code, (unsigned long long)word, (Py_ssize_t)accepted,
+                                        (Py_ssize_t)used, (unsigned long long)threshold);
+    PyObject *error = call_function("hlcstore._errors", "refusal", arguments);
     if (!error) return NULL;
     PyErr_SetObject((PyObject *)Py_TYPE(error), error);
     Py_DECREF(error);
@@ -57,6 +68,24 @@ PyObject *refuse_after(uint32_t code, uint64_t word, size_t accepted, size_t use
 }
 
 PyObject *refuse(uint32_t code, uint64_t word) { return refuse_after(code, word, 0, 0, 0); }
+
+PyTypeObject *stamp_class(void)
+{
+    PyObject *module = PyImport_ImportModule("hlcstore._stamp");
+    PyObject *stamp_type = module ? attribute_of(module, "Stamp") : NULL;
+    Py_XDECREF(module);
+    return (PyTypeObject *)stamp_type;
+}
+
+/* It is made as int makes it, not by a call: that may be refused where calls are too deep. */
+PyObject *stamp_object(PyTypeObject *stamp_type, uint64_t stamp)
+{
+    newfunc new_number = (newfunc)PyType_GetSlot(&PyLong_Type, Py_tp_new);
+    PyObject *arguments = Py_BuildValue("(K)", (unsigned long long)stamp);
+    PyObject *made = arguments ? new_number(stamp_type, arguments, NULL) : NULL;
+    Py_XDECREF(arguments);
+    return made;
+}
 
 /* A tuple of the numbers, and of another object after them, if there is one. */
 static PyObject *values_of(const uint64_t *numbers, Py_ssize_t many, PyObject *last)
@@ -74,14 +103,20 @@ static PyObject *values_of(const uint64_t *numbers, Py_ssize_t many, PyObject *l
 
 PyObject *result_of(const char *name, const uint64_t *numbers, Py_ssize_t many, PyObject *last)
 {
-    PyObject *results = PyImport_ImportModule("hlcstore._results");
-    if (!results) return NULL;
-    PyObject *type = PyObject_GetAttrString(results, name), *values = values_of(numbers, many, last), *result = NULL;
-    if (type && values) result = PyObject_CallObject(type, values);
-    Py_XDECREF(values);
-    Py_XDECREF(type);
-    Py_DECREF(results);
-    return result;
+    PyObject *values = values_of(numbers, many, last);
+    return values ? call_function("hlcstore._results", "result", Py_BuildValue("(sN)", name, values)) : NULL;
+}
+
+/* The stamp and the node before a row's answer. */
+enum { STAMP = 8, NODE = 2 };
+
+PyObject *version_at(const uint8_t **at)
+{
+    uint64_t numbers[] = { number_at(*at, STAMP), number_at(*at + STAMP, NODE) };
+    *at += STAMP + NODE;
+    PyObject *value = answer_object(at), *version = value ? result_of("Version", numbers, 2, value) : NULL;
+    Py_XDECREF(value);
+    return version;
 }
 
 PyObject *words_of(PyObject *from, void (*call)(uint32_t, uint8_t *, size_t, size_t *))

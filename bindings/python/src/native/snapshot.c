@@ -49,25 +49,30 @@ PyObject *store_close_snapshot(PyObject *self, PyObject *from)
     uint64_t id, stamp;
     if (!take_u64(from, &id)) return NULL;
     uint32_t code = close_id((Store *)self, id, &stamp);
-    return code == HLC_OK ? number_object(stamp) : refuse(code, 0);
+    return code == HLC_OK ? stamp_object(classes_of(self)->stamp, stamp) : refuse(code, 0);
+}
+
+void close_snapshot_id(Store *store, uint64_t id)
+{
+    uint64_t stamp;
+    close_id(store, id, &stamp);
 }
 
 /* A snapshot that is closed already stays closed. */
 static PyObject *snapshot_close(PyObject *self, PyObject *none)
 {
     Snapshot *snapshot = (Snapshot *)self;
-    uint64_t stamp;
     (void)none;
     snapshot->is_owner = false;
-    close_id(snapshot->store, snapshot->id, &stamp);
+    close_snapshot_id(snapshot->store, snapshot->id);
     Py_RETURN_NONE;
 }
 
 static void snapshot_dealloc(PyObject *self)
 {
     Snapshot *snapshot = (Snapshot *)self;
-    uint64_t stamp;
-    if (snapshot->is_owner) close_id(snapshot->store, snapshot->id, &stamp);
+    if (snapshot->is_owner && !close_later(snapshot->store, snapshot->id))
+        close_snapshot_id(snapshot->store, snapshot->id);
     Py_DECREF((PyObject *)snapshot->store);
     release_object(self);
 }
@@ -78,9 +83,6 @@ static PyObject *snapshot_enter(PyObject *self, PyObject *none)
     Py_INCREF(self);
     return self;
 }
-
-/* As many snapshots as a store may have open. */
-enum { MOST_OPEN = 1024 };
 
 typedef struct {
     uint64_t id;
@@ -257,7 +259,7 @@ static PyObject *snapshot_digest(PyObject *self, PyObject *args, PyObject *words
 }
 
 /* An iterator over a range, which may begin at its end. */
-static PyObject *listing(PyObject *self, PyObject *args, PyObject *words, bool with_values)
+static PyObject *listing(PyObject *self, PyObject *args, PyObject *words, Entries entries)
 {
     static char *names[] = { "start", "end", "reverse", NULL };
     Range range = { 0 };
@@ -265,18 +267,23 @@ static PyObject *listing(PyObject *self, PyObject *args, PyObject *words, bool w
     if (!PyArg_ParseTupleAndKeywords(args, words, "|O&O&$p", names, take_bytes, &range.start, take_bytes, &range.end,
                                      &is_reverse))
         return NULL;
-    Listed listed = { .with_values = with_values, .is_reverse = is_reverse };
+    Listed listed = { .entries = entries, .is_reverse = is_reverse };
     return pairs_of((Snapshot *)self, range.start, range.end, listed);
 }
 
 static PyObject *snapshot_items(PyObject *self, PyObject *args, PyObject *words)
 {
-    return listing(self, args, words, true);
+    return listing(self, args, words, PAIRS);
+}
+
+static PyObject *snapshot_values(PyObject *self, PyObject *args, PyObject *words)
+{
+    return listing(self, args, words, VALUES);
 }
 
 static PyObject *snapshot_keys(PyObject *self, PyObject *args, PyObject *words)
 {
-    return listing(self, args, words, false);
+    return listing(self, args, words, KEYS);
 }
 
 static PyObject *snapshot_iter(PyObject *self)
@@ -388,6 +395,9 @@ static PyMethodDef snapshot_methods[] = {
            "In reverse the last key comes first."),
     METHOD("items", snapshot_items,
            "items($self, /, start=b'', end=b'', *, reverse=False)\n--\n\nIterate over such keys and their values."),
+    METHOD("values", snapshot_values,
+           "values($self, /, start=b'', end=b'', *, reverse=False)\n--\n\n"
+           "Iterate over the values of such keys, in the order of these."),
     { "__reversed__", snapshot_reversed, METH_NOARGS,
       "__reversed__($self, /)\n--\n\nIterate over the keys, the last one first." },
     METHOD("last_below", snapshot_last_below,
@@ -407,7 +417,17 @@ static PyMethodDef snapshot_methods[] = {
 
 static PyMemberDef snapshot_members[] = {
     { "id", T_ULONGLONG, offsetof(Snapshot, id), READONLY, "Its number, which no other snapshot of the store gets." },
-    { "stamp", T_ULONGLONG, offsetof(Snapshot, stamp), READONLY, "The stamp at which it was opened." },
+    { 0 },
+};
+
+static PyObject *snapshot_stamp(PyObject *self, void *none)
+{
+    (void)none;
+    return stamp_object(classes_of(self)->stamp, ((Snapshot *)self)->stamp);
+}
+
+static PyGetSetDef snapshot_fields[] = {
+    { "stamp", snapshot_stamp, NULL, "The stamp at which it was opened.", NULL },
     { 0 },
 };
 
@@ -418,6 +438,7 @@ static PyType_Slot snapshot_slots[] = {
     { Py_tp_dealloc, snapshot_dealloc },
     { Py_tp_methods, snapshot_methods },
     { Py_tp_members, snapshot_members },
+    { Py_tp_getset, snapshot_fields },
     { Py_tp_repr, snapshot_repr },
     { Py_tp_iter, snapshot_iter },
     { Py_mp_subscript, snapshot_at },

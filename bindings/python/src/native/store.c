@@ -12,28 +12,43 @@ PyThreadState *lock_to_ask(Store *store, Duration duration)
     return thread;
 }
 
+/* A short change needs no gate where nobody saves the store: it keeps the interpreter, without which none begins. */
 PyThreadState *lock_to_change(Store *store, Duration duration)
 {
-    if (duration == SHORT && pthread_rwlock_trywrlock(&store->lock) == 0) return NULL;
+    if (duration == SHORT && !store->savers && pthread_rwlock_trywrlock(&store->lock) == 0) return NULL;
+    bool is_gated = !is_saver(store) && may_wait_at_gate();
     PyThreadState *thread = PyEval_SaveThread();
+    if (is_gated) pthread_rwlock_wrlock(&store->gate);
     pthread_rwlock_wrlock(&store->lock);
+    store->is_gated = is_gated;
     return thread;
 }
 
 void unlock(Store *store, PyThreadState *thread)
 {
+    bool is_gated = store->is_gated;
+    if (is_gated) store->is_gated = false;
     pthread_rwlock_unlock(&store->lock);
+    if (is_gated) pthread_rwlock_unlock(&store->gate);
     if (thread) PyEval_RestoreThread(thread);
 }
 
 /* ---- Opening and closing ---- */
 
+static bool make_locks(Store *store)
+{
+    if (make_lock(&store->lock)) return false;
+    if (make_lock(&store->gate) == 0) return true;
+    pthread_rwlock_destroy(&store->lock);
+    return false;
+}
+
 static Store *closed_store(PyTypeObject *type)
 {
     Store *store = allocate(type);
     if (!store) return NULL;
-    store->has_lock = make_lock(&store->lock) == 0;
-    if (store->has_lock) return store;
+    store->has_locks = make_locks(store);
+    if (store->has_locks) return store;
     Py_DECREF((PyObject *)store);
     return (Store *)PyErr_NoMemory();
 }
@@ -128,7 +143,10 @@ static void store_dealloc(PyObject *self)
     Py_BEGIN_ALLOW_THREADS
     hlc_close(&store->handle);
     Py_END_ALLOW_THREADS
-    if (store->has_lock) pthread_rwlock_destroy(&store->lock);
+    if (store->has_locks) {
+        pthread_rwlock_destroy(&store->gate);
+        pthread_rwlock_destroy(&store->lock);
+    }
     release_object(self);
 }
 
@@ -368,23 +386,27 @@ static PyObject *store_link(PyObject *self, PyObject *from)
 
 /* ---- What a store has ---- */
 
-/* A call that asks for a number. */
+/* A call that asks for a number, and whether that is a stamp. */
 typedef struct {
     uint32_t (*call)(hlc_store *, uint64_t *);
+    bool is_stamp;
 } Question;
 
-static const Question FLOOR = { hlc_floor }, HORIZON = { hlc_horizon }, ROWS = { hlc_rows }, NODES = { hlc_nodes };
-static const Question FLOOR_NODE = { hlc_floor_node };
+static const Question FLOOR = { hlc_floor, true }, HORIZON = { hlc_horizon, true };
+static const Question ROWS = { hlc_rows, false }, NODES = { hlc_nodes, false };
+static const Question FLOOR_NODE = { hlc_floor_node, false };
 
-static PyObject *ask(PyObject *self, void *question)
+static PyObject *ask(PyObject *self, void *asked)
 {
     Store *store = (Store *)self;
+    const Question *question = asked;
     uint64_t number;
     PyThreadState *thread = lock_to_ask(store, SHORT);
     hlc_store mine = store->handle;
-    uint32_t code = ((const Question *)question)->call(&mine, &number);
+    uint32_t code = question->call(&mine, &number);
     unlock(store, thread);
-    return code == HLC_OK ? number_object(number) : refuse(code, 0);
+    if (code != HLC_OK) return refuse(code, 0);
+    return question->is_stamp ? stamp_object(classes_of(self)->stamp, number) : number_object(number);
 }
 
 static PyObject *sizes(PyObject *self, void *none)
@@ -433,6 +455,20 @@ static PyObject *store_checkpoint(PyObject *self, PyObject *args, PyObject *word
 }
 
 /* ---- The class ---- */
+
+static PyObject *store_repr(PyObject *self)
+{
+    Store *store = (Store *)self;
+    uint64_t floor, rows;
+    PyThreadState *thread = lock_to_ask(store, SHORT);
+    hlc_store mine = store->handle;
+    uint32_t code = hlc_floor(&mine, &floor);
+    hlc_rows(&mine, &rows);
+    unlock(store, thread);
+    if (code != HLC_OK) return PyUnicode_FromString("<Store, closed>");
+    return PyUnicode_FromFormat("<Store, floor=%llu.%llu, rows=%llu>", (unsigned long long)(floor >> 16),
+                                (unsigned long long)(floor & 0xffff), (unsigned long long)rows);
+}
 
 static PyMethodDef store_methods[] = {
     { "restore", store_restore, METH_O | METH_CLASS,
@@ -521,6 +557,14 @@ static PyMethodDef store_methods[] = {
            "checkpoint($self, /, word=0)\n--\n\n"
            "Return the store's whole state as bytes, with a word of the caller's.\n\n"
            "The word may be the place in a log up to which the store applied it."),
+    METHOD("checkpoint_to", store_checkpoint_to,
+           "checkpoint_to($self, /, file, word=0)\n--\n\n"
+           "Write the bytes of checkpoint to a binary file in pieces, and return how many they are.\n\n"
+           "In memory are a piece, and the rows of up to 32 keys as bytes. The file is any object whose write takes\n"
+           "bytes and returns how many it took; it gets the rest again. None is a BlockingIOError, and 0 an OSError.\n"
+           "Where writing fails, a part may be written. Other threads may read in open snapshots meanwhile, and their\n"
+           "changes wait for the end; to open or close a snapshot is a change too. So write must not wait for them.\n"
+           "Changed is raised where write itself changes the store."),
     METHOD("increment", store_increment,
            "increment($self, /, since, word=0)\n--\n\n"
            "Return an increment as bytes: the whole state, but of the rows only those above a stamp.\n\n"
@@ -552,6 +596,7 @@ static PyType_Slot store_slots[] = {
       "A multi-version store of so many nodes, numbered from 0. Any thread may call it." },
     { Py_tp_new, store_new },
     { Py_tp_dealloc, store_dealloc },
+    { Py_tp_repr, store_repr },
     { Py_tp_methods, store_methods },
     { Py_tp_getset, store_fields },
     { Py_tp_members, store_members },

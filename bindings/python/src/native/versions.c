@@ -13,7 +13,7 @@ typedef struct {
     size_t many;
 } Versions;
 
-enum { FIRST_ROOM = 1024, STAMP = 8, NODE = 2 };
+enum { FIRST_ROOM = 1024 };
 
 static uint32_t list_versions(Store *store, Versions *versions)
 {
@@ -47,28 +47,6 @@ static bool fetch(Store *store, Versions *versions)
     return true;
 }
 
-/* The row at a place, and then the place of the next one. */
-static PyObject *version_at(const uint8_t **at)
-{
-    uint64_t numbers[] = { number_at(*at, STAMP), number_at(*at + STAMP, NODE) };
-    *at += STAMP + NODE;
-    PyObject *value = answer_object(at), *version = value ? result_of("Version", numbers, 2, value) : NULL;
-    Py_XDECREF(value);
-    return version;
-}
-
-static PyObject *list_of(const Versions *versions)
-{
-    PyObject *list = PyList_New(0);
-    const uint8_t *at = versions->rows;
-    for (size_t i = 0; list && i < versions->many; i++) {
-        PyObject *version = version_at(&at);
-        if (!version || PyList_Append(list, version)) Py_CLEAR(list);
-        Py_XDECREF(version);
-    }
-    return list;
-}
-
 PyObject *store_versions(PyObject *self, PyObject *args, PyObject *words)
 {
     static char *names[] = { "key", "above", "to", NULL };
@@ -76,7 +54,7 @@ PyObject *store_versions(PyObject *self, PyObject *args, PyObject *words)
     if (!PyArg_ParseTupleAndKeywords(args, words, "O&|O&O&:versions", names, take_bytes, &versions.key, take_u64,
                                      &versions.above, take_u64, &versions.to))
         return NULL;
-    PyObject *list = fetch((Store *)self, &versions) ? list_of(&versions) : NULL;
+    PyObject *list = fetch((Store *)self, &versions) ? list_of(versions.rows, versions.many, version_at) : NULL;
     free(versions.rows);
     drop_bytes(&versions.key);
     return list;

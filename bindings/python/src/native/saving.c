@@ -1,0 +1,202 @@
+/* Checkpoints that are written in pieces.
+ *
+ * A thread that saves a store makes calls of Python between its pieces, so it keeps no lock that other calls of its own
+ * may wait for. Instead it keeps the gate of the store, through which a change of another thread must pass. A change
+ * that this thread makes itself, as the file may do, goes past the gate, and the next piece is refused. Snapshots that
+ * are dropped meanwhile, in any thread, are closed at the end: so a collection of garbage neither waits, nor changes
+ * the store. */
+#include "native.h"
+#include <errno.h>
+#include <stdlib.h>
+
+/* How many bytes a piece has; the last one may have fewer. */
+enum { PIECE = 1 << 18 };
+
+/* ---- Threads that save a store ---- */
+
+/* When the interpreter begins to end its threads, it does not count as initialized any more. */
+bool may_wait_at_gate(void) { return Py_IsInitialized(); }
+
+/* Returns NULL where there is no memory. The saver is not on the stack: while calls of Python run, a greenlet puts
+ * other calls of the thread there, and a thread that the interpreter ends leaves its stack for good. */
+static Saver *begin(Store *store)
+{
+    Saver *saver = malloc(sizeof *saver);
+    if (!saver) return NULL;
+    saver->thread = pthread_self();
+    saver->is_gated = may_wait_at_gate();
+    saver->many_dropped = 0;
+    saver->next = store->savers;
+    store->savers = saver;
+    if (!saver->is_gated) return saver;
+    Py_BEGIN_ALLOW_THREADS
+    pthread_rwlock_rdlock(&store->gate);
+    Py_END_ALLOW_THREADS
+    return saver;
+}
+
+/* Where other threads go on to save the store, one of these closes the snapshots. */
+static void end(Store *store, Saver *saver)
+{
+    Saver **place = &store->savers;
+    while (*place != saver) place = &(*place)->next;
+    *place = saver->next;
+    if (saver->is_gated) pthread_rwlock_unlock(&store->gate);
+    for (size_t i = 0; i < saver->many_dropped; i++)
+        if (!close_later(store, saver->dropped[i])) close_snapshot_id(store, saver->dropped[i]);
+    free(saver);
+}
+
+bool is_saver(const Store *store)
+{
+    const Saver *saver = store->savers;
+    while (saver && !pthread_equal(saver->thread, pthread_self())) saver = saver->next;
+    return saver != NULL;
+}
+
+bool close_later(Store *store, uint64_t id)
+{
+    Saver *saver = store->savers;
+    if (!saver || saver->many_dropped == MOST_OPEN) return false;
+    saver->dropped[saver->many_dropped++] = id;
+    return true;
+}
+
+/* ---- Pieces ---- */
+
+static uint32_t start(Store *store, hlc_saving *saving, uint64_t word)
+{
+    uint64_t len;
+    PyThreadState *thread = lock_to_ask(store, LONG);
+    hlc_store mine = store->handle;
+    uint32_t code = hlc_saving_start(saving, &mine, word, &len);
+    unlock(store, thread);
+    return code;
+}
+
+/* Nobody else has the bytes object yet, so it may be filled without the interpreter. */
+static uint32_t read_piece(Store *store, hlc_saving *saving, PyObject *piece, size_t *len)
+{
+    uint8_t *out = (uint8_t *)PyBytes_AsString(piece);
+    PyThreadState *thread = lock_to_ask(store, LONG);
+    hlc_store mine = store->handle;
+    uint32_t code = hlc_saving_read(saving, &mine, out, PIECE, len);
+    unlock(store, thread);
+    return code;
+}
+
+/* A part of a bytes object, whose reference it takes. */
+static PyObject *part_of(PyObject *bytes, Py_ssize_t from, Py_ssize_t to)
+{
+    PyObject *part = PyBytes_FromStringAndSize(PyBytes_AsString(bytes) + from, to - from);
+    Py_DECREF(bytes);
+    return part;
+}
+
+/* The next piece, or NULL with an exception. code: HLC_MORE where bytes are left after it. */
+static PyObject *next_piece(Store *store, hlc_saving *saving, uint32_t *code)
+{
+    PyObject *piece = PyBytes_FromStringAndSize(NULL, PIECE);
+    size_t len;
+    if (!piece) return NULL;
+    *code = read_piece(store, saving, piece, &len);
+    if (*code == HLC_OK || *code == HLC_MORE) return len == PIECE ? piece : part_of(piece, 0, (Py_ssize_t)len);
+    Py_DECREF(piece);
+    return refuse(*code, 0);
+}
+
+/* ---- The file ---- */
+
+static Py_ssize_t would_block(void)
+{
+    PyObject *words = Py_BuildValue("(is)", EAGAIN, "write returned None: it took no bytes");
+    if (words) PyErr_SetObject(PyExc_BlockingIOError, words);
+    Py_XDECREF(words);
+    return -1;
+}
+
+/* How many of so many bytes a file took, from what its write returned, or -1 with an exception. */
+static Py_ssize_t taken(PyObject *answer, Py_ssize_t len)
+{
+    if (answer == Py_None) return would_block();
+    if (PyBool_Check(answer)) {
+        PyErr_Format(PyExc_TypeError, "write returned %R, not how many bytes it took", answer);
+        return -1;
+    }
+    Py_ssize_t many = PyNumber_AsSsize_t(answer, PyExc_OSError);
+    if (many == -1 && PyErr_Occurred()) return -1;
+    if (many > 0 && many <= len) return many;
+    PyErr_Format(PyExc_OSError, "write returned %zd for %zd bytes", many, len);
+    return -1;
+}
+
+/* Passes some bytes to the write of a file. Returns how many it took, or -1 with an exception. */
+static Py_ssize_t write_some(PyObject *write, PyObject *bytes)
+{
+    PyObject *answer = PyObject_CallFunctionObjArgs(write, bytes, NULL);
+    if (!answer) return -1;
+    Py_ssize_t many = taken(answer, PyBytes_Size(bytes));
+    Py_DECREF(answer);
+    return many;
+}
+
+/* Writes a piece, whose reference it takes, to its end. Returns false with an exception where that fails. */
+static bool write_piece(PyObject *write, PyObject *piece)
+{
+    while (piece) {
+        Py_ssize_t len = PyBytes_Size(piece), many = write_some(write, piece);
+        if (many < 0 || many == len) {
+            Py_DECREF(piece);
+            return many == len;
+        }
+        piece = part_of(piece, many, len);
+    }
+    return false;
+}
+
+/* Writes all pieces, and returns how many bytes they have, or NULL with an exception. */
+static PyObject *write_pieces(Store *store, hlc_saving *saving, PyObject *write)
+{
+    uint32_t code = HLC_MORE;
+    uint64_t written = 0;
+    while (code == HLC_MORE) {
+        PyObject *piece = next_piece(store, saving, &code);
+        if (!piece) return NULL;
+        written += (uint64_t)PyBytes_Size(piece);
+        if (!write_piece(write, piece)) return NULL;
+    }
+    return number_object(written);
+}
+
+static PyObject *save(Store *store, PyObject *write, uint64_t word)
+{
+    hlc_saving saving = HLC_NO_SAVING;
+    uint32_t code = start(store, &saving, word);
+    PyObject *written = code == HLC_OK ? write_pieces(store, &saving, write) : refuse(code, 0);
+    hlc_saving_drop(&saving);
+    return written;
+}
+
+/* A thread that saves the store already keeps the gate. */
+static PyObject *save_gated(Store *store, PyObject *write, uint64_t word)
+{
+    if (is_saver(store)) return save(store, write, word);
+    Saver *saver = begin(store);
+    if (!saver) return PyErr_NoMemory();
+    PyObject *written = save(store, write, word);
+    end(store, saver);
+    return written;
+}
+
+PyObject *store_checkpoint_to(PyObject *self, PyObject *args, PyObject *words)
+{
+    static char *names[] = { "file", "word", NULL };
+    PyObject *file;
+    uint64_t word = 0;
+    if (!PyArg_ParseTupleAndKeywords(args, words, "O|O&:checkpoint_to", names, &file, take_u64, &word)) return NULL;
+    PyObject *write = attribute_of(file, "write");
+    if (!write) return NULL;
+    PyObject *written = save_gated((Store *)self, write, word);
+    Py_DECREF(write);
+    return written;
+}
