@@ -1,12 +1,20 @@
 //! Looks for libhlcstore-file beside the library that hlcstore-sys found, and links it as that one: static or shared.
-//! SQLite and zlib are linked as the system has them, as shared libraries.
+//! SQLite and zlib are linked as the system has them, as shared libraries. Where hlcstore-sys found no library, it said
+//! so, and this one is left to the linker.
 
 use std::env;
-use std::path::PathBuf;
+use std::path::{Path, PathBuf};
 
 fn main() {
-    let variable = |name| env::var(name).expect("hlcstore-sys passes what it found");
-    let (folder, kind) = (PathBuf::from(variable("DEP_HLCSTORE_FOLDER")), variable("DEP_HLCSTORE_KIND"));
+    let kind = env::var("DEP_HLCSTORE_KIND").unwrap_or_else(|_| "static".into());
+    match env::var_os("DEP_HLCSTORE_FOLDER") {
+        Some(folder) => link(&PathBuf::from(folder), &kind),
+        None => println!("cargo::rustc-link-lib={kind}=hlcstore-file"),
+    }
+}
+
+/// Links the library in the folder of the other one, as that is linked.
+fn link(folder: &Path, kind: &str) {
     let ending = if kind == "dylib" { "so" } else { "a" };
     let file = folder.join(format!("libhlcstore-file.{ending}"));
     println!("cargo::rerun-if-changed={}", file.display());

@@ -8,6 +8,9 @@
 //! The static library is linked, or the shared one where HLCSTORE_STATIC is 0. A program that was linked with the
 //! shared one must find it when it starts, for example by LD_LIBRARY_PATH. The build of hlcstore-file-sys gets the kind
 //! and the folder of the library that was found, and looks for its own beside it.
+//!
+//! Where the library is in none of these places, that is a warning: `cargo check` and `cargo doc` need none, and what
+//! links fails. The next build looks for it again. A folder of HLCSTORE_LIB_DIR without it is an error.
 
 use std::env;
 use std::path::{Path, PathBuf};
@@ -38,11 +41,20 @@ impl Library {
     }
 }
 
+/// How the library is linked.
+fn kind(shared: bool) -> &'static str {
+    if shared { "dylib" } else { "static" }
+}
+
+/// The name of its file.
+fn file(shared: bool) -> &'static str {
+    if shared { "libhlcstore.so" } else { "libhlcstore.a" }
+}
+
 /// The installed library, in a folder.
 fn installed(folder: &Path, shared: bool) -> Option<Library> {
-    let (kind, file) = if shared { ("dylib", "libhlcstore.so") } else { ("static", "libhlcstore.a") };
     let files = vec![(folder.to_path_buf(), "hlcstore")];
-    folder.join(file).is_file().then_some(Library { kind, files })
+    folder.join(file(shared)).is_file().then_some(Library { kind: kind(shared), files })
 }
 
 /// The library as the toolchain builds it, in a folder, with the archive of the toolchain in another.
@@ -68,38 +80,63 @@ fn toolchain_folder() -> Option<PathBuf> {
     Some(command.canonicalize().ok()?.parent()?.parent()?.join("c"))
 }
 
-/// The library, in the first place that has it.
-fn find(shared: bool) -> Result<Library, String> {
-    let in_folder = |folder: &Path, toolchain: &Path| {
-        let built_there = if shared { None } else { built(folder, toolchain) };
-        installed(folder, shared).or(built_there)
-    };
-    if let Some(folder) = env::var_os("HLCSTORE_LIB_DIR").map(PathBuf::from) {
-        let file = if shared { "libhlcstore.so" } else { "libhlcstore.a" };
-        return in_folder(&folder, &folder).ok_or_else(|| {
-            let folder = folder.display();
-            format!("HLCSTORE_LIB_DIR is {folder}, where no {file} is: set it to the folder that has that file")
-        });
-    }
+/// The library in a folder, installed or as the toolchain builds it.
+fn in_folder(folder: &Path, toolchain: &Path, shared: bool) -> Option<Library> {
+    let built_there = if shared { None } else { built(folder, toolchain) };
+    installed(folder, shared).or(built_there)
+}
+
+/// The repository of this package.
+fn repository() -> PathBuf {
     let package = env::var_os("CARGO_MANIFEST_DIR").expect("cargo sets the folder of the package");
-    let repository = Path::new(&package).join("../../..");
+    Path::new(&package).join("../../..")
+}
+
+/// The library, in the first place that has it, where no folder is named.
+fn find(shared: bool) -> Option<Library> {
+    let repository = repository();
     known_to_pkg_config()
         .and_then(|folder| installed(&folder, shared))
         .or_else(|| installed(&repository.join("bindings/build"), shared))
-        .or_else(|| in_folder(&repository.join("crates/hlc_ffi/out"), &toolchain_folder()?))
-        .ok_or_else(|| {
-            "the library hlcstore was not found: run `make -C bindings` in the repository of hlcstore, or set \
-             HLCSTORE_LIB_DIR to the folder of libhlcstore.a, or PKG_CONFIG_PATH to the folder of hlcstore.pc"
-                .into()
-        })
+        .or_else(|| in_folder(&repository.join("crates/hlc_ffi/out"), &toolchain_folder()?, shared))
+}
+
+/// Links the library in the folder that HLCSTORE_LIB_DIR names.
+fn link_in(folder: &Path, shared: bool) {
+    match in_folder(folder, folder, shared) {
+        Some(library) => library.link(),
+        None => {
+            let (folder, file) = (folder.display(), file(shared));
+            println!(
+                "cargo::error=HLCSTORE_LIB_DIR is {folder}, where no {file} is: set it to the folder that has that file"
+            );
+        }
+    }
+}
+
+/// Links the library, wherever it is; or, where it was not found, says so and leaves it to the linker.
+fn link(shared: bool) {
+    if let Some(library) = find(shared) {
+        return library.link();
+    }
+    println!(
+        "cargo::warning=the library hlcstore was not found, so nothing can be linked: run `make -C bindings` in the \
+         repository of hlcstore, or set HLCSTORE_LIB_DIR to the folder of libhlcstore.a, or PKG_CONFIG_PATH to the \
+         folder of hlcstore.pc"
+    );
+    println!("cargo::metadata=kind={}", kind(shared));
+    println!("cargo::rustc-link-lib={}=hlcstore", kind(shared));
+    // A file that is missing counts as changed, so this runs again in each build until the library is there.
+    println!("cargo::rerun-if-changed={}", repository().join("bindings/build").join(file(shared)).display());
 }
 
 fn main() {
     for name in ["HLCSTORE_LIB_DIR", "HLCSTORE_STATIC", "PKG_CONFIG", "PKG_CONFIG_PATH"] {
         println!("cargo::rerun-if-env-changed={name}");
     }
-    match find(env::var("HLCSTORE_STATIC").is_ok_and(|word| word == "0")) {
-        Ok(library) => library.link(),
-        Err(text) => println!("cargo::error={text}"),
+    let shared = env::var("HLCSTORE_STATIC").is_ok_and(|word| word == "0");
+    match env::var_os("HLCSTORE_LIB_DIR") {
+        Some(folder) => link_in(Path::new(&folder), shared),
+        None => link(shared),
     }
 }

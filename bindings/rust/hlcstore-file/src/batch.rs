@@ -20,15 +20,15 @@ impl Batch {
     ///
     /// Refusals: `BadKey` and `ValueTooLong` of the store, `TooLong`, `NoMemory` of the store. The batch keeps what it
     /// had.
-    pub fn write(&mut self, key: &[u8], value: &[u8]) -> Result<()> {
-        self.handle.put(key, value)
+    pub fn write(&mut self, key: impl AsRef<[u8]>, value: impl AsRef<[u8]>) -> Result<()> {
+        self.handle.put(key.as_ref(), value.as_ref())
     }
 
     /// Adds a deletion.
     ///
     /// Refusals: as of [`write`](Batch::write).
-    pub fn delete(&mut self, key: &[u8]) -> Result<()> {
-        self.handle.delete(key)
+    pub fn delete(&mut self, key: impl AsRef<[u8]>) -> Result<()> {
+        self.handle.delete(key.as_ref())
     }
 
     /// Returns how many writes and deletions there are.

@@ -1,6 +1,6 @@
 use crate::handle::{Handle, Origin};
 use crate::{Batch, Options, Promise, Result, Snapshot, Status, Stopped};
-use hlcstore::{Stamp, Vacuumed};
+use hlcstore::{Link, Sizes, Stamp, Vacuumed, Version};
 use hlcstore_file_sys as sys;
 use std::time::Duration;
 
@@ -43,12 +43,12 @@ impl File {
     }
 
     /// Writes a value to a key as node 0, and returns the stamp: see [`Writer::write`].
-    pub fn write(&self, key: &[u8], value: &[u8]) -> Result<Stamp> {
+    pub fn write(&self, key: impl AsRef<[u8]>, value: impl AsRef<[u8]>) -> Result<Stamp> {
         self.node(0).write(key, value)
     }
 
     /// Deletes a key's value as node 0, and returns the stamp: see [`Writer::delete`].
-    pub fn delete(&self, key: &[u8]) -> Result<Stamp> {
+    pub fn delete(&self, key: impl AsRef<[u8]>) -> Result<Stamp> {
         self.node(0).delete(key)
     }
 
@@ -116,9 +116,42 @@ impl File {
         self.handle.floor()
     }
 
+    /// Returns the first node for which the floor waits, or none if all have retired.
+    pub fn floor_node(&self) -> Result<Option<u16>> {
+        self.handle.floor_node()
+    }
+
     /// Returns the stamp of the last vacuum, or [`Stamp::ZERO`]. No snapshot opens below it.
     pub fn horizon(&self) -> Result<Stamp> {
         self.handle.horizon()
+    }
+
+    /// Returns how many rows are stored.
+    pub fn rows(&self) -> Result<u64> {
+        self.handle.rows()
+    }
+
+    /// Returns how many rows and keys are stored, and how many bytes they have, in constant time.
+    pub fn sizes(&self) -> Result<Sizes> {
+        self.handle.sizes()
+    }
+
+    /// Returns how many node numbers are assigned, those of retired nodes too.
+    pub fn nodes(&self) -> Result<u64> {
+        self.handle.nodes()
+    }
+
+    /// Returns what was appended as a node: see [`Store::link`](hlcstore::Store::link).
+    ///
+    /// Refusal: `NoNode` of the store.
+    pub fn link(&self, node: u16) -> Result<Link> {
+        self.handle.link(node)
+    }
+
+    /// Returns the stored rows of a key above one stamp and at or below another, the newest first, as
+    /// [`Store::versions`](hlcstore::Store::versions) does.
+    pub fn versions(&self, key: impl AsRef<[u8]>, above: Stamp, to: Stamp) -> Result<Vec<Version>> {
+        self.handle.versions(key.as_ref(), above, to)
     }
 }
 
@@ -152,15 +185,15 @@ impl Writer<'_> {
     /// Writes a value to a key, and returns the stamp.
     ///
     /// Refusals: `BadKey`, `ValueTooLong` of the store, and those of the type.
-    pub fn write(self, key: &[u8], value: &[u8]) -> Result<Stamp> {
-        self.handle.write(self.from, key, value)
+    pub fn write(self, key: impl AsRef<[u8]>, value: impl AsRef<[u8]>) -> Result<Stamp> {
+        self.handle.write(self.from, key.as_ref(), value.as_ref())
     }
 
     /// Deletes a key's value, and returns the stamp.
     ///
     /// Refusals: `BadKey` of the store, and those of the type.
-    pub fn delete(self, key: &[u8]) -> Result<Stamp> {
-        self.handle.delete(self.from, key)
+    pub fn delete(self, key: impl AsRef<[u8]>) -> Result<Stamp> {
+        self.handle.delete(self.from, key.as_ref())
     }
 
     /// Reports, so that the floor rises where the node has nothing to write. Returns the stamp.

@@ -1,8 +1,9 @@
 //! The calls of a file in the C library, with the types of this crate.
 
 use crate::{Error, Promise, Result, Status, Stopped};
-use hlcstore::{Page, Stamp, Vacuumed};
+use hlcstore::{ChangePage, KeyPage, Link, Page, Sizes, Stamp, Vacuumed, Version};
 use hlcstore_file_sys as sys;
+use hlcstore_sys::{self as store, hlc_store};
 use std::ffi::CStr;
 use std::mem::ManuallyDrop;
 use std::ptr::{self, NonNull};
@@ -14,6 +15,8 @@ const NO_VALUE: u32 = 102;
 const MORE: u32 = 104;
 /// How many bytes a value has at most.
 const VALUE_ROOM: usize = 65_535;
+/// How many bytes of rows are made room for at first.
+const ROWS_ROOM: usize = 1024;
 
 fn answer<T>(code: u32, word: u64, value: T) -> Result<T> {
     if code == OK { Ok(value) } else { Err(Error::new(code, word)) }
@@ -24,6 +27,26 @@ fn with_room(room: usize) -> Result<Vec<u8>> {
     let mut bytes = Vec::new();
     bytes.try_reserve_exact(room).map_err(|_| Error::new(NO_MEMORY, 0))?;
     Ok(bytes)
+}
+
+/// The bytes of a page, how many entries these are, and whether more are left.
+type Filled = (Vec<u8>, usize, bool);
+
+/// Makes a call that fills a page of so many bytes. It gets the place for them, how many there is room for, and where
+/// it writes how many bytes and how many entries there are.
+///
+/// # Safety
+///
+/// If the call returns `OK` or `MORE`, it has written so many bytes to the place.
+unsafe fn fill(room: usize, call: impl FnOnce(*mut u8, usize, &mut usize, &mut usize) -> u32) -> Result<Filled> {
+    let (mut bytes, mut len, mut many) = (with_room(room)?, 0, 0);
+    let code = call(bytes.as_mut_ptr(), room, &mut len, &mut many);
+    if code != OK && code != MORE {
+        return Err(Error::new(code, 0));
+    }
+    // SAFETY: the call has written these bytes.
+    unsafe { bytes.set_len(len) };
+    Ok((bytes, many, code == MORE))
 }
 
 /// What an answer says. It needs no memory but the caller's.
@@ -196,21 +219,120 @@ impl Handle {
     /// Returns the pairs of a range that fit in so many bytes, in byte order or from the last on.
     pub(crate) fn scan(&self, id: u64, from: &[u8], to: &[u8], room: usize, is_back: bool) -> Result<Page> {
         let scan = if is_back { sys::hlc_file_scan_back } else { sys::hlc_file_scan };
-        let (mut bytes, mut len, mut many) = (with_room(room)?, 0, 0);
-        let (start, start_len, end, end_len) = (from.as_ptr(), from.len(), to.as_ptr(), to.len());
-        let (file, out) = (self.0.as_ptr(), bytes.as_mut_ptr());
-        let code = unsafe { scan(file, id, start, start_len, end, end_len, out, room, &mut len, &mut many) };
-        if code != OK && code != MORE {
-            return Err(Error::new(code, 0));
-        }
-        // The call has written these bytes.
-        unsafe { bytes.set_len(len) };
-        Ok(Page::from_bytes(bytes, many, code == MORE))
+        let (from, from_len, to, to_len, file) = (from.as_ptr(), from.len(), to.as_ptr(), to.len(), self.0.as_ptr());
+        let (bytes, many, has_more) = unsafe {
+            fill(room, |out, room, len, many| scan(file, id, from, from_len, to, to_len, out, room, len, many))?
+        };
+        Ok(Page::from_bytes(bytes, many, has_more))
+    }
+
+    /// Returns the keys of a range that fit in so many bytes.
+    pub(crate) fn scan_keys(&self, id: u64, from: &[u8], to: &[u8], room: usize) -> Result<KeyPage> {
+        let (from, from_len, to, to_len) = (from.as_ptr(), from.len(), to.as_ptr(), to.len());
+        let (bytes, many, has_more) = unsafe {
+            fill(room, |out, room, len, many| {
+                self.lend(|lent| store::hlc_scan_keys(lent, id, from, from_len, to, to_len, out, room, len, many))
+            })?
+        };
+        Ok(KeyPage::from_bytes(bytes, many, has_more))
+    }
+
+    /// Returns the changes of a range from one snapshot to another that fit in so many bytes.
+    pub(crate) fn scan_changes(&self, ids: (u64, u64), from: &[u8], to: &[u8], room: usize) -> Result<ChangePage> {
+        let ((before, after), from_len, to_len) = (ids, from.len(), to.len());
+        let (from, to) = (from.as_ptr(), to.as_ptr());
+        let (bytes, many, has_more) = unsafe {
+            fill(room, |out, room, len, many| {
+                self.lend(|lent| {
+                    store::hlc_changes(lent, before, after, from, from_len, to, to_len, out, room, len, many)
+                })
+            })?
+        };
+        Ok(ChangePage::from_bytes(bytes, many, has_more))
     }
 
     pub(crate) fn count(&self, id: u64, from: &[u8], to: &[u8]) -> Result<u64> {
         let (from, from_len, to, to_len) = (from.as_ptr(), from.len(), to.as_ptr(), to.len());
         self.call(|file, many| unsafe { sys::hlc_file_count(file, id, from, from_len, to, to_len, many) })
+    }
+
+    pub(crate) fn digest(&self, id: u64, from: &[u8], to: &[u8]) -> Result<[u8; 32]> {
+        let (from, from_len, to, to_len) = (from.as_ptr(), from.len(), to.as_ptr(), to.len());
+        let (mut digest, mut len) = ([0; 32], 0);
+        let (out, room) = (digest.as_mut_ptr(), digest.len());
+        let digested =
+            self.lend(|lent| unsafe { store::hlc_digest(lent, id, from, from_len, to, to_len, out, room, &mut len) });
+        answer(digested, 0, digest)
+    }
+
+    // ---- What the store has ----
+
+    /// Lends the store to a call that only asks, and returns its answer. It gets a pointer to a copy of the store's
+    /// handle, and makes no other call with the file.
+    fn lend(&self, call: impl FnOnce(*mut hlc_store) -> u32) -> u32 {
+        let mut mine = store::HLC_CLOSED_STORE;
+        unsafe { sys::hlc_file_read_begin(self.0.as_ptr(), &mut mine) };
+        let code = call(&mut mine);
+        unsafe { sys::hlc_file_read_end(self.0.as_ptr()) };
+        code
+    }
+
+    /// Lends the store to a call that writes a word, which it gets a pointer to.
+    fn ask(&self, call: impl FnOnce(*mut hlc_store, *mut u64) -> u32) -> Result<u64> {
+        let mut word = 0;
+        let code = self.lend(|lent| call(lent, &mut word));
+        answer(code, word, word)
+    }
+
+    pub(crate) fn rows(&self) -> Result<u64> {
+        self.ask(|lent, rows| unsafe { store::hlc_rows(lent, rows) })
+    }
+
+    pub(crate) fn sizes(&self) -> Result<Sizes> {
+        let mut sizes = Sizes::default();
+        let Sizes { keys, key_bytes, value_bytes, .. } = &mut sizes;
+        sizes.rows = self.ask(|lent, rows| unsafe { store::hlc_sizes(lent, rows, keys, key_bytes, value_bytes) })?;
+        Ok(sizes)
+    }
+
+    pub(crate) fn nodes(&self) -> Result<u64> {
+        self.ask(|lent, nodes| unsafe { store::hlc_nodes(lent, nodes) })
+    }
+
+    pub(crate) fn link(&self, node: u16) -> Result<Link> {
+        let (mut head, mut is_retired) = (0, false);
+        let next_number =
+            self.ask(|lent, next| unsafe { store::hlc_link(lent, node, next, &mut head, &mut is_retired) })?;
+        Ok(Link { next_number, head: Stamp::from_bits(head), is_retired })
+    }
+
+    pub(crate) fn floor_node(&self) -> Result<Option<u16>> {
+        match self.ask(|lent, node| unsafe { store::hlc_floor_node(lent, node) }) {
+            // A node's number is below 1,024.
+            Ok(node) => Ok(Some(node as u16)),
+            Err(error) if error.code() == store::HLC_NO_NODE => Ok(None),
+            Err(error) => Err(error),
+        }
+    }
+
+    /// Returns the rows of a key above one stamp and at or below another.
+    pub(crate) fn versions(&self, key: &[u8], above: Stamp, to: Stamp) -> Result<Vec<Version>> {
+        let (key, key_len, above, to) = (key.as_ptr(), key.len(), above.to_bits(), to.to_bits());
+        let mut needed = ROWS_ROOM;
+        loop {
+            let (mut rows, room, mut many) = (with_room(needed)?, needed, 0);
+            let out = rows.as_mut_ptr();
+            let code = self.lend(|lent| unsafe {
+                store::hlc_versions(lent, key, key_len, above, to, out, room, &mut needed, &mut many)
+            });
+            answer(code, 0, ())?;
+            // Other threads may add rows between two calls.
+            if needed <= room {
+                // There was room, so the call has written these bytes.
+                unsafe { rows.set_len(needed) };
+                return Ok(Version::from_bytes(&rows, many)?);
+            }
+        }
     }
 
     pub(crate) fn floor(&self) -> Result<Stamp> {

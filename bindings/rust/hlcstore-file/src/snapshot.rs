@@ -1,13 +1,11 @@
-use crate::handle::Handle;
-use crate::{File, Result};
-use hlcstore::{KeyRange, Page, Stamp};
-use std::iter::FusedIterator;
+use crate::listing::{Changes, Keys, Pairs, PairsBack};
+use crate::{Error, File, Result};
+use hlcstore::{ChangePage, KeyPage, KeyRange, Page, Stamp};
 use std::ops::Deref;
-use std::vec;
+use std::ptr;
 
-/// How many bytes an iterator asks for: at first, and then. The second is more than any pair takes.
-const FIRST_ROOM: usize = 4096;
-const ROOM: usize = 1 << 17;
+/// The refusal of hlcstore.h of a snapshot that is not open in this store.
+const NO_SNAPSHOT: u32 = 10;
 
 /// An open snapshot, which reads the file as it was at a stamp. It closes itself, so that a vacuum can drop the rows that
 /// only this snapshot needs.
@@ -54,8 +52,13 @@ impl<F: Deref<Target = File>> Snapshot<F> {
     }
 
     /// Returns the value of a key, or none.
-    pub fn get(&self, key: &[u8]) -> Result<Option<Vec<u8>>> {
-        self.file.handle().read(self.id, key)
+    pub fn get(&self, key: impl AsRef<[u8]>) -> Result<Option<Vec<u8>>> {
+        self.file.handle().read(self.id, key.as_ref())
+    }
+
+    /// Returns the values of keys, in the same order.
+    pub fn get_many(&self, keys: &[&[u8]]) -> Result<Vec<Option<Vec<u8>>>> {
+        keys.iter().map(|key| self.get(key)).collect()
     }
 
     /// Returns all pairs of a key and its value, in the byte order of the keys.
@@ -65,16 +68,36 @@ impl<F: Deref<Target = File>> Snapshot<F> {
 
     /// Returns the pairs of a range, in the byte order of the keys.
     pub fn range(&self, range: impl KeyRange) -> Pairs<'_> {
-        Pairs(Listing::new(self, range, false))
+        Pairs::new(self.file.handle(), self.id, range)
     }
 
     /// Returns the pairs of a range from its end, the last key first.
     pub fn range_back(&self, range: impl KeyRange) -> PairsBack<'_> {
-        PairsBack(Listing::new(self, range, true))
+        PairsBack::new(self.file.handle(), self.id, range)
+    }
+
+    /// Returns the keys with a value in a range, in byte order.
+    pub fn keys(&self, range: impl KeyRange) -> Keys<'_> {
+        Keys::new(self.file.handle(), self.id, range)
+    }
+
+    /// Returns what changes from this snapshot to another of the same file, whichever is the older one: in byte order,
+    /// the keys of a range whose answers differ, each with its value in the other snapshot, or none.
+    ///
+    /// Refusal, which the iterator returns: `NoSnapshot` of the store, where they are not of one file.
+    pub fn changes<'a>(&'a self, after: &'a Snapshot<F>, range: impl KeyRange) -> Changes<'a> {
+        Changes::new(self.file.handle(), self.ids(after), range)
+    }
+
+    /// The ids of this snapshot and of another of the same file.
+    fn ids(&self, after: &Snapshot<F>) -> Result<(u64, u64)> {
+        let is_same = ptr::eq(self.file.handle(), after.file.handle());
+        if is_same { Ok((self.id, after.id)) } else { Err(Error::new(NO_SNAPSHOT, 0)) }
     }
 
     /// Returns the pair of the last key below this one, or of the last of all where it has no bytes; or none.
-    pub fn last_below(&self, key: &[u8]) -> Result<Option<(Vec<u8>, Vec<u8>)>> {
+    pub fn last_below(&self, key: impl AsRef<[u8]>) -> Result<Option<(Vec<u8>, Vec<u8>)>> {
+        let key = key.as_ref();
         let last = if key.is_empty() { self.range_back(..).next() } else { self.range_back(..key).next() };
         last.transpose()
     }
@@ -84,6 +107,34 @@ impl<F: Deref<Target = File>> Snapshot<F> {
     pub fn scan(&self, range: impl KeyRange, room: usize) -> Result<Page> {
         let (from, to) = range.ends()?;
         self.file.handle().scan(self.id, &from, &to, room, false)
+    }
+
+    /// Returns as many pairs of a range as fit in so many bytes, in one call, from the last key on, as
+    /// [`Snapshot::scan_back`](hlcstore::Snapshot::scan_back) does.
+    pub fn scan_back(&self, range: impl KeyRange, room: usize) -> Result<Page> {
+        let (from, to) = range.ends()?;
+        self.file.handle().scan(self.id, &from, &to, room, true)
+    }
+
+    /// Returns as many keys of a range as fit in so many bytes, in one call, as
+    /// [`Snapshot::scan_keys`](hlcstore::Snapshot::scan_keys) does.
+    pub fn scan_keys(&self, range: impl KeyRange, room: usize) -> Result<KeyPage> {
+        let (from, to) = range.ends()?;
+        self.file.handle().scan_keys(self.id, &from, &to, room)
+    }
+
+    /// Returns as many of the [`changes`](Snapshot::changes) to another snapshot as fit in so many bytes, in one call, as
+    /// [`Snapshot::scan_changes`](hlcstore::Snapshot::scan_changes) does.
+    pub fn scan_changes(&self, after: &Snapshot<F>, range: impl KeyRange, room: usize) -> Result<ChangePage> {
+        let (from, to) = range.ends()?;
+        self.file.handle().scan_changes(self.ids(after)?, &from, &to, room)
+    }
+
+    /// Digests a range, so that replicas compare without listing, as
+    /// [`Snapshot::digest`](hlcstore::Snapshot::digest) does.
+    pub fn digest(&self, range: impl KeyRange) -> Result<[u8; 32]> {
+        let (from, to) = range.ends()?;
+        self.file.handle().digest(self.id, &from, &to)
     }
 
     /// Counts the keys of a range that have a value.
@@ -108,83 +159,3 @@ impl<'a, F: Deref<Target = File>> IntoIterator for &'a Snapshot<F> {
         self.iter()
     }
 }
-
-/// Goes through a range of a snapshot, page by page.
-#[derive(Debug)]
-struct Listing<'a> {
-    handle: &'a Handle,
-    id: u64,
-    is_back: bool,
-    /// What is left of the range after the page; or an error, until it is returned; or none at the end.
-    range: Option<hlcstore::Result<(Vec<u8>, Vec<u8>)>>,
-    room: usize,
-    page: vec::IntoIter<(Vec<u8>, Vec<u8>)>,
-}
-
-impl<'a> Listing<'a> {
-    fn new<F: Deref<Target = File>>(snapshot: &'a Snapshot<F>, range: impl KeyRange, is_back: bool) -> Listing<'a> {
-        let (handle, range) = (snapshot.file.handle(), Some(range.ends()));
-        Listing { handle, id: snapshot.id, is_back, range, room: FIRST_ROOM, page: Vec::new().into_iter() }
-    }
-
-    fn next(&mut self) -> Option<Result<(Vec<u8>, Vec<u8>)>> {
-        loop {
-            if let Some(pair) = self.page.next() {
-                return Some(Ok(pair));
-            }
-            let range = self.range.take()?;
-            if let Err(error) = range.map_err(Into::into).and_then(|(from, to)| self.load(from, to)) {
-                return Some(Err(error));
-            }
-        }
-    }
-
-    /// Loads the next page, and keeps what is left of the range.
-    fn load(&mut self, from: Vec<u8>, to: Vec<u8>) -> Result<()> {
-        let page = self.handle.scan(self.id, &from, &to, self.room, self.is_back)?;
-        self.room = ROOM;
-        let pairs: Vec<_> = page.iter().map(|(key, value)| (key.to_vec(), value.to_vec())).collect();
-        if page.has_more() {
-            let last = pairs.last().map(|(key, _)| key.clone());
-            self.range = Some(Ok(match last {
-                Some(key) if self.is_back => (from, key),
-                Some(mut key) => {
-                    key.push(0);
-                    (key, to)
-                }
-                None => (from, to),
-            }));
-        }
-        self.page = pairs.into_iter();
-        Ok(())
-    }
-}
-
-/// Iterates over the pairs of a key and its value in a range of a snapshot, in the byte order of the keys.
-///
-/// It reads some pairs at a time, so that writes go on between. It returns an error once, and is at its end then.
-#[derive(Debug)]
-pub struct Pairs<'a>(Listing<'a>);
-
-/// Iterates over the pairs of a range of a snapshot from its end, the last key first, as [`Pairs`] does.
-#[derive(Debug)]
-pub struct PairsBack<'a>(Listing<'a>);
-
-impl Iterator for Pairs<'_> {
-    type Item = Result<(Vec<u8>, Vec<u8>)>;
-
-    fn next(&mut self) -> Option<Self::Item> {
-        self.0.next()
-    }
-}
-
-impl Iterator for PairsBack<'_> {
-    type Item = Result<(Vec<u8>, Vec<u8>)>;
-
-    fn next(&mut self) -> Option<Self::Item> {
-        self.0.next()
-    }
-}
-
-impl FusedIterator for Pairs<'_> {}
-impl FusedIterator for PairsBack<'_> {}

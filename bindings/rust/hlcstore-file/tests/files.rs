@@ -181,7 +181,7 @@ fn vacuums_drop_what_no_snapshot_needs() -> Result<()> {
     let folder = Folder::new("vacuums");
     let file = File::open(folder.path())?;
     for reading in 1..10 {
-        file.node(0).at(reading).write(b"city", &[reading as u8])?;
+        file.node(0).at(reading).write(b"city", [reading as u8])?;
     }
     let kept = file.snapshot_at(at(4))?;
     // Of the stamps 1 to 6 the snapshot at 4 needs a row, and the stamp 6.
@@ -205,7 +205,7 @@ fn calls_are_refused() -> Result<()> {
     let long = vec![0; 65_536];
     let refusals: [(Error, _, Option<Stamp>); 10] = [
         (file.write(b"", b"").unwrap_err(), BadKey, None),
-        (file.delete(&[0; 256]).unwrap_err(), BadKey, None),
+        (file.delete([0; 256]).unwrap_err(), BadKey, None),
         (file.write(b"a", &long).unwrap_err(), ValueTooLong, None),
         (file.node(1).write(b"a", b"").unwrap_err(), NoNode, None),
         (file.node(0).at(1 << 48).write(b"a", b"").unwrap_err(), ReadingTooLarge, None),
@@ -254,7 +254,7 @@ fn readers_run_beside_a_writer() -> Result<()> {
         let mut batch = Batch::new()?;
         for number in 0..300_u32 {
             for key in [b"a", b"b", b"c"] {
-                batch.write(key, &number.to_le_bytes())?;
+                batch.write(key, number.to_le_bytes())?;
             }
             file.append(&mut batch)?;
             if number % 100 == 0 {
@@ -291,7 +291,7 @@ fn snapshots_own_a_share() -> Result<()> {
     let writers: Vec<_> = (0..4_u8)
         .map(|number| {
             let file = Arc::clone(&file);
-            thread::spawn(move || (0..50_u8).try_for_each(|turn| file.write(&[b'a' + number], &[turn]).map(drop)))
+            thread::spawn(move || (0..50_u8).try_for_each(|turn| file.write([b'a' + number], [turn]).map(drop)))
         })
         .collect();
     for writer in writers {

@@ -17,3 +17,6 @@ pub const HLC_NO_OUTPUT: hlc_output = hlc_output { at: core::ptr::null_mut(), li
 
 /// A restore before it is started.
 pub const HLC_NO_RESTORING: hlc_restoring = hlc_restoring { at: core::ptr::null_mut(), live: false };
+
+/// A saving before it is started.
+pub const HLC_NO_SAVING: hlc_saving = hlc_saving { at: core::ptr::null_mut(), live: false };

@@ -81,6 +81,8 @@ pub enum ErrorKind {
     NoIncrement,
     /// The increment is not of a later state of the store from which the checkpoint is.
     NotLater,
+    /// The store changed while its checkpoint was written in pieces.
+    Changed,
     /// An answer that this version of the crate does not know.
     Other,
 }
@@ -88,6 +90,7 @@ pub enum ErrorKind {
 impl Error {
     pub(crate) const NO_MEMORY: Error = Error { code: sys::HLC_NO_MEMORY, word: 0 };
     pub(crate) const NO_SNAPSHOT: Error = Error { code: sys::HLC_NO_SNAPSHOT, word: 0 };
+    pub(crate) const CHANGED: Error = Error { code: sys::HLC_CHANGED, word: 0 };
 
     /// Returns the refusal with this number and this word, for programs that make calls of the C library themselves.
     pub fn new(code: u32, word: u64) -> Error {
@@ -132,6 +135,7 @@ impl Error {
             sys::HLC_NOT_FEWEST => ErrorKind::NotFewest,
             sys::HLC_NO_INCREMENT => ErrorKind::NoIncrement,
             sys::HLC_NOT_LATER => ErrorKind::NotLater,
+            sys::HLC_CHANGED => ErrorKind::Changed,
             _ => ErrorKind::Other,
         }
     }

@@ -8,7 +8,6 @@ use crate::error::answer;
 use crate::output::{Certificate, Output};
 use crate::range::Bounds;
 use crate::vacuum::{VacuumPart, Vacuumed};
-use crate::version::versions_of;
 use crate::{Applied, Content, Error, Item, Link, Node, OpenSnapshot, Result, Sizes, Stamp, Stopped, Version};
 use hlcstore_sys as sys;
 
@@ -264,12 +263,10 @@ impl Handle {
                 }
             }
         };
-        if code != sys::HLC_OK && code != sys::HLC_MORE {
-            return Err(Error::new(code, 0));
-        }
+        let is_more_left = is_more_left(code)?;
         // The call has written these bytes.
         unsafe { out.set_len(len) };
-        Ok((many, code == sys::HLC_MORE))
+        Ok((many, is_more_left))
     }
 
     pub(crate) fn count(&self, id: u64, range: &Bounds) -> Result<u64> {
@@ -337,7 +334,7 @@ impl Handle {
                 sys::hlc_versions(&mut copy, key, key_len, above, to, out, room, len, &mut many)
             })?;
         }
-        versions_of(&bytes, many)
+        Version::from_bytes(&bytes, many)
     }
 
     pub(crate) fn checkpoint(&self, word: u64) -> Result<Output> {
@@ -345,6 +342,22 @@ impl Handle {
         let (output, len) = saved.place();
         self.ask(|store, _| unsafe { sys::hlc_checkpoint(store, word, output, len) })?;
         Ok(saved)
+    }
+
+    /// Starts a saving in pieces.
+    pub(crate) fn start_saving(&self, saving: &mut sys::hlc_saving, word: u64) -> Result<()> {
+        self.ask(|store, len| unsafe { sys::hlc_saving_start(saving, store, word, len) }).map(drop)
+    }
+
+    /// Reads the next piece of a saving, which is as long as there is room. Returns whether more are left.
+    pub(crate) fn read_saving(&self, saving: &mut sys::hlc_saving, piece: &mut Vec<u8>) -> Result<bool> {
+        piece.clear();
+        let (mut copy, mut len) = (self.raw, 0);
+        let (out, room) = (piece.as_mut_ptr(), piece.capacity());
+        let is_more_left = is_more_left(unsafe { sys::hlc_saving_read(saving, &mut copy, out, room, &mut len) })?;
+        // The call has written these bytes.
+        unsafe { piece.set_len(len) };
+        Ok(is_more_left)
     }
 
     pub(crate) fn increment(&self, since: Stamp, word: u64) -> Result<Output> {
@@ -408,6 +421,11 @@ impl Drop for Handle {
     fn drop(&mut self) {
         self.close();
     }
+}
+
+/// Whether a call that returns as much as there is room for left a part.
+fn is_more_left(code: u32) -> Result<bool> {
+    if code == sys::HLC_MORE { Ok(true) } else { answer(code, 0).map(|_| false) }
 }
 
 /// What a vacuum writes: the stamp up to which it went, or the word of a refusal, and the numbers of rows and bytes.

@@ -1,5 +1,5 @@
 use crate::buffer::{append, reserve};
-use crate::{Result, Stamp};
+use crate::{Error, Result, Stamp};
 use hlcstore_sys as sys;
 
 /// An item that a node issued: a write, a deletion, a report or a retirement, with its number on the node's link and
@@ -54,13 +54,17 @@ pub enum Content<'a> {
 
 impl<'a> Item<'a> {
     /// Returns a write.
-    pub fn write(node: u16, number: u64, stamp: Stamp, key: &'a [u8], value: &'a [u8]) -> Item<'a> {
-        Item { node, number, stamp, content: Content::Write { key, value } }
+    pub fn write<K, V>(node: u16, number: u64, stamp: Stamp, key: &'a K, value: &'a V) -> Item<'a>
+    where
+        K: AsRef<[u8]> + ?Sized,
+        V: AsRef<[u8]> + ?Sized,
+    {
+        Item { node, number, stamp, content: Content::Write { key: key.as_ref(), value: value.as_ref() } }
     }
 
     /// Returns a deletion.
-    pub fn delete(node: u16, number: u64, stamp: Stamp, key: &'a [u8]) -> Item<'a> {
-        Item { node, number, stamp, content: Content::Delete { key } }
+    pub fn delete<K: AsRef<[u8]> + ?Sized>(node: u16, number: u64, stamp: Stamp, key: &'a K) -> Item<'a> {
+        Item { node, number, stamp, content: Content::Delete { key: key.as_ref() } }
     }
 
     /// Returns a report.
@@ -71,6 +75,35 @@ impl<'a> Item<'a> {
     /// Returns a retirement.
     pub fn retire(node: u16, number: u64, stamp: Stamp) -> Item<'a> {
         Item { node, number, stamp, content: Content::Retire }
+    }
+
+    /// Returns the first item of a log, and the bytes after it. It is the opposite of [`encode`](Item::encode).
+    ///
+    /// Refusal: `BadBytes`, where 1 is the word if the bytes end within the item.
+    ///
+    /// ```
+    /// use hlcstore::{Item, Stamp};
+    ///
+    /// let written = Item::write(0, 0, Stamp::new(5, 0), b"city", b"Lyon");
+    /// let log = [written.encode()?, Item::report(0, 1, Stamp::new(6, 0)).encode()?].concat();
+    /// let (item, rest) = Item::decode(&log)?;
+    /// assert_eq!((item, Item::decode(rest)?.0.number), (written, 1));
+    /// # Ok::<(), hlcstore::Error>(())
+    /// ```
+    pub fn decode(log: &'a [u8]) -> Result<(Item<'a>, &'a [u8])> {
+        let mut fields = Fields { rest: log };
+        fields.expect_version()?;
+        let [node_high, node_low] = fields.array()?;
+        let (number, stamp) = (fields.word()?, fields.word()?);
+        let content = fields.content()?;
+        let node = u16::from_be_bytes([node_high, node_low]);
+        Ok((Item { node, number, stamp: Stamp::from_bits(stamp), content }, fields.rest))
+    }
+
+    /// Returns the same item with a key and a value of its own.
+    pub fn into_owned(self) -> OwnedItem {
+        let Item { node, number, stamp, content } = self;
+        OwnedItem { node, number, stamp, content: content.into_owned() }
     }
 
     /// Returns the item as bytes, at most 65,814. `docs/formats.md` describes them.
@@ -113,7 +146,154 @@ impl<'a> Item<'a> {
     }
 }
 
+/// The fields of an item as bytes, from the front on. `docs/formats.md` has the numbers of what is wrong with them.
+struct Fields<'a> {
+    rest: &'a [u8],
+}
+
+const SHORT: u64 = 1;
+const OTHER_VERSION: u64 = 2;
+const NO_KIND: u64 = 3;
+const EMPTY_KEY: u64 = 4;
+const NO_FLAG: u64 = 5;
+
+fn bad_bytes<T>(fault: u64) -> Result<T> {
+    Err(Error::new(sys::HLC_BAD_BYTES, fault))
+}
+
+impl<'a> Fields<'a> {
+    fn array<const LEN: usize>(&mut self) -> Result<[u8; LEN]> {
+        let Some((field, rest)) = self.rest.split_first_chunk() else { return bad_bytes(SHORT) };
+        self.rest = rest;
+        Ok(*field)
+    }
+
+    fn byte(&mut self) -> Result<u8> {
+        self.array().map(|[byte]| byte)
+    }
+
+    fn word(&mut self) -> Result<u64> {
+        self.array().map(u64::from_be_bytes)
+    }
+
+    fn bytes(&mut self, len: usize) -> Result<&'a [u8]> {
+        let Some((bytes, rest)) = self.rest.split_at_checked(len) else { return bad_bytes(SHORT) };
+        self.rest = rest;
+        Ok(bytes)
+    }
+
+    fn expect_version(&mut self) -> Result<()> {
+        if self.byte()? == 1 { Ok(()) } else { bad_bytes(OTHER_VERSION) }
+    }
+
+    fn content(&mut self) -> Result<Content<'a>> {
+        match self.byte()? {
+            0 => self.write(),
+            1 => Ok(Content::Report),
+            2 => Ok(Content::Retire),
+            _ => bad_bytes(NO_KIND),
+        }
+    }
+
+    fn write(&mut self) -> Result<Content<'a>> {
+        let len = self.byte()?;
+        if len == 0 {
+            return bad_bytes(EMPTY_KEY);
+        }
+        let key = self.bytes(len.into())?;
+        match self.byte()? {
+            0 => Ok(Content::Delete { key }),
+            1 => {
+                let len = u16::from_be_bytes(self.array()?);
+                Ok(Content::Write { key, value: self.bytes(len.into())? })
+            }
+            _ => bad_bytes(NO_FLAG),
+        }
+    }
+}
+
+/// An [`Item`] with a key and a value of its own, for a queue or another thread. To make one takes memory as any vector
+/// does: where there is none, the program ends.
+///
+/// ```
+/// use hlcstore::{Node, OwnedItem, Stamp, Store};
+///
+/// let mut node = Node::new(0, Stamp::ZERO);
+/// let queue = vec![OwnedItem::from(node.write(5, b"city", b"Lyon")?), node.report(6)?.into_owned()];
+/// let store = Store::open(1)?;
+/// for item in &queue {
+///     store.accept(item.as_item())?;
+/// }
+/// # Ok::<(), hlcstore::Error>(())
+/// ```
+#[derive(Clone, Debug, PartialEq, Eq, Hash)]
+pub struct OwnedItem {
+    /// The node that issued it.
+    pub node: u16,
+    /// Its number among the node's items, from 0 on.
+    pub number: u64,
+    /// Its stamp.
+    pub stamp: Stamp,
+    /// What it says.
+    pub content: OwnedContent,
+}
+
+/// What an [`OwnedItem`] says, as [`Content`].
+#[derive(Clone, Debug, PartialEq, Eq, Hash)]
+pub enum OwnedContent {
+    /// The value of a key.
+    Write {
+        /// The key, of 1 to 255 bytes.
+        key: Vec<u8>,
+        /// The value, of at most 65,535 bytes.
+        value: Vec<u8>,
+    },
+    /// That a key has no value.
+    Delete {
+        /// The key, of 1 to 255 bytes.
+        key: Vec<u8>,
+    },
+    /// How far the node's stamps are.
+    Report,
+    /// That this is the node's last item.
+    Retire,
+}
+
+impl OwnedItem {
+    /// Returns the same item, which borrows the key and the value of this one.
+    pub fn as_item(&self) -> Item<'_> {
+        let content = match &self.content {
+            OwnedContent::Write { key, value } => Content::Write { key, value },
+            OwnedContent::Delete { key } => Content::Delete { key },
+            OwnedContent::Report => Content::Report,
+            OwnedContent::Retire => Content::Retire,
+        };
+        Item { node: self.node, number: self.number, stamp: self.stamp, content }
+    }
+}
+
+impl From<Item<'_>> for OwnedItem {
+    fn from(item: Item<'_>) -> OwnedItem {
+        item.into_owned()
+    }
+}
+
+impl<'a> From<&'a OwnedItem> for Item<'a> {
+    fn from(item: &'a OwnedItem) -> Item<'a> {
+        item.as_item()
+    }
+}
+
 impl Content<'_> {
+    fn into_owned(self) -> OwnedContent {
+        match self {
+            Content::Write { key, value } => OwnedContent::Write { key: key.to_vec(), value: value.to_vec() },
+            Content::Delete { key } => OwnedContent::Delete { key: key.to_vec() },
+            Content::Report => OwnedContent::Report,
+            Content::Retire => OwnedContent::Retire,
+        }
+    }
+
     /// How many bytes an item with this content has, or more.
     fn encoded_len(&self) -> usize {
         const WITHOUT_BYTES: usize = 24;

@@ -4,6 +4,7 @@ use crate::buffer::copied;
 use crate::handle::Listed;
 use crate::range::Bounds;
 use crate::{Access, Error, Result, Snapshot};
+use std::cmp::Ordering;
 use std::fmt;
 use std::iter::FusedIterator;
 
@@ -57,6 +58,11 @@ impl<'a> Strings<'a> {
         let (has_value, rest) = self.rest.split_first()?;
         self.rest = rest;
         if *has_value == 0 { Some(None) } else { self.next().map(Some) }
+    }
+
+    /// Takes a key and its answer.
+    fn change(&mut self) -> Option<(&'a [u8], Option<&'a [u8]>)> {
+        Some((self.next()?, self.answer()?))
     }
 }
 
@@ -122,6 +128,12 @@ impl fmt::Debug for Page {
 pub struct KeyPage(pub(crate) Part);
 
 impl KeyPage {
+    /// Returns so many keys in the form of [`as_bytes`](KeyPage::as_bytes), for programs that make calls of the C
+    /// library themselves.
+    pub fn from_bytes(bytes: Vec<u8>, len: usize, has_more: bool) -> KeyPage {
+        KeyPage(Part { bytes, len, has_more })
+    }
+
     /// Returns how many keys there are.
     pub fn len(&self) -> usize {
         self.0.len
@@ -152,6 +164,51 @@ impl KeyPage {
 impl fmt::Debug for KeyPage {
     fn fmt(&self, f: &mut fmt::Formatter<'_>) -> fmt::Result {
         f.debug_list().entries(self.iter()).finish()
+    }
+}
+
+/// What changes from one snapshot to another, which [`Snapshot::scan_changes`] returns.
+#[derive(Clone)]
+pub struct ChangePage(pub(crate) Part);
+
+impl ChangePage {
+    /// Returns so many changes in the form of [`as_bytes`](ChangePage::as_bytes), for programs that make calls of the C
+    /// library themselves.
+    pub fn from_bytes(bytes: Vec<u8>, len: usize, has_more: bool) -> ChangePage {
+        ChangePage(Part { bytes, len, has_more })
+    }
+
+    /// Returns how many changes there are.
+    pub fn len(&self) -> usize {
+        self.0.len
+    }
+
+    /// Returns whether there is no change.
+    pub fn is_empty(&self) -> bool {
+        self.0.len == 0
+    }
+
+    /// Returns whether the range has more changes, which did not fit. They have keys above the last one here.
+    pub fn has_more(&self) -> bool {
+        self.0.has_more
+    }
+
+    /// Returns the changes, in the byte order of the keys: each key with its value in the other snapshot, or none.
+    pub fn iter(&self) -> impl Iterator<Item = (&[u8], Option<&[u8]>)> {
+        let mut strings = Strings { rest: &self.0.bytes };
+        std::iter::from_fn(move || strings.change())
+    }
+
+    /// Returns the changes as the C library writes them: for each the length of the key, in eight bytes, the low one
+    /// first, and the key; then a byte 0 where it has no value, or 1, the length of the value and the value.
+    pub fn as_bytes(&self) -> &[u8] {
+        &self.0.bytes
+    }
+}
+
+impl fmt::Debug for ChangePage {
+    fn fmt(&self, f: &mut fmt::Formatter<'_>) -> fmt::Result {
+        f.debug_map().entries(self.iter()).finish()
     }
 }
 
@@ -190,6 +247,18 @@ impl<'a, S: Access> Listing<'a, S> {
         entry.transpose()
     }
 
+    /// Returns the key of the next entry, or none at the end.
+    fn next_key(&mut self) -> Result<Option<&[u8]>> {
+        self.find_next()?;
+        Ok(Strings { rest: &self.page.bytes[self.next..] }.next())
+    }
+
+    /// Returns the key of the last entry that was returned, if there was one.
+    fn last_key(&self) -> Option<&[u8]> {
+        let has_returned = self.next > 0;
+        Strings { rest: &self.page.bytes[self.last..] }.next().filter(|_| has_returned)
+    }
+
     /// Loads pages until one has a next entry, or the range is at its end.
     fn find_next(&mut self) -> Result<()> {
         while self.next == self.page.bytes.len() && self.page.has_more {
@@ -214,15 +283,78 @@ fn copied_pair(strings: &mut Strings<'_>) -> Option<Result<(Vec<u8>, Vec<u8>)>> 
     Some(copied(key).and_then(|key| Ok((key, copied(value)?))))
 }
 
-/// Iterates over the pairs of a key and its value in a range of a snapshot, in the byte order of the keys.
+/// A listing of pairs from both ends of a range, or of their keys, until they meet.
+struct Both<'a, S: Access> {
+    snapshot: &'a Snapshot<S>,
+    listed: Listed,
+    /// The whole range; or an error, until it is returned.
+    range: Result<Bounds>,
+    /// The listings from the two ends, from their first entries on.
+    front: Option<Listing<'a, S>>,
+    back: Option<Listing<'a, S>>,
+    is_over: bool,
+}
+
+impl<'a, S: Access> Both<'a, S> {
+    fn new(snapshot: &'a Snapshot<S>, listed: Listed, range: Result<Bounds>) -> Both<'a, S> {
+        Both { snapshot, listed, range, front: None, back: None, is_over: false }
+    }
+
+    /// Begins a listing of the whole range.
+    fn begin(&self, listed: Listed) -> Listing<'a, S> {
+        let range = self.range.as_ref().map_err(|error| *error).and_then(Bounds::copied);
+        Listing::new(self.snapshot, listed, range)
+    }
+
+    /// Returns the next entry from the front.
+    fn next<T>(&mut self, copy: impl FnOnce(&mut Strings<'_>) -> Option<Result<T>>) -> Option<Result<T>> {
+        let mut front = self.front.take().unwrap_or_else(|| self.begin(self.listed));
+        let entry = self.step(&mut front, self.back.as_ref(), Ordering::Less, copy);
+        self.front = Some(front);
+        self.is_over = !matches!(entry, Some(Ok(_)));
+        entry
+    }
+
+    /// Returns the next entry from the back, as a pair.
+    fn next_back<T>(&mut self, copy: impl FnOnce(&mut Strings<'_>) -> Option<Result<T>>) -> Option<Result<T>> {
+        let mut back = self.back.take().unwrap_or_else(|| self.begin(Listed::PairsBack));
+        let entry = self.step(&mut back, self.front.as_ref(), Ordering::Greater, copy);
+        self.back = Some(back);
+        self.is_over = !matches!(entry, Some(Ok(_)));
+        entry
+    }
+
+    /// Returns the next entry of a listing, unless both are over, or its key is not so beside the last one that the
+    /// other listing returned.
+    fn step<T>(
+        &self,
+        listing: &mut Listing<'a, S>,
+        other: Option<&Listing<'a, S>>,
+        beside: Ordering,
+        copy: impl FnOnce(&mut Strings<'_>) -> Option<Result<T>>,
+    ) -> Option<Result<T>> {
+        if self.is_over {
+            return None;
+        }
+        match (listing.next_key(), other.and_then(Listing::last_key)) {
+            (Err(error), _) => return Some(Err(error)),
+            (Ok(Some(key)), Some(last)) if key.cmp(last) != beside => return None,
+            _ => (),
+        }
+        listing.next_entry(copy)
+    }
+}
+
+/// Iterates over the pairs of a key and its value in a range of a snapshot, in the byte order of the keys, from both
+/// ends.
 ///
 /// It reads some pairs at a time, so that a shared store is not locked between. It returns an error once, also one of
 /// the kind `NoMemory`, and is at its end then: it returns none from then on.
-pub struct Pairs<'a, S: Access>(Listing<'a, S>);
+pub struct Pairs<'a, S: Access>(Both<'a, S>);
 
 impl<'a, S: Access> Pairs<'a, S> {
     pub(crate) fn new(snapshot: &'a Snapshot<S>, range: Result<Bounds>) -> Pairs<'a, S> {
-        Pairs(Listing::new(snapshot, Listed::Pairs, range))
+        Pairs(Both::new(snapshot, Listed::Pairs, range))
     }
 }
 
@@ -230,7 +362,13 @@ impl<S: Access> Iterator for Pairs<'_, S> {
     type Item = Result<(Vec<u8>, Vec<u8>)>;
 
     fn next(&mut self) -> Option<Self::Item> {
-        self.0.next_entry(copied_pair)
+        self.0.next(copied_pair)
+    }
+}
+
+impl<S: Access> DoubleEndedIterator for Pairs<'_, S> {
+    fn next_back(&mut self) -> Option<Self::Item> {
+        self.0.next_back(copied_pair)
     }
 }
 
@@ -242,15 +380,12 @@ impl<S: Access> fmt::Debug for Pairs<'_, S> {
     }
 }
 
-/// Iterates over the pairs of a range of a snapshot from its end, the last key first.
-///
-/// It reads some pairs at a time, so that a shared store is not locked between. It returns an error once, also one of
-/// the kind `NoMemory`, and is at its end then: it returns none from then on.
-pub struct PairsBack<'a, S: Access>(Listing<'a, S>);
+/// Iterates over the pairs of a range of a snapshot from its end, the last key first: [`Pairs`] in reverse.
+pub struct PairsBack<'a, S: Access>(Both<'a, S>);
 
 impl<'a, S: Access> PairsBack<'a, S> {
     pub(crate) fn new(snapshot: &'a Snapshot<S>, range: Result<Bounds>) -> PairsBack<'a, S> {
-        PairsBack(Listing::new(snapshot, Listed::PairsBack, range))
+        PairsBack(Both::new(snapshot, Listed::Pairs, range))
     }
 }
 
@@ -258,7 +393,13 @@ impl<S: Access> Iterator for PairsBack<'_, S> {
     type Item = Result<(Vec<u8>, Vec<u8>)>;
 
     fn next(&mut self) -> Option<Self::Item> {
-        self.0.next_entry(copied_pair)
+        self.0.next_back(copied_pair)
+    }
+}
+
+impl<S: Access> DoubleEndedIterator for PairsBack<'_, S> {
+    fn next_back(&mut self) -> Option<Self::Item> {
+        self.0.next(copied_pair)
     }
 }
 
@@ -292,7 +433,7 @@ impl<S: Access> Iterator for Changes<'_, S> {
 
     fn next(&mut self) -> Option<Self::Item> {
         self.listing.next_entry(|strings| {
-            let (key, value) = (strings.next()?, strings.answer()?);
+            let (key, value) = strings.change()?;
             Some(copied(key).and_then(|key| Ok((key, value.map(copied).transpose()?))))
         })
     }
@@ -306,15 +447,15 @@ impl<S: Access> fmt::Debug for Changes<'_, S> {
     }
 }
 
-/// Iterates over the keys with a value in a range of a snapshot, in byte order.
+/// Iterates over the keys with a value in a range of a snapshot, in byte order, from both ends.
 ///
 /// It reads some keys at a time, so that a shared store is not locked between. It returns an error once, also one of
 /// the kind `NoMemory`, and is at its end then: it returns none from then on.
-pub struct Keys<'a, S: Access>(Listing<'a, S>);
+pub struct Keys<'a, S: Access>(Both<'a, S>);
 
 impl<'a, S: Access> Keys<'a, S> {
     pub(crate) fn new(snapshot: &'a Snapshot<S>, range: Result<Bounds>) -> Keys<'a, S> {
-        Keys(Listing::new(snapshot, Listed::Keys, range))
+        Keys(Both::new(snapshot, Listed::Keys, range))
     }
 }
 
@@ -322,7 +463,16 @@ impl<S: Access> Iterator for Keys<'_, S> {
     type Item = Result<Vec<u8>>;
 
     fn next(&mut self) -> Option<Self::Item> {
-        self.0.next_entry(|strings| strings.next().map(copied))
+        self.0.next(|strings| strings.next().map(copied))
+    }
+}
+
+impl<S: Access> DoubleEndedIterator for Keys<'_, S> {
+    fn next_back(&mut self) -> Option<Self::Item> {
+        self.0.next_back(|strings| {
+            let (key, _) = (strings.next()?, strings.next()?);
+            Some(copied(key))
+        })
     }
 }
 

@@ -68,7 +68,12 @@ impl Node {
     /// Issues a write at this reading.
     ///
     /// Refusals, in this order: `Retired`, `BadKey`, `ValueTooLong`, `NumbersSpent`, `ReadingTooLarge`, `CounterFull`.
-    pub fn write<'a>(&mut self, reading: u64, key: &'a [u8], value: &'a [u8]) -> Result<Item<'a>> {
+    pub fn write<'a, K, V>(&mut self, reading: u64, key: &'a K, value: &'a V) -> Result<Item<'a>>
+    where
+        K: AsRef<[u8]> + ?Sized,
+        V: AsRef<[u8]> + ?Sized,
+    {
+        let (key, value) = (key.as_ref(), value.as_ref());
         // SAFETY: key and value have these lengths.
         self.issue(Content::Write { key, value }, |node, number, word| unsafe {
             sys::hlc_node_write(node, reading, key.as_ptr(), key.len(), value.as_ptr(), value.len(), number, word)
@@ -78,7 +83,8 @@ impl Node {
     /// Issues a deletion at this reading.
     ///
     /// Refusals, in this order: `Retired`, `BadKey`, `NumbersSpent`, `ReadingTooLarge`, `CounterFull`.
-    pub fn delete<'a>(&mut self, reading: u64, key: &'a [u8]) -> Result<Item<'a>> {
+    pub fn delete<'a, K: AsRef<[u8]> + ?Sized>(&mut self, reading: u64, key: &'a K) -> Result<Item<'a>> {
+        let key = key.as_ref();
         // SAFETY: the key has this length.
         self.issue(Content::Delete { key }, |node, number, word| unsafe {
             sys::hlc_node_delete(node, reading, key.as_ptr(), key.len(), number, word)

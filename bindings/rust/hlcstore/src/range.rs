@@ -53,6 +53,10 @@ impl Bounds {
         (self.from.as_ptr(), self.from.len(), self.to.as_ptr(), self.to.len())
     }
 
+    pub(crate) fn copied(&self) -> Result<Bounds> {
+        Ok(Bounds { from: copied(&self.from)?, to: copied(&self.to)? })
+    }
+
     /// Goes on after a key: the range begins with the next key that there can be.
     pub(crate) fn move_after(&mut self, key: &[u8]) -> Result<()> {
         self.from = next_key(key)?;

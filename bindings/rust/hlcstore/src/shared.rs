@@ -1,9 +1,13 @@
 use crate::handle::Handle;
+use crate::saving::{SaveError, write_checkpoint};
 use crate::{
     Applied, Certified, Item, Link, Node, OpenSnapshot, Result, Sizes, Snapshot, Stamp, Stopped, Store, VacuumPart,
     Vacuumed, Version,
 };
 use std::fmt;
+use std::io::Write;
+use std::ops::{Deref, DerefMut};
+use std::sync::atomic::{AtomicUsize, Ordering};
 use std::sync::{Arc, PoisonError, RwLock, RwLockReadGuard, RwLockWriteGuard};
 
 /// A store that threads share. Its clones are the same store, which is closed with the last of them.
@@ -32,12 +36,85 @@ use std::sync::{Arc, PoisonError, RwLock, RwLockReadGuard, RwLockWriteGuard};
 /// ```
 #[derive(Clone)]
 pub struct SharedStore {
-    handle: Arc<RwLock<Handle>>,
+    locked: Arc<Locked>,
+}
+
+/// A handle and its locks.
+///
+/// A saving keeps the gate, but the handle only while it reads a piece, so that reads run beside its writer. A change
+/// waits at the gate where there are savings, and not at the handle: there it would keep later reads waiting.
+struct Locked {
+    gate: RwLock<()>,
+    /// How many savings there are. One begins while it can read the handle, so that no change is under way.
+    savings: AtomicUsize,
+    handle: RwLock<Handle>,
+}
+
+/// The handle, for a change. It is released before the gate.
+struct Changing<'a> {
+    handle: RwLockWriteGuard<'a, Handle>,
+    _gate: Option<RwLockWriteGuard<'a, ()>>,
+}
+
+impl Deref for Changing<'_> {
+    type Target = Handle;
+
+    fn deref(&self) -> &Handle {
+        &self.handle
+    }
+}
+
+impl DerefMut for Changing<'_> {
+    fn deref_mut(&mut self) -> &mut Handle {
+        &mut self.handle
+    }
+}
+
+/// A saving that is under way.
+struct Saving<'a> {
+    savings: &'a AtomicUsize,
+    _gate: RwLockReadGuard<'a, ()>,
+}
+
+impl Drop for Saving<'_> {
+    fn drop(&mut self) {
+        self.savings.fetch_sub(1, Ordering::SeqCst);
+    }
+}
+
+// A thread that panicked while it had a lock was in no call of the library, which does not panic. So the store is
+// whole, and the poison of the lock says nothing.
+impl Locked {
+    fn read(&self) -> RwLockReadGuard<'_, Handle> {
+        self.handle.read().unwrap_or_else(PoisonError::into_inner)
+    }
+
+    fn write_handle(&self) -> RwLockWriteGuard<'_, Handle> {
+        self.handle.write().unwrap_or_else(PoisonError::into_inner)
+    }
+
+    fn write(&self) -> Changing<'_> {
+        let handle = self.write_handle();
+        if self.savings.load(Ordering::SeqCst) == 0 {
+            return Changing { handle, _gate: None };
+        }
+        drop(handle);
+        let gate = self.gate.write().unwrap_or_else(PoisonError::into_inner);
+        Changing { handle: self.write_handle(), _gate: Some(gate) }
+    }
+
+    fn save(&self) -> Saving<'_> {
+        let gate = self.gate.read().unwrap_or_else(PoisonError::into_inner);
+        let _handle = self.read();
+        self.savings.fetch_add(1, Ordering::SeqCst);
+        Saving { savings: &self.savings, _gate: gate }
+    }
 }
 
 impl SharedStore {
     pub(crate) fn new(handle: Handle) -> SharedStore {
-        SharedStore { handle: Arc::new(RwLock::new(handle)) }
+        let (gate, savings, handle) = (RwLock::new(()), AtomicUsize::new(0), RwLock::new(handle));
+        SharedStore { locked: Arc::new(Locked { gate, savings, handle }) }
     }
 
     /// Opens a store of so many nodes, as [`Store::open`] does.
@@ -162,7 +239,8 @@ impl SharedStore {
     }
 
     /// Returns the stored rows of a key between two stamps, as [`Store::versions`] does.
-    pub fn versions(&self, key: &[u8], above: Stamp, to: Stamp) -> Result<Vec<Version>> {
+    pub fn versions(&self, key: impl AsRef<[u8]>, above: Stamp, to: Stamp) -> Result<Vec<Version>> {
+        let key = key.as_ref();
         self.read().versions(key, above, to)
     }
 
@@ -177,7 +255,8 @@ impl SharedStore {
     }
 
     /// Does a part of a vacuum to a stamp, as [`Store::vacuum_part`] does.
-    pub fn vacuum_part(&self, stamp: Stamp, after: &[u8], most: usize) -> Result<VacuumPart> {
+    pub fn vacuum_part(&self, stamp: Stamp, after: impl AsRef<[u8]>, most: usize) -> Result<VacuumPart> {
+        let after = after.as_ref();
         self.write().vacuum_part(stamp, after, most)
     }
 
@@ -199,25 +278,31 @@ impl SharedStore {
         saved.read()
     }
 
+    /// Writes the bytes of a checkpoint in pieces, as [`Store::checkpoint_to`] does. Reads run beside it, and calls
+    /// that change the store wait until all is written; to open or close a snapshot is a change too. So the writer may
+    /// read the store, but must not change or save it, nor wait for a thread that does: it would wait for itself.
+    pub fn checkpoint_to<W: Write + ?Sized>(&self, out: &mut W, word: u64) -> std::result::Result<u64, SaveError> {
+        let _saving = self.locked.save();
+        write_checkpoint(out, word, || self.read())
+    }
+
     /// Returns an increment of the store since a stamp as bytes, as [`Store::increment`] does. Reads run beside it.
     pub fn increment(&self, since: Stamp, word: u64) -> Result<Vec<u8>> {
         let saved = self.read().increment(since, word)?;
         saved.read()
     }
 
-    // A thread that panicked while it had the lock was in no call of the library, which does not panic. So the store is
-    // whole, and the poison of the lock says nothing.
-    pub(crate) fn read(&self) -> RwLockReadGuard<'_, Handle> {
-        self.handle.read().unwrap_or_else(PoisonError::into_inner)
+    pub(crate) fn read(&self) -> impl Deref<Target = Handle> {
+        self.locked.read()
     }
 
-    pub(crate) fn write(&self) -> RwLockWriteGuard<'_, Handle> {
-        self.handle.write().unwrap_or_else(PoisonError::into_inner)
+    pub(crate) fn write(&self) -> impl DerefMut<Target = Handle> {
+        self.locked.write()
     }
 
     /// Whether another is a clone of this one.
     pub(crate) fn is_same(&self, other: &SharedStore) -> bool {
-        Arc::ptr_eq(&self.handle, &other.handle)
+        Arc::ptr_eq(&self.locked, &other.locked)
     }
 }
 

@@ -1,5 +1,5 @@
 use crate::handle::{Handle, Listed};
-use crate::listing::{Changes, KeyPage, Keys, Page, Pairs, PairsBack, Part};
+use crate::listing::{ChangePage, Changes, KeyPage, Keys, Page, Pairs, PairsBack, Part};
 use crate::range::Bounds;
 use crate::{Error, KeyRange, Result, SharedStore, Stamp, Store};
 use std::fmt;
@@ -131,14 +131,15 @@ impl<S: Access> Snapshot<S> {
     }
 
     /// Returns the value of a key, or none.
-    pub fn get(&self, key: &[u8]) -> Result<Option<Vec<u8>>> {
+    pub fn get(&self, key: impl AsRef<[u8]>) -> Result<Option<Vec<u8>>> {
         let mut value = Vec::new();
         Ok(self.get_into(key, &mut value)?.then_some(value))
     }
 
     /// Writes the value of a key to a vector, in place of what that contains, and returns whether there is one. A
     /// program that uses one vector for many reads saves the allocations.
-    pub fn get_into(&self, key: &[u8], value: &mut Vec<u8>) -> Result<bool> {
+    pub fn get_into(&self, key: impl AsRef<[u8]>, value: &mut Vec<u8>) -> Result<bool> {
+        let key = key.as_ref();
         value.clear();
         self.handle()?.read(self.id(), key, value)
     }
@@ -186,8 +187,8 @@ impl<S: Access> Snapshot<S> {
     }
 
     /// Returns the pair of the last key below another, or of the last of all where that has no bytes; or none.
-    pub fn last_below(&self, key: &[u8]) -> Result<Option<(Vec<u8>, Vec<u8>)>> {
-        let (bounds, mut part) = (Bounds::all_below(key)?, Part::default());
+    pub fn last_below(&self, key: impl AsRef<[u8]>) -> Result<Option<(Vec<u8>, Vec<u8>)>> {
+        let (bounds, mut part) = (Bounds::all_below(key.as_ref())?, Part::default());
         part.fill(self, Listed::PairsBack, &bounds, SHORT_ROOM)?;
         if part.is_short() {
             part.fill(self, Listed::PairsBack, &bounds, PAIR_ROOM)?;
@@ -263,6 +264,19 @@ impl<S: Access> Snapshot<S> {
         let mut part = Part::default();
         part.fill(self, Listed::Keys, &range.to_bounds()?, room)?;
         Ok(KeyPage(part))
+    }
+
+    /// Returns as many of the [`changes`](Snapshot::changes) to another snapshot as fit in so many bytes, in one call. A
+    /// change takes the bytes of its key and of its value, and at most 17.
+    ///
+    /// Refusal: `NoSnapshot`, also where they are not of one store.
+    pub fn scan_changes(&self, after: &Snapshot<S>, range: impl KeyRange, room: usize) -> Result<ChangePage> {
+        let mut part = Part::default();
+        if !self.has_store_of(after) {
+            return Err(Error::NO_SNAPSHOT);
+        }
+        part.fill(self, Listed::Changes(after.id()), &range.to_bounds()?, room)?;
+        Ok(ChangePage(part))
     }
 
     /// Counts the keys of a range that have a value.

@@ -1,8 +1,10 @@
 use crate::handle::Handle;
+use crate::saving::{SaveError, write_checkpoint};
 use crate::snapshot::{OpenSnapshot, Snapshot};
 use crate::{Applied, Certified, Item, Node, Result, SharedStore, Stamp, Stopped, VacuumPart, Vacuumed, Version};
 use std::cell::{Ref, RefCell, RefMut};
 use std::fmt;
+use std::io::Write;
 
 /// A multi-version store, for one thread at a time. It closes itself.
 ///
@@ -252,7 +254,8 @@ impl Store {
     /// assert_eq!((versions[1].stamp, &versions[1].value), (Stamp::new(5, 0), &Some(b"Lyon".to_vec())));
     /// # Ok::<(), hlcstore::Error>(())
     /// ```
-    pub fn versions(&self, key: &[u8], above: Stamp, to: Stamp) -> Result<Vec<Version>> {
+    pub fn versions(&self, key: impl AsRef<[u8]>, above: Stamp, to: Stamp) -> Result<Vec<Version>> {
+        let key = key.as_ref();
         self.read().versions(key, above, to)
     }
 
@@ -308,7 +311,8 @@ impl Store {
     /// assert_eq!(store.rows()?, 3);
     /// # Ok::<(), hlcstore::Error>(())
     /// ```
-    pub fn vacuum_part(&self, stamp: Stamp, after: &[u8], most: usize) -> Result<VacuumPart> {
+    pub fn vacuum_part(&self, stamp: Stamp, after: impl AsRef<[u8]>, most: usize) -> Result<VacuumPart> {
+        let after = after.as_ref();
         self.write().vacuum_part(stamp, after, most)
     }
 
@@ -362,6 +366,29 @@ impl Store {
     /// ```
     pub fn checkpoint(&self, word: u64) -> Result<Vec<u8>> {
         self.read().checkpoint(word)?.read()
+    }
+
+    /// Writes the bytes that [`checkpoint`](Store::checkpoint) returns, in pieces of 64 KiB. In memory are a piece, and
+    /// the rows of up to 32 keys as bytes. Returns how many bytes they are. The writer is not flushed. It may use the
+    /// store, but not change it.
+    ///
+    /// Errors: those of the writer, after which a part may be written, and refusals of the store: `NoMemory`, and
+    /// `Changed` where the writer changed the store.
+    ///
+    /// ```
+    /// use hlcstore::{Node, Stamp, Store};
+    ///
+    /// let store = Store::open(1)?;
+    /// let mut node = Node::new(0, Stamp::ZERO);
+    /// store.accept(node.write(5, b"city", b"Lyon")?)?;
+    ///
+    /// let mut saved = Vec::new(); // or a file
+    /// store.checkpoint_to(&mut saved, 77)?;
+    /// assert_eq!(saved, store.checkpoint(77)?);
+    /// # Ok::<(), Box<dyn std::error::Error>>(())
+    /// ```
+    pub fn checkpoint_to<W: Write + ?Sized>(&self, out: &mut W, word: u64) -> std::result::Result<u64, SaveError> {
+        write_checkpoint(out, word, || self.read())
     }
 
     /// Returns an increment as bytes: the whole state of the store, but of its rows only those above a stamp, with a

@@ -13,16 +13,21 @@ pub struct Version {
     pub value: Option<Vec<u8>>,
 }
 
-/// Returns so many rows from their bytes, as the library writes them: for each its stamp in eight bytes and its node in
-/// two, the low one first, and its answer.
-pub(crate) fn versions_of(bytes: &[u8], many: usize) -> Result<Vec<Version>> {
-    let mut versions = Vec::new();
-    versions.try_reserve_exact(many).map_err(|_| Error::NO_MEMORY)?;
-    let mut strings = Strings { rest: bytes };
-    while let Some((stamp, node, value)) = take_row(&mut strings) {
-        versions.push(Version { stamp, node, value: value.map(copied).transpose()? });
+impl Version {
+    /// Returns so many rows from their bytes, as the C library writes them, for programs that make its calls
+    /// themselves: of each its stamp in eight bytes and its node in two, the low one first; then a byte 0 in a deletion,
+    /// or 1, the length of the value and the value.
+    ///
+    /// Refusal: `NoMemory`.
+    pub fn from_bytes(bytes: &[u8], many: usize) -> Result<Vec<Version>> {
+        let mut versions = Vec::new();
+        versions.try_reserve_exact(many).map_err(|_| Error::NO_MEMORY)?;
+        let mut strings = Strings { rest: bytes };
+        while let Some((stamp, node, value)) = take_row(&mut strings) {
+            versions.push(Version { stamp, node, value: value.map(copied).transpose()? });
+        }
+        Ok(versions)
     }
-    Ok(versions)
 }
 
 fn take_row<'a>(strings: &mut Strings<'a>) -> Option<(Stamp, u16, Option<&'a [u8]>)> {

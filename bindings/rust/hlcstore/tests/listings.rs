@@ -118,6 +118,59 @@ fn iterators_go_back_from_page_to_page() {
     }
 }
 
+/// Goes through a listing from both ends in turns: so many entries from the front, and so many from the back. Returns
+/// them in the order of the front.
+fn both_ends<T, I>(mut listing: I, front: usize, back: usize) -> Vec<T>
+where
+    I: DoubleEndedIterator<Item = hlcstore::Result<T>>,
+{
+    let (mut first, mut last) = (Vec::new(), Vec::new());
+    while let Some(entry) = listing.next() {
+        first.push(entry.unwrap());
+        first.extend(listing.by_ref().take(front - 1).map(Result::unwrap));
+        last.extend(listing.by_ref().rev().take(back).map(Result::unwrap));
+    }
+    assert!(listing.next().is_none() && listing.next_back().is_none());
+    first.extend(last.into_iter().rev());
+    first
+}
+
+#[test]
+fn ends_of_a_listing_meet() {
+    let pairs = many_pairs();
+    let store = store_of(&pairs);
+    let snapshot = store.snapshot().unwrap();
+    let all: Vec<_> = pairs.clone().into_iter().collect();
+    let keys: Vec<_> = pairs.keys().cloned().collect();
+    for (front, back) in [(1, 1), (1, 100), (100, 1), (700, 800), (5000, 1), (1, 5000)] {
+        assert!(both_ends(snapshot.iter(), front, back) == all);
+        assert_eq!(both_ends(snapshot.keys(..), front, back), keys);
+        let reversed: Vec<_> = both_ends(snapshot.range_back(..), front, back).into_iter().rev().collect();
+        assert!(reversed == all);
+    }
+    let range = "key 01000".."key 01500";
+    assert!(snapshot.range(range.clone()).rev().eq(snapshot.range_back(range.clone())));
+    assert!(snapshot.keys(range.clone()).rev().map(Result::unwrap).eq(keys[1001..1501].iter().rev().cloned()));
+    assert_eq!(both_ends(snapshot.keys(range), 3, 2), keys[1001..1501]);
+}
+
+#[test]
+fn ends_of_few_entries_meet() {
+    for many in 0..5 {
+        let pairs: Pairs = (0..many).map(|key: u8| (vec![key], vec![])).collect();
+        let store = store_of(&pairs);
+        let snapshot = store.snapshot().unwrap();
+        for front in 0..=many {
+            let mut keys = snapshot.keys(..);
+            let mut found: Vec<_> = keys.by_ref().take(front.into()).map(Result::unwrap).collect();
+            let last: Vec<_> = keys.by_ref().rev().map(Result::unwrap).collect();
+            assert!(keys.next().is_none() && keys.next_back().is_none());
+            found.extend(last.into_iter().rev());
+            assert!(found.iter().eq(pairs.keys()));
+        }
+    }
+}
+
 #[test]
 fn pages_have_what_fits() {
     let store = store_of(&pairs_of(&[b"a", b"b", b"c"]));
@@ -149,7 +202,10 @@ fn iterator_ends_after_an_error() {
     assert!(pairs.next().is_none());
     let mut keys = snapshot.keys(..);
     assert!(keys.next().unwrap().is_err());
-    assert!(keys.next().is_none());
+    assert!(keys.next().is_none() && keys.next_back().is_none());
+    let mut keys = snapshot.keys(..);
+    assert!(keys.next_back().unwrap().is_err());
+    assert!(keys.next().is_none() && keys.next_back().is_none());
 }
 
 #[test]
@@ -179,4 +235,21 @@ fn digests_differ_where_pairs_do() {
     assert_ne!(digests(&one).0, digests(&other).0);
     assert_eq!(digests(&one).1, digests(&other).1);
     assert_ne!(digests(&one).0, digests(&one).1);
+}
+
+#[test]
+fn keys_are_texts_or_any_bytes() {
+    let store = Store::open(1).unwrap();
+    let mut node = Node::new(0, Stamp::ZERO);
+    store.accept(node.write(1, "city", &String::from("Lyon")).unwrap()).unwrap();
+    store.accept(node.write(2, &vec![b'a'], &[1, 2]).unwrap()).unwrap();
+    store.accept(node.delete(3, "a").unwrap()).unwrap();
+    let snapshot = store.snapshot().unwrap();
+    let lyon = Some(b"Lyon".to_vec());
+    assert_eq!((snapshot.get("city"), snapshot.get(b"city"), snapshot.get(String::from("city"))), {
+        (Ok(lyon.clone()), Ok(lyon.clone()), Ok(lyon))
+    });
+    assert_eq!(snapshot.last_below(vec![b'd']).unwrap().unwrap().0, b"city");
+    assert_eq!(store.versions("a", Stamp::ZERO, Stamp::MAX).unwrap()[1].value, Some(vec![1, 2]));
+    assert_eq!(store.vacuum_part(Stamp::new(3, 0), "b", 9).unwrap().vacuumed.kept, 1);
 }

@@ -3,6 +3,8 @@
 
 use hlcstore::{ErrorKind, Node, Stamp, Store};
 use std::fs;
+use std::io;
+use std::sync::Mutex;
 
 const RLIMIT_AS: i32 = 9;
 const MORE: u64 = 64 << 20;
@@ -17,6 +19,9 @@ unsafe extern "C" {
     fn getrlimit(resource: i32, limit: *mut Limit) -> i32;
     fn setrlimit(resource: i32, limit: *const Limit) -> i32;
 }
+
+/// The limit is that of the process, so the tests take turns.
+static TURN: Mutex<()> = Mutex::new(());
 
 /// Makes a call while the process may take only so many bytes more.
 fn limited<T>(call: impl FnOnce() -> T) -> T {
@@ -36,6 +41,7 @@ fn limited<T>(call: impl FnOnce() -> T) -> T {
 
 #[test]
 fn lack_of_memory_is_an_error() {
+    let _turn = TURN.lock();
     let store = Store::open(1).unwrap();
     let mut node = Node::new(0, Stamp::ZERO);
     let value = vec![b'v'; 65_535];
@@ -69,4 +75,19 @@ fn lack_of_memory_is_an_error() {
     assert_eq!(store.accept_items(&log), Ok(1));
     let snapshot = store.snapshot().unwrap();
     assert_eq!(snapshot.get(b"key").unwrap().as_deref(), Some(&value[..]));
+}
+
+#[test]
+fn checkpoint_in_pieces_needs_no_memory_for_all_of_it() {
+    let _turn = TURN.lock();
+    let store = Store::open(1).unwrap();
+    let mut node = Node::new(0, Stamp::ZERO);
+    let value = vec![b'v'; 65_535];
+    let many = 2 * MORE / value.len() as u64;
+    for number in 0..many {
+        store.accept(node.write(1, &number.to_be_bytes(), &value).unwrap()).unwrap();
+    }
+    let (whole, pieces) = limited(|| (store.checkpoint(7), store.checkpoint_to(&mut io::sink(), 7)));
+    assert_eq!(whole.unwrap_err().kind(), ErrorKind::NoMemory);
+    assert!(pieces.unwrap() > 2 * MORE);
 }

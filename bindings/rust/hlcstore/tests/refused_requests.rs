@@ -112,6 +112,7 @@ fn iterators_return_an_error_once() {
     assert_fused(&pairs, || snapshot.iter());
     assert_fused(&pairs, || snapshot.range("k"..));
     assert_fused(&keys, || snapshot.keys(.."l"));
+    assert_fused(&back, || snapshot.iter().rev());
     assert_fused(&back, || snapshot.range_back(.."l"));
     assert_fused(&changes, || empty.changes(&snapshot, "k"..));
 }
@@ -123,6 +124,7 @@ fn calls_return_the_error_and_lose_nothing() {
     let is_right = |is_right: bool, was_refused| assert!(is_right != was_refused);
     let (saved, all) = (store.checkpoint(7), pairs());
     refuse_each(|| store.checkpoint(7) == saved, is_right);
+    refuse_each(|| store.checkpoint_to(&mut std::io::sink(), 7).is_ok(), is_right);
     let increment = store.increment(Stamp::ZERO, 8);
     refuse_each(|| store.increment(Stamp::ZERO, 8) == increment, is_right);
     let older = Store::open(1).unwrap().checkpoint(0).unwrap();
@@ -136,6 +138,7 @@ fn calls_return_the_error_and_lose_nothing() {
     refuse_each(|| snapshot.get_many(&[&all[70].0, b"other"]).is_ok(), is_right);
     refuse_each(|| snapshot.scan("k"..="kkk", 1000).is_ok(), is_right);
     refuse_each(|| snapshot.scan_back("k"..="kkk", 1000).is_ok(), is_right);
+    refuse_each(|| snapshot.scan_changes(&snapshot, "k"..="kkk", 1000).is_ok(), is_right);
     refuse_each(|| snapshot.last_below(b"").is_ok_and(|pair| pair.as_ref() == all.last()), is_right);
     refuse_each(|| store.snapshots().is_ok(), is_right);
     assert_eq!(store.snapshots().unwrap().len(), 1);

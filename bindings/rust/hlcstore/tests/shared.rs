@@ -1,6 +1,9 @@
 //! A shared store has the calls of a store, and returns the same.
 
 use hlcstore::{Item, Node, SharedStore, Stamp, Store};
+use std::sync::mpsc;
+use std::thread;
+use std::time::Duration;
 
 /// Returns what each call on a store returns, as text.
 macro_rules! answers {
@@ -46,6 +49,8 @@ macro_rules! answers {
         add(&store.certificate(store.floor().unwrap()));
         let saved = store.checkpoint(7).unwrap();
         add(&saved);
+        let mut pieces = Vec::new();
+        add(&(store.checkpoint_to(&mut pieces, 7).unwrap(), pieces == saved));
         add(&store.reopen(1));
         store.close();
         add(&(store.floor(), store.reload(&saved), store.floor()));
@@ -53,6 +58,41 @@ macro_rules! answers {
         add(&(store.rows(), store.reopen(3), store.nodes()));
         answers
     }};
+}
+
+/// A key that changes the store when its bytes are asked for.
+struct Changing<F>(F);
+
+impl<F: Fn()> AsRef<[u8]> for Changing<F> {
+    fn as_ref(&self) -> &[u8] {
+        self.0();
+        b"city"
+    }
+}
+
+/// Makes each call that takes a key, with one that changes the store, and returns how many changes were made.
+macro_rules! changes_by_keys {
+    ($store:expr) => {{
+        let store = &$store;
+        let join = move || {
+            store.join().unwrap();
+        };
+        let key = move || Changing(join);
+        let snapshot = store.snapshot().unwrap();
+        assert!(store.versions(key(), Stamp::ZERO, Stamp::MAX).unwrap().is_empty());
+        assert_eq!(store.vacuum_part(Stamp::ZERO, key(), 1).unwrap().next, None);
+        assert_eq!((snapshot.get(key()), snapshot.last_below(key())), (Ok(None), Ok(None)));
+        assert_eq!(snapshot.count(key()..), Ok(0));
+        store.nodes().unwrap() - 1
+    }};
+}
+
+#[test]
+fn keys_may_change_the_store() {
+    assert_eq!(changes_by_keys!(Store::open(1).unwrap()), 5);
+    let (say, said) = mpsc::channel();
+    thread::spawn(move || say.send(changes_by_keys!(SharedStore::open(1).unwrap())));
+    assert_eq!(said.recv_timeout(Duration::from_secs(20)), Ok(5));
 }
 
 #[test]

@@ -60,7 +60,7 @@ fn check(snapshot: &Snapshot<SharedStore>) -> Result<()> {
     let expected = expected(snapshot.stamp().physical());
     for number in 0..KEYS {
         let pair = expected.iter().find(|pair| pair.0 == key(number));
-        assert_eq!(snapshot.get(&key(number))?.as_ref(), pair.map(|pair| &pair.1));
+        assert_eq!(snapshot.get(key(number))?.as_ref(), pair.map(|pair| &pair.1));
     }
     assert_eq!(snapshot.iter().collect::<Result<Vec<_>>>()?, expected);
     assert!(snapshot.range_back(..).map(Result::unwrap).eq(expected.iter().rev().cloned()));
@@ -168,7 +168,7 @@ fn writers_run_beside_each_other() {
                     store.accept(node.write(reading, &key, &value).unwrap()).unwrap();
                     let snapshot = store.snapshot().unwrap();
                     let floor = snapshot.stamp().physical();
-                    assert_eq!(snapshot.get(&key).unwrap(), (floor > 0).then(|| self::value(floor)));
+                    assert_eq!(snapshot.get(key).unwrap(), (floor > 0).then(|| self::value(floor)));
                 }
             });
         }
