@@ -17,19 +17,28 @@ func (s *Store) Checkpoint(w io.Writer, word uint64) (int64, error) {
 	return writeOutput(w, made)
 }
 
-// CheckpointTo writes what Checkpoint writes, in pieces that C makes one after another, so that the bytes need no memory.
-// Reads go on beside it, and calls that change the store wait until all is written.
+// CheckpointTo writes what Checkpoint writes, in pieces that C makes one after another. In memory are a piece, and the
+// rows of up to 32 keys as bytes.
+//
+// Reads go on beside it, and calls that change the store wait until all is written; to open or close a snapshot is a
+// change too. So w may read the store, but must not change it or call CheckpointTo, nor wait for a goroutine that does:
+// it would wait for itself.
 //
 // Errors: those of the writer, after which a part may be written; ErrNoMemory likewise.
 func (s *Store) CheckpointTo(w io.Writer, word uint64) (int64, error) {
-	s.mu.RLock()
-	defer s.mu.RUnlock()
+	s.mu.beginSaving()
+	defer s.mu.endSaving()
 	var saving C.hlc_saving
 	defer C.hlc_saving_drop(&saving)
-	if started := C.hlcgo_saving_start(&saving, &s.raw, C.uint64_t(word)); started.code != C.HLC_OK {
+	s.mu.RLock()
+	started := C.hlcgo_saving_start(&saving, &s.raw, C.uint64_t(word))
+	s.mu.RUnlock()
+	if started.code != C.HLC_OK {
 		return 0, refusal(started.code, 0)
 	}
 	return writePieces(w, func(out *C.uint8_t, outLen C.size_t) C.hlcgo_part {
+		s.mu.RLock()
+		defer s.mu.RUnlock()
 		return C.hlcgo_saving_read(&saving, &s.raw, out, outLen)
 	})
 }

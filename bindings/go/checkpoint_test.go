@@ -6,6 +6,7 @@ import (
 	"io"
 	"testing"
 	"testing/iotest"
+	"time"
 
 	"hlcstore"
 )
@@ -50,15 +51,63 @@ func TestRestoredStoreIsTheSavedOne(t *testing.T) {
 }
 
 func TestPiecesAreTheCheckpoint(t *testing.T) {
-	store, _ := rewritten(t, 3000)
+	store, snapshot := rewritten(t, 3000)
 	var pieces bytes.Buffer
 	written, err := store.CheckpointTo(&pieces, 77)
 	ok(t, err)
 	equal(t, written, int64(pieces.Len()))
 	equal(t, pieces.String(), string(checkpointOf(t, store, 77)))
+	ok(t, snapshot.Close()) // the garbage collector closes one that is not used any more
 	ok(t, store.Close())
 	_, err = store.CheckpointTo(&pieces, 77)
 	refused(t, err, hlcstore.ErrClosed, 0)
+}
+
+// A writeFunc is the Write of a writer.
+type writeFunc func(piece []byte) (int, error)
+
+func (write writeFunc) Write(piece []byte) (int, error) { return write(piece) }
+
+// rowsOf returns how many rows another goroutine reads, or 0 where it waits.
+func rowsOf(store *hlcstore.Store) uint64 {
+	read := make(chan uint64, 1)
+	go func() { read <- must(store.Rows()) }()
+	select {
+	case rows := <-read:
+		return rows
+	case <-time.After(20 * time.Second):
+		return 0
+	}
+}
+
+func TestReadsGoOnWhileAChangeWaits(t *testing.T) {
+	store := filled(t, 3000)
+	expected := checkpointOf(t, store, 77)
+	var pieces bytes.Buffer
+	joined := make(chan *hlcstore.Node, 1)
+	_, err := store.CheckpointTo(writeFunc(func(piece []byte) (int, error) {
+		if pieces.Len() == 0 {
+			go func() { joined <- must(store.Join()) }()
+			time.Sleep(100 * time.Millisecond) // so that the change waits
+		}
+		equal(t, rowsOf(store), 3000)
+		equal(t, must(store.Rows()), 3000) // of the goroutine that saves
+		return pieces.Write(piece)
+	}), 77)
+	ok(t, err)
+	<-joined
+	equal(t, pieces.String(), string(expected))
+	equal(t, must(store.Nodes()), 2)
+}
+
+func TestChangesGoOnAfterASavingThatFails(t *testing.T) {
+	store := filled(t, 10)
+	cause := errors.New("the disk is full")
+	_, err := store.CheckpointTo(&limited{5, cause}, 0)
+	if err != cause {
+		t.Error(err)
+	}
+	must(store.Join())
 }
 
 func TestBytesThatAreNoCheckpoint(t *testing.T) {

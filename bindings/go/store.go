@@ -3,10 +3,7 @@ package hlcstore
 // #include "calls.h"
 import "C"
 
-import (
-	"runtime"
-	"sync"
-)
+import "runtime"
 
 // A Store is a multi-version store that nodes feed. It is safe for concurrent use, and must not be copied. The zero
 // Store is closed.
@@ -14,9 +11,9 @@ import (
 // A store has its memory in C until Close. One that nothing refers to any more is closed by the garbage collector, at
 // some time; since that does not see how much memory a store has, call Close.
 type Store struct {
-	// A call that changes the store holds the lock alone; a call that asks gets a copy of the handle under the reading
-	// side. A writer that waits comes before later readers.
-	mu      sync.RWMutex
+	// A call that changes the store has the lock alone; a call that asks gets a copy of the handle under the reading
+	// side.
+	mu      storeLock
 	raw     C.hlc_store
 	scratch batch
 	watched bool // whether the garbage collector closes it

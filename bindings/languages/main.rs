@@ -14,7 +14,7 @@ fn write_step(file: &File, step: &str, name: &str, old: &str) -> Result<()> {
     batch.write(b"who", name.as_bytes())?;
     batch.write(name.as_bytes(), step.as_bytes())?;
     batch.delete(old.as_bytes())?;
-    batch.write(LONG_KEY, &vec![b'v'; LONG_STEP * usize::from(number)])?;
+    batch.write(LONG_KEY, vec![b'v'; LONG_STEP * usize::from(number)])?;
     file.node(0).at(10 * u64::from(number)).append(&mut batch, Promise::Default)?;
     Ok(())
 }
