@@ -10,12 +10,17 @@ import hlcstore
 from hlcstore import Error, Item, Node, Store, stamp
 
 
+def put(*words):
+    """Prints a line, in which a stamp is its number."""
+    print(*(int(word) if isinstance(word, int) else word for word in words))
+
+
 def print_answer(what, call, *args):
     """Prints the code of an answer, and its number or the refusal's word."""
     try:
-        print(what, 0, call(*args))
+        put(what, 0, call(*args))
     except Error as refused:
-        print(what, refused.code, refused.word)
+        put(what, refused.code, refused.word)
 
 
 def print_check(call, *args):
@@ -25,9 +30,9 @@ def print_check(call, *args):
 def line(what, call, *args):
     try:
         call(*args)
-        print(what, 0)
+        put(what, 0)
     except Error as refused:
-        print(what, refused.code)
+        put(what, refused.code)
 
 
 def print_bytes(what, call, *args):
@@ -35,7 +40,7 @@ def print_bytes(what, call, *args):
         code, value = 0, call(*args)
     except Error as refused:
         code, value = refused.code, b""
-    print(what, code, len(value), value.hex())
+    put(what, code, len(value), value.hex())
 
 
 def print_item(what, call, *args):
@@ -43,9 +48,9 @@ def print_item(what, call, *args):
     try:
         item = call(*args)
     except Error as refused:
-        print(what, refused.code, 0, refused.word)
+        put(what, refused.code, 0, refused.word)
         return None
-    print(what, 0, item.number, item.stamp)
+    put(what, 0, item.number, item.stamp)
     return item
 
 
@@ -66,7 +71,7 @@ def report(store, node, reading):
 
 def open_snapshot(store):
     snapshot = store.snapshot()
-    print("snapshot", 0, snapshot.id, snapshot.stamp)
+    put("snapshot", 0, snapshot.id, snapshot.stamp)
     return snapshot
 
 
@@ -97,14 +102,14 @@ def print_fitting(what, parts, room, code=0):
     while many < len(parts) and len(fitting) + len(parts[many]) <= room:
         fitting += parts[many]
         many += 1
-    print(what, 104 if many < len(parts) else code, len(fitting), many, fitting.hex())
+    put(what, 104 if many < len(parts) else code, len(fitting), many, fitting.hex())
 
 
 def scan(room, snapshot, *bounds):
     try:
         print_fitting("scan", pairs(snapshot, *bounds), room)
     except Error as refused:
-        print("scan", refused.code, 0, 0, "")
+        put("scan", refused.code, 0, 0, "")
 
 
 def scan_back(room, snapshot, *bounds):
@@ -112,7 +117,7 @@ def scan_back(room, snapshot, *bounds):
         listed = [sized(key) + sized(value) for key, value in snapshot.items(*bounds, reverse=True)]
         print_fitting("back", listed, room)
     except Error as refused:
-        print("back", refused.code, 0, 0, "")
+        put("back", refused.code, 0, 0, "")
 
 
 def answer(value):
@@ -126,7 +131,7 @@ def changes(room, before, after, *bounds):
         listed = [sized(key) + answer(value) for key, value in before.changes(after, *bounds)]
         print_fitting("changes", listed, room)
     except Error as refused:
-        print("changes", refused.code, 0, 0, "")
+        put("changes", refused.code, 0, 0, "")
 
 
 def versions(store, key, *stamps):
@@ -139,7 +144,7 @@ def scan_keys(room, snapshot):
     try:
         print_fitting("scan", [sized(key) for key in snapshot.keys()], room)
     except Error as refused:
-        print("scan", refused.code, 0, 0, "")
+        put("scan", refused.code, 0, 0, "")
 
 
 def read_all(room, snapshot, code=0):
@@ -148,7 +153,7 @@ def read_all(room, snapshot, code=0):
         values = snapshot.read_all([b"city", b"town"])
         print_fitting("read all", [answer(value) for value in values], room, code)
     except Error as refused:
-        print("read all", refused.code, 0, 0, "")
+        put("read all", refused.code, 0, 0, "")
 
 
 def look_round(store, first, second):
@@ -190,24 +195,24 @@ def look_round(store, first, second):
     for node in 0, 1, 2:
         try:
             link = store.link(node)
-            print("link", 0, link.next, link.head, int(link.retired))
+            put("link", 0, link.next, link.head, int(link.retired))
         except Error as refused:
-            print("link", refused.code, 0, 0, 0)
+            put("link", refused.code, 0, 0, 0)
     print_answer("floor node", store.floor_node)
     print_opened(store)
 
 
 def print_sizes(store):
     try:
-        print("sizes", 0, *store.sizes)
+        put("sizes", 0, *store.sizes)
     except Error as refused:
-        print("sizes", refused.code, 0, 0, 0, 0)
+        put("sizes", refused.code, 0, 0, 0, 0)
 
 
 def print_opened(store):
     for snapshot in store.snapshots():
-        print("opened", 0, snapshot.id, snapshot.stamp)
-    print("opened", 10, 0, 0)
+        put("opened", 0, snapshot.id, snapshot.stamp)
+    put("opened", 10, 0, 0)
 
 
 def save(store):
@@ -218,8 +223,8 @@ def save(store):
     print_answer("restore", Store.restore, saved[:-1])
     print_answer("restore", Store.restore, bytes([saved[0] ^ 1]) + saved[1:])
     with Store.restore(saved) as copy:
-        print("restore", 0, copy.word)
-        print("restore", 101, 0)
+        put("restore", 0, copy.word)
+        put("restore", 101, 0)
         print_answer("rows", lambda: copy.rows)
         print_bytes("read", copy.snapshots()[0].get, b"city")
 
@@ -227,9 +232,9 @@ def save(store):
 def print_accepted(store, log):
     try:
         many = store.accept_items(log)
-        print("items", 0, len(log), many, 0)
+        put("items", 0, len(log), many, 0)
     except Error as refused:
-        print("items", refused.code, refused.used, refused.accepted, refused.word)
+        put("items", refused.code, refused.used, refused.accepted, refused.word)
 
 
 def replicate():
@@ -244,7 +249,7 @@ def replicate():
         print_answer("item", lambda: len(bytes(item)))
     log = b"".join(bytes(item) for item in items[:3])
     with Store(1) as replica:
-        print("open", 0)
+        put("open", 0)
         for part in log[:32], log[52:72], log[:40], log:
             print_accepted(replica, part)
         print_answer("rows", lambda: replica.rows)
@@ -257,9 +262,9 @@ def restart():
     try:
         Node.restore(7, 2, 3)
     except Error as refused:
-        print("restore", refused.code, 0, 2)
+        put("restore", refused.code, 0, 2)
     node = Node.restore(7, stamp(10), 3)
-    print("restore", 0, node.next, node.last)
+    put("restore", 0, node.next, node.last)
     node.raise_to(stamp(12, 5))
     node.raise_to(stamp(11))
     print_item("report", node.report, 1)
@@ -272,17 +277,17 @@ def accept_three(store, node):
         print_item("write", node.write, 40, b"lake", b"Como"),
         print_item("delete", node.delete, 41, b"town"),
     ]
-    print("all", 103, store.accept_all(items), 0)
+    put("all", 103, store.accept_all(items), 0)
     try:
         store.accept_all(items[1:])
     except Error as refused:
-        print("all", refused.code, refused.accepted, refused.word)
+        put("all", refused.code, refused.accepted, refused.word)
 
 
 def print_vacuum(what, vacuum):
-    print(what, 0, vacuum.stamp)
-    print("kept", 0, vacuum.kept, vacuum.cost)
-    print("dropped", 0, vacuum.dropped)
+    put(what, 0, vacuum.stamp)
+    put("kept", 0, vacuum.kept, vacuum.cost)
+    put("dropped", 0, vacuum.dropped)
 
 
 def certify(store, at):
@@ -290,26 +295,26 @@ def certify(store, at):
     try:
         kept, cost, certificate = store.certificate(at)
     except Error as refused:
-        print("certificate", refused.code, 0, refused.word)
+        put("certificate", refused.code, 0, refused.word)
         return None
-    print("certificate", 0, len(certificate), 0)
-    print("kept", 0, kept, cost)
+    put("certificate", 0, len(certificate), 0)
+    put("kept", 0, kept, cost)
     return certificate
 
 
 def check(certificate):
     try:
-        print("checked", 0, *hlcstore.check(certificate), 0)
+        put("checked", 0, *hlcstore.check(certificate), 0)
     except Error as refused:
-        print("checked", refused.code, 0, 0, refused.word)
+        put("checked", refused.code, 0, 0, refused.word)
 
 
 def join_at(store, start):
     try:
         node = store.join_at(start)
-        print("join at", 0, node.id, node.last)
+        put("join at", 0, node.id, node.last)
     except Error as refused:
-        print("join at", refused.code, 0, refused.word)
+        put("join at", refused.code, 0, refused.word)
 
 
 def keep_above(store, node):
@@ -335,9 +340,9 @@ def vacuum_parts(store, at, most):
         try:
             *numbers, after = store.vacuum_part(at, after, most)
         except Error as refused:
-            print("part", refused.code, refused.word, 0, 0, 0, 0, "")
+            put("part", refused.code, refused.word, 0, 0, 0, 0, "")
             return
-        print("part", 0, *numbers, int(after is not None), (after or b"").hex())
+        put("part", 0, *numbers, int(after is not None), (after or b"").hex())
 
 
 def keep_in_parts(store, b, c):
@@ -357,7 +362,7 @@ def keep_in_parts(store, b, c):
 
 def begin():
     """Opens the store of the story, as late as the C program does."""
-    print("version", hlcstore.version() - 100)
+    put("version", hlcstore.version() - 100)
     for answer in 0, 6, 4, 107, 108:
         print(f"answer {answer} {hlcstore.error_name(answer)}: {hlcstore.error_text(answer)}")
     with Store(1) as closed:
@@ -366,8 +371,8 @@ def begin():
     print_sizes(closed)
     line("open", Store, 0)
     store = Store(2)
-    print("open", 0)
-    print("open", 101)
+    put("open", 0)
+    put("open", 101)
     return store
 
 
@@ -378,14 +383,14 @@ def write_and_read(store, a, b):
     print_check(store.check_write, 0, 1, stamp(11), b"", b"Lyon")
     write(store, a, 10, b"city", b"Paris")
     sent = a.send(12)
-    print("send", 0, sent)
+    put("send", 0, sent)
     print_answer("receive", b.receive, sent, 11)
     report(store, b, 11)
     print_answer("floor", lambda: store.floor)
     print_answer("snapshot", store.snapshot, store.floor + 1)
     first = open_snapshot(store)
     print_bytes("read", first.get, b"city")
-    print("short", 0, len(first[b"city"]), 1)
+    put("short", 0, len(first[b"city"]), 1)
     print_bytes("read", first.__getitem__, b"town")
     print_bytes("read", closed_snapshot().get, b"city")
     write(store, b, 20, b"town", b"")
@@ -419,7 +424,7 @@ def vacuum(store, first):
 
 def join_and_retire(store, a, b):
     c = store.join()
-    print("join", 0, c.id, c.last)
+    put("join", 0, c.id, c.last)
     write(store, c, 1, b"city", b"Rome")
     accept_three(store, b)
     item = print_item("retire", a.retire, 30)

@@ -53,7 +53,7 @@ class Answers:
         value, key = VALUE.hex(), b"key".hex()
         self.assertEqual(self.ask("/read?key=key&key=none"), (200, {"stamp": REPORTED, "values": [value, None]}))
         self.assertEqual(self.ask(f"/read?key=key&stamp={WRITTEN - 1}")[1]["values"], [None])
-        self.assertEqual(self.ask(f"/read?key=&key=%FF&stamp={WRITTEN}")[1]["values"], [None, None])
+        self.assertEqual(self.ask(f"/read?key=&key=%FF&stamp={WRITTEN:d}")[1]["values"], [None, None])
         self.assertEqual(self.ask("/range?from=a&to=z"), (200, {"stamp": REPORTED, "pairs": [[key, value]]}))
         self.assertEqual(self.ask("/range?from=z&to=a")[1]["pairs"], [])
         self.assertEqual(self.ask("/range?from=" + "k" * 300)[1]["pairs"], [])
@@ -67,7 +67,7 @@ class Answers:
                 self.assertRegex(said, "stamp: expected a decimal number below 2.64, got ")
 
     def test_stamps_that_cannot_be_read(self):
-        self.refused(f"/read?key=key&stamp={FURTHER}", 425)
+        self.refused(f"/read?key=key&stamp={FURTHER:d}", 425)
         self.refused(f"/digest?stamp={(1 << 64) - 1}", 425)
 
     def test_parameters_that_are_none(self):
@@ -105,10 +105,10 @@ class OfAReplica(Answers, MemoryCase):
         self.assertEqual(self.refused("/certificate", 400), "a stamp is missing")
         for text in "-1", str(1 << 64), "", "x":
             self.assertIn("decimal number", self.refused(f"/certificate?stamp={text}", 400))
-        self.refused(f"/certificate?stamp={FURTHER}", 425)
-        self.assertEqual(self.ask(f"/certificate?stamp={REPORTED}")[0], 200)
-        self.refused(f"/certificate?stamp={WRITTEN}", 410)
-        self.refused(f"/read?key=key&stamp={WRITTEN}", 410)
+        self.refused(f"/certificate?stamp={FURTHER:d}", 425)
+        self.assertEqual(self.ask(f"/certificate?stamp={REPORTED:d}")[0], 200)
+        self.refused(f"/certificate?stamp={WRITTEN:d}", 410)
+        self.refused(f"/read?key=key&stamp={WRITTEN:d}", 410)
 
     def test_checkpoints(self):
         self.assertEqual(self.refused("/checkpoint", 404), "there is no checkpoint yet")
