@@ -2,23 +2,12 @@
  * write-ahead log, which a process left, the commits before the damage are there.
  *
  * A first argument is the seed of the bits. */
+#include "no_syncs.h"
 #include "test.h"
 
 enum { WRITES = 60, FLIPS = 3000, WAL_FLIPS = 600, BLOCK = 512 };
 
 static const char PATH[] = "damage.hlc";
-
-/* In place of those of the system: no machine ends here, and thousands of syncs would take minutes on a loaded one. */
-int fsync(int file)
-{
-    (void)file;
-    return 0;
-}
-
-int fdatasync(int file)
-{
-    return fsync(file);
-}
 
 struct image {
     uint8_t *bytes;

@@ -1,5 +1,6 @@
 /* Each request for memory of each call is refused in its turn, by tests/refuse.c of the repository, which is loaded
  * before the C library. A call that is refused changes nothing, or says that it took place; made again it succeeds. */
+#include "no_syncs.h"
 #include "test.h"
 
 enum { MOST_REQUESTS = 3000 };
@@ -162,6 +163,17 @@ static void make_begin(void)
     hlc_file_close(file);
 }
 
+/* Begins a case with a copy of the first file. */
+static void copy_begin(void)
+{
+    static uint8_t bytes[1 << 20];
+    FILE *from = fopen(BEGIN, "rb"), *to = fopen(fresh(PATH), "wb");
+    HOLDS(from && to);
+    size_t len = fread(bytes, 1, sizeof bytes, from);
+    HOLDS(0 < len && len < sizeof bytes && fwrite(bytes, 1, len, to) == len);
+    HOLDS(fclose(from) == 0 && fclose(to) == 0);
+}
+
 static void expect_old(void)
 {
     EXPECT_VALUE(file, AT(5), "old", "odd");
@@ -203,10 +215,7 @@ static void make_again(size_t at)
 /* Makes a call whose request of this number is refused. Returns whether it was. */
 static bool make_refused(size_t at, size_t number)
 {
-    char command[80];
-    fresh(PATH);
-    snprintf(command, sizeof command, "cp %s %s", BEGIN, PATH);
-    HOLDS(system(command) == 0);
+    copy_begin();
     file = opened(PATH);
     refuse(number);
     uint32_t answer = CALLS[at].call();
