@@ -10,7 +10,7 @@ passed=0
 failed=0
 # How many seconds a step may take; and in KiB, how much address space each of its programs may use, and how long a file
 # may get.
-step_seconds=120
+step_seconds=300
 step_memory=$((4 << 20))
 step_file=$((1 << 20))
 # The address sanitiser needs more address space than there is memory, and has a limit of its own, in MiB. Valgrind
