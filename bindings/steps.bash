@@ -31,8 +31,10 @@ limited() (
     wait "$step"
 )
 
-# check NAME COMMAND..: counts whether the command ends with status 0, and prints what it says where it does not.
+# check NAME COMMAND..: counts whether the command ends with status 0, and prints what it says where it does not. A step
+# that takes a fifth of its time is named, before it takes all on a slower machine.
 check() {
+    local began=$SECONDS
     if limited "${@:2}" >"$scratch/said" 2>&1; then
         passed=$((passed + 1))
     else
@@ -40,6 +42,7 @@ check() {
         echo "failed: $1"
         tail -n 20 "$scratch/said"
     fi
+    [ $((5 * (SECONDS - began))) -lt "$step_seconds" ] || echo "slow: $1, $((SECONDS - began)) of $step_seconds seconds"
 }
 
 # prints NAME FILE COMMAND..: counts whether the command prints this file, and ends with status 0.
