@@ -8,7 +8,7 @@
 #include <sys/socket.h>
 #include <time.h>
 
-enum { RANGES = 100, KEYS = 10000, VERSIONS = 4, FEW = 64, MANY = 1000, ROUNDS = 5, MESSAGES = 20000 };
+enum { RANGES = 100, KEYS = 10000, VERSIONS = 4, FEW = 64, MANY = 1000, ROUNDS = 30, MESSAGES = 20000 };
 
 static hlc_store stores[RANGES];
 static uint64_t numbers[MANY], word;

@@ -1,4 +1,4 @@
-"""What things cost: as docs/performance.md measured them, or as calibrate.c measures them on this machine."""
+"""What things cost: from docs/performance.md, and reports as calibrate.c measured them, or all as it measures them now."""
 
 import dataclasses
 
@@ -8,8 +8,8 @@ class Costs:
     """Seconds of one processor, and bytes. Each is of one report, write, message, key or row."""
 
     issue: float = 2e-9  # a node makes a report
-    accept_few: float = 38e-9  # a store of at most 64 nodes accepts a report, and its floor is asked
-    accept_many: float = 53e-9  # the same with 1,024 nodes
+    accept_few: float = 0.1e-6  # a store of at most 64 nodes accepts a report, and its floor is asked; 100 stores in turn
+    accept_many: float = 0.2e-6  # the same with 1,000 nodes
     write: float = 1.94e-6  # a store accepts a write: a million keys of four versions
     vacuum: float = 0.762e-6  # a vacuum, of each key
     checkpoint: float = 0.83e-6  # a checkpoint and its bytes, of each row
@@ -21,15 +21,12 @@ class Costs:
 
     def accept(self, nodes):
         """Seconds to accept one report in a store of so many nodes: a straight line between the two measures."""
-        beyond = min(max(nodes - 64, 0), 960)
-        return self.accept_few + (self.accept_many - self.accept_few) * beyond / 960
+        beyond = min(max(nodes - 64, 0), 936) / 936
+        return self.accept_few + (self.accept_many - self.accept_few) * beyond
 
 
 def read(path):
     """Returns the costs of a file, which has lines of a name and a number as calibrate.c prints them."""
     fields = {field.name: field.type for field in dataclasses.fields(Costs)}
-    found = {}
-    for line in open(path):
-        name, number = line.split()
-        found[name] = fields[name](number)
-    return dataclasses.replace(Costs(), **found)
+    words = [line.split() for line in open(path)]
+    return Costs(**{name: fields[name](number) for name, number in words})

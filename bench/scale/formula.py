@@ -78,9 +78,3 @@ def rows_waiting(setting, age_of_cut):
     to a key that has a version."""
     return setting.writes * (setting.retention + setting.vacuum_every + age_of_cut)
 
-
-def most_ranges(setting, share):
-    """Returns how many ranges a process can have, if its reports may take this share of a processor; 0 if none."""
-    room = share * setting.interval / setting.nodes
-    each = setting.costs.accept(setting.nodes) + (0 if setting.batched else setting.costs.message)
-    return max(int((room - (setting.costs.message if setting.batched else 0)) / each), 0)

@@ -6,8 +6,8 @@ its nodes, and the cut is the least floor. What a simulation yields is the cut a
 No event is a link's. All links from one node to the ranges of one process have the same head at each moment where one
 message reports for them: so one event is exact for all of them. Where each link has a message of its own, only the last
 of these messages matters to the least head, and the delay of the last of k independent messages is drawn at once, from
-the k-th power of their law. Reports of a link are accepted in order; that is a running maximum over the reports of a
-link, and commutes with the maximum over links.
+the k-th power of their law; the process's work on all k is counted when the last came. Reports of a link are accepted in
+order; that is a running maximum over the reports of a link, and commutes with the maximum over links.
 """
 
 import dataclasses
@@ -172,15 +172,11 @@ class Run:
                 finished[node][number] = idle_from
         return worked * free
 
-    def ages(self, start=None, end=None):
-        """Returns the ages of the cut as pieces of time, each from its least age to its greatest.
-
-        Between two steps the age rises as the time does. The first moments, in which not all nodes reported, are left
-        out, and so are those after the last report."""
-        start = self.seconds / 5 if start is None else start
-        end = self.seconds if end is None else end
-        times = [at for at, _ in self.steps[1:]] + [NEVER]
-        pieces = ((max(at, start), min(till, end), cut) for (at, cut), till in zip(self.steps, times))
+    def ages(self, start):
+        """Returns the ages of the cut from a moment on, as pieces of time, each from its least age to its greatest:
+        between two steps the age rises as the time does. Nothing is said of the time after the last report."""
+        times = [at for at, _ in self.steps[1:]] + [self.seconds]
+        pieces = ((max(at, start), till, cut) for (at, cut), till in zip(self.steps, times))
         return [(at - cut, till - cut) for at, till, cut in pieces if at < till]
 
 
