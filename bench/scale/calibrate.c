@@ -1,5 +1,5 @@
 /* Measures the costs of costs.py on this machine, each as a line of its name and a number: seconds of the processor, or
- * bytes. Of a process with 100 ranges of 10,000 keys; reports come as one node's for all ranges, then the next node's. */
+ * bytes. It is one process with 100 ranges of 10,000 keys. One node reports to all ranges, then the next node. */
 #include "hlcstore.h"
 #include <arpa/inet.h>
 #include <malloc.h>
@@ -65,7 +65,7 @@ static double message(void)
     return (now() - started) / MESSAGES / 2;
 }
 
-/* Fills the ranges, each key in each range four times, and prints what writes, a vacuum to one row and checkpoints take. */
+/* Fills the ranges, each key four times, and prints what writes, checkpoints and a vacuum to one row a key take. */
 static void print_rows(void)
 {
     uint64_t number = numbers[0], kept, dropped, bytes;
@@ -91,7 +91,8 @@ static void print_rows(void)
         for (unsigned n = 1; n < FEW; n++)
             must(hlc_accept_report(&stores[s], (uint16_t)n, numbers[n], (numbers[0] + 1) << 16, &word));
     started = now();
-    for (unsigned s = 0; s < RANGES; s++) must(hlc_vacuum_to(&stores[s], numbers[0] << 16, &word, &kept, &bytes, &dropped));
+    for (unsigned s = 0; s < RANGES; s++)
+        must(hlc_vacuum_to(&stores[s], numbers[0] << 16, &word, &kept, &bytes, &dropped));
     printf("vacuum %g\n", (now() - started) / KEYS / RANGES);
 }
 

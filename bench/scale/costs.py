@@ -1,4 +1,4 @@
-"""What things cost: from docs/performance.md, and reports as calibrate.c measured them, or all as it measures them now."""
+"""What things cost: as docs/performance.md has it, or as calibrate.c measures it on this machine."""
 
 import dataclasses
 
@@ -8,7 +8,7 @@ class Costs:
     """Seconds of one processor, and bytes. Each is of one report, write, message, key or row."""
 
     issue: float = 2e-9  # a node makes a report
-    accept_few: float = 0.1e-6  # a store of at most 64 nodes accepts a report, and its floor is asked; 100 stores in turn
+    accept_few: float = 0.1e-6  # a store of at most 64 nodes accepts a report, and is asked for its floor
     accept_many: float = 0.2e-6  # the same with 1,000 nodes
     write: float = 1.94e-6  # a store accepts a write: a million keys of four versions
     vacuum: float = 0.762e-6  # a vacuum, of each key

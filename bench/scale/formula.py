@@ -10,9 +10,9 @@ def chance_of_age(setting, age):
     """Returns the chance that the cut is at most so old, at a moment by chance.
 
     A node's least head is at most so old where the first report that it sent within this time came on all links, as did
-    those before it. Reports are sent at a random phase, and delays are independent: so this is the mean over the phase of
-    a product over reports, to the power of the links that have delays of their own; and for all nodes that to the power
-    of their number."""
+    those before it. Reports are sent at a phase by chance, and delays are independent: so this is the mean over the
+    phase of a product over reports, to the power of the messages of a report; and of all nodes, to the power of their
+    number."""
     total = 0.0
     for point in range(POINTS):
         late = age - (point + 0.5) / POINTS * setting.interval

@@ -1,13 +1,13 @@
 """The model: nodes that report to ranges, which processes keep; and its simulation.
 
-Each node has a link to each range. A report raises the head of its link alone. The floor of a range is the least head of
-its nodes, and the cut is the least floor. What a simulation yields is the cut at every moment.
+Each node has a link to each range. A report raises the head of its link alone. The floor of a range is the least head
+of its nodes, and the cut is the least floor. What a simulation yields is the cut at every moment.
 
 No event is a link's. All links from one node to the ranges of one process have the same head at each moment where one
 message reports for them: so one event is exact for all of them. Where each link has a message of its own, only the last
 of these messages matters to the least head, and the delay of the last of k independent messages is drawn at once, from
-the k-th power of their law; the process's work on all k is counted when the last came. Reports of a link are accepted in
-order; that is a running maximum over the reports of a link, and commutes with the maximum over links.
+the k-th power of their law; the process's work on all k is counted when the last came. Reports of a link are accepted
+in order: that is a running maximum over the reports of a link, and commutes with the maximum over links.
 """
 
 import dataclasses

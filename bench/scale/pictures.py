@@ -33,7 +33,7 @@ class Picture:
 
 
 class Axis:
-    """Places on a picture for the values between two ends; `marks` are the values that are written, with their words."""
+    """Places on a picture for the values between two ends. `marks` are values to write there, with their words."""
 
     def __init__(self, low, high, begin, end, marks, logarithmic=True):
         self.scale = math.log if logarithmic else float
