@@ -5,11 +5,17 @@
 // [Snapshot] opens at or below the floor (closed timestamp) of the store: everything accepted later has a greater
 // stamp, so its answers never change. A vacuum drops what no open snapshot and no later one can read.
 //
+// # Several stores
+//
+// A [Ranges] is several stores that share the keys, by a [Division], and are read at one stamp, a cut. A [Machine]
+// writes to all of them, with one clock.
+//
 // # Concurrency
 //
 // A store and its snapshots are safe for concurrent use. Calls that only ask run beside each other; a call that changes
 // the store, as one that accepts an item, opens or closes a snapshot or vacuums, runs alone. A call that waits to
-// change the store comes before reads that begin later. A node and an iterator are for one goroutine at a time.
+// change the store comes before reads that begin later. A node, a machine and an iterator are for one goroutine at a
+// time.
 //
 // # Bytes
 //

@@ -22,6 +22,7 @@ type Iterator struct {
 	from, to []byte // the rest of the range, behind the piece
 	piece    []byte
 	rest     []byte // what is left of the piece
+	beside   int    // how many other iterators share the room for pieces with it
 	key      []byte
 	value    []byte
 	err      error
@@ -144,14 +145,14 @@ func (i *Iterator) goOn() {
 // nextRoom returns the room for the next piece: twice that of the last one, so that a short range takes little memory
 // and a long one few calls.
 func (i *Iterator) nextRoom() int {
-	switch size := 2 * cap(i.piece); {
-	case size < firstPiece:
-		return firstPiece
-	case size > mostPiece:
-		return mostPiece
-	default:
-		return size
+	size := 2 * cap(i.piece)
+	if most := mostPiece / (1 + i.beside); size > most {
+		size = most
 	}
+	if size < firstPiece {
+		return firstPiece
+	}
+	return size
 }
 
 func (v *Snapshot) scan(from, to, out []byte) (listing.Part, error) {

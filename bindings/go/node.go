@@ -100,6 +100,9 @@ func (n *Node) Receive(seen Stamp, reading uint64) (Stamp, error) {
 	return n.event(C.hlcgo_node_receive(n.raw, C.uint64_t(seen), C.uint64_t(reading)))
 }
 
+// retire makes a restored node one that retired, if it did.
+func (n *Node) retire(retired bool) { n.raw.retired = C.bool(retired) }
+
 // event takes over the node of an event, and returns the event's stamp.
 func (n *Node) event(issued C.hlcgo_issued) (Stamp, error) {
 	n.raw = issued.node

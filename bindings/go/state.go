@@ -7,6 +7,11 @@ import "C"
 func (s *Store) Floor() (Stamp, error) {
 	s.mu.RLock()
 	defer s.mu.RUnlock()
+	return s.floor()
+}
+
+// floor does what Floor does. The caller holds the lock; so it is of nodes and link.
+func (s *Store) floor() (Stamp, error) {
 	answer := C.hlcgo_floor(&s.raw)
 	return Stamp(answer.word), refusal(answer.code, 0)
 }
@@ -34,6 +39,10 @@ func (s *Store) Horizon() (Stamp, error) {
 func (s *Store) Nodes() (uint64, error) {
 	s.mu.RLock()
 	defer s.mu.RUnlock()
+	return s.nodes()
+}
+
+func (s *Store) nodes() (uint64, error) {
 	answer := C.hlcgo_nodes(&s.raw)
 	return uint64(answer.word), refusal(answer.code, 0)
 }
@@ -81,6 +90,10 @@ type Link struct {
 func (s *Store) Link(node uint16) (Link, error) {
 	s.mu.RLock()
 	defer s.mu.RUnlock()
+	return s.link(node)
+}
+
+func (s *Store) link(node uint16) (Link, error) {
 	link := C.hlcgo_link(&s.raw, C.uint16_t(node))
 	return Link{uint64(link.next), Stamp(link.head), bool(link.retired)}, refusal(link.code, 0)
 }

@@ -70,7 +70,22 @@ func (s *Store) Join() (*Node, error) {
 func (s *Store) JoinAt(start Stamp) (*Node, error) {
 	s.mu.Lock()
 	defer s.mu.Unlock()
+	return s.joinAt(start)
+}
+
+// joinAt does what JoinAt does. The caller holds the lock alone.
+func (s *Store) joinAt(start Stamp) (*Node, error) {
 	return joined(C.hlcgo_join_at(&s.raw, C.uint64_t(start)))
+}
+
+// joinOnce returns the node of a number that has no item, and lets it join first if it did not. The caller holds the
+// lock alone.
+func (s *Store) joinOnce(id uint16, start Stamp) (*Node, error) {
+	if nodes, _ := s.nodes(); nodes == uint64(id) {
+		return s.joinAt(start)
+	}
+	link, err := s.link(id)
+	return NewNode(id, link.Head), err
 }
 
 func joined(answer C.hlcgo_joined) (*Node, error) {

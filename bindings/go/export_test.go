@@ -1,0 +1,9 @@
+package hlcstore
+
+// StoreAt returns a store of a Ranges, so that tests do to it what else happens only between the calls of goroutines.
+func (r *Ranges) StoreAt(number int) *Store { return r.stores[number] }
+
+// SnapshotAtOneOf is Snapshot, where the cuts come from a test.
+func (r *Ranges) SnapshotAtOneOf(cuts func() (Stamp, error)) (*RangesSnapshot, error) {
+	return r.snapshotAtOneOf(cuts)
+}
