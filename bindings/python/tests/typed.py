@@ -9,6 +9,7 @@ import hlcstore
 from hlcstore import AboveFloor, Applied, Certified, Checked, Item, Link, Node, NotNext, Sizes, Snapshot, Store, Vacuum
 from hlcstore import Stamp, VacuumPart, Version, check, split, stamp
 from hlcstore import file as files
+from hlcstore.ranges import Division, Machine, Ranges, RangesSnapshot, WrongStore
 
 node = Node(0)
 item = assert_type(node.write(1, b"a", bytearray(b"x")), Item)
@@ -53,6 +54,26 @@ with Store(1) as store:
     assert_type(store.checkpoint_to(open("saved", "wb", buffering=0)), int)
     assert_type(hlcstore.apply_increment(store.checkpoint(), bytearray(store.increment(0, word=3))), bytes)
 assert_type(hlcstore.__version__, str)
+
+division = assert_type(Division.by_keys([b"m", bytearray(b"n")]), Division)
+machine = Machine(Division.by_hash(3), 0)
+with Ranges(division, machines=1) as ranges:
+    assert_type(machine.write(1, b"a", memoryview(b"x")), tuple[int, Item])
+    assert_type(machine.report_all(2), list[tuple[int, Item]])
+    assert_type((machine.send(3), machine.receive(4, stamp(5)), machine.last), tuple[Stamp, Stamp, Stamp])
+    assert_type((ranges.join(), ranges.machine(0)), tuple[Machine, Machine])
+    assert_type(ranges.write(machine, 5, b"a", bytearray(b"x")), Stamp)
+    try:
+        ranges.accept(0, item)
+    except WrongStore as wrong:
+        assert_type(wrong.code, int)
+    with ranges.snapshot(ranges.cut) as all_stores:
+        assert_type(all_stores, RangesSnapshot)
+        assert_type(all_stores.get(b"b", 7), bytes | int)
+        assert_type(all_stores.items(b"a", reverse=True), Iterator[tuple[bytes, bytes]])
+        assert_type(list(all_stores), list[bytes])
+    assert_type((ranges.link(0, 0), ranges.vacuum_to(ranges.cut)), tuple[Link, Vacuum])
+    assert_type(Ranges.restore(division, ranges.checkpoint()), Ranges)
 
 with files.File("store", nodes=2, promise=files.Promise.GROUP) as file:
     assert_type(file.write(b"a", bytearray(b"x"), node=1, reading=5), Stamp)
