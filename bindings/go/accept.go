@@ -34,8 +34,7 @@ func (s *Store) accept(item *Item) error {
 // Check returns what Accept would return for this item, except ErrNoMemory. It changes nothing.
 func (s *Store) Check(item Item) error {
 	node, number, stamp := C.uint16_t(item.Node), C.uint64_t(item.Number), C.uint64_t(item.Stamp)
-	s.mu.RLock()
-	defer s.mu.RUnlock()
+	defer s.mu.RUnlock(s.mu.RLock())
 	var answer C.hlcgo_answer
 	switch item.Kind {
 	case Write:

@@ -43,8 +43,7 @@ func (v *Snapshot) readAll(places []C.hlc_place, bytes, out []byte) C.hlcgo_part
 	bytesAt, bytesLen := pointer(bytes)
 	outAt, outLen := room(out)
 	store := v.of()
-	store.mu.RLock()
-	defer store.mu.RUnlock()
+	defer store.mu.RUnlock(store.mu.RLock())
 	return C.hlcgo_read_all(&store.raw, v.id, first, C.size_t(len(places)), bytesAt, bytesLen, outAt, outLen)
 }
 

@@ -160,8 +160,7 @@ func (v *Snapshot) scan(from, to, out []byte) (listing.Part, error) {
 	toAt, toLen := pointer(to)
 	outAt, outLen := room(out)
 	store := v.of()
-	store.mu.RLock()
-	defer store.mu.RUnlock()
+	defer store.mu.RUnlock(store.mu.RLock())
 	return partOf(C.hlcgo_scan(&store.raw, v.id, fromAt, fromLen, toAt, toLen, outAt, outLen))
 }
 
@@ -170,8 +169,7 @@ func (v *Snapshot) scanBack(from, to, out []byte) (listing.Part, error) {
 	toAt, toLen := pointer(to)
 	outAt, outLen := room(out)
 	store := v.of()
-	store.mu.RLock()
-	defer store.mu.RUnlock()
+	defer store.mu.RUnlock(store.mu.RLock())
 	return partOf(C.hlcgo_scan_back(&store.raw, v.id, fromAt, fromLen, toAt, toLen, outAt, outLen))
 }
 
@@ -180,8 +178,7 @@ func (v *Snapshot) scanKeys(from, to, out []byte) (listing.Part, error) {
 	toAt, toLen := pointer(to)
 	outAt, outLen := room(out)
 	store := v.of()
-	store.mu.RLock()
-	defer store.mu.RUnlock()
+	defer store.mu.RUnlock(store.mu.RLock())
 	return partOf(C.hlcgo_scan_keys(&store.raw, v.id, fromAt, fromLen, toAt, toLen, outAt, outLen))
 }
 
@@ -193,8 +190,7 @@ func (v *Snapshot) scanChanges(after *Snapshot, from, to, out []byte) (listing.P
 	toAt, toLen := pointer(to)
 	outAt, outLen := room(out)
 	store := v.of()
-	store.mu.RLock()
-	defer store.mu.RUnlock()
+	defer store.mu.RUnlock(store.mu.RLock())
 	return partOf(C.hlcgo_changes(&store.raw, v.id, after.id, fromAt, fromLen, toAt, toLen, outAt, outLen))
 }
 

@@ -32,7 +32,6 @@ func (v *Snapshot) List() ([]Pair, error) {
 func (v *Snapshot) list(out []byte) C.hlcgo_part {
 	outAt, outLen := room(out)
 	store := v.of()
-	store.mu.RLock()
-	defer store.mu.RUnlock()
+	defer store.mu.RUnlock(store.mu.RLock())
 	return C.hlcgo_list(&store.raw, v.id, outAt, outLen)
 }

@@ -82,8 +82,7 @@ type OpenSnapshot struct {
 
 // Snapshots returns the open snapshots, by rising ids.
 func (s *Store) Snapshots() ([]OpenSnapshot, error) {
-	s.mu.RLock()
-	defer s.mu.RUnlock()
+	defer s.mu.RUnlock(s.mu.RLock())
 	var all []OpenSnapshot
 	for {
 		next := C.hlcgo_snapshot_at(&s.raw, C.uint64_t(len(all)))
@@ -154,9 +153,9 @@ func (v *Snapshot) of() *Store {
 func (v *Snapshot) Get(key []byte) ([]byte, error) {
 	keyAt, keyLen := pointer(key)
 	store := v.of()
-	store.mu.RLock()
+	slot := store.mu.RLock()
 	value := C.hlcgo_read_short(&store.raw, v.id, keyAt, keyLen)
-	store.mu.RUnlock()
+	store.mu.RUnlock(slot)
 	if value.code != C.HLC_OK {
 		return nil, unread(value.code)
 	}
@@ -189,8 +188,7 @@ func (v *Snapshot) readTo(dst, key []byte) C.hlcgo_part {
 	keyAt, keyLen := pointer(key)
 	out, outLen := room(dst)
 	store := v.of()
-	store.mu.RLock()
-	defer store.mu.RUnlock()
+	defer store.mu.RUnlock(store.mu.RLock())
 	return C.hlcgo_read(&store.raw, v.id, keyAt, keyLen, out, outLen)
 }
 
@@ -222,8 +220,7 @@ func (v *Snapshot) Count(from, to []byte) (uint64, error) {
 	fromAt, fromLen := pointer(from)
 	toAt, toLen := pointer(to)
 	store := v.of()
-	store.mu.RLock()
-	defer store.mu.RUnlock()
+	defer store.mu.RUnlock(store.mu.RLock())
 	answer := C.hlcgo_count(&store.raw, v.id, fromAt, fromLen, toAt, toLen)
 	return uint64(answer.word), refusal(answer.code, 0)
 }
@@ -236,8 +233,7 @@ func (v *Snapshot) Digest(from, to []byte) ([32]byte, error) {
 	fromAt, fromLen := pointer(from)
 	toAt, toLen := pointer(to)
 	store := v.of()
-	store.mu.RLock()
-	defer store.mu.RUnlock()
+	defer store.mu.RUnlock(store.mu.RLock())
 	digest := C.hlcgo_digest(&store.raw, v.id, fromAt, fromLen, toAt, toLen)
 	return *(*[32]byte)(unsafe.Pointer(&digest.bytes)), refusal(digest.code, 0)
 }

@@ -5,8 +5,7 @@ import "C"
 
 // Floor returns the floor (closed timestamp): every item that is accepted later has a greater stamp.
 func (s *Store) Floor() (Stamp, error) {
-	s.mu.RLock()
-	defer s.mu.RUnlock()
+	defer s.mu.RUnlock(s.mu.RLock())
 	return s.floor()
 }
 
@@ -21,24 +20,21 @@ func (s *Store) floor() (Stamp, error) {
 //
 // Refusal: ErrNoNode, where all nodes have retired.
 func (s *Store) FloorNode() (uint16, error) {
-	s.mu.RLock()
-	defer s.mu.RUnlock()
+	defer s.mu.RUnlock(s.mu.RLock())
 	answer := C.hlcgo_floor_node(&s.raw)
 	return uint16(answer.word), refusal(answer.code, 0)
 }
 
 // Horizon returns the horizon (GC threshold): the stamp of the last vacuum, or part of one, or 0 before the first.
 func (s *Store) Horizon() (Stamp, error) {
-	s.mu.RLock()
-	defer s.mu.RUnlock()
+	defer s.mu.RUnlock(s.mu.RLock())
 	answer := C.hlcgo_horizon(&s.raw)
 	return Stamp(answer.word), refusal(answer.code, 0)
 }
 
 // Nodes returns how many node numbers are assigned, those of retired nodes too.
 func (s *Store) Nodes() (uint64, error) {
-	s.mu.RLock()
-	defer s.mu.RUnlock()
+	defer s.mu.RUnlock(s.mu.RLock())
 	return s.nodes()
 }
 
@@ -49,8 +45,7 @@ func (s *Store) nodes() (uint64, error) {
 
 // Rows returns how many rows are stored.
 func (s *Store) Rows() (uint64, error) {
-	s.mu.RLock()
-	defer s.mu.RUnlock()
+	defer s.mu.RUnlock(s.mu.RLock())
 	answer := C.hlcgo_rows(&s.raw)
 	return uint64(answer.word), refusal(answer.code, 0)
 }
@@ -65,8 +60,7 @@ type Sizes struct {
 
 // Sizes returns how much is stored, in constant time.
 func (s *Store) Sizes() (Sizes, error) {
-	s.mu.RLock()
-	defer s.mu.RUnlock()
+	defer s.mu.RUnlock(s.mu.RLock())
 	sizes := C.hlcgo_sizes(&s.raw)
 	return Sizes{
 		Rows:       uint64(sizes.rows),
@@ -88,8 +82,7 @@ type Link struct {
 //
 // Refusal: ErrNoNode.
 func (s *Store) Link(node uint16) (Link, error) {
-	s.mu.RLock()
-	defer s.mu.RUnlock()
+	defer s.mu.RUnlock(s.mu.RLock())
 	return s.link(node)
 }
 

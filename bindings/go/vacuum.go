@@ -100,8 +100,7 @@ func lastKey(part *C.hlcgo_vacuum_part_of, after []byte) []byte {
 
 // CheckVacuum returns why VacuumTo would be refused for this stamp, except ErrNoMemory. It changes nothing.
 func (s *Store) CheckVacuum(stamp Stamp) error {
-	s.mu.RLock()
-	defer s.mu.RUnlock()
+	defer s.mu.RUnlock(s.mu.RLock())
 	answer := C.hlcgo_check_vacuum(&s.raw, C.uint64_t(stamp))
 	return refusal(answer.code, answer.word)
 }
@@ -130,9 +129,9 @@ type Certified struct {
 //
 // Refusals: ErrAboveFloor, ErrBelowHorizon, ErrNotFewest; or ErrNoMemory in place of that; and errors of the writer.
 func (s *Store) Certificate(w io.Writer, stamp Stamp) (Certified, error) {
-	s.mu.RLock()
+	slot := s.mu.RLock()
 	made := C.hlcgo_certificate(&s.raw, C.uint64_t(stamp))
-	s.mu.RUnlock()
+	s.mu.RUnlock(slot)
 	_, err := writeOutput(w, made)
 	return Certified{uint64(made.kept), uint64(made.bytes)}, err
 }

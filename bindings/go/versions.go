@@ -16,8 +16,7 @@ type Version struct {
 // one stamp by node. From the horizon on these are all accepted writes of the key; below it, those that vacuums kept.
 // The rows share one block of memory. The cost is the square of the number of the key's rows.
 func (s *Store) Versions(key []byte, above, to Stamp) ([]Version, error) {
-	s.mu.RLock()
-	defer s.mu.RUnlock()
+	defer s.mu.RUnlock(s.mu.RLock())
 	listed := s.versions(key, above, to, nil)
 	if listed.code != C.HLC_OK {
 		return nil, refusal(listed.code, 0)
