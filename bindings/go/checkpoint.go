@@ -11,9 +11,9 @@ import "io"
 //
 // Errors: those of the writer, after which a part may be written.
 func (s *Store) Checkpoint(w io.Writer, word uint64) (int64, error) {
-	slot := s.mu.RLock()
+	own := s.mu.RLock()
 	made := C.hlcgo_checkpoint(&s.raw, C.uint64_t(word))
-	s.mu.RUnlock(slot)
+	s.mu.RUnlock(own)
 	return writeOutput(w, made)
 }
 
@@ -30,9 +30,9 @@ func (s *Store) CheckpointTo(w io.Writer, word uint64) (int64, error) {
 	defer s.mu.endSaving()
 	var saving C.hlc_saving
 	defer C.hlc_saving_drop(&saving)
-	slot := s.mu.RLock()
+	own := s.mu.RLock()
 	started := C.hlcgo_saving_start(&saving, &s.raw, C.uint64_t(word))
-	s.mu.RUnlock(slot)
+	s.mu.RUnlock(own)
 	if started.code != C.HLC_OK {
 		return 0, refusal(started.code, 0)
 	}
@@ -48,9 +48,9 @@ func (s *Store) CheckpointTo(w io.Writer, word uint64) (int64, error) {
 //
 // Refusal: ErrBelowHorizon, where the stamp is below the horizon: then make a whole checkpoint.
 func (s *Store) Increment(w io.Writer, since Stamp, word uint64) (int64, error) {
-	slot := s.mu.RLock()
+	own := s.mu.RLock()
 	made := C.hlcgo_increment(&s.raw, C.uint64_t(since), C.uint64_t(word))
-	s.mu.RUnlock(slot)
+	s.mu.RUnlock(own)
 	return writeOutput(w, made)
 }
 

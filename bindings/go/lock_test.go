@@ -7,8 +7,8 @@ import (
 	"time"
 )
 
-// Writers change two numbers one after the other; a reader never sees them differ. Each goroutine has a stack of another
-// depth, so that they take several slots.
+// Writers change two numbers one after the other; a reader never sees them differ. Each goroutine has a stack of
+// another depth, so that they take several slots.
 func TestReadersAndWritersExcludeEachOther(t *testing.T) {
 	var l storeLock
 	var one, other int

@@ -82,8 +82,8 @@ func (r *Ranges) Accept(store int, item Item) error {
 	return of.Accept(item)
 }
 
-// Write lets a machine write at this reading, accepts the item, and returns its stamp. After a refusal the machine is as
-// it was, too.
+// Write lets a machine write at this reading, accepts the item, and returns its stamp. After a refusal the machine is
+// as it was, too.
 //
 // Refusals: ErrWrongStore, where the machine is of a division with another number of stores; those of Machine.Write;
 // those of Accept.
@@ -210,8 +210,8 @@ func (r *Ranges) VacuumTo(stamp Stamp) (Vacuumed, error) {
 	return r.VacuumInParts(context.Background(), stamp, keysOfPart)
 }
 
-// VacuumInParts does what VacuumTo does, by parts of so many keys, as [Store.VacuumInParts]: so it may be cancelled, and
-// returns then what it did so far. A later call with this stamp, or a greater one, goes through all keys again.
+// VacuumInParts does what VacuumTo does, by parts of so many keys, as [Store.VacuumInParts]: so it may be cancelled,
+// and returns then what it did so far. A later call with this stamp, or a greater one, goes through all keys again.
 //
 // Refusals: those of VacuumTo; the context's error.
 func (r *Ranges) VacuumInParts(ctx context.Context, stamp Stamp, keys int) (Vacuumed, error) {

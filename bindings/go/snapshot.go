@@ -153,9 +153,9 @@ func (v *Snapshot) of() *Store {
 func (v *Snapshot) Get(key []byte) ([]byte, error) {
 	keyAt, keyLen := pointer(key)
 	store := v.of()
-	slot := store.mu.RLock()
+	own := store.mu.RLock()
 	value := C.hlcgo_read_short(&store.raw, v.id, keyAt, keyLen)
-	store.mu.RUnlock(slot)
+	store.mu.RUnlock(own)
 	if value.code != C.HLC_OK {
 		return nil, unread(value.code)
 	}

@@ -129,9 +129,9 @@ type Certified struct {
 //
 // Refusals: ErrAboveFloor, ErrBelowHorizon, ErrNotFewest; or ErrNoMemory in place of that; and errors of the writer.
 func (s *Store) Certificate(w io.Writer, stamp Stamp) (Certified, error) {
-	slot := s.mu.RLock()
+	own := s.mu.RLock()
 	made := C.hlcgo_certificate(&s.raw, C.uint64_t(stamp))
-	s.mu.RUnlock(slot)
+	s.mu.RUnlock(own)
 	_, err := writeOutput(w, made)
 	return Certified{uint64(made.kept), uint64(made.bytes)}, err
 }
